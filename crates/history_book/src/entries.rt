@@ -1,0 +1,64 @@
+use home_types::{Answer, DeviceNo, RunNo, Value};
+
+/// Why a run is aborted. Commands count from 0.
+#[derive(Clone, Copy, Debug, PartialEq, Eq)]
+pub enum Cause {
+    /// This must command was answered `Down`.
+    MustDown(u32),
+    /// This must check found another value, the one beside it.
+    Refuted(u32, Value),
+    /// The device failed between the run's first and last command on it.
+    Lost(DeviceNo),
+    /// The run kept the device past the deadline of its lease, when `lender` asked for it. Both times are in ms.
+    Revoked {
+        lender: RunNo,
+        device: DeviceNo,
+        deadline: u64,
+        moment: u64,
+    },
+    /// Under a strict model: the device, which the run has touched, was down when the run came to its end.
+    DownAtEnd(DeviceNo),
+}
+
+/// How a run ends.
+#[derive(Clone, Copy, Debug, PartialEq, Eq)]
+pub enum End {
+    Committed,
+    Aborted(Cause),
+}
+
+/// What happened in a step of a window.
+#[derive(Clone, Copy, Debug, PartialEq, Eq)]
+pub enum Entry {
+    /// The run arrived at this moment, in ms.
+    Arrived(RunNo, u64),
+    /// The run was placed: its place in the line, counted from 0, and the moment in ms.
+    Placed(RunNo, u32, u64),
+    /// The run's command of this number, counted from 0, was answered.
+    Did(RunNo, u32, Answer),
+    /// The run's write on the device was undone: by a drive, or dropped because the device is down.
+    Undid(RunNo, DeviceNo, bool),
+    /// The device failed.
+    Fell(DeviceNo),
+    /// The device came back.
+    Rose(DeviceNo),
+    /// The run will be aborted.
+    Doomed(RunNo, Cause),
+    /// The run ended.
+    Ended(RunNo, End),
+}
+
+/// An entry of a history with its maker: the run that made the step, or 0 for the detector.
+#[derive(Clone, Copy, Debug, PartialEq, Eq)]
+pub struct Kept {
+    pub maker: u32,
+    pub entry: Entry,
+}
+
+/// The entries of one step, in this order.
+#[derive(Clone, Copy, Debug, PartialEq, Eq)]
+pub struct Made {
+    pub a: Option<Entry>,
+    pub b: Option<Entry>,
+    pub c: Option<Entry>,
+}

@@ -1,0 +1,4 @@
+pub mod Listed
+pub mod Kinds
+pub mod HomeStates
+pub mod Commands

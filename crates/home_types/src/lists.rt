@@ -1,0 +1,95 @@
+ghost use Rattle.std.specs.Prelude.{◌≡◌, ◌+◌, ◌<◌, ◌≤◌, ◌^◌, ◌↔◌, [], ◌∷◌, ◌++◌, length, IsOk, IsSome, OnOk, OnErr, IfSome, IfNone, slice_get, slice_set};
+ghost use Rattle.std.specs.Option.{option_copied};
+
+use crate::memory::NoMemory;
+use std::alloc::Global;
+use std::marker::Model;
+
+/// A growable list. Contracts see its items, and beside them how many more it takes with no memory.
+#[derive(Drop)]
+pub struct List<T> {
+    items: Vec<T>,
+}
+
+impl<T> Model for List<T> {
+    ghost use Rattle.std.specs.Prelude.{◌-◌, vec_len, vec_capacity};
+    ghost use Rattle.home_types.specs.Listed.{Listed};
+
+    ghost Value = { Listed T };
+
+    ghost view = { λ s. record { items = s.items.items; spare = vec_capacity s.items - vec_len s.items } };
+}
+
+impl<T> List<T> {
+    pub fn new(alloc: Global) -> List<T>
+        ensures empty { result.items ≡ [] }
+    {
+        List {
+            items: Vec::new(alloc),
+        }
+    }
+
+    pub fn reserve(&mut self, n: u64) -> Result<(), NoMemory>
+        ensures items { self.new.items ≡ self.old.items }
+        ensures room { OnOk result (n ≤ self.new.spare) }
+        ensures spare { OnErr result (self.new.spare ≡ self.old.spare) }
+    {
+        match self.items.reserve(n as usize) {
+            Ok(()) => Ok(()),
+            Err(_) => Err(NoMemory),
+        }
+    }
+
+    pub fn len(&self) -> u64
+        ensures { result ≡ length self.now.items }
+    {
+        self.items.len() as u64
+    }
+
+    pub fn get(&self, i: u64) -> Option<&T>
+        ensures { option_copied result ≡ slice_get self.now.items i }
+    {
+        self.items.get(i as usize)
+    }
+
+    pub fn as_slice(&self) -> &[T]
+        ensures { result.now ≡ self.now.items }
+    {
+        self.items.as_slice()
+    }
+
+    pub fn pop(&mut self) -> Option<T>
+        ensures found { IsSome result ↔ (0 < length self.old.items) }
+        ensures last { IfSome result (λ x. self.old.items ≡ self.new.items ++ x ∷ []) }
+        ensures freed { IfSome result (λ _. self.new.spare ≡ self.old.spare + 1) }
+        ensures empty { IfNone result (self.new ≡ self.old) }
+    {
+        self.items.pop()
+    }
+}
+
+impl<T: Drop> List<T> {
+    pub fn set(&mut self, i: u64, t: T)
+        requires { i < length self.old.items }
+        ensures items { self.new.items ≡ slice_set self.old.items i t }
+        ensures spare { self.new.spare ≡ self.old.spare }
+    {
+        self.items[i as usize] = t;
+    }
+
+    pub fn push(&mut self, t: T) -> Result<(), NoMemory>
+        ensures ok { OnOk result (self.new.items ≡ self.old.items ++ t ∷ []) }
+        ensures err { OnErr result (self.new ≡ self.old) }
+        ensures roomy { 0 < self.old.spare → IsOk result }
+        ensures used { 0 < self.old.spare → self.new.spare + 1 ≡ self.old.spare }
+    {
+        if self.items.len() == self.items.capacity() {
+            self.reserve(1)?;
+        }
+        let end = self.items.len();
+        match self.items.insert(end, t) {
+            Ok(()) => Ok(()),
+            Err(_) => Err(NoMemory),
+        }
+    }
+}
