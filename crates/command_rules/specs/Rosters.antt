@@ -1,4 +1,4 @@
--- Words on the runs of a roster and their routines. Runs count from 1, devices and commands from 0.
+-- Words on the runs of a window. Runs count from 1, devices and commands from 0.
 use Rattle.command_rules.specs.declared.rosters.Roster.{Roster}
 use Rattle.command_rules.specs.declared.rosters.RosterRun.{RosterRun}
 use Rattle.home_types.specs.Commands.{reads, writes}
@@ -7,7 +7,7 @@ use Rattle.home_types.specs.declared.commands.Job.TheVariants.{Load}
 use Rattle.home_types.specs.declared.numbers.DeviceNo.{DeviceNo}
 use Rattle.home_types.specs.declared.numbers.RunNo.{RunNo}
 use Rattle.std.specs.List.{list_any}
-use Rattle.std.specs.Prelude.{Bool, List, None, Option, [], drop, false, find, if◌then◌else◌, is_some, option_and_then, option_map, slice_get, slice_index_or, suc, unwrap_or, zero, ℕ, ◌&&◌, ◌+◌, ◌==◌, ◌∷◌}
+use Rattle.std.specs.Prelude.{Bool, List, None, Option, [], drop, false, find, if◌then◌else◌, is_some, map, option_and_then, option_map, slice_get, slice_index_or, suc, unwrap_or, zero, ℕ, ◌&&◌, ◌+◌, ◌==◌, ◌∷◌}
 
 abbrev pub run_no : ℕ → RunNo
 run_no r = record { 0 = r }
@@ -15,50 +15,62 @@ run_no r = record { 0 = r }
 abbrev pub device_no : ℕ → DeviceNo
 device_no d = record { 0 = d }
 
-abbrev pub run_at : Roster → ℕ → Option RosterRun
-run_at roster zero = None
-run_at roster (suc i) = slice_get roster.runs.items i
+-- a run of a window: the commands of its routine, and the run that it follows
+pub record Run : Type 0 where
+  pub commands : List Command
+  pub follows : Option RunNo
 
-abbrev pub is_run : Roster → ℕ → Bool
-is_run roster r = is_some (run_at roster r)
+abbrev pub plain_run : RosterRun → Run
+plain_run run = record { commands = run.routine.commands.items; follows = run.follows }
 
-abbrev pub commands_of : Roster → ℕ → List Command
-commands_of roster r = unwrap_or (option_map (λ run. run.routine.commands.items) (run_at roster r)) []
+-- the runs of a roster, in the order of their numbers
+abbrev pub runs_of : Roster → List Run
+runs_of roster = map plain_run roster.runs.items
+
+abbrev pub run_at : List Run → ℕ → Option Run
+run_at runs zero = None
+run_at runs (suc i) = slice_get runs i
+
+abbrev pub is_run : List Run → ℕ → Bool
+is_run runs r = is_some (run_at runs r)
+
+abbrev pub commands_of : List Run → ℕ → List Command
+commands_of runs r = unwrap_or (option_map (λ run. run.commands) (run_at runs r)) []
 
 abbrev pub no_command : Command
 no_command = record { device = device_no 0; job = Load; must = false; ms = 0; takes = 0 }
 
-abbrev pub command_at : Roster → ℕ → ℕ → Command
-command_at roster r c = slice_index_or (commands_of roster r) c no_command
+abbrev pub command_at : List Run → ℕ → ℕ → Command
+command_at runs r c = slice_index_or (commands_of runs r) c no_command
 
-abbrev pub followed_by : Roster → ℕ → Option RunNo
-followed_by roster r = option_and_then (λ run. run.follows) (run_at roster r)
+abbrev pub followed_by : List Run → ℕ → Option RunNo
+followed_by runs r = option_and_then (λ run. run.follows) (run_at runs r)
 
-abbrev pub follows : Roster → ℕ → ℕ → Bool
-follows roster r f = unwrap_or (option_map (λ q. q.0 == f) (followed_by roster r)) false
+abbrev pub follows : List Run → ℕ → ℕ → Bool
+follows runs r f = unwrap_or (option_map (λ q. q.0 == f) (followed_by runs r)) false
 
 abbrev pub is_on : ℕ → Command → Bool
 is_on d c = c.device.0 == d
 
 -- the device is in the run's footprint: some command of the run is on it
-abbrev pub touches : Roster → ℕ → ℕ → Bool
-touches roster r d = list_any (is_on d) (commands_of roster r)
+abbrev pub touches : List Run → ℕ → ℕ → Bool
+touches runs r d = list_any (is_on d) (commands_of runs r)
 
 -- a command from this number on is on the device
-abbrev pub touches_from : Roster → ℕ → ℕ → ℕ → Bool
-touches_from roster r d c = list_any (is_on d) (drop c (commands_of roster r))
+abbrev pub touches_from : List Run → ℕ → ℕ → ℕ → Bool
+touches_from runs r d c = list_any (is_on d) (drop c (commands_of runs r))
 
 -- its first command on the device reads
-abbrev pub reads_first : Roster → ℕ → ℕ → Bool
-reads_first roster r d = unwrap_or (option_map (λ c. reads c.job) (find (is_on d) (commands_of roster r))) false
+abbrev pub reads_first : List Run → ℕ → ℕ → Bool
+reads_first runs r d = unwrap_or (option_map (λ c. reads c.job) (find (is_on d) (commands_of runs r))) false
 
 -- some command of it on the device writes
-abbrev pub writes_on : Roster → ℕ → ℕ → Bool
-writes_on roster r d = list_any (λ c. is_on d c && writes c.job) (commands_of roster r)
+abbrev pub writes_on : List Run → ℕ → ℕ → Bool
+writes_on runs r d = list_any (λ c. is_on d c && writes c.job) (commands_of runs r)
 
 -- some device is in the footprint of both
-abbrev pub shares : Roster → ℕ → ℕ → Bool
-shares roster a b = list_any (λ c. touches roster b c.device.0) (commands_of roster a)
+abbrev pub shares : List Run → ℕ → ℕ → Bool
+shares runs a b = list_any (λ c. touches runs b c.device.0) (commands_of runs a)
 
 -- the sum of the estimates up to and with the last command on the device, 0 where there is none
 abbrev pub estimate_to_last : ℕ → List Command → ℕ
