@@ -1,4 +1,4 @@
-ghost use Rattle.std.specs.Prelude.{◌≡◌, ◌+◌, ◌<◌, ◌≤◌, ◌^◌, ◌↔◌, [], ◌∷◌, ◌++◌, length, IsOk, IsSome, OnOk, OnErr, IfSome, IfNone, slice_get, slice_set};
+ghost use Rattle.std.specs.Prelude.{◌≡◌, ◌+◌, ◌<◌, ◌≤◌, ◌^◌, ◌↔◌, [], ◌∷◌, ◌++◌, length, IsOk, IsSome, IfOk, OnOk, OnErr, IfSome, IfNone, slice_get, slice_set};
 ghost use Rattle.std.specs.Option.{option_copied};
 
 use crate::memory::NoMemory;
@@ -21,6 +21,7 @@ impl<T> Model for List<T> {
 }
 
 impl<T> List<T> {
+    /// Makes an empty list. Takes no memory.
     pub fn new(alloc: Global) -> List<T>
         ensures empty { result.items ≡ [] }
     {
@@ -29,6 +30,7 @@ impl<T> List<T> {
         }
     }
 
+    /// Makes room for `n` more items, or answers `NoMemory`. The items stay in both cases.
     pub fn reserve(&mut self, n: u64) -> Result<(), NoMemory>
         ensures items { self.new.items ≡ self.old.items }
         ensures room { OnOk result (n ≤ self.new.spare) }
@@ -40,24 +42,28 @@ impl<T> List<T> {
         }
     }
 
+    /// How many items the list has.
     pub fn len(&self) -> u64
         ensures { result ≡ length self.now.items }
     {
         self.items.len() as u64
     }
 
+    /// The item at the place `i`, counted from 0.
     pub fn get(&self, i: u64) -> Option<&T>
         ensures { option_copied result ≡ slice_get self.now.items i }
     {
         self.items.get(i as usize)
     }
 
+    /// The items in order.
     pub fn as_slice(&self) -> &[T]
         ensures { result.now ≡ self.now.items }
     {
         self.items.as_slice()
     }
 
+    /// Takes the last item out, and keeps its room.
     pub fn pop(&mut self) -> Option<T>
         ensures found { IsSome result ↔ (0 < length self.old.items) }
         ensures last { IfSome result (λ x. self.old.items ≡ self.new.items ++ x ∷ []) }
@@ -68,7 +74,20 @@ impl<T> List<T> {
     }
 }
 
+impl<T: Copy + Drop> List<T> {
+    /// Makes a list of these items.
+    pub fn of(alloc: Global, items: &[T]) -> Result<List<T>, NoMemory>
+        ensures { IfOk result (λ list. list.items ≡ items.now) }
+    {
+        match Vec::from_slice(alloc, items) {
+            Ok(items) => Ok(List { items }),
+            Err(_) => Err(NoMemory),
+        }
+    }
+}
+
 impl<T: Drop> List<T> {
+    /// Puts `t` in the place of the item at `i`. Takes no memory.
     pub fn set(&mut self, i: u64, t: T)
         requires { i < length self.old.items }
         ensures items { self.new.items ≡ slice_set self.old.items i t }
@@ -77,6 +96,9 @@ impl<T: Drop> List<T> {
         self.items[i as usize] = t;
     }
 
+    /// Puts `t` at the end. Takes no memory where there is room.
+    ///
+    /// Answers `NoMemory` where there is none to be had; `t` is dropped then.
     pub fn push(&mut self, t: T) -> Result<(), NoMemory>
         ensures ok { OnOk result (self.new.items ≡ self.old.items ++ t ∷ []) }
         ensures err { OnErr result (self.new ≡ self.old) }
@@ -98,6 +120,13 @@ impl<T: Drop> List<T> {
 mod tests {
     use super::*;
     use std::test::Fail;
+
+    #[test]
+    fn is_made_of_a_slice(rt: HostRuntime) -> Result<(), Fail> {
+        let list = List::of(rt.alloc(), &[3, 1, 2]);
+        assert!(rt; list.is_ok_and(|list| list.as_slice() == [3, 1, 2].as_slice()));
+        Ok(())
+    }
 
     #[test]
     fn grows_and_gives_back(rt: HostRuntime) -> Result<(), Fail> {

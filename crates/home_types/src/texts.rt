@@ -19,6 +19,7 @@ impl Model for Text {
 }
 
 impl Text {
+    /// Copies the text, or answers `NoMemory`.
     pub fn of(alloc: Global, text: &str) -> Result<Text, NoMemory>
         ensures { IfOk result (λ t. t ≡ text.now) }
     {
@@ -28,6 +29,7 @@ impl Text {
         }
     }
 
+    /// The text.
     pub fn as_str(&self) -> &str
         ensures { result.now ≡ self.now }
     {
@@ -50,6 +52,7 @@ impl Model for Bytes {
 }
 
 impl Bytes {
+    /// Copies the bytes, or answers `NoMemory`.
     pub fn of(alloc: Global, bytes: &[u8]) -> Result<Bytes, NoMemory>
         ensures { IfOk result (λ b. b ≡ bytes.now) }
     {
@@ -59,6 +62,7 @@ impl Bytes {
         }
     }
 
+    /// The bytes in order.
     pub fn as_slice(&self) -> &[u8]
         ensures { result.now ≡ self.now }
     {
