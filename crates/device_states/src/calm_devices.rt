@@ -1,0 +1,80 @@
+use crate::benches::Bench;
+use crate::devices::{Dead, Device, Steady};
+use home_types::{DeviceNo, NoMemory, Value};
+use std::alloc::Global;
+
+/// A device in memory that never fails. It tells no plan.
+#[derive(Debug, Drop)]
+pub struct CalmDevice {
+    number: DeviceNo,
+    value: Value,
+    answered: u64,
+    probed: u64,
+}
+
+impl Device for CalmDevice {
+    ghost tag = { λ s. s.number.0 };
+
+    ghost stands = { λ s. s.value };
+
+    ghost turns = { λ s. s.answered };
+
+    ghost probes = { λ s. s.probed };
+
+    ghost faults = { λ _. 0 };
+
+    fn drive(&mut self, v: Value) -> Result<(), Dead> {
+        self.value = v;
+        self.answered += 1;
+        Ok(())
+    }
+
+    fn sense(&mut self) -> Result<Value, Dead> {
+        self.answered += 1;
+        Ok(self.value)
+    }
+
+    fn probe(&mut self) -> Result<(), Dead> {
+        self.probed += 1;
+        Ok(())
+    }
+
+    fn turns(&self) -> u64 {
+        self.answered
+    }
+
+    fn probes(&self) -> u64 {
+        self.probed
+    }
+
+    fn faults(&self) -> u64 {
+        0
+    }
+}
+
+impl Steady for CalmDevice {
+    fn calm(&self) {}
+}
+
+/// The bench of devices that never fail.
+#[derive(Clone, Copy, Debug, PartialEq, Eq)]
+pub struct CalmBench;
+
+impl Bench for CalmBench {
+    type Dev = CalmDevice;
+
+    fn build(
+        &mut self,
+        _alloc: Global,
+        d: DeviceNo,
+        start: Value,
+        _downs: &[(u32, u32)],
+    ) -> Result<CalmDevice, NoMemory> {
+        Ok(CalmDevice {
+            number: d,
+            value: start,
+            answered: 0,
+            probed: 0,
+        })
+    }
+}
