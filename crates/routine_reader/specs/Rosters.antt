@@ -1,5 +1,5 @@
 -- What a script says of its home and of its windows.
-use Rattle.command_rules.specs.Rosters.{Run, follows}
+use Rattle.command_rules.specs.Rosters.{Run}
 use Rattle.home_types.specs.declared.commands.Command.{Command}
 use Rattle.home_types.specs.declared.kinds.Kind.{Kind}
 use Rattle.home_types.specs.declared.worlds.Stand.{Stand}
