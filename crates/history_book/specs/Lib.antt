@@ -1,0 +1,6 @@
+pub mod Settings
+pub mod Lines
+pub mod Readings
+pub mod Plans
+pub mod Histories
+pub mod WellFormed

@@ -1,11 +1,11 @@
 -- The serial meaning of a command and of a whole routine.
 use Rattle.home_types.specs.HomeStates.{stand_at}
 use Rattle.home_types.specs.Kinds.{kind_at, nearest}
-use Rattle.home_types.specs.declared.commands.Answer.TheVariants.{Down, Fine, Found}
 use Rattle.home_types.specs.declared.commands.Answer.{Answer}
+use Rattle.home_types.specs.declared.commands.Answer.TheVariants.{Down, Fine, Found}
 use Rattle.home_types.specs.declared.commands.Command.{Command}
-use Rattle.home_types.specs.declared.commands.Job.TheVariants.{Check, Load, Set, Store}
 use Rattle.home_types.specs.declared.commands.Job.{Job}
+use Rattle.home_types.specs.declared.commands.Job.TheVariants.{Check, Load, Set, Store}
 use Rattle.home_types.specs.declared.kinds.Kind.{Kind}
 use Rattle.home_types.specs.declared.worlds.Stand.{Stand}
 use Rattle.std.specs.Prelude.{Bool, List, [], false, fold, if◌then◌else◌, not, slice_set, true, ℕ, ◌&&◌, ◌++◌, ◌==◌, ◌||◌, ◌∷◌}
@@ -51,6 +51,22 @@ refutes Store (Found x) = false
 
 abbrev pub fails : Command → Answer → Bool
 fails c a = c.must && refutes c.job a
+
+-- the value that a write drives with this register; a job that reads drives none, and has 0 here
+abbrev pub driven : Kind → Job → ℕ → ℕ
+driven kind (Set v) register = v
+driven kind (Check v) register = 0
+driven kind Load register = 0
+driven kind Store register = nearest kind register
+
+-- what the answer to a job leaves in the register
+abbrev pub register_after : Job → Answer → ℕ → ℕ
+register_after Load (Found x) register = x
+register_after Load Fine register = register
+register_after Load Down register = register
+register_after (Set v) answer register = register
+register_after (Check v) answer register = register
+register_after Store answer register = register
 
 -- a routine in execution; it goes on after a failed must command, and is then refused
 pub record Execution : Type 0 where

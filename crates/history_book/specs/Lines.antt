@@ -1,0 +1,58 @@
+-- Words on a list of items.
+use Rattle.command_rules.specs.Rosters.{Run, touches}
+use Rattle.home_types.specs.declared.items.Item.{Item}
+use Rattle.home_types.specs.declared.items.Item.TheVariants.{Back, Failed, Ran}
+use Rattle.home_types.specs.declared.numbers.RunNo.{RunNo}
+use Rattle.std.specs.Prelude.{Bool, List, [], drop, false, filter, if◌then◌else◌, not, take, take_while, ℕ, ◌++◌, ◌==◌, ◌∷◌}
+
+-- the item is a run of which the test holds
+abbrev pub of_run : (ℕ → Bool) → Item → Bool
+of_run test (Ran r) = test r.0
+of_run test (Failed d k) = false
+of_run test (Back d k) = false
+
+abbrev pub is_ran : ℕ → Item → Bool
+is_ran r = of_run (λ q. q == r)
+
+-- the item is a failure or a restart of the device
+abbrev pub is_event_on : ℕ → Item → Bool
+is_event_on d (Ran r) = false
+is_event_on d (Failed e k) = e.0 == d
+is_event_on d (Back e k) = e.0 == d
+
+-- the item is a run with the device in its footprint, or an event of the device
+abbrev pub is_item_on : List Run → ℕ → Item → Bool
+is_item_on runs d (Ran r) = touches runs r.0 d
+is_item_on runs d (Failed e k) = e.0 == d
+is_item_on runs d (Back e k) = e.0 == d
+
+-- the items before the run
+abbrev pub before : ℕ → List Item → List Item
+before r line = take_while (λ i. not (is_ran r i)) line
+
+-- the items behind the run, none where it is not there
+abbrev pub behind : ℕ → List Item → List Item
+behind r [] = []
+behind r (i ∷ is) = if is_ran r i then is else behind r is
+
+-- the items without the run
+abbrev pub without : ℕ → List Item → List Item
+without r line = filter (λ i. not (is_ran r i)) line
+
+-- the item stands immediately before the first one of which the test holds, else at the end
+abbrev pub put_before : (Item → Bool) → Item → List Item → List Item
+put_before test x [] = x ∷ []
+put_before test x (i ∷ is) = if test i then x ∷ i ∷ is else i ∷ put_before test x is
+
+-- a line in two parts: what stands before a new run, and what stands behind it
+pub record Split : Type 0 where
+  pub front : List Item
+  pub back : List Item
+
+-- divided at this place: so many items in front
+abbrev pub split_at : List Item → ℕ → Split
+split_at line at = record { front = take at line; back = drop at line }
+
+-- the run stands between the two parts
+abbrev pub with_run_in : Split → RunNo → List Item
+with_run_in s r = s.front ++ Ran r ∷ s.back

@@ -1,0 +1,10 @@
+pub mod Orders
+pub mod Agreement
+pub mod CleanReads
+pub mod JustifiedAborts
+pub mod AccountedCalls
+pub mod Isolation
+pub mod LegalWindows
+pub mod LegalDays
+pub mod Steps
+pub mod HubSteps

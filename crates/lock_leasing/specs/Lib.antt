@@ -1,0 +1,5 @@
+pub mod Configurations
+pub mod Words
+pub mod Places
+pub mod Waits
+pub mod Order

@@ -1,0 +1,133 @@
+-- Where the schedulers place a run.
+use Rattle.command_rules.specs.Rosters.{follows, reads_first, touches}
+use Rattle.history_book.specs.Lines.{Split, of_run, split_at}
+use Rattle.history_book.specs.Plans.{plan_of, planned_end, planned_start, split_of}
+use Rattle.history_book.specs.Readings.{Planned, Reading, has_written, is_committed, is_doomed, is_live, is_next_on, next_of, nothing_read, passed_by}
+use Rattle.history_book.specs.Settings.{Setting, devices_of, scheduler_of}
+use Rattle.history_book.specs.WellFormed.{Along}
+use Rattle.history_book.specs.declared.entries.Entry.{Entry}
+use Rattle.history_book.specs.declared.entries.Entry.TheVariants.{Placed}
+use Rattle.home_types.specs.declared.items.Item.{Item}
+use Rattle.home_types.specs.declared.items.Item.TheVariants.{Back, Failed, Ran}
+use Rattle.home_types.specs.declared.modes.Scheduler.{Scheduler}
+use Rattle.home_types.specs.declared.modes.Scheduler.TheVariants.{Fcfs, JustInTime, Timeline}
+use Rattle.lock_leasing.specs.Configurations.{Commands, Grips, Purpose, Undoes}
+use Rattle.lock_leasing.specs.Words.{effective_writer_of, has_touched, holds, live_runs}
+use Rattle.std.specs.List.{list_all, list_any, range_with_len}
+use Rattle.std.specs.Option.{option_or}
+use Rattle.std.specs.Prelude.{Bool, IsTrue, List, None, Option, Some, [], find, if◌then◌else◌, length, max, nat_le, not, option_map, suc, take, true, unwrap_or, zero, ℕ, ⊤, ◌&&◌, ◌+◌, ◌-◌, ◌==◌, ◌||◌, ◌∷◌, ◌≡◌}
+
+-- the number of items up to and with the last one of which the test holds
+abbrev pub up_to_last : (Item → Bool) → List Item → ℕ
+up_to_last test [] = 0
+up_to_last test (i ∷ is) = if list_any test (i ∷ is) then up_to_last test is + 1 else 0
+
+-- the number of items before the first one of which the test holds
+abbrev pub up_to_first : (Item → Bool) → List Item → ℕ
+up_to_first test [] = 0
+up_to_first test (i ∷ is) = if test i then 0 else up_to_first test is + 1
+
+-- the item must stand before the new run: it has touched one of its devices, or is the committed run that it follows
+abbrev pub binds : Setting → Reading → Grips → ℕ → Item → Bool
+binds w n g r (Ran x) = list_any (has_touched n g x.0) (devices_of w r) || (follows w.runs r x.0 && is_committed n x.0)
+binds w n g r (Failed d k) = touches w.runs r d.0
+binds w n g r (Back d k) = touches w.runs r d.0
+
+-- the first place: right behind the floor, which is the last item that binds, or the last one before the first live run
+abbrev pub first_place : Setting → Reading → Grips → ℕ → ℕ
+first_place w n g r = max (up_to_last (binds w n g r) n.line) (up_to_first (of_run (is_live n)) n.line)
+
+-- the floor's place in the line, if there is a floor
+abbrev pub floor_of : Setting → Reading → Grips → ℕ → Option ℕ
+floor_of w n g r = place_before (first_place w n g r)
+  where
+    place_before : ℕ → Option ℕ
+    place_before zero = None
+    place_before (suc k) = Some k
+
+-- what a scheduler answers: where the run stands, or by which run a device is denied to it
+pub data Placing : Type 0 where
+  At : Split → Placing
+  DeniedBy : ℕ → ℕ → Placing
+
+abbrev pub at_end : Reading → Placing
+at_end n = At (split_at n.line (length n.line))
+
+-- Just-in-time
+
+-- the run by which the device is denied: the first live one up to the floor that holds it, else, where r first reads it, the live one with the effective write
+abbrev pub denied_by : Setting → Reading → Grips → ℕ → ℕ → Option ℕ
+denied_by w n g r d =
+    option_or (find (λ x. holds w n g x d) (live_runs n (take (first_place w n g r) n.line)))
+    (if reads_first w.runs r d then live_writer (effective_writer_of n g d) else None)
+  where
+    live_writer : Option ℕ → Option ℕ
+    live_writer None = None
+    live_writer (Some x) = if is_live n x then Some x else None
+
+pub record Denial : Type 0 where
+  pub device : ℕ
+  pub run : ℕ
+
+abbrev pub first_some : {A B : Type 0} → (A → Option B) → List A → Option B
+first_some f [] = None
+first_some f (x ∷ xs) = option_or (f x) (first_some f xs)
+
+-- the first denial, by ascending device
+abbrev pub denial_of : Setting → Reading → Grips → ℕ → Option Denial
+denial_of w n g r = first_some (λ d. option_map (λ x. record { device = d; run = x }) (denied_by w n g r d)) (devices_of w r)
+
+-- how long a run that is denied waits for a better place than the end, in ms
+abbrev pub patience : ℕ
+patience = 10000
+
+-- the first place, where nothing is denied; else the end, where the run has waited long enough
+abbrev pub just_in_time : Setting → Reading → Grips → ℕ → ℕ → Placing
+just_in_time w n g r m = admit (denial_of w n g r)
+  where
+    admit : Option Denial → Placing
+    admit None = At (split_at n.line (first_place w n g r))
+    admit (Some x) = if nat_le (unwrap_or (n.run r).arrived 0 + patience) m then at_end n else DeniedBy x.device x.run
+
+-- Timeline
+
+-- planned so, the run is off the device before the first live run of the back that uses it is planned to start on it
+abbrev pub fits_on : Setting → Reading → List Planned → List Item → ℕ → Bool
+fits_on w n plan back d =
+    unwrap_or (option_map (λ x. nat_le (planned_end plan d) (planned_start (n.run x).plan d))
+    (find (λ x. touches w.runs x d && not (passed_by w n x d)) (live_runs n back))) true
+
+abbrev pub fits : Setting → Reading → ℕ → ℕ → Split → Bool
+fits w n r m s = list_all (fits_on w n (plan_of w n r s.front m) s.back) (devices_of w r)
+
+-- the least place that fits, from the first place on; the end always fits
+abbrev pub timeline : Setting → Reading → Grips → ℕ → ℕ → Placing
+timeline w n g r m =
+    unwrap_or (option_map (λ at. At (split_at n.line at))
+    (find (λ at. fits w n r m (split_at n.line at)) (range_with_len (first_place w n g r) (length n.line - first_place w n g r)))) (at_end n)
+
+-- where the scheduler places the run at this moment
+abbrev pub scheduled_place : Setting → Reading → Grips → ℕ → ℕ → Placing
+scheduled_place w n g r m = by_scheduler (scheduler_of w.mode)
+  where
+    by_scheduler : Scheduler → Placing
+    by_scheduler Fcfs = at_end n
+    by_scheduler JustInTime = just_in_time w n g r m
+    by_scheduler Timeline = timeline w n g r m
+
+-- Scheduled places of a history
+
+-- a live run may have out nothing, its next command, or, where it is doomed, the undo of a write
+pub record MayBeOut (w : Setting) (n : Reading) (g : Grips) : Type 0 where
+  pub commands : (d r k : ℕ) → g d ≡ Some (record { maker = r; purpose = Commands k }) → IsTrue (is_live n r && is_next_on w n r d && (k == next_of n r))
+  pub undos : (d r v : ℕ) → g d ≡ Some (record { maker = r; purpose = Undoes v }) → IsTrue (is_live n r && is_doomed n r && has_written n r d && not ((n.run r).on d).undid)
+  pub one : (d e r : ℕ) (p q : Purpose) → g d ≡ Some (record { maker = suc r; purpose = p }) → g e ≡ Some (record { maker = suc r; purpose = q }) → d ≡ e
+
+-- the scheduler gives the place of the entry, with some grips out
+abbrev pub IsScheduled : Setting → Reading → Entry → Type 0
+IsScheduled w n (Placed r at m) = (g : Grips) × MayBeOut w n g × (scheduled_place w n g r.0 m ≡ At (split_of w n r.0 at m)) × (length (split_of w n r.0 at m).front ≡ at)
+IsScheduled w n e = ⊤
+
+-- each place of the history is the scheduler's
+abbrev pub PlacesAreScheduled : Setting → List Entry → Type 0
+PlacesAreScheduled w history = Along w (IsScheduled w) (nothing_read w) history

@@ -1,0 +1,65 @@
+-- For what a run waits. Each reason is a case of its own: it tells its run or device where it applies.
+-- They are not tried alone: the order of a step's cases says which one a run is told.
+use Rattle.command_rules.specs.Rosters.{followed_by, shares}
+use Rattle.history_book.specs.Readings.{Reading, has_written, is_open, sees_down, sees_up}
+use Rattle.history_book.specs.Settings.{Setting, device_numbers, devices_of, is_strict, is_weak}
+use Rattle.home_types.specs.Commands.{reads}
+use Rattle.home_types.specs.declared.commands.Command.{Command}
+use Rattle.home_types.specs.declared.modes.Visibility.{Visibility}
+use Rattle.home_types.specs.declared.modes.Visibility.TheVariants.{Eventual, Global, Partitioned, Weak}
+use Rattle.home_types.specs.declared.numbers.RunNo.{RunNo}
+use Rattle.lock_leasing.specs.Configurations.{Grips, has_grip, is_out}
+use Rattle.lock_leasing.specs.Words.{has_effect, has_touched, holds, live_before, live_runs}
+use Rattle.std.specs.Prelude.{Bool, None, Option, Some, find, if◌then◌else◌, is_none, not, true, ℕ, ◌&&◌, ◌||◌}
+
+-- r follows a run that has not ended
+abbrev pub follow_wait : Setting → Reading → ℕ → Option RunNo
+follow_wait w n r = unended (followed_by w.runs r)
+  where
+    unended : Option RunNo → Option RunNo
+    unended None = None
+    unended (Some f) = if is_none (n.run f.0).ended then Some f else None
+
+-- r holds the grip of this device, the smallest one
+abbrev pub grip_wait : Setting → Grips → ℕ → Option ℕ
+grip_wait w g r = find (has_grip g r) (device_numbers w)
+
+-- the smallest device on which r has the effective write, where it is out
+abbrev pub undo_wait : Setting → Reading → Grips → ℕ → Option ℕ
+undo_wait w n g r = while_out (find (has_effect n g r) (devices_of w r))
+  where
+    while_out : Option ℕ → Option ℕ
+    while_out None = None
+    while_out (Some d) = if is_out g d then Some d else None
+
+-- the first live run before r that holds the device
+abbrev pub behind_wait : Setting → Reading → Grips → ℕ → ℕ → Option ℕ
+behind_wait w n g r d = find (λ x. holds w n g x d) (live_before n r)
+
+-- r would read the write of a live run before it
+abbrev pub dirty_wait : Setting → Reading → Grips → ℕ → Command → Option ℕ
+dirty_wait w n g r c =
+    if reads c.job && not (sees_down n r c.device.0) && not (has_written n r c.device.0)
+    then find (λ x. has_effect n g x c.device.0) (live_before n r) else None
+
+-- the first live run before r under the global model, the first that shares a device with r under the partitioned one
+abbrev pub strict_wait : Setting → Reading → ℕ → Option ℕ
+strict_wait w n r = by_model w.mode.model
+  where
+    by_model : Visibility → Option ℕ
+    by_model Weak = None
+    by_model Global = find (λ x. true) (live_before n r)
+    by_model Partitioned = find (λ x. shares w.runs x r) (live_before n r)
+    by_model Eventual = None
+
+-- the device is out, and r does not see it down
+abbrev pub busy_wait : Setting → Reading → Grips → ℕ → ℕ → Bool
+busy_wait w n g r d = (is_weak w.mode || not (sees_down n r d)) && is_out g d
+
+-- under a strict model: the smallest device that r has touched and that is counted down
+abbrev pub down_at_end : Setting → Reading → Grips → ℕ → Option ℕ
+down_at_end w n g r = if is_strict w.mode then find (λ d. has_touched n g r d && not (n.up d)) (devices_of w r) else None
+
+-- the run that is lost where the device fails: live, not doomed, not done with the device, and it sees it up
+abbrev pub lost_by : Setting → Reading → ℕ → Option ℕ
+lost_by w n d = if is_weak w.mode then None else find (λ x. is_open w n x d && sees_up n x d) (live_runs n n.line)
