@@ -2,7 +2,7 @@
 use Rattle.command_rules.specs.Rosters.{command_at, touches_from}
 use Rattle.command_rules.specs.Serial.{SerialRun, Served, serial_execution}
 use Rattle.history_book.specs.Lines.{Split, of_run, put_before, with_run_in, without}
-use Rattle.history_book.specs.Plans.{plan_of, split_of}
+use Rattle.history_book.specs.Plans.{planned_times, split_of}
 use Rattle.history_book.specs.Readings.{Event, First, Last, OfRun, OnDevice, Reading, did, is_access, is_fine, is_open, nothing_read, put, view_by}
 use Rattle.history_book.specs.Settings.{Setting, is_weak}
 use Rattle.history_book.specs.declared.entries.Cause.{Cause}
@@ -72,7 +72,7 @@ with_run n r q = record n { run = put n.run r q; size = n.size + 1 }
 
 abbrev pub with_placed : Setting → Reading → RunNo → ℕ → ℕ → Split → Reading
 with_placed w n r at m s =
-    record (with_run n r.0 (record (n.run r.0) { placed = Some (record { place = at; moment = m; stamp = n.size }); plan = plan_of w n r.0 s.front m })) {
+    record (with_run n r.0 (record (n.run r.0) { placed = Some (record { place = at; moment = m; stamp = n.size }); planned = planned_times w n r.0 s.front m })) {
       moment = max n.moment m;
       line = with_run_in s r;
     }
