@@ -4,3 +4,4 @@ pub mod Frames
 pub mod Plain
 pub mod Splits
 pub mod Standing
+pub mod Shapes

@@ -2,11 +2,12 @@
 use Rattle.history_book.specs.Lines.{is_ran, put_before, without}
 use Rattle.home_types.specs.declared.items.Item.{Item}
 use Rattle.home_types.specs.declared.items.Item.TheVariants.{Back, Failed, Ran}
-use Rattle.std.proofs.Common.{ap, arith, cond, refl}
+use Rattle.std.proofs.Common.{ap, arith, cond, refl, sym, ◌∙◌}
 use Rattle.std.proofs.lemmas.Grind.{common_steps}
+use Rattle.std.proofs.lemmas.List.{take-append-drop}
 use Rattle.std.proofs.lemmas.List.Folds.{list_any-append}
 use Rattle.std.specs.List.{list_any}
-use Rattle.std.specs.Prelude.{Bool, List, [], false, filter, if◌then◌else◌, not, true, ℕ, ◌++◌, ◌||◌, ◌∷◌, ◌≡◌, ◌≢◌}
+use Rattle.std.specs.Prelude.{Bool, List, [], drop, false, filter, if◌then◌else◌, not, take, true, ℕ, ◌++◌, ◌||◌, ◌∷◌, ◌≡◌, ◌≢◌}
 
 pub any_put_before : (p t : Item → Bool) (x : Item) (line : List Item) → list_any p (put_before t x line) ≡ (p x || list_any p line)
 any_put_before p t x [] = refl
@@ -36,3 +37,14 @@ any_other r q (i ∷ is) other = elim (is_ran q i) as (λ b. is_ran q i ≡ b �
   | true ↦ (λ e. let not_r : is_ran r i ≡ false = (let both = same_run r q i in grind (arith, common_steps)) in rw not_r (any_other r q is other))
   | false ↦ (λ e. ap (λ b. is_ran r i || b) (any_other r q is other))
 ] refl
+
+-- a list in two parts
+
+pub any_parted : {A : Type 0} (p : A → Bool) (k : ℕ) (xs : List A) → list_any p xs ≡ (list_any p (take k xs) || list_any p (drop k xs))
+any_parted p k xs = ap (list_any p) (sym (take-append-drop k xs)) ∙ list_any-append p (take k xs) (drop k xs)
+
+pub any_taken : {A : Type 0} (p : A → Bool) (k : ℕ) (xs : List A) → list_any p (take k xs) ≡ true → list_any p xs ≡ true
+any_taken p k xs e = any_parted p k xs ∙ ap (λ b. b || list_any p (drop k xs)) e
+
+pub any_left : {A : Type 0} (p : A → Bool) (k : ℕ) (xs : List A) → list_any p xs ≡ true → list_any p (drop k xs) ≡ false → list_any p (take k xs) ≡ true
+any_left p k xs some none = let parted : list_any p xs ≡ (list_any p (take k xs) || list_any p (drop k xs)) = any_parted p k xs in grind (arith, common_steps)
