@@ -5,3 +5,5 @@ pub mod Plain
 pub mod Splits
 pub mod Standing
 pub mod Shapes
+pub mod Counts
+pub mod Once

@@ -26,7 +26,7 @@ any_without r (i ∷ is) = elim (is_ran r i) as (λ b. is_ran r i ≡ b → list
   | false ↦ (λ e. rw e (any_without r is))
 ] refl
 
-same_run : (r q : ℕ) (i : Item) → is_ran r i ≡ true → is_ran q i ≡ true → r ≡ q
+pub same_run : (r q : ℕ) (i : Item) → is_ran r i ≡ true → is_ran q i ≡ true → r ≡ q
 same_run r q (Ran x) a b = grind (arith, common_steps)
 same_run r q (Failed d k) a b = absurd (cc)
 same_run r q (Back d k) a b = absurd (cc)

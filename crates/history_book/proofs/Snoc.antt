@@ -27,6 +27,14 @@ along_more w test n (x ∷ h) e = rw (along_more w test (entry w n x) h e) (grin
 pub each_more : (w : Setting) (test : Reading → Entry → Bool) (h : List Entry) (e : Entry) → IsTrue (each_entry w test h) → IsTrue (test (reading w h) e) → IsTrue (each_entry w test (h ++ e ∷ []))
 each_more w test h e old new = rw (along_more w test (nothing_read w) h e) (rw (old, new) refl)
 
+-- .. with several entries more
+pub along_on : (w : Setting) (test : Reading → Entry → Bool) (n : Reading) (h more : List Entry) → along w test n (h ++ more) ≡ (along w test n h && along w test (fold (entry w) n h) more)
+along_on w test n [] more = refl
+along_on w test n (x ∷ h) more = rw (along_on w test (entry w n x) h more) (grind (arith, common_steps))
+
+pub each_on : (w : Setting) (test : Reading → Entry → Bool) (h more : List Entry) → IsTrue (each_entry w test h) → IsTrue (along w test (reading w h) more) → IsTrue (each_entry w test (h ++ more))
+each_on w test h more old new = rw (along_on w test (nothing_read w) h more) (rw (old, new) refl)
+
 -- it says something of each prefix
 pub each_at : (w : Setting) (test : Reading → Entry → Bool) (n : Reading) (front : List Entry) (e : Entry) (back : List Entry) → IsTrue (along w test n (front ++ e ∷ back)) → IsTrue (test (fold (entry w) n front) e)
 each_at w test n [] e back all = grind (arith, common_steps)
