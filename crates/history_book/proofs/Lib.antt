@@ -7,3 +7,4 @@ pub mod Standing
 pub mod Shapes
 pub mod Counts
 pub mod Once
+pub mod Searches

@@ -1,5 +1,6 @@
 -- What a choice of a run's step tells.
 use Rattle.command_rules.specs.Rosters.{run_no}
+use Rattle.history_book.proofs.Searches.{map_none}
 use Rattle.history_book.specs.Readings.{Reading}
 use Rattle.history_book.specs.Settings.{Setting, is_weak}
 use Rattle.history_book.specs.declared.entries.Cause.TheVariants.{Revoked}
@@ -48,10 +49,6 @@ passed_on (Some c) rest never out = absurd (grind (arith, common_steps))
 pub map_never : {A : Type 0} (f : A → Choice) (o : Option A) → ((x : A) → hands_out (f x) ≡ false) → never_hands (option_map f o) ≡ true
 map_never f None never = refl
 map_never f (Some x) never = ap not (never x)
-
-pub map_none : {A B : Type 0} (f : A → B) (o : Option A) → option_map f o ≡ None → o ≡ None
-map_none f None e = refl
-map_none f (Some x) e = absurd (cc)
 
 pub only_if_never : (b : Bool) (c : Choice) → hands_out c ≡ false → never_hands (only_if b c) ≡ true
 only_if_never true c never = ap not never

@@ -1,2 +1,3 @@
 pub mod Choices
 pub mod Revoked
+pub mod Takes
