@@ -1,3 +1,4 @@
 pub mod Choices
 pub mod Revoked
 pub mod Takes
+pub mod Gives
