@@ -2,3 +2,5 @@ pub mod Choices
 pub mod Revoked
 pub mod Takes
 pub mod Gives
+pub mod Afters
+pub mod Honest

@@ -191,6 +191,10 @@ answered_follows w n g r m known act sound none =
         by_strict true e = (each_found (λ x. (is_device w x ≡ true) × (touches w.runs r x ≡ true)) (λ x. has_touched n g r x && not (n.up x)) (devices_of w r) d (own_devices w r) e).0.0
         by_strict false e = absurd (cc)
 
+pub double : (b : Bool) → not b ≡ false → b ≡ true
+double true e = refl
+double false e = absurd (cc)
+
 -- the step of a run makes entries that may follow
 pub take_follows : (w : Setting) (n : Reading) (g : Grips) (r m : ℕ) → Before w n m → Follows w n (decide w n g r m)
 take_follows w n g r m known =
@@ -206,7 +210,3 @@ take_follows w n g r m known =
   where
     P : Choice → Type 0
     P = Follows w n
-
-    double : (b : Bool) → not b ≡ false → b ≡ true
-    double true e = refl
-    double false e = absurd (cc)
