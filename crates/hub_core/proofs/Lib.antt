@@ -3,4 +3,4 @@ pub mod Revoked
 pub mod Takes
 pub mod Gives
 pub mod Afters
-pub mod Honest
+pub mod Causes

@@ -3,7 +3,6 @@ use Rattle.command_rules.specs.Rosters.{command_at, is_run}
 use Rattle.history_book.specs.Settings.{Setting}
 use Rattle.history_book.specs.declared.entries.Entry.{Entry}
 use Rattle.history_book.specs.declared.entries.Kept.{Kept}
-use Rattle.hub_core.proofs.Takes.{acts}
 use Rattle.hub_core.specs.Steps.{Absent, Choice, HandsOut, Moves, Over, Waits, after_give, after_take, after_take_probe, at_moment, choice_of, give_entries, may_probe, opened}
 use Rattle.hub_core.specs.declared.grips.Told.{Told}
 use Rattle.hub_core.specs.declared.waits.Why.{Why}
