@@ -8,3 +8,4 @@ pub mod Shapes
 pub mod Counts
 pub mod Once
 pub mod Searches
+pub mod Logs

@@ -1,7 +1,6 @@
 -- What a well-formed history says of each run.
 use Rattle.command_rules.specs.Rosters.{command_at, commands_of, is_on, is_run, no_command, touches}
 use Rattle.history_book.proofs.Lines.{any_left, any_taken}
-use Rattle.history_book.proofs.Searches.{none_is}
 use Rattle.history_book.proofs.Standing.{aborted}
 use Rattle.history_book.specs.Histories.{answered, entry, reading}
 use Rattle.history_book.specs.Readings.{OfRun, OnDevice, PlacedAt, Planned, Reading, did, is_access, is_committing, nothing_read, passed_by, pends, put, unread, untouched, view_by}

@@ -88,17 +88,17 @@ Shows w n c = IsTrue (along w (abort_is_justified w) n (made_by c))
 abbrev pub IsClean : Setting → Reading → Choice → Type 0
 IsClean w n c = IsTrue (along w (entry_is_clean w) n (made_by c))
 
-both : {a b : Bool} → a ≡ true → b ≡ true → (a && b) ≡ true
-both p q = rw (p, q) refl
+pub and_is : {a b : Bool} → a ≡ true → b ≡ true → (a && b) ≡ true
+and_is p q = rw (p, q) refl
 
 down_shows : (w : Setting) (n : Reading) (r : ℕ) (c : Command) → next_command w n r ≡ Some c → Shows w n (Moves (down_entries r (next_of n r) c))
 down_shows w n r c next = elim c.must as (λ b. c.must ≡ b → IsTrue (along w (abort_is_justified w) n (Did (run_no r) (next_of n r) Down ∷ (if b then Doomed (run_no r) (MustDown (next_of n r)) ∷ [] else [])))) [
-  | true ↦ (λ must. both (both (ap (λ x. x.must) (command_is w n r c next) ∙ must) (answered_last w n r Down)) refl)
+  | true ↦ (λ must. and_is (and_is (ap (λ x. x.must) (command_is w n r c next) ∙ must) (answered_last w n r Down)) refl)
   | false ↦ (λ free. refl)
 ] refl
 
 end_shows : (w : Setting) (n : Reading) (g : Grips) (r d : ℕ) → grip_wait w g r ≡ None → next_command w n r ≡ None → down_at_end w n g r ≡ Some d → Shows w n (Moves (Doomed (run_no r) (DownAtEnd (device_no d)) ∷ []))
-end_shows w n g r d free none at = both (both (ap is_none none) (ap (λ o. equals_some o d) (sym (end_without_grips w n g r free) ∙ at) ∙ grind (arith, common_steps))) refl
+end_shows w n g r d free none at = and_is (and_is (ap is_none none) (ap (λ o. equals_some o d) (sym (end_without_grips w n g r free) ∙ at) ∙ grind (arith, common_steps))) refl
 
 -- but for the weak model, each doom that a run's step makes is justified
 pub take_shows : (w : Setting) (n : Reading) (g : Grips) (r m : ℕ) → is_weak w.mode ≡ false → Shows w n (decide w n g r m)
@@ -112,7 +112,7 @@ take_shows w n g r m strong =
       aborted = λ cause act doomed over. refl;
       drops = λ cause d undoing down. refl;
       undoes = λ cause d undoing up. refl;
-      revokes = λ c x run e at. both (revocation_is_shown w n g r m x c run.act.live run.next at) refl;
+      revokes = λ c x run e at. and_is (revocation_is_shown w n g r m x c run.act.live run.next at) refl;
       downs = λ c run next home down. down_shows w n r c run.next;
       goes = λ c run next home up. refl;
       fails_at_end = λ d all at. end_shows w n g r d all.act.free all.none at;
@@ -121,8 +121,8 @@ take_shows w n g r m strong =
 
 down_is_clean : (w : Setting) (n : Reading) (r : ℕ) (c : Command) → is_weak w.mode ≡ false → next_command w n r ≡ Some c → answers_down w n r c.device.0 ≡ true → IsClean w n (Moves (down_entries r (next_of n r) c))
 down_is_clean w n r c strong next down = elim c.must as (λ b. IsTrue (along w (entry_is_clean w) n (Did (run_no r) (next_of n r) Down ∷ (if b then Doomed (run_no r) (MustDown (next_of n r)) ∷ [] else [])))) [
-  | true ↦ both clean refl
-  | false ↦ both clean refl
+  | true ↦ and_is clean refl
+  | false ↦ and_is clean refl
 ]
   where
     clean : answer_is_clean w n r (command_at w.runs r (next_of n r)).device.0 Down ≡ true
@@ -154,8 +154,8 @@ take_is_clean w n g r m strong =
 
 weakly_down : (w : Setting) (n : Reading) (r : ℕ) (c : Command) → is_weak w.mode ≡ true → next_command w n r ≡ Some c → answers_down w n r c.device.0 ≡ true → IsTrue (along w (weakly_allowed w) n (down_entries r (next_of n r) c))
 weakly_down w n r c weak next down = elim c.must as (λ b. c.must ≡ b → IsTrue (along w (weakly_allowed w) n (Did (run_no r) (next_of n r) Down ∷ (if b then Doomed (run_no r) (MustDown (next_of n r)) ∷ [] else [])))) [
-  | true ↦ (λ must. both down_there (both (both (ap (λ x. x.must) (command_is w n r c next) ∙ must) (answered_last w n r Down)) refl))
-  | false ↦ (λ free. both down_there refl)
+  | true ↦ (λ must. and_is down_there (and_is (and_is (ap (λ x. x.must) (command_is w n r c next) ∙ must) (answered_last w n r Down)) refl))
+  | false ↦ (λ free. and_is down_there refl)
 ] refl
   where
     down_there : not (n.up (command_at w.runs r (next_of n r)).device.0) ≡ true
@@ -189,7 +189,7 @@ take_is_allowed w n g r m weak passes =
       downs = λ c run next home down. weakly_down w n r c weak run.next down;
       goes = λ c run next home up. refl;
       fails_at_end = λ d all at. absurd (never d (is_strict w.mode) (weak_is_not_strict w.mode.model w.mode.scheduler weak) at);
-      commits = λ all up. both (passes all.sound) refl;
+      commits = λ all up. and_is (passes all.sound) refl;
     })
   where
     never : (d : ℕ) (b : Bool) → b ≡ false → (if b then find (λ e. has_touched n g r e && not (n.up e)) (devices_of w r) else None) ≡ Some d → ⊥

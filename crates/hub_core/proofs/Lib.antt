@@ -4,3 +4,4 @@ pub mod Takes
 pub mod Gives
 pub mod Afters
 pub mod Causes
+pub mod GiveCauses
