@@ -1,0 +1,11 @@
+pub mod Snoc
+pub mod Lines
+pub mod Frames
+pub mod Plain
+pub mod Splits
+pub mod Standing
+pub mod Shapes
+pub mod Counts
+pub mod Once
+pub mod Searches
+pub mod Logs

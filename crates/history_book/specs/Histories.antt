@@ -2,7 +2,7 @@
 use Rattle.command_rules.specs.Rosters.{command_at, touches_from}
 use Rattle.command_rules.specs.Serial.{SerialRun, Served, serial_execution}
 use Rattle.history_book.specs.Lines.{Split, of_run, put_before, with_run_in, without}
-use Rattle.history_book.specs.Plans.{plan_of, split_of}
+use Rattle.history_book.specs.Plans.{planned_times, split_of}
 use Rattle.history_book.specs.Readings.{Event, First, Last, OfRun, OnDevice, Reading, did, is_access, is_fine, is_open, nothing_read, put, view_by}
 use Rattle.history_book.specs.Settings.{Setting, is_weak}
 use Rattle.history_book.specs.declared.entries.Cause.{Cause}
@@ -24,7 +24,7 @@ use Rattle.home_types.specs.declared.kinds.Kind.{Kind}
 use Rattle.home_types.specs.declared.numbers.DeviceNo.{DeviceNo}
 use Rattle.home_types.specs.declared.numbers.RunNo.{RunNo}
 use Rattle.std.specs.Option.{option_or}
-use Rattle.std.specs.Prelude.{Bool, List, None, Option, Some, [], false, filter_map, fold, if◌then◌else◌, is_none, is_some, map, max, not, option_to_list, true, ℕ, ◌&&◌, ◌++◌, ◌+◌, ◌||◌, ◌∷◌}
+use Rattle.std.specs.Prelude.{Bool, List, None, Option, Some, [], false, filter_map, fold, if◌then◌else◌, is_none, is_some, map, max, not, option_to_list, true, ℕ, ◌&&◌, ◌++◌, ◌+◌, ◌==◌, ◌||◌, ◌∷◌}
 
 -- the device's next event stands before the first open run that has no answer there, under the weak model at the end
 abbrev pub with_event : Setting → Reading → DeviceNo → Item → List Item
@@ -72,7 +72,7 @@ with_run n r q = record n { run = put n.run r q; size = n.size + 1 }
 
 abbrev pub with_placed : Setting → Reading → RunNo → ℕ → ℕ → Split → Reading
 with_placed w n r at m s =
-    record (with_run n r.0 (record (n.run r.0) { placed = Some (record { place = at; moment = m; stamp = n.size }); plan = plan_of w n r.0 s.front m })) {
+    record (with_run n r.0 (record (n.run r.0) { placed = Some (record { place = at; moment = m; stamp = n.size }); planned = planned_times w n r.0 s.front m })) {
       moment = max n.moment m;
       line = with_run_in s r;
     }
@@ -119,7 +119,7 @@ reading w history = fold (entry w) (nothing_read w) history
 abbrev pub line_of : Setting → List Entry → List Item
 line_of w history = (reading w history).line
 
--- Makers
+-- Entries
 
 -- the entries without their makers
 abbrev pub entries_of : List Kept → List Entry
@@ -131,6 +131,26 @@ kept_by maker entries = map (λ e. record { maker = maker; entry = e }) entries
 -- the entries of a step, in order
 abbrev pub entries_made : Made → List Entry
 entries_made made = option_to_list made.a ++ option_to_list made.b ++ option_to_list made.c
+
+abbrev pub is_fall_of : ℕ → Entry → Bool
+is_fall_of d (Fell e) = e.0 == d
+is_fall_of d (Arrived r m) = false
+is_fall_of d (Placed r at m) = false
+is_fall_of d (Did r c a) = false
+is_fall_of d (Undid r e drove) = false
+is_fall_of d (Rose e) = false
+is_fall_of d (Doomed r cause) = false
+is_fall_of d (Ended r e) = false
+
+abbrev pub is_rise_of : ℕ → Entry → Bool
+is_rise_of d (Rose e) = e.0 == d
+is_rise_of d (Arrived r m) = false
+is_rise_of d (Placed r at m) = false
+is_rise_of d (Did r c a) = false
+is_rise_of d (Undid r e drove) = false
+is_rise_of d (Fell e) = false
+is_rise_of d (Doomed r cause) = false
+is_rise_of d (Ended r e) = false
 
 -- The serial execution of an order, beside a history
 

@@ -17,11 +17,11 @@ greatest = 18446744073709551615
 
 -- the planned start on the device: that of the run's first command there
 abbrev pub planned_start : List Planned → ℕ → ℕ
-planned_start plan d = unwrap_or (option_map (λ p. p.from) (find (λ p. p.device == d) plan)) 0
+planned_start planned d = unwrap_or (option_map (λ p. p.from) (find (λ p. p.device == d) planned)) 0
 
 -- the planned end on the device: that of the run's last command there
 abbrev pub planned_end : List Planned → ℕ → ℕ
-planned_end plan d = fold (λ t p. if p.device == d then p.to else t) 0 plan
+planned_end planned d = fold (λ t p. if p.device == d then p.to else t) 0 planned
 
 -- a committed run behind it in the line has written the device
 abbrev pub is_overwritten : Reading → ℕ → ℕ → Bool
@@ -29,7 +29,7 @@ is_overwritten n x d = list_any (of_run (λ y. is_committed n y && has_written n
 
 -- the planned end of the whole run: the largest one on those of its devices that no committed run behind it has written
 abbrev pub whole_end : Setting → Reading → ℕ → ℕ
-whole_end w n x = fold (λ t d. if counts d then max t (planned_end (n.run x).plan d) else t) 0 (devices_of w x)
+whole_end w n x = fold (λ t d. if counts d then max t (planned_end (n.run x).planned d) else t) 0 (devices_of w x)
   where
     counts : ℕ → Bool
     counts d = not (passed_by w n x d) && not (is_overwritten n x d)
@@ -40,7 +40,7 @@ abbrev pub free : Setting → Reading → ℕ → List Item → ℕ → ℕ
 free w n r front d = fold (λ t i. max t (end_of i)) 0 front
   where
     end_of_run : ℕ → ℕ
-    end_of_run x = max (if is_open w n x d then planned_end (n.run x).plan d else 0)
+    end_of_run x = max (if is_open w n x d then planned_end (n.run x).planned d else 0)
         (if is_live n x && reads_first w.runs r d && writes_on w.runs x d then whole_end w n x else 0)
 
     end_of : Item → ℕ
@@ -48,22 +48,22 @@ free w n r front d = fold (λ t i. max t (end_of i)) 0 front
     end_of (Failed e k) = 0
     end_of (Back e k) = 0
 
--- a plan in the making: when the command before ends, and the commands planned so far
+-- times in the making: when the command before ends, and the commands planned so far
 pub record Planning : Type 0 where
   pub clock : ℕ
-  pub plan : List Planned
+  pub planned : List Planned
 
 -- a command starts when the one before it ends and its device is free, and takes as long as its estimate
 abbrev pub plan_more : (ℕ → ℕ) → Planning → Command → Planning
 plan_more free p c =
     record {
       clock = min (max p.clock (free c.device.0) + c.ms) greatest;
-      plan = p.plan ++ record { device = c.device.0; from = max p.clock (free c.device.0); to = min (max p.clock (free c.device.0) + c.ms) greatest } ∷ [];
+      planned = p.planned ++ record { device = c.device.0; from = max p.clock (free c.device.0); to = min (max p.clock (free c.device.0) + c.ms) greatest } ∷ [];
     }
 
 -- the planned times of a run that is placed behind these items at this moment; the timeline alone waits for devices
-abbrev pub plan_of : Setting → Reading → ℕ → List Item → ℕ → List Planned
-plan_of w n r front m = (fold (plan_more (waits (scheduler_of w.mode))) (record { clock = m; plan = [] }) (commands_of w.runs r)).plan
+abbrev pub planned_times : Setting → Reading → ℕ → List Item → ℕ → List Planned
+planned_times w n r front m = (fold (plan_more (waits (scheduler_of w.mode))) (record { clock = m; planned = [] }) (commands_of w.runs r)).planned
   where
     waits : Scheduler → ℕ → ℕ
     waits Fcfs d = 0

@@ -40,7 +40,7 @@ pub record PlacedAt : Type 0 where
 pub record OfRun : Type 0 where
   pub arrived : Option ℕ
   pub placed : Option PlacedAt
-  pub plan : List Planned
+  pub planned : List Planned
   pub answers : List Answer
   pub register : ℕ
   pub doomed : Option Cause
@@ -84,7 +84,7 @@ untouched = record { view = None; found = None; wrote = None; undid = false; lat
 
 -- nothing has happened to the run
 abbrev pub unread : OfRun
-unread = record { arrived = None; placed = None; plan = []; answers = []; register = 0; doomed = None; answered_doomed = false; ended = None; on = λ d. untouched }
+unread = record { arrived = None; placed = None; planned = []; answers = []; register = 0; doomed = None; answered_doomed = false; ended = None; on = λ d. untouched }
 
 -- the reading of an empty history
 abbrev pub nothing_read : Setting → Reading

@@ -1,0 +1,7 @@
+pub mod Choices
+pub mod Revoked
+pub mod Takes
+pub mod Gives
+pub mod Afters
+pub mod Causes
+pub mod GiveCauses

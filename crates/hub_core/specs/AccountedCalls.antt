@@ -1,5 +1,6 @@
 -- Device calls accounted for.
 use Rattle.command_rules.specs.Rosters.{Run, command_at, is_on}
+use Rattle.history_book.specs.Histories.{is_fall_of}
 use Rattle.history_book.specs.Readings.{is_told}
 use Rattle.history_book.specs.Settings.{Setting}
 use Rattle.history_book.specs.declared.entries.Entry.{Entry}
@@ -16,10 +17,6 @@ tells_call runs d (Arrived r m) = false
 tells_call runs d (Placed r at m) = false
 tells_call runs d (Doomed r cause) = false
 tells_call runs d (Ended r e) = false
-
-abbrev pub is_fall_of : ℕ → Entry → Bool
-is_fall_of d (Fell e) = e.0 == d
-is_fall_of d e = false
 
 -- how many calls of the device the history tells of
 abbrev pub told_calls : List Run → List Entry → ℕ → ℕ

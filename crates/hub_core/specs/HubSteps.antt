@@ -63,14 +63,14 @@ pub record Taken : Type 0 where
   pub choice : Choice
   pub next : HubState
 
-pub data Back : Type 0 where
+pub data GiveAnswer : Type 0 where
   -- the grip is taken back, with these entries
-  Gave : List Entry → Back
+  Gave : List Entry → GiveAnswer
   -- it is not the one that is out
-  Refused : Stranger → Back
+  Refused : Stranger → GiveAnswer
 
 pub record Given : Type 0 where
-  pub back : Back
+  pub answer : GiveAnswer
   pub next : HubState
 
 pub record ProbeTaken : Type 0 where
@@ -110,8 +110,8 @@ entries_back c told result = unwrap_or (option_map (λ grip. give_entries c.sett
 
 -- a grip comes back; one that is not the one which is out is refused, and nothing changes
 abbrev pub give_if : Bool → HubState → Configuration → Carried → Told → Given
-give_if true s c told result = record { back = Gave (entries_back c told result); next = taken_back s c told result }
-give_if false s c told result = record { back = Refused (stranger s told); next = s }
+give_if true s c told result = record { answer = Gave (entries_back c told result); next = taken_back s c told result }
+give_if false s c told result = record { answer = Refused (stranger s told); next = s }
 
 -- the grip of a run
 abbrev pub give : HubState → Carried → Told → ℕ → Given
@@ -139,7 +139,7 @@ pub data Call : Type 0 where
 
 pub data CallAnswer : Type 0 where
   Chose : Choice → CallAnswer
-  Returned : Back → CallAnswer
+  Returned : GiveAnswer → CallAnswer
   Probed : Option Task → CallAnswer
 
 -- a slip names its device and its maker
@@ -155,6 +155,6 @@ SlipFits r choice slip = ⊤
 -- one step of a hub: what a call answers, and what the hub shows after it
 abbrev pub HubStep : HubState → Call → CallAnswer → HubState → Type 0
 HubStep s (Take r m slip) answer after = (answer ≡ Chose (take s r m slip).choice) × (after ≡ (take s r m slip).next) × SlipFits r (take s r m slip).choice slip
-HubStep s (Give told result m) answer after = (answer ≡ Returned (give s told result m).back) × (after ≡ (give s told result m).next)
+HubStep s (Give told result m) answer after = (answer ≡ Returned (give s told result m).answer) × (after ≡ (give s told result m).next)
 HubStep s (TakeProbe d slip) answer after = (answer ≡ Probed (take_probe s d slip).task) × (after ≡ (take_probe s d slip).next) × (IsTrue (may_probe s.configuration d) → IsSlipOf 0 d slip)
-HubStep s (GiveProbe told result) answer after = (answer ≡ Returned (give_probe s told result).back) × (after ≡ (give_probe s told result).next)
+HubStep s (GiveProbe told result) answer after = (answer ≡ Returned (give_probe s told result).answer) × (after ≡ (give_probe s told result).next)

@@ -2,7 +2,7 @@
 use Rattle.command_rules.specs.Rosters.{command_at, device_no, is_run, run_no}
 use Rattle.history_book.specs.Histories.{kept_by}
 use Rattle.history_book.specs.Readings.{Reading, did, is_doomed, next_command, next_of, put, sees_down}
-use Rattle.history_book.specs.Settings.{Setting, device_numbers, devices_of, is_device, is_weak, run_numbers}
+use Rattle.history_book.specs.Settings.{Setting, device_numbers, is_device, is_weak, run_numbers}
 use Rattle.history_book.specs.declared.entries.Cause.{Cause}
 use Rattle.history_book.specs.declared.entries.Cause.TheVariants.{DownAtEnd, Lost, MustDown, Refuted, Revoked}
 use Rattle.history_book.specs.declared.entries.End.{End}
@@ -20,8 +20,8 @@ use Rattle.hub_core.specs.declared.waits.Why.{Why}
 use Rattle.hub_core.specs.declared.waits.Why.TheVariants.{Behind, Busy, Denied, Dirty, Follow, Strict}
 use Rattle.lock_leasing.specs.Configurations.{Commands, Configuration, Grip, Grips, Probes, Purpose, Undoes, is_out, no_grips, read_of}
 use Rattle.lock_leasing.specs.Places.{At, DeniedBy, Placing, scheduled_place}
-use Rattle.lock_leasing.specs.Waits.{behind_wait, busy_wait, dirty_wait, down_at_end, follow_wait, grip_wait, lost_by, strict_wait}
-use Rattle.lock_leasing.specs.Words.{has_effect, lease_deadline, overdue_for, standing_value, value_without}
+use Rattle.lock_leasing.specs.Waits.{behind_wait, busy_wait, dirty_wait, down_at_end, follow_wait, grip_wait, lost_by, strict_wait, undo_wait}
+use Rattle.lock_leasing.specs.Words.{lease_deadline, next_undo_of, overdue_for, standing_value, value_without}
 use Rattle.std.specs.Option.{option_or}
 use Rattle.std.specs.Prelude.{Bool, List, None, Option, Some, [], false, find, if◌then◌else◌, is_none, length, max, nat_lt, not, option_map, option_to_list, true, unwrap_or, ℕ, ◌&&◌, ◌++◌, ◌-◌, ◌||◌, ◌∷◌, ◌≡◌}
 
@@ -86,15 +86,16 @@ decide_command w n g r m k c = first_case (command_cases (is_weak w.mode) w n g 
 abbrev pub aborts : ℕ → Cause → Choice
 aborts r cause = Over (Aborted cause) (Ended (run_no r) (Aborted cause) ∷ [])
 
--- the run undoes its write on the device
+-- the device is counted down, and the write is dropped; else the value is driven at which it would stand without the run
 abbrev pub undo_on : Setting → Reading → Grips → ℕ → ℕ → Choice
-undo_on w n g r d =
-    if is_out g d then Waits (Busy (device_no d))
-    else (if not (n.up d) then Moves (Undid (run_no r) (device_no d) false ∷ []) else HandsOut d (Undoes (value_without w n g r d)))
+undo_on w n g r d = if n.up d then HandsOut d (Undoes (value_without w n g r d)) else Moves (Undid (run_no r) (device_no d) false ∷ [])
+
+abbrev pub undo_cases : Setting → Reading → Grips → ℕ → List (Option Choice)
+undo_cases w n g r = option_map (λ d. Waits (Busy (device_no d))) (undo_wait w n g r) ∷ option_map (undo_on w n g r) (next_undo_of w n g r) ∷ []
 
 -- a doomed run undoes its effective writes, by ascending device, and then ends; under the weak model it ends at once
 abbrev pub decide_doomed : Setting → Reading → Grips → ℕ → Cause → Choice
-decide_doomed w n g r cause = if is_weak w.mode then aborts r cause else unwrap_or (option_map (undo_on w n g r) (find (has_effect n g r) (devices_of w r))) (aborts r cause)
+decide_doomed w n g r cause = first_case (if is_weak w.mode then [] else undo_cases w n g r) (aborts r cause)
 
 -- a run with all its commands answered commits, where no device that it needs up is down
 abbrev pub decide_answered : Setting → Reading → Grips → ℕ → Choice

@@ -1,7 +1,7 @@
 -- Where the schedulers place a run.
 use Rattle.command_rules.specs.Rosters.{follows, reads_first, touches}
 use Rattle.history_book.specs.Lines.{Split, of_run, split_at}
-use Rattle.history_book.specs.Plans.{plan_of, planned_end, planned_start, split_of}
+use Rattle.history_book.specs.Plans.{planned_end, planned_start, planned_times, split_of}
 use Rattle.history_book.specs.Readings.{Planned, Reading, has_written, is_committed, is_doomed, is_live, is_next_on, next_of, nothing_read, passed_by}
 use Rattle.history_book.specs.Settings.{Setting, devices_of, scheduler_of}
 use Rattle.history_book.specs.WellFormed.{Along}
@@ -12,7 +12,7 @@ use Rattle.home_types.specs.declared.items.Item.TheVariants.{Back, Failed, Ran}
 use Rattle.home_types.specs.declared.modes.Scheduler.{Scheduler}
 use Rattle.home_types.specs.declared.modes.Scheduler.TheVariants.{Fcfs, JustInTime, Timeline}
 use Rattle.lock_leasing.specs.Configurations.{Commands, Grips, Purpose, Undoes}
-use Rattle.lock_leasing.specs.Words.{effective_writer_of, has_touched, holds, live_runs}
+use Rattle.lock_leasing.specs.Words.{effective_writer_of, has_touched, holds_device, live_runs}
 use Rattle.std.specs.List.{list_all, list_any, range_with_len}
 use Rattle.std.specs.Option.{option_or}
 use Rattle.std.specs.Prelude.{Bool, IsTrue, List, None, Option, Some, [], find, if◌then◌else◌, length, max, nat_le, not, option_map, suc, take, true, unwrap_or, zero, ℕ, ⊤, ◌&&◌, ◌+◌, ◌-◌, ◌==◌, ◌||◌, ◌∷◌, ◌≡◌}
@@ -58,7 +58,7 @@ at_end n = At (split_at n.line (length n.line))
 -- the run by which the device is denied: the first live one up to the floor that holds it, else, where r first reads it, the live one with the effective write
 abbrev pub denied_by : Setting → Reading → Grips → ℕ → ℕ → Option ℕ
 denied_by w n g r d =
-    option_or (find (λ x. holds w n g x d) (live_runs n (take (first_place w n g r) n.line)))
+    option_or (find (λ x. holds_device w n g x d) (live_runs n (take (first_place w n g r) n.line)))
     (if reads_first w.runs r d then live_writer (effective_writer_of n g d) else None)
   where
     live_writer : Option ℕ → Option ℕ
@@ -93,12 +93,12 @@ just_in_time w n g r m = admit (denial_of w n g r)
 
 -- planned so, the run is off the device before the first live run of the back that uses it is planned to start on it
 abbrev pub fits_on : Setting → Reading → List Planned → List Item → ℕ → Bool
-fits_on w n plan back d =
-    unwrap_or (option_map (λ x. nat_le (planned_end plan d) (planned_start (n.run x).plan d))
+fits_on w n planned back d =
+    unwrap_or (option_map (λ x. nat_le (planned_end planned d) (planned_start (n.run x).planned d))
     (find (λ x. touches w.runs x d && not (passed_by w n x d)) (live_runs n back))) true
 
 abbrev pub fits : Setting → Reading → ℕ → ℕ → Split → Bool
-fits w n r m s = list_all (fits_on w n (plan_of w n r s.front m) s.back) (devices_of w r)
+fits w n r m s = list_all (fits_on w n (planned_times w n r s.front m) s.back) (devices_of w r)
 
 -- the least place that fits, from the first place on; the end always fits
 abbrev pub timeline : Setting → Reading → Grips → ℕ → ℕ → Placing

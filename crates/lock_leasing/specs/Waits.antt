@@ -9,7 +9,7 @@ use Rattle.home_types.specs.declared.modes.Visibility.{Visibility}
 use Rattle.home_types.specs.declared.modes.Visibility.TheVariants.{Eventual, Global, Partitioned, Weak}
 use Rattle.home_types.specs.declared.numbers.RunNo.{RunNo}
 use Rattle.lock_leasing.specs.Configurations.{Grips, has_grip, is_out}
-use Rattle.lock_leasing.specs.Words.{has_effect, has_touched, holds, live_before, live_runs}
+use Rattle.lock_leasing.specs.Words.{has_effect, has_touched, holds_device, live_before, live_runs, next_undo_of}
 use Rattle.std.specs.Prelude.{Bool, None, Option, Some, find, if◌then◌else◌, is_none, not, true, ℕ, ◌&&◌, ◌||◌}
 
 -- r follows a run that has not ended
@@ -24,9 +24,9 @@ follow_wait w n r = unended (followed_by w.runs r)
 abbrev pub grip_wait : Setting → Grips → ℕ → Option ℕ
 grip_wait w g r = find (has_grip g r) (device_numbers w)
 
--- the smallest device on which r has the effective write, where it is out
+-- the next device on which r is undone, where it is out
 abbrev pub undo_wait : Setting → Reading → Grips → ℕ → Option ℕ
-undo_wait w n g r = while_out (find (has_effect n g r) (devices_of w r))
+undo_wait w n g r = while_out (next_undo_of w n g r)
   where
     while_out : Option ℕ → Option ℕ
     while_out None = None
@@ -34,7 +34,7 @@ undo_wait w n g r = while_out (find (has_effect n g r) (devices_of w r))
 
 -- the first live run before r that holds the device
 abbrev pub behind_wait : Setting → Reading → Grips → ℕ → ℕ → Option ℕ
-behind_wait w n g r d = find (λ x. holds w n g x d) (live_before n r)
+behind_wait w n g r d = find (λ x. holds_device w n g x d) (live_before n r)
 
 -- r would read the write of a live run before it
 abbrev pub dirty_wait : Setting → Reading → Grips → ℕ → Command → Option ℕ

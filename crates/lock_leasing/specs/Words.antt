@@ -3,7 +3,7 @@ use Rattle.command_rules.specs.Rosters.{commands_of, estimate_to_last, touches}
 use Rattle.history_book.specs.Lines.{before, without}
 use Rattle.history_book.specs.Plans.{greatest, planned_end}
 use Rattle.history_book.specs.Readings.{Reading, did, is_committed, is_doomed, is_live, pends}
-use Rattle.history_book.specs.Settings.{Setting, is_weak}
+use Rattle.history_book.specs.Settings.{Setting, devices_of, is_weak}
 use Rattle.home_types.specs.HomeStates.{stand_at}
 use Rattle.home_types.specs.declared.items.Item.{Item}
 use Rattle.home_types.specs.declared.items.Item.TheVariants.{Back, Failed, Ran}
@@ -58,6 +58,10 @@ standing_value w n g d =
 abbrev pub value_without : Setting → Reading → Grips → ℕ → ℕ → ℕ
 value_without w n g r d = unwrap_or (option_map (λ e. e.value) (last_some (write_of n g d) (without r n.line))) (stand_at w.first d).value
 
+-- the smallest device on which the run has the effective write: the next one on which it is undone
+abbrev pub next_undo_of : Setting → Reading → Grips → ℕ → Option ℕ
+next_undo_of w n g r = find (has_effect n g r) (devices_of w r)
+
 -- the item's write on the device, if it is a committed run
 abbrev pub committed_write : Reading → ℕ → Item → Option ℕ
 committed_write n d (Ran r) = if is_committed n r.0 then ((n.run r.0).on d).wrote else None
@@ -67,8 +71,8 @@ committed_write n d (Back e k) = None
 -- Holding
 
 -- the live run holds the device: a command on it is pending, or, where the run is doomed, it has the effective write there
-abbrev pub holds : Setting → Reading → Grips → ℕ → ℕ → Bool
-holds w n g r d = is_live n r && (if is_doomed n r then touches w.runs r d && has_effect n g r d else pends w n r d)
+abbrev pub holds_device : Setting → Reading → Grips → ℕ → ℕ → Bool
+holds_device w n g r d = is_live n r && (if is_doomed n r then touches w.runs r d && has_effect n g r d else pends w n r d)
 
 -- the live runs among these items, in their order
 abbrev pub live_runs : Reading → List Item → List ℕ
@@ -95,7 +99,7 @@ tenth_up k = (k + 9) / 10
 
 -- the deadline of the run's lease: its planned end on the device, and a tenth of its estimates up to its last command there
 abbrev pub lease_deadline : Setting → Reading → ℕ → ℕ → ℕ
-lease_deadline w n r d = min (planned_end (n.run r).plan d + tenth_up (estimate_to_last d (commands_of w.runs r))) greatest
+lease_deadline w n r d = min (planned_end (n.run r).planned d + tenth_up (estimate_to_last d (commands_of w.runs r))) greatest
 
 -- the number of entries before the run's placing
 abbrev pub stamp_of : Reading → ℕ → ℕ
@@ -103,7 +107,7 @@ stamp_of n r = unwrap_or (option_map (λ p. p.stamp) (n.run r).placed) 0
 
 -- the lease of x, which stands before r, is overdue for r, whose next command is on the device: x was placed later, holds the device, is not doomed, and the moment is past its deadline
 abbrev pub is_overdue : Setting → Reading → Grips → ℕ → ℕ → ℕ → ℕ → Bool
-is_overdue w n g r d m x = not (is_doomed n x) && nat_lt (stamp_of n r) (stamp_of n x) && holds w n g x d && nat_lt (lease_deadline w n x d) m
+is_overdue w n g r d m x = not (is_doomed n x) && nat_lt (stamp_of n r) (stamp_of n x) && holds_device w n g x d && nat_lt (lease_deadline w n x d) m
 
 -- the lease that is revoked: the first overdue one in line order
 abbrev pub overdue_for : Setting → Reading → Grips → ℕ → ℕ → ℕ → Option ℕ

@@ -1,0 +1,4 @@
+mod CaseDownAtEnd
+mod CaseLeaseOverdue
+mod CaseProbePassed
+mod CaseUndoDies

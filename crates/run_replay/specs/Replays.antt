@@ -10,7 +10,7 @@ use Rattle.lock_leasing.specs.Configurations.{Commands, Configuration, Grip, Pro
 use Rattle.lock_leasing.specs.Waits.{grip_wait}
 use Rattle.run_replay.specs.Draws.{below, drawn}
 use Rattle.std.specs.List.{range_with_len}
-use Rattle.std.specs.Prelude.{Bool, List, Option, [], drop, false, filter, fold, if◌then◌else◌, is_none, is_some, length, nat_le, not, option_map, suc, take, true, unwrap_or, zero, ℕ, ◌%◌, ◌&&◌, ◌*◌, ◌++◌, ◌+◌, ◌||◌, ◌∷◌, ◌≡◌}
+use Rattle.std.specs.Prelude.{Bool, List, Option, [], drop, false, filter, fold, if◌then◌else◌, is_none, is_some, length, nat_le, not, option_map, suc, take, true, unwrap_or, zero, ℕ, ◌%◌, ◌&&◌, ◌*◌, ◌++◌, ◌+◌, ◌==◌, ◌||◌, ◌∷◌, ◌≡◌}
 
 -- a replay under way
 pub record Play : Type 0 where
@@ -70,7 +70,7 @@ act_on course p d grip =
     record {
       picked = Made (give_entries p.configuration.setting (read_of p.configuration) d grip (course.told p.acts));
       next = record {
-        configuration = after_give (at_moment p.configuration moment) d grip (course.told p.acts);
+        configuration = after_give (if grip.maker == 0 then p.configuration else at_moment p.configuration moment) d grip (course.told p.acts);
         moment = moment;
         place = p.place;
         acts = p.acts + 1;

@@ -1,0 +1,340 @@
+-- What a well-formed history says of each run.
+use Rattle.command_rules.specs.Rosters.{command_at, commands_of, is_on, is_run, no_command, touches}
+use Rattle.history_book.proofs.Lines.{any_left, any_taken}
+use Rattle.history_book.proofs.Standing.{aborted}
+use Rattle.history_book.specs.Histories.{answered, entry, reading}
+use Rattle.history_book.specs.Readings.{OfRun, OnDevice, PlacedAt, Planned, Reading, did, is_access, is_committing, nothing_read, passed_by, pends, put, unread, untouched, view_by}
+use Rattle.history_book.specs.Settings.{Setting}
+use Rattle.history_book.specs.WellFormed.{IsWellFormed, along, may_follow, same_cause}
+use Rattle.history_book.specs.declared.entries.Cause.{Cause}
+use Rattle.history_book.specs.declared.entries.End.{End}
+use Rattle.history_book.specs.declared.entries.End.TheVariants.{Aborted, Committed}
+use Rattle.history_book.specs.declared.entries.Entry.{Entry}
+use Rattle.history_book.specs.declared.entries.Entry.TheVariants.{Arrived, Did, Doomed, Ended, Fell, Placed, Rose, Undid}
+use Rattle.home_types.specs.Kinds.{kind_at}
+use Rattle.home_types.specs.declared.commands.Answer.{Answer}
+use Rattle.home_types.specs.declared.commands.Answer.TheVariants.{Down, Fine, Found}
+use Rattle.home_types.specs.declared.commands.Command.{Command}
+use Rattle.home_types.specs.declared.kinds.Kind.{Kind}
+use Rattle.std.proofs.Common.{ap, arith, length-append, refl, subst, sym, ◌∙◌}
+use Rattle.std.proofs.lemmas.Grind.{common_steps}
+use Rattle.std.proofs.lemmas.List.{take_more}
+use Rattle.std.proofs.lemmas.List.Folds.{list_any-append}
+use Rattle.std.specs.List.{list_any}
+use Rattle.std.specs.Option.{option_or}
+use Rattle.std.specs.Prelude.{Bool, IsTrue, List, None, Option, Some, [], false, fold, if◌then◌else◌, is_none, is_some, length, not, option_map, take, true, unwrap_or, ℕ, ◌&&◌, ◌++◌, ◌+◌, ◌<◌, ◌==◌, ◌||◌, ◌∷◌, ◌≡◌, ◌≤◌}
+
+abbrev pub committed_in : OfRun → Bool
+committed_in o = unwrap_or (option_map is_committing o.ended) false
+
+pub record IsShaped (w : Setting) (r : ℕ) (o : OfRun) : Type 0 where
+  -- a run that has arrived is one of the window, and it arrives before it is placed
+  pub known : is_some o.arrived ≡ true → is_run w.runs r ≡ true
+  pub arrived : is_some o.placed ≡ true → is_some o.arrived ≡ true
+  -- nothing has happened to a run that is not placed
+  pub unanswered : is_none o.placed ≡ true → o.answers ≡ []
+  pub sound : is_none o.placed ≡ true → o.doomed ≡ None
+  pub going : is_none o.placed ≡ true → o.ended ≡ None
+  pub clear : is_none o.placed ≡ true → (d : ℕ) → o.on d ≡ untouched
+  -- a run is doomed where it ends aborted or is answered late, and not where it commits
+  pub commits : committed_in o ≡ true → o.doomed ≡ None
+  pub whole : committed_in o ≡ true → length o.answers ≡ length (commands_of w.runs r)
+  pub aborts : aborted o ≡ true → is_some o.doomed ≡ true
+  pub answers_late : o.answered_doomed ≡ true → is_some o.doomed ≡ true
+  pub fits : length o.answers ≤ length (commands_of w.runs r)
+  -- it has an access where a command is answered, and writes, finds and is undone there alone
+  pub view : (d : ℕ) → is_some (o.on d).view ≡ list_any (is_on d) (take (length o.answers) (commands_of w.runs r))
+  pub wrote : (d : ℕ) → is_some (o.on d).wrote ≡ true → is_some (o.on d).view ≡ true
+  pub found : (d : ℕ) → is_some (o.on d).found ≡ true → is_some (o.on d).view ≡ true
+  pub undid : (d : ℕ) → (o.on d).undid ≡ true → is_some (o.on d).wrote ≡ true
+  pub undone : (d : ℕ) → (o.on d).undid ≡ true → is_some o.doomed ≡ true
+  pub late : (d : ℕ) → (o.on d).late ≡ true → is_some o.doomed ≡ true
+
+abbrev pub Shaped : Setting → Reading → Type 0
+Shaped w n = (r : ℕ) → IsShaped w r (n.run r)
+
+-- at the start
+pub unread_shape : (w : Setting) (r : ℕ) → IsShaped w r unread
+unread_shape w r =
+    record {
+      known = λ e. absurd (cc);
+      arrived = λ e. absurd (cc);
+      unanswered = λ e. refl;
+      sound = λ e. refl;
+      going = λ e. refl;
+      clear = λ e d. refl;
+      commits = λ e. refl;
+      whole = λ e. absurd (cc);
+      aborts = λ e. absurd (cc);
+      answers_late = λ e. absurd (cc);
+      fits = omega arith;
+      view = λ d. refl;
+      wrote = λ d e. absurd (cc);
+      found = λ d e. absurd (cc);
+      undid = λ d e. absurd (cc);
+      undone = λ d e. absurd (cc);
+      late = λ d e. absurd (cc);
+    }
+
+-- what holds of each value of a function still holds where one is put that it holds of
+pub put_all : {A : Type 0} (P : ℕ → A → Type 0) (f : ℕ → A) (k : ℕ) (v : A) → ((n : ℕ) → P n (f n)) → P k v → (n : ℕ) → P n (put f k v n)
+put_all P f k v all new n = elim (n == k) as (λ b. (n == k) ≡ b → P n (if b then v else f n)) [
+  | true ↦ (λ e. let same : n ≡ k = grind (arith, common_steps) in subst (λ x. P x v) (sym same) new)
+  | false ↦ (λ e. all n)
+] refl
+
+-- One entry more
+
+arrives : (w : Setting) (r m : ℕ) (o : OfRun) → is_run w.runs r ≡ true → IsShaped w r o → IsShaped w r (record o { arrived = Some m })
+arrives w r m o run s =
+    record {
+      known = λ e. run;
+      arrived = λ e. refl;
+      unanswered = s.unanswered;
+      sound = s.sound;
+      going = s.going;
+      clear = s.clear;
+      commits = s.commits;
+      whole = s.whole;
+      aborts = s.aborts;
+      answers_late = s.answers_late;
+      fits = s.fits;
+      view = s.view;
+      wrote = s.wrote;
+      found = s.found;
+      undid = s.undid;
+      undone = s.undone;
+      late = s.late;
+    }
+
+places : (w : Setting) (r : ℕ) (o : OfRun) (p : PlacedAt) (planned : List Planned) → is_some o.arrived ≡ true → IsShaped w r o → IsShaped w r (record o { placed = Some p; planned = planned })
+places w r o p planned came s =
+    record {
+      known = s.known;
+      arrived = λ e. came;
+      unanswered = λ e. absurd (cc);
+      sound = λ e. absurd (cc);
+      going = λ e. absurd (cc);
+      clear = λ e. absurd (cc);
+      commits = s.commits;
+      whole = s.whole;
+      aborts = s.aborts;
+      answers_late = s.answers_late;
+      fits = s.fits;
+      view = s.view;
+      wrote = s.wrote;
+      found = s.found;
+      undid = s.undid;
+      undone = s.undone;
+      late = s.late;
+    }
+
+some_view : (v : Option Bool) (a : Answer) → is_some (option_or v (view_by a)) ≡ true
+some_view (Some u) a = refl
+some_view None Fine = refl
+some_view None (Found x) = refl
+some_view None Down = refl
+
+still_wrote : (kind : Kind) (c : Command) (doomed : Bool) (register : ℕ) (a : Answer) (o : OnDevice) → is_some o.wrote ≡ true → is_some (answered kind c doomed register a o).wrote ≡ true
+still_wrote kind c doomed register Fine o e = refl
+still_wrote kind c doomed register (Found x) o e = e
+still_wrote kind c doomed register Down o e = e
+
+-- the run's next command is answered
+answers : (w : Setting) (r : ℕ) (o : OfRun) (a : Answer) (register : ℕ) → is_some o.placed ≡ true → is_none o.ended ≡ true → length o.answers < length (commands_of w.runs r) → IsShaped w r o
+    → IsShaped w r (record o {
+      answers = o.answers ++ a ∷ [];
+      register = register;
+      answered_doomed = o.answered_doomed || is_some o.doomed;
+      on = put o.on (command_at w.runs r (length o.answers)).device.0 (answered (kind_at w.kinds (command_at w.runs r (length o.answers)).device.0) (command_at w.runs r (length o.answers)) (is_some o.doomed) o.register a (o.on (command_at w.runs r (length o.answers)).device.0));
+    })
+answers w r o a register placed going more s =
+    record {
+      known = s.known;
+      arrived = s.arrived;
+      unanswered = λ e. absurd (grind (arith, common_steps));
+      sound = λ e. absurd (grind (arith, common_steps));
+      going = λ e. absurd (grind (arith, common_steps));
+      clear = λ e. absurd (grind (arith, common_steps));
+      commits = s.commits;
+      whole = λ e. absurd (open_end o.ended going e);
+      aborts = s.aborts;
+      answers_late = λ e. grind (arith, common_steps, s.answers_late);
+      fits = let longer : length (o.answers ++ a ∷ []) ≡ length o.answers + 1 = length-append o.answers (a ∷ []) in omega (arith, longer, more);
+      view = viewed;
+      wrote = put_all (λ d x. is_some x.wrote ≡ true → is_some x.view ≡ true) o.on c.device.0 new s.wrote (λ e. some_view (o.on c.device.0).view a);
+      found = put_all (λ d x. is_some x.found ≡ true → is_some x.view ≡ true) o.on c.device.0 new s.found (λ e. some_view (o.on c.device.0).view a);
+      undid = put_all (λ d x. x.undid ≡ true → is_some x.wrote ≡ true) o.on c.device.0 new s.undid (λ e. still_wrote (kind_at w.kinds c.device.0) c (is_some o.doomed) o.register a (o.on c.device.0) (s.undid c.device.0 e));
+      undone = put_all (λ d x. x.undid ≡ true → is_some o.doomed ≡ true) o.on c.device.0 new s.undone (s.undone c.device.0);
+      late = put_all (λ d x. x.late ≡ true → is_some o.doomed ≡ true) o.on c.device.0 new s.late (λ e. late_doomed (o.on c.device.0).late (is_some o.doomed) (is_access a) (is_none (o.on c.device.0).view) (s.late c.device.0) e);
+    }
+  where
+    c : Command
+    c = command_at w.runs r (length o.answers)
+
+    new : OnDevice
+    new = answered (kind_at w.kinds c.device.0) c (is_some o.doomed) o.register a (o.on c.device.0)
+
+    open_end : (e : Option End) → is_none e ≡ true → unwrap_or (option_map is_committing e) false ≡ true → ⊥
+    open_end None none commit = absurd (cc)
+    open_end (Some x) none commit = absurd (cc)
+
+    late_doomed : (old doomed access first : Bool) → (old ≡ true → doomed ≡ true) → (old || (doomed && access && first)) ≡ true → doomed ≡ true
+    late_doomed true doomed access first was e = was refl
+    late_doomed false true access first was e = refl
+    late_doomed false false access first was e = e
+
+    taken : (d : ℕ) → list_any (is_on d) (take (length (o.answers ++ a ∷ [])) (commands_of w.runs r)) ≡ (list_any (is_on d) (take (length o.answers) (commands_of w.runs r)) || (c.device.0 == d))
+    taken d =
+        ap (λ k. list_any (is_on d) (take k (commands_of w.runs r))) (length-append o.answers (a ∷ []))
+        ∙ ap (list_any (is_on d)) (take_more (commands_of w.runs r) (length o.answers) no_command more)
+        ∙ list_any-append (is_on d) (take (length o.answers) (commands_of w.runs r)) (c ∷ [])
+        ∙ grind (arith, common_steps)
+
+    viewed : (d : ℕ) → is_some (put o.on c.device.0 new d).view ≡ list_any (is_on d) (take (length (o.answers ++ a ∷ [])) (commands_of w.runs r))
+    viewed d = elim (d == c.device.0) as (λ b. (d == c.device.0) ≡ b → is_some (if b then new else o.on d).view ≡ list_any (is_on d) (take (length (o.answers ++ a ∷ [])) (commands_of w.runs r))) [
+      | true ↦ (λ e. some_view (o.on c.device.0).view a ∙ sym (taken d ∙ grind (arith, common_steps)))
+      | false ↦ (λ e. s.view d ∙ sym (taken d ∙ grind (arith, common_steps)))
+    ] refl
+
+undoes : (w : Setting) (r d : ℕ) (o : OfRun) → is_some o.placed ≡ true → is_some o.doomed ≡ true → is_some (o.on d).wrote ≡ true → IsShaped w r o → IsShaped w r (record o { on = put o.on d (record (o.on d) { undid = true }) })
+undoes w r d o placed doomed wrote s =
+    record {
+      known = s.known;
+      arrived = s.arrived;
+      unanswered = s.unanswered;
+      sound = s.sound;
+      going = s.going;
+      clear = λ e. absurd (grind (arith, common_steps));
+      commits = s.commits;
+      whole = s.whole;
+      aborts = s.aborts;
+      answers_late = s.answers_late;
+      fits = s.fits;
+      view = put_all (λ q x. is_some x.view ≡ list_any (is_on q) (take (length o.answers) (commands_of w.runs r))) o.on d new s.view (s.view d);
+      wrote = put_all (λ q x. is_some x.wrote ≡ true → is_some x.view ≡ true) o.on d new s.wrote (s.wrote d);
+      found = put_all (λ q x. is_some x.found ≡ true → is_some x.view ≡ true) o.on d new s.found (s.found d);
+      undid = put_all (λ q x. x.undid ≡ true → is_some x.wrote ≡ true) o.on d new s.undid (λ e. wrote);
+      undone = put_all (λ q x. x.undid ≡ true → is_some o.doomed ≡ true) o.on d new s.undone (λ e. doomed);
+      late = put_all (λ q x. x.late ≡ true → is_some o.doomed ≡ true) o.on d new s.late (s.late d);
+    }
+  where
+    new : OnDevice
+    new = record (o.on d) { undid = true }
+
+is_open_end : (e : Option End) → is_none e ≡ true → unwrap_or (option_map is_committing e) false ≡ true → ⊥
+is_open_end None none commit = absurd (cc)
+is_open_end (Some x) none commit = absurd (cc)
+
+dooms : (w : Setting) (r : ℕ) (o : OfRun) (cause : Cause) → is_some o.placed ≡ true → is_none o.ended ≡ true → IsShaped w r o → IsShaped w r (record o { doomed = Some cause })
+dooms w r o cause placed going s =
+    record {
+      known = s.known;
+      arrived = s.arrived;
+      unanswered = s.unanswered;
+      sound = λ e. absurd (grind (arith, common_steps));
+      going = s.going;
+      clear = s.clear;
+      commits = λ e. absurd (is_open_end o.ended going e);
+      whole = s.whole;
+      aborts = λ e. refl;
+      answers_late = λ e. refl;
+      fits = s.fits;
+      view = s.view;
+      wrote = s.wrote;
+      found = s.found;
+      undid = s.undid;
+      undone = λ d e. refl;
+      late = λ d e. refl;
+    }
+
+commits_shape : (w : Setting) (r : ℕ) (o : OfRun) → is_some o.placed ≡ true → is_none o.doomed ≡ true → (length o.answers == length (commands_of w.runs r)) ≡ true → IsShaped w r o → IsShaped w r (record o { ended = Some Committed })
+commits_shape w r o placed sound all s =
+    record {
+      known = s.known;
+      arrived = s.arrived;
+      unanswered = s.unanswered;
+      sound = s.sound;
+      going = λ e. absurd (grind (arith, common_steps));
+      clear = s.clear;
+      commits = λ e. none_is o.doomed sound;
+      whole = λ e. grind (arith, common_steps);
+      aborts = λ e. absurd (cc);
+      answers_late = s.answers_late;
+      fits = s.fits;
+      view = s.view;
+      wrote = s.wrote;
+      found = s.found;
+      undid = s.undid;
+      undone = s.undone;
+      late = s.late;
+    }
+  where
+    none_is : (c : Option Cause) → is_none c ≡ true → c ≡ None
+    none_is None none = refl
+    none_is (Some x) none = absurd (cc)
+
+aborts_shape : (w : Setting) (r : ℕ) (o : OfRun) (cause : Cause) → is_some o.placed ≡ true → is_some o.doomed ≡ true → IsShaped w r o → IsShaped w r (record o { ended = Some (Aborted cause) })
+aborts_shape w r o cause placed doomed s =
+    record {
+      known = s.known;
+      arrived = s.arrived;
+      unanswered = s.unanswered;
+      sound = s.sound;
+      going = λ e. absurd (grind (arith, common_steps));
+      clear = s.clear;
+      commits = λ e. absurd (cc);
+      whole = λ e. absurd (cc);
+      aborts = λ e. doomed;
+      answers_late = s.answers_late;
+      fits = s.fits;
+      view = s.view;
+      wrote = s.wrote;
+      found = s.found;
+      undid = s.undid;
+      undone = s.undone;
+      late = s.late;
+    }
+
+pub shapes_step : (w : Setting) (n : Reading) (e : Entry) → IsTrue (may_follow w n e) → Shaped w n → Shaped w (entry w n e)
+shapes_step w n (Arrived r m) ok s = put_all (IsShaped w) n.run r.0 _ s (arrives w r.0 m (n.run r.0) (grind (arith, common_steps)) (s r.0))
+shapes_step w n (Placed r at m) ok s = put_all (IsShaped w) n.run r.0 _ s (places w r.0 (n.run r.0) _ _ (grind (arith, common_steps)) (s r.0))
+shapes_step w n (Did r c a) ok s =
+    put_all (IsShaped w) n.run r.0 _ s (let number : c ≡ length (n.run r.0).answers = grind (arith, common_steps) in rw number (answers w r.0 (n.run r.0) a _ (grind (arith, common_steps)) (grind (arith, common_steps)) (grind (arith, common_steps)) (s r.0)))
+shapes_step w n (Undid r d drove) ok s = put_all (IsShaped w) n.run r.0 _ s (undoes w r.0 d.0 (n.run r.0) (grind (arith, common_steps)) (grind (arith, common_steps)) (grind (arith, common_steps)) (s r.0))
+shapes_step w n (Fell d) ok s = s
+shapes_step w n (Rose d) ok s = s
+shapes_step w n (Doomed r cause) ok s = put_all (IsShaped w) n.run r.0 _ s (dooms w r.0 (n.run r.0) cause (grind (arith, common_steps)) (grind (arith, common_steps)) (s r.0))
+shapes_step w n (Ended r Committed) ok s = put_all (IsShaped w) n.run r.0 _ s (commits_shape w r.0 (n.run r.0) (grind (arith, common_steps)) (grind (arith, common_steps)) (grind (arith, common_steps)) (s r.0))
+shapes_step w n (Ended r (Aborted cause)) ok s = put_all (IsShaped w) n.run r.0 _ s (aborts_shape w r.0 (n.run r.0) cause (grind (arith, common_steps)) (caused (n.run r.0).doomed (grind (arith, common_steps))) (s r.0))
+  where
+    caused : (c : Option Cause) → unwrap_or (option_map (same_cause cause) c) false ≡ true → is_some c ≡ true
+    caused None same = absurd (cc)
+    caused (Some x) same = refl
+
+shapes_from : (w : Setting) (n : Reading) (h : List Entry) → Shaped w n → IsTrue (along w (may_follow w) n h) → Shaped w (fold (entry w) n h)
+shapes_from w n [] s ok = s
+shapes_from w n (e ∷ h) s ok = shapes_from w (entry w n e) h (shapes_step w n e (grind (arith, common_steps)) s) (grind (arith, common_steps))
+
+-- each run of a well-formed history has this shape
+pub shapes : (w : Setting) (h : List Entry) → IsWellFormed w h → Shaped w (reading w h)
+shapes w h ok = shapes_from w (nothing_read w) h (unread_shape w) ok
+
+-- What follows
+
+-- a run has accesses on its own devices alone
+pub did_touches : (w : Setting) (n : Reading) (r d : ℕ) → Shaped w n → did n r d ≡ true → touches w.runs r d ≡ true
+did_touches w n r d s done = any_taken (is_on d) (length (n.run r).answers) (commands_of w.runs r) (sym ((s r).view d) ∙ done)
+
+-- a run whose commands on a device are all answered has an access there
+pub answered_did : (w : Setting) (n : Reading) (r d : ℕ) → Shaped w n → touches w.runs r d ≡ true → pends w n r d ≡ false → did n r d ≡ true
+answered_did w n r d s on none = (s r).view d ∙ any_left (is_on d) (length (n.run r).answers) (commands_of w.runs r) on none
+
+pub never_passed_by : (w : Setting) (n : Reading) (r d : ℕ) → Shaped w n → passed_by w n r d ≡ false
+never_passed_by w n r d s = elim (touches w.runs r d) as (λ b. touches w.runs r d ≡ b → (b && not (pends w n r d) && not (did n r d)) ≡ false) [
+  | true ↦ (λ on. elim (pends w n r d) as (λ b. pends w n r d ≡ b → (not b && not (did n r d)) ≡ false) [
+    | true ↦ (λ e. refl)
+    | false ↦ (λ none. ap not (answered_did w n r d s on none))
+  ] refl)
+  | false ↦ (λ e. refl)
+] refl

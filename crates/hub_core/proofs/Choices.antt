@@ -1,0 +1,171 @@
+-- What holds of each thing that a run's step may do holds of the step.
+use Rattle.command_rules.specs.Rosters.{device_no, is_run, run_no, touches}
+use Rattle.history_book.proofs.Searches.{each_found, own_devices, some_is}
+use Rattle.history_book.specs.Lines.{Split}
+use Rattle.history_book.specs.Plans.{free}
+use Rattle.history_book.specs.Readings.{PlacedAt, Reading, is_live, next_command, next_of}
+use Rattle.history_book.specs.Settings.{Setting, devices_of, is_device, is_weak}
+use Rattle.history_book.specs.declared.entries.Cause.{Cause}
+use Rattle.history_book.specs.declared.entries.Cause.TheVariants.{DownAtEnd, Revoked}
+use Rattle.history_book.specs.declared.entries.End.{End}
+use Rattle.history_book.specs.declared.entries.End.TheVariants.{Committed}
+use Rattle.history_book.specs.declared.entries.Entry.TheVariants.{Arrived, Doomed, Ended, Placed, Undid}
+use Rattle.home_types.specs.declared.commands.Command.{Command}
+use Rattle.hub_core.specs.Steps.{Absent, Choice, HandsOut, Moves, Over, Waits, aborts, answers_down, busy_case, command_cases, decide, decide_answered, decide_arrived, decide_command, decide_doomed, down_case, down_entries, first_case, only_if, place_choice, undo_cases, undo_on}
+use Rattle.hub_core.specs.declared.waits.Why.{Why}
+use Rattle.hub_core.specs.declared.waits.Why.TheVariants.{Behind, Busy, Denied, Dirty, Follow, Strict}
+use Rattle.lock_leasing.specs.Configurations.{Commands, Grips, Undoes, is_out}
+use Rattle.lock_leasing.specs.Places.{At, DeniedBy, Placing, scheduled_place}
+use Rattle.lock_leasing.specs.Waits.{behind_wait, busy_wait, dirty_wait, down_at_end, follow_wait, grip_wait, strict_wait, undo_wait}
+use Rattle.lock_leasing.specs.Words.{has_effect, lease_deadline, next_undo_of, overdue_for, value_without}
+use Rattle.std.proofs.Common.{refl, subst, sym, ◌∙◌}
+use Rattle.std.specs.Prelude.{Bool, None, Option, Some, [], false, if◌then◌else◌, is_none, is_some, length, not, option_map, true, unwrap_or, ℕ, ◌&&◌, ◌∷◌, ◌≡◌}
+
+-- A choice by cases
+
+pub by_test : {A : Type 0} (P : A → Type 0) (b : Bool) (x rest : A) → (b ≡ true → P x) → (b ≡ false → P rest) → P (unwrap_or (only_if b x) rest)
+by_test P true x rest then' else' = then' refl
+by_test P false x rest then' else' = else' refl
+
+pub by_map : {A : Type 0} {B : Type 0} (P : A → Type 0) (f : B → A) (o : Option B) (rest : A) → ((y : B) → o ≡ Some y → P (f y)) → (o ≡ None → P rest) → P (unwrap_or (option_map f o) rest)
+by_map P f None rest some none = none refl
+by_map P f (Some y) rest some none = some y refl
+
+pub double : (b : Bool) → not b ≡ false → b ≡ true
+double true e = refl
+double false e = absurd (cc)
+
+-- What is known
+
+-- of a run that acts: it is one of the window, live, and holds no grip
+pub record Acts (w : Setting) (n : Reading) (g : Grips) (r : ℕ) : Type 0 where
+  pub run : is_run w.runs r ≡ true
+  pub free : grip_wait w g r ≡ None
+  pub live : is_live n r ≡ true
+
+acts : (w : Setting) (n : Reading) (g : Grips) (r : ℕ) → is_run w.runs r ≡ true → grip_wait w g r ≡ None → is_none (n.run r).placed ≡ false → (n.run r).ended ≡ None → Acts w n g r
+acts w n g r run free placed going = record { run = run; free = free; live = rw going (some_of (n.run r).placed placed) }
+  where
+    some_of : (p : Option PlacedAt) → is_none p ≡ false → (is_some p && true) ≡ true
+    some_of None e = absurd (cc)
+    some_of (Some p) e = refl
+
+-- of a run that is placed there
+pub record Enters (w : Setting) (n : Reading) (g : Grips) (r m : ℕ) (s : Split) : Type 0 where
+  pub run : is_run w.runs r ≡ true
+  pub arrived : is_none (n.run r).arrived ≡ false
+  pub unplaced : is_none (n.run r).placed ≡ true
+  pub leader : follow_wait w n r ≡ None
+  pub place : scheduled_place w n g r m ≡ At s
+
+-- of a doomed run and the next device on which it is undone, which is home
+pub record Undoing (w : Setting) (n : Reading) (g : Grips) (r d : ℕ) (cause : Cause) : Type 0 where
+  pub act : Acts w n g r
+  pub doomed : (n.run r).doomed ≡ Some cause
+  pub strong : is_weak w.mode ≡ false
+  pub device : is_device w d ≡ true
+  pub effect : has_effect n g r d ≡ true
+  pub home : is_out g d ≡ false
+
+-- of a run with a next command
+pub record Commanding (w : Setting) (n : Reading) (g : Grips) (r : ℕ) (c : Command) : Type 0 where
+  pub act : Acts w n g r
+  pub sound : (n.run r).doomed ≡ None
+  pub next : next_command w n r ≡ Some c
+
+-- of a next command that no lease, run or model holds back
+pub record IsNext (w : Setting) (n : Reading) (g : Grips) (r m : ℕ) (c : Command) : Type 0 where
+  pub current : overdue_for w n g r c.device.0 m ≡ None
+  pub first : behind_wait w n g r c.device.0 ≡ None
+  pub clean : dirty_wait w n g r c ≡ None
+  pub alone : strict_wait w n r ≡ None
+
+-- of a run with all its commands answered
+pub record Answered (w : Setting) (n : Reading) (g : Grips) (r : ℕ) : Type 0 where
+  pub act : Acts w n g r
+  pub sound : (n.run r).doomed ≡ None
+  pub none : next_command w n r ≡ None
+
+-- a fact of each thing that a run's step may do
+pub record HoldsOfEach (P : Choice → Type 0) (w : Setting) (n : Reading) (g : Grips) (r m : ℕ) : Type 0 where
+  pub absent : is_run w.runs r ≡ false → P Absent
+  pub over : (e : End) → (n.run r).ended ≡ Some e → P (Over e [])
+  pub waits : (why : Why) → P (Waits why)
+  pub arrives : is_run w.runs r ≡ true → is_none (n.run r).arrived ≡ true → P (Moves (Arrived (run_no r) m ∷ []))
+  pub enters : (s : Split) → Enters w n g r m s → P (Moves (Placed (run_no r) (length s.front) m ∷ []))
+  pub aborted : (cause : Cause) → Acts w n g r → (n.run r).doomed ≡ Some cause → (is_weak w.mode ≡ false → next_undo_of w n g r ≡ None) → P (aborts r cause)
+  pub drops : (cause : Cause) (d : ℕ) → Undoing w n g r d cause → n.up d ≡ false → P (Moves (Undid (run_no r) (device_no d) false ∷ []))
+  pub undoes : (cause : Cause) (d : ℕ) → Undoing w n g r d cause → n.up d ≡ true → P (HandsOut d (Undoes (value_without w n g r d)))
+  pub revokes : (c : Command) (x : ℕ) → Commanding w n g r c → is_weak w.mode ≡ false → overdue_for w n g r c.device.0 m ≡ Some x → P (Moves (Doomed (run_no x) (Revoked (run_no r) c.device (lease_deadline w n x c.device.0) m) ∷ []))
+  pub downs : (c : Command) → Commanding w n g r c → (is_weak w.mode ≡ false → IsNext w n g r m c) → busy_wait w n g r c.device.0 ≡ false → answers_down w n r c.device.0 ≡ true → P (Moves (down_entries r (next_of n r) c))
+  pub goes : (c : Command) → Commanding w n g r c → (is_weak w.mode ≡ false → IsNext w n g r m c) → busy_wait w n g r c.device.0 ≡ false → answers_down w n r c.device.0 ≡ false → P (HandsOut c.device.0 (Commands (next_of n r)))
+  pub fails_at_end : (d : ℕ) → Answered w n g r → down_at_end w n g r ≡ Some d → P (Moves (Doomed (run_no r) (DownAtEnd (device_no d)) ∷ []))
+  pub commits : Answered w n g r → down_at_end w n g r ≡ None → P (Over Committed (Ended (run_no r) Committed ∷ []))
+
+-- The cases
+
+place_is : (P : Choice → Type 0) (w : Setting) (n : Reading) (g : Grips) (r m : ℕ) → HoldsOfEach P w n g r m → (p : Placing) → scheduled_place w n g r m ≡ p → is_run w.runs r ≡ true → is_none (n.run r).arrived ≡ false → is_none (n.run r).placed ≡ true → follow_wait w n r ≡ None → P (place_choice r m p)
+place_is P w n g r m each (At s) place run arrived unplaced leader = each.enters s (record { run = run; arrived = arrived; unplaced = unplaced; leader = leader; place = place })
+place_is P w n g r m each (DeniedBy d x) place run arrived unplaced leader = each.waits (Denied (device_no d) (run_no x))
+
+-- the wait for an undo passed, the device of the next undo is home
+undo_home : (w : Setting) (n : Reading) (g : Grips) (r d : ℕ) → undo_wait w n g r ≡ None → next_undo_of w n g r ≡ Some d → is_out g d ≡ false
+undo_home w n g r d none at = by_next (next_undo_of w n g r) none at
+  where
+    while_out : Option ℕ → Option ℕ
+    while_out None = None
+    while_out (Some e) = if is_out g e then Some e else None
+
+    by_next : (o : Option ℕ) → while_out o ≡ None → o ≡ Some d → is_out g d ≡ false
+    by_next None e f = absurd (cc)
+    by_next (Some e) f h = subst (λ x. is_out g x ≡ false) (some_is e d h) (elim (is_out g e) as (λ b. (if b then Some e else None) ≡ None → b ≡ false) [ true ↦ (λ x. absurd (cc)) | false ↦ (λ x. refl) ] f)
+
+doomed_is : (P : Choice → Type 0) (w : Setting) (n : Reading) (g : Grips) (r m : ℕ) → HoldsOfEach P w n g r m → (cause : Cause) → Acts w n g r → (n.run r).doomed ≡ Some cause → P (decide_doomed w n g r cause)
+doomed_is P w n g r m each cause act doomed = elim (is_weak w.mode) as (λ b. is_weak w.mode ≡ b → P (first_case (if b then [] else undo_cases w n g r) (aborts r cause))) [
+  | true ↦ (λ weak. each.aborted cause act doomed (λ strong. absurd (let both : true ≡ false = sym weak ∙ strong in cc)))
+  | false ↦ (λ strong. by_map P (λ d. Waits (Busy (device_no d))) (undo_wait w n g r) _ (λ d e. each.waits (Busy (device_no d)))
+      (λ none. by_map P (undo_on w n g r) (next_undo_of w n g r) (aborts r cause) (λ d at. undo strong none d at) (λ over. each.aborted cause act doomed (λ e. over))))
+] refl
+  where
+    undo : is_weak w.mode ≡ false → undo_wait w n g r ≡ None → (d : ℕ) → next_undo_of w n g r ≡ Some d → P (undo_on w n g r d)
+    undo strong none d at = elim (n.up d) as (λ b. n.up d ≡ b → P (if b then HandsOut d (Undoes (value_without w n g r d)) else Moves (Undid (run_no r) (device_no d) false ∷ []))) [
+      | true ↦ (λ up. each.undoes cause d undoing up)
+      | false ↦ (λ down. each.drops cause d undoing down)
+    ] refl
+      where
+        undoing : Undoing w n g r d cause
+        undoing = let found = each_found (λ x. (is_device w x ≡ true) × (touches w.runs r x ≡ true)) (has_effect n g r) (devices_of w r) d (own_devices w r) at in
+            record { act = act; doomed = doomed; strong = strong; device = found.0.0; effect = found.1; home = undo_home w n g r d none at }
+
+command_is_next : (P : Choice → Type 0) (w : Setting) (n : Reading) (g : Grips) (r m : ℕ) → HoldsOfEach P w n g r m → (c : Command) → Commanding w n g r c → P (decide_command w n g r m (next_of n r) c)
+command_is_next P w n g r m each c run = elim (is_weak w.mode) as (λ b. is_weak w.mode ≡ b → P (first_case (command_cases b w n g r m (next_of n r) c) (HandsOut c.device.0 (Commands (next_of n r))))) [
+  | true ↦ (λ weak. last_cases (λ strong. absurd (let both : true ≡ false = sym weak ∙ strong in cc)))
+  | false ↦ (λ strong. by_map P (λ x. Moves (Doomed (run_no x) (Revoked (run_no r) c.device (lease_deadline w n x c.device.0) m) ∷ [])) (overdue_for w n g r c.device.0 m) _ (λ x at. each.revokes c x run strong at)
+      (λ current. by_map P (λ x. Waits (Behind c.device (run_no x))) (behind_wait w n g r c.device.0) _ (λ x at. each.waits (Behind c.device (run_no x)))
+      (λ first. by_map P (λ x. Waits (Dirty c.device (run_no x))) (dirty_wait w n g r c) _ (λ x at. each.waits (Dirty c.device (run_no x)))
+      (λ clean. by_map P (λ x. Waits (Strict (run_no x))) (strict_wait w n r) _ (λ x at. each.waits (Strict (run_no x)))
+      (λ alone. last_cases (λ e. record { current = current; first = first; clean = clean; alone = alone }))))))
+] refl
+  where
+    last_cases : (is_weak w.mode ≡ false → IsNext w n g r m c) → P (first_case (busy_case w n g r c ∷ down_case w n r (next_of n r) c ∷ []) (HandsOut c.device.0 (Commands (next_of n r))))
+    last_cases next = by_test P (busy_wait w n g r c.device.0) (Waits (Busy c.device)) _ (λ e. each.waits (Busy c.device))
+        (λ home. by_test P (answers_down w n r c.device.0) (Moves (down_entries r (next_of n r) c)) (HandsOut c.device.0 (Commands (next_of n r))) (λ down. each.downs c run next home down) (λ up. each.goes c run next home up))
+
+-- what holds of each thing that the step may do holds of the step
+pub decide_is : (P : Choice → Type 0) (w : Setting) (n : Reading) (g : Grips) (r m : ℕ) → HoldsOfEach P w n g r m → P (decide w n g r m)
+decide_is P w n g r m each =
+    by_test P (not (is_run w.runs r)) Absent _ (λ e. each.absent (single (is_run w.runs r) e))
+    (λ run. by_map P (λ e. Over e []) (n.run r).ended _ (λ e at. each.over e at)
+    (λ going. by_map P (λ d. Waits (Busy (device_no d))) (grip_wait w g r) _ (λ d at. each.waits (Busy (device_no d)))
+    (λ free. by_test P (is_none (n.run r).arrived) (Moves (Arrived (run_no r) m ∷ [])) _ (λ none. each.arrives (double (is_run w.runs r) run) none)
+    (λ came. by_test P (is_none (n.run r).placed) (decide_arrived w n g r m) _
+    (λ none. by_map P (λ f. Waits (Follow f)) (follow_wait w n r) _ (λ f e. each.waits (Follow f)) (λ leader. place_is P w n g r m each (scheduled_place w n g r m) refl (double (is_run w.runs r) run) came none leader))
+    (λ placed. let act : Acts w n g r = acts w n g r (double (is_run w.runs r) run) free placed going in
+    by_map P (decide_doomed w n g r) (n.run r).doomed _ (λ cause at. doomed_is P w n g r m each cause act at)
+    (λ sound. by_map P (decide_command w n g r m (next_of n r)) (next_command w n r) (decide_answered w n g r) (λ c at. command_is_next P w n g r m each c (record { act = act; sound = sound; next = at }))
+    (λ none. by_map P (λ d. Moves (Doomed (run_no r) (DownAtEnd (device_no d)) ∷ [])) (down_at_end w n g r) _ (λ d at. each.fails_at_end d (record { act = act; sound = sound; none = none }) at)
+    (λ up. each.commits (record { act = act; sound = sound; none = none }) up))))))))
+  where
+    single : (b : Bool) → not b ≡ true → b ≡ false
+    single true e = absurd (cc)
+    single false e = refl

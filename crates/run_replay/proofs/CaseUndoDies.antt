@@ -1,0 +1,31 @@
+-- The replay of the case undo-dies: given what its devices told, it is the history that was worked out for it.
+use Rattle.command_rules.specs.Rosters.{device_no, run_no}
+use Rattle.history_book.specs.Plans.{split_of}
+use Rattle.history_book.specs.Settings.{Setting}
+use Rattle.history_book.specs.declared.entries.Cause.TheVariants.{Refuted}
+use Rattle.history_book.specs.declared.entries.End.TheVariants.{Aborted}
+use Rattle.history_book.specs.declared.entries.Entry.TheVariants.{Arrived, Did, Doomed, Ended, Fell, Placed, Rose, Undid}
+use Rattle.home_types.specs.declared.commands.Answer.TheVariants.{Fine, Found}
+use Rattle.home_types.specs.declared.commands.Job.TheVariants.{Check, Set}
+use Rattle.home_types.specs.declared.kinds.Kind.TheVariants.{Range, States}
+use Rattle.home_types.specs.declared.modes.Scheduler.TheVariants.{Fcfs}
+use Rattle.home_types.specs.declared.modes.Visibility.TheVariants.{Eventual}
+use Rattle.hub_core.specs.declared.grips.Told.{Told}
+use Rattle.hub_core.specs.declared.grips.Told.TheVariants.{Died, Sensed, Worked}
+use Rattle.run_replay.specs.Replays.{actors, replay_of}
+use Rattle.std.proofs.Common.{refl}
+use Rattle.std.specs.Prelude.{List, None, [], false, slice_index_or, true, ◌∷◌, ◌≡◌}
+
+abbrev pub setting0 : Setting
+setting0 = record { runs = (record { commands = (record { device = device_no 0; job = Set 1; must = true; ms = 100; takes = 100 } ∷ record { device = device_no 1; job = Check 1; must = true; ms = 100; takes = 100 } ∷ []); follows = None } ∷ []); mode = record { model = Eventual; scheduler = Fcfs }; kinds = ((States 2) ∷ (States 2) ∷ (States 2) ∷ (Range 10 30) ∷ []); first = (record { value = 0; up = true } ∷ record { value = 0; up = true } ∷ record { value = 0; up = true } ∷ record { value = 18; up = true } ∷ []) }
+
+abbrev pub told0 : List Told
+told0 = (Worked ∷ (Sensed 0) ∷ Died ∷ Worked ∷ Worked ∷ Worked ∷ Worked ∷ [])
+
+replay0 : (replay_of (record { rounds = 1; told = λ i. slice_index_or told0 i Died }) setting0 (1 ∷ 1 ∷ 1 ∷ 1 ∷ 1 ∷ 1 ∷ 1 ∷ 1 ∷ 1 ∷ []) 1 8).configuration.history ≡ (record { maker = 1; entry = Arrived (run_no 1) 0 } ∷ record { maker = 1; entry = Placed (run_no 1) 0 0 } ∷ record { maker = 1; entry = Did (run_no 1) 0 Fine } ∷ record { maker = 1; entry = Did (run_no 1) 1 (Found 0) } ∷ record { maker = 1; entry = Doomed (run_no 1) (Refuted 1 0) } ∷ record { maker = 1; entry = Fell (device_no 0) } ∷ record { maker = 1; entry = Undid (run_no 1) (device_no 0) false } ∷ record { maker = 1; entry = Ended (run_no 1) (Aborted (Refuted 1 0)) } ∷ record { maker = 0; entry = Rose (device_no 0) } ∷ [])
+unfolding split_of
+replay0 = refl
+
+over0 : actors (record { rounds = 1; told = λ i. slice_index_or told0 i Died }) (replay_of (record { rounds = 1; told = λ i. slice_index_or told0 i Died }) setting0 (1 ∷ 1 ∷ 1 ∷ 1 ∷ 1 ∷ 1 ∷ 1 ∷ 1 ∷ 1 ∷ []) 1 8) ≡ []
+unfolding split_of
+over0 = refl
