@@ -1,37 +1,47 @@
--- The last place that passes, looked for from the front.
+-- The last place that passes, by what holds at each place.
 use Rattle.command_rules.specs.Rosters.{last_position}
-use Rattle.std.proofs.Common.{Bool, List, None, Option, Some, [], add-zero, ap, arith, false, if◌then◌else◌, option_map, refl, suc, true, zero-add, ℕ, ◌+◌, ◌||◌, ◌≡◌, ◌∷◌}
+use Rattle.std.proofs.Common.{Bool, IfNone, IfSome, List, None, Option, Some, [], arith, false, length, refl, slice_index_or, suc, sym, true, zero, ℕ, ◌+◌, ◌<◌, ◌||◌, ◌≡◌, ◌≤◌, ◌∷◌}
 use Rattle.std.specs.List.{list_any}
 
--- the last place in a list whose rest begins at the place i, where what stands before that gave `last`
-abbrev pub last_or : {T : Type 0} → (T → Bool) → ℕ → List T → Option ℕ → Option ℕ
-last_or test i rest last = if list_any test rest then option_map (λ k. i + k) (last_position test rest) else last
+or_true : (a b : Bool) → b ≡ true → (a || b) ≡ true
+or_true true b h = refl
+or_true false b h = h
 
-shifted : (i : ℕ) (o : Option ℕ) → option_map (λ k. i + k) (option_map suc o) ≡ option_map (λ k. i + 1 + k) o
-shifted i None = refl
-shifted i (Some k) = let e : i + suc k ≡ i + 1 + k = omega arith in ap Some e
+module _ {T : Type 0} (test : T → Bool) where
+  -- no item from the place i on passes
+  abbrev pub NonePasses : List T → ℕ → Type 0
+  NonePasses xs i = (k : ℕ) (d : T) → i ≤ k → k < length xs → test (slice_index_or xs k d) ≡ false
 
-unshifted : (o : Option ℕ) → option_map (λ k. 0 + k) o ≡ o
-unshifted None = refl
-unshifted (Some k) = ap Some (zero-add k)
+  none_passes : (xs : List T) → NonePasses xs 0 → list_any test xs ≡ false
+  none_passes [] none = refl
+  none_passes (x ∷ xs) none =
+      let here : test x ≡ false = none 0 x (omega arith) (omega arith) in
+      rw here (none_passes xs (λ k d low high. none (suc k) d (omega arith) (omega (arith, high))))
 
-cases : (here later : Bool) (i : ℕ) (o last : Option ℕ) → (if here || later then option_map (λ k. i + k) (if later then option_map suc o else (if here then Some 0 else None)) else last) ≡ (if later then option_map (λ k. i + 1 + k) o else (if here then Some i else last))
-cases true true i o last = shifted i o
-cases true false i o last = ap Some (add-zero i)
-cases false true i o last = shifted i o
-cases false false i o last = refl
+  one_passes : (xs : List T) (i : ℕ) → i < length xs → ((d : T) → test (slice_index_or xs i d) ≡ true) → list_any test xs ≡ true
+  one_passes [] i within passes = let no_place : ⊥ = omega (arith, within) in absurd no_place
+  one_passes (x ∷ xs) zero within passes = rw (passes x) refl
+  one_passes (x ∷ xs) (suc i) within passes = or_true (test x) (list_any test xs) (one_passes xs i (omega (arith, within)) passes)
 
--- one more item is passed
-pub last_or-cons : {T : Type 0} (test : T → Bool) (i : ℕ) (x : T) (rest : List T) (last : Option ℕ) → last_or test i (x ∷ rest) last ≡ last_or test (i + 1) rest (if test x then Some i else last)
-last_or-cons test i x rest last = cases (test x) (list_any test rest) i (last_position test rest) last
+  none : (xs : List T) → NonePasses xs 0 → last_position test xs ≡ None
+  none [] nothing = refl
+  none (x ∷ xs) nothing =
+      let here : test x ≡ false = nothing 0 x (omega arith) (omega arith) in
+      let later : list_any test xs ≡ false = none_passes xs (λ k d low high. nothing (suc k) d (omega arith) (omega (arith, high))) in
+      rw (later, here) refl
 
-starts : (here later : Bool) (o : Option ℕ) → (if here || later then option_map (λ k. 0 + k) (if later then option_map suc o else (if here then Some 0 else None)) else None) ≡ (if later then option_map suc o else (if here then Some 0 else None))
-starts true true o = unshifted (option_map suc o)
-starts true false o = refl
-starts false true o = unshifted (option_map suc o)
-starts false false o = refl
+  some : (xs : List T) (i : ℕ) → i < length xs → ((d : T) → test (slice_index_or xs i d) ≡ true) → NonePasses xs (i + 1) → last_position test xs ≡ Some i
+  some [] i within passes after = let no_place : ⊥ = omega (arith, within) in absurd no_place
+  some (x ∷ xs) zero within passes after =
+      let later : list_any test xs ≡ false = none_passes xs (λ k d low high. after (suc k) d (omega arith) (omega (arith, high))) in
+      rw (later, passes x) refl
+  some (x ∷ xs) (suc i) within passes after =
+      let inside : i < length xs = omega (arith, within) in
+      let later : list_any test xs ≡ true = one_passes xs i inside passes in
+      let place : last_position test xs ≡ Some i = some xs i inside passes (λ k d low high. after (suc k) d (omega (arith, low)) (omega (arith, high))) in
+      rw (later, place) refl
 
--- nothing is passed yet
-pub last_or-start : {T : Type 0} (test : T → Bool) (xs : List T) → last_or test 0 xs None ≡ last_position test xs
-last_or-start test [] = refl
-last_or-start test (x ∷ xs) = starts (test x) (list_any test xs) (last_position test xs)
+  -- the last place, by what holds at each place
+  pub last_position-places : (xs : List T) (r : Option ℕ) → IfNone r (NonePasses xs 0) → IfSome r (λ i. (i < length xs) × ((d : T) → test (slice_index_or xs i d) ≡ true) × NonePasses xs (i + 1)) → r ≡ last_position test xs
+  last_position-places xs None nothing last = sym (none xs nothing)
+  last_position-places xs (Some i) nothing last = sym (some xs i last.0 last.1 last.2)

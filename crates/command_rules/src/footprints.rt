@@ -23,13 +23,7 @@ pub fn last_command_on(commands: &[Command], d: DeviceNo) -> Option<usize>
     ensures last { result ≡ last_position (is_on d.0) commands.now }
     ensures within { IfSome result (λ place. place < length commands.now) }
 {
-    let mut last = None;
-    'commands: for (place, command) in commands.iter().enumerate() {
-        if command.device == d {
-            last = Some(place);
-        }
-    }
-    last
+    commands.iter().rposition(|command| command.device == d)
 }
 
 /// The sum of the estimates, in ms, up to and with the last command on the device `d`: 0 where no command is on it.
