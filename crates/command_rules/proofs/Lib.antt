@@ -1,0 +1,3 @@
+pub mod RosterReads
+pub mod LastPlaces
+pub mod LastSums

@@ -7,7 +7,7 @@ use Rattle.home_types.specs.declared.commands.Job.TheVariants.{Load}
 use Rattle.home_types.specs.declared.numbers.DeviceNo.{DeviceNo}
 use Rattle.home_types.specs.declared.numbers.RunNo.{RunNo}
 use Rattle.std.specs.List.{list_any}
-use Rattle.std.specs.Prelude.{Bool, List, None, Option, [], drop, false, find, if◌then◌else◌, is_some, map, option_and_then, option_map, slice_get, slice_index_or, suc, unwrap_or, zero, ℕ, ◌&&◌, ◌+◌, ◌==◌, ◌∷◌}
+use Rattle.std.specs.Prelude.{Bool, List, None, Option, Some, [], drop, false, find, if◌then◌else◌, is_some, map, option_and_then, option_map, position, slice_get, slice_index_or, suc, unwrap_or, zero, ℕ, ◌&&◌, ◌+◌, ◌==◌, ◌∷◌}
 
 abbrev pub run_no : ℕ → RunNo
 run_no r = record { 0 = r }
@@ -59,6 +59,19 @@ touches runs r d = list_any (is_on d) (commands_of runs r)
 -- a command from this number on is on the device
 abbrev pub touches_from : List Run → ℕ → ℕ → ℕ → Bool
 touches_from runs r d c = list_any (is_on d) (drop c (commands_of runs r))
+
+-- the number of its first command on the device
+abbrev pub first_on : List Run → ℕ → ℕ → Option ℕ
+first_on runs r d = position (is_on d) (commands_of runs r)
+
+-- the number of the last item that passes
+abbrev pub last_position : {T : Type 0} → (T → Bool) → List T → Option ℕ
+last_position test [] = None
+last_position test (x ∷ xs) = if list_any test xs then option_map suc (last_position test xs) else (if test x then Some 0 else None)
+
+-- the number of its last command on the device
+abbrev pub last_on : List Run → ℕ → ℕ → Option ℕ
+last_on runs r d = last_position (is_on d) (commands_of runs r)
 
 -- its first command on the device reads
 abbrev pub reads_first : List Run → ℕ → ℕ → Bool

@@ -9,3 +9,4 @@ pub mod Counts
 pub mod Once
 pub mod Searches
 pub mod Logs
+pub mod FirstTold

@@ -4,3 +4,4 @@ pub mod Readings
 pub mod Plans
 pub mod Histories
 pub mod WellFormed
+pub mod Books

@@ -1,8 +1,12 @@
 // The history of a window, and the record that is left of it.
 #![tactic(auto)]
 
+pub mod books;
 pub mod entries;
 pub mod records;
+#[cfg(test)]
+mod tests;
 
+pub use books::Book;
 pub use entries::{Cause, End, Entry, Kept, Made};
 pub use records::WindowRecord;

@@ -1,0 +1,43 @@
+ghost use Rattle.std.specs.Prelude.{◌≡◌, ◌<◌, ◌^◌, length, position, IfSome};
+ghost use Rattle.std.specs.List.{list_any};
+ghost use Rattle.command_rules.specs.Rosters.{estimate_to_last, is_on, last_position};
+
+use home_types::{Command, DeviceNo};
+
+/// Whether some of the commands is on the device `d`.
+pub fn has_command_on(commands: &[Command], d: DeviceNo) -> bool
+    ensures { result ≡ list_any (is_on d.0) commands.now }
+{
+    commands.iter().any(|command| command.device == d)
+}
+
+/// The place of the first command on the device `d`.
+pub fn first_command_on(commands: &[Command], d: DeviceNo) -> Option<usize>
+    ensures { result ≡ position (is_on d.0) commands.now }
+{
+    commands.iter().position(|command| command.device == d)
+}
+
+/// The place of the last command on the device `d`.
+pub fn last_command_on(commands: &[Command], d: DeviceNo) -> Option<usize>
+    ensures last { result ≡ last_position (is_on d.0) commands.now }
+    ensures within { IfSome result (λ place. place < length commands.now) }
+{
+    commands.iter().rposition(|command| command.device == d)
+}
+
+/// The sum of the estimates, in ms, up to and with the last command on the device `d`: 0 where no command is on it.
+pub fn sum_to_last(commands: &[Command], d: DeviceNo) -> u64
+    requires { length commands.now < 2 ^ 32 }
+    ensures { result ≡ estimate_to_last d.0 commands.now }
+{
+    let mut sum = 0;
+    let mut to_last = 0;
+    'commands: for command in commands {
+        sum += command.ms as u64;
+        if command.device == d {
+            to_last = sum;
+        }
+    }
+    to_last
+}

@@ -1,0 +1,42 @@
+-- What the first entry that tells something tells: by places, and after one more entry.
+use Rattle.history_book.specs.Books.{first_told}
+use Rattle.history_book.specs.declared.entries.Entry.{Entry}
+use Rattle.history_book.specs.declared.entries.Kept.{Kept}
+use Rattle.std.proofs.Common.{IfNone, IfSome, List, None, Option, Some, [], arith, length, refl, slice_index_or, suc, sym, zero, ℕ, ◌++◌, ◌<◌, ◌≡◌, ◌∷◌}
+use Rattle.std.specs.Option.{option_or}
+
+module _ {T : Type 0} (told : Entry → Option T) where
+  -- no entry tells anything
+  abbrev pub TellsNothing : List Kept → ℕ → Type 0
+  TellsNothing h n = (k : ℕ) (d : Kept) → k < n → told (slice_index_or h k d).entry ≡ None
+
+  none : (h : List Kept) → TellsNothing h (length h) → first_told told h ≡ None
+  none [] nothing = refl
+  none (x ∷ xs) nothing =
+      let here : told x.entry ≡ None = nothing 0 x (omega arith) in
+      rw here (none xs (λ k d lt. nothing (suc k) d (omega (arith, lt))))
+
+  some : (h : List Kept) (i : ℕ) (t : T) → i < length h → ((d : Kept) → told (slice_index_or h i d).entry ≡ Some t) → TellsNothing h i → first_told told h ≡ Some t
+  some [] i t within tells before = let no_place : ⊥ = omega (arith, within) in absurd no_place
+  some (x ∷ xs) zero t within tells before = rw (tells x) refl
+  some (x ∷ xs) (suc i) t within tells before =
+      let here : told x.entry ≡ None = before 0 x (omega arith) in
+      rw here (some xs i t (omega (arith, within)) tells (λ k d lt. before (suc k) d (omega (arith, lt))))
+
+  -- the first that is told, by the places of the entries
+  pub first_told-places : (h : List Kept) (r : Option T) → IfNone r (TellsNothing h (length h)) → IfSome r (λ t. (i : ℕ) × (i < length h) × ((d : Kept) → told (slice_index_or h i d).entry ≡ Some t) × TellsNothing h i) → r ≡ first_told told h
+  first_told-places h None nothing first = sym (none h nothing)
+  first_told-places h (Some t) nothing first = sym (some h first.0 t first.1 first.2 first.3)
+
+  or_none : (o : Option T) → option_or o None ≡ o
+  or_none None = refl
+  or_none (Some t) = refl
+
+  or_later : (o later all : Option T) (t : Option T) → later ≡ option_or all t → option_or o later ≡ option_or (option_or o all) t
+  or_later None later all t e = e
+  or_later (Some x) later all t e = refl
+
+  -- after one more entry: what was told before, else what it tells
+  pub first_told-append : (h : List Kept) (kept : Kept) → first_told told (h ++ kept ∷ []) ≡ option_or (first_told told h) (told kept.entry)
+  first_told-append [] kept = or_none (told kept.entry)
+  first_told-append (x ∷ xs) kept = or_later (told x.entry) _ (first_told told xs) (told kept.entry) (first_told-append xs kept)

@@ -1,0 +1,43 @@
+-- What a history tells of the end of a run.
+use Rattle.history_book.specs.declared.entries.Cause.{Cause}
+use Rattle.history_book.specs.declared.entries.End.{End}
+use Rattle.history_book.specs.declared.entries.Entry.TheVariants.{Arrived, Did, Doomed, Ended, Fell, Placed, Rose, Undid}
+use Rattle.history_book.specs.declared.entries.Entry.{Entry}
+use Rattle.history_book.specs.declared.entries.Kept.{Kept}
+use Rattle.std.specs.Option.{option_or}
+use Rattle.std.specs.Prelude.{List, None, Option, Some, [], if◌then◌else◌, ℕ, ◌==◌, ◌∷◌}
+
+-- what the first entry that tells something tells
+abbrev pub first_told : {T : Type 0} → (Entry → Option T) → List Kept → Option T
+first_told told [] = None
+first_told told (kept ∷ history) = option_or (told kept.entry) (first_told told history)
+
+-- the end of the run, where the entry is its end
+abbrev pub end_in : ℕ → Entry → Option End
+end_in r (Arrived q m) = None
+end_in r (Placed q place m) = None
+end_in r (Did q c a) = None
+end_in r (Undid q d drove) = None
+end_in r (Fell d) = None
+end_in r (Rose d) = None
+end_in r (Doomed q cause) = None
+end_in r (Ended q end) = if q.0 == r then Some end else None
+
+-- the cause, where the entry dooms the run
+abbrev pub doom_in : ℕ → Entry → Option Cause
+doom_in r (Arrived q m) = None
+doom_in r (Placed q place m) = None
+doom_in r (Did q c a) = None
+doom_in r (Undid q d drove) = None
+doom_in r (Fell d) = None
+doom_in r (Rose d) = None
+doom_in r (Doomed q cause) = if q.0 == r then Some cause else None
+doom_in r (Ended q end) = None
+
+-- the end of the run
+abbrev pub end_of : List Kept → ℕ → Option End
+end_of history r = first_told (end_in r) history
+
+-- the cause with which the run was doomed
+abbrev pub doom_of : List Kept → ℕ → Option Cause
+doom_of history r = first_told (doom_in r) history
