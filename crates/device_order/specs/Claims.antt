@@ -1,0 +1,28 @@
+-- What is claimed of an order beside the invariant.
+use Rattle.device_order.specs.Records.{DeviceRecord, state_after}
+use Rattle.device_order.specs.Walks.{effective, is_settled, with_event}
+use Rattle.device_order.specs.declared.records.Event.{Event}
+use Rattle.device_order.specs.declared.records.OrderEntry.TheVariants.{Occurred, Used}
+use Rattle.device_order.specs.declared.records.OrderEntry.{OrderEntry}
+use Rattle.device_order.specs.declared.records.Usage.{Usage}
+use Rattle.std.specs.Prelude.{Bool, List, None, Option, Some, [], false, is_some, not, true, ℕ, ◌&&◌, ◌++◌, ◌∷◌, ◌≡◌}
+
+-- what a read of a run finds, behind these entries: its own last write, else the committed value there, and no run that is not committed has the effective write
+pub record ReadFinds (d : DeviceRecord) (before : List OrderEntry) (u : Usage) (x : ℕ) : Type 0 where
+  pub own : (v : ℕ) → u.wrote ≡ Some v → x ≡ v
+  pub committed : u.wrote ≡ None → x ≡ (state_after d before).value
+  pub settled : u.wrote ≡ None → is_settled (effective None before) ≡ true
+
+-- neither an event nor a run with an answer
+unfoldable pub is_bare : List OrderEntry → Bool
+is_bare [] = true
+is_bare (Occurred e ∷ xs) = false
+is_bare (Used u ∷ xs) = not (is_some u.view) && is_bare xs
+
+-- an event goes in somewhere, and behind it no run has an answer and no event stands
+pub record EventIsLast (e : Event) (order : List OrderEntry) : Type 0 where
+  pub front : List OrderEntry
+  pub back : List OrderEntry
+  pub whole : order ≡ front ++ back
+  pub with_event : with_event e order ≡ front ++ Occurred e ∷ back
+  pub bare : is_bare back ≡ true
