@@ -1,0 +1,15 @@
+pub mod Lists
+pub mod Quiet
+pub mod Suffix
+pub mod Below
+pub mod Effects
+pub mod Parts
+pub mod Monotone
+pub mod Commands
+pub mod Answers
+pub mod Rest
+pub mod Undos
+pub mod Probes
+pub mod Changes
+pub mod Claims
+pub mod Pairs

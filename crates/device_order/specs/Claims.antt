@@ -5,7 +5,7 @@ use Rattle.device_order.specs.declared.records.Event.{Event}
 use Rattle.device_order.specs.declared.records.OrderEntry.TheVariants.{Occurred, Used}
 use Rattle.device_order.specs.declared.records.OrderEntry.{OrderEntry}
 use Rattle.device_order.specs.declared.records.Usage.{Usage}
-use Rattle.std.specs.Prelude.{Bool, List, None, Option, Some, [], false, is_some, not, true, ℕ, ◌&&◌, ◌++◌, ◌∷◌, ◌≡◌}
+use Rattle.std.specs.Prelude.{Bool, List, None, Some, [], false, is_some, not, true, ℕ, ◌&&◌, ◌++◌, ◌∷◌, ◌≡◌}
 
 -- what a read of a run finds, behind these entries: its own last write, else the committed value there, and no run that is not committed has the effective write
 pub record ReadFinds (d : DeviceRecord) (before : List OrderEntry) (u : Usage) (x : ℕ) : Type 0 where

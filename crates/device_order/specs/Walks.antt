@@ -1,5 +1,5 @@
 -- The walk along the order of a device, from left to right.
-use Rattle.device_order.specs.Usages.{awaits_first, counts_serially, has_committed_write, has_effect, has_live_write, has_touched, has_write, is_command, is_committed, is_doomed, is_down, is_free, is_open, is_pending, is_restart, is_undo, is_up, spans_up}
+use Rattle.device_order.specs.Usages.{awaits_first, counts_serially, has_committed_write, has_effect, has_live_write, has_touched, has_write, is_committed, is_doomed, is_down, is_free, is_open, is_pending, is_restart, is_undo, is_up, spans_up}
 use Rattle.device_order.specs.declared.records.Event.{Event}
 use Rattle.device_order.specs.declared.records.Grip.TheVariants.{Free, Reads, Undoes, Writes}
 use Rattle.device_order.specs.declared.records.Grip.{Grip}
