@@ -26,7 +26,7 @@ tidy_front up v a k = tidy (walk_start up v) a (record { settled = λ h. refl; s
     no : false ≡ true → ⊥
     no h = grind (arith, common_steps)
 
-call_blocks : (s : WalkState) (c : Usage) → is_command c.grip ≡ true → blocks (after_usage s c) ≡ true
+pub call_blocks : (s : WalkState) (c : Usage) → is_command c.grip ≡ true → blocks (after_usage s c) ≡ true
 call_blocks s c h = grind (arith, common_steps)
 
 -- a device with a grip out, and no probe, is up

@@ -16,7 +16,7 @@ use Rattle.std.proofs.Common.{◌≡◌, ℕ, Bool, true, false, List, [], ◌�
 use Rattle.std.proofs.lemmas.Grind.{common_steps}
 use Rattle.std.specs.Prelude.{◌&&◌, ◌||◌, not, is_some, if◌then◌else◌}
 
-opened_stays : (s : WalkState) (m : List OrderEntry) → s.opened ≡ true → (walk_end s m).opened ≡ true
+pub opened_stays : (s : WalkState) (m : List OrderEntry) → s.opened ≡ true → (walk_end s m).opened ≡ true
 unfolding walk_end
 opened_stays s [] h = h
 opened_stays s (Occurred e ∷ m) h = opened_stays (record s { up = is_restart e }) m h
@@ -160,7 +160,7 @@ effect s first o (Used c ∷ l) h = effect (after_usage s c) first (if has_effec
     one s first o c h = grind (arith, common_steps)
 
 -- behind a command that is out nothing is touched
-untouched_behind : (s : WalkState) (b : List OrderEntry) → (s.opened || is_command_out s.out) ≡ true → WalkHolds s b → has has_touched b ≡ false
+pub untouched_behind : (s : WalkState) (b : List OrderEntry) → (s.opened || is_command_out s.out) ≡ true → WalkHolds s b → has has_touched b ≡ false
 unfolding WalkHolds has
 untouched_behind s [] h k = refl
 untouched_behind s (Occurred e ∷ b) h k = untouched_behind (record s { up = is_restart e }) b h k.1
@@ -271,4 +271,6 @@ settled_front d a = (effect (walk_start d.first_up d.first) d.first None a (reco
 pub reads : (d : DeviceRecord) (a b : List OrderEntry) (c : Usage) → DeviceInvariant d → d.order ≡ a ++ Used c ∷ b → c.grip ≡ Reads → ReadFinds d a c d.held
 reads d a b c i at g =
     let f = read_finds d a b c at g i in
-    record { own = f.own; committed = f.committed; settled = λ n. sym (settled_front d a) ∙ f.settled n }
+    let z : WalkState = walk_start d.first_up d.first in
+    let k : Cut z a c b = cut z a c b (subst (λ l. WalkHolds z l) at i.walk) in
+    record { own = f.own; committed = f.committed; again = λ n w y r. f.committed w ∙ sym (k.fits.read n y r); settled = λ n. sym (settled_front d a) ∙ f.settled n }

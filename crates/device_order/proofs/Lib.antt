@@ -13,3 +13,5 @@ pub mod Probes
 pub mod Changes
 pub mod Claims
 pub mod Pairs
+pub mod Losses
+pub mod Standing

@@ -113,7 +113,7 @@ pub record Undone (z : WalkState) (a : List OrderEntry) (c : Usage) (b : List Or
   pub free : has has_grip b ≡ false
   pub out : (v : ℕ) → c.grip ≡ Undoes v → (walk_end z (a ++ Used c ∷ b)).out ≡ Undo v
 
-undone : (z : WalkState) (a : List OrderEntry) (c : Usage) (b : List OrderEntry) (v : ℕ) → Cut z a c b → c.grip ≡ Undoes v → Undone z a c b
+pub undone : (z : WalkState) (a : List OrderEntry) (c : Usage) (b : List OrderEntry) (v : ℕ) → Cut z a c b → c.grip ≡ Undoes v → Undone z a c b
 undone z a c b v k g =
     let s : WalkState = walk_end z a in
     let c' : Usage = record c { undid = true; grip = Free } in
