@@ -89,7 +89,7 @@ eventless d a m b x e i at o =
     clash : (s : WalkState) → s.waiting ≡ true → s.waiting ≡ false → ⊥
     clash s h g = grind (arith, common_steps)
 
--- an open run with view Up stands only at a device that is up, and only one does
+-- where an open run sees the device up, the device is up
 pub up_spanned : (d : DeviceRecord) (a b : List OrderEntry) (x : Usage) → DeviceInvariant d → d.order ≡ a ++ Used x ∷ b → spans_up x ≡ true → d.up ≡ true
 up_spanned d a b x i at o =
     let z : WalkState = walk_start d.first_up d.first in
@@ -98,15 +98,6 @@ up_spanned d a b x i at o =
   where
     now : (s : WalkState) (x : Usage) → spans_up x ≡ true → (after_usage s x).spanned ≡ true
     now s x o = grind (arith, common_steps)
-
-pub one_spans : (d : DeviceRecord) (a m b : List OrderEntry) (x w : Usage) → DeviceInvariant d → d.order ≡ a ++ Used x ∷ (m ++ Used w ∷ b) → spans_up x ≡ true → spans_up w ≡ false
-one_spans d a m b x w i at o = none w (pending d a m b x w i at (open_of x o))
-  where
-    open_of : (x : Usage) → spans_up x ≡ true → has_pending x ≡ true
-    open_of x o = grind (arith, common_steps)
-
-    none : (w : Usage) → has_touched w ≡ false → spans_up w ≡ false
-    none w h = grind (arith, common_steps)
 
 -- the event of a first touch that died stands immediately before it, where the run is sound
 pub dies_before : (d : DeviceRecord) (a b : List OrderEntry) (c : Usage) (e : Event) → DeviceInvariant d → d.order ≡ a ++ Used c ∷ b → is_command c.grip ≡ true → awaits_first c ≡ true → with_event e d.order ≡ a ++ Occurred e ∷ Used c ∷ b

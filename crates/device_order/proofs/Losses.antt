@@ -69,15 +69,18 @@ none_touched (Used u ∷ l) h = let p = parts (has_touched u) (has has_touched l
     bare : (u : Usage) → has_touched u ≡ false → spans_up u ≡ false
     bare u h = grind (arith, common_steps)
 
--- where a run touched the device, and has more to do there or its command is out, no other run spans
-pub no_other_spans : (d : DeviceRecord) (a b : List OrderEntry) (u : Usage) → DeviceInvariant d → d.order ≡ a ++ Used u ∷ b → has_touched u ≡ true → (is_open u.stage || is_command u.grip) ≡ true
+-- where a run spans, or its command is out, no other run spans
+pub one_spans : (d : DeviceRecord) (a b : List OrderEntry) (u : Usage) → DeviceInvariant d → d.order ≡ a ++ Used u ∷ b → (spans_up u || is_command u.grip) ≡ true
     → (has spans_up a ≡ false) × (has spans_up b ≡ false)
-no_other_spans d a b u i at t o =
+one_spans d a b u i at o =
     let z : WalkState = walk_start d.first_up d.first in
     let k : Cut z a u b = cut z a u b (subst (λ l. WalkHolds z l) at i.walk) in
-    (none_opened z a (k.fits.after_open t), none_touched b (untouched_behind (after_usage (walk_end z a) u) b (blocks (walk_end z a) u o) k.rest))
+    (none_opened z a (k.fits.after_open (touches u o)), none_touched b (untouched_behind (after_usage (walk_end z a) u) b (blocks (walk_end z a) u o) k.rest))
   where
-    blocks : (s : WalkState) (u : Usage) → (is_open u.stage || is_command u.grip) ≡ true → ((after_usage s u).opened || is_command_out (after_usage s u).out) ≡ true
+    touches : (u : Usage) → (spans_up u || is_command u.grip) ≡ true → has_touched u ≡ true
+    touches u o = grind (arith, common_steps)
+
+    blocks : (s : WalkState) (u : Usage) → (spans_up u || is_command u.grip) ≡ true → ((after_usage s u).opened || is_command_out (after_usage s u).out) ≡ true
     blocks s u o = grind (arith, common_steps)
 
 none_spans : (s : WalkState) (l : List OrderEntry) → (walk_end s l).spanned ≡ false → has spans_up l ≡ false
