@@ -15,3 +15,4 @@ pub mod Claims
 pub mod Pairs
 pub mod Losses
 pub mod Standing
+pub mod Decisions

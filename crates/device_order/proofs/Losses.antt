@@ -108,8 +108,8 @@ undo_loses_none d a b u v i at g =
     let x : DeviceFits (walk_end z (a ++ Used u ∷ b)) d.up d.held d.probe = subst (λ l. DeviceFits (walk_end z l) d.up d.held d.probe) at i.ends in
     let undoing : (walk_end (after_usage s u) b).undoing ≡ true = ap (λ (q : WalkState). q.undoing) (sym k.ends) ∙ undoing_of (walk_end z (a ++ Used u ∷ b)) v d.up d.held d.probe (y.out v g) x in
     none_spans z d.order
-        (ap (λ l. (walk_end z l).spanned) at ∙ ap (λ (q : WalkState). q.spanned) k.ends ∙ none_lost (after_usage s u) b (exposes s u v g k.fits) (undo_last (after_usage s u) b y.free undoing) k.rest
-        ∙ shut s u v g (tidy_front d.first_up d.first a k.front) k.fits)
+    (ap (λ l. (walk_end z l).spanned) at ∙ ap (λ (q : WalkState). q.spanned) k.ends ∙ none_lost (after_usage s u) b (exposes s u v g k.fits) (undo_last (after_usage s u) b y.free undoing) k.rest
+    ∙ shut s u v g (tidy_front d.first_up d.first a k.front) k.fits)
   where
     undoing_of : (e : WalkState) (v : ℕ) (up : Bool) (held : ℕ) (p : Probe) → e.out ≡ Undo v → DeviceFits e up held p → e.undoing ≡ true
     undoing_of e v up held p o x = grind (arith, common_steps)

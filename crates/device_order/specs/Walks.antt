@@ -1,4 +1,7 @@
 -- The walk along the order of a device, from left to right.
+pub use Rattle.device_order.specs.declared.walks.GripOut.TheVariants.{Commands, Home, Undo}
+pub use Rattle.device_order.specs.declared.walks.GripOut.{GripOut}
+pub use Rattle.device_order.specs.declared.walks.WalkState.{WalkState}
 use Rattle.device_order.specs.Usages.{awaits_first, counts_serially, has_committed_write, has_effect, has_live_write, has_touched, has_write, is_committed, is_doomed, is_down, is_free, is_open, is_pending, is_restart, is_undo, is_up, spans_up}
 use Rattle.device_order.specs.declared.records.Event.{Event}
 use Rattle.device_order.specs.declared.records.Grip.TheVariants.{Free, Reads, Undoes, Writes}
@@ -7,12 +10,6 @@ use Rattle.device_order.specs.declared.records.OrderEntry.TheVariants.{Occurred,
 use Rattle.device_order.specs.declared.records.OrderEntry.{OrderEntry}
 use Rattle.device_order.specs.declared.records.Usage.{Usage}
 use Rattle.std.specs.Prelude.{Bool, List, None, Option, Some, [], false, if◌then◌else◌, is_some, not, true, unwrap_or, ℕ, ◌&&◌, ◌||◌, ◌∷◌, ◌≡◌}
-
--- which grip is out: none, that of a command (true: it reads, and its run has written nothing there), that of an undo with its value
-pub data GripOut : Type 0 where
-  Home : GripOut
-  Commands : Bool → GripOut
-  Undo : ℕ → GripOut
 
 abbrev pub is_home : GripOut → Bool
 is_home Home = true
@@ -23,19 +20,6 @@ abbrev pub is_command_out : GripOut → Bool
 is_command_out Home = false
 is_command_out (Commands b) = true
 is_command_out (Undo v) = false
-
--- what the walk has seen so far
-pub record WalkState : Type 0 where
-  pub up : Bool  -- as the last event left the device
-  pub value : ℕ  -- of the last committed write
-  pub stand : ℕ  -- of the last write in effect
-  pub settled : Bool  -- that write is a committed run's, or there is none
-  pub undoing : Bool  -- the last write that no entry undid is of the run whose undo is out
-  pub opened : Bool  -- a run that counts has a command on the device without an answer
-  pub waiting : Bool  -- .. and no answer there
-  pub spanned : Bool  -- .. and sees the device up
-  pub exposed : Bool  -- a run that is not committed has a write that no entry undid, and no committed write stands behind it
-  pub out : GripOut
 
 abbrev pub if_written : Bool → Option ℕ → ℕ → ℕ
 if_written true wrote v = unwrap_or wrote v

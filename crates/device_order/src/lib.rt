@@ -2,6 +2,10 @@
 #![tactic(auto)]
 
 pub mod device_laws;
+pub mod invariants;
 pub mod records;
+pub mod walks;
 
-pub use records::{Event, Grip, OrderEntry, Probe, Stage, Usage};
+pub use invariants::keeps_invariant;
+pub use records::{DeviceRecord, Event, Grip, OrderEntry, Probe, Stage, Usage};
+pub use walks::{GripOut, WalkState};

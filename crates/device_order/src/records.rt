@@ -1,4 +1,4 @@
-use home_types::{Value, View};
+use home_types::{List, Stand, Value, View};
 
 /// How far a run of the line is with a device, and whether its answers count.
 ///
@@ -68,4 +68,18 @@ pub enum Probe {
     Asks,
     /// It tries to bring a device that is counted down to the value.
     Restores(Value),
+}
+
+/// What is kept of one device.
+#[derive(Drop)]
+pub struct DeviceRecord {
+    /// The uses that runs make of it in line order, with its events among them.
+    pub order: List<OrderEntry>,
+    /// Its state before the order.
+    pub first: Stand,
+    /// Whether it is counted up now.
+    pub up: bool,
+    /// Where it stands, or stood as it went out with a grip or a probe.
+    pub held: Value,
+    pub probe: Probe,
 }
