@@ -4,6 +4,8 @@
 pub mod device_laws;
 pub mod invariants;
 pub mod records;
+#[cfg(test)]
+mod verdicts;
 pub mod walks;
 
 pub use invariants::keeps_invariant;
