@@ -154,7 +154,7 @@ first_fits : (s : WalkState) (c : Usage) (st : Stage) → is_command c.grip ≡ 
     → UsageFits s (record c { stage = st; view = Some Down; grip = Free })
 first_fits s c st g v l u f = grind (arith, common_steps)
 
--- the ends after a call died: the run that called is not open with view Up any more
+-- the end of the walk after a command died: its run does not span any more
 dead_ends : (s e e1 e2 : WalkState) (c c' : Usage) (up : Bool) (held h : ℕ) (p : Probe) → is_command c.grip ≡ true → c'.grip ≡ Free → spans_up c' ≡ false → Tidy s → UsageFits s c
     → e1 ≡ record e { up = false } → Idle (after_usage s c) e1 → Idle (after_usage s c') e2 → e2.up ≡ e1.up → DeviceFits e up held p → DeviceFits e2 false h p
 dead_ends s e e1 e2 c c' up held h p g n o t f q i j u x = grind (arith, common_steps)

@@ -3,7 +3,9 @@ use Rattle.device_order.proofs.Claims.{settled_front}
 use Rattle.device_order.proofs.Commands.{go}
 use Rattle.device_order.proofs.Monotone.{doom, skip, commit}
 use Rattle.device_order.proofs.Probes.{probe_go, asks_none, restores_none, probe_dead, probe_lost, rose}
-use Rattle.device_order.proofs.Rest.{down_again, down_first, place, abort}
+use Rattle.device_order.proofs.Aborts.{abort}
+use Rattle.device_order.proofs.Downs.{down_again, down_first}
+use Rattle.device_order.proofs.Placings.{place}
 use Rattle.device_order.proofs.Undos.{undo_go, drop_undo, undo_ok, undo_dead}
 use Rattle.device_order.specs.Changes.{CommandOut, DeviceChange, DeviceRestarted, DownAgain, DownFirst, FirstAccessDied, GuardSkipped, LaterAccessDied, ProbeDied, ProbeDiedUnderRun, ProbeFoundDown, ProbeFoundUp, ProbeOut, ReadAnswered, RunAborted, RunCommitted, RunDoomed, RunPlaced, UndoAnswered, UndoDied, UndoDropped, UndoOut, WriteAnswered}
 use Rattle.device_order.specs.Invariant.{DeviceInvariant}

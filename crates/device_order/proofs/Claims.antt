@@ -43,7 +43,7 @@ exposed_stays s (Used c ∷ m) h n = let p = parts s c (has has_committed_write 
     parts : (s : WalkState) (c : Usage) (x : Bool) → s.exposed ≡ true → (has_committed_write c || x) ≡ false → ((after_usage s c).exposed ≡ true) × (x ≡ false)
     parts s c x h n = grind (arith, common_steps)
 
--- behind a run of a line: what the walk has seen when it comes to the next cell
+-- behind a use: what the walk has seen when it comes to a later one
 behind : (d : DeviceRecord) (a m b : List OrderEntry) (x w : Usage) → DeviceInvariant d → d.order ≡ a ++ Used x ∷ (m ++ Used w ∷ b) → UsageFits (walk_end (after_usage (state_after d a) x) m) w
 unfolding WalkHolds walk_end
 behind d a m b x w i at =
@@ -51,7 +51,7 @@ behind d a m b x w i at =
     let k : Cut z a x (m ++ Used w ∷ b) = cut z a x (m ++ Used w ∷ b) (subst (λ l. WalkHolds z l) at i.walk) in
     (cut (after_usage (walk_end z a) x) m w b k.rest).fits
 
--- clause 4: behind an open run nothing touched the device
+-- behind an open run nothing touched the device
 pub pending : (d : DeviceRecord) (a m b : List OrderEntry) (x w : Usage) → DeviceInvariant d → d.order ≡ a ++ Used x ∷ (m ++ Used w ∷ b) → has_pending x ≡ true → has_touched w ≡ false
 pending d a m b x w i at o = quiet (walk_end (after_usage (state_after d a) x) m) w (opened_stays (after_usage (state_after d a) x) m (now (state_after d a) x o)) (behind d a m b x w i at)
   where
@@ -61,7 +61,7 @@ pending d a m b x w i at o = quiet (walk_end (after_usage (state_after d a) x) m
     quiet : (s : WalkState) (w : Usage) → s.opened ≡ true → UsageFits s w → has_touched w ≡ false
     quiet s w h f = grind (arith, common_steps)
 
--- clause 3: a read behind a live write that no entry undid stands behind a committed write between
+-- a read behind a live write that no entry undid stands behind a committed write between them
 pub covered : (d : DeviceRecord) (a m b : List OrderEntry) (x w : Usage) → DeviceInvariant d → d.order ≡ a ++ Used x ∷ (m ++ Used w ∷ b) → has_live_write x ≡ true → is_some w.read ≡ true → has has_committed_write m ≡ true
 covered d a m b x w i at o r = at_ (has has_committed_write m) refl
   where
@@ -99,7 +99,7 @@ up_spanned d a b x i at o =
     now : (s : WalkState) (x : Usage) → spans_up x ≡ true → (after_usage s x).spanned ≡ true
     now s x o = grind (arith, common_steps)
 
--- the event of a first touch that died stands immediately before it, where the run is sound
+-- the failure at a first access stands immediately before its run, where that counts
 pub dies_before : (d : DeviceRecord) (a b : List OrderEntry) (c : Usage) (e : Event) → DeviceInvariant d → d.order ≡ a ++ Used c ∷ b → is_command c.grip ≡ true → awaits_first c ≡ true → with_event e d.order ≡ a ++ Occurred e ∷ Used c ∷ b
 unfolding walk_end has with_event
 dies_before d a b c e i at g w =
@@ -181,7 +181,7 @@ calm_behind s (Used c ∷ b) o w k = both (has_touched c) (is_calm b) (now s c o
     now : (s : WalkState) (c : Usage) → s.opened ≡ true → UsageFits s c → has_touched c ≡ false
     now s c h f = grind (arith, common_steps)
 
--- at a first touch (by a call that is out): no run behind it touched the device, and no event stands there if the run is sound
+-- while a command is out no run behind its own touched the device, and no event stands there where its run awaits its first answer
 pub alone_behind : (d : DeviceRecord) (a b : List OrderEntry) (c : Usage) → DeviceInvariant d → d.order ≡ a ++ Used c ∷ b → is_command c.grip ≡ true → has has_touched b ≡ false
 alone_behind d a b c i at g =
     let z : WalkState = walk_start d.first_up d.first in
@@ -248,7 +248,7 @@ parted s e (Used c ∷ l) k = at_ (parted (after_usage s c) e l k.1) (awaits_fir
       bare = p.bare;
     }
 
--- at the start
+-- a new device keeps the invariant
 pub begins : (up : Bool) (v : ℕ) → DeviceInvariant (new_device up v)
 unfolding WalkHolds walk_end
 begins up v = record { walk = tt; ends = record { same = refl; span = λ h. absurd (no h); out = λ h. refl } }

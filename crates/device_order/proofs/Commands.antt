@@ -27,7 +27,7 @@ go_ends s e e' c g held w p n h q i j u x = grind (arith, common_steps)
 pub open_blocks : (s : WalkState) (c : Usage) → c.stage ≡ Pending → blocks (after_usage s c) ≡ true
 open_blocks s c h = grind (arith, common_steps)
 
--- at home the front of a line is at home
+-- no grip is out in the front of an order where none is out at all
 pub home_front : (d : DeviceRecord) (a x : List OrderEntry) → d.order ≡ a ++ x → IsHome d → (state_after d a).out ≡ Home
 home_front d a x at h = out_free (walk_start d.first_up d.first) a (has_front has_grip a x (subst (λ y. has has_grip y ≡ false) at h.free))
 

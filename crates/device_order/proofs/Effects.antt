@@ -25,7 +25,7 @@ alike s t (Used c ∷ b) r = alike (after_usage s c) (after_usage t c) b (alike_
 either : (a b : Bool) → (a || b) ≡ false → (a ≡ false) × (b ≡ false)
 either a b h = grind (arith, common_steps)
 
--- no write in effect: the stand stays
+-- where no write is in effect, the stand stays
 pub unmoved : (s : WalkState) (b : List OrderEntry) → has has_effect b ≡ false → (walk_end s b).stand ≡ s.stand
 unfolding walk_end has
 unmoved s [] h = refl
@@ -53,7 +53,7 @@ undone_stays s (Used c ∷ b) h = let p = either (has_write c) (has has_write b)
     one : (s : WalkState) (c : Usage) → has_write c ≡ false → (after_usage s c).undoing ≡ s.undoing
     one s c h = grind (arith, common_steps)
 
--- a write in effect: what stood before it does not matter
+-- where one is, what stood before it does not matter
 pub overwritten : (s t : WalkState) (b : List OrderEntry) → has has_effect b ≡ true → Alike (walk_end s b) (walk_end t b)
 unfolding walk_end has
 overwritten s t [] h = grind (arith, common_steps)
@@ -117,7 +117,7 @@ home_free s (Used c ∷ b) h = join (has_grip c) (has has_grip b) (one s c (at (
     join : (x y : Bool) → x ≡ false → y ≡ false → (x || y) ≡ false
     join x y f g = grind (arith, common_steps)
 
--- behind, where no grip is, the grip before matters to nothing (a command's aside)
+-- behind an entry with no grip behind it, the grip that is out may be another, if no command's
 pub record Outs (s : WalkState) (o : GripOut) (b : List OrderEntry) : Type 0 where
   pub walk : WalkHolds (record s { out = o }) b
   pub ends : walk_end (record s { out = o }) b ≡ record (walk_end s b) { out = o }
@@ -199,7 +199,7 @@ undo_last s (Used c ∷ b) n h =
     one : (s : WalkState) (c : Usage) (x : Bool) → has_grip c ≡ false → (after_usage s c).undoing ≡ true → x ≡ false → (has_write c || x) ≡ false
     one s c x n h e = grind (arith, common_steps)
 
--- and no open run there has view Up: it would have read (but the write is exposed) or written
+-- and no open run there sees the device up: it would have written, or read where a write is exposed
 pub none_lost : (s : WalkState) (b : List OrderEntry) → s.exposed ≡ true → has has_write b ≡ false → WalkHolds s b → (walk_end s b).spanned ≡ s.spanned
 unfolding WalkHolds walk_end has
 none_lost s [] x n k = refl

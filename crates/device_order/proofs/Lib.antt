@@ -7,7 +7,9 @@ pub mod Parts
 pub mod Monotone
 pub mod Commands
 pub mod Answers
-pub mod Rest
+pub mod Downs
+pub mod Placings
+pub mod Aborts
 pub mod Undos
 pub mod Probes
 pub mod Changes

@@ -43,7 +43,7 @@ commit_below s c e f = grind (arith, common_steps)
 commit_alike : (s : WalkState) (c : Usage) → c.stage ≡ Done → Alike (after_usage s c) (after_usage s (record c { stage = Committed }))
 commit_alike s c e = grind (arith, common_steps)
 
--- one run is another in its place, and the device as it was
+-- one use becomes another of which less is seen, and the device stays
 pub lowered : (d : DeviceRecord) (a b : List OrderEntry) (c e : Usage) → d.order ≡ a ++ Used c ∷ b → DeviceInvariant d
     → ((s : WalkState) → UsageFits s c → UsageFits s e) → ((s : WalkState) → UsageFits s c → Below (after_usage s c) (after_usage s e)) → ((s : WalkState) → UsageFits s c → Alike (after_usage s c) (after_usage s e))
     → DeviceInvariant (record d { order = a ++ Used e ∷ b })

@@ -11,7 +11,7 @@ use Rattle.std.proofs.Common.{◌≡◌, true, List, ◌∷◌, ◌++◌, arith,
 use Rattle.std.proofs.lemmas.Grind.{common_steps}
 use Rattle.std.specs.Prelude.{◌||◌}
 
--- a line cut at a run
+-- an order cut at a use
 pub record Cut (z : WalkState) (a : List OrderEntry) (c : Usage) (b : List OrderEntry) : Type 0 where
   pub front : WalkHolds z a
   pub fits : UsageFits (walk_end z a) c
@@ -28,7 +28,7 @@ pub mend : (z : WalkState) (a : List OrderEntry) (c : Usage) (b : List OrderEntr
 unfolding WalkHolds walk_end
 mend z a c b f h k = walk_join z a (Used c ∷ b) f (h, k)
 
--- another run in its place, behind which nothing is touched
+-- another use in its place, behind which nothing is touched
 pub record Put (z : WalkState) (a : List OrderEntry) (c d : Usage) (b : List OrderEntry) : Type 0 where
   pub walk : WalkHolds z (a ++ Used d ∷ b)
   pub idle : Idle (after_usage (walk_end z a) c) (walk_end z (a ++ Used c ∷ b))
@@ -50,7 +50,7 @@ put z a c d b k h f w =
     more : (s : WalkState) (c d : Usage) → (awaits_first d ≡ true → awaits_first c ≡ true) → (s.waiting || awaits_first d) ≡ true → (s.waiting || awaits_first c) ≡ true
     more s c d w h = grind (arith, common_steps)
 
--- another run in its place, of which less is seen
+-- another use in its place, of which less is seen
 pub record Lower (z : WalkState) (a : List OrderEntry) (c d : Usage) (b : List OrderEntry) : Type 0 where
   pub walk : WalkHolds z (a ++ Used d ∷ b)
   pub below : Below (walk_end z (a ++ Used c ∷ b)) (walk_end z (a ++ Used d ∷ b))

@@ -69,7 +69,7 @@ blocked s t (Used c ∷ b) h u w k =
     carry : (s S z : WalkState) → Idle S z → S.value ≡ s.value → S.stand ≡ s.stand → S.settled ≡ s.settled → S.undoing ≡ s.undoing → S.spanned ≡ s.spanned → S.exposed ≡ s.exposed → S.out ≡ s.out → Idle s z
     carry s S z i a b c d e f g = record { value = i.value ∙ a; stand = i.stand ∙ b; settled = i.settled ∙ c; undoing = i.undoing ∙ d; spanned = i.spanned ∙ e; exposed = i.exposed ∙ f; out = i.out ∙ g }
 
--- behind an open run without a view there is no event either: another state of the device is the same to all that stands there
+-- behind an open run without a view stands no event either: whether the device is up is all the same to what stands there
 pub record Blind (s : WalkState) (e : Bool) (b : List OrderEntry) : Type 0 where
   pub walk : WalkHolds (record s { up = e }) b
   pub ends : walk_end (record s { up = e }) b ≡ record (walk_end s b) { up = e }

@@ -103,7 +103,7 @@ done_below s c v g f = grind (arith, common_steps)
 done_stand : (s : WalkState) (c : Usage) (v : ℕ) → c.grip ≡ Undoes v → (after_usage s (record c { undid = true; grip = Free })).stand ≡ (after_usage s c).stand
 done_stand s c v g = grind (arith, common_steps)
 
--- the run whose undo was out is behind it
+-- what is left of a use whose undo came back
 pub record Undone (z : WalkState) (a : List OrderEntry) (c : Usage) (b : List OrderEntry) : Type 0 where
   pub walk : WalkHolds z (a ++ Used (record c { undid = true; grip = Free }) ∷ b)
   pub up : (walk_end z (a ++ Used (record c { undid = true; grip = Free }) ∷ b)).up ≡ (walk_end z (a ++ Used c ∷ b)).up

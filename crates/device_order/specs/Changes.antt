@@ -25,7 +25,7 @@ is_calm (Used u ∷ xs) = not (has_touched u) && is_calm xs
 abbrev pub new_usage : Usage
 new_usage = record { stage = Pending; view = None; read = None; wrote = None; undid = false; grip = Free }
 
--- by an answer a run may have no more to do on the device, or be doomed
+-- an answer leaves the run with more to do on the device only where it had, and doomed where it was; it may doom it, and does not commit it
 pub record IsAnswered (old new : Stage) : Type 0 where
   pub closes : is_open new ≡ true → is_open old ≡ true
   pub doom : is_doomed old ≡ true → is_doomed new ≡ true
@@ -35,63 +35,84 @@ pub record IsAnswered (old new : Stage) : Type 0 where
 abbrev pub first_read : Usage → ℕ → Option ℕ
 first_read u x = if is_some u.read || is_some u.wrote then u.read else Some x
 
+-- a use after a write of v was answered, ..
+abbrev pub after_write : Usage → Stage → ℕ → Usage
+after_write u stage v = record u { stage = stage; view = Some Up; wrote = Some v; grip = Free }
+
+-- .. after a read that found x, ..
+abbrev pub after_read : Usage → Stage → ℕ → Usage
+after_read u stage x = record u { stage = stage; view = Some Up; read = first_read u x; grip = Free }
+
+-- .. after its first access died, ..
+abbrev pub after_first_death : Usage → Stage → Usage
+after_first_death u stage = record u { stage = stage; view = Some Down; grip = Free }
+
+-- .. after a later one died, ..
+abbrev pub after_later_death : Usage → Stage → Usage
+after_later_death u stage = record u { stage = stage; grip = Free }
+
+-- .. and after its undo came back
+abbrev pub after_undo : Usage → Usage
+after_undo u = record u { undid = true; grip = Free }
+
 -- a device that is up is asked, one that is down is restored to the value
 abbrev pub probe_for : Bool → ℕ → Probe
 probe_for up v = if up then Asks else Restores v
 
 pub data DeviceChange (d : DeviceRecord) : DeviceRecord → Type 0 where
-  -- a run is placed: before it and at its place no matter what, behind it neither an event nor a run that touched the device
-  RunPlaced : (a b : List OrderEntry) → d.order ≡ a ++ b → is_calm b ≡ true
+  -- a run is placed: behind it stands neither an event nor a run that touched the device
+  RunPlaced : (a b : List OrderEntry) (at : d.order ≡ a ++ b) (calm : is_calm b ≡ true)
       → DeviceChange d (record d { order = a ++ Used new_usage ∷ b })
-  -- the grip goes out for a command of a run
-  CommandOut : (a b : List OrderEntry) (u : Usage) (g : Grip) → d.order ≡ a ++ Used u ∷ b → u.stage ≡ Pending → IsHome d → d.up ≡ true
-      → is_down u.view ≡ false → has has_pending a ≡ false → is_command g ≡ true → ((is_read g && not (is_some u.wrote)) ≡ true → is_settled (effective None a) ≡ true)
+  -- the grip goes out for a command: the device is home and up, the run does not see it down, no run before it has more to do there, and a read finds no live write
+  CommandOut : (a b : List OrderEntry) (u : Usage) (g : Grip) (at : d.order ≡ a ++ Used u ∷ b) (pending : u.stage ≡ Pending) (home : IsHome d) (counted_up : d.up ≡ true)
+      (not_down : is_down u.view ≡ false) (none_before : has has_pending a ≡ false) (command : is_command g ≡ true) (clean : (is_read g && not (is_some u.wrote)) ≡ true → is_settled (effective None a) ≡ true)
       → DeviceChange d (record d { order = a ++ Used (record u { grip = g }) ∷ b })
-  WriteAnswered : (a b : List OrderEntry) (u : Usage) (v : ℕ) (stage : Stage) → d.order ≡ a ++ Used u ∷ b → u.grip ≡ Writes → IsAnswered u.stage stage
-      → DeviceChange d (record d { order = a ++ Used (record u { stage = stage; view = Some Up; wrote = Some v; grip = Free }) ∷ b; held = v })
-  ReadAnswered : (a b : List OrderEntry) (u : Usage) (stage : Stage) → d.order ≡ a ++ Used u ∷ b → u.grip ≡ Reads → IsAnswered u.stage stage
-      → DeviceChange d (record d { order = a ++ Used (record u { stage = stage; view = Some Up; read = first_read u d.held; grip = Free }) ∷ b })
+  WriteAnswered : (a b : List OrderEntry) (u : Usage) (v : ℕ) (stage : Stage) (at : d.order ≡ a ++ Used u ∷ b) (out : u.grip ≡ Writes) (answered : IsAnswered u.stage stage)
+      → DeviceChange d (record d { order = a ++ Used (after_write u stage v) ∷ b; held = v })
+  ReadAnswered : (a b : List OrderEntry) (u : Usage) (stage : Stage) (at : d.order ≡ a ++ Used u ∷ b) (out : u.grip ≡ Reads) (answered : IsAnswered u.stage stage)
+      → DeviceChange d (record d { order = a ++ Used (after_read u stage d.held) ∷ b })
   -- the device fails at a command: at the run's first access, ..
-  FirstAccessDied : (a b : List OrderEntry) (u : Usage) (stage : Stage) (held : ℕ) → with_event Failure d.order ≡ a ++ Used u ∷ b → is_command u.grip ≡ true → u.view ≡ None → IsAnswered u.stage stage
-      → DeviceChange d (record d { order = a ++ Used (record u { stage = stage; view = Some Down; grip = Free }) ∷ b; up = false; held = held })
+  FirstAccessDied : (a b : List OrderEntry) (u : Usage) (stage : Stage) (held : ℕ) (at : with_event Failure d.order ≡ a ++ Used u ∷ b) (out : is_command u.grip ≡ true) (first : u.view ≡ None) (answered : IsAnswered u.stage stage)
+      → DeviceChange d (record d { order = a ++ Used (after_first_death u stage) ∷ b; up = false; held = held })
   -- .. or at a later one, and the run is doomed
-  LaterAccessDied : (a b : List OrderEntry) (u : Usage) (stage : Stage) (held : ℕ) → with_event Failure d.order ≡ a ++ Used u ∷ b → is_command u.grip ≡ true → is_some u.view ≡ true → is_doomed stage ≡ true
-      → DeviceChange d (record d { order = a ++ Used (record u { stage = stage; grip = Free }) ∷ b; up = false; held = held })
+  LaterAccessDied : (a b : List OrderEntry) (u : Usage) (stage : Stage) (held : ℕ) (at : with_event Failure d.order ≡ a ++ Used u ∷ b) (out : is_command u.grip ≡ true) (later : is_some u.view ≡ true) (doom : is_doomed stage ≡ true)
+      → DeviceChange d (record d { order = a ++ Used (after_later_death u stage) ∷ b; up = false; held = held })
   -- a command is answered Down with no call: the run sees the device down already, ..
-  DownAgain : (a b : List OrderEntry) (u : Usage) (stage : Stage) → d.order ≡ a ++ Used u ∷ b → u.stage ≡ Pending → u.view ≡ Some Down → IsAnswered u.stage stage
+  DownAgain : (a b : List OrderEntry) (u : Usage) (stage : Stage) (at : d.order ≡ a ++ Used u ∷ b) (pending : u.stage ≡ Pending) (down : u.view ≡ Some Down) (answered : IsAnswered u.stage stage)
       → DeviceChange d (record d { order = a ++ Used (record u { stage = stage }) ∷ b })
-  -- .. or the device is counted down
-  DownFirst : (a b : List OrderEntry) (u : Usage) (stage : Stage) → d.order ≡ a ++ Used u ∷ b → u.stage ≡ Pending → IsHome d → d.up ≡ false → has has_pending a ≡ false → IsAnswered u.stage stage
+  -- .. or the device is home and counted down, and no run before it has more to do there
+  DownFirst : (a b : List OrderEntry) (u : Usage) (stage : Stage) (at : d.order ≡ a ++ Used u ∷ b) (pending : u.stage ≡ Pending) (home : IsHome d) (counted_down : d.up ≡ false) (none_before : has has_pending a ≡ false) (answered : IsAnswered u.stage stage)
       → DeviceChange d (record d { order = a ++ Used (record u { stage = stage; view = Some Down }) ∷ b })
   -- the last command on the device is skipped by its guard
-  GuardSkipped : (a b : List OrderEntry) (u : Usage) → d.order ≡ a ++ Used u ∷ b → u.stage ≡ Pending → is_command u.grip ≡ false
+  GuardSkipped : (a b : List OrderEntry) (u : Usage) (at : d.order ≡ a ++ Used u ∷ b) (pending : u.stage ≡ Pending) (not_out : is_command u.grip ≡ false)
       → DeviceChange d (record d { order = a ++ Used (record u { stage = Done }) ∷ b })
-  RunDoomed : (a b : List OrderEntry) (u : Usage) → d.order ≡ a ++ Used u ∷ b
+  RunDoomed : (a b : List OrderEntry) (u : Usage) (at : d.order ≡ a ++ Used u ∷ b)
       → DeviceChange d (record d { order = a ++ Used (record u { stage = doomed_stage u.stage }) ∷ b })
-  RunCommitted : (a b : List OrderEntry) (u : Usage) → d.order ≡ a ++ Used u ∷ b → u.stage ≡ Done
+  RunCommitted : (a b : List OrderEntry) (u : Usage) (at : d.order ≡ a ++ Used u ∷ b) (done : u.stage ≡ Done)
       → DeviceChange d (record d { order = a ++ Used (record u { stage = Committed }) ∷ b })
   -- a doomed run is aborted and gone: it holds no grip, and the effective write is not its own
-  RunAborted : (a b : List OrderEntry) (u : Usage) → d.order ≡ a ++ Used u ∷ b → is_doomed u.stage ≡ true → has_grip u ≡ false → (has_effect u && not (has has_effect b)) ≡ false
+  RunAborted : (a b : List OrderEntry) (u : Usage) (at : d.order ≡ a ++ Used u ∷ b) (doomed : is_doomed u.stage ≡ true) (no_grip : has_grip u ≡ false) (not_effective : (has_effect u && not (has has_effect b)) ≡ false)
       → DeviceChange d (record d { order = a ++ b })
   -- the grip goes out for the undo of the effective write: it drives the value without that run
-  UndoOut : (a b : List OrderEntry) (u : Usage) → d.order ≡ a ++ Used u ∷ b → is_doomed u.stage ≡ true → has_effect u ≡ true → has has_effect b ≡ false → IsHome d → d.up ≡ true
+  UndoOut : (a b : List OrderEntry) (u : Usage) (at : d.order ≡ a ++ Used u ∷ b) (doomed : is_doomed u.stage ≡ true) (wrote : has_effect u ≡ true) (last : has has_effect b ≡ false) (home : IsHome d) (counted_up : d.up ≡ true)
       → DeviceChange d (record d { order = a ++ Used (record u { grip = Undoes (state_after d (a ++ b)).stand }) ∷ b })
   -- the device is down, and the undo is left to its restart
-  UndoDropped : (a b : List OrderEntry) (u : Usage) → d.order ≡ a ++ Used u ∷ b → is_doomed u.stage ≡ true → has_effect u ≡ true → has has_effect b ≡ false → IsHome d → d.up ≡ false
+  UndoDropped : (a b : List OrderEntry) (u : Usage) (at : d.order ≡ a ++ Used u ∷ b) (doomed : is_doomed u.stage ≡ true) (wrote : has_effect u ≡ true) (last : has has_effect b ≡ false) (home : IsHome d) (counted_down : d.up ≡ false)
       → DeviceChange d (record d { order = a ++ Used (record u { undid = true }) ∷ b })
-  UndoAnswered : (a b : List OrderEntry) (u : Usage) (v : ℕ) → d.order ≡ a ++ Used u ∷ b → u.grip ≡ Undoes v
-      → DeviceChange d (record d { order = a ++ Used (record u { undid = true; grip = Free }) ∷ b; held = v })
-  UndoDied : (a b : List OrderEntry) (u : Usage) (v held : ℕ) → with_event Failure d.order ≡ a ++ Used u ∷ b → u.grip ≡ Undoes v
-      → DeviceChange d (record d { order = a ++ Used (record u { undid = true; grip = Free }) ∷ b; up = false; held = held })
-  ProbeOut : IsHome d → DeviceChange d (record d { probe = probe_for d.up (state_after d d.order).stand })
+  UndoAnswered : (a b : List OrderEntry) (u : Usage) (v : ℕ) (at : d.order ≡ a ++ Used u ∷ b) (out : u.grip ≡ Undoes v)
+      → DeviceChange d (record d { order = a ++ Used (after_undo u) ∷ b; held = v })
+  UndoDied : (a b : List OrderEntry) (u : Usage) (v held : ℕ) (at : with_event Failure d.order ≡ a ++ Used u ∷ b) (out : u.grip ≡ Undoes v)
+      → DeviceChange d (record d { order = a ++ Used (after_undo u) ∷ b; up = false; held = held })
+  -- a probe goes out of a device that is home: it asks one that is up, and restores one that is down to its standing value
+  ProbeOut : (home : IsHome d) → DeviceChange d (record d { probe = probe_for d.up (state_after d d.order).stand })
   -- a probe brings no news: the device is up still, or down still
-  ProbeFoundUp : d.probe ≡ Asks → DeviceChange d (record d { probe = Unprobed })
-  ProbeFoundDown : (v held : ℕ) → d.probe ≡ Restores v → DeviceChange d (record d { probe = Unprobed; held = held })
+  ProbeFoundUp : (out : d.probe ≡ Asks) → DeviceChange d (record d { probe = Unprobed })
+  ProbeFoundDown : (v held : ℕ) (out : d.probe ≡ Restores v) → DeviceChange d (record d { probe = Unprobed; held = held })
   -- a probe finds that the device has failed: no run spans the failure, ..
-  ProbeDied : (held : ℕ) → d.probe ≡ Asks → has spans_up d.order ≡ false
+  ProbeDied : (held : ℕ) (out : d.probe ≡ Asks) (none_spans : has spans_up d.order ≡ false)
       → DeviceChange d (record d { order = with_event Failure d.order; up = false; held = held; probe = Unprobed })
   -- .. or one does, and is doomed
-  ProbeDiedUnderRun : (a b : List OrderEntry) (u : Usage) (held : ℕ) → d.probe ≡ Asks → with_event Failure d.order ≡ a ++ Used u ∷ b → spans_up u ≡ true
+  ProbeDiedUnderRun : (a b : List OrderEntry) (u : Usage) (held : ℕ) (out : d.probe ≡ Asks) (at : with_event Failure d.order ≡ a ++ Used u ∷ b) (spans : spans_up u ≡ true)
       → DeviceChange d (record d { order = a ++ Used (record u { stage = doomed_stage u.stage }) ∷ b; up = false; held = held; probe = Unprobed })
-  DeviceRestarted : (v : ℕ) → d.probe ≡ Restores v
+  DeviceRestarted : (v : ℕ) (out : d.probe ≡ Restores v)
       → DeviceChange d (record d { order = with_event Restart d.order; up = true; held = v; probe = Unprobed })
