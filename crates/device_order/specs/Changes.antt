@@ -59,6 +59,7 @@ after_undo u = record u { undid = true; grip = Free }
 abbrev pub probe_for : Bool → ℕ → Probe
 probe_for up v = if up then Asks else Restores v
 
+-- what may happen on a device, each with what it assumes
 pub data DeviceChange (d : DeviceRecord) : DeviceRecord → Type 0 where
   -- a run is placed: behind it stands neither an event nor a run that touched the device
   RunPlaced : (a b : List OrderEntry) (at : d.order ≡ a ++ b) (calm : is_calm b ≡ true)

@@ -18,19 +18,22 @@ use Rattle.std.specs.Prelude.{Bool, List, None, Option, Some, [], false, if◌th
 abbrev pub plain_record : KeptRecord → DeviceRecord
 plain_record d = record { order = d.order.items; first_up = d.first.up; first = d.first.value; up = d.up; held = d.held; probe = d.probe }
 
+-- if the one then the other
 abbrev pub implies : Bool → Bool → Bool
 implies a b = not a || b
 
+-- both or neither
 abbrev pub same : Bool → Bool → Bool
 same a b = if a then b else not b
 
+-- as GripFits
 abbrev pub grip_is_fit : Grip → Usage → Bool
 grip_is_fit Free u = true
 grip_is_fit Reads u = is_pending u.stage && not u.undid && not (is_down u.view)
 grip_is_fit Writes u = is_pending u.stage && not u.undid && not (is_down u.view)
 grip_is_fit (Undoes v) u = is_doomed u.stage && not u.undid && is_some u.wrote
 
--- what a use is by itself
+-- a run sees the device up where it read or wrote and only there, only a doomed one that wrote is undone, and it may hold the grip
 abbrev pub shape_is_fit : Usage → Bool
 shape_is_fit u = same (is_up u.view) (is_some u.read || is_some u.wrote) && implies u.undid (is_doomed u.stage && is_some u.wrote) && grip_is_fit u.grip u
 
@@ -47,9 +50,11 @@ abbrev pub found_is_fit : Option ℕ → Stage → WalkState → Bool
 found_is_fit None stage s = true
 found_is_fit (Some x) stage s = implies (counts_serially stage) (x == s.value) && not s.exposed
 
+-- .. as a test on its use
 abbrev pub read_is_fit : WalkState → Usage → Bool
 read_is_fit s u = found_is_fit u.read u.stage s
 
+-- as UsageFits
 abbrev pub usage_is_fit : WalkState → Usage → Bool
 usage_is_fit s u = shape_is_fit u && touch_is_fit s u && view_is_fit s u && read_is_fit s u
 
@@ -57,10 +62,12 @@ usage_is_fit s u = shape_is_fit u && touch_is_fit s u && view_is_fit s u && read
 abbrev pub event_is_fit : WalkState → Event → Bool
 event_is_fit s e = same s.up (not (is_restart e)) && not s.waiting
 
+-- as EntryFits
 abbrev pub entry_is_fit : WalkState → OrderEntry → Bool
 entry_is_fit s (Occurred e) = event_is_fit s e
 entry_is_fit s (Used u) = usage_is_fit s u
 
+-- as OutFits
 abbrev pub out_is_fit : GripOut → Probe → WalkState → Bool → ℕ → Bool
 out_is_fit Home Unprobed s up held = implies up (held == s.stand)
 out_is_fit Home Asks s up held = up && held == s.stand
@@ -72,6 +79,7 @@ out_is_fit (Undo v) Unprobed s up held = up && s.undoing && v == s.stand
 out_is_fit (Undo v) Asks s up held = false
 out_is_fit (Undo v) (Restores x) s up held = false
 
+-- as DeviceFits
 abbrev pub end_is_fit : WalkState → Bool → ℕ → Probe → Bool
 end_is_fit s up held probe = same s.up up && implies s.spanned up && out_is_fit s.out probe s up held
 

@@ -19,8 +19,8 @@ OutFits (Undo v) (Restores x) s up held = ⊥
 
 -- the device fits the end of the walk along its order
 pub record DeviceFits (s : WalkState) (up : Bool) (held : ℕ) (probe : Probe) : Type 0 where
-  pub same : s.up ≡ up
-  pub span : s.spanned ≡ true → up ≡ true
+  pub same : s.up ≡ up  -- it is counted as its last event left it
+  pub span : s.spanned ≡ true → up ≡ true  -- where a run sees it up and has more to do there, it is up
   pub out : OutFits s.out probe s up held
 
 -- the walk along the order holds, and the device fits its end

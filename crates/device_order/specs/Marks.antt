@@ -17,6 +17,7 @@ InOrder (TouchAt n late) Unmarked = Unit {0}
 InOrder (TouchAt n late) (EventAt m) = late ≡ false → n < m
 InOrder (TouchAt n late) (TouchAt m later) = n < m
 
+-- the mark is of a moment before this one
 abbrev pub IsPast : ℕ → Mark → Type 0
 IsPast now Unmarked = Unit {0}
 IsPast now (EventAt n) = n < now
@@ -28,6 +29,7 @@ IsUnmet late Unmarked = Unit {0}
 IsUnmet late (EventAt n) = late ≡ true
 IsUnmet late (TouchAt n l) = ⊥
 
+-- there is no mark
 abbrev pub IsBare : Mark → Type 0
 IsBare Unmarked = Unit {0}
 IsBare (EventAt n) = ⊥

@@ -6,6 +6,7 @@ use Rattle.device_order.specs.declared.records.Probe.TheVariants.{Unprobed}
 use Rattle.device_order.specs.declared.records.Probe.{Probe}
 use Rattle.std.specs.Prelude.{Bool, List, [], false, true, ℕ, ◌≡◌}
 
+-- what is kept of a device, over plain lists and numbers
 pub record DeviceRecord : Type 0 where
   pub order : List OrderEntry  -- the uses that runs make of it in line order, with its events among them
   pub first_up : Bool

@@ -18,6 +18,7 @@ is_pending Done = false
 is_pending DoomedPending = true
 is_pending DoomedDone = false
 
+-- the run is doomed
 abbrev pub is_doomed : Stage → Bool
 is_doomed Committed = false
 is_doomed Pending = false
@@ -25,6 +26,7 @@ is_doomed Done = false
 is_doomed DoomedPending = true
 is_doomed DoomedDone = true
 
+-- the run is committed
 abbrev pub is_committed : Stage → Bool
 is_committed Committed = true
 is_committed Pending = false
@@ -57,35 +59,40 @@ abbrev pub is_restart : Event → Bool
 is_restart Failure = false
 is_restart Restart = true
 
+-- the run sees the device up
 abbrev pub is_up : Option View → Bool
 is_up None = false
 is_up (Some Up) = true
 is_up (Some Down) = false
 
+-- the run sees the device down
 abbrev pub is_down : Option View → Bool
 is_down None = false
 is_down (Some Up) = false
 is_down (Some Down) = true
 
+-- the run does not hold the grip
 abbrev pub is_free : Grip → Bool
 is_free Free = true
 is_free Reads = false
 is_free Writes = false
 is_free (Undoes v) = false
 
--- a command is out
+-- the run holds the grip for a command
 abbrev pub is_command : Grip → Bool
 is_command Free = false
 is_command Reads = true
 is_command Writes = true
 is_command (Undoes v) = false
 
+-- .. which reads
 abbrev pub is_read : Grip → Bool
 is_read Free = false
 is_read Reads = true
 is_read Writes = false
 is_read (Undoes v) = false
 
+-- the run holds the grip for an undo
 abbrev pub is_undo : Grip → Bool
 is_undo Free = false
 is_undo Reads = false
@@ -96,7 +103,7 @@ is_undo (Undoes v) = true
 abbrev pub has_grip : Usage → Bool
 has_grip u = not (is_free u.grip)
 
--- the answers of the run count, and a command on the device has none
+-- the answers of the run count, and it has more to do on the device
 abbrev pub has_pending : Usage → Bool
 has_pending u = is_open u.stage
 
@@ -108,7 +115,7 @@ has_touched u = is_some u.view || is_command u.grip
 abbrev pub awaits_first : Usage → Bool
 awaits_first u = is_open u.stage && not (is_some u.view)
 
--- it sees the device up, and has more to do there
+-- its answers count, it sees the device up, and it has more to do there
 abbrev pub spans_up : Usage → Bool
 spans_up u = is_open u.stage && is_up u.view
 
@@ -120,6 +127,7 @@ has_write u = is_some u.wrote && not u.undid
 abbrev pub has_effect : Usage → Bool
 has_effect u = is_some u.wrote && not (u.undid || is_undo u.grip)
 
+-- it wrote, and is committed
 abbrev pub has_committed_write : Usage → Bool
 has_committed_write u = is_some u.wrote && is_committed u.stage
 

@@ -11,26 +11,31 @@ use Rattle.device_order.specs.declared.records.OrderEntry.{OrderEntry}
 use Rattle.device_order.specs.declared.records.Usage.{Usage}
 use Rattle.std.specs.Prelude.{Bool, List, None, Option, Some, [], false, if◌then◌else◌, is_some, not, true, unwrap_or, ℕ, ◌&&◌, ◌||◌, ◌∷◌, ◌≡◌}
 
+-- no grip is out
 abbrev pub is_home : GripOut → Bool
 is_home Home = true
 is_home (Commands b) = false
 is_home (Undo v) = false
 
+-- the grip of a command is out
 abbrev pub is_command_out : GripOut → Bool
 is_command_out Home = false
 is_command_out (Commands b) = true
 is_command_out (Undo v) = false
 
+-- what was written if it counts here, else the value before
 abbrev pub if_written : Bool → Option ℕ → ℕ → ℕ
 if_written true wrote v = unwrap_or wrote v
 if_written false wrote v = v
 
+-- the grip that is out behind a run which holds it so (true: the run has written nothing there)
 abbrev pub out_after : Grip → Bool → GripOut → GripOut
 out_after Free fresh out = out
 out_after Reads fresh out = Commands fresh
 out_after Writes fresh out = Commands false
 out_after (Undoes v) fresh out = Undo v
 
+-- what the walk has seen behind a use, ..
 abbrev pub after_usage : WalkState → Usage → WalkState
 after_usage s u = record {
   up = s.up;
@@ -45,10 +50,12 @@ after_usage s u = record {
   out = out_after u.grip (not (is_some u.wrote)) s.out;
 }
 
+-- .. and behind any entry
 abbrev pub after_entry : WalkState → OrderEntry → WalkState
 after_entry s (Occurred e) = record s { up = is_restart e }
 after_entry s (Used u) = after_usage s u
 
+-- a run holds the grip for a command while it has one without an answer, sees no failure and is not undone, and for an undo while it is doomed and has a write to undo
 abbrev pub GripFits : Grip → Usage → Type 0
 GripFits Free u = Unit {0}
 GripFits Reads u = (is_pending u.stage ≡ true) × (u.undid ≡ false) × (is_down u.view ≡ false)
@@ -57,16 +64,16 @@ GripFits (Undoes v) u = (is_doomed u.stage ≡ true) × (u.undid ≡ false) × (
 
 -- a use fits what stands before it
 pub record UsageFits (s : WalkState) (u : Usage) : Type 0 where
-  pub read_up : is_some u.read ≡ true → is_up u.view ≡ true
-  pub wrote_up : is_some u.wrote ≡ true → is_up u.view ≡ true
-  pub why_up : is_up u.view ≡ true → (is_some u.read || is_some u.wrote) ≡ true
-  pub undid : u.undid ≡ true → (is_doomed u.stage && is_some u.wrote) ≡ true
-  pub after_open : has_touched u ≡ true → s.opened ≡ false
-  pub after_command : has_touched u ≡ true → is_command_out s.out ≡ false
-  pub view : counts_serially u.stage ≡ true → is_some u.view ≡ true → is_up u.view ≡ s.up
-  pub read : counts_serially u.stage ≡ true → (x : ℕ) → u.read ≡ Some x → x ≡ s.value
-  pub covered : is_some u.read ≡ true → s.exposed ≡ false
-  pub alone : is_free u.grip ≡ false → is_home s.out ≡ true
+  pub read_up : is_some u.read ≡ true → is_up u.view ≡ true  -- a run sees the device up where it read, ..
+  pub wrote_up : is_some u.wrote ≡ true → is_up u.view ≡ true  -- .. or wrote, ..
+  pub why_up : is_up u.view ≡ true → (is_some u.read || is_some u.wrote) ≡ true  -- .. and only there
+  pub undid : u.undid ≡ true → (is_doomed u.stage && is_some u.wrote) ≡ true  -- only a doomed run that wrote is undone
+  pub after_open : has_touched u ≡ true → s.opened ≡ false  -- it touched the device behind no run that has more to do there, ..
+  pub after_command : has_touched u ≡ true → is_command_out s.out ≡ false  -- .. and behind no command that is out
+  pub view : counts_serially u.stage ≡ true → is_some u.view ≡ true → is_up u.view ≡ s.up  -- where it counts, it sees the device as it is there, ..
+  pub read : counts_serially u.stage ≡ true → (x : ℕ) → u.read ≡ Some x → x ≡ s.value  -- .. and read the committed value there
+  pub covered : is_some u.read ≡ true → s.exposed ≡ false  -- it read behind no live write that no committed one covers
+  pub alone : is_free u.grip ≡ false → is_home s.out ≡ true  -- it holds the only grip
   pub grip : GripFits u.grip u
 
 -- an event changes the device, and no run before it still awaits its first answer there
@@ -74,6 +81,7 @@ pub record EventFits (s : WalkState) (e : Event) : Type 0 where
   pub turns : s.up ≡ not (is_restart e)
   pub none_waits : s.waiting ≡ false
 
+-- an entry fits what stands before it
 abbrev pub EntryFits : WalkState → OrderEntry → Type 0
 EntryFits s (Occurred e) = EventFits s e
 EntryFits s (Used u) = UsageFits s u
@@ -83,6 +91,7 @@ unfoldable pub WalkHolds : WalkState → List OrderEntry → Type 0
 WalkHolds s [] = Unit {0}
 WalkHolds s (x ∷ xs) = EntryFits s x × WalkHolds (after_entry s x) xs
 
+-- what the walk has seen at its end
 unfoldable pub walk_end : WalkState → List OrderEntry → WalkState
 walk_end s [] = s
 walk_end s (x ∷ xs) = walk_end (after_entry s x) xs
