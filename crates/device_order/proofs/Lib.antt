@@ -18,3 +18,6 @@ pub mod Pairs
 pub mod Losses
 pub mod Standing
 pub mod Decisions
+pub mod Runs
+pub mod Converse
+pub mod Swaps

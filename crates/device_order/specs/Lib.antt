@@ -7,3 +7,5 @@ pub mod Claims
 pub mod Decisions
 pub mod Pairs
 pub mod Marks
+pub mod Summaries
+pub mod Exchanges

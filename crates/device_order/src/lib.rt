@@ -7,6 +7,9 @@ pub mod records;
 #[cfg(test)]
 mod verdicts;
 pub mod walks;
+pub mod exchange;
+pub mod records;
+pub mod serial_laws;
 
 pub use invariants::keeps_invariant;
 pub use records::{DeviceRecord, Event, Grip, OrderEntry, Probe, Stage, Usage};
