@@ -21,3 +21,6 @@ pub mod Decisions
 pub mod Runs
 pub mod Converse
 pub mod Swaps
+pub mod Paired
+pub mod LineEntries
+pub mod SerialLines

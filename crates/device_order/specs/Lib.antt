@@ -9,3 +9,10 @@ pub mod Pairs
 pub mod Marks
 pub mod Summaries
 pub mod Exchanges
+pub mod RunStates
+pub mod LineEntries
+pub mod LineOrders
+pub mod LineChanges
+pub mod LineWords
+pub mod Windows
+pub mod WindowSteps

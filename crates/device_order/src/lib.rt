@@ -8,6 +8,7 @@ pub mod records;
 mod verdicts;
 pub mod walks;
 pub mod exchange;
+pub mod line_laws;
 pub mod records;
 pub mod serial_laws;
 
