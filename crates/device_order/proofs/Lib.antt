@@ -24,3 +24,6 @@ pub mod Swaps
 pub mod Paired
 pub mod LineEntries
 pub mod SerialLines
+pub mod LineWords
+pub mod NewAnswers
+pub mod InPlace

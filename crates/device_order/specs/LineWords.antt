@@ -37,8 +37,8 @@ effective_writer kinds states d o (Failed e k ∷ is) = effective_writer kinds s
 effective_writer kinds states d o (Back e k ∷ is) = effective_writer kinds states d o is
 
 -- the value at which the device is to stand: of the effective write, else the first one
-abbrev pub standing_value : List Kind → RunStates → ℕ → ℕ → List Item → ℕ
-standing_value kinds states d first line = option_map_or (λ r. unwrap_or (device_summary kinds (states r) d).wrote first) (effective_writer kinds states d None line) first
+abbrev pub standing_value_on : List Kind → RunStates → ℕ → ℕ → List Item → ℕ
+standing_value_on kinds states d first line = option_map_or (λ r. unwrap_or (device_summary kinds (states r) d).wrote first) (effective_writer kinds states d None line) first
 
 -- each run stands in the line once
 unfoldable pub RunsAreDistinct : List Item → Type 0

@@ -3,7 +3,7 @@ use Rattle.command_rules.specs.Rosters.{device_no, run_no}
 use Rattle.device_order.specs.Changes.{probe_for}
 use Rattle.device_order.specs.LineChanges.{IsFront, Lacks, SameBut, line_with_event, out_of}
 use Rattle.device_order.specs.LineEntries.{command_grip}
-use Rattle.device_order.specs.LineWords.{any_run, at_device, effective_writer, is_calm_line, standing_value}
+use Rattle.device_order.specs.LineWords.{any_run, at_device, effective_writer, is_calm_line, standing_value_on}
 use Rattle.device_order.specs.RunStates.{RunState, device_summary, rest, summary_of, uses}
 use Rattle.device_order.specs.Summaries.{written}
 use Rattle.device_order.specs.Usages.{has_grip, has_pending, is_command, is_down, spans_up}
@@ -32,7 +32,7 @@ pub record IsStill (s s' : WindowRecord) (d : ℕ) : Type 0 where
   pub probe : s'.probe d ≡ s.probe d
 
 -- one run of the line changes in its place
-pub record Changes (s s' : WindowRecord) (r : ℕ) : Type 0 where
+pub record ChangesInPlace (s s' : WindowRecord) (r : ℕ) : Type 0 where
   pub front : List Item
   pub back : List Item
   pub at : s.line ≡ front ++ Ran (run_no r) ∷ back
@@ -120,7 +120,7 @@ pub record LineIsParted (kinds : List Kind) (s s' : WindowRecord) (set : Item �
 
 -- the grip goes out for the next command of a run: no run before it has a command left on the device, and where it reads what it has not written the effective write before it is a committed run's, or there is none
 pub record CommandGoesOut (kinds : List Kind) (s s' : WindowRecord) (r : ℕ) (c : Command) (later : List Command) : Type 0 where
-  pub moves : Changes s s' r
+  pub place : ChangesInPlace s s' r
   pub keeps : KeepsElsewhere (s.states r) (s'.states r) c.device.0
   pub next : rest (s.states r) ≡ c ∷ later
   pub live : (s.states r).committed ≡ false
@@ -130,13 +130,13 @@ pub record CommandGoesOut (kinds : List Kind) (s s' : WindowRecord) (r : ℕ) (c
   pub home : IsHomeAt kinds s c.device.0
   pub up : s.up c.device.0 ≡ true
   pub view : is_down (device_summary kinds (s.states r) c.device.0).view ≡ false
-  pub none_before : any_run (at_device kinds s.states c.device.0 has_pending) moves.front ≡ false
-  pub clean : reads c.job ≡ true → (device_summary kinds (s.states r) c.device.0).wrote ≡ None → option_map_or (λ q. (s.states q).committed) (effective_writer kinds s.states c.device.0 None moves.front) true ≡ true
+  pub none_before : any_run (at_device kinds s.states c.device.0 has_pending) place.front ≡ false
+  pub clean : reads c.job ≡ true → (device_summary kinds (s.states r) c.device.0).wrote ≡ None → option_map_or (λ q. (s.states q).committed) (effective_writer kinds s.states c.device.0 None place.front) true ≡ true
   pub still : (d : ℕ) → IsStill s s' d
 
 -- a write is answered: the device stands at the value that the command drives
 pub record WriteIsAnswered (kinds : List Kind) (s s' : WindowRecord) (r : ℕ) (c : Command) (later : List Command) (dooms : Bool) : Type 0 where
-  pub moves : Changes s s' r
+  pub place : ChangesInPlace s s' r
   pub answer : GetsAnswer (s.states r) (s'.states r) c later Fine dooms
   pub live : (s.states r).committed ≡ false
   pub out : (s.states r).grip c.device.0 ≡ Writes
@@ -148,7 +148,7 @@ pub record WriteIsAnswered (kinds : List Kind) (s s' : WindowRecord) (r : ℕ) (
 
 -- a read is answered with the value at which the device stands; a must command that it refutes dooms the run
 pub record ReadIsAnswered (kinds : List Kind) (s s' : WindowRecord) (r : ℕ) (c : Command) (later : List Command) (x : ℕ) (dooms : Bool) : Type 0 where
-  pub moves : Changes s s' r
+  pub place : ChangesInPlace s s' r
   pub answer : GetsAnswer (s.states r) (s'.states r) c later (Found x) dooms
   pub live : (s.states r).committed ≡ false
   pub out : (s.states r).grip c.device.0 ≡ Reads
@@ -159,7 +159,7 @@ pub record ReadIsAnswered (kinds : List Kind) (s s' : WindowRecord) (r : ℕ) (c
 
 -- the device fails at a command of a run: the failure goes into the line, and dooms the run where the command is must or the run had an answer on the device
 pub record AccessDies (kinds : List Kind) (s s' : WindowRecord) (r k : ℕ) (c : Command) (later : List Command) (dooms : Bool) : Type 0 where
-  pub moves : Changes (with_event_in kinds s c.device.0 (Failed c.device k)) s' r
+  pub place : ChangesInPlace (with_event_in kinds s c.device.0 (Failed c.device k)) s' r
   pub answer : GetsAnswer (s.states r) (s'.states r) c later Down dooms
   pub live : (s.states r).committed ≡ false
   pub out : is_command ((s.states r).grip c.device.0) ≡ true
@@ -175,18 +175,18 @@ MayAnswerDown kinds s d front view = (view ≡ Some ViewDown) ⊎ ((view ≡ Non
 
 -- a command is answered Down with no call
 pub record DownIsAnswered (kinds : List Kind) (s s' : WindowRecord) (r : ℕ) (c : Command) (later : List Command) (dooms : Bool) : Type 0 where
-  pub moves : Changes s s' r
+  pub place : ChangesInPlace s s' r
   pub answer : GetsAnswer (s.states r) (s'.states r) c later Down dooms
   pub live : (s.states r).committed ≡ false
   pub counts : (s.states r).doomed ≡ false
   pub free : (s.states r).grip c.device.0 ≡ Free
   pub must : fails c Down ≡ true → dooms ≡ true
-  pub may : MayAnswerDown kinds s c.device.0 moves.front (device_summary kinds (s.states r) c.device.0).view
+  pub may : MayAnswerDown kinds s c.device.0 place.front (device_summary kinds (s.states r) c.device.0).view
   pub still : (d : ℕ) → IsStill s s' d
 
 -- a live run is doomed
 pub record RunIsDoomed (s s' : WindowRecord) (r : ℕ) : Type 0 where
-  pub moves : Changes s s' r
+  pub place : ChangesInPlace s s' r
   pub keeps : KeepsGrips (s.states r) (s'.states r)
   pub live : (s.states r).committed ≡ false
   pub committed : (s'.states r).committed ≡ false
@@ -195,7 +195,7 @@ pub record RunIsDoomed (s s' : WindowRecord) (r : ℕ) : Type 0 where
 
 -- a live run that is not doomed and has all its answers commits
 pub record RunCommits (s s' : WindowRecord) (r : ℕ) : Type 0 where
-  pub moves : Changes s s' r
+  pub place : ChangesInPlace s s' r
   pub keeps : KeepsGrips (s.states r) (s'.states r)
   pub live : (s.states r).committed ≡ false
   pub counts : (s.states r).doomed ≡ false
@@ -228,17 +228,17 @@ pub record MayUndo (kinds : List Kind) (s : WindowRecord) (r d : ℕ) : Type 0 w
 
 -- the grip goes out for an undo: it drives the value at which the device would stand without the run
 pub record UndoGoesOut (kinds : List Kind) (s s' : WindowRecord) (r d : ℕ) : Type 0 where
-  pub moves : Changes s s' r
+  pub place : ChangesInPlace s s' r
   pub keeps : KeepsElsewhere (s.states r) (s'.states r) d
   pub may : MayUndo kinds s r d
   pub up : s.up d ≡ true
   pub undid : (s'.states r).undid d ≡ (s.states r).undid d
-  pub out : (s'.states r).grip d ≡ Undoes (standing_value kinds s.states d (stand_at s.first d).value (moves.front ++ moves.back))
+  pub out : (s'.states r).grip d ≡ Undoes (standing_value_on kinds s.states d (stand_at s.first d).value (place.front ++ place.back))
   pub still : (e : ℕ) → IsStill s s' e
 
 -- an undo on a device that is counted down is dropped
 pub record UndoIsDropped (kinds : List Kind) (s s' : WindowRecord) (r d : ℕ) : Type 0 where
-  pub moves : Changes s s' r
+  pub place : ChangesInPlace s s' r
   pub keeps : KeepsElsewhere (s.states r) (s'.states r) d
   pub may : MayUndo kinds s r d
   pub down : s.up d ≡ false
@@ -248,7 +248,7 @@ pub record UndoIsDropped (kinds : List Kind) (s s' : WindowRecord) (r d : ℕ) :
 
 -- an undo that was out is answered: the device stands at its value
 pub record UndoIsAnswered (s s' : WindowRecord) (r d v : ℕ) : Type 0 where
-  pub moves : Changes s s' r
+  pub place : ChangesInPlace s s' r
   pub keeps : KeepsElsewhere (s.states r) (s'.states r) d
   pub used : uses d (s.states r).commands ≡ true
   pub out : (s.states r).grip d ≡ Undoes v
@@ -261,7 +261,7 @@ pub record UndoIsAnswered (s s' : WindowRecord) (r d v : ℕ) : Type 0 where
 
 -- the device fails at an undo
 pub record UndoDies (kinds : List Kind) (s s' : WindowRecord) (r d k v : ℕ) : Type 0 where
-  pub moves : Changes (with_event_in kinds s d (Failed (device_no d) k)) s' r
+  pub place : ChangesInPlace (with_event_in kinds s d (Failed (device_no d) k)) s' r
   pub keeps : KeepsElsewhere (s.states r) (s'.states r) d
   pub homed : d < length s.first
   pub used : uses d (s.states r).commands ≡ true
@@ -286,7 +286,7 @@ pub record ProbeGoesOut (kinds : List Kind) (s s' : WindowRecord) (d : ℕ) : Ty
   pub home : IsHomeAt kinds s d
   pub up : s'.up d ≡ s.up d
   pub held : s'.held d ≡ s.held d
-  pub probe : s'.probe d ≡ probe_for (s.up d) (standing_value kinds s.states d (stand_at s.first d).value s.line)
+  pub probe : s'.probe d ≡ probe_for (s.up d) (standing_value_on kinds s.states d (stand_at s.first d).value s.line)
 
 -- a probe finds the device up, as it is counted
 pub record ProbeFindsUp (s s' : WindowRecord) (d : ℕ) : Type 0 where
@@ -317,7 +317,7 @@ pub record ProbeDies (kinds : List Kind) (s s' : WindowRecord) (d k : ℕ) : Typ
 
 -- .. or one does, and is doomed
 pub record ProbeDiesUnderRun (kinds : List Kind) (s s' : WindowRecord) (r d k : ℕ) : Type 0 where
-  pub moves : Changes (with_event_in kinds s d (Failed (device_no d) k)) s' r
+  pub place : ChangesInPlace (with_event_in kinds s d (Failed (device_no d) k)) s' r
   pub keeps : KeepsGrips (s.states r) (s'.states r)
   pub homed : d < length s.first
   pub spans : at_device kinds s.states d spans_up r ≡ true
