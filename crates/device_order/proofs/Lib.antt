@@ -27,3 +27,4 @@ pub mod SerialLines
 pub mod LineWords
 pub mod NewAnswers
 pub mod InPlace
+pub mod WindowAnswers
