@@ -28,3 +28,5 @@ pub mod LineWords
 pub mod NewAnswers
 pub mod InPlace
 pub mod WindowAnswers
+pub mod WindowGrips
+pub mod WindowRuns

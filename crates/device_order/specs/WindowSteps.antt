@@ -1,11 +1,11 @@
 -- The steps of a window: for each kind, what is so before it, and what is so after it.
-use Rattle.command_rules.specs.Rosters.{device_no, run_no}
+use Rattle.command_rules.specs.Rosters.{commands_of, device_no, run_no}
 use Rattle.device_order.specs.Changes.{probe_for}
 use Rattle.device_order.specs.LineChanges.{IsFront, Lacks, SameBut, line_with_event, out_of}
 use Rattle.device_order.specs.LineEntries.{command_grip}
 use Rattle.device_order.specs.LineWords.{any_run, at_device, effective_writer, is_calm_line, standing_value_on}
 use Rattle.device_order.specs.RunStates.{RunState, device_summary, rest, summary_of, uses}
-use Rattle.device_order.specs.Summaries.{written}
+use Rattle.device_order.specs.Summaries.{AreHomed, written}
 use Rattle.device_order.specs.Usages.{has_grip, has_pending, is_command, is_down, spans_up}
 use Rattle.device_order.specs.Walks.{effective}
 use Rattle.device_order.specs.Windows.{WindowRecord}
@@ -337,3 +337,13 @@ pub record DeviceRestarts (kinds : List Kind) (s s' : WindowRecord) (d k v : ℕ
   pub up : s'.up d ≡ true
   pub held : s'.held d ≡ v
   pub probe : s'.probe d ≡ Unprobed
+
+-- a window at its start: its line is empty, no run has done anything, each device stands as the home does, and no probe is out
+pub record WindowStarts (s : WindowRecord) : Type 0 where
+  pub line : s.line ≡ []
+  pub new : (r : ℕ) → IsNew (s.states r)
+  pub commands : (r : ℕ) → (s.states r).commands ≡ commands_of s.runs r
+  pub homed : (r : ℕ) → AreHomed (length s.first) (commands_of s.runs r)
+  pub up : (d : ℕ) → s.up d ≡ (stand_at s.first d).up
+  pub held : (d : ℕ) → s.held d ≡ (stand_at s.first d).value
+  pub probe : (d : ℕ) → s.probe d ≡ Unprobed
