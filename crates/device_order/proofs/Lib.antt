@@ -30,3 +30,4 @@ pub mod InPlace
 pub mod WindowAnswers
 pub mod WindowGrips
 pub mod WindowRuns
+pub mod WindowClaims

@@ -9,12 +9,13 @@ use Rattle.device_order.specs.RunStates.{RunState, RunStates, answered, device_s
 use Rattle.device_order.specs.Summaries.{AnswersFit, AreHomed, NoneFails, blank}
 use Rattle.device_order.specs.Walks.{walk_end}
 use Rattle.device_order.specs.declared.records.Probe.{Probe}
+use Rattle.device_order.specs.declared.records.Probe.TheVariants.{Unprobed}
 use Rattle.home_types.specs.HomeStates.{stand_at}
-use Rattle.home_types.specs.declared.items.Item.TheVariants.{Ran}
 use Rattle.home_types.specs.declared.items.Item.{Item}
+use Rattle.home_types.specs.declared.items.Item.TheVariants.{Ran}
 use Rattle.home_types.specs.declared.kinds.Kind.{Kind}
 use Rattle.home_types.specs.declared.worlds.Stand.{Stand}
-use Rattle.std.specs.Prelude.{Bool, List, false, is_some, length, true, ℕ, ◌++◌, ◌<◌, ◌≡◌, ◌≤◌, ◌∷◌}
+use Rattle.std.specs.Prelude.{Bool, List, false, is_some, length, true, ℕ, ◌++◌, ◌+◌, ◌<◌, ◌∷◌, ◌≡◌, ◌≤◌}
 
 -- a window: its runs, the state of its home at the start, its line, what is known of each run, and of each device whether it is counted up, where it stands or stood as it went out, and its probe
 pub record WindowRecord : Type 0 where
@@ -62,6 +63,14 @@ pub record OrderIsSerial (kinds : List Kind) (s : WindowRecord) : Type 0 where
   pub answers : (serial_execution s.runs kinds s.first (serial_order s.states s.line)).answers ≡ served s.states s.line
   pub size : length (serial_execution s.runs kinds s.first (serial_order s.states s.line)).home ≡ length s.first
   pub stands : (d : ℕ) → d < length s.first → stand_at (serial_execution s.runs kinds s.first (serial_order s.states s.line)).home d ≡ record { value = committed_value kinds s d; up = s.up d }
+
+-- where each run of the line has committed: the serial execution of the whole line is not refused, gives its runs their answers, and leaves each device up or down as it is counted, and where it stands if it is home and up
+pub record LineIsWhole (kinds : List Kind) (s : WindowRecord) : Type 0 where
+  pub refused : (serial_execution s.runs kinds s.first s.line).refused ≡ false
+  pub answers : (serial_execution s.runs kinds s.first s.line).answers ≡ served s.states s.line
+  pub size : length (serial_execution s.runs kinds s.first s.line).home ≡ length s.first
+  pub up : (d : ℕ) → d < length s.first → (stand_at (serial_execution s.runs kinds s.first s.line).home d).up ≡ s.up d
+  pub stands : (d : ℕ) → d < length s.first → s.probe d ≡ Unprobed → s.up d ≡ true → (stand_at (serial_execution s.runs kinds s.first s.line).home d).value ≡ s.held d
 
 -- a committed run that wrote the device stands in this part of the line
 pub record IsCovered (kinds : List Kind) (states : RunStates) (d : ℕ) (part : List Item) : Type 0 where
