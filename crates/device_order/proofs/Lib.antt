@@ -31,3 +31,4 @@ pub mod WindowAnswers
 pub mod WindowGrips
 pub mod WindowRuns
 pub mod WindowClaims
+pub mod WindowTimes

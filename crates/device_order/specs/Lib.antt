@@ -16,3 +16,4 @@ pub mod LineChanges
 pub mod LineWords
 pub mod Windows
 pub mod WindowSteps
+pub mod WindowTimes
