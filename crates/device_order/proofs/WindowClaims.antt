@@ -14,7 +14,7 @@ use Rattle.device_order.specs.RunStates.{IsWhole, RunState, RunStates, device_su
 use Rattle.device_order.specs.Summaries.{DeviceSummary, blank, unanswered}
 use Rattle.device_order.specs.Usages.{has_committed_write, has_pending, has_touched, is_committed}
 use Rattle.device_order.specs.Walks.{Home, UsageFits, WalkHolds, WalkState, after_usage, has, walk_end}
-use Rattle.device_order.specs.Windows.{IsCovered, LineIsWhole, OrderIsSerial, RunInvariant, WindowInvariant, WindowRecord, committed_value, device_of}
+use Rattle.device_order.specs.Windows.{HasLiveWriteAt, IsCovered, IsPendingAt, LineIsWhole, OrderIsSerial, RunInvariant, StandsBefore, WindowInvariant, WindowRecord, committed_value, device_of}
 use Rattle.device_order.specs.declared.records.Event.TheVariants.{Failure, Restart}
 use Rattle.device_order.specs.declared.records.OrderEntry.TheVariants.{Occurred, Used}
 use Rattle.device_order.specs.declared.records.Probe.TheVariants.{Unprobed}
@@ -61,11 +61,10 @@ two_at kinds states d x w line a m b e u v =
     ap (entries kinds states d) e ∙ used_at kinds states d x a (m ++ Ran (run_no w) ∷ b) u ∙ ap (λ l. entries kinds states d a ++ Used (usage kinds (states x) d) ∷ l) (used_at kinds states d w m b v)
 
 -- a live run with a command left on a device: no run behind it touched the device
-pub untouched_behind : (kinds : List Kind) (s : WindowRecord) (d x w : ℕ) (a m b : List Item) → WindowInvariant kinds s → d < length s.first → s.line ≡ a ++ Ran (run_no x) ∷ (m ++ Ran (run_no w) ∷ b)
-    → (s.states x).committed ≡ false → (s.states x).doomed ≡ false → uses d (rest (s.states x)) ≡ true → uses d (s.states w).commands ≡ true → has_touched (usage kinds (s.states w) d) ≡ false
-untouched_behind kinds s d x w a m b o lt e c n p u =
+pub untouched_after : (kinds : List Kind) (s : WindowRecord) (d x w : ℕ) (p : StandsBefore x w s.line) → WindowInvariant kinds s → d < length s.first → IsPendingAt s d x → uses d (s.states w).commands ≡ true → has_touched (usage kinds (s.states w) d) ≡ false
+untouched_after kinds s d x w p o lt q u =
     let v : uses d (s.states x).commands ≡ true = used (uses d (s.states x).commands) refl in
-    pending (device_of kinds s d) (entries kinds s.states d a) (entries kinds s.states d m) (entries kinds s.states d b) (usage kinds (s.states x) d) (usage kinds (s.states w) d) (o.devices d lt) (two_at kinds s.states d x w s.line a m b e v u) (open_ (s.states x).committed (s.states x).doomed (uses d (rest (s.states x))) c n p)
+    pending (device_of kinds s d) (entries kinds s.states d p.front) (entries kinds s.states d p.between) (entries kinds s.states d p.back) (usage kinds (s.states x) d) (usage kinds (s.states w) d) (o.devices d lt) (two_at kinds s.states d x w s.line p.front p.between p.back p.at v u) (open_ (s.states x).committed (s.states x).doomed (uses d (rest (s.states x))) q.live q.counts q.left)
   where
     open_ : (b c p : Bool) → b ≡ false → c ≡ false → p ≡ true → has_pending (record (usage kinds (s.states x) d) { stage = stage_of b c p }) ≡ true
     open_ b c p e f g = grind (arith, common_steps)
@@ -75,7 +74,7 @@ untouched_behind kinds s d x w a m b o lt e c n p u =
 
     used : (y : Bool) → uses d (s.states x).commands ≡ y → uses d (s.states x).commands ≡ true
     used true e = e
-    used false e = absurd (clash (uses d (rest (s.states x))) p (uses_rest d (s.states x).commands (s.states x).answers e))
+    used false e = absurd (clash (uses d (rest (s.states x))) q.left (uses_rest d (s.states x).commands (s.states x).answers e))
 
 -- a committed write among the entries is one of the line
 covering : (kinds : List Kind) (states : RunStates) (d : ℕ) (m : List Item) → has has_committed_write (entries kinds states d m) ≡ true → IsCovered kinds states d m
@@ -120,13 +119,12 @@ covering kinds states d (Ran r ∷ m) h = at_ (covering kinds states d m) (uses 
     at_ ih false h = more (ih h)
 
 -- a read behind a live write that is not undone stands behind a committed write between
-pub read_covered : (kinds : List Kind) (s : WindowRecord) (d x w : ℕ) (a m b : List Item) → WindowInvariant kinds s → d < length s.first → s.line ≡ a ++ Ran (run_no x) ∷ (m ++ Ran (run_no w) ∷ b)
-    → (s.states x).committed ≡ false → is_some (device_summary kinds (s.states x) d).wrote ≡ true → (s.states x).undid d ≡ false → is_some (device_summary kinds (s.states w) d).read ≡ true → IsCovered kinds s.states d m
-read_covered kinds s d x w a m b o lt e c p n r =
-    let u : uses d (s.states x).commands ≡ true = used_if kinds (s.states x) d (λ (t : DeviceSummary). is_some t.wrote) refl p in
+pub read_covered : (kinds : List Kind) (s : WindowRecord) (d x w : ℕ) (p : StandsBefore x w s.line) → WindowInvariant kinds s → d < length s.first → HasLiveWriteAt kinds s d x → is_some (device_summary kinds (s.states w) d).read ≡ true → IsCovered kinds s.states d p.between
+read_covered kinds s d x w p o lt q r =
+    let u : uses d (s.states x).commands ≡ true = used_if kinds (s.states x) d (λ (t : DeviceSummary). is_some t.wrote) refl q.wrote in
     let v : uses d (s.states w).commands ≡ true = used_if kinds (s.states w) d (λ (t : DeviceSummary). is_some t.read) refl r in
-    covering kinds s.states d m (covered (device_of kinds s d) (entries kinds s.states d a) (entries kinds s.states d m) (entries kinds s.states d b) (usage kinds (s.states x) d) (usage kinds (s.states w) d) (o.devices d lt) (two_at kinds s.states d x w s.line a m b e u v)
-    (exposed (s.states x).committed (s.states x).doomed (uses d (rest (s.states x))) ((s.states x).undid d) (device_summary kinds (s.states x) d).wrote c n p) r)
+    covering kinds s.states d p.between (covered (device_of kinds s d) (entries kinds s.states d p.front) (entries kinds s.states d p.between) (entries kinds s.states d p.back) (usage kinds (s.states x) d) (usage kinds (s.states w) d) (o.devices d lt) (two_at kinds s.states d x w s.line p.front p.between p.back p.at u v)
+    (exposed (s.states x).committed (s.states x).doomed (uses d (rest (s.states x))) ((s.states x).undid d) (device_summary kinds (s.states x) d).wrote q.live q.kept q.wrote) r)
   where
     exposed : (b k p y : Bool) (o : Option ℕ) → b ≡ false → y ≡ false → is_some o ≡ true → (is_some o && not y && not (is_committed (stage_of b k p))) ≡ true
     exposed b k p y o e f g = grind (arith, common_steps)

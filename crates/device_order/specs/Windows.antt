@@ -5,7 +5,7 @@ use Rattle.device_order.specs.Invariant.{DeviceInvariant}
 use Rattle.device_order.specs.LineEntries.{entries}
 use Rattle.device_order.specs.LineOrders.{EventsAreHomed, serial_order, served}
 use Rattle.device_order.specs.Records.{DeviceRecord, walk_start}
-use Rattle.device_order.specs.RunStates.{RunState, RunStates, answered, device_summary}
+use Rattle.device_order.specs.RunStates.{RunState, RunStates, answered, device_summary, rest, uses}
 use Rattle.device_order.specs.Summaries.{AnswersFit, AreHomed, NoneFails, blank}
 use Rattle.device_order.specs.Walks.{walk_end}
 use Rattle.device_order.specs.declared.records.Probe.{Probe}
@@ -71,6 +71,25 @@ pub record LineIsWhole (kinds : List Kind) (s : WindowRecord) : Type 0 where
   pub size : length (serial_execution s.runs kinds s.first s.line).home ≡ length s.first
   pub up : (d : ℕ) → d < length s.first → (stand_at (serial_execution s.runs kinds s.first s.line).home d).up ≡ s.up d
   pub stands : (d : ℕ) → d < length s.first → s.probe d ≡ Unprobed → s.up d ≡ true → (stand_at (serial_execution s.runs kinds s.first s.line).home d).value ≡ s.held d
+
+-- one run stands before another in the line, with this part between them
+pub record StandsBefore (x w : ℕ) (line : List Item) : Type 0 where
+  pub front : List Item
+  pub between : List Item
+  pub back : List Item
+  pub at : line ≡ front ++ Ran (run_no x) ∷ (between ++ Ran (run_no w) ∷ back)
+
+-- the run is live and not doomed, and a command of it on the device has no answer
+pub record IsPendingAt (s : WindowRecord) (d r : ℕ) : Type 0 where
+  pub live : (s.states r).committed ≡ false
+  pub counts : (s.states r).doomed ≡ false
+  pub left : uses d (rest (s.states r)) ≡ true
+
+-- the run is live, it wrote the device, and no entry undid that
+pub record HasLiveWriteAt (kinds : List Kind) (s : WindowRecord) (d r : ℕ) : Type 0 where
+  pub live : (s.states r).committed ≡ false
+  pub wrote : is_some (device_summary kinds (s.states r) d).wrote ≡ true
+  pub kept : (s.states r).undid d ≡ false
 
 -- a committed run that wrote the device stands in this part of the line
 pub record IsCovered (kinds : List Kind) (states : RunStates) (d : ℕ) (part : List Item) : Type 0 where

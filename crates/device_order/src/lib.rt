@@ -11,6 +11,7 @@ pub mod exchange;
 pub mod line_laws;
 pub mod records;
 pub mod serial_laws;
+pub mod window_laws;
 
 pub use invariants::keeps_invariant;
 pub use records::{DeviceRecord, Event, Grip, OrderEntry, Probe, Stage, Usage};

@@ -1,17 +1,21 @@
-ghost use Rattle.std.specs.Prelude.{Bool, List, None, Option, false, filter, length, option_map, true, ℕ, ◌++◌, ◌<◌, ◌≡◌, ◌≢◌, ◌∷◌};
 ghost use Rattle.command_rules.specs.Rosters.{Run, commands_of, device_no, run_no};
 ghost use Rattle.command_rules.specs.Serial.{SerialRun};
-ghost use Rattle.home_types.specs.HomeStates.{stand_at};
-ghost use Rattle.home_types.specs.declared.items.Item.TheVariants.{Back, Failed, Ran};
-ghost use Rattle.home_types.specs.declared.items.Item.{Item};
-ghost use Rattle.home_types.specs.declared.kinds.Kind.{Kind};
+ghost use Rattle.device_order.specs.Changes.{is_calm};
 ghost use Rattle.device_order.specs.LineChanges.{IsFront, Lacks, SameBut, line_with_event, out_of, without};
 ghost use Rattle.device_order.specs.LineEntries.{entries, entry_of, usage};
 ghost use Rattle.device_order.specs.LineOrders.{EventsAreHomed, LineIsSerial, walk_stand};
+ghost use Rattle.device_order.specs.LineWords.{CutAt, RunsAreDistinct, any_run, at_device, effective_writer, is_calm_line, standing_value_on};
+ghost use Rattle.device_order.specs.Records.{walk_start};
 ghost use Rattle.device_order.specs.RunStates.{IsWhole, RunStates, uses};
-ghost use Rattle.device_order.specs.Walks.{WalkHolds, WalkState, with_event};
+ghost use Rattle.device_order.specs.Walks.{WalkHolds, WalkState, effective, has, walk_end, with_event};
 ghost use Rattle.device_order.specs.declared.records.Event.TheVariants.{Failure, Restart};
 ghost use Rattle.device_order.specs.declared.records.OrderEntry.TheVariants.{Used};
+ghost use Rattle.device_order.specs.declared.records.Usage.{Usage};
+ghost use Rattle.home_types.specs.HomeStates.{stand_at};
+ghost use Rattle.home_types.specs.declared.items.Item.{Item};
+ghost use Rattle.home_types.specs.declared.items.Item.TheVariants.{Back, Failed, Ran};
+ghost use Rattle.home_types.specs.declared.kinds.Kind.{Kind};
+ghost use Rattle.std.specs.Prelude.{Bool, List, None, false, filter, length, option_map, true, ℕ, ◌++◌, ◌<◌, ◌==◌, ◌∷◌, ◌≡◌, ◌≢◌};
 
 /// The order of a line is serial: where the walk along the entries of each device holds, and each committed run has
 /// answered all its commands, fittingly and without a failed must command, the serial execution of the committed runs
@@ -39,4 +43,20 @@ pub fn event_follows_line()
     ensures back { (kinds : List Kind) (states : RunStates) (d k : ℕ) (line : List Item) → entries kinds states d (line_with_event kinds states d (Back (device_no d) k) line) ≡ with_event Restart (entries kinds states d line) }
     ensures other_failed { (kinds : List Kind) (states : RunStates) (d e k : ℕ) (line : List Item) → d ≢ e → entries kinds states d (line_with_event kinds states e (Failed (device_no e) k) line) ≡ entries kinds states d line }
     ensures other_back { (kinds : List Kind) (states : RunStates) (d e k : ℕ) (line : List Item) → d ≢ e → entries kinds states d (line_with_event kinds states e (Back (device_no e) k) line) ≡ entries kinds states d line }
+{}
+
+/// Words on the order of a device are words on the line that makes it: a use that is so, calm, the effective write, and
+/// the value at which the device is to stand.
+pub fn words_follow_line()
+    ensures runs { (kinds : List Kind) (states : RunStates) (d : ℕ) (p : Usage → Bool) (line : List Item) → has p (entries kinds states d line) ≡ any_run (at_device kinds states d p) line }
+    ensures calm { (kinds : List Kind) (states : RunStates) (d : ℕ) (line : List Item) → is_calm (entries kinds states d line) ≡ is_calm_line kinds states d line }
+    ensures writer { (kinds : List Kind) (states : RunStates) (d : ℕ) (line : List Item) → effective None (entries kinds states d line) ≡ option_map (λ r. usage kinds (states r) d) (effective_writer kinds states d None line) }
+    ensures value { (kinds : List Kind) (states : RunStates) (d first : ℕ) (up : Bool) (line : List Item) → (walk_end (walk_start up first) (entries kinds states d line)).stand ≡ standing_value_on kinds states d first line }
+{}
+
+/// A line in which each run stands once is cut at any run that stands in it, and stays so with an event at its place.
+pub fn line_is_cut()
+    ensures cut { (r : ℕ) (line : List Item) → RunsAreDistinct line → any_run (λ q. q == r) line ≡ true → CutAt r line }
+    ensures failed { (kinds : List Kind) (states : RunStates) (d e k : ℕ) (line : List Item) → RunsAreDistinct line → RunsAreDistinct (line_with_event kinds states d (Failed (device_no e) k) line) }
+    ensures back { (kinds : List Kind) (states : RunStates) (d e k : ℕ) (line : List Item) → RunsAreDistinct line → RunsAreDistinct (line_with_event kinds states d (Back (device_no e) k) line) }
 {}
