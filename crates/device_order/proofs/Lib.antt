@@ -32,3 +32,4 @@ pub mod WindowGrips
 pub mod WindowRuns
 pub mod WindowClaims
 pub mod WindowTimes
+pub mod Examples
