@@ -1,6 +1,6 @@
 -- The answers of an execution that is not refused fit one another.
 use Rattle.device_order.proofs.Runs.{effect_of, stand_at_set, then_here, then_there}
-use Rattle.device_order.specs.Summaries.{Answered, AnswerFits, AnswersFit, AreHomed, DeviceSummary, FitsExecution, Meets, MeetsHome, NoneFails, Summary, answer_of, blank, command_of, device_summary_then, first_view, overwritten, summary, summary_then, written}
+use Rattle.device_order.specs.Summaries.{Answered, AnswerFits, AnswersFit, AreHomed, DeviceSummary, FitsExecution, Meets, MeetsHome, NoneFails, Summary, answer_of, blank, command_of, device_summary_then, overwritten, summary, summary_then, written}
 use Rattle.device_order.specs.Usages.{is_down, is_up}
 use Rattle.home_types.specs.Commands.{Effect, Execution, command_effect, execute, fails, reads, routine_execution, up_effect, with_effect}
 use Rattle.home_types.specs.HomeStates.{stand_at}
@@ -15,7 +15,7 @@ use Rattle.home_types.specs.declared.kinds.Kind.{Kind}
 use Rattle.home_types.specs.declared.worlds.Stand.{Stand}
 use Rattle.std.proofs.Common.{Bool, List, None, Option, Some, [], ap, append-nil, append_assoc, arith, false, fold, inl, inr, length, length-set, map, refl, subst, sym, true, ℕ, ◌++◌, ◌<◌, ◌≡◌, ◌∙◌, ◌∷◌}
 use Rattle.std.proofs.lemmas.Grind.{common_steps}
-use Rattle.std.specs.Prelude.{if◌then◌else◌, is_some, slice_set, ◌==◌, ◌||◌}
+use Rattle.std.specs.Prelude.{if◌then◌else◌, is_some, ◌==◌, ◌||◌}
 
 -- the effect of a job at a device that meets the summary: its answer fits, and with it the device meets the summary
 record Matches (kind : Kind) (job : Job) (register : ℕ) (t : DeviceSummary) (s : Stand) (e : Effect) : Type 0 where

@@ -1,8 +1,5 @@
 -- Windows of one device and one run: each kind of step is met by one of them, so that no law speaks of nothing.
-use Rattle.command_rules.specs.Rosters.{commands_of, device_no, follows, run_no}
-use Rattle.device_order.proofs.Changes.{keeps}
-use Rattle.device_order.proofs.Rest.{place}
-use Rattle.device_order.proofs.Suffix.{calm}
+use Rattle.command_rules.specs.Rosters.{commands_of, device_no, run_no}
 use Rattle.device_order.proofs.WindowAnswers.{access_died, down_answered, read_answered, write_answered}
 use Rattle.device_order.proofs.WindowClaims.{window_ends_so}
 use Rattle.device_order.proofs.WindowGrips.{command_out, device_restarted, probe_died, probe_found_down, probe_found_up, probe_out, undo_answered, undo_died, undo_dropped, undo_out}
@@ -14,14 +11,12 @@ use Rattle.device_order.specs.LineWords.{any_run, effective_writer, is_calm_line
 use Rattle.device_order.specs.RunStates.{RunState, RunStates, paired, remaining}
 use Rattle.device_order.specs.Summaries.{AreHomed, summary}
 use Rattle.device_order.specs.Usages.{has_effect}
-use Rattle.device_order.specs.Walks.{effective}
 use Rattle.device_order.specs.WindowSteps.{ChangesInPlace, GetsAnswer, IsNew, IsStill, KeepsElsewhere, KeepsRuns}
 use Rattle.device_order.specs.Windows.{LineIsWhole, WindowInvariant, WindowRecord}
 use Rattle.device_order.specs.declared.records.Grip.{Grip}
 use Rattle.device_order.specs.declared.records.Grip.TheVariants.{Free, Reads, Undoes, Writes}
 use Rattle.device_order.specs.declared.records.Probe.{Probe}
 use Rattle.device_order.specs.declared.records.Probe.TheVariants.{Asks, Restores, Unprobed}
-use Rattle.home_types.specs.Commands.{refutes}
 use Rattle.home_types.specs.HomeStates.{stand_at}
 use Rattle.home_types.specs.declared.commands.Answer.{Answer}
 use Rattle.home_types.specs.declared.commands.Answer.TheVariants.{Down, Fine, Found}
@@ -31,7 +26,7 @@ use Rattle.home_types.specs.declared.items.Item.{Item}
 use Rattle.home_types.specs.declared.items.Item.TheVariants.{Back, Failed, Ran}
 use Rattle.home_types.specs.declared.kinds.Kind.{Kind}
 use Rattle.home_types.specs.declared.kinds.Kind.TheVariants.{States}
-use Rattle.std.proofs.Common.{Bool, List, None, Some, [], ap, append-nil, arith, false, inr, refl, suc, sym, true, zero, ℕ, ◌++◌, ◌+◌, ◌∙◌, ◌∷◌, ◌≡◌, ◌≢◌}
+use Rattle.std.proofs.Common.{Bool, List, None, Some, [], ap, append-nil, arith, false, inr, refl, suc, sym, true, zero, ℕ, ◌++◌, ◌∙◌, ◌∷◌, ◌≡◌, ◌≢◌}
 use Rattle.std.proofs.lemmas.Grind.{common_steps}
 use Rattle.std.specs.Prelude.{if◌then◌else◌, ◌&&◌, ◌==◌, ◌||◌}
 

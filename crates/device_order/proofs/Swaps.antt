@@ -1,7 +1,7 @@
 -- Routines and events on different devices do not see one another.
 use Rattle.command_rules.specs.Rosters.{Run, commands_of, is_on, run_no, touches}
 use Rattle.command_rules.specs.Serial.{SerialRun, Served, serial_execution, serve}
-use Rattle.device_order.specs.Exchanges.{SameOutcome, ShareNoDevice, answers_of, is_item_on}
+use Rattle.device_order.specs.Exchanges.{SameOutcome, ShareNoDevice, answers_of}
 use Rattle.home_types.specs.Commands.{Effect, Execution, command_effect, execute, routine_execution, with_effect}
 use Rattle.home_types.specs.HomeStates.{nowhere, stand_at, with_up}
 use Rattle.home_types.specs.Kinds.{kind_at}
@@ -11,12 +11,12 @@ use Rattle.home_types.specs.declared.items.Item.{Item}
 use Rattle.home_types.specs.declared.kinds.Kind.{Kind}
 use Rattle.home_types.specs.declared.numbers.RunNo.{RunNo}
 use Rattle.home_types.specs.declared.worlds.Stand.{Stand}
-use Rattle.std.proofs.Common.{Bool, List, [], ap, append-nil, append_assoc, arith, false, filter, fold, inl, inr, refl, set, subst, subst₂, sym, true, ℕ, ◌++◌, ◌<◌, ◌≡◌, ◌≢◌, ◌⊎◌, ◌∙◌, ◌∷◌}
+use Rattle.std.proofs.Common.{Bool, List, [], ap, append_assoc, arith, false, fold, refl, set, subst, subst₂, sym, true, ℕ, ◌++◌, ◌≡◌, ◌≢◌, ◌∙◌, ◌∷◌}
 use Rattle.std.proofs.lemmas.Grind.{common_steps, fold-append}
 use Rattle.std.proofs.lemmas.List.{get_or-set_other, set_comm}
 use Rattle.std.proofs.lemmas.List.Elements.{filter-append}
 use Rattle.std.specs.List.{list_any}
-use Rattle.std.specs.Prelude.{if◌then◌else◌, not, ◌==◌, ◌||◌}
+use Rattle.std.specs.Prelude.{not, ◌==◌, ◌||◌}
 
 -- no command is on the device, and none is on a device of the others
 unfoldable Misses : ℕ → List Command → Type 0

@@ -4,7 +4,6 @@ use Rattle.device_order.proofs.Claims.{reads as reads_find}
 use Rattle.device_order.proofs.InPlace.{acted, entries_before, evented, events_event, next_homed, next_used, run_fits, stepped}
 use Rattle.device_order.proofs.LineEntries.{entries_event_off}
 use Rattle.device_order.proofs.LineWords.{has_entries}
-use Rattle.device_order.proofs.Monotone.{doom}
 use Rattle.device_order.proofs.NewAnswers.{gave_run, gave_there, gave_usage}
 use Rattle.device_order.proofs.Rest.{place}
 use Rattle.device_order.proofs.SerialLines.{event_here, event_there}
@@ -16,7 +15,7 @@ use Rattle.device_order.specs.LineEntries.{entries, stage_of, usage}
 use Rattle.device_order.specs.LineOrders.{EventsAreHomed}
 use Rattle.device_order.specs.LineWords.{any_run, at_device}
 use Rattle.device_order.specs.Records.{IsHome, walk_start}
-use Rattle.device_order.specs.RunStates.{RunState, answered, rest, summary_of, uses}
+use Rattle.device_order.specs.RunStates.{RunState, rest, summary_of, uses}
 use Rattle.device_order.specs.Summaries.{first_view, written}
 use Rattle.device_order.specs.Usages.{counts_serially, has_grip, has_pending, is_command, is_committed, is_doomed, is_down, is_open, is_up}
 use Rattle.device_order.specs.Walks.{GripFits, UsageFits, WalkState, walk_end, with_event}
@@ -29,7 +28,7 @@ use Rattle.device_order.specs.declared.records.OrderEntry.TheVariants.{Occurred,
 use Rattle.device_order.specs.declared.records.Stage.{Stage}
 use Rattle.device_order.specs.declared.records.Stage.TheVariants.{Pending}
 use Rattle.device_order.specs.declared.records.Usage.{Usage}
-use Rattle.home_types.specs.Commands.{fails, refutes}
+use Rattle.home_types.specs.Commands.{fails}
 use Rattle.home_types.specs.HomeStates.{stand_at}
 use Rattle.home_types.specs.Kinds.{kind_at}
 use Rattle.home_types.specs.declared.commands.Answer.TheVariants.{Down, Fine, Found}
@@ -38,7 +37,7 @@ use Rattle.home_types.specs.declared.commands.View.{View}
 use Rattle.home_types.specs.declared.commands.View.TheVariants.{Down as ViewDown, Up}
 use Rattle.home_types.specs.declared.items.Item.TheVariants.{Failed}
 use Rattle.home_types.specs.declared.kinds.Kind.{Kind}
-use Rattle.std.proofs.Common.{Bool, List, None, Option, Some, ap, arith, false, inl, inr, length, refl, subst, sym, true, ℕ, ◌++◌, ◌+◌, ◌<◌, ◌∙◌, ◌∷◌, ◌≡◌}
+use Rattle.std.proofs.Common.{Bool, List, None, Option, Some, ap, arith, false, inl, inr, length, refl, subst, sym, true, ℕ, ◌++◌, ◌<◌, ◌∙◌, ◌∷◌, ◌≡◌}
 use Rattle.std.proofs.lemmas.Grind.{common_steps}
 use Rattle.std.specs.Prelude.{is_some, ◌==◌, ◌||◌}
 

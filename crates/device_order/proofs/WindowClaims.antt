@@ -5,7 +5,6 @@ use Rattle.device_order.proofs.Claims.{covered, pending}
 use Rattle.device_order.proofs.LineEntries.{used_at, uses_rest}
 use Rattle.device_order.proofs.Paired.{unused_there}
 use Rattle.device_order.proofs.SerialLines.{line_serial}
-use Rattle.device_order.proofs.Standing.{stands}
 use Rattle.device_order.specs.Invariant.{DeviceInvariant, OutFits}
 use Rattle.device_order.specs.LineEntries.{entries, entry_if, stage_of, usage, with_entry}
 use Rattle.device_order.specs.LineOrders.{LineIsSerial, all_committed, serial_order}
@@ -24,7 +23,7 @@ use Rattle.home_types.specs.declared.items.Item.{Item}
 use Rattle.home_types.specs.declared.items.Item.TheVariants.{Back, Failed, Ran}
 use Rattle.home_types.specs.declared.kinds.Kind.{Kind}
 use Rattle.home_types.specs.declared.worlds.Stand.{Stand}
-use Rattle.std.proofs.Common.{Bool, List, Option, [], ap, arith, false, length, not, refl, subst, sym, true, ℕ, ◌++◌, ◌+◌, ◌<◌, ◌∙◌, ◌∷◌, ◌≡◌}
+use Rattle.std.proofs.Common.{Bool, List, Option, [], ap, arith, false, length, not, refl, subst, sym, true, ℕ, ◌++◌, ◌<◌, ◌∙◌, ◌∷◌, ◌≡◌}
 use Rattle.std.proofs.lemmas.Grind.{common_steps}
 use Rattle.std.specs.Prelude.{if◌then◌else◌, is_some, ◌&&◌, ◌==◌, ◌||◌}
 

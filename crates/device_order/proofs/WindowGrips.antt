@@ -1,7 +1,6 @@
 -- The steps in which a grip or a probe goes out or comes home keep the invariant of the window.
 use Rattle.command_rules.specs.Rosters.{commands_of, device_no}
 use Rattle.device_order.proofs.Changes.{keeps}
-use Rattle.device_order.proofs.Claims.{effect}
 use Rattle.device_order.proofs.InPlace.{acted, entries_before, evented, events_event, next_used, same_run, same_usage, stepped, two_places}
 use Rattle.device_order.proofs.LineEntries.{entries_event, entries_event_off, entries_join}
 use Rattle.device_order.proofs.LineWords.{WritesLast, effective_entries, has_entries, stand_line, writer_cut}
@@ -17,7 +16,7 @@ use Rattle.device_order.specs.LineWords.{effective_writer, standing_value_on}
 use Rattle.device_order.specs.Records.{DeviceRecord, state_after}
 use Rattle.device_order.specs.RunStates.{RunState, RunStates, device_summary, rest, uses}
 use Rattle.device_order.specs.Usages.{has_pending, is_command, is_committed, is_doomed, is_read, spans_up}
-use Rattle.device_order.specs.Walks.{effective, is_settled, with_event}
+use Rattle.device_order.specs.Walks.{is_settled, with_event}
 use Rattle.device_order.specs.WindowSteps.{ChangesInPlace, CommandGoesOut, DeviceRestarts, IsStill, KeepsAnswers, KeepsElsewhere, KeepsRuns, MayUndo, ProbeDies, ProbeFindsDown, ProbeFindsUp, ProbeGoesOut, UndoDies, UndoGoesOut, UndoIsAnswered, UndoIsDropped}
 use Rattle.device_order.specs.Windows.{RunInvariant, WindowInvariant, WindowRecord, device_of}
 use Rattle.device_order.specs.declared.records.Event.TheVariants.{Failure, Restart}
@@ -34,7 +33,7 @@ use Rattle.home_types.specs.declared.commands.Command.{Command}
 use Rattle.home_types.specs.declared.items.Item.{Item}
 use Rattle.home_types.specs.declared.items.Item.TheVariants.{Back, Failed}
 use Rattle.home_types.specs.declared.kinds.Kind.{Kind}
-use Rattle.std.proofs.Common.{Bool, List, None, Option, Some, ap, arith, false, length, not, refl, subst, sym, true, ℕ, ◌++◌, ◌+◌, ◌<◌, ◌∙◌, ◌∷◌, ◌≡◌, ◌≢◌}
+use Rattle.std.proofs.Common.{Bool, List, None, Option, Some, ap, arith, false, length, not, refl, subst, sym, true, ℕ, ◌++◌, ◌<◌, ◌∙◌, ◌∷◌, ◌≡◌, ◌≢◌}
 use Rattle.std.proofs.lemmas.Grind.{common_steps}
 use Rattle.std.specs.Option.{option_map_or}
 use Rattle.std.specs.Prelude.{if◌then◌else◌, is_some, option_map, ◌&&◌}

@@ -8,8 +8,6 @@ use Rattle.device_order.proofs.LineWords.{calm_entries, writer_not}
 use Rattle.device_order.proofs.NewAnswers.{length_done, rest_none}
 use Rattle.device_order.proofs.Rest.{place}
 use Rattle.device_order.proofs.SerialLines.{event_here, event_there}
-use Rattle.device_order.proofs.Suffix.{calm}
-use Rattle.device_order.proofs.Undos.{undone}
 use Rattle.device_order.proofs.WindowAnswers.{homed_failure}
 use Rattle.device_order.proofs.WindowGrips.{same_commands, same_runs}
 use Rattle.device_order.specs.Changes.{ProbeDiedUnderRun, RunAborted, RunCommitted, RunDoomed, RunPlaced, new_usage}
@@ -37,7 +35,7 @@ use Rattle.home_types.specs.declared.commands.View.{View}
 use Rattle.home_types.specs.declared.items.Item.{Item}
 use Rattle.home_types.specs.declared.items.Item.TheVariants.{Back, Failed, Ran}
 use Rattle.home_types.specs.declared.kinds.Kind.{Kind}
-use Rattle.std.proofs.Common.{Bool, List, None, Option, [], ap, arith, false, filter, length, not, refl, set, subst, sym, true, ℕ, ◌++◌, ◌+◌, ◌<◌, ◌∙◌, ◌∷◌, ◌≡◌, ◌≤◌}
+use Rattle.std.proofs.Common.{Bool, List, None, Option, [], ap, arith, false, filter, length, not, refl, set, subst, sym, true, ℕ, ◌++◌, ◌<◌, ◌∙◌, ◌∷◌, ◌≡◌, ◌≤◌}
 use Rattle.std.proofs.lemmas.Grind.{common_steps}
 use Rattle.std.specs.Prelude.{cond, ◌&&◌}
 

@@ -5,8 +5,6 @@ use Rattle.device_order.proofs.LineEntries.{used_at, uses_rest}
 use Rattle.device_order.proofs.LineWords.{calm_entries, has_entries}
 use Rattle.device_order.proofs.Paired.{unused_there}
 use Rattle.device_order.proofs.Pairs.{event_order, every_front, touch_order}
-use Rattle.device_order.proofs.Quiet.{quiet}
-use Rattle.device_order.proofs.Suffix.{calm, came}
 use Rattle.device_order.specs.Invariant.{DeviceInvariant}
 use Rattle.device_order.specs.LineChanges.{Lacks, line_with_event, waits_at}
 use Rattle.device_order.specs.LineEntries.{entries, stage_of, usage}
@@ -14,7 +12,7 @@ use Rattle.device_order.specs.LineWords.{any_run, at_device, is_calm_line}
 use Rattle.device_order.specs.Marks.{EventAt, InOrder, IsBare, IsPast, IsUnmet, Mark, TouchAt, Unmarked}
 use Rattle.device_order.specs.Pairs.{Every, Pairs}
 use Rattle.device_order.specs.RunStates.{RunState, RunStates, device_summary, rest, uses}
-use Rattle.device_order.specs.Summaries.{DeviceSummary, blank, unanswered}
+use Rattle.device_order.specs.Summaries.{DeviceSummary, blank}
 use Rattle.device_order.specs.Usages.{has_touched, is_command, is_open}
 use Rattle.device_order.specs.WindowTimes.{FirstTouch, IsInTime, TouchTimes, mark_of, marks}
 use Rattle.device_order.specs.Windows.{WindowInvariant, WindowRecord, device_of}
@@ -22,7 +20,7 @@ use Rattle.device_order.specs.declared.records.OrderEntry.TheVariants.{Used}
 use Rattle.home_types.specs.declared.items.Item.{Item}
 use Rattle.home_types.specs.declared.items.Item.TheVariants.{Back, Failed, Ran}
 use Rattle.home_types.specs.declared.kinds.Kind.{Kind}
-use Rattle.std.proofs.Common.{Bool, List, [], ap, arith, false, inl, inr, length, not, refl, subst, sym, true, ℕ, ◌++◌, ◌+◌, ◌<◌, ◌∙◌, ◌∷◌, ◌≡◌, ◌≢◌, ◌⊎◌}
+use Rattle.std.proofs.Common.{Bool, List, [], ap, arith, false, inl, inr, length, not, refl, subst, sym, true, ℕ, ◌++◌, ◌<◌, ◌∙◌, ◌∷◌, ◌≡◌, ◌≢◌, ◌⊎◌}
 use Rattle.std.proofs.lemmas.Grind.{common_steps}
 use Rattle.std.specs.Prelude.{if◌then◌else◌, is_some, ◌&&◌, ◌==◌, ◌||◌}
 

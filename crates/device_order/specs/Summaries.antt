@@ -1,6 +1,6 @@
 -- What the answers of a run say, read from the first to the last, and when they are those of a serial execution.
 use Rattle.device_order.specs.Usages.{is_down, is_up}
-use Rattle.home_types.specs.Commands.{Execution, fails, reads, routine_execution}
+use Rattle.home_types.specs.Commands.{Execution, fails, reads}
 use Rattle.home_types.specs.HomeStates.{stand_at}
 use Rattle.home_types.specs.Kinds.{kind_at, nearest}
 use Rattle.home_types.specs.declared.commands.Answer.TheVariants.{Down, Fine, Found}
@@ -12,7 +12,7 @@ use Rattle.home_types.specs.declared.commands.View.TheVariants.{Down as ViewDown
 use Rattle.home_types.specs.declared.commands.View.{View}
 use Rattle.home_types.specs.declared.kinds.Kind.{Kind}
 use Rattle.home_types.specs.declared.worlds.Stand.{Stand}
-use Rattle.std.specs.Prelude.{Bool, List, None, Option, Some, [], false, if◌then◌else◌, is_some, length, map, true, ℕ, ◌++◌, ◌<◌, ◌==◌, ◌||◌, ◌≡◌, ◌∷◌}
+use Rattle.std.specs.Prelude.{Bool, List, None, Option, Some, [], false, if◌then◌else◌, is_some, length, map, true, ℕ, ◌<◌, ◌==◌, ◌||◌, ◌≡◌, ◌∷◌}
 
 -- a command with its answer
 pub record Answered : Type 0 where

@@ -7,11 +7,10 @@ use Rattle.device_order.specs.LineWords.{any_run, at_device, effective_writer, i
 use Rattle.device_order.specs.RunStates.{RunState, device_summary, rest, summary_of, uses}
 use Rattle.device_order.specs.Summaries.{AreHomed, written}
 use Rattle.device_order.specs.Usages.{has_grip, has_pending, is_command, is_down, spans_up}
-use Rattle.device_order.specs.Walks.{effective}
 use Rattle.device_order.specs.Windows.{WindowRecord}
 use Rattle.device_order.specs.declared.records.Grip.TheVariants.{Free, Reads, Undoes, Writes}
 use Rattle.device_order.specs.declared.records.Probe.TheVariants.{Asks, Restores, Unprobed}
-use Rattle.home_types.specs.Commands.{fails, reads, refutes}
+use Rattle.home_types.specs.Commands.{fails, reads}
 use Rattle.home_types.specs.HomeStates.{stand_at}
 use Rattle.home_types.specs.Kinds.{kind_at}
 use Rattle.home_types.specs.declared.commands.Answer.{Answer}
@@ -23,7 +22,7 @@ use Rattle.home_types.specs.declared.items.Item.{Item}
 use Rattle.home_types.specs.declared.items.Item.TheVariants.{Back, Failed, Ran}
 use Rattle.home_types.specs.declared.kinds.Kind.{Kind}
 use Rattle.std.specs.Option.{option_map_or}
-use Rattle.std.specs.Prelude.{Bool, List, None, Option, Some, [], false, filter, is_some, length, set, true, ℕ, ◌++◌, ◌+◌, ◌<◌, ◌||◌, ◌∷◌, ◌≡◌, ◌≢◌, ◌⊎◌}
+use Rattle.std.specs.Prelude.{Bool, List, None, Option, Some, [], false, filter, is_some, length, true, ℕ, ◌++◌, ◌<◌, ◌||◌, ◌∷◌, ◌≡◌, ◌≢◌, ◌⊎◌}
 
 -- a device is as it was
 pub record IsStill (s s' : WindowRecord) (d : ℕ) : Type 0 where

@@ -5,13 +5,12 @@ use Rattle.device_order.specs.LineEntries.{usage}
 use Rattle.device_order.specs.Marks.{EventAt, InOrder, IsPast, Mark, TouchAt, Unmarked}
 use Rattle.device_order.specs.Pairs.{Every, Pairs}
 use Rattle.device_order.specs.RunStates.{device_summary, uses}
-use Rattle.device_order.specs.Summaries.{unanswered}
 use Rattle.device_order.specs.Usages.{awaits_first, is_command}
 use Rattle.device_order.specs.Windows.{WindowRecord}
 use Rattle.home_types.specs.declared.items.Item.{Item}
 use Rattle.home_types.specs.declared.items.Item.TheVariants.{Back, Failed, Ran}
 use Rattle.home_types.specs.declared.kinds.Kind.{Kind}
-use Rattle.std.specs.Prelude.{Bool, List, [], false, if◌then◌else◌, is_some, true, ℕ, ◌++◌, ◌+◌, ◌==◌, ◌∷◌, ◌≡◌, ◌≢◌}
+use Rattle.std.specs.Prelude.{Bool, List, [], false, if◌then◌else◌, is_some, true, ℕ, ◌++◌, ◌==◌, ◌∷◌, ◌≡◌, ◌≢◌}
 
 -- for one device: when each run first touched it, and when each event came
 pub record TouchTimes : Type 0 where
