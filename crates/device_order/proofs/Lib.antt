@@ -33,3 +33,5 @@ pub mod WindowRuns
 pub mod WindowClaims
 pub mod WindowTimes
 pub mod Examples
+pub mod Decisions
+pub mod Distinct

@@ -122,13 +122,13 @@ NoRun (Ran r) = ⊥
 NoRun (Failed e n) = Unit {0}
 NoRun (Back e n) = Unit {0}
 
-lacks_cons : (r : ℕ) (i : Item) (is : List Item) → NoRun i → Lacks r is → Lacks r (i ∷ is)
+pub lacks_cons : (r : ℕ) (i : Item) (is : List Item) → NoRun i → Lacks r is → Lacks r (i ∷ is)
 unfolding Lacks
 lacks_cons r (Ran q) is n h = absurd n
 lacks_cons r (Failed e k) is n h = h
 lacks_cons r (Back e k) is n h = h
 
-distinct_cons : (i : Item) (is : List Item) → NoRun i → RunsAreDistinct is → RunsAreDistinct (i ∷ is)
+pub distinct_cons : (i : Item) (is : List Item) → NoRun i → RunsAreDistinct is → RunsAreDistinct (i ∷ is)
 unfolding RunsAreDistinct
 distinct_cons (Ran q) is n h = absurd n
 distinct_cons (Failed e k) is n h = h

@@ -38,6 +38,7 @@ usage kinds r d = record {
 abbrev pub command_grip : Job → Grip
 command_grip job = if reads job then Reads else Writes
 
+-- the entry, where it is one
 abbrev pub entry_if : Bool → OrderEntry → Option OrderEntry
 entry_if true x = Some x
 entry_if false x = None
@@ -48,6 +49,7 @@ entry_of kinds states d (Ran r) = entry_if (uses d (states r.0).commands) (Used 
 entry_of kinds states d (Failed e k) = entry_if (e.0 == d) (Occurred Failure)
 entry_of kinds states d (Back e k) = entry_if (e.0 == d) (Occurred Restart)
 
+-- an order with an entry before it, where it is one
 abbrev pub with_entry : Option OrderEntry → List OrderEntry → List OrderEntry
 with_entry None xs = xs
 with_entry (Some x) xs = x ∷ xs

@@ -37,15 +37,19 @@ remaining (c ∷ cs) (a ∷ xs) = remaining cs xs
 abbrev pub uses : ℕ → List Command → Bool
 uses d cs = list_any (is_on d) cs
 
+-- its commands that have an answer, with it
 abbrev pub answered : RunState → List Answered
 answered r = paired r.commands r.answers
 
+-- its commands that have none yet
 abbrev pub rest : RunState → List Command
 rest r = remaining r.commands r.answers
 
+-- what its answers say
 abbrev pub summary_of : List Kind → RunState → Summary
 summary_of kinds r = summary kinds blank (answered r)
 
+-- what its answers on the device say
 abbrev pub device_summary : List Kind → RunState → ℕ → DeviceSummary
 device_summary kinds r d = (summary_of kinds r).on d
 

@@ -19,9 +19,11 @@ pub record Answered : Type 0 where
   pub command : Command
   pub answer : Answer
 
+-- the command of such a pair
 abbrev pub command_of : Answered → Command
 command_of p = p.command
 
+-- the answer of such a pair
 abbrev pub answer_of : Answered → Answer
 answer_of p = p.answer
 
@@ -36,9 +38,11 @@ pub record Summary : Type 0 where
   pub register : ℕ
   pub on : ℕ → DeviceSummary
 
+-- a device on which nothing is answered
 abbrev pub unanswered : DeviceSummary
 unanswered = record { view = None; read = None; wrote = None }
 
+-- a run before its first answer
 abbrev pub blank : Summary
 blank = record { register = 0; on = λ d. unanswered }
 

@@ -17,6 +17,7 @@ pub record TouchTimes : Type 0 where
   pub touch : ℕ → Mark
   pub came : Item → ℕ
 
+-- the time of an item at the device: of a run its first touch, of an event of the device when it came
 abbrev pub mark_of : ℕ → TouchTimes → Item → Mark
 mark_of d t (Ran r) = t.touch r.0
 mark_of d t (Failed e k) = if e.0 == d then EventAt (t.came (Failed e k)) else Unmarked

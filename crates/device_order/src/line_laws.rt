@@ -54,9 +54,14 @@ pub fn words_follow_line()
     ensures value { (kinds : List Kind) (states : RunStates) (d first : ℕ) (up : Bool) (line : List Item) → (walk_end (walk_start up first) (entries kinds states d line)).stand ≡ standing_value_on kinds states d first line }
 {}
 
-/// A line in which each run stands once is cut at any run that stands in it, and stays so with an event at its place.
-pub fn line_is_cut()
+/// A line in which each run stands once is cut at any run that stands in it; and each run stands in it once still where a
+/// run is placed or leaves, the line is parted, or an event goes in.
+pub fn runs_stand_once()
     ensures cut { (r : ℕ) (line : List Item) → RunsAreDistinct line → any_run (λ q. q == r) line ≡ true → CutAt r line }
+    ensures lacks { (r : ℕ) (line : List Item) → any_run (λ q. q == r) line ≡ false → Lacks r line }
+    ensures placed { (r : ℕ) (a b : List Item) → Lacks r (a ++ b) → RunsAreDistinct (a ++ b) → RunsAreDistinct (a ++ Ran (run_no r) ∷ b) }
+    ensures leaves { (r : ℕ) (a b : List Item) → RunsAreDistinct (a ++ Ran (run_no r) ∷ b) → RunsAreDistinct (a ++ b) }
+    ensures parted { (set : Item → Bool) (line : List Item) → RunsAreDistinct line → RunsAreDistinct (filter set line ++ filter (out_of set) line) }
     ensures failed { (kinds : List Kind) (states : RunStates) (d e k : ℕ) (line : List Item) → RunsAreDistinct line → RunsAreDistinct (line_with_event kinds states d (Failed (device_no e) k) line) }
     ensures back { (kinds : List Kind) (states : RunStates) (d e k : ℕ) (line : List Item) → RunsAreDistinct line → RunsAreDistinct (line_with_event kinds states d (Back (device_no e) k) line) }
 {}
