@@ -5,9 +5,9 @@ use Rattle.device_order.specs.LineChanges.{Lacks, out_of}
 use Rattle.device_order.specs.LineWords.{RunsAreDistinct, any_run}
 use Rattle.home_types.specs.declared.items.Item.{Item}
 use Rattle.home_types.specs.declared.items.Item.TheVariants.{Back, Failed, Ran}
-use Rattle.std.proofs.Common.{Bool, List, [], arith, false, filter, not, set, sym, true, ℕ, ◌++◌, ◌+◌, ◌∷◌, ◌≡◌, ◌≢◌}
+use Rattle.std.proofs.Common.{Bool, List, [], arith, false, filter, not, set, sym, true, ℕ, ◌++◌, ◌∷◌, ◌≡◌, ◌≢◌}
 use Rattle.std.proofs.lemmas.Grind.{common_steps}
-use Rattle.std.specs.Prelude.{cond, if◌then◌else◌, ◌==◌, ◌||◌}
+use Rattle.std.specs.Prelude.{cond, ◌==◌, ◌||◌}
 
 pub lacks_if : (r : ℕ) (line : List Item) → any_run (λ q. q == r) line ≡ false → Lacks r line
 unfolding Lacks any_run

@@ -33,5 +33,4 @@ pub mod WindowRuns
 pub mod WindowClaims
 pub mod WindowTimes
 pub mod Examples
-pub mod Decisions
 pub mod Distinct

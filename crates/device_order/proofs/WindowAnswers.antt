@@ -5,7 +5,6 @@ use Rattle.device_order.proofs.InPlace.{acted, entries_before, evented, events_e
 use Rattle.device_order.proofs.LineEntries.{entries_event_off}
 use Rattle.device_order.proofs.LineWords.{has_entries}
 use Rattle.device_order.proofs.NewAnswers.{gave_run, gave_there, gave_usage}
-use Rattle.device_order.proofs.Rest.{place}
 use Rattle.device_order.proofs.SerialLines.{event_here, event_there}
 use Rattle.device_order.specs.Changes.{DownAgain, DownFirst, FirstAccessDied, IsAnswered, LaterAccessDied, ReadAnswered, WriteAnswered, first_read}
 use Rattle.device_order.specs.Claims.{ReadFinds}

@@ -4,7 +4,6 @@ use Rattle.device_order.proofs.Changes.{keeps}
 use Rattle.device_order.proofs.InPlace.{acted, entries_before, evented, events_event, next_used, same_run, same_usage, stepped, two_places}
 use Rattle.device_order.proofs.LineEntries.{entries_event, entries_event_off, entries_join}
 use Rattle.device_order.proofs.LineWords.{WritesLast, effective_entries, has_entries, stand_line, writer_cut}
-use Rattle.device_order.proofs.Rest.{place}
 use Rattle.device_order.proofs.SerialLines.{event_here, event_there}
 use Rattle.device_order.proofs.WindowAnswers.{home_at, homed_failure, pends_counts}
 use Rattle.device_order.specs.Changes.{CommandOut, DeviceChange, DeviceRestarted, ProbeDied, ProbeFoundDown, ProbeFoundUp, ProbeOut, UndoAnswered, UndoDied, UndoDropped, UndoOut, probe_for}

@@ -6,7 +6,6 @@ use Rattle.device_order.proofs.InPlace.{acted, entries_before, evented, events_i
 use Rattle.device_order.proofs.LineEntries.{entries_changed, entries_event_off, entries_join, entries_lack, entries_parted, unused_at, used_at}
 use Rattle.device_order.proofs.LineWords.{calm_entries, writer_not}
 use Rattle.device_order.proofs.NewAnswers.{length_done, rest_none}
-use Rattle.device_order.proofs.Rest.{place}
 use Rattle.device_order.proofs.SerialLines.{event_here, event_there}
 use Rattle.device_order.proofs.WindowAnswers.{homed_failure}
 use Rattle.device_order.proofs.WindowGrips.{same_commands, same_runs}
