@@ -5,12 +5,10 @@ use Rattle.device_order.proofs.WindowClaims.{window_ends_so}
 use Rattle.device_order.proofs.WindowGrips.{command_out, device_restarted, probe_died, probe_found_down, probe_found_up, probe_out, undo_answered, undo_died, undo_dropped, undo_out}
 use Rattle.device_order.proofs.WindowRuns.{line_parted, probe_died_under_run, run_commits, run_doomed, run_leaves_line, run_placed, window_begins}
 use Rattle.device_order.specs.LineChanges.{IsFront, Lacks, SameBut, all_off, line_with_event}
-use Rattle.device_order.specs.LineEntries.{usage}
 use Rattle.device_order.specs.LineOrders.{all_committed}
 use Rattle.device_order.specs.LineWords.{any_run, effective_writer, is_calm_line}
-use Rattle.device_order.specs.RunStates.{RunState, RunStates, paired, remaining}
+use Rattle.device_order.specs.RunStates.{RunState, RunStates, paired, remaining, uses}
 use Rattle.device_order.specs.Summaries.{AreHomed, summary}
-use Rattle.device_order.specs.Usages.{has_effect}
 use Rattle.device_order.specs.WindowSteps.{ChangesInPlace, GetsAnswer, IsNew, IsStill, KeepsElsewhere, KeepsRuns}
 use Rattle.device_order.specs.Windows.{LineIsWhole, WindowInvariant, WindowRecord}
 use Rattle.device_order.specs.declared.records.Grip.{Grip}
@@ -28,7 +26,7 @@ use Rattle.home_types.specs.declared.kinds.Kind.{Kind}
 use Rattle.home_types.specs.declared.kinds.Kind.TheVariants.{States}
 use Rattle.std.proofs.Common.{Bool, List, None, Some, [], ap, append-nil, arith, false, inr, refl, suc, sym, true, zero, ℕ, ◌++◌, ◌∙◌, ◌∷◌, ◌≡◌, ◌≢◌}
 use Rattle.std.proofs.lemmas.Grind.{common_steps}
-use Rattle.std.specs.Prelude.{if◌then◌else◌, ◌&&◌, ◌==◌, ◌||◌}
+use Rattle.std.specs.Prelude.{◌==◌, ◌||◌}
 
 abbrev sets : ℕ → Command
 sets v = record { device = device_no 0; job = Set v; must = true; ms = 0; takes = 0 }
@@ -350,19 +348,19 @@ left = run_leaves_line kinds (at (sets 5 ∷ []) one (run (sets 5 ∷ []) (Fine 
   still = λ d. record { up = refl; held = refl; probe = refl };
 })
   where
-    free : (d : ℕ) → here Free Free d ≡ Free
-    free zero = refl
-    free (suc d) = refl
+    free : (d : ℕ) → uses d (sets 5 ∷ []) ≡ true → here Free Free d ≡ Free
+    free zero u = refl
+    free (suc d) u = refl
 
     none : (r : ℕ) → None ≡ Some r → ⊥
     none r h = grind (arith, common_steps)
 
-    off : (d : ℕ) → (0 == suc d) ≡ false
-    off d = grind (arith, common_steps)
+    off : (d : ℕ) → ((0 == suc d) || false) ≡ true → ⊥
+    off d u = grind (arith, common_steps)
 
-    undone_at : (d : ℕ) → effective_writer kinds (only (run (sets 5 ∷ []) (Fine ∷ []) false true true Free)) d None one ≢ Some 1
-    undone_at zero h = none 1 h
-    undone_at (suc d) h = none 1 (sym (ap (λ b. if (b || false) && has_effect (usage kinds (run (sets 5 ∷ []) (Fine ∷ []) false true true Free) (suc d)) then Some 1 else None) (off d)) ∙ h)
+    undone_at : (d : ℕ) → uses d (sets 5 ∷ []) ≡ true → effective_writer kinds (only (run (sets 5 ∷ []) (Fine ∷ []) false true true Free)) d None one ≢ Some 1
+    undone_at zero u h = none 1 h
+    undone_at (suc d) u h = off d u
 
 pub undone_write : WindowInvariant kinds (at (sets 5 ∷ []) [] (run (sets 5 ∷ []) (Fine ∷ []) false true true Free) true 3 Unprobed)
 unfolding AreHomed Lacks

@@ -158,8 +158,8 @@ run_leaves_line kinds s s' r w o = record {
         let b : List OrderEntry = entries kinds s.states d w.back in
         subst DeviceInvariant (sym (then_ d ∙ ap (λ x. record (device_of kinds s d) { order = x }) (entries_join kinds s.states d w.front w.back)))
         (keeps (device_of kinds s d) (record (device_of kinds s d) { order = a ++ b })
-        (RunAborted a b u (ap (entries kinds s.states d) w.at ∙ used_at kinds s.states d r w.front w.back used) (stage l.committed l.doomed (uses d (rest l)) w.live w.doomed) (free (l.grip d) (w.free d))
-        (writer_not kinds s.states d r w.front w.back (λ e. w.undone d (ap (effective_writer kinds s.states d None) w.at ∙ e)) used)) i)
+        (RunAborted a b u (ap (entries kinds s.states d) w.at ∙ used_at kinds s.states d r w.front w.back used) (stage l.committed l.doomed (uses d (rest l)) w.live w.doomed) (free (l.grip d) (w.free d used))
+        (writer_not kinds s.states d r w.front w.back (λ e. w.undone d used (ap (effective_writer kinds s.states d None) w.at ∙ e)) used)) i)
     at_ d i false used =
         subst DeviceInvariant (sym (then_ d ∙ ap (λ x. record (device_of kinds s d) { order = x }) (sym (unused_at kinds s.states d r w.front w.back used) ∙ ap (entries kinds s.states d) (sym w.at)))) i
 

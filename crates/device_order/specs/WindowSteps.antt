@@ -203,7 +203,7 @@ pub record RunCommits (s s' : WindowRecord) (r : ℕ) : Type 0 where
   pub doomed : (s'.states r).doomed ≡ false
   pub still : (d : ℕ) → IsStill s s' d
 
--- a doomed run is aborted and leaves the line: it holds no grip, and has the effective write of no device
+-- a doomed run is aborted and leaves the line: of no device of it does it hold the grip, or has it the effective write
 pub record RunLeaves (kinds : List Kind) (s s' : WindowRecord) (r : ℕ) : Type 0 where
   pub front : List Item
   pub back : List Item
@@ -214,8 +214,8 @@ pub record RunLeaves (kinds : List Kind) (s s' : WindowRecord) (r : ℕ) : Type 
   pub first : s'.first ≡ s.first
   pub live : (s.states r).committed ≡ false
   pub doomed : (s.states r).doomed ≡ true
-  pub free : (d : ℕ) → (s.states r).grip d ≡ Free
-  pub undone : (d : ℕ) → effective_writer kinds s.states d None s.line ≢ Some r
+  pub free : (d : ℕ) → uses d (s.states r).commands ≡ true → (s.states r).grip d ≡ Free
+  pub undone : (d : ℕ) → uses d (s.states r).commands ≡ true → effective_writer kinds s.states d None s.line ≢ Some r
   pub still : (d : ℕ) → IsStill s s' d
 
 -- the undo of a doomed run can be done on the device: the device is home, and the run has the effective write
