@@ -10,7 +10,7 @@ use Rattle.device_order.specs.Windows.{WindowRecord}
 use Rattle.home_types.specs.declared.items.Item.{Item}
 use Rattle.home_types.specs.declared.items.Item.TheVariants.{Back, Failed, Ran}
 use Rattle.home_types.specs.declared.kinds.Kind.{Kind}
-use Rattle.std.specs.Prelude.{Bool, List, [], false, if◌then◌else◌, is_some, true, ℕ, ◌++◌, ◌==◌, ◌∷◌, ◌≡◌, ◌≢◌}
+use Rattle.std.specs.Prelude.{Bool, List, [], false, if◌then◌else◌, is_some, true, ℕ, ◌++◌, ◌==◌, ◌||◌, ◌∷◌, ◌≡◌, ◌≢◌}
 
 -- for one device: when each run first touched it, and when each event came
 pub record TouchTimes : Type 0 where
@@ -34,7 +34,7 @@ pub record IsInTime (kinds : List Kind) (s : WindowRecord) (d : ℕ) (t : TouchT
   pub past : Every (IsPast now) (marks d t s.line)
   pub unmarked : (r : ℕ) → is_some (device_summary kinds (s.states r) d).view ≡ false → t.touch r ≡ Unmarked
 
--- a run of the line first touches the device now, by the command that is out; late, where its first answer there does not count
+-- a run of the line first touches the device now: by the command that is out, or by an answer Down with no call where the run counts; late, where its first answer there does not count
 pub record FirstTouch (kinds : List Kind) (s : WindowRecord) (d r now : ℕ) (t later : TouchTimes) (late : Bool) : Type 0 where
   pub front : List Item
   pub back : List Item
@@ -42,7 +42,7 @@ pub record FirstTouch (kinds : List Kind) (s : WindowRecord) (d r now : ℕ) (t 
   pub before : Lacks r front
   pub behind : Lacks r back
   pub used : uses d (s.states r).commands ≡ true
-  pub out : is_command ((s.states r).grip d) ≡ true
+  pub by : (is_command ((s.states r).grip d) || awaits_first (usage kinds (s.states r) d)) ≡ true
   pub unanswered : is_some (device_summary kinds (s.states r) d).view ≡ false
   pub counts : late ≡ false → awaits_first (usage kinds (s.states r) d) ≡ true
   pub others : (q : ℕ) → q ≢ r → later.touch q ≡ t.touch q
