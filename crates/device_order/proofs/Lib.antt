@@ -18,3 +18,7 @@ pub mod Pairs
 pub mod Losses
 pub mod Standing
 pub mod Decisions
+pub mod Leases
+pub mod LeaseTables
+pub mod LeaseChanges
+pub mod LeaseClaims

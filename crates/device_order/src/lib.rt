@@ -3,6 +3,7 @@
 
 pub mod device_laws;
 pub mod invariants;
+pub mod lease_laws;
 pub mod records;
 #[cfg(test)]
 mod verdicts;
