@@ -8,3 +8,13 @@ pub mod Decisions
 pub mod Leases
 pub mod Pairs
 pub mod Marks
+pub mod Summaries
+pub mod Exchanges
+pub mod RunStates
+pub mod LineEntries
+pub mod LineOrders
+pub mod LineChanges
+pub mod LineWords
+pub mod Windows
+pub mod WindowSteps
+pub mod WindowTimes

@@ -1,13 +1,18 @@
-// The order on one device: the uses that the runs of a line make of it, with its failures and restarts among them.
+// The order of the runs on each device of a home, with its failures and restarts, and why a line of runs is a serial
+// execution.
 #![tactic(auto)]
 
 pub mod device_laws;
+pub mod exchange;
 pub mod invariants;
 pub mod lease_laws;
+pub mod line_laws;
 pub mod records;
+pub mod serial_laws;
 #[cfg(test)]
 mod verdicts;
 pub mod walks;
+pub mod window_laws;
 
 pub use invariants::keeps_invariant;
 pub use records::{DeviceRecord, Event, Grip, OrderEntry, Probe, Stage, Usage};
