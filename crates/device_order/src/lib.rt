@@ -5,6 +5,7 @@
 pub mod device_laws;
 pub mod exchange;
 pub mod invariants;
+pub mod lease_laws;
 pub mod line_laws;
 pub mod records;
 pub mod serial_laws;
