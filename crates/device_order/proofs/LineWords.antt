@@ -1,0 +1,261 @@
+-- Words on a line and on the order of a device that it makes.
+use Rattle.command_rules.specs.Rosters.{run_no}
+use Rattle.device_order.proofs.Claims.{effect}
+use Rattle.device_order.specs.Changes.{is_calm}
+use Rattle.device_order.specs.LineChanges.{Lacks, line_with_event, waits_at}
+use Rattle.device_order.specs.LineEntries.{entries, entry_if, usage, with_entry}
+use Rattle.device_order.specs.LineWords.{CutAt, RunsAreDistinct, any_run, at_device, effective_writer, is_calm_line, standing_value_on}
+use Rattle.device_order.specs.Records.{walk_start}
+use Rattle.device_order.specs.RunStates.{RunStates, device_summary, uses}
+use Rattle.device_order.specs.Usages.{has_effect, has_touched}
+use Rattle.device_order.specs.Walks.{effective, has, walk_end, written_by}
+use Rattle.device_order.specs.declared.records.Event.TheVariants.{Failure, Restart}
+use Rattle.device_order.specs.declared.records.OrderEntry.TheVariants.{Occurred, Used}
+use Rattle.device_order.specs.declared.records.Usage.{Usage}
+use Rattle.home_types.specs.declared.items.Item.{Item}
+use Rattle.home_types.specs.declared.items.Item.TheVariants.{Back, Failed, Ran}
+use Rattle.home_types.specs.declared.kinds.Kind.{Kind}
+use Rattle.std.proofs.Common.{Bool, List, None, Option, Some, [], ap, arith, false, not, refl, subst, sym, true, ℕ, ◌++◌, ◌∙◌, ◌∷◌, ◌≡◌, ◌≢◌}
+use Rattle.std.proofs.lemmas.Grind.{common_steps}
+use Rattle.std.specs.Option.{option_map_or}
+use Rattle.std.specs.Prelude.{if◌then◌else◌, option_map, unwrap_or, ◌&&◌, ◌==◌, ◌||◌}
+
+-- a word over the entries is one over the line
+pub has_entries : (kinds : List Kind) (states : RunStates) (d : ℕ) (p : Usage → Bool) (is : List Item) → has p (entries kinds states d is) ≡ any_run (at_device kinds states d p) is
+unfolding entries has any_run
+has_entries kinds states d p [] = refl
+has_entries kinds states d p (Ran r ∷ is) = at_ (uses d (states r.0).commands) ∙ ap (λ x. at_device kinds states d p r.0 || x) (has_entries kinds states d p is)
+  where
+    at_ : (b : Bool) → has p (with_entry (entry_if b (Used (usage kinds (states r.0) d))) (entries kinds states d is)) ≡ ((b && p (usage kinds (states r.0) d)) || has p (entries kinds states d is))
+    at_ true = refl
+    at_ false = refl
+has_entries kinds states d p (Failed e n ∷ is) = at_ (e.0 == d) ∙ has_entries kinds states d p is
+  where
+    at_ : (b : Bool) → has p (with_entry (entry_if b (Occurred Failure)) (entries kinds states d is)) ≡ has p (entries kinds states d is)
+    at_ true = refl
+    at_ false = refl
+has_entries kinds states d p (Back e n ∷ is) = at_ (e.0 == d) ∙ has_entries kinds states d p is
+  where
+    at_ : (b : Bool) → has p (with_entry (entry_if b (Occurred Restart)) (entries kinds states d is)) ≡ has p (entries kinds states d is)
+    at_ true = refl
+    at_ false = refl
+
+pub calm_entries : (kinds : List Kind) (states : RunStates) (d : ℕ) (is : List Item) → is_calm (entries kinds states d is) ≡ is_calm_line kinds states d is
+unfolding entries is_calm is_calm_line
+calm_entries kinds states d [] = refl
+calm_entries kinds states d (Ran r ∷ is) = at_ (uses d (states r.0).commands) ∙ ap (λ x. not (at_device kinds states d has_touched r.0) && x) (calm_entries kinds states d is)
+  where
+    at_ : (b : Bool) → is_calm (with_entry (entry_if b (Used (usage kinds (states r.0) d))) (entries kinds states d is)) ≡ (not (b && has_touched (usage kinds (states r.0) d)) && is_calm (entries kinds states d is))
+    at_ true = refl
+    at_ false = refl
+calm_entries kinds states d (Failed e n ∷ is) = at_ (e.0 == d) ∙ ap (λ x. not (e.0 == d) && x) (calm_entries kinds states d is)
+  where
+    at_ : (b : Bool) → is_calm (with_entry (entry_if b (Occurred Failure)) (entries kinds states d is)) ≡ (not b && is_calm (entries kinds states d is))
+    at_ true = refl
+    at_ false = refl
+calm_entries kinds states d (Back e n ∷ is) = at_ (e.0 == d) ∙ ap (λ x. not (e.0 == d) && x) (calm_entries kinds states d is)
+  where
+    at_ : (b : Bool) → is_calm (with_entry (entry_if b (Occurred Restart)) (entries kinds states d is)) ≡ (not b && is_calm (entries kinds states d is))
+    at_ true = refl
+    at_ false = refl
+
+abbrev usage_at : List Kind → RunStates → ℕ → ℕ → Usage
+usage_at kinds states d r = usage kinds (states r) d
+
+pub effective_entries : (kinds : List Kind) (states : RunStates) (d : ℕ) (o : Option ℕ) (is : List Item)
+    → effective (option_map (usage_at kinds states d) o) (entries kinds states d is) ≡ option_map (usage_at kinds states d) (effective_writer kinds states d o is)
+unfolding entries effective effective_writer
+effective_entries kinds states d o [] = refl
+effective_entries kinds states d o (Ran r ∷ is) = at_ (uses d (states r.0).commands) ∙ effective_entries kinds states d (if at_device kinds states d has_effect r.0 then Some r.0 else o) is
+  where
+    v : Usage
+    v = usage kinds (states r.0) d
+
+    pick : (b : Bool) → (if b then Some v else option_map (usage_at kinds states d) o) ≡ option_map (usage_at kinds states d) (if b then Some r.0 else o)
+    pick true = refl
+    pick false = refl
+
+    at_ : (b : Bool) → effective (option_map (usage_at kinds states d) o) (with_entry (entry_if b (Used v)) (entries kinds states d is)) ≡ effective (option_map (usage_at kinds states d) (if (b && has_effect v) then Some r.0 else o)) (entries kinds states d is)
+    at_ true = ap (λ x. effective x (entries kinds states d is)) (pick (has_effect v))
+    at_ false = refl
+effective_entries kinds states d o (Failed e n ∷ is) = at_ (e.0 == d) ∙ effective_entries kinds states d o is
+  where
+    at_ : (b : Bool) → effective (option_map (usage_at kinds states d) o) (with_entry (entry_if b (Occurred Failure)) (entries kinds states d is)) ≡ effective (option_map (usage_at kinds states d) o) (entries kinds states d is)
+    at_ true = refl
+    at_ false = refl
+effective_entries kinds states d o (Back e n ∷ is) = at_ (e.0 == d) ∙ effective_entries kinds states d o is
+  where
+    at_ : (b : Bool) → effective (option_map (usage_at kinds states d) o) (with_entry (entry_if b (Occurred Restart)) (entries kinds states d is)) ≡ effective (option_map (usage_at kinds states d) o) (entries kinds states d is)
+    at_ true = refl
+    at_ false = refl
+
+abbrev is_it : ℕ → ℕ → Bool
+is_it r q = q == r
+
+-- a line without duplicates is cut at a run that stands in it
+pub cut_at : (r : ℕ) (is : List Item) → RunsAreDistinct is → any_run (is_it r) is ≡ true → CutAt r is
+unfolding RunsAreDistinct any_run Lacks
+cut_at r [] h g = absurd (none g)
+  where
+    none : false ≡ true → ⊥
+    none h = grind (arith, common_steps)
+cut_at r (Failed e n ∷ is) h g = let c = cut_at r is h g in record { front = Failed e n ∷ c.front; back = c.back; at = ap (λ l. Failed e n ∷ l) c.at; before = c.before; behind = c.behind }
+cut_at r (Back e n ∷ is) h g = let c = cut_at r is h g in record { front = Back e n ∷ c.front; back = c.back; at = ap (λ l. Back e n ∷ l) c.at; before = c.before; behind = c.behind }
+cut_at r (Ran q ∷ is) h g = at_ (λ x. cut_at r is h.1 x) (q.0 == r) refl
+  where
+    same : (q.0 == r) ≡ true → q.0 ≡ r
+    same x = grind (arith, common_steps)
+
+    differ : (q.0 == r) ≡ false → q.0 ≡ r → ⊥
+    differ x y = grind (arith, common_steps)
+
+    tail : (x y : Bool) → x ≡ false → (x || y) ≡ true → y ≡ true
+    tail x y e h = grind (arith, common_steps)
+
+    at_ : (any_run (is_it r) is ≡ true → CutAt r is) → (b : Bool) → (q.0 == r) ≡ b → CutAt r (Ran q ∷ is)
+    at_ ih true x = record { front = []; back = is; at = ap (λ z. Ran (run_no z) ∷ is) (same x); before = tt; behind = subst (λ z. Lacks z is) (same x) h.0 }
+    at_ ih false x = let c = ih (tail (q.0 == r) (any_run (is_it r) is) x g) in record { front = Ran q ∷ c.front; back = c.back; at = ap (λ l. Ran q ∷ l) c.at; before = ((λ y. differ x y), c.before); behind = c.behind }
+
+-- an item that is no run
+abbrev pub NoRun : Item → Type 0
+NoRun (Ran r) = ⊥
+NoRun (Failed e n) = Unit {0}
+NoRun (Back e n) = Unit {0}
+
+pub lacks_cons : (r : ℕ) (i : Item) (is : List Item) → NoRun i → Lacks r is → Lacks r (i ∷ is)
+unfolding Lacks
+lacks_cons r (Ran q) is n h = absurd n
+lacks_cons r (Failed e k) is n h = h
+lacks_cons r (Back e k) is n h = h
+
+pub distinct_cons : (i : Item) (is : List Item) → NoRun i → RunsAreDistinct is → RunsAreDistinct (i ∷ is)
+unfolding RunsAreDistinct
+distinct_cons (Ran q) is n h = absurd n
+distinct_cons (Failed e k) is n h = h
+distinct_cons (Back e k) is n h = h
+
+any_cons : (p : ℕ → Bool) (i : Item) (is : List Item) → NoRun i → any_run p (i ∷ is) ≡ any_run p is
+unfolding any_run
+any_cons p (Ran q) is n = absurd n
+any_cons p (Failed e k) is n = refl
+any_cons p (Back e k) is n = refl
+
+-- an event changes no run's place among the runs
+pub event_lacks : (kinds : List Kind) (states : RunStates) (d r : ℕ) (i : Item) (is : List Item) → NoRun i → Lacks r is → Lacks r (line_with_event kinds states d i is)
+unfolding Lacks line_with_event
+event_lacks kinds states d r i [] n h = lacks_cons r i [] n tt
+event_lacks kinds states d r i (Ran q ∷ is) n h = at_ (event_lacks kinds states d r i is n h.1) (waits_at kinds states d (Ran q))
+  where
+    at_ : Lacks r (line_with_event kinds states d i is) → (b : Bool) → Lacks r (if b then i ∷ Ran q ∷ is else Ran q ∷ line_with_event kinds states d i is)
+    at_ g true = lacks_cons r i (Ran q ∷ is) n h
+    at_ g false = (h.0, g)
+event_lacks kinds states d r i (Failed e k ∷ is) n h = event_lacks kinds states d r i is n h
+event_lacks kinds states d r i (Back e k ∷ is) n h = event_lacks kinds states d r i is n h
+
+pub event_distinct : (kinds : List Kind) (states : RunStates) (d : ℕ) (i : Item) (is : List Item) → NoRun i → RunsAreDistinct is → RunsAreDistinct (line_with_event kinds states d i is)
+unfolding RunsAreDistinct line_with_event
+event_distinct kinds states d i [] n h = distinct_cons i [] n tt
+event_distinct kinds states d i (Ran q ∷ is) n h = at_ (event_distinct kinds states d i is n h.1) (waits_at kinds states d (Ran q))
+  where
+    at_ : RunsAreDistinct (line_with_event kinds states d i is) → (b : Bool) → RunsAreDistinct (if b then i ∷ Ran q ∷ is else Ran q ∷ line_with_event kinds states d i is)
+    at_ g true = distinct_cons i (Ran q ∷ is) n h
+    at_ g false = (event_lacks kinds states d q.0 i is n h.0, g)
+event_distinct kinds states d i (Failed e k ∷ is) n h = event_distinct kinds states d i is n h
+event_distinct kinds states d i (Back e k ∷ is) n h = event_distinct kinds states d i is n h
+
+pub event_runs : (kinds : List Kind) (states : RunStates) (d : ℕ) (p : ℕ → Bool) (i : Item) (is : List Item) → NoRun i → any_run p (line_with_event kinds states d i is) ≡ any_run p is
+unfolding any_run line_with_event
+event_runs kinds states d p i [] n = any_cons p i [] n
+event_runs kinds states d p i (Ran q ∷ is) n = at_ (event_runs kinds states d p i is n) (waits_at kinds states d (Ran q))
+  where
+    at_ : any_run p (line_with_event kinds states d i is) ≡ any_run p is → (b : Bool) → any_run p (if b then i ∷ Ran q ∷ is else Ran q ∷ line_with_event kinds states d i is) ≡ (p q.0 || any_run p is)
+    at_ g true = any_cons p i (Ran q ∷ is) n
+    at_ g false = ap (λ x. p q.0 || x) g
+event_runs kinds states d p i (Failed e k ∷ is) n = event_runs kinds states d p i is n
+event_runs kinds states d p i (Back e k ∷ is) n = event_runs kinds states d p i is n
+
+-- where no run of the line has a write in effect, the effective write is what it was
+writer_none : (kinds : List Kind) (states : RunStates) (d : ℕ) (o : Option ℕ) (is : List Item) → any_run (at_device kinds states d has_effect) is ≡ false → effective_writer kinds states d o is ≡ o
+unfolding any_run effective_writer
+writer_none kinds states d o [] h = refl
+writer_none kinds states d o (Ran q ∷ is) h =
+    let e = neither (at_device kinds states d has_effect q.0) (any_run (at_device kinds states d has_effect) is) h in
+    ap (λ x. effective_writer kinds states d (if x then Some q.0 else o) is) e.0 ∙ writer_none kinds states d o is e.1
+  where
+    neither : (x y : Bool) → (x || y) ≡ false → (x ≡ false) × (y ≡ false)
+    neither x y h = (grind (arith, common_steps), grind (arith, common_steps))
+writer_none kinds states d o (Failed e k ∷ is) h = writer_none kinds states d o is h
+writer_none kinds states d o (Back e k ∷ is) h = writer_none kinds states d o is h
+
+-- a run that the line lacks has the effective write behind it where it had it before, and no run of the line has a write in effect
+writer_is : (kinds : List Kind) (states : RunStates) (d r : ℕ) (o : Option ℕ) (is : List Item) → Lacks r is → effective_writer kinds states d o is ≡ Some r → (o ≡ Some r) × (any_run (at_device kinds states d has_effect) is ≡ false)
+unfolding any_run effective_writer Lacks
+writer_is kinds states d r o [] l h = (h, refl)
+writer_is kinds states d r o (Ran q ∷ is) l h = at_ (at_device kinds states d has_effect q.0) (writer_is kinds states d r (if at_device kinds states d has_effect q.0 then Some q.0 else o) is l.1 h)
+  where
+    other : Some q.0 ≡ Some r → q.0 ≡ r
+    other e = grind (arith, common_steps)
+
+    at_ : (b : Bool) → ((if b then Some q.0 else o) ≡ Some r) × (any_run (at_device kinds states d has_effect) is ≡ false) → (o ≡ Some r) × ((b || any_run (at_device kinds states d has_effect) is) ≡ false)
+    at_ true e = absurd (l.0 (other e.0))
+    at_ false e = e
+writer_is kinds states d r o (Failed e k ∷ is) l h = writer_is kinds states d r o is l h
+writer_is kinds states d r o (Back e k ∷ is) l h = writer_is kinds states d r o is l h
+
+pub writer_join : (kinds : List Kind) (states : RunStates) (d : ℕ) (o : Option ℕ) (a b : List Item) → effective_writer kinds states d o (a ++ b) ≡ effective_writer kinds states d (effective_writer kinds states d o a) b
+unfolding effective_writer
+writer_join kinds states d o [] b = refl
+writer_join kinds states d o (Ran q ∷ a) b = writer_join kinds states d (if at_device kinds states d has_effect q.0 then Some q.0 else o) a b
+writer_join kinds states d o (Failed e k ∷ a) b = writer_join kinds states d o a b
+writer_join kinds states d o (Back e k ∷ a) b = writer_join kinds states d o a b
+
+-- the run with the effective write has a write in effect, and none behind it has
+pub record WritesLast (kinds : List Kind) (states : RunStates) (d r : ℕ) (back : List Item) : Type 0 where
+  pub uses : uses d (states r).commands ≡ true
+  pub effect : has_effect (usage kinds (states r) d) ≡ true
+  pub none_behind : has has_effect (entries kinds states d back) ≡ false
+
+pub writer_cut : (kinds : List Kind) (states : RunStates) (d r : ℕ) (a b : List Item) → Lacks r a → Lacks r b → effective_writer kinds states d None (a ++ Ran (run_no r) ∷ b) ≡ Some r → WritesLast kinds states d r b
+unfolding effective_writer
+writer_cut kinds states d r a b la lb h =
+    let w = writer_is kinds states d r (if at_device kinds states d has_effect r then Some r else effective_writer kinds states d None a) b lb (sym (writer_join kinds states d None a (Ran (run_no r) ∷ b)) ∙ h) in
+    let e = own (at_device kinds states d has_effect r) w.0 in
+    record { uses = (both (uses d (states r).commands) (has_effect (usage kinds (states r) d)) e).0; effect = (both (uses d (states r).commands) (has_effect (usage kinds (states r) d)) e).1; none_behind = has_entries kinds states d has_effect b ∙ w.1 }
+  where
+    none : None ≡ Some r → ⊥
+    none e = grind (arith, common_steps)
+
+    own : (x : Bool) → (if x then Some r else effective_writer kinds states d None a) ≡ Some r → x ≡ true
+    own true e = refl
+    own false e = absurd (none (writer_is kinds states d r None a la e).0)
+
+    both : (x y : Bool) → (x && y) ≡ true → (x ≡ true) × (y ≡ true)
+    both x y e = (grind (arith, common_steps), grind (arith, common_steps))
+
+-- a run that has not the effective write has no write in effect, or one behind it has
+pub writer_not : (kinds : List Kind) (states : RunStates) (d r : ℕ) (a b : List Item) → effective_writer kinds states d None (a ++ Ran (run_no r) ∷ b) ≢ Some r → uses d (states r).commands ≡ true
+    → (has_effect (usage kinds (states r) d) && not (has has_effect (entries kinds states d b))) ≡ false
+unfolding effective_writer
+writer_not kinds states d r a b n u = at_ (has_effect (usage kinds (states r) d)) (has has_effect (entries kinds states d b)) refl refl
+  where
+    here : (x y : Bool) → x ≡ true → y ≡ true → (x && y) ≡ true
+    here x y h g = grind (arith, common_steps)
+
+    at_ : (x y : Bool) → has_effect (usage kinds (states r) d) ≡ x → has has_effect (entries kinds states d b) ≡ y → (x && not y) ≡ false
+    at_ true false h g = absurd (n (
+        writer_join kinds states d None a (Ran (run_no r) ∷ b)
+        ∙ ap (λ x. effective_writer kinds states d (if x then Some r else effective_writer kinds states d None a) b) (here (uses d (states r).commands) (has_effect (usage kinds (states r) d)) u h)
+        ∙ writer_none kinds states d (Some r) b (sym (has_entries kinds states d has_effect b) ∙ g)))
+    at_ true true h g = refl
+    at_ false y h g = refl
+
+-- where the walk along a device's order leaves it, with the undo that is out, is the standing value
+pub stand_line : (kinds : List Kind) (states : RunStates) (d first : ℕ) (up : Bool) (line : List Item) → (walk_end (walk_start up first) (entries kinds states d line)).stand ≡ standing_value_on kinds states d first line
+stand_line kinds states d first up line =
+    (effect (walk_start up first) first None (entries kinds states d line) (record { stand = refl; settled = refl })).stand
+    ∙ ap (λ o. written_by o first) (effective_entries kinds states d None line)
+    ∙ by (effective_writer kinds states d None line)
+  where
+    by : (o : Option ℕ) → written_by (option_map (usage_at kinds states d) o) first ≡ option_map_or (λ r. unwrap_or (device_summary kinds (states r) d).wrote first) o first
+    by None = refl
+    by (Some r) = refl

@@ -1,0 +1,96 @@
+//! Laws of a whole window: its invariant at the start, in each kind of step, and what it says of the window's order.
+//! Each is a function with no work in it, whose contract is the law.
+
+ghost use Rattle.command_rules.specs.Rosters.{run_no};
+ghost use Rattle.device_order.specs.LineChanges.{IsFront, line_with_event, out_of};
+ghost use Rattle.device_order.specs.LineEntries.{usage};
+ghost use Rattle.device_order.specs.LineOrders.{all_committed};
+ghost use Rattle.device_order.specs.Marks.{EventAt, InOrder, IsPast, Unmarked};
+ghost use Rattle.device_order.specs.Pairs.{Every, Pairs};
+ghost use Rattle.device_order.specs.RunStates.{device_summary, uses};
+ghost use Rattle.device_order.specs.Usages.{has_touched};
+ghost use Rattle.device_order.specs.WindowSteps.{AccessDies, CommandGoesOut, DeviceRestarts, DownIsAnswered, LineIsParted, ProbeDies, ProbeDiesUnderRun, ProbeFindsDown, ProbeFindsUp, ProbeGoesOut, ReadIsAnswered, RunCommits, RunIsDoomed, RunIsPlaced, RunLeaves, UndoDies, UndoGoesOut, UndoIsAnswered, UndoIsDropped, WindowStarts, WriteIsAnswered};
+ghost use Rattle.device_order.specs.WindowTimes.{FirstTouch, IsInTime, TouchTimes, mark_of, marks};
+ghost use Rattle.device_order.specs.Windows.{HasLiveWriteAt, IsCovered, IsPendingAt, LineIsWhole, OrderIsSerial, StandsBefore, WindowInvariant, WindowRecord};
+ghost use Rattle.home_types.specs.declared.commands.Command.{Command};
+ghost use Rattle.home_types.specs.declared.items.Item.{Item};
+ghost use Rattle.home_types.specs.declared.items.Item.TheVariants.{Ran};
+ghost use Rattle.home_types.specs.declared.kinds.Kind.{Kind};
+ghost use Rattle.std.specs.Prelude.{Bool, List, false, filter, is_some, length, true, ℕ, ◌++◌, ◌<◌, ◌∷◌, ◌≡◌, ◌≤◌};
+
+/// At its start a window is as its invariant says.
+pub fn window_starts()
+    ensures { (kinds : List Kind) (s : WindowRecord) → WindowStarts s → WindowInvariant kinds s }
+{}
+
+/// The invariant stays where a run is placed, doomed, committed or aborted, and where the line is parted before a run is
+/// placed.
+pub fn runs_keep_window()
+    ensures placed { (kinds : List Kind) (s next : WindowRecord) (r : ℕ) → RunIsPlaced kinds s next r → WindowInvariant kinds s → WindowInvariant kinds next }
+    ensures parted { (kinds : List Kind) (s next : WindowRecord) (set : Item → Bool) → LineIsParted kinds s next set → WindowInvariant kinds s → WindowInvariant kinds next }
+    ensures doomed { (kinds : List Kind) (s next : WindowRecord) (r : ℕ) → RunIsDoomed s next r → WindowInvariant kinds s → WindowInvariant kinds next }
+    ensures commits { (kinds : List Kind) (s next : WindowRecord) (r : ℕ) → RunCommits s next r → WindowInvariant kinds s → WindowInvariant kinds next }
+    ensures leaves { (kinds : List Kind) (s next : WindowRecord) (r : ℕ) → RunLeaves kinds s next r → WindowInvariant kinds s → WindowInvariant kinds next }
+{}
+
+/// The invariant stays where a command goes out, and where it is answered, whether or not the answer dooms its run.
+pub fn commands_keep_window()
+    ensures out { (kinds : List Kind) (s next : WindowRecord) (r : ℕ) (c : Command) (later : List Command) → CommandGoesOut kinds s next r c later → WindowInvariant kinds s → WindowInvariant kinds next }
+    ensures write { (kinds : List Kind) (s next : WindowRecord) (r : ℕ) (c : Command) (later : List Command) (dooms : Bool) → WriteIsAnswered kinds s next r c later dooms → WindowInvariant kinds s → WindowInvariant kinds next }
+    ensures read { (kinds : List Kind) (s next : WindowRecord) (r : ℕ) (c : Command) (later : List Command) (x : ℕ) (dooms : Bool) → ReadIsAnswered kinds s next r c later x dooms → WindowInvariant kinds s → WindowInvariant kinds next }
+    ensures died { (kinds : List Kind) (s next : WindowRecord) (r k : ℕ) (c : Command) (later : List Command) (dooms : Bool) → AccessDies kinds s next r k c later dooms → WindowInvariant kinds s → WindowInvariant kinds next }
+    ensures down { (kinds : List Kind) (s next : WindowRecord) (r : ℕ) (c : Command) (later : List Command) (dooms : Bool) → DownIsAnswered kinds s next r c later dooms → WindowInvariant kinds s → WindowInvariant kinds next }
+{}
+
+/// The invariant stays where an undo goes out, is answered, dies or is dropped.
+pub fn undos_keep_window()
+    ensures out { (kinds : List Kind) (s next : WindowRecord) (r d : ℕ) → UndoGoesOut kinds s next r d → WindowInvariant kinds s → WindowInvariant kinds next }
+    ensures answered { (kinds : List Kind) (s next : WindowRecord) (r d v : ℕ) → UndoIsAnswered s next r d v → WindowInvariant kinds s → WindowInvariant kinds next }
+    ensures died { (kinds : List Kind) (s next : WindowRecord) (r d k v : ℕ) → UndoDies kinds s next r d k v → WindowInvariant kinds s → WindowInvariant kinds next }
+    ensures dropped { (kinds : List Kind) (s next : WindowRecord) (r d : ℕ) → UndoIsDropped kinds s next r d → WindowInvariant kinds s → WindowInvariant kinds next }
+{}
+
+/// The invariant stays where a probe goes out, and whatever it finds.
+pub fn probes_keep_window()
+    ensures out { (kinds : List Kind) (s next : WindowRecord) (d : ℕ) → ProbeGoesOut kinds s next d → WindowInvariant kinds s → WindowInvariant kinds next }
+    ensures found_up { (kinds : List Kind) (s next : WindowRecord) (d : ℕ) → ProbeFindsUp s next d → WindowInvariant kinds s → WindowInvariant kinds next }
+    ensures found_down { (kinds : List Kind) (s next : WindowRecord) (d v : ℕ) → ProbeFindsDown s next d v → WindowInvariant kinds s → WindowInvariant kinds next }
+    ensures died { (kinds : List Kind) (s next : WindowRecord) (d k : ℕ) → ProbeDies kinds s next d k → WindowInvariant kinds s → WindowInvariant kinds next }
+    ensures died_under_run { (kinds : List Kind) (s next : WindowRecord) (r d k : ℕ) → ProbeDiesUnderRun kinds s next r d k → WindowInvariant kinds s → WindowInvariant kinds next }
+    ensures restarted { (kinds : List Kind) (s next : WindowRecord) (d k v : ℕ) → DeviceRestarts kinds s next d k v → WindowInvariant kinds s → WindowInvariant kinds next }
+{}
+
+/// The events and the committed runs of the line are a serial execution: it is not refused, gives the runs their answers,
+/// and ends with each device at its committed value, up or down as it is counted.
+pub fn order_is_serial()
+    ensures { (kinds : List Kind) (s : WindowRecord) → WindowInvariant kinds s → OrderIsSerial kinds s }
+{}
+
+/// Behind a live run that is not doomed and has a command left on a device, no run has touched the device.
+pub fn pending_device_is_untouched()
+    ensures { (kinds : List Kind) (s : WindowRecord) (d x w : ℕ) (p : StandsBefore x w s.line) → WindowInvariant kinds s → d < length s.first → IsPendingAt s d x → uses d (s.states w).commands ≡ true → has_touched (usage kinds (s.states w) d) ≡ false }
+{}
+
+/// A run that read a device before it wrote it, behind a live run's write there that no entry undid, stands behind a
+/// committed write between them.
+pub fn read_is_covered()
+    ensures { (kinds : List Kind) (s : WindowRecord) (d x w : ℕ) (p : StandsBefore x w s.line) → WindowInvariant kinds s → d < length s.first → HasLiveWriteAt kinds s d x → is_some (device_summary kinds (s.states w) d).read ≡ true → IsCovered kinds s.states d p.between }
+{}
+
+/// Where each run of the line has committed, the line is a serial execution, and each device that is home and up stands
+/// where it ends.
+pub fn window_ends()
+    ensures { (kinds : List Kind) (s : WindowRecord) → WindowInvariant kinds s → all_committed s.states s.line ≡ true → LineIsWhole kinds s }
+{}
+
+/// First touches and events stand in the line in the order of their times: a first touch, and an event at its place, are
+/// the newest of their device; a run without a touch may be placed anywhere, and any run may leave; parting the line
+/// leaves the order as it was; and what is past stays past.
+pub fn marks_stay_in_order()
+    ensures touch { (kinds : List Kind) (s : WindowRecord) (d r now : ℕ) (t later : TouchTimes) (late : Bool) → d < length s.first → WindowInvariant kinds s → IsInTime kinds s d t now → FirstTouch kinds s d r now t later late → Pairs InOrder (marks d later s.line) }
+    ensures event { (kinds : List Kind) (s : WindowRecord) (d now : ℕ) (t : TouchTimes) (i : Item) → d < length s.first → WindowInvariant kinds s → IsInTime kinds s d t now → mark_of d t i ≡ EventAt now → Pairs InOrder (marks d t (line_with_event kinds s.states d i s.line)) }
+    ensures placed { (d r : ℕ) (t : TouchTimes) (a b : List Item) → t.touch r ≡ Unmarked → Pairs InOrder (marks d t (a ++ b)) → Pairs InOrder (marks d t (a ++ Ran (run_no r) ∷ b)) }
+    ensures leaves { (d r : ℕ) (t : TouchTimes) (a b : List Item) → Pairs InOrder (marks d t (a ++ Ran (run_no r) ∷ b)) → Pairs InOrder (marks d t (a ++ b)) }
+    ensures parted { (kinds : List Kind) (s : WindowRecord) (d now : ℕ) (t : TouchTimes) (set : Item → Bool) → IsInTime kinds s d t now → IsFront kinds s.states d set s.line → Pairs InOrder (marks d t (filter set s.line ++ filter (out_of set) s.line)) }
+    ensures past { (d now later : ℕ) (t : TouchTimes) (line : List Item) → now ≤ later → Every (IsPast now) (marks d t line) → Every (IsPast later) (marks d t line) }
+{}
