@@ -1,7 +1,7 @@
 ghost use Rattle.std.specs.Prelude.{◌≡◌, ◌+◌, ◌<◌, ◌≤◌, ℕ, List, Option, length, take, IfOk, IfSome, OnOk, OnErr, IsErrOf, vec_len};
 ghost use Rattle.std.specs.Io.KnownBytes.{Consumes, IsAtEnd, Keeps};
 ghost use Rattle.day_clock.specs.Sources.{CountsFaults, TakesCount, TakesUpTo};
-ghost use Rattle.day_clock.specs.declared.sources.InputFault.TheVariants.{Failed as HasFailed, NoMemory as LacksMemory};
+ghost use Rattle.day_clock.specs.declared.sources.InputFault.TheVariants.{Failed as SourceFailed, NoMemory as OutOfMemory};
 
 use crate::faults::Failed;
 use std::alloc::{AllocError, Global};
@@ -36,7 +36,7 @@ pub enum InputFault {
 }
 
 impl From<Failed> for InputFault {
-    ghost from_gives = { λ _ fault. fault ≡ HasFailed };
+    ghost from_gives = { λ _ fault. fault ≡ SourceFailed };
 
     fn from(_: Failed) -> InputFault {
         InputFault::Failed
@@ -44,7 +44,7 @@ impl From<Failed> for InputFault {
 }
 
 impl From<AllocError> for InputFault {
-    ghost from_gives = { λ _ fault. fault ≡ LacksMemory };
+    ghost from_gives = { λ _ fault. fault ≡ OutOfMemory };
 
     fn from(_: AllocError) -> InputFault {
         InputFault::NoMemory
