@@ -1,3 +1,8 @@
+ghost use Rattle.std.specs.Prelude.{◌≡◌};
+ghost use Rattle.day_clock.specs.Times.{read_as_option, time_of};
+
+use jiff::civil::DateTime;
+
 /// The time of a window, to the second, ordered by its fields from the year on.
 #[derive(Clone, Copy, Debug, PartialEq, Eq, PartialOrd, Ord)]
 pub struct When {
@@ -8,4 +13,32 @@ pub struct When {
     pub hour: u8,
     pub minute: u8,
     pub second: u8,
+}
+
+/// A text is no time of a window.
+#[derive(Clone, Copy, Debug, PartialEq, Eq)]
+pub struct Unread;
+
+/// Reads what `jiff` reads as a civil date and time of the years 0 to 9999. Parts of a second are dropped.
+///
+/// `Unread` is all else. It takes no memory.
+pub fn read_time(text: &str) -> Result<When, Unread>
+    ensures { read_as_option result ≡ time_of text.now }
+{
+    let parsed: Result<DateTime, jiff::Error> = text.parse();
+    let Ok(moment) = parsed else {
+        return Err(Unread);
+    };
+    let plain = moment.to_plain();
+    if plain.date.year < 0 {
+        return Err(Unread);
+    }
+    Ok(When {
+        year: plain.date.year as u16,
+        month: plain.date.month,
+        day: plain.date.day,
+        hour: plain.time.hour,
+        minute: plain.time.minute,
+        second: plain.time.second,
+    })
 }

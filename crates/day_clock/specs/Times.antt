@@ -1,0 +1,27 @@
+-- The time of a window.
+use Rattle.day_clock.specs.declared.times.Unread.{Unread}
+use Rattle.day_clock.specs.declared.times.When.{When}
+use Rattle.jiff.specs.Words.{parse_datetime}
+use Rattle.jiff_core.specs.declared.error.Error.{Error}
+use Rattle.jiff_fmt.specs.Temporal.{DateParts, TimeParts}
+use Rattle.std.specs.Prelude.{Err, List, None, Ok, Option, Result, Some, negsuc, pos, ℕ, ℤ}
+
+-- the time of this date and time of day, where the year is not below 0
+abbrev pub when_in : ℤ → DateParts → TimeParts → Option When
+when_in (pos year) date time =
+    Some (record { year = year; month = date.month; day = date.day; hour = time.hour; minute = time.minute; second = time.second })
+when_in (negsuc n) date time = None
+
+-- the time that was read
+abbrev pub when_of : Result (DateParts × TimeParts) Error → Option When
+when_of (Ok parts) = when_in parts.0.year parts.0 parts.1
+when_of (Err error) = None
+
+-- the time that a text is, if it is one
+abbrev pub time_of : List ℕ → Option When
+time_of text = when_of (parse_datetime text)
+
+-- the answer as an option
+abbrev pub read_as_option : Result When Unread → Option When
+read_as_option (Ok time) = Some time
+read_as_option (Err unread) = None
