@@ -4,7 +4,7 @@ use Rattle.day_clock.specs.declared.times.When.{When}
 use Rattle.jiff.specs.Words.{parse_datetime}
 use Rattle.jiff_core.specs.declared.error.Error.{Error}
 use Rattle.jiff_fmt.specs.Temporal.{DateParts, TimeParts}
-use Rattle.std.specs.Prelude.{Err, List, None, Ok, Option, Result, Some, negsuc, pos, ℕ, ℤ}
+use Rattle.std.specs.Prelude.{Err, List, None, Ok, Option, Result, Some, negsuc, pos, ℕ, ℤ, ◌≤◌}
 
 -- the time of this date and time of day, where the year is not below 0
 abbrev pub when_in : ℤ → DateParts → TimeParts → Option When
@@ -25,3 +25,12 @@ time_of text = when_of (parse_datetime text)
 abbrev pub read_as_option : Result When Unread → Option When
 read_as_option (Ok time) = Some time
 read_as_option (Err unread) = None
+
+-- each field is in its range
+pub record IsCivilTime (time : When) : Type 0 where
+  pub year : time.year ≤ 9999
+  pub month : (1 ≤ time.month) × (time.month ≤ 12)
+  pub day : (1 ≤ time.day) × (time.day ≤ 31)
+  pub hour : time.hour ≤ 23
+  pub minute : time.minute ≤ 59
+  pub second : time.second ≤ 59

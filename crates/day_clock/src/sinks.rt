@@ -43,3 +43,50 @@ pub fn write_all<K: Sink>(sink: &mut K, bytes: &[u8]) -> Result<(), Failed>
     }
     Ok(())
 }
+
+#[cfg(test)]
+mod tests {
+    use super::*;
+    use crate::bytes_sinks::BytesSink;
+    use home_types::List;
+    use std::test::Fail;
+
+    #[test]
+    fn writes_whole_where_it_fits(rt: HostRuntime) -> Result<(), Fail> {
+        for most in [1, 3, 64] {
+            let mut sink = BytesSink::new(rt.alloc(), 10, List::new(rt.alloc()), most)?;
+            assert!(rt; write_all(&mut sink, b"home").is_ok());
+            assert!(rt; write_all(&mut sink, b"").is_ok());
+            assert!(rt; write_all(&mut sink, b" light").is_ok());
+            assert!(rt; sink.held() == b"home light".as_slice(), "{most} a call");
+        }
+        Ok(())
+    }
+
+    #[test]
+    fn leaves_the_first_part(rt: HostRuntime) -> Result<(), Fail> {
+        let mut full = BytesSink::new(rt.alloc(), 4, List::new(rt.alloc()), 64)?;
+        assert!(rt; write_all(&mut full, b"lights") == Err(Failed));
+        assert!(rt; full.held() == b"ligh".as_slice());
+        let mut none = BytesSink::new(rt.alloc(), 0, List::new(rt.alloc()), 64)?;
+        assert!(rt; write_all(&mut none, b"lights") == Err(Failed));
+        assert!(rt; none.held().is_empty());
+        Ok(())
+    }
+
+    // At one byte a call the sink holds what the calls before the failing one wrote.
+    #[test]
+    fn fails_at_each_call(rt: HostRuntime) -> Result<(), Fail> {
+        for (call, held) in [(1, ""), (2, "l"), (3, "li"), (4, "lig"), (5, "ligh")] {
+            let mut fails = List::new(rt.alloc());
+            fails.push(call)?;
+            let mut sink = BytesSink::new(rt.alloc(), 64, fails, 1)?;
+            assert!(rt;
+                write_all(&mut sink, b"light") == Err(Failed),
+                "call {call}"
+            );
+            assert!(rt; sink.held() == held.as_bytes(), "call {call}");
+        }
+        Ok(())
+    }
+}

@@ -82,3 +82,55 @@ pub fn read_to_end<S: Source>(
     }
     Err(InputFault::OverLimit)
 }
+
+#[cfg(test)]
+mod tests {
+    use super::*;
+    use crate::bytes_sources::BytesSource;
+    use home_types::{Bytes, List};
+    use std::test::Fail;
+
+    #[test]
+    fn reads_whole_up_to_the_limit(rt: HostRuntime) -> Result<(), Fail> {
+        for (text, limit, most) in [("", 0, 1), ("light", 5, 2), ("light", 9, 64)] {
+            let bytes = Bytes::of(rt.alloc(), text.as_bytes())?;
+            let mut source = BytesSource::new(bytes, List::new(rt.alloc()), most);
+            let read = read_to_end(rt.alloc(), &mut source, limit)?;
+            assert!(rt; read.as_slice() == text.as_bytes(), "{text} of {limit}");
+        }
+        Ok(())
+    }
+
+    #[test]
+    fn stops_one_byte_over_the_limit(rt: HostRuntime) -> Result<(), Fail> {
+        let bytes = Bytes::of(rt.alloc(), b"lights")?;
+        let mut source = BytesSource::new(bytes, List::new(rt.alloc()), 64);
+        assert!(rt;
+            matches!(
+                read_to_end(rt.alloc(), &mut source, 4),
+                Err(InputFault::OverLimit)
+            )
+        );
+        let mut rest = *b"..";
+        assert!(rt; source.read(&mut rest) == Ok(1));
+        assert!(rt; rest == *b"s.");
+        Ok(())
+    }
+
+    // At one byte a call there are six calls, the last for the end.
+    #[test]
+    fn fails_at_each_call(rt: HostRuntime) -> Result<(), Fail> {
+        for call in 1..8 {
+            let mut fails = List::new(rt.alloc());
+            fails.push(call)?;
+            let mut source = BytesSource::new(Bytes::of(rt.alloc(), b"light")?, fails, 1);
+            let read = read_to_end(rt.alloc(), &mut source, 9);
+            if call <= 6 {
+                assert!(rt; matches!(read, Err(InputFault::Failed)), "call {call}");
+            } else {
+                assert!(rt; read?.as_slice() == b"light".as_slice(), "call {call}");
+            }
+        }
+        Ok(())
+    }
+}

@@ -44,3 +44,53 @@ impl<W: Write> Sink for StdSink<W> {
         }
     }
 }
+
+#[cfg(test)]
+mod tests {
+    use super::*;
+    use crate::sinks::write_all;
+    use std::io;
+    use std::io::{Error, ErrorKind};
+    use std::test::Fail;
+
+    // Takes two bytes a call, but for one error and a call that takes nothing.
+    #[derive(Drop)]
+    struct Stumbling {
+        calls: u32,
+        taken: usize,
+    }
+
+    impl Write for Stumbling {
+        fn write(&mut self, buf: &[u8]) -> io::Result<usize> {
+            self.calls = self.calls.saturating_add(1);
+            match self.calls {
+                2 => Err(Error::from(ErrorKind::Other)),
+                4 => Ok(0),
+                _ => {
+                    let count = buf.len().min(2);
+                    self.taken = self.taken.saturating_add(count);
+                    Ok(count)
+                }
+            }
+        }
+
+        fn flush(&mut self) -> io::Result<()> {
+            Ok(())
+        }
+    }
+
+    #[test]
+    fn writes_and_fails(rt: HostRuntime) -> Result<(), Fail> {
+        let mut text = StdSink::new(Vec::new(rt.alloc()));
+        assert!(rt; write_all(&mut text, b"light").is_ok());
+        assert!(rt; text.writer.as_slice() == b"light".as_slice());
+        let mut sink = StdSink::new(Stumbling { calls: 0, taken: 0 });
+        assert!(rt; write_all(&mut sink, b"light") == Err(Failed));
+        assert!(rt; sink.writer.taken == 2);
+        assert!(rt; write_all(&mut sink, b"light") == Err(Failed));
+        assert!(rt; sink.writer.taken == 4);
+        assert!(rt; write_all(&mut sink, b"light").is_ok());
+        assert!(rt; sink.writer.taken == 9);
+        Ok(())
+    }
+}

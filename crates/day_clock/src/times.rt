@@ -1,5 +1,5 @@
-ghost use Rattle.std.specs.Prelude.{◌≡◌};
-ghost use Rattle.day_clock.specs.Times.{read_as_option, time_of};
+ghost use Rattle.std.specs.Prelude.{◌≡◌, IfOk};
+ghost use Rattle.day_clock.specs.Times.{IsCivilTime, read_as_option, time_of};
 
 use jiff::civil::DateTime;
 
@@ -23,7 +23,8 @@ pub struct Unread;
 ///
 /// `Unread` is all else. It takes no memory.
 pub fn read_time(text: &str) -> Result<When, Unread>
-    ensures { read_as_option result ≡ time_of text.now }
+    ensures read { read_as_option result ≡ time_of text.now }
+    ensures in_range { IfOk result IsCivilTime }
 {
     let parsed: Result<DateTime, jiff::Error> = text.parse();
     let Ok(moment) = parsed else {
@@ -41,4 +42,69 @@ pub fn read_time(text: &str) -> Result<When, Unread>
         minute: plain.time.minute,
         second: plain.time.second,
     })
+}
+
+#[cfg(test)]
+mod tests {
+    use super::*;
+
+    #[test]
+    fn reads_each_form(rt: HostRuntime) {
+        let seven = When {
+            year: 2021,
+            month: 4,
+            day: 26,
+            hour: 7,
+            minute: 0,
+            second: 0,
+        };
+        for text in [
+            "2021-04-26T07:00:00",
+            "2021-04-26t07:00:00",
+            "2021-04-26 07:00",
+            "2021-04-26T07",
+            "20210426T070000",
+            "2021-04-26T070000",
+            "+002021-04-26T07:00:00",
+            "2021-04-26T07:00:00,5",
+            "2021-04-26T07:00:00.999999999",
+            "2021-04-26T07:00:00+02:00",
+            "2021-04-26T07:00:00[Europe/Berlin]",
+            "2021-04-26T07:00:00[u-ca=iso8601]",
+        ] {
+            assert!(rt; read_time(text) == Ok(seven), "{text}");
+        }
+        let midnight = When { hour: 0, ..seven };
+        assert!(rt; read_time("2021-04-26") == Ok(midnight));
+        let last = When {
+            hour: 23,
+            minute: 59,
+            second: 59,
+            ..seven
+        };
+        assert!(rt; read_time("2021-04-26T23:59:60") == Ok(last));
+        assert!(rt; midnight < seven && seven < last);
+    }
+
+    #[test]
+    fn refuses_all_else(rt: HostRuntime) {
+        for text in [
+            "",
+            "2021-04-26T07:00:00Z",
+            "2021-04-26T07:00:00[!u-ca=iso8601]",
+            "-000001-01-01T00:00:00",
+            "-000000-01-01",
+            "10000-01-01T00:00:00",
+            "2021-04-26T24:00",
+            "2021-02-29",
+            "2021-13-01",
+            " 2021-04-26T07:00:00",
+            "2021-04-26T07:00:00 ",
+            "2021-4-26",
+            "2021-116",
+            "2021-W17-1",
+        ] {
+            assert!(rt; read_time(text) == Err(Unread), "{text}");
+        }
+    }
 }
