@@ -2,9 +2,9 @@
 use Rattle.routine_reader.specs.Forms.{knows, list_of, names_of}
 use Rattle.routine_reader.specs.declared.forms.Form.{Form}
 use Rattle.serde_json.specs.Data.{Data}
-use Rattle.serde_json.specs.View.{items_of, items_view, members_view, view}
+use Rattle.serde_json.specs.View.{items_of, members_view}
 use Rattle.serde_json.specs.declared.value.Value.{Value}
-use Rattle.std.proofs.Common.{Bool, List, String, [], ap, map, refl, string_bytes, ◌&&◌, ◌∙◌, ◌≡◌, ◌∷◌}
+use Rattle.std.proofs.Common.{List, String, [], ap, map, refl, string_bytes, ◌&&◌, ◌≡◌, ◌∷◌}
 use Rattle.std.specs.List.{list_all}
 use Rattle.std.specs.declared.alloc.Global.{Global}
 

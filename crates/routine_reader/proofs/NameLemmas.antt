@@ -5,7 +5,7 @@ use Rattle.serde_json.specs.Data.{Data}
 use Rattle.serde_json.specs.Find.{as_str}
 use Rattle.serde_json.specs.View.{view}
 use Rattle.serde_json.specs.declared.value.Value.{Value}
-use Rattle.std.proofs.Common.{Bool, List, None, Option, Some, [], ap, cond, drop, false, get_or, if◌then◌else◌, length, map, nat_lt, not, option_and_then, refl, sym, true, ℕ, ◌&&◌, ◌+◌, ◌++◌, ◌<◌, ◌∙◌, ◌≡◌, ◌≤◌, ◌∷◌}
+use Rattle.std.proofs.Common.{Bool, List, None, Option, Some, [], ap, cond, drop, false, get_or, if◌then◌else◌, length, map, nat_lt, not, option_and_then, refl, sym, true, ℕ, ◌+◌, ◌++◌, ◌<◌, ◌∙◌, ◌≡◌, ◌≤◌, ◌∷◌}
 use Rattle.std.proofs.lemmas.List.{drop_all, drop_more, length-map}
 use Rattle.std.specs.List.{position, position_or_len}
 
@@ -36,7 +36,7 @@ next_name earlier values name = if is_new_name earlier name then names_after (ea
 names-next : (earlier : List (List ℕ)) (values : List Value) (i : ℕ) (value : Value) → i < length values
     → value ≡ get_or values i value
     → names_after earlier (map view (drop i values))
-        ≡ option_and_then (next_name earlier (map view (drop (i + 1) values))) (as_str (view value))
+    ≡ option_and_then (next_name earlier (map view (drop (i + 1) values))) (as_str (view value))
 unfolding names_after
 names-next earlier values i value within is = ap (names_after earlier) (view-next values i value within is)
 

@@ -32,8 +32,8 @@ one_at_most (value ∷ other ∷ values) = None
 abbrev pub few : {T : Type 0} → (Data → Option T) → List Data → Option (List T)
 few reading values =
     option_and_then
-        (λ one. option_map_or (λ value. option_map (λ t. t ∷ []) (reading value)) one (Some []))
-        (one_at_most values)
+    (λ one. option_map_or (λ value. option_map (λ t. t ∷ []) (reading value)) one (Some []))
+    (one_at_most values)
 
 -- a list of exactly one value, read
 abbrev pub single : {T : Type 0} → (Data → Option T) → List Data → Option (List T)
@@ -49,8 +49,8 @@ unfoldable pub names_after : List (List ℕ) → List Data → Option (List (Lis
 names_after earlier [] = Some earlier
 names_after earlier (value ∷ values) =
     option_and_then
-        (λ name. if is_new_name earlier name then names_after (earlier ++ name ∷ []) values else None)
-        (as_str value)
+    (λ name. if is_new_name earlier name then names_after (earlier ++ name ∷ []) values else None)
+    (as_str value)
 
 -- 1 to 256 names, all different
 abbrev pub state_names : List Data → Option (List (List ℕ))
@@ -73,12 +73,12 @@ is_small_device value =
 abbrev pub small_device : Data → Option PlainDevice
 small_device value =
     if is_small_device value then
-        (option_and_then
-            (λ name.
-                option_and_then
-                    (λ states. option_map (device_with name states) (state_at (codes "start") states value))
-                    (option_and_then state_names (list_at (codes "states") value)))
-            (name_at (codes "name") value))
+    (option_and_then
+    (λ name.
+    option_and_then
+    (λ states. option_map (device_with name states) (state_at (codes "start") states value))
+    (option_and_then state_names (list_at (codes "states") value)))
+    (name_at (codes "name") value))
     else None
 
 abbrev pub device_names : List PlainDevice → List (List ℕ)
@@ -103,9 +103,9 @@ is_small_command value =
 abbrev pub small_command : List PlainDevice → Data → Option Command
 small_command devices value =
     if is_small_command value then
-        (option_and_then
-            (λ d. option_map {U = Command} (set_to d) (state_at (codes "to") (states_of devices d) value))
-            (option_and_then (place_of (device_names devices)) (text_at (codes "on") value)))
+    (option_and_then
+    (λ d. option_map {U = Command} (set_to d) (state_at (codes "to") (states_of devices d) value))
+    (option_and_then (place_of (device_names devices)) (text_at (codes "on") value)))
     else None
 
 abbrev pub routine_with : List ℕ → List Command → PlainRoutine
@@ -115,12 +115,12 @@ routine_with name commands = record { name = name; commands = commands }
 abbrev pub small_routine : List PlainDevice → Data → Option PlainRoutine
 small_routine devices value =
     if has_form form.Routine value then
-        (option_and_then
-            (λ name.
-                option_map
-                    (routine_with name)
-                    (option_and_then (single (small_command devices)) (list_at (codes "commands") value)))
-            (name_at (codes "name") value))
+    (option_and_then
+    (λ name.
+    option_map
+    (routine_with name)
+    (option_and_then (single (small_command devices)) (list_at (codes "commands") value)))
+    (name_at (codes "name") value))
     else None
 
 abbrev pub routine_names : List PlainRoutine → List (List ℕ)
@@ -133,7 +133,7 @@ run_of routine = record { routine = routine; follows = None }
 abbrev pub small_run : List PlainRoutine → Data → Option RunText
 small_run routines value =
     if has_form form.Run value && lacks (codes "follows") value then
-        (option_map {U = RunText} run_of (option_and_then (place_of (routine_names routines)) (text_at (codes "routine") value)))
+    (option_map {U = RunText} run_of (option_and_then (place_of (routine_names routines)) (text_at (codes "routine") value)))
     else None
 
 abbrev pub window_with : When → List RunText → PlainWindow
@@ -147,9 +147,9 @@ is_small_window value =
 abbrev pub small_window : List PlainRoutine → Data → Option PlainWindow
 small_window routines value =
     if is_small_window value then
-        (option_and_then
-            (λ at. option_map (window_with at) (option_and_then (few (small_run routines)) (list_at (codes "runs") value)))
-            (option_and_then time_of (text_at (codes "at") value)))
+    (option_and_then
+    (λ at. option_map (window_with at) (option_and_then (few (small_run routines)) (list_at (codes "runs") value)))
+    (option_and_then time_of (text_at (codes "at") value)))
     else None
 
 abbrev pub script_with : List PlainDevice → List PlainRoutine → List PlainWindow → PlainScript
@@ -159,12 +159,12 @@ script_with devices routines windows = record { devices = devices; routines = ro
 abbrev pub small_script : DayMembers → Option PlainScript
 small_script members =
     if members.version == 1 then
-        (option_and_then
-            (λ devices.
-                option_and_then
-                    (λ routines. option_map (script_with devices routines) (few (small_window routines) members.windows))
-                    (few (small_routine devices) members.routines))
-            (few small_device members.devices))
+    (option_and_then
+    (λ devices.
+    option_and_then
+    (λ routines. option_map (script_with devices routines) (few (small_window routines) members.windows))
+    (few (small_routine devices) members.routines))
+    (few small_device members.devices))
     else None
 
 -- the reading of a value, or its refusal: no top object of a script, or no small script

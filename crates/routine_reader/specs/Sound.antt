@@ -7,7 +7,6 @@ use Rattle.home_types.specs.declared.commands.Job.TheVariants.{Check, Load, Set,
 use Rattle.home_types.specs.declared.commands.Job.{Job}
 use Rattle.home_types.specs.declared.kinds.Kind.TheVariants.{Range, States}
 use Rattle.home_types.specs.declared.kinds.Kind.{Kind}
-use Rattle.home_types.specs.declared.numbers.RunNo.{RunNo}
 use Rattle.routine_reader.specs.Limits.{most_commands, most_devices, most_downs, most_ms, most_probes, most_routines, most_runs, most_states, most_turns, most_windows}
 use Rattle.routine_reader.specs.Names.{is_among, is_name}
 use Rattle.routine_reader.specs.Scripts.{PlainDevice, PlainRoutine, PlainScript, PlainWindow}

@@ -8,10 +8,10 @@ ghost use Rattle.std.specs.List.{position};
 ghost use Rattle.std.specs.Str.{bytes_eq};
 ghost use Rattle.std.specs.Prelude.{◌≡◌, ◌<◌, ◌≤◌, [], All, IfOk, IfSome, length, map, option_map};
 
-use crate::forms::{has_form, lacks, list_at, name_at, one_at_most, text_at, Form};
+use crate::forms::{Form, has_form, lacks, list_at, name_at, one_at_most, text_at};
 use crate::names::{is_new_name, place_of};
 use crate::scripts::DeviceText;
-use home_types::{limits, Kind, List, NoMemory, Text, Value};
+use home_types::{Kind, List, NoMemory, Text, Value, limits};
 use serde_json::Value as Json;
 use std::alloc::Global;
 
@@ -57,7 +57,10 @@ fn read_states(alloc: Global, values: &[Json]) -> Result<Option<List<Text>>, NoM
 fn is_small_device(value: &Json) -> bool
     ensures { result ≡ is_small_device (view value.now) }
 {
-    has_form(Form::Device, value) && lacks(value, "low") && lacks(value, "high") && lacks(value, "down")
+    has_form(Form::Device, value)
+        && lacks(value, "low")
+        && lacks(value, "high")
+        && lacks(value, "down")
 }
 
 /// Reads a device with states and no `down`; none where it is no such device.

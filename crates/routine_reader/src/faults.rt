@@ -29,7 +29,10 @@ impl fmt::Display for Spot {
         match part {
             Part::Top => write!(f, "{part}"),
             Part::Device | Part::Routine | Part::Window => write!(f, "{part} {outer}"),
-            Part::Down | Part::Command | Part::Turn | Part::Run => write!(f, "{part} {outer}.{inner}"),
+            Part::Down | Part::Command | Part::Turn | Part::Run => write!(
+                f,
+                "{part} {outer}.{inner}"
+            ),
         }
     }
 }

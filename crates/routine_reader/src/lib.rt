@@ -3,10 +3,10 @@
 
 pub mod devices;
 pub mod faults;
-pub mod readers;
-pub mod routines;
 pub mod forms;
 pub mod names;
+pub mod readers;
+pub mod routines;
 pub mod scripts;
 pub mod windows;
 

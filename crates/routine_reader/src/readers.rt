@@ -4,15 +4,15 @@ ghost use Rattle.routine_reader.specs.Small.{small_reading, small_script, small_
 ghost use Rattle.routine_reader.specs.Sound.{IsSound};
 ghost use Rattle.routine_reader.specs.Spots.{is_memory};
 ghost use Rattle.serde_json.specs.View.{view};
-ghost use Rattle.std.specs.Prelude.{◌≡◌, Err, IfErr, IfOk, None, Ok, Some, false, map, option_map};
+ghost use Rattle.std.specs.Prelude.{◌≡◌, Err, IfErr, IfOk, IfSome, None, Ok, Some, false, map, option_map};
 
 use crate::devices::read_devices;
 use crate::faults::{ReadFault, Spot};
-use crate::forms::{has_form, list_at, number_at, Form};
+use crate::forms::{Form, has_form, list_at, number_at};
 use crate::routines::read_routines;
 use crate::scripts::Script;
 use crate::windows::read_windows;
-use home_types::{limits, NoMemory};
+use home_types::{NoMemory, limits};
 use serde_json::Value as Json;
 use std::alloc::Global;
 
@@ -61,7 +61,8 @@ fn members_of(value: &Json) -> Option<Members<'_>>
 
 /// Reads a small script of version 1; none where it is no such script.
 fn read_small(alloc: Global, members: &Members<'_>) -> Result<Option<Script>, NoMemory>
-    ensures { IfOk result (λ o. option_map plain_script o ≡ small_script (record { version = members.now.version; devices = map view members.now.devices.now; routines = map view members.now.routines.now; windows = map view members.now.windows.now })) }
+    ensures reading { IfOk result (λ o. option_map plain_script o ≡ small_script (record { version = members.now.version; devices = map view members.now.devices.now; routines = map view members.now.routines.now; windows = map view members.now.windows.now })) }
+    ensures sound { IfOk result (λ o. IfSome o (λ script. IsSound (plain_script script))) }
 {
     if members.version != VERSION {
         return Ok(None);
@@ -84,6 +85,7 @@ fn read_small(alloc: Global, members: &Members<'_>) -> Result<Option<Script>, No
 
 fn read_top(alloc: Global, value: &Json) -> Result<Script, ReadFault>
     ensures reading { IfOk result (λ script. small_reading (view value.now) ≡ Ok (plain_script script)) }
+    ensures sound { IfOk result (λ script. IsSound (plain_script script)) }
     ensures refused { IfErr result (λ fault. is_memory fault ≡ false → small_reading (view value.now) ≡ Err fault) }
 {
     let Some(members) = members_of(value) else {
@@ -109,6 +111,7 @@ fn read_top(alloc: Global, value: &Json) -> Result<Script, ReadFault>
 /// type; `NotBuilt` at the top where it is no small script of version 1. `NoMemory` may come at any point.
 pub fn read_script(alloc: Global, bytes: &[u8]) -> Result<Script, ReadFault>
     ensures reading { IfOk result (λ script. small_script_reading bytes.now ≡ Ok (plain_script script)) }
+    ensures sound { IfOk result (λ script. IsSound (plain_script script)) }
     ensures refused { IfErr result (λ fault. is_memory fault ≡ false → small_script_reading bytes.now ≡ Err fault) }
 {
     if bytes.len() as u64 > limits::SCRIPT_BYTES {

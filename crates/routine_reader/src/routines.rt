@@ -8,7 +8,7 @@ ghost use Rattle.std.specs.Prelude.{◌≡◌, ◌<◌, ◌≤◌, All, IfOk, If
 ghost use Rattle.std.specs.Str.{bytes_eq};
 
 use crate::devices::{device_named, state_at, states_of};
-use crate::forms::{has_form, lacks, list_at, name_at, one_at_most, text_at, Form};
+use crate::forms::{Form, has_form, lacks, list_at, name_at, one_at_most, text_at};
 use crate::scripts::{DeviceText, RoutineText};
 use home_types::{Command, DeviceNo, Job, List, NoMemory, Routine, Text};
 use serde_json::Value as Json;
@@ -57,7 +57,11 @@ pub fn read_command(value: &Json, devices: &[DeviceText]) -> Option<Command>
     })
 }
 
-fn read_commands(alloc: Global, values: &[Json], devices: &[DeviceText]) -> Result<Option<List<Command>>, NoMemory>
+fn read_commands(
+    alloc: Global,
+    values: &[Json],
+    devices: &[DeviceText],
+) -> Result<Option<List<Command>>, NoMemory>
     requires few { length devices.now ≤ most_devices }
     requires states { All (λ device. length device.states.items ≤ most_states) devices.now }
     ensures { IfOk result (λ o. option_map (λ commands. commands.items) o ≡ single (small_command (map plain_device devices.now)) (map view values.now)) }
@@ -74,7 +78,11 @@ fn read_commands(alloc: Global, values: &[Json], devices: &[DeviceText]) -> Resu
 }
 
 /// Reads a routine with one command; none where it is no such routine.
-pub fn read_routine(alloc: Global, value: &Json, devices: &[DeviceText]) -> Result<Option<RoutineText>, NoMemory>
+pub fn read_routine(
+    alloc: Global,
+    value: &Json,
+    devices: &[DeviceText],
+) -> Result<Option<RoutineText>, NoMemory>
     requires few { length devices.now ≤ most_devices }
     requires states { All (λ device. length device.states.items ≤ most_states) devices.now }
     ensures { IfOk result (λ o. option_map plain_routine o ≡ small_routine (map plain_device devices.now) (view value.now)) }

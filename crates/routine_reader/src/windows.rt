@@ -1,15 +1,15 @@
-ghost use Rattle.day_clock.specs.Times.{time_of};
+ghost use Rattle.day_clock.specs.Times.{IsCivilTime, time_of};
 ghost use Rattle.routine_reader.specs.Forms.{text_at};
 ghost use Rattle.routine_reader.specs.Limits.{most_routines};
 ghost use Rattle.routine_reader.specs.Scripts.{plain_routine, plain_window};
 ghost use Rattle.routine_reader.specs.Small.{few, is_small_window, small_run, small_window};
 ghost use Rattle.serde_json.specs.View.{view};
-ghost use Rattle.std.specs.Prelude.{◌≡◌, ◌≤◌, IfOk, length, map, option_and_then, option_map};
+ghost use Rattle.std.specs.Prelude.{◌≡◌, ◌≤◌, All, IfOk, IfSome, length, map, option_and_then, option_map};
 
-use crate::forms::{has_form, lacks, list_at, one_at_most, text_at, Form};
+use crate::forms::{Form, has_form, lacks, list_at, one_at_most, text_at};
 use crate::routines::routine_named;
 use crate::scripts::{RoutineText, RunText, WindowText};
-use day_clock::{read_time, When};
+use day_clock::{When, read_time};
 use home_types::{List, NoMemory};
 use serde_json::Value as Json;
 use std::alloc::Global;
@@ -33,7 +33,11 @@ pub fn read_run(value: &Json, routines: &[RoutineText]) -> Option<RunText>
     })
 }
 
-fn read_runs(alloc: Global, values: &[Json], routines: &[RoutineText]) -> Result<Option<List<RunText>>, NoMemory>
+fn read_runs(
+    alloc: Global,
+    values: &[Json],
+    routines: &[RoutineText],
+) -> Result<Option<List<RunText>>, NoMemory>
     requires { length routines.now ≤ most_routines }
     ensures { IfOk result (λ o. option_map (λ runs. runs.items) o ≡ few (small_run (map plain_routine routines.now)) (map view values.now)) }
 {
@@ -52,7 +56,8 @@ fn read_runs(alloc: Global, values: &[Json], routines: &[RoutineText]) -> Result
 
 /// The time that a member is.
 pub fn time_at(value: &Json, member: &str) -> Option<When>
-    ensures { result ≡ option_and_then time_of (text_at member.now (view value.now)) }
+    ensures reading { result ≡ option_and_then time_of (text_at member.now (view value.now)) }
+    ensures in_range { IfSome result IsCivilTime }
 {
     let text = text_at(value, member)?;
     read_time(text).ok()
@@ -61,13 +66,21 @@ pub fn time_at(value: &Json, member: &str) -> Option<When>
 fn is_small_window(value: &Json) -> bool
     ensures { result ≡ is_small_window (view value.now) }
 {
-    has_form(Form::Window, value) && lacks(value, "seed") && lacks(value, "probes") && lacks(value, "turns")
+    has_form(Form::Window, value)
+        && lacks(value, "seed")
+        && lacks(value, "probes")
+        && lacks(value, "turns")
 }
 
 /// Reads a window without `seed`, `probes` and `turns`, with at most one run; none where it is no such window.
-pub fn read_window(alloc: Global, value: &Json, routines: &[RoutineText]) -> Result<Option<WindowText>, NoMemory>
+pub fn read_window(
+    alloc: Global,
+    value: &Json,
+    routines: &[RoutineText],
+) -> Result<Option<WindowText>, NoMemory>
     requires { length routines.now ≤ most_routines }
-    ensures { IfOk result (λ o. option_map plain_window o ≡ small_window (map plain_routine routines.now) (view value.now)) }
+    ensures reading { IfOk result (λ o. option_map plain_window o ≡ small_window (map plain_routine routines.now) (view value.now)) }
+    ensures in_range { IfOk result (λ o. IfSome o (λ window. IsCivilTime window.at)) }
 {
     if !is_small_window(value) {
         return Ok(None);
@@ -97,7 +110,8 @@ pub fn read_windows(
     routines: &[RoutineText],
 ) -> Result<Option<List<WindowText>>, NoMemory>
     requires { length routines.now ≤ most_routines }
-    ensures { IfOk result (λ o. option_map (λ windows. map plain_window windows.items) o ≡ few (small_window (map plain_routine routines.now)) (map view values.now)) }
+    ensures reading { IfOk result (λ o. option_map (λ windows. map plain_window windows.items) o ≡ few (small_window (map plain_routine routines.now)) (map view values.now)) }
+    ensures in_range { IfOk result (λ o. IfSome o (λ windows. All (λ window. IsCivilTime window.at) windows.items)) }
 {
     let mut windows = List::new(alloc);
     let Some(one) = one_at_most(values) else {

@@ -1,9 +1,7 @@
 use Rattle.routine_reader.proofs.NameLemmas.{position-map}
 use Rattle.routine_reader.proofs.devices.device_named.Goals as goal
-use Rattle.routine_reader.specs.Scripts.{PlainDevice, plain_device}
-use Rattle.routine_reader.specs.Small.{device_names}
-use Rattle.std.proofs.Common.{map, rules, sym, ◌∙◌, ◌≡◌}
-use Rattle.std.specs.List.{position}
+use Rattle.routine_reader.specs.Scripts.{plain_device}
+use Rattle.std.proofs.Common.{map, sym, ◌∙◌}
 use Rattle.std.specs.Str.{bytes_eq}
 
 pub returns-clause-number : goal.returns-clause-number

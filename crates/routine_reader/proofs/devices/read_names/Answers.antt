@@ -4,7 +4,7 @@ use Rattle.routine_reader.specs.Names.{is_new_name}
 use Rattle.serde_json.specs.Find.{as_str}
 use Rattle.serde_json.specs.View.{view}
 use Rattle.routine_reader.specs.Small.{names_after}
-use Rattle.std.proofs.Common.{None, Some, [], ap, arith, drop, false, length, length-append, map, rules, sym, true, ◌+◌, ◌++◌, ◌<◌, ◌∙◌, ◌≡◌, ◌≤◌, ◌∷◌}
+use Rattle.std.proofs.Common.{None, Some, [], ap, arith, drop, false, length-append, map, rules, sym, true, ◌+◌, ◌++◌, ◌∙◌, ◌≡◌, ◌∷◌}
 
 pub returns-in_default-clause-reading : goal.returns-in_default-clause-reading
 returns-in_default-clause-reading c =

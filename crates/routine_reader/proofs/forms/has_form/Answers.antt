@@ -3,7 +3,7 @@ use Rattle.routine_reader.proofs.forms.has_form.Goals as goal
 use Rattle.routine_reader.specs.Forms.{knows, names_of}
 use Rattle.serde_json.specs.Find.{as_object}
 use Rattle.serde_json.specs.View.{members_view, view}
-use Rattle.std.proofs.Common.{Option, Some, ap, false, rules, ◌∙◌, ◌≡◌}
+use Rattle.std.proofs.Common.{Some, ap, false, rules, ◌∙◌, ◌≡◌}
 use Rattle.std.specs.List.{list_all}
 use Rattle.std.specs.Option.{option_map_or}
 

@@ -3,7 +3,7 @@ use Rattle.routine_reader.proofs.forms.list_at.Goals as goal
 use Rattle.routine_reader.specs.Forms.{list_of}
 use Rattle.serde_json.specs.Find.{as_array, get}
 use Rattle.serde_json.specs.View.{items_view, view}
-use Rattle.std.proofs.Common.{Option, Some, ap, map, option_and_then, option_map, rules, sym, ◌∙◌, ◌≡◌}
+use Rattle.std.proofs.Common.{Some, ap, map, option_and_then, option_map, rules, sym, ◌∙◌, ◌≡◌}
 
 pub returns-in-Some : goal.returns-in-Some
 returns-in-Some c =

@@ -1,9 +1,7 @@
 use Rattle.routine_reader.proofs.NameLemmas.{position-map}
 use Rattle.routine_reader.proofs.routines.routine_named.Goals as goal
-use Rattle.routine_reader.specs.Scripts.{PlainDevice, plain_routine}
-use Rattle.routine_reader.specs.Small.{routine_names}
-use Rattle.std.proofs.Common.{map, rules, sym, ◌∙◌, ◌≡◌}
-use Rattle.std.specs.List.{position}
+use Rattle.routine_reader.specs.Scripts.{plain_routine}
+use Rattle.std.proofs.Common.{map, sym, ◌∙◌}
 use Rattle.std.specs.Str.{bytes_eq}
 
 pub returns-clause-number : goal.returns-clause-number
