@@ -1,5 +1,5 @@
 -- A script that is read is one that the format allows.
-use Rattle.day_clock.specs.Times.{IsCivilTime, time_of}
+use Rattle.day_clock.specs.Times.{IsCivilTime}
 use Rattle.home_types.specs.Kinds.{has_value, kind_at}
 use Rattle.home_types.specs.declared.commands.Command.{Command}
 use Rattle.home_types.specs.declared.commands.Job.TheVariants.{Set}
@@ -10,8 +10,8 @@ use Rattle.routine_reader.specs.Limits.{most_states}
 use Rattle.routine_reader.specs.Names.{is_among, is_name, is_new_name, place_of}
 use Rattle.routine_reader.specs.Readings.{DayMembers}
 use Rattle.routine_reader.specs.Scripts.{PlainDevice, PlainRoutine, PlainScript, PlainWindow}
-use Rattle.routine_reader.specs.Small.{device_names, device_with, few, is_small_command, is_small_device, is_small_window, name_at, names_after, routine_names, routine_with, run_of, script_with, set_to, single, small_command, small_device, small_routine, small_run, small_script, small_window, state_at, state_names, states_of, window_with}
-use Rattle.routine_reader.specs.Sound.{AreDifferent, AreInOrder, IsName, IsSound, IsSoundCommand, IsSoundDevice, IsSoundDown, IsSoundRoutine, IsSoundRun, IsSoundWindow, kinds_of, suits}
+use Rattle.routine_reader.specs.Small.{device_names, device_with, few, is_small_command, is_small_device, is_small_window, name_at, names_after, routine_names, routine_with, run_of, script_with, set_to, single, small_command, small_commands, small_device, small_devices, small_on, small_routine, small_routine_of, small_routines, small_run, small_runs, small_script, small_start, small_states, small_to, small_window, small_windows, state_at, state_names, states_of, time_at, window_with, with_all, with_both}
+use Rattle.routine_reader.specs.Sound.{AreDifferent, AreInOrder, IsName, IsSound, IsSoundCommand, IsSoundDevice, IsSoundDown, IsSoundRoutine, IsSoundRun, IsSoundWindow, device_kinds, suits}
 use Rattle.routine_reader.specs.declared.forms.Form.TheVariants as form
 use Rattle.routine_reader.specs.declared.scripts.RunText.{RunText}
 use Rattle.serde_json.specs.Data.{Data}
@@ -45,6 +45,23 @@ some-same a b h = cc
 map-some : {T U : Type 0} (f : T → U) (o : Option T) (u : U) → option_map f o ≡ Some u → (t : T) × ((o ≡ Some t) × (f t ≡ u))
 map-some f None u h = absurd (none-some u h)
 map-some f (Some t) u h = (t, (refl, some-same (f t) u h))
+
+both-some : {A B C : Type 0} (f : A → B → C) (a : Option A) (b : Option B) (c : C) → with_both f a b ≡ Some c
+    → (x : A) × (y : B) × (a ≡ Some x) × (b ≡ Some y) × (f x y ≡ c)
+both-some f None b c h = absurd (none-some c h)
+both-some f (Some x) None c h = absurd (none-some c h)
+both-some f (Some x) (Some y) c h = (x, y, refl, refl, some-same (f x y) c h)
+
+all-some : {A B C D : Type 0} (f : A → B → C → D) (a : Option A) (b : Option B) (c : Option C) (d : D) → with_all f a b c ≡ Some d
+    → (x : A) × (y : B) × (z : C) × (a ≡ Some x) × (b ≡ Some y) × (c ≡ Some z) × (f x y z ≡ d)
+all-some f None b c d h = absurd (none-some d h)
+all-some f (Some x) None c d h = absurd (none-some d h)
+all-some f (Some x) (Some y) None d h = absurd (none-some d h)
+all-some f (Some x) (Some y) (Some z) d h = (x, y, z, refl, refl, refl, some-same (f x y z) d h)
+
+-- what f makes of a value that is known
+from-some : {T U : Type 0} (f : T → Option U) (o : Option T) (t : T) (u : U) → o ≡ Some t → option_and_then f o ≡ Some u → f t ≡ Some u
+from-some f o t u e h = sym (ap (option_and_then f) e) ∙ h
 
 -- ---- names
 
@@ -129,15 +146,15 @@ device-made name states start named are different some few within =
 
 pub device-sound : (value : Data) (device : PlainDevice) → small_device value ≡ Some device → IsSmallDevice device
 device-sound value device h =
-    let whole = if-some (is_small_device value) (option_and_then (λ name. option_and_then (λ states. option_map (device_with name states) (state_at (codes "start") states value)) (option_and_then state_names (list_at (codes "states") value))) (name_at (codes "name") value)) device h in
-    let name = then-some (λ name. option_and_then (λ states. option_map (device_with name states) (state_at (codes "start") states value)) (option_and_then state_names (list_at (codes "states") value))) (name_at (codes "name") value) device whole.1 in
-    let states = then-some (λ states. option_map (device_with name.0 states) (state_at (codes "start") states value)) (option_and_then state_names (list_at (codes "states") value)) device name.1.1 in
-    let values = then-some state_names (list_at (codes "states") value) states.0 states.1.0 in
-    let start = map-some (device_with name.0 states.0) (state_at (codes "start") states.0 value) device states.1.1 in
-    let sound = states-sound values.0 states.0 values.1.1 in
-    subst IsSmallDevice start.1.1
-    (device-made name.0 states.0 start.0 (name-sound (codes "name") value name.0 name.1.0) sound.0 sound.1 sound.2 sound.3
-    (state-within (codes "start") states.0 value start.0 start.1.0))
+    let name = name_at (codes "name") value in
+    let whole = if-some (is_small_device value) (with_all device_with name (small_states value) (small_start value)) device h in
+    let parts = all-some device_with name (small_states value) (small_start value) device whole.1 in
+    let values = then-some state_names (list_at (codes "states") value) parts.1 parts.4 in
+    let sound = states-sound values.0 parts.1 values.1.1 in
+    let start = from-some (λ states. state_at (codes "start") states value) (small_states value) parts.1 parts.2 parts.4 parts.5 in
+    subst IsSmallDevice parts.6
+    (device-made parts.0 parts.1 parts.2 (name-sound (codes "name") value parts.0 parts.3) sound.0 sound.1 sound.2 sound.3
+    (state-within (codes "start") parts.1 value parts.2 start))
 
 -- ---- lists of at most one
 
@@ -177,56 +194,56 @@ few-different P name ts some =
 -- ---- routines
 
 states-suit : (device : PlainDevice) (d v : ℕ) → device.kind ≡ States (length device.states) → d < 1 → v < length (states_of (device ∷ []) d)
-    → suits (kind_at (kinds_of (device ∷ [])) d) (Set v) ≡ true
+    → suits (kind_at (device_kinds (device ∷ [])) d) (Set v) ≡ true
 states-suit device zero v kind one within = subst (λ k. has_value k v ≡ true) (sym kind) (below-true v (length device.states) within)
 states-suit device (suc d) v kind one within = absurd (omega arith)
 
 state-suits : (devices : List PlainDevice) (d v : ℕ) → FewOf IsSmallDevice devices → d < length devices → v < length (states_of devices d)
-    → suits (kind_at (kinds_of devices) d) (Set v) ≡ true
+    → suits (kind_at (device_kinds devices) d) (Set v) ≡ true
 state-suits devices d v some number within =
     elim some [
       | inl e ↦ (let none : d < length {A = PlainDevice} [] = subst (λ l. d < length l) e number in absurd (omega (arith, none)))
-      | inr p ↦ subst (λ l. d < length l → v < length (states_of l d) → suits (kind_at (kinds_of l) d) (Set v) ≡ true) (sym p.1.0)
+      | inr p ↦ subst (λ l. d < length l → v < length (states_of l d) → suits (kind_at (device_kinds l) d) (Set v) ≡ true) (sym p.1.0)
           (λ one. states-suit p.0 d v p.1.1.kind one) number within
     ]
 
 command-sound : (devices : List PlainDevice) → FewOf IsSmallDevice devices → (value : Data) (command : Command)
     → small_command devices value ≡ Some command → IsSoundCommand devices command
 command-sound devices some value command h =
-    let whole = if-some (is_small_command value) (option_and_then (λ d. option_map (set_to d) (state_at (codes "to") (states_of devices d) value)) (option_and_then (place_of (device_names devices)) (text_at (codes "on") value))) command h in
-    let device = then-some (λ d. option_map (set_to d) (state_at (codes "to") (states_of devices d) value)) (option_and_then (place_of (device_names devices)) (text_at (codes "on") value)) command whole.1 in
-    let on = then-some (place_of (device_names devices)) (text_at (codes "on") value) device.0 device.1.0 in
-    let place = place-within (device_names devices) on.0 device.0 on.1.1 in
-    let number : device.0 < length devices = subst (λ n. device.0 < n) (length-map devices (λ device. device.name)) place in
-    let to = map-some (set_to device.0) (state_at (codes "to") (states_of devices device.0) value) command device.1.1 in
-    let within = state-within (codes "to") (states_of devices device.0) value to.0 to.1.0 in
-    subst (IsSoundCommand devices) to.1.1
-    (record { device = number; value = state-suits devices device.0 to.0 some number within; ms = omega arith; takes = omega arith })
+    let whole = if-some (is_small_command value) (with_both set_to (small_on devices value) (small_to devices value)) command h in
+    let parts = both-some set_to (small_on devices value) (small_to devices value) command whole.1 in
+    let on = then-some (place_of (device_names devices)) (text_at (codes "on") value) parts.0 parts.2 in
+    let place = place-within (device_names devices) on.0 parts.0 on.1.1 in
+    let number : parts.0 < length devices = subst (λ n. parts.0 < n) (length-map devices (λ device. device.name)) place in
+    let to = from-some (λ d. state_at (codes "to") (states_of devices d) value) (small_on devices value) parts.0 parts.1 parts.2 parts.3 in
+    let within = state-within (codes "to") (states_of devices parts.0) value parts.1 to in
+    subst (IsSoundCommand devices) parts.4
+    (record { device = number; value = state-suits devices parts.0 parts.1 some number within; ms = omega arith; takes = omega arith })
 
 routine-sound : (devices : List PlainDevice) → FewOf IsSmallDevice devices → (value : Data) (routine : PlainRoutine)
     → small_routine devices value ≡ Some routine → IsSoundRoutine devices routine
 routine-sound devices some value routine h =
-    let whole = if-some (has_form form.Routine value) (option_and_then (λ name. option_map (routine_with name) (option_and_then (single (small_command devices)) (list_at (codes "commands") value))) (name_at (codes "name") value)) routine h in
-    let name = then-some (λ name. option_map (routine_with name) (option_and_then (single (small_command devices)) (list_at (codes "commands") value))) (name_at (codes "name") value) routine whole.1 in
-    let commands = map-some (routine_with name.0) (option_and_then (single (small_command devices)) (list_at (codes "commands") value)) routine name.1.1 in
-    let values = then-some (single (small_command devices)) (list_at (codes "commands") value) commands.0 commands.1.0 in
-    let one = single-read (IsSoundCommand devices) (small_command devices) (command-sound devices some) values.0 commands.0 values.1.1 in
-    let made : IsSoundRoutine devices (routine_with name.0 (one.0 ∷ [])) =
+    let name = name_at (codes "name") value in
+    let whole = if-some (has_form form.Routine value) (with_both routine_with name (small_commands devices value)) routine h in
+    let parts = both-some routine_with name (small_commands devices value) routine whole.1 in
+    let values = then-some (single (small_command devices)) (list_at (codes "commands") value) parts.1 parts.3 in
+    let one = single-read (IsSoundCommand devices) (small_command devices) (command-sound devices some) values.0 parts.1 values.1.1 in
+    let made : IsSoundRoutine devices (routine_with parts.0 (one.0 ∷ [])) =
     record {
-      name = name-sound (codes "name") value name.0 name.1.0;
+      name = name-sound (codes "name") value parts.0 parts.2;
       some_commands = omega arith;
       few_commands = omega arith;
       commands = All-cons (IsSoundCommand devices) one.0 [] one.1.1 (All-nil (IsSoundCommand devices));
     } in
-    subst (IsSoundRoutine devices) (ap (routine_with name.0) one.1.0 ∙ commands.1.1) made
+    subst (IsSoundRoutine devices) (ap (routine_with parts.0) one.1.0 ∙ parts.4) made
 
 -- ---- windows
 
 run-sound : (routines : List PlainRoutine) (value : Data) (run : RunText) → small_run routines value ≡ Some run
     → (earlier : ℕ) → IsSoundRun (length routines) earlier run
 run-sound routines value run h earlier =
-    let whole = if-some (has_form form.Run value && lacks (codes "follows") value) (option_map run_of (option_and_then (place_of (routine_names routines)) (text_at (codes "routine") value))) run h in
-    let routine = map-some run_of (option_and_then (place_of (routine_names routines)) (text_at (codes "routine") value)) run whole.1 in
+    let whole = if-some (has_form form.Run value && lacks (codes "follows") value) (option_map run_of (small_routine_of routines value)) run h in
+    let routine = map-some run_of (small_routine_of routines value) run whole.1 in
     let name = then-some (place_of (routine_names routines)) (text_at (codes "routine") value) routine.0 routine.1.0 in
     let place = place-within (routine_names routines) name.0 routine.0 name.1.1 in
     let number : routine.0 < length routines = subst (λ n. routine.0 < n) (length-map routines (λ routine. routine.name)) place in
@@ -247,23 +264,23 @@ runs-sound n runs some k run at =
 window-sound : (routines : List PlainRoutine) (value : Data) (window : PlainWindow) → small_window routines value ≡ Some window
     → IsCivilTime window.at → IsSoundWindow (length routines) window
 window-sound routines value window h =
-    let whole = if-some (is_small_window value) (option_and_then (λ at. option_map (window_with at) (option_and_then (few (small_run routines)) (list_at (codes "runs") value))) (option_and_then time_of (text_at (codes "at") value))) window h in
-    let time = then-some (λ at. option_map (window_with at) (option_and_then (few (small_run routines)) (list_at (codes "runs") value))) (option_and_then time_of (text_at (codes "at") value)) window whole.1 in
-    let runs = map-some (window_with time.0) (option_and_then (few (small_run routines)) (list_at (codes "runs") value)) window time.1.1 in
-    let values = then-some (few (small_run routines)) (list_at (codes "runs") value) runs.0 runs.1.0 in
+    let time = time_at (codes "at") value in
+    let whole = if-some (is_small_window value) (with_both window_with time (small_runs routines value)) window h in
+    let parts = both-some window_with time (small_runs routines value) window whole.1 in
+    let values = then-some (few (small_run routines)) (list_at (codes "runs") value) parts.1 parts.3 in
     let P : RunText → Type 0 = λ run. (earlier : ℕ) → IsSoundRun (length routines) earlier run in
-    let read = few-read P (small_run routines) (run-sound routines) values.0 runs.0 values.1.1 in
-    let short = few-length P runs.0 read in
-    subst (λ w. IsCivilTime w.at → IsSoundWindow (length routines) w) runs.1.1
+    let read = few-read P (small_run routines) (run-sound routines) values.0 parts.1 values.1.1 in
+    let short = few-length P parts.1 read in
+    subst (λ w. IsCivilTime w.at → IsSoundWindow (length routines) w) parts.4
     (λ civil.
     record {
       at = civil;
       seed = omega arith;
       probes = omega arith;
       few_turns = omega arith;
-      turns = All-nil (λ turn. turn ≤ length runs.0);
+      turns = All-nil (λ turn. turn ≤ length parts.1);
       few_runs = omega (arith, short);
-      runs = runs-sound (length routines) runs.0 read;
+      runs = runs-sound (length routines) parts.1 read;
     })
 
 one-in-order : (only : PlainWindow) → AreInOrder (only ∷ [])
@@ -283,29 +300,32 @@ few-in-order P windows some =
 pub script-sound : (members : DayMembers) (script : PlainScript) → small_script members ≡ Some script
     → All (λ window. IsCivilTime window.at) script.windows → IsSound script
 script-sound members script h =
-    let whole = if-some (members.version == 1) (option_and_then (λ devices. option_and_then (λ routines. option_map (script_with devices routines) (few (small_window routines) members.windows)) (few (small_routine devices) members.routines)) (few small_device members.devices)) script h in
-    let devices = then-some (λ devices. option_and_then (λ routines. option_map (script_with devices routines) (few (small_window routines) members.windows)) (few (small_routine devices) members.routines)) (few small_device members.devices) script whole.1 in
-    let routines = then-some (λ routines. option_map (script_with devices.0 routines) (few (small_window routines) members.windows)) (few (small_routine devices.0) members.routines) script devices.1.1 in
-    let windows = map-some (script_with devices.0 routines.0) (few (small_window routines.0) members.windows) script routines.1.1 in
-    let few-devices = few-read IsSmallDevice small_device device-sound members.devices devices.0 devices.1.0 in
-    let few-routines = few-read (IsSoundRoutine devices.0) (small_routine devices.0) (routine-sound devices.0 few-devices) members.routines routines.0 routines.1.0 in
-    let P : PlainWindow → Type 0 = λ window. IsCivilTime window.at → IsSoundWindow (length routines.0) window in
-    let few-windows = few-read P (small_window routines.0) (window-sound routines.0) members.windows windows.0 windows.1.0 in
-    let devices-short = few-length IsSmallDevice devices.0 few-devices in
-    let routines-short = few-length (IsSoundRoutine devices.0) routines.0 few-routines in
-    let windows-short = few-length P windows.0 few-windows in
-    let small = few-all IsSmallDevice devices.0 few-devices in
-    let each = few-all P windows.0 few-windows in
-    subst (λ s. All (λ window. IsCivilTime window.at) s.windows → IsSound s) windows.1.1
+    let whole = if-some (members.version == 1) (with_all script_with (small_devices members) (small_routines members) (small_windows members)) script h in
+    let parts = all-some script_with (small_devices members) (small_routines members) (small_windows members) script whole.1 in
+    let devices = parts.0 in
+    let routines = parts.1 in
+    let windows = parts.2 in
+    let routines-read = from-some (λ ds. few (small_routine ds) members.routines) (small_devices members) devices routines parts.3 parts.4 in
+    let windows-read = from-some (λ rs. few (small_window rs) members.windows) (small_routines members) routines windows parts.4 parts.5 in
+    let few-devices = few-read IsSmallDevice small_device device-sound members.devices devices parts.3 in
+    let few-routines = few-read (IsSoundRoutine devices) (small_routine devices) (routine-sound devices few-devices) members.routines routines routines-read in
+    let P : PlainWindow → Type 0 = λ window. IsCivilTime window.at → IsSoundWindow (length routines) window in
+    let few-windows = few-read P (small_window routines) (window-sound routines) members.windows windows windows-read in
+    let devices-short = few-length IsSmallDevice devices few-devices in
+    let routines-short = few-length (IsSoundRoutine devices) routines few-routines in
+    let windows-short = few-length P windows few-windows in
+    let small = few-all IsSmallDevice devices few-devices in
+    let each = few-all P windows few-windows in
+    subst (λ s. All (λ window. IsCivilTime window.at) s.windows → IsSound s) parts.6
     (λ civil.
     record {
       few_devices = omega (arith, devices-short);
       devices = λ k d within. (small k d within).sound;
-      device_names = few-different IsSmallDevice (λ device. device.name) devices.0 few-devices;
+      device_names = few-different IsSmallDevice (λ device. device.name) devices few-devices;
       few_routines = omega (arith, routines-short);
-      routines = few-all (IsSoundRoutine devices.0) routines.0 few-routines;
-      routine_names = few-different (IsSoundRoutine devices.0) (λ routine. routine.name) routines.0 few-routines;
+      routines = few-all (IsSoundRoutine devices) routines few-routines;
+      routine_names = few-different (IsSoundRoutine devices) (λ routine. routine.name) routines few-routines;
       few_windows = omega (arith, windows-short);
       windows = λ k d within. each k d within (civil k d within);
-      in_order = few-in-order P windows.0 few-windows;
+      in_order = few-in-order P windows few-windows;
     })

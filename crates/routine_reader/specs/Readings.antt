@@ -3,7 +3,7 @@ use Rattle.routine_reader.specs.Forms.{has_form, list_at, number_at}
 use Rattle.routine_reader.specs.declared.forms.Form.TheVariants.{Day}
 use Rattle.serde_json.specs.Data.{Data}
 use Rattle.serde_json.specs.Read.{read}
-use Rattle.std.specs.Prelude.{List, None, Option, codes, if◌then◌else◌, option_and_then, option_map, ℕ}
+use Rattle.std.specs.Prelude.{List, None, Option, Some, codes, if◌then◌else◌, ℕ}
 use Rattle.std.specs.Str.{is_utf8}
 
 -- the value that `serde_json` reads
@@ -17,7 +17,18 @@ pub record DayMembers : Type 0 where
   pub routines : List Data
   pub windows : List Data
 
+abbrev pub day_with : Option ℕ → Option (List Data) → Option (List Data) → Option (List Data) → Option DayMembers
+day_with (Some version) (Some devices) (Some routines) (Some windows) =
+    Some (record { version = version; devices = devices; routines = routines; windows = windows })
+day_with version devices routines windows = None
+
 -- an object with these four members and no other, each of its type
 abbrev pub day_members : Data → Option DayMembers
 day_members value =
-    if has_form Day value then (option_and_then (λ version. option_and_then (λ devices. option_and_then (λ routines. option_map {U = DayMembers} (λ windows. record { version = version; devices = devices; routines = routines; windows = windows }) (list_at (codes "windows") value)) (list_at (codes "routines") value)) (list_at (codes "devices") value)) (number_at (codes "safehome") value)) else None
+    if has_form Day value then
+    (day_with
+    (number_at (codes "safehome") value)
+    (list_at (codes "devices") value)
+    (list_at (codes "routines") value)
+    (list_at (codes "windows") value))
+    else None

@@ -40,8 +40,8 @@ pub record IsSoundDevice (device : PlainDevice) : Type 0 where
   pub few_downs : length device.downs ≤ most_downs
   pub downs : All IsSoundDown device.downs
 
-abbrev pub kinds_of : List PlainDevice → List Kind
-kinds_of devices = map (λ device. device.kind) devices
+abbrev pub device_kinds : List PlainDevice → List Kind
+device_kinds devices = map (λ device. device.kind) devices
 
 -- a value that is driven or compared with is one of the device
 abbrev pub suits : Kind → Job → Bool
@@ -52,7 +52,7 @@ suits kind Store = true
 
 pub record IsSoundCommand (devices : List PlainDevice) (command : Command) : Type 0 where
   pub device : command.device.0 < length devices
-  pub value : suits (kind_at (kinds_of devices) command.device.0) command.job ≡ true
+  pub value : suits (kind_at (device_kinds devices) command.device.0) command.job ≡ true
   pub ms : command.ms ≤ most_ms
   pub takes : command.takes ≤ most_ms
 

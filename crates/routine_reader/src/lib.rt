@@ -8,6 +8,8 @@ pub mod names;
 pub mod readers;
 pub mod routines;
 pub mod scripts;
+#[cfg(test)]
+mod tests;
 pub mod windows;
 
 pub use faults::{Count, Part, ReadFault, Spot};

@@ -1,8 +1,8 @@
-ghost use Rattle.day_clock.specs.Times.{IsCivilTime, time_of};
+ghost use Rattle.day_clock.specs.Times.{IsCivilTime};
 ghost use Rattle.routine_reader.specs.Forms.{text_at};
 ghost use Rattle.routine_reader.specs.Limits.{most_routines};
 ghost use Rattle.routine_reader.specs.Scripts.{plain_routine, plain_window};
-ghost use Rattle.routine_reader.specs.Small.{few, is_small_window, small_run, small_window};
+ghost use Rattle.routine_reader.specs.Small.{few, is_small_window, small_run, small_window, time_at};
 ghost use Rattle.serde_json.specs.View.{view};
 ghost use Rattle.std.specs.Prelude.{◌≡◌, ◌≤◌, All, IfOk, IfSome, length, map, option_and_then, option_map};
 
@@ -56,7 +56,7 @@ fn read_runs(
 
 /// The time that a member is.
 pub fn time_at(value: &Json, member: &str) -> Option<When>
-    ensures reading { result ≡ option_and_then time_of (text_at member.now (view value.now)) }
+    ensures reading { result ≡ time_at member.now (view value.now) }
     ensures in_range { IfSome result IsCivilTime }
 {
     let text = text_at(value, member)?;
