@@ -1,0 +1,5 @@
+pub mod FormLemmas
+pub mod NameLemmas
+pub mod PrefixLemmas
+pub mod ReadingLemmas
+pub mod SoundLemmas

@@ -1,1 +1,9 @@
+pub mod Forms
+pub mod Limits
+pub mod Names
+pub mod Readings
 pub mod Rosters
+pub mod Scripts
+pub mod Small
+pub mod Sound
+pub mod Spots

@@ -1,0 +1,48 @@
+-- The limits of a script.
+use Rattle.std.specs.Prelude.{ℕ}
+
+abbrev pub most_devices : ℕ
+most_devices = 256
+
+abbrev pub most_states : ℕ
+most_states = 256
+
+abbrev pub most_downs : ℕ
+most_downs = 16
+
+abbrev pub most_routines : ℕ
+most_routines = 1024
+
+abbrev pub most_commands : ℕ
+most_commands = 64
+
+abbrev pub most_windows : ℕ
+most_windows = 288
+
+abbrev pub most_runs : ℕ
+most_runs = 64
+
+abbrev pub most_turns : ℕ
+most_turns = 4096
+
+abbrev pub most_probes : ℕ
+most_probes = 100
+
+-- one hour in ms
+abbrev pub most_ms : ℕ
+most_ms = 3600000
+
+abbrev pub most_bytes : ℕ
+most_bytes = 4194304
+
+-- the characters of a name
+abbrev pub most_characters : ℕ
+most_characters = 32
+
+-- the estimate of a command that gives none, in ms
+abbrev pub default_ms : ℕ
+default_ms = 100
+
+-- the seed of a window that gives none
+abbrev pub default_seed : ℕ
+default_seed = 1
