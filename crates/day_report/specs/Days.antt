@@ -64,11 +64,15 @@ commit_count windows = sum_by (λ closed. count_by (λ kept. is_commit kept.entr
 unfoldable pub abort_count : List WindowRecord → ℕ
 abort_count windows = sum_by (λ closed. count_by (λ kept. is_abort kept.entry) closed.history.items) windows
 
--- the line below the windows; every run of a closed window has ended
+-- the last line, with these counts; every run of a closed window has ended
+abbrev pub counts_line : ℕ → ℕ → ℕ → List ℕ
+counts_line windows committed aborted =
+    codes "total windows " ++ decimal windows ++ codes " runs " ++ decimal (committed + aborted)
+    ++ codes " committed " ++ decimal committed ++ codes " aborted " ++ decimal aborted ++ codes "\n"
+
+-- the line below the windows
 unfoldable pub total_text : List WindowRecord → List ℕ
-total_text windows =
-    codes "total windows " ++ decimal (length windows) ++ codes " runs " ++ decimal (commit_count windows + abort_count windows)
-    ++ codes " committed " ++ decimal (commit_count windows) ++ codes " aborted " ++ decimal (abort_count windows) ++ codes "\n"
+total_text windows = counts_line (length windows) (commit_count windows) (abort_count windows)
 
 -- the texts of the windows, in order
 unfoldable pub window_texts : Script → List WindowRecord → Mode → Bool → List ℕ

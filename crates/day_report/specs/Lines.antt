@@ -1,6 +1,6 @@
 -- The lines of a window. Each ends with a line feed.
 use Rattle.day_clock.specs.declared.times.When.{When}
-use Rattle.day_report.specs.Words.{answer_text, cause_text, device_name, device_of, routine_name, value_text}
+use Rattle.day_report.specs.Words.{answer_text, cause_text, device_name, states_of, routine_name, value_text}
 use Rattle.history_book.specs.declared.entries.End.TheVariants.{Aborted, Committed}
 use Rattle.history_book.specs.declared.entries.End.{End}
 use Rattle.history_book.specs.declared.entries.Entry.TheVariants.{Arrived, Did, Doomed, Ended, Fell, Placed, Rose, Undid}
@@ -13,7 +13,6 @@ use Rattle.home_types.specs.declared.modes.Visibility.TheVariants.{Weak}
 use Rattle.home_types.specs.declared.modes.Visibility.{Visibility}
 use Rattle.home_types.specs.declared.worlds.Stand.{Stand}
 use Rattle.routine_reader.specs.declared.scripts.DeviceText.{DeviceText}
-use Rattle.routine_reader.specs.declared.scripts.RunText.{RunText}
 use Rattle.routine_reader.specs.declared.scripts.Script.{Script}
 use Rattle.routine_reader.specs.declared.scripts.WindowText.{WindowText}
 use Rattle.std.specs.Fmt.{decimal}
@@ -48,7 +47,7 @@ unfoldable pub entry_text : Script → WindowText → Entry → List ℕ
 entry_text script window (Arrived r moment) = codes "arrived " ++ decimal r.0 ++ codes " at " ++ decimal moment
 entry_text script window (Placed r at moment) = codes "placed " ++ decimal r.0 ++ codes " place " ++ decimal at ++ codes " at " ++ decimal moment
 entry_text script window (Did r c answer) =
-    codes "did " ++ decimal r.0 ++ codes "." ++ decimal (c + 1) ++ codes " " ++ answer_text (device_of script window r.0 c) answer
+    codes "did " ++ decimal r.0 ++ codes "." ++ decimal (c + 1) ++ codes " " ++ answer_text (states_of script window r.0 c) answer
 entry_text script window (Undid r d drove) =
     codes "undid " ++ decimal r.0 ++ codes " " ++ device_name script d.0 ++ (if drove then codes " drove" else codes " dropped")
 entry_text script window (Fell d) = codes "fell " ++ device_name script d.0
@@ -77,7 +76,7 @@ end_of r (kept ∷ history) = option_or (end_in r kept.entry) (end_of r history)
 
 -- the answer of an entry, where it is one of the run
 unfoldable pub answer_word : Script → WindowText → ℕ → Entry → List ℕ
-answer_word script window r (Did q c answer) = (if q.0 == r then codes " " ++ answer_text (device_of script window r c) answer else [])
+answer_word script window r (Did q c answer) = (if q.0 == r then codes " " ++ answer_text (states_of script window r c) answer else [])
 answer_word script window r _ = []
 
 -- the answers of a run, in the order of the history
@@ -91,13 +90,13 @@ end_text script window history r (Some Committed) = codes " committed" ++ answer
 end_text script window history r (Some (Aborted cause)) = codes " aborted " ++ cause_text script window r cause
 
 -- the line of a run: its number, its routine, its end
-unfoldable pub run_line : Script → WindowText → List Kept → ℕ → RunText → List ℕ
-run_line script window history r run =
-    codes "run " ++ decimal r ++ codes " " ++ routine_name script run.routine ++ end_text script window history r (end_of r history) ++ codes "\n"
+unfoldable pub run_line : Script → WindowText → List Kept → ℕ → ℕ → List ℕ
+run_line script window history r routine =
+    codes "run " ++ decimal r ++ codes " " ++ routine_name script routine ++ end_text script window history r (end_of r history) ++ codes "\n"
 
 -- a line for each run of the window
 unfoldable pub run_lines : Script → WindowText → List Kept → List ℕ
-run_lines script window history = flat_map (λ (r, run). run_line script window history r run) (enumerate_from 1 window.runs.items)
+run_lines script window history = flat_map (λ (r, run). run_line script window history r run.routine) (enumerate_from 1 window.runs.items)
 
 -- the word for a list with nothing in it
 abbrev pub none_word : {A : Type 0} → List A → List ℕ
@@ -110,16 +109,23 @@ item_word script (Ran r) = codes " " ++ decimal r.0
 item_word script (Failed d k) = codes " fail(" ++ device_name script d.0 ++ codes ")"
 item_word script (Back d k) = codes " back(" ++ device_name script d.0 ++ codes ")"
 
--- the serial order
+-- the items of the order
+unfoldable pub item_words : Script → List Item → List ℕ
+item_words script order = none_word order ++ flat_map (item_word script) order
+
+-- the serial order, which the weak model does not claim
 unfoldable pub order_line : Script → Visibility → List Item → List ℕ
 order_line script Weak order = codes "order unclaimed\n"
-order_line script _ order = codes "order" ++ none_word order ++ flat_map (item_word script) order ++ codes "\n"
+order_line script _ order = codes "order" ++ item_words script order ++ codes "\n"
 
 -- a device where it stands, with a mark where it is down
 unfoldable pub home_word : DeviceText → Stand → List ℕ
-home_word device stand = codes " " ++ device.name ++ codes "=" ++ value_text (Some device) stand.value ++ (if stand.up then [] else codes "!")
+home_word device stand = codes " " ++ device.name ++ codes "=" ++ value_text device.states.items stand.value ++ (if stand.up then [] else codes "!")
 
--- the home: each device in the order of the script
+-- each device in the order of the script
+unfoldable pub home_words : List DeviceText → List Stand → List ℕ
+home_words devices home = none_word devices ++ flat_map (λ (d, device). home_word device (stand_at home d)) (enumerate_from 0 devices)
+
+-- the home
 unfoldable pub home_line : List DeviceText → List Stand → List ℕ
-home_line devices home =
-    codes "home" ++ none_word devices ++ flat_map (λ (d, device). home_word device (stand_at home d)) (enumerate_from 0 devices) ++ codes "\n"
+home_line devices home = codes "home" ++ home_words devices home ++ codes "\n"

@@ -35,6 +35,10 @@ device_of script window r c =
     option_and_then (λ command. device_at script command.device.0)
     (option_and_then (λ routine. slice_get routine.routine.commands.items c) (routine_of script window r))
 
+-- the names of that device's states
+unfoldable pub states_of : Script → WindowText → ℕ → ℕ → List (List ℕ)
+states_of script window r c = unwrap_or (option_map (λ device. device.states.items) (device_of script window r c)) []
+
 -- the name of a device
 unfoldable pub device_name : Script → ℕ → List ℕ
 device_name script d = unwrap_or (option_map (λ device. device.name) (device_at script d)) []
@@ -43,20 +47,20 @@ device_name script d = unwrap_or (option_map (λ device. device.name) (device_at
 unfoldable pub routine_name : Script → ℕ → List ℕ
 routine_name script i = unwrap_or (option_map (λ routine. routine.name) (routine_at script i)) []
 
--- a value of a device: the name of its state, else the number
-unfoldable pub value_text : Option DeviceText → ℕ → List ℕ
-value_text device v = unwrap_or (option_and_then (λ text. slice_get text.states.items v) device) (decimal v)
+-- a value of a device with these states: the name of the state, else the number
+unfoldable pub value_text : List (List ℕ) → ℕ → List ℕ
+value_text states v = unwrap_or (slice_get states v) (decimal v)
 
--- what a command on the device answered
-unfoldable pub answer_text : Option DeviceText → Answer → List ℕ
-answer_text device Fine = codes "."
-answer_text device (Found x) = value_text device x
-answer_text device Down = codes "-"
+-- what a command was told
+unfoldable pub answer_text : List (List ℕ) → Answer → List ℕ
+answer_text states Fine = codes "."
+answer_text states (Found x) = value_text states x
+answer_text states Down = codes "-"
 
 -- why the run was aborted; commands count from 1 in print
 unfoldable pub cause_text : Script → WindowText → ℕ → Cause → List ℕ
 cause_text script window r (MustDown c) = codes "must " ++ decimal (c + 1)
-cause_text script window r (Refuted c x) = codes "refuted " ++ decimal (c + 1) ++ codes " found " ++ value_text (device_of script window r c) x
+cause_text script window r (Refuted c x) = codes "refuted " ++ decimal (c + 1) ++ codes " found " ++ value_text (states_of script window r c) x
 cause_text script window r (Lost d) = codes "lost " ++ device_name script d.0
 cause_text script window r (Revoked lender d deadline moment) =
     codes "revoked " ++ device_name script d.0 ++ codes " by " ++ decimal lender.0 ++ codes " deadline " ++ decimal deadline ++ codes " at " ++ decimal moment
