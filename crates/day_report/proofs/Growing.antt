@@ -1,10 +1,6 @@
 -- A text that grows by a piece for each element of a list.
 use Rattle.std.proofs.Common.{List, [], add-zero, ap, arith, get_or, length, suc, sym, take, ℕ, ◌+◌, ◌++◌, ◌<◌, ◌∙◌, ◌≡◌, ◌∷◌}
 use Rattle.std.proofs.lemmas.List.{append-nil, flat_map_more, length-take-le, take_more}
-use Rattle.home_types.specs.HomeStates.{nowhere, stand_at}
-use Rattle.home_types.specs.declared.worlds.Stand.{Stand}
-use Rattle.std.proofs.lemmas.Option.{unwrap_or-slice_get}
-use Rattle.std.proofs.Common.{None, false, slice_get, unwrap_or}
 use Rattle.std.specs.List.{enumerate_from, flat_map}
 
 -- before the first piece
@@ -31,7 +27,3 @@ one_numbered_piece_more f start n xs i k x within number element =
     ap (enumerate_from n) more ∙ enumerate_from-append n (take i xs) x
     ∙ ap (λ m. enumerate_from n (take i xs) ++ (m, x) ∷ []) (ap (λ j. n + j) so_far ∙ sym number) in
     flat_map_more f start (enumerate_from n (take i xs)) (k, x) ∙ ap (λ ys. start ++ flat_map f ys) (sym numbered)
-
--- a device that is not in the home stands nowhere
-pub no_stand : (home : List Stand) (d : ℕ) → slice_get home d ≡ None → stand_at home d ≡ record { value = 0; up = false }
-no_stand home d missing = sym (unwrap_or-slice_get home d nowhere) ∙ ap (λ found. unwrap_or found nowhere) missing

@@ -121,9 +121,9 @@ fn push_counts(
     ensures { OnOk result (string_bytes text.new ≡ string_bytes text.old ++ said.counts_line windows committed aborted) }
 {
     let runs = committed + aborted;
-    write!(
+    writeln!(
         text,
-        "total windows {windows} runs {runs} committed {committed} aborted {aborted}\n"
+        "total windows {windows} runs {runs} committed {committed} aborted {aborted}"
     )
 }
 

@@ -277,8 +277,8 @@ fn push_stand(text: &mut String, device: &DeviceText, stand: Stand) -> Result<()
     Ok(())
 }
 
-#[tactic(auto, using(crate::proofs::Growing::no_stand))]
-/// Where a device stands; one that is not in the home is down at 0.
+/// Where a device stands. One that is not in the home is down at 0.
+#[tactic(auto, using(crate::proofs::Homes::stand_at_missing))]
 fn stand_at(home: &World, device: u64) -> Stand
     ensures { result ≡ stand_in home.now.devices.items device }
 {

@@ -12,6 +12,6 @@ line_is windows runs committed aborted = simp append_assoc
 
 pub returns : goal.returns
 returns c =
-    on_ok_weaker c.write.result
+    on_ok_weaker c.writeln.result
     (λ h. h ∙ ap (λ line. string_bytes c.args.text.now ++ line) (line_is (decimal c.args.windows) (decimal (c.args.committed + c.args.aborted)) (decimal c.args.committed) (decimal c.args.aborted)))
-    c.write.ensures.bytes
+    c.writeln.ensures.bytes
