@@ -1,0 +1,5 @@
+pub mod Counts
+pub mod Ends
+pub mod Growing
+pub mod Homes
+pub mod Parts

@@ -1,0 +1,17 @@
+use Rattle.day_report.proofs.days.push_counts.Goals as goal
+use Rattle.std.proofs.Common.{string_bytes, ℕ, ◌+◌, ◌++◌, ◌≡◌, ◌∙◌, List, ap, codes}
+use Rattle.std.proofs.lemmas.List.{append_assoc}
+use Rattle.std.proofs.lemmas.Result.{on_ok_weaker}
+use Rattle.std.specs.Fmt.{decimal}
+
+-- the pieces, as they are written, are the line
+line_is : (windows runs committed aborted : List ℕ) →
+    codes "total windows " ++ (windows ++ (codes " runs " ++ (runs ++ (codes " committed " ++ (committed ++ (codes " aborted " ++ (aborted ++ codes "\n")))))))
+    ≡ codes "total windows " ++ windows ++ codes " runs " ++ runs ++ codes " committed " ++ committed ++ codes " aborted " ++ aborted ++ codes "\n"
+line_is windows runs committed aborted = simp append_assoc
+
+pub returns : goal.returns
+returns c =
+    on_ok_weaker c.writeln.result
+    (λ h. h ∙ ap (λ line. string_bytes c.args.text.now ++ line) (line_is (decimal c.args.windows) (decimal (c.args.committed + c.args.aborted)) (decimal c.args.committed) (decimal c.args.aborted)))
+    c.writeln.ensures.bytes

@@ -1,0 +1,7 @@
+use Rattle.day_report.proofs.lines.push_answers.Given as goal
+use Rattle.day_report.specs.Lines.{answer_words}
+use Rattle.std.proofs.Common.{string_bytes, take, ◌++◌, ◌≡◌}
+
+-- the text has grown by the entries so far
+abbrev pub invariant-entries : goal.invariant-entries
+invariant-entries l = string_bytes l.text ≡ string_bytes l.initial.text ++ answer_words l.script l.window l.run (take l.kept-index l.history)

@@ -1,0 +1,11 @@
+use Rattle.day_report.proofs.lines.push_runs.Given as goal
+use Rattle.day_report.specs.Lines.{run_line}
+use Rattle.std.proofs.Common.{string_bytes, take, ◌++◌, ◌≡◌}
+use Rattle.std.specs.List.{enumerate_from, flat_map}
+
+-- the text has grown by the lines of the runs so far
+abbrev pub invariant-runs : goal.invariant-runs
+invariant-runs l =
+    string_bytes l.text
+    ≡ string_bytes l.initial.text
+    ++ flat_map (λ (r, run). run_line l.script l.window l.history r run.routine) (enumerate_from 1 (take l.i l.run-items))

@@ -1,0 +1,7 @@
+use Rattle.day_report.proofs.lines.push_trace.Given as goal
+use Rattle.day_report.specs.Lines.{trace_lines}
+use Rattle.std.proofs.Common.{string_bytes, take, ◌++◌, ◌≡◌}
+
+-- the text has grown by the entries so far
+abbrev pub invariant-entries : goal.invariant-entries
+invariant-entries l = string_bytes l.text ≡ string_bytes l.initial.text ++ trace_lines l.script l.window (take l.kept-index l.history)

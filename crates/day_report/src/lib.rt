@@ -1,0 +1,12 @@
+// The text of a day: its head, each window with its runs, their order and the home, and its total.
+#![tactic(auto)]
+
+mod days;
+mod lines;
+mod lookups;
+mod numerals;
+mod words;
+#[cfg(test)]
+mod worked_days;
+
+pub use days::{head_text, total_text, window_text};
