@@ -4,8 +4,6 @@ use Rattle.day_clock.specs.CallPlans.{fails_next}
 use Rattle.day_clock.specs.declared.faults.Failed.{Failed}
 use Rattle.std.proofs.Common.{Bool, IfOk, List, OnErr, OnOk, Result, Some, ap, arith, drop, false, length, refl, sym, take, true, ℕ, ◌++◌, ◌<◌, ◌≡◌, ◌≤◌, ◌∙◌}
 use Rattle.std.proofs.lemmas.List.{length-take-le, take-append-drop}
-use Rattle.std.proofs.Common.{Bool, IfOk, List, OnErr, OnOk, Result, Some, ap, arith, drop, false, length, refl, rules, subst, sym, take, true, ℕ, ◌++◌, ◌+◌, ◌<◌, ◌≡◌, ◌≤◌, ◌∙◌}
-use Rattle.std.proofs.lemmas.List.{length-take-le, take-append-le, take-append-drop}
 use Rattle.std.proofs.Math.Seq.{take-append_seam}
 use Rattle.std.specs.Io.KnownBytes.{Consumes}
 

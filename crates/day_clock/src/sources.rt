@@ -2,7 +2,6 @@ ghost use Rattle.std.specs.Prelude.{◌≡◌, ◌+◌, ◌<◌, ◌≤◌, ℕ,
 ghost use Rattle.std.specs.Io.KnownBytes.{Consumes, IsAtEnd, Keeps};
 ghost use Rattle.day_clock.specs.Sources.{CountsFaults, TakesCount, TakesUpTo};
 ghost use Rattle.day_clock.specs.declared.sources.InputFault.TheVariants.{Failed as SourceFailed, NoMemory as OutOfMemory};
-ghost use Rattle.day_clock.specs.declared.sources.InputFault.TheVariants.{Failed as HasFailed, NoMemory as LacksMemory};
 
 use crate::faults::Failed;
 use std::alloc::{AllocError, Global};
@@ -38,7 +37,6 @@ pub enum InputFault {
 
 impl From<Failed> for InputFault {
     ghost from_gives = { λ _ fault. fault ≡ SourceFailed };
-    ghost from_gives = { λ _ fault. fault ≡ HasFailed };
 
     fn from(_: Failed) -> InputFault {
         InputFault::Failed
@@ -47,7 +45,6 @@ impl From<Failed> for InputFault {
 
 impl From<AllocError> for InputFault {
     ghost from_gives = { λ _ fault. fault ≡ OutOfMemory };
-    ghost from_gives = { λ _ fault. fault ≡ LacksMemory };
 
     fn from(_: AllocError) -> InputFault {
         InputFault::NoMemory

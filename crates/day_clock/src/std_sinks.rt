@@ -6,7 +6,6 @@ use std::io::Write;
 
 /// A writer of std, such as the standard output, as a sink. Each error is a fault, and each call that takes nothing of
 /// a piece that is not empty. It never flushes, so the writer is to hold nothing back.
-/// a piece that is not empty.
 #[derive(Drop)]
 pub struct StdSink<W> {
     writer: W,

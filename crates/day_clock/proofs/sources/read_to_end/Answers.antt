@@ -2,9 +2,6 @@ use Rattle.day_clock.proofs.Pieces.{TakesUpTo-of_bytes}
 use Rattle.day_clock.proofs.sources.read_to_end.Goals as goal
 use Rattle.std.proofs.Common.{arith, length, take, ◌++◌, ◌+◌, ◌≤◌}
 use Rattle.std.proofs.KnownBytes.{Consumes-trans}
-use Rattle.std.proofs.Common.{arith, length, length-append, take, vec_len, ◌++◌, ◌+◌, ◌≤◌}
-use Rattle.std.proofs.KnownBytes.{Consumes-trans}
-use Rattle.std.proofs.lemmas.List.{length-take}
 use Rattle.std.proofs.lemmas.Grind.{common_steps}
 use Rattle.std.proofs.lemmas.Result.{err_from_is_err_and}
 
