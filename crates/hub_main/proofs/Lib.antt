@@ -1,0 +1,6 @@
+mod LegalDays
+mod LegalWindows
+mod NewDevices
+mod RecordTexts
+mod SmallScripts
+mod Zeros

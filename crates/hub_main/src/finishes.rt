@@ -1,0 +1,24 @@
+use crate::faults::Fault;
+use device_states::Device;
+use history_book::WindowRecord;
+use home_types::List;
+
+/// How a top call ended.
+#[derive(Drop)]
+pub struct Finish<Dev: Device> {
+    /// The status with which the program ends.
+    pub status: u8,
+    /// The day, once the script is read.
+    pub day: Option<Day<Dev>>,
+    /// Why the status is not 0; none exactly at 0.
+    pub fault: Option<Fault>,
+}
+
+/// What came of a day.
+#[derive(Drop)]
+pub struct Day<Dev: Device> {
+    /// The windows that were closed, in order.
+    pub windows: List<WindowRecord>,
+    /// The devices of the home as they were left, by their numbers; there exactly at the statuses 0 and 4.
+    pub devices: Option<List<Dev>>,
+}

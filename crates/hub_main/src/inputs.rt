@@ -1,0 +1,29 @@
+ghost use Rattle.std.specs.Prelude.{IfOk};
+ghost use Rattle.hub_main.specs.Finishes.{InputIsRead};
+ghost use Rattle.hub_main.specs.Stage.{IsSmall};
+
+use crate::faults::Fault;
+use day_clock::{InputFault, Source, read_to_end};
+use home_types::limits;
+use routine_reader::{ReadFault, Script, Spot, read_script};
+use std::alloc::Global;
+
+/// Reads the source to its end, and the script of its bytes.
+///
+/// The input is refused as soon as one byte more than a script may have was taken.
+pub fn read_input<S: Source>(alloc: Global, source: &mut S) -> Result<Script, Fault>
+    ensures small { IfOk result (λ script. IsSmall script) }
+    ensures read { InputIsRead (record { left = S.left source.old; rest = S.left source.new; faults = S.faults source.old; faults_after = S.faults source.new }) result }
+{
+    let bytes = match read_to_end(alloc, source, limits::SCRIPT_BYTES) {
+        Ok(bytes) => bytes,
+        Err(InputFault::OverLimit) => return Err(Fault::Script(ReadFault::NotBuilt(Spot::TOP))),
+        Err(InputFault::Failed) => return Err(Fault::Read),
+        Err(InputFault::NoMemory) => return Err(Fault::Memory),
+    };
+    match read_script(alloc, &bytes) {
+        Ok(script) => Ok(script),
+        Err(ReadFault::NoMemory) => Err(Fault::Memory),
+        Err(fault) => Err(Fault::Script(fault)),
+    }
+}

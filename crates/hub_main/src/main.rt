@@ -1,0 +1,41 @@
+// A day of a smart home: reads its script, plays its windows, and prints the record.
+#![tactic(auto)]
+
+mod faults;
+mod finishes;
+mod homes;
+mod inputs;
+mod plays;
+mod stills;
+mod texts;
+mod windows;
+mod words;
+
+use day_clock::{StdSink, StdSource};
+use device_states::CalmBench;
+use std::process::ExitCode;
+use std::{env, io};
+use stills::still_command;
+
+/// The status where the words cannot be had for want of memory.
+const MEMORY: u8 = 5;
+
+fn main(rt: HostRuntime) -> ExitCode {
+    ExitCode::from(run(&rt).unwrap_or(MEMORY))
+}
+
+/// Makes the real objects, runs the command, and prints why it failed, if it did.
+fn run(rt: &HostRuntime) -> io::Result<u8> {
+    let words: Vec<String> = env::args(rt)?.collect(rt.alloc())?;
+    let given: &[String] = match words.as_slice() {
+        [_, given @ ..] => given,
+        [] => &[],
+    };
+    let mut source = StdSource::new(rt.stdin());
+    let mut sink = StdSink::new(rt.stdout());
+    let finish = still_command(rt.alloc(), given, &mut source, &mut sink, &mut CalmBench);
+    if let Some(fault) = &finish.fault {
+        eprintln!(rt; "{fault}")?;
+    }
+    Ok(finish.status)
+}
