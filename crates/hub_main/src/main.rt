@@ -7,6 +7,8 @@ mod homes;
 mod inputs;
 mod plays;
 mod stills;
+#[cfg(test)]
+mod tests;
 mod texts;
 mod windows;
 mod words;
