@@ -10,6 +10,7 @@ pub mod SkippedAndMustDown
 pub mod FailureAfterLastAccess
 pub mod LostBetweenAccesses
 pub mod RestartKeepsDownView
+pub mod DiesAfterFirstAccess
 pub mod UndoDies
 pub mod SkippedUnderLiveUndo
 pub mod JitPatienceOver

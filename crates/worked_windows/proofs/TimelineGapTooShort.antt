@@ -27,10 +27,13 @@ use Rattle.worked_windows.proofs.Points.{clauses_of_history, clauses_of_line, ve
 
 abbrev pub window : Setting
 window = record {
-  runs = (record { commands = (record { device = device_no 0; job = Set 1; must = true; ms = 500; takes = 500 } ∷ record { device = device_no 2; job = Set 1; must = true; ms = 100; takes = 100 } ∷ []); follows = None } ∷ record { commands = (record { device = device_no 2; job = Set 0; must = true; ms = 501; takes = 501 } ∷ []); follows = None } ∷ []);
+  runs =
+      record { commands = record { device = device_no 0; job = Set 1; must = true; ms = 500; takes = 500 } ∷ record { device = device_no 2; job = Set 1; must = true; ms = 100; takes = 100 } ∷ []; follows = None }
+      ∷ record { commands = record { device = device_no 2; job = Set 0; must = true; ms = 501; takes = 501 } ∷ []; follows = None }
+      ∷ [];
   mode = record { model = Eventual; scheduler = Timeline };
-  kinds = ((States 2) ∷ (States 2) ∷ (States 2) ∷ (Range 10 30) ∷ []);
-  first = (record { value = 0; up = true } ∷ record { value = 0; up = true } ∷ record { value = 0; up = true } ∷ record { value = 18; up = true } ∷ []);
+  kinds = States 2 ∷ States 2 ∷ States 2 ∷ Range 10 30 ∷ [];
+  first = record { value = 0; up = true } ∷ record { value = 0; up = true } ∷ record { value = 0; up = true } ∷ record { value = 18; up = true } ∷ [];
 }
 
 abbrev pub history : List Entry
@@ -45,109 +48,291 @@ history =
     ∷ Ended (run_no 1) Committed
     ∷ Ended (run_no 2) Committed ∷ []
 
-at_0 : words_at window (reading window (take 0 history)) no_grips 0 ≡ record { line = []; up = (true ∷ true ∷ true ∷ true ∷ []); writers = (None ∷ None ∷ None ∷ None ∷ []); values = (0 ∷ 0 ∷ 0 ∷ 18 ∷ []); holders = ([] ∷ [] ∷ [] ∷ [] ∷ []); touched = ([] ∷ [] ∷ [] ∷ [] ∷ []); first_places = []; places = []; overdue = []; starts = []; ends = []; whole_ends = []; choices = (Absent ∷ Moves (Arrived (run_no 1) 0 ∷ []) ∷ Moves (Arrived (run_no 2) 0 ∷ []) ∷ []) }
+at_0 : words_at window (reading window (take 0 history)) no_grips 0 ≡ record {
+  line = [];
+  up = true ∷ true ∷ true ∷ true ∷ [];
+  writers = None ∷ None ∷ None ∷ None ∷ [];
+  values = 0 ∷ 0 ∷ 0 ∷ 18 ∷ [];
+  holders = [] ∷ [] ∷ [] ∷ [] ∷ [];
+  touched = [] ∷ [] ∷ [] ∷ [] ∷ [];
+  first_places = [];
+  places = [];
+  overdue = [];
+  starts = [];
+  ends = [];
+  whole_ends = [];
+  choices = Absent ∷ Moves (Arrived (run_no 1) 0 ∷ []) ∷ Moves (Arrived (run_no 2) 0 ∷ []) ∷ [];
+}
 unfolding split_of
 at_0 = refl
 
-order_0 : clauses_of_line window (reading window (take 0 history)) no_grips ≡ clauses_of_history window (reading window (take 0 history))
+clauses_0 : clauses_of_line window (reading window (take 0 history)) no_grips ≡ clauses_of_history window (reading window (take 0 history))
 unfolding split_of
-order_0 = refl
+clauses_0 = refl
 
-at_1 : words_at window (reading window (take 1 history)) no_grips 0 ≡ record { line = []; up = (true ∷ true ∷ true ∷ true ∷ []); writers = (None ∷ None ∷ None ∷ None ∷ []); values = (0 ∷ 0 ∷ 0 ∷ 18 ∷ []); holders = ([] ∷ [] ∷ [] ∷ [] ∷ []); touched = ([] ∷ [] ∷ [] ∷ [] ∷ []); first_places = (0 ∷ []); places = (At (split_at [] 0) ∷ []); overdue = []; starts = []; ends = []; whole_ends = []; choices = (Absent ∷ Moves (Placed (run_no 1) 0 0 ∷ []) ∷ Moves (Arrived (run_no 2) 0 ∷ []) ∷ []) }
+at_1 : words_at window (reading window (take 1 history)) no_grips 0 ≡ record {
+  line = [];
+  up = true ∷ true ∷ true ∷ true ∷ [];
+  writers = None ∷ None ∷ None ∷ None ∷ [];
+  values = 0 ∷ 0 ∷ 0 ∷ 18 ∷ [];
+  holders = [] ∷ [] ∷ [] ∷ [] ∷ [];
+  touched = [] ∷ [] ∷ [] ∷ [] ∷ [];
+  first_places = 0 ∷ [];
+  places = At (split_at [] 0) ∷ [];
+  overdue = [];
+  starts = [];
+  ends = [];
+  whole_ends = [];
+  choices = Absent ∷ Moves (Placed (run_no 1) 0 0 ∷ []) ∷ Moves (Arrived (run_no 2) 0 ∷ []) ∷ [];
+}
 unfolding split_of
 at_1 = refl
 
-order_1 : clauses_of_line window (reading window (take 1 history)) no_grips ≡ clauses_of_history window (reading window (take 1 history))
+clauses_1 : clauses_of_line window (reading window (take 1 history)) no_grips ≡ clauses_of_history window (reading window (take 1 history))
 unfolding split_of
-order_1 = refl
+clauses_1 = refl
 
-at_2 : words_at window (reading window (take 2 history)) no_grips 0 ≡ record { line = (Ran (run_no 1) ∷ []); up = (true ∷ true ∷ true ∷ true ∷ []); writers = (None ∷ None ∷ None ∷ None ∷ []); values = (0 ∷ 0 ∷ 0 ∷ 18 ∷ []); holders = ((1 ∷ []) ∷ [] ∷ (1 ∷ []) ∷ [] ∷ []); touched = ([] ∷ [] ∷ [] ∷ [] ∷ []); first_places = []; places = []; overdue = ((None ∷ None ∷ None ∷ None ∷ []) ∷ []); starts = ((0 ∷ 500 ∷ []) ∷ []); ends = ((500 ∷ 600 ∷ []) ∷ []); whole_ends = (600 ∷ []); choices = (Absent ∷ HandsOut 0 (Commands 0) ∷ Moves (Arrived (run_no 2) 0 ∷ []) ∷ []) }
+at_2 : words_at window (reading window (take 2 history)) no_grips 0 ≡ record {
+  line = Ran (run_no 1) ∷ [];
+  up = true ∷ true ∷ true ∷ true ∷ [];
+  writers = None ∷ None ∷ None ∷ None ∷ [];
+  values = 0 ∷ 0 ∷ 0 ∷ 18 ∷ [];
+  holders = (1 ∷ []) ∷ [] ∷ (1 ∷ []) ∷ [] ∷ [];
+  touched = [] ∷ [] ∷ [] ∷ [] ∷ [];
+  first_places = [];
+  places = [];
+  overdue = (None ∷ None ∷ None ∷ None ∷ []) ∷ [];
+  starts = (0 ∷ 500 ∷ []) ∷ [];
+  ends = (500 ∷ 600 ∷ []) ∷ [];
+  whole_ends = 600 ∷ [];
+  choices = Absent ∷ HandsOut 0 (Commands 0) ∷ Moves (Arrived (run_no 2) 0 ∷ []) ∷ [];
+}
 unfolding split_of
 at_2 = refl
 
-order_2 : clauses_of_line window (reading window (take 2 history)) no_grips ≡ clauses_of_history window (reading window (take 2 history))
+clauses_2 : clauses_of_line window (reading window (take 2 history)) no_grips ≡ clauses_of_history window (reading window (take 2 history))
 unfolding split_of
-order_2 = refl
+clauses_2 = refl
 
-at_3 : words_at window (reading window (take 3 history)) no_grips 0 ≡ record { line = (Ran (run_no 1) ∷ []); up = (true ∷ true ∷ true ∷ true ∷ []); writers = (None ∷ None ∷ None ∷ None ∷ []); values = (0 ∷ 0 ∷ 0 ∷ 18 ∷ []); holders = ((1 ∷ []) ∷ [] ∷ (1 ∷ []) ∷ [] ∷ []); touched = ([] ∷ [] ∷ [] ∷ [] ∷ []); first_places = (0 ∷ []); places = (At (split_at (Ran (run_no 1) ∷ []) 1) ∷ []); overdue = ((None ∷ None ∷ None ∷ None ∷ []) ∷ []); starts = ((0 ∷ 500 ∷ []) ∷ []); ends = ((500 ∷ 600 ∷ []) ∷ []); whole_ends = (600 ∷ []); choices = (Absent ∷ HandsOut 0 (Commands 0) ∷ Moves (Placed (run_no 2) 1 0 ∷ []) ∷ []) }
+at_3 : words_at window (reading window (take 3 history)) no_grips 0 ≡ record {
+  line = Ran (run_no 1) ∷ [];
+  up = true ∷ true ∷ true ∷ true ∷ [];
+  writers = None ∷ None ∷ None ∷ None ∷ [];
+  values = 0 ∷ 0 ∷ 0 ∷ 18 ∷ [];
+  holders = (1 ∷ []) ∷ [] ∷ (1 ∷ []) ∷ [] ∷ [];
+  touched = [] ∷ [] ∷ [] ∷ [] ∷ [];
+  first_places = 0 ∷ [];
+  places = At (split_at (Ran (run_no 1) ∷ []) 1) ∷ [];
+  overdue = (None ∷ None ∷ None ∷ None ∷ []) ∷ [];
+  starts = (0 ∷ 500 ∷ []) ∷ [];
+  ends = (500 ∷ 600 ∷ []) ∷ [];
+  whole_ends = 600 ∷ [];
+  choices = Absent ∷ HandsOut 0 (Commands 0) ∷ Moves (Placed (run_no 2) 1 0 ∷ []) ∷ [];
+}
 unfolding split_of
 at_3 = refl
 
-order_3 : clauses_of_line window (reading window (take 3 history)) no_grips ≡ clauses_of_history window (reading window (take 3 history))
+clauses_3 : clauses_of_line window (reading window (take 3 history)) no_grips ≡ clauses_of_history window (reading window (take 3 history))
 unfolding split_of
-order_3 = refl
+clauses_3 = refl
 
-at_4 : words_at window (reading window (take 4 history)) no_grips 0 ≡ record { line = (Ran (run_no 1) ∷ Ran (run_no 2) ∷ []); up = (true ∷ true ∷ true ∷ true ∷ []); writers = (None ∷ None ∷ None ∷ None ∷ []); values = (0 ∷ 0 ∷ 0 ∷ 18 ∷ []); holders = ((1 ∷ []) ∷ [] ∷ (1 ∷ 2 ∷ []) ∷ [] ∷ []); touched = ([] ∷ [] ∷ [] ∷ [] ∷ []); first_places = []; places = []; overdue = ((None ∷ None ∷ None ∷ None ∷ []) ∷ (None ∷ None ∷ None ∷ None ∷ []) ∷ []); starts = ((0 ∷ 500 ∷ []) ∷ (600 ∷ []) ∷ []); ends = ((500 ∷ 600 ∷ []) ∷ (1101 ∷ []) ∷ []); whole_ends = (600 ∷ 1101 ∷ []); choices = (Absent ∷ HandsOut 0 (Commands 0) ∷ Waits (Behind (device_no 2) (run_no 1)) ∷ []) }
+at_4 : words_at window (reading window (take 4 history)) no_grips 0 ≡ record {
+  line = Ran (run_no 1) ∷ Ran (run_no 2) ∷ [];
+  up = true ∷ true ∷ true ∷ true ∷ [];
+  writers = None ∷ None ∷ None ∷ None ∷ [];
+  values = 0 ∷ 0 ∷ 0 ∷ 18 ∷ [];
+  holders = (1 ∷ []) ∷ [] ∷ (1 ∷ 2 ∷ []) ∷ [] ∷ [];
+  touched = [] ∷ [] ∷ [] ∷ [] ∷ [];
+  first_places = [];
+  places = [];
+  overdue = (None ∷ None ∷ None ∷ None ∷ []) ∷ (None ∷ None ∷ None ∷ None ∷ []) ∷ [];
+  starts = (0 ∷ 500 ∷ []) ∷ (600 ∷ []) ∷ [];
+  ends = (500 ∷ 600 ∷ []) ∷ (1101 ∷ []) ∷ [];
+  whole_ends = 600 ∷ 1101 ∷ [];
+  choices = Absent ∷ HandsOut 0 (Commands 0) ∷ Waits (Behind (device_no 2) (run_no 1)) ∷ [];
+}
 unfolding split_of
 at_4 = refl
 
-order_4 : clauses_of_line window (reading window (take 4 history)) no_grips ≡ clauses_of_history window (reading window (take 4 history))
+clauses_4 : clauses_of_line window (reading window (take 4 history)) no_grips ≡ clauses_of_history window (reading window (take 4 history))
 unfolding split_of
-order_4 = refl
+clauses_4 = refl
 
-at_5 : words_at window (reading window (take 4 history)) (put no_grips 0 (Some (record { maker = 1; purpose = Commands 0 }))) 0 ≡ record { line = (Ran (run_no 1) ∷ Ran (run_no 2) ∷ []); up = (true ∷ true ∷ true ∷ true ∷ []); writers = (None ∷ None ∷ None ∷ None ∷ []); values = (0 ∷ 0 ∷ 0 ∷ 18 ∷ []); holders = ((1 ∷ []) ∷ [] ∷ (1 ∷ 2 ∷ []) ∷ [] ∷ []); touched = ((1 ∷ []) ∷ [] ∷ [] ∷ [] ∷ []); first_places = []; places = []; overdue = ((None ∷ None ∷ None ∷ None ∷ []) ∷ (None ∷ None ∷ None ∷ None ∷ []) ∷ []); starts = ((0 ∷ 500 ∷ []) ∷ (600 ∷ []) ∷ []); ends = ((500 ∷ 600 ∷ []) ∷ (1101 ∷ []) ∷ []); whole_ends = (600 ∷ 1101 ∷ []); choices = (Absent ∷ Waits (Busy (device_no 0)) ∷ Waits (Behind (device_no 2) (run_no 1)) ∷ []) }
+at_5 : words_at window (reading window (take 4 history)) (put no_grips 0 (Some (record { maker = 1; purpose = Commands 0 }))) 0 ≡ record {
+  line = Ran (run_no 1) ∷ Ran (run_no 2) ∷ [];
+  up = true ∷ true ∷ true ∷ true ∷ [];
+  writers = None ∷ None ∷ None ∷ None ∷ [];
+  values = 0 ∷ 0 ∷ 0 ∷ 18 ∷ [];
+  holders = (1 ∷ []) ∷ [] ∷ (1 ∷ 2 ∷ []) ∷ [] ∷ [];
+  touched = (1 ∷ []) ∷ [] ∷ [] ∷ [] ∷ [];
+  first_places = [];
+  places = [];
+  overdue = (None ∷ None ∷ None ∷ None ∷ []) ∷ (None ∷ None ∷ None ∷ None ∷ []) ∷ [];
+  starts = (0 ∷ 500 ∷ []) ∷ (600 ∷ []) ∷ [];
+  ends = (500 ∷ 600 ∷ []) ∷ (1101 ∷ []) ∷ [];
+  whole_ends = 600 ∷ 1101 ∷ [];
+  choices = Absent ∷ Waits (Busy (device_no 0)) ∷ Waits (Behind (device_no 2) (run_no 1)) ∷ [];
+}
 unfolding split_of
 at_5 = refl
 
-order_5 : clauses_of_line window (reading window (take 4 history)) (put no_grips 0 (Some (record { maker = 1; purpose = Commands 0 }))) ≡ clauses_of_history window (reading window (take 4 history))
+clauses_5 : clauses_of_line window (reading window (take 4 history)) (put no_grips 0 (Some (record { maker = 1; purpose = Commands 0 }))) ≡ clauses_of_history window (reading window (take 4 history))
 unfolding split_of
-order_5 = refl
+clauses_5 = refl
 
-at_6 : words_at window (reading window (take 5 history)) no_grips 500 ≡ record { line = (Ran (run_no 1) ∷ Ran (run_no 2) ∷ []); up = (true ∷ true ∷ true ∷ true ∷ []); writers = ((Some 1) ∷ None ∷ None ∷ None ∷ []); values = (1 ∷ 0 ∷ 0 ∷ 18 ∷ []); holders = ([] ∷ [] ∷ (1 ∷ 2 ∷ []) ∷ [] ∷ []); touched = ((1 ∷ []) ∷ [] ∷ [] ∷ [] ∷ []); first_places = []; places = []; overdue = ((None ∷ None ∷ None ∷ None ∷ []) ∷ (None ∷ None ∷ None ∷ None ∷ []) ∷ []); starts = ((0 ∷ 500 ∷ []) ∷ (600 ∷ []) ∷ []); ends = ((500 ∷ 600 ∷ []) ∷ (1101 ∷ []) ∷ []); whole_ends = (600 ∷ 1101 ∷ []); choices = (Absent ∷ HandsOut 2 (Commands 1) ∷ Waits (Behind (device_no 2) (run_no 1)) ∷ []) }
+at_6 : words_at window (reading window (take 5 history)) no_grips 500 ≡ record {
+  line = Ran (run_no 1) ∷ Ran (run_no 2) ∷ [];
+  up = true ∷ true ∷ true ∷ true ∷ [];
+  writers = Some 1 ∷ None ∷ None ∷ None ∷ [];
+  values = 1 ∷ 0 ∷ 0 ∷ 18 ∷ [];
+  holders = [] ∷ [] ∷ (1 ∷ 2 ∷ []) ∷ [] ∷ [];
+  touched = (1 ∷ []) ∷ [] ∷ [] ∷ [] ∷ [];
+  first_places = [];
+  places = [];
+  overdue = (None ∷ None ∷ None ∷ None ∷ []) ∷ (None ∷ None ∷ None ∷ None ∷ []) ∷ [];
+  starts = (0 ∷ 500 ∷ []) ∷ (600 ∷ []) ∷ [];
+  ends = (500 ∷ 600 ∷ []) ∷ (1101 ∷ []) ∷ [];
+  whole_ends = 600 ∷ 1101 ∷ [];
+  choices = Absent ∷ HandsOut 2 (Commands 1) ∷ Waits (Behind (device_no 2) (run_no 1)) ∷ [];
+}
 unfolding split_of
 at_6 = refl
 
-order_6 : clauses_of_line window (reading window (take 5 history)) no_grips ≡ clauses_of_history window (reading window (take 5 history))
+clauses_6 : clauses_of_line window (reading window (take 5 history)) no_grips ≡ clauses_of_history window (reading window (take 5 history))
 unfolding split_of
-order_6 = refl
+clauses_6 = refl
 
-at_7 : words_at window (reading window (take 5 history)) (put no_grips 2 (Some (record { maker = 1; purpose = Commands 1 }))) 500 ≡ record { line = (Ran (run_no 1) ∷ Ran (run_no 2) ∷ []); up = (true ∷ true ∷ true ∷ true ∷ []); writers = ((Some 1) ∷ None ∷ None ∷ None ∷ []); values = (1 ∷ 0 ∷ 0 ∷ 18 ∷ []); holders = ([] ∷ [] ∷ (1 ∷ 2 ∷ []) ∷ [] ∷ []); touched = ((1 ∷ []) ∷ [] ∷ (1 ∷ []) ∷ [] ∷ []); first_places = []; places = []; overdue = ((None ∷ None ∷ None ∷ None ∷ []) ∷ (None ∷ None ∷ None ∷ None ∷ []) ∷ []); starts = ((0 ∷ 500 ∷ []) ∷ (600 ∷ []) ∷ []); ends = ((500 ∷ 600 ∷ []) ∷ (1101 ∷ []) ∷ []); whole_ends = (600 ∷ 1101 ∷ []); choices = (Absent ∷ Waits (Busy (device_no 2)) ∷ Waits (Behind (device_no 2) (run_no 1)) ∷ []) }
+at_7 : words_at window (reading window (take 5 history)) (put no_grips 2 (Some (record { maker = 1; purpose = Commands 1 }))) 500 ≡ record {
+  line = Ran (run_no 1) ∷ Ran (run_no 2) ∷ [];
+  up = true ∷ true ∷ true ∷ true ∷ [];
+  writers = Some 1 ∷ None ∷ None ∷ None ∷ [];
+  values = 1 ∷ 0 ∷ 0 ∷ 18 ∷ [];
+  holders = [] ∷ [] ∷ (1 ∷ 2 ∷ []) ∷ [] ∷ [];
+  touched = (1 ∷ []) ∷ [] ∷ (1 ∷ []) ∷ [] ∷ [];
+  first_places = [];
+  places = [];
+  overdue = (None ∷ None ∷ None ∷ None ∷ []) ∷ (None ∷ None ∷ None ∷ None ∷ []) ∷ [];
+  starts = (0 ∷ 500 ∷ []) ∷ (600 ∷ []) ∷ [];
+  ends = (500 ∷ 600 ∷ []) ∷ (1101 ∷ []) ∷ [];
+  whole_ends = 600 ∷ 1101 ∷ [];
+  choices = Absent ∷ Waits (Busy (device_no 2)) ∷ Waits (Behind (device_no 2) (run_no 1)) ∷ [];
+}
 unfolding split_of
 at_7 = refl
 
-order_7 : clauses_of_line window (reading window (take 5 history)) (put no_grips 2 (Some (record { maker = 1; purpose = Commands 1 }))) ≡ clauses_of_history window (reading window (take 5 history))
+clauses_7 : clauses_of_line window (reading window (take 5 history)) (put no_grips 2 (Some (record { maker = 1; purpose = Commands 1 }))) ≡ clauses_of_history window (reading window (take 5 history))
 unfolding split_of
-order_7 = refl
+clauses_7 = refl
 
-at_8 : words_at window (reading window (take 6 history)) no_grips 600 ≡ record { line = (Ran (run_no 1) ∷ Ran (run_no 2) ∷ []); up = (true ∷ true ∷ true ∷ true ∷ []); writers = ((Some 1) ∷ None ∷ (Some 1) ∷ None ∷ []); values = (1 ∷ 0 ∷ 1 ∷ 18 ∷ []); holders = ([] ∷ [] ∷ (2 ∷ []) ∷ [] ∷ []); touched = ((1 ∷ []) ∷ [] ∷ (1 ∷ []) ∷ [] ∷ []); first_places = []; places = []; overdue = ((None ∷ None ∷ None ∷ None ∷ []) ∷ (None ∷ None ∷ None ∷ None ∷ []) ∷ []); starts = ((0 ∷ 500 ∷ []) ∷ (600 ∷ []) ∷ []); ends = ((500 ∷ 600 ∷ []) ∷ (1101 ∷ []) ∷ []); whole_ends = (600 ∷ 1101 ∷ []); choices = (Absent ∷ Over Committed (Ended (run_no 1) Committed ∷ []) ∷ HandsOut 2 (Commands 0) ∷ []) }
+at_8 : words_at window (reading window (take 6 history)) no_grips 600 ≡ record {
+  line = Ran (run_no 1) ∷ Ran (run_no 2) ∷ [];
+  up = true ∷ true ∷ true ∷ true ∷ [];
+  writers = Some 1 ∷ None ∷ Some 1 ∷ None ∷ [];
+  values = 1 ∷ 0 ∷ 1 ∷ 18 ∷ [];
+  holders = [] ∷ [] ∷ (2 ∷ []) ∷ [] ∷ [];
+  touched = (1 ∷ []) ∷ [] ∷ (1 ∷ []) ∷ [] ∷ [];
+  first_places = [];
+  places = [];
+  overdue = (None ∷ None ∷ None ∷ None ∷ []) ∷ (None ∷ None ∷ None ∷ None ∷ []) ∷ [];
+  starts = (0 ∷ 500 ∷ []) ∷ (600 ∷ []) ∷ [];
+  ends = (500 ∷ 600 ∷ []) ∷ (1101 ∷ []) ∷ [];
+  whole_ends = 600 ∷ 1101 ∷ [];
+  choices = Absent ∷ Over Committed (Ended (run_no 1) Committed ∷ []) ∷ HandsOut 2 (Commands 0) ∷ [];
+}
 unfolding split_of
 at_8 = refl
 
-order_8 : clauses_of_line window (reading window (take 6 history)) no_grips ≡ clauses_of_history window (reading window (take 6 history))
+clauses_8 : clauses_of_line window (reading window (take 6 history)) no_grips ≡ clauses_of_history window (reading window (take 6 history))
 unfolding split_of
-order_8 = refl
+clauses_8 = refl
 
-at_9 : words_at window (reading window (take 6 history)) (put no_grips 2 (Some (record { maker = 2; purpose = Commands 0 }))) 600 ≡ record { line = (Ran (run_no 1) ∷ Ran (run_no 2) ∷ []); up = (true ∷ true ∷ true ∷ true ∷ []); writers = ((Some 1) ∷ None ∷ (Some 1) ∷ None ∷ []); values = (1 ∷ 0 ∷ 1 ∷ 18 ∷ []); holders = ([] ∷ [] ∷ (2 ∷ []) ∷ [] ∷ []); touched = ((1 ∷ []) ∷ [] ∷ (1 ∷ 2 ∷ []) ∷ [] ∷ []); first_places = []; places = []; overdue = ((None ∷ None ∷ None ∷ None ∷ []) ∷ (None ∷ None ∷ None ∷ None ∷ []) ∷ []); starts = ((0 ∷ 500 ∷ []) ∷ (600 ∷ []) ∷ []); ends = ((500 ∷ 600 ∷ []) ∷ (1101 ∷ []) ∷ []); whole_ends = (600 ∷ 1101 ∷ []); choices = (Absent ∷ Over Committed (Ended (run_no 1) Committed ∷ []) ∷ Waits (Busy (device_no 2)) ∷ []) }
+at_9 : words_at window (reading window (take 6 history)) (put no_grips 2 (Some (record { maker = 2; purpose = Commands 0 }))) 600 ≡ record {
+  line = Ran (run_no 1) ∷ Ran (run_no 2) ∷ [];
+  up = true ∷ true ∷ true ∷ true ∷ [];
+  writers = Some 1 ∷ None ∷ Some 1 ∷ None ∷ [];
+  values = 1 ∷ 0 ∷ 1 ∷ 18 ∷ [];
+  holders = [] ∷ [] ∷ (2 ∷ []) ∷ [] ∷ [];
+  touched = (1 ∷ []) ∷ [] ∷ (1 ∷ 2 ∷ []) ∷ [] ∷ [];
+  first_places = [];
+  places = [];
+  overdue = (None ∷ None ∷ None ∷ None ∷ []) ∷ (None ∷ None ∷ None ∷ None ∷ []) ∷ [];
+  starts = (0 ∷ 500 ∷ []) ∷ (600 ∷ []) ∷ [];
+  ends = (500 ∷ 600 ∷ []) ∷ (1101 ∷ []) ∷ [];
+  whole_ends = 600 ∷ 1101 ∷ [];
+  choices = Absent ∷ Over Committed (Ended (run_no 1) Committed ∷ []) ∷ Waits (Busy (device_no 2)) ∷ [];
+}
 unfolding split_of
 at_9 = refl
 
-order_9 : clauses_of_line window (reading window (take 6 history)) (put no_grips 2 (Some (record { maker = 2; purpose = Commands 0 }))) ≡ clauses_of_history window (reading window (take 6 history))
+clauses_9 : clauses_of_line window (reading window (take 6 history)) (put no_grips 2 (Some (record { maker = 2; purpose = Commands 0 }))) ≡ clauses_of_history window (reading window (take 6 history))
 unfolding split_of
-order_9 = refl
+clauses_9 = refl
 
-at_10 : words_at window (reading window (take 7 history)) no_grips 1101 ≡ record { line = (Ran (run_no 1) ∷ Ran (run_no 2) ∷ []); up = (true ∷ true ∷ true ∷ true ∷ []); writers = ((Some 1) ∷ None ∷ (Some 2) ∷ None ∷ []); values = (1 ∷ 0 ∷ 0 ∷ 18 ∷ []); holders = ([] ∷ [] ∷ [] ∷ [] ∷ []); touched = ((1 ∷ []) ∷ [] ∷ (1 ∷ 2 ∷ []) ∷ [] ∷ []); first_places = []; places = []; overdue = ((None ∷ None ∷ None ∷ None ∷ []) ∷ (None ∷ None ∷ None ∷ None ∷ []) ∷ []); starts = ((0 ∷ 500 ∷ []) ∷ (600 ∷ []) ∷ []); ends = ((500 ∷ 600 ∷ []) ∷ (1101 ∷ []) ∷ []); whole_ends = (600 ∷ 1101 ∷ []); choices = (Absent ∷ Over Committed (Ended (run_no 1) Committed ∷ []) ∷ Over Committed (Ended (run_no 2) Committed ∷ []) ∷ []) }
+at_10 : words_at window (reading window (take 7 history)) no_grips 1101 ≡ record {
+  line = Ran (run_no 1) ∷ Ran (run_no 2) ∷ [];
+  up = true ∷ true ∷ true ∷ true ∷ [];
+  writers = Some 1 ∷ None ∷ Some 2 ∷ None ∷ [];
+  values = 1 ∷ 0 ∷ 0 ∷ 18 ∷ [];
+  holders = [] ∷ [] ∷ [] ∷ [] ∷ [];
+  touched = (1 ∷ []) ∷ [] ∷ (1 ∷ 2 ∷ []) ∷ [] ∷ [];
+  first_places = [];
+  places = [];
+  overdue = (None ∷ None ∷ None ∷ None ∷ []) ∷ (None ∷ None ∷ None ∷ None ∷ []) ∷ [];
+  starts = (0 ∷ 500 ∷ []) ∷ (600 ∷ []) ∷ [];
+  ends = (500 ∷ 600 ∷ []) ∷ (1101 ∷ []) ∷ [];
+  whole_ends = 600 ∷ 1101 ∷ [];
+  choices = Absent ∷ Over Committed (Ended (run_no 1) Committed ∷ []) ∷ Over Committed (Ended (run_no 2) Committed ∷ []) ∷ [];
+}
 unfolding split_of
 at_10 = refl
 
-order_10 : clauses_of_line window (reading window (take 7 history)) no_grips ≡ clauses_of_history window (reading window (take 7 history))
+clauses_10 : clauses_of_line window (reading window (take 7 history)) no_grips ≡ clauses_of_history window (reading window (take 7 history))
 unfolding split_of
-order_10 = refl
+clauses_10 = refl
 
-at_11 : words_at window (reading window (take 8 history)) no_grips 1101 ≡ record { line = (Ran (run_no 1) ∷ Ran (run_no 2) ∷ []); up = (true ∷ true ∷ true ∷ true ∷ []); writers = ((Some 1) ∷ None ∷ (Some 2) ∷ None ∷ []); values = (1 ∷ 0 ∷ 0 ∷ 18 ∷ []); holders = ([] ∷ [] ∷ [] ∷ [] ∷ []); touched = ((1 ∷ []) ∷ [] ∷ (1 ∷ 2 ∷ []) ∷ [] ∷ []); first_places = []; places = []; overdue = ((None ∷ None ∷ None ∷ None ∷ []) ∷ []); starts = ((600 ∷ []) ∷ []); ends = ((1101 ∷ []) ∷ []); whole_ends = (1101 ∷ []); choices = (Absent ∷ Over Committed [] ∷ Over Committed (Ended (run_no 2) Committed ∷ []) ∷ []) }
+at_11 : words_at window (reading window (take 8 history)) no_grips 1101 ≡ record {
+  line = Ran (run_no 1) ∷ Ran (run_no 2) ∷ [];
+  up = true ∷ true ∷ true ∷ true ∷ [];
+  writers = Some 1 ∷ None ∷ Some 2 ∷ None ∷ [];
+  values = 1 ∷ 0 ∷ 0 ∷ 18 ∷ [];
+  holders = [] ∷ [] ∷ [] ∷ [] ∷ [];
+  touched = (1 ∷ []) ∷ [] ∷ (1 ∷ 2 ∷ []) ∷ [] ∷ [];
+  first_places = [];
+  places = [];
+  overdue = (None ∷ None ∷ None ∷ None ∷ []) ∷ [];
+  starts = (600 ∷ []) ∷ [];
+  ends = (1101 ∷ []) ∷ [];
+  whole_ends = 1101 ∷ [];
+  choices = Absent ∷ Over Committed [] ∷ Over Committed (Ended (run_no 2) Committed ∷ []) ∷ [];
+}
 unfolding split_of
 at_11 = refl
 
-order_11 : clauses_of_line window (reading window (take 8 history)) no_grips ≡ clauses_of_history window (reading window (take 8 history))
+clauses_11 : clauses_of_line window (reading window (take 8 history)) no_grips ≡ clauses_of_history window (reading window (take 8 history))
 unfolding split_of
-order_11 = refl
+clauses_11 = refl
 
-at_12 : words_at window (reading window history) no_grips 1101 ≡ record { line = (Ran (run_no 1) ∷ Ran (run_no 2) ∷ []); up = (true ∷ true ∷ true ∷ true ∷ []); writers = ((Some 1) ∷ None ∷ (Some 2) ∷ None ∷ []); values = (1 ∷ 0 ∷ 0 ∷ 18 ∷ []); holders = ([] ∷ [] ∷ [] ∷ [] ∷ []); touched = ((1 ∷ []) ∷ [] ∷ (1 ∷ 2 ∷ []) ∷ [] ∷ []); first_places = []; places = []; overdue = []; starts = []; ends = []; whole_ends = []; choices = (Absent ∷ Over Committed [] ∷ Over Committed [] ∷ []) }
+at_12 : words_at window (reading window history) no_grips 1101 ≡ record {
+  line = Ran (run_no 1) ∷ Ran (run_no 2) ∷ [];
+  up = true ∷ true ∷ true ∷ true ∷ [];
+  writers = Some 1 ∷ None ∷ Some 2 ∷ None ∷ [];
+  values = 1 ∷ 0 ∷ 0 ∷ 18 ∷ [];
+  holders = [] ∷ [] ∷ [] ∷ [] ∷ [];
+  touched = (1 ∷ []) ∷ [] ∷ (1 ∷ 2 ∷ []) ∷ [] ∷ [];
+  first_places = [];
+  places = [];
+  overdue = [];
+  starts = [];
+  ends = [];
+  whole_ends = [];
+  choices = Absent ∷ Over Committed [] ∷ Over Committed [] ∷ [];
+}
 unfolding split_of
 at_12 = refl
 
-order_12 : clauses_of_line window (reading window history) no_grips ≡ clauses_of_history window (reading window history)
+clauses_12 : clauses_of_line window (reading window history) no_grips ≡ clauses_of_history window (reading window history)
 unfolding split_of
-order_12 = refl
+clauses_12 = refl
 
 give_0 : give_entries window (reading window (take 4 history)) 0 (record { maker = 1; purpose = Commands 0 }) Worked ≡ Did (run_no 1) 0 Fine ∷ []
 unfolding split_of
@@ -161,25 +346,25 @@ give_2 : give_entries window (reading window (take 6 history)) 2 (record { maker
 unfolding split_of
 give_2 = refl
 
-all_ended_here : all_ended window history ≡ true
+all_have_ended : all_ended window history ≡ true
 unfolding split_of
-all_ended_here = refl
+all_have_ended = refl
 
-verdict_here : verdict window history ≡ record { well_formed = true; clean = true; justified = true; isolated = true }
+verdict_is : verdict window history ≡ record { well_formed = true; clean = true; justified = true; isolated = true }
 unfolding split_of
-verdict_here = refl
+verdict_is = refl
 
 abbrev pub order : List Item
 order = Ran (run_no 1) ∷ Ran (run_no 2) ∷ []
 
-serial_here : executed window order ≡ record { home = (record { value = 1; up = true } ∷ record { value = 0; up = true } ∷ record { value = 0; up = true } ∷ record { value = 18; up = true } ∷ []); answers = (record { run = run_no 1; answers = (Fine ∷ Fine ∷ []) } ∷ record { run = run_no 2; answers = (Fine ∷ []) } ∷ []); refused = false }
+order_gives : executed window order ≡ record { home = record { value = 1; up = true } ∷ record { value = 0; up = true } ∷ record { value = 0; up = true } ∷ record { value = 18; up = true } ∷ []; answers = record { run = run_no 1; answers = Fine ∷ Fine ∷ [] } ∷ record { run = run_no 2; answers = Fine ∷ [] } ∷ []; refused = false }
 unfolding split_of
-serial_here = refl
+order_gives = refl
 
-answers_here : answers_in (reading window history) order ≡ (record { run = run_no 1; answers = (Fine ∷ Fine ∷ []) } ∷ record { run = run_no 2; answers = (Fine ∷ []) } ∷ [])
+answers_are : answers_in (reading window history) order ≡ record { run = run_no 1; answers = Fine ∷ Fine ∷ [] } ∷ record { run = run_no 2; answers = Fine ∷ [] } ∷ []
 unfolding split_of
-answers_here = refl
+answers_are = refl
 
-calls_here : map (told_calls window.runs history) (device_numbers window) ≡ (1 ∷ 0 ∷ 2 ∷ 0 ∷ [])
+calls_are : map (told_calls window.runs history) (device_numbers window) ≡ 1 ∷ 0 ∷ 2 ∷ 0 ∷ []
 unfolding split_of
-calls_here = refl
+calls_are = refl
