@@ -14,7 +14,7 @@ use Rattle.hub_core.specs.Steps.{Choice, decide}
 use Rattle.lock_leasing.specs.Configurations.{Grips}
 use Rattle.lock_leasing.specs.Order.{committed_home, firsts_of_line, firsts_of_log, is_in_line, live_writes_are_covered, marks_of_line, marks_of_log, open_runs_are_last, settled_items}
 use Rattle.lock_leasing.specs.Places.{Placing, first_place, scheduled_place}
-use Rattle.lock_leasing.specs.Words.{effective_writer_of, has_touched, holds, live_runs, overdue_for, standing_value}
+use Rattle.lock_leasing.specs.Words.{effective_writer_of, has_touched, holds_device, live_runs, overdue_for, standing_value}
 use Rattle.std.specs.List.{list_all, list_any}
 use Rattle.std.specs.Prelude.{Bool, List, Option, false, filter, is_none, is_some, map, not, true, ℕ, ◌&&◌, ◌||◌, ◌∷◌}
 
@@ -43,13 +43,13 @@ words_at w n g m = record {
   up = map n.up (device_numbers w);
   writers = map (effective_writer_of n g) (device_numbers w);
   values = map (standing_value w n g) (device_numbers w);
-  holders = map (λ d. filter (λ r. holds w n g r d) (run_numbers w)) (device_numbers w);
+  holders = map (λ d. filter (λ r. holds_device w n g r d) (run_numbers w)) (device_numbers w);
   touched = map (λ d. filter (λ r. has_touched n g r d) (run_numbers w)) (device_numbers w);
   first_places = map (first_place w n g) (waiting_runs w n);
   places = map (λ r. scheduled_place w n g r m) (waiting_runs w n);
   overdue = map (λ r. map (λ d. overdue_for w n g r d m) (device_numbers w)) (live_runs n n.line);
-  starts = map (λ r. map (planned_start (n.run r).plan) (devices_of w r)) (live_runs n n.line);
-  ends = map (λ r. map (planned_end (n.run r).plan) (devices_of w r)) (live_runs n n.line);
+  starts = map (λ r. map (planned_start (n.run r).planned) (devices_of w r)) (live_runs n n.line);
+  ends = map (λ r. map (planned_end (n.run r).planned) (devices_of w r)) (live_runs n n.line);
   whole_ends = map (whole_end w n) (live_runs n n.line);
   choices = map (λ r. decide w n g r m) (0 ∷ run_numbers w);
 }
