@@ -1,0 +1,17 @@
+-- The commands of a run, found by its place.
+use Rattle.command_rules.specs.Rosters.{commands_of, plain_run}
+use Rattle.command_rules.specs.declared.rosters.RosterRun.{RosterRun}
+use Rattle.std.proofs.Common.{ap, arith, sym, ◌∙◌}
+use Rattle.std.proofs.lemmas.Option.{slice_get-map}
+use Rattle.std.specs.Prelude.{List, None, Option, Some, [], map, option_map, refl, slice_get, suc, unwrap_or, zero, ℕ, ◌-◌, ◌≡◌, ◌≢◌}
+
+told : (o : Option RosterRun) → unwrap_or (option_map (λ run. run.commands) (option_map plain_run o)) [] ≡ unwrap_or (option_map (λ run. run.routine.commands.items) o) []
+told None = refl
+told (Some run) = refl
+
+pub commands_at : (items : List RosterRun) (r : ℕ) (found : Option RosterRun) → r ≢ 0 → slice_get items (r - 1) ≡ found
+    → commands_of (map plain_run items) r ≡ unwrap_or (option_map (λ run. run.routine.commands.items) found) []
+commands_at items zero found other is = absurd (other refl)
+commands_at items (suc i) found other is =
+    let back : suc i - 1 ≡ i = omega arith in
+    ap (λ o. unwrap_or (option_map (λ run. run.commands) o) []) (slice_get-map plain_run items i ∙ ap (option_map plain_run) (ap (slice_get items) (sym back) ∙ is)) ∙ told found

@@ -1,0 +1,4 @@
+pub mod Commands
+pub mod EventsInLines
+pub mod ToldCases
+pub mod WritesInEffect
