@@ -2,6 +2,7 @@
 use Rattle.worked_windows.proofs.FailureAfterLastAccess as worked
 use Rattle.history_book.specs.Histories.{kept_by, reading}
 use Rattle.history_book.specs.Plans.{split_of}
+use Rattle.history_book.specs.declared.entries.Kept.{Kept}
 use Rattle.history_book.specs.declared.records.WindowRecord.{WindowRecord}
 use Rattle.home_types.specs.declared.modes.Scheduler.TheVariants.{Fcfs}
 use Rattle.home_types.specs.declared.modes.Visibility.TheVariants.{Eventual}
@@ -13,13 +14,17 @@ use Rattle.lock_leasing.specs.Configurations.{no_grips}
 use Rattle.lock_leasing.specs.Places.{MayBeOut}
 use Rattle.std.proofs.Common.{arith}
 use Rattle.std.proofs.lemmas.Grind.{common_steps}
-use Rattle.std.specs.Prelude.{[], false, refl, take, true, ◌∷◌}
+use Rattle.std.specs.Prelude.{List, [], drop, false, refl, take, true, ◌++◌, ◌∷◌}
+
+-- the failure is the detector's, all else the run's
+abbrev pub made : List Kept
+made = kept_by 1 (take 3 worked.history) ++ kept_by 0 (take 1 (drop 3 worked.history)) ++ kept_by 1 (drop 4 worked.history)
 
 abbrev pub closed : WindowRecord
 closed = record {
   mode = record { model = Eventual; scheduler = Fcfs };
   first = record { devices = record { items = worked.window.first; spare = 0 } };
-  history = record { items = kept_by 1 worked.history; spare = 0 };
+  history = record { items = made; spare = 0 };
   order = record { items = worked.order; spare = 0 };
   last = record { devices = record { items = (record { value = 1; up = false } ∷ record { value = 1; up = true } ∷ record { value = 0; up = true } ∷ record { value = 18; up = true } ∷ []); spare = 0 } };
   turns = record { items = 1 ∷ 1 ∷ 0 ∷ 0 ∷ []; spare = 0 };

@@ -39,6 +39,9 @@ pub mod StrictWhileProbed
 pub mod DirtyThoughDown
 pub mod BusyBeforeDown
 pub mod JitDeniesDirtyRead
+pub mod WeakDiesAgain
+pub mod SkippedAndDownAtEnd
 pub mod AlteredHistories
 pub mod OtherRecords
+pub mod CappedTimes
 pub mod LegalWindow

@@ -1,0 +1,21 @@
+-- Planned times and deadlines stay at the greatest number of 64 bits.
+use Rattle.command_rules.specs.Rosters.{run_no}
+use Rattle.history_book.specs.Histories.{reading}
+use Rattle.history_book.specs.Plans.{planned_end, split_of}
+use Rattle.history_book.specs.Readings.{Reading}
+use Rattle.history_book.specs.declared.entries.Entry.TheVariants.{Arrived, Placed}
+use Rattle.lock_leasing.specs.Words.{lease_deadline}
+use Rattle.std.specs.Prelude.{[], refl, ◌∷◌, ◌≡◌}
+use Rattle.worked_windows.proofs.OneLight.{window}
+
+-- the one run of 100 ms, placed 50 ms before that number
+abbrev pub late : Reading
+late = reading window (Arrived (run_no 1) 18446744073709551565 ∷ Placed (run_no 1) 0 18446744073709551565 ∷ [])
+
+end_stays : planned_end (late.run 1).planned 0 ≡ 18446744073709551615
+unfolding split_of
+end_stays = refl
+
+deadline_stays : lease_deadline window late 1 0 ≡ 18446744073709551615
+unfolding split_of
+deadline_stays = refl
