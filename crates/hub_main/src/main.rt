@@ -26,7 +26,7 @@ fn main(rt: HostRuntime) -> ExitCode {
     ExitCode::from(run(&rt).unwrap_or(MEMORY))
 }
 
-/// Makes the real objects, runs the command, and prints why it failed, if it did.
+/// Makes the real objects, runs the command, and tells on standard error why it failed, if it did.
 fn run(rt: &HostRuntime) -> io::Result<u8> {
     let words: Vec<String> = env::args(rt)?.collect(rt.alloc())?;
     let given: &[String] = match words.as_slice() {
@@ -37,7 +37,8 @@ fn run(rt: &HostRuntime) -> io::Result<u8> {
     let mut sink = StdSink::new(rt.stdout());
     let finish = still_command(rt.alloc(), given, &mut source, &mut sink, &mut CalmBench);
     if let Some(fault) = &finish.fault {
-        eprintln!(rt; "{fault}")?;
+        // Where nothing can be told, the status still tells it.
+        let _ = eprintln!(rt; "{fault}");
     }
     Ok(finish.status)
 }
