@@ -1,0 +1,543 @@
+-- The window smallest-device-down-at-end.
+use Rattle.command_rules.specs.Rosters.{device_no, follows, run_no}
+use Rattle.history_book.specs.Histories.{answers_in, executed, reading}
+use Rattle.history_book.specs.Lines.{split_at}
+use Rattle.history_book.specs.Plans.{split_of}
+use Rattle.history_book.specs.Readings.{put}
+use Rattle.history_book.specs.Settings.{Setting, device_numbers}
+use Rattle.history_book.specs.declared.entries.Cause.TheVariants.{DownAtEnd, Refuted}
+use Rattle.history_book.specs.declared.entries.End.TheVariants.{Aborted}
+use Rattle.history_book.specs.declared.entries.Entry.{Entry}
+use Rattle.history_book.specs.declared.entries.Entry.TheVariants.{Arrived, Did, Doomed, Ended, Fell, Placed, Undid}
+use Rattle.home_types.specs.declared.commands.Answer.TheVariants.{Down, Fine, Found}
+use Rattle.home_types.specs.declared.commands.Job.TheVariants.{Check, Set}
+use Rattle.home_types.specs.declared.items.Item.{Item}
+use Rattle.home_types.specs.declared.items.Item.TheVariants.{Failed, Ran}
+use Rattle.home_types.specs.declared.kinds.Kind.TheVariants.{Range}
+use Rattle.home_types.specs.declared.modes.Scheduler.TheVariants.{Fcfs}
+use Rattle.home_types.specs.declared.modes.Visibility.TheVariants.{Global}
+use Rattle.hub_core.specs.AccountedCalls.{told_calls}
+use Rattle.hub_core.specs.LegalWindows.{all_ended}
+use Rattle.hub_core.specs.Steps.{Absent, HandsOut, Moves, Over, Waits, give_entries}
+use Rattle.hub_core.specs.declared.grips.Told.TheVariants.{Died, Sensed, Worked}
+use Rattle.hub_core.specs.declared.waits.Why.TheVariants.{Busy, Strict}
+use Rattle.lock_leasing.specs.Configurations.{Commands, Probes, Undoes, no_grips}
+use Rattle.lock_leasing.specs.Places.{At}
+use Rattle.std.specs.Prelude.{List, None, Some, [], false, map, refl, take, true, ◌∷◌, ◌≡◌}
+use Rattle.worked_windows.proofs.Points.{clauses_of_history, clauses_of_line, verdict, words_at}
+
+abbrev pub window : Setting
+window = record {
+  runs =
+      record { commands = record { device = device_no 0; job = Set 2; must = true; ms = 100; takes = 100 } ∷ record { device = device_no 0; job = Check 0; must = true; ms = 100; takes = 100 } ∷ []; follows = None }
+      ∷ record { commands = record { device = device_no 0; job = Set 1; must = false; ms = 100; takes = 100 } ∷ record { device = device_no 1; job = Check 1; must = false; ms = 100; takes = 100 } ∷ []; follows = None }
+      ∷ [];
+  mode = record { model = Global; scheduler = Fcfs };
+  kinds = Range 0 3 ∷ Range 0 3 ∷ [];
+  first = record { value = 0; up = true } ∷ record { value = 0; up = true } ∷ [];
+}
+
+abbrev pub history : List Entry
+history =
+    Arrived (run_no 1) 0
+    ∷ Placed (run_no 1) 0 0
+    ∷ Did (run_no 1) 0 Fine
+    ∷ Did (run_no 1) 1 (Found 2)
+    ∷ Doomed (run_no 1) (Refuted 1 2)
+    ∷ Arrived (run_no 2) 200
+    ∷ Undid (run_no 1) (device_no 0) true
+    ∷ Placed (run_no 2) 1 200
+    ∷ Ended (run_no 1) (Aborted (Refuted 1 2))
+    ∷ Fell (device_no 0)
+    ∷ Did (run_no 2) 0 Down
+    ∷ Fell (device_no 1)
+    ∷ Did (run_no 2) 1 Down
+    ∷ Doomed (run_no 2) (DownAtEnd (device_no 0))
+    ∷ Ended (run_no 2) (Aborted (DownAtEnd (device_no 0))) ∷ []
+
+at_0 : words_at window (reading window (take 0 history)) no_grips 0 ≡ record {
+  line = [];
+  up = true ∷ true ∷ [];
+  writers = None ∷ None ∷ [];
+  values = 0 ∷ 0 ∷ [];
+  holders = [] ∷ [] ∷ [];
+  touched = [] ∷ [] ∷ [];
+  first_places = [];
+  places = [];
+  overdue = [];
+  starts = [];
+  ends = [];
+  whole_ends = [];
+  choices = Absent ∷ Moves (Arrived (run_no 1) 0 ∷ []) ∷ Moves (Arrived (run_no 2) 0 ∷ []) ∷ [];
+}
+unfolding split_of
+at_0 = refl
+
+clauses_0 : clauses_of_line window (reading window (take 0 history)) no_grips ≡ clauses_of_history window (reading window (take 0 history))
+unfolding split_of
+clauses_0 = refl
+
+at_1 : words_at window (reading window (take 1 history)) no_grips 0 ≡ record {
+  line = [];
+  up = true ∷ true ∷ [];
+  writers = None ∷ None ∷ [];
+  values = 0 ∷ 0 ∷ [];
+  holders = [] ∷ [] ∷ [];
+  touched = [] ∷ [] ∷ [];
+  first_places = 0 ∷ [];
+  places = At (split_at [] 0) ∷ [];
+  overdue = [];
+  starts = [];
+  ends = [];
+  whole_ends = [];
+  choices = Absent ∷ Moves (Placed (run_no 1) 0 0 ∷ []) ∷ Moves (Arrived (run_no 2) 0 ∷ []) ∷ [];
+}
+unfolding split_of
+at_1 = refl
+
+clauses_1 : clauses_of_line window (reading window (take 1 history)) no_grips ≡ clauses_of_history window (reading window (take 1 history))
+unfolding split_of
+clauses_1 = refl
+
+at_2 : words_at window (reading window (take 2 history)) no_grips 0 ≡ record {
+  line = Ran (run_no 1) ∷ [];
+  up = true ∷ true ∷ [];
+  writers = None ∷ None ∷ [];
+  values = 0 ∷ 0 ∷ [];
+  holders = (1 ∷ []) ∷ [] ∷ [];
+  touched = [] ∷ [] ∷ [];
+  first_places = [];
+  places = [];
+  overdue = (None ∷ None ∷ []) ∷ [];
+  starts = (0 ∷ []) ∷ [];
+  ends = (200 ∷ []) ∷ [];
+  whole_ends = 200 ∷ [];
+  choices = Absent ∷ HandsOut 0 (Commands 0) ∷ Moves (Arrived (run_no 2) 0 ∷ []) ∷ [];
+}
+unfolding split_of
+at_2 = refl
+
+clauses_2 : clauses_of_line window (reading window (take 2 history)) no_grips ≡ clauses_of_history window (reading window (take 2 history))
+unfolding split_of
+clauses_2 = refl
+
+at_3 : words_at window (reading window (take 2 history)) (put no_grips 0 (Some (record { maker = 1; purpose = Commands 0 }))) 0 ≡ record {
+  line = Ran (run_no 1) ∷ [];
+  up = true ∷ true ∷ [];
+  writers = None ∷ None ∷ [];
+  values = 0 ∷ 0 ∷ [];
+  holders = (1 ∷ []) ∷ [] ∷ [];
+  touched = (1 ∷ []) ∷ [] ∷ [];
+  first_places = [];
+  places = [];
+  overdue = (None ∷ None ∷ []) ∷ [];
+  starts = (0 ∷ []) ∷ [];
+  ends = (200 ∷ []) ∷ [];
+  whole_ends = 200 ∷ [];
+  choices = Absent ∷ Waits (Busy (device_no 0)) ∷ Moves (Arrived (run_no 2) 0 ∷ []) ∷ [];
+}
+unfolding split_of
+at_3 = refl
+
+clauses_3 : clauses_of_line window (reading window (take 2 history)) (put no_grips 0 (Some (record { maker = 1; purpose = Commands 0 }))) ≡ clauses_of_history window (reading window (take 2 history))
+unfolding split_of
+clauses_3 = refl
+
+at_4 : words_at window (reading window (take 3 history)) no_grips 100 ≡ record {
+  line = Ran (run_no 1) ∷ [];
+  up = true ∷ true ∷ [];
+  writers = Some 1 ∷ None ∷ [];
+  values = 2 ∷ 0 ∷ [];
+  holders = (1 ∷ []) ∷ [] ∷ [];
+  touched = (1 ∷ []) ∷ [] ∷ [];
+  first_places = [];
+  places = [];
+  overdue = (None ∷ None ∷ []) ∷ [];
+  starts = (0 ∷ []) ∷ [];
+  ends = (200 ∷ []) ∷ [];
+  whole_ends = 200 ∷ [];
+  choices = Absent ∷ HandsOut 0 (Commands 1) ∷ Moves (Arrived (run_no 2) 100 ∷ []) ∷ [];
+}
+unfolding split_of
+at_4 = refl
+
+clauses_4 : clauses_of_line window (reading window (take 3 history)) no_grips ≡ clauses_of_history window (reading window (take 3 history))
+unfolding split_of
+clauses_4 = refl
+
+at_5 : words_at window (reading window (take 3 history)) (put no_grips 0 (Some (record { maker = 1; purpose = Commands 1 }))) 100 ≡ record {
+  line = Ran (run_no 1) ∷ [];
+  up = true ∷ true ∷ [];
+  writers = Some 1 ∷ None ∷ [];
+  values = 2 ∷ 0 ∷ [];
+  holders = (1 ∷ []) ∷ [] ∷ [];
+  touched = (1 ∷ []) ∷ [] ∷ [];
+  first_places = [];
+  places = [];
+  overdue = (None ∷ None ∷ []) ∷ [];
+  starts = (0 ∷ []) ∷ [];
+  ends = (200 ∷ []) ∷ [];
+  whole_ends = 200 ∷ [];
+  choices = Absent ∷ Waits (Busy (device_no 0)) ∷ Moves (Arrived (run_no 2) 100 ∷ []) ∷ [];
+}
+unfolding split_of
+at_5 = refl
+
+clauses_5 : clauses_of_line window (reading window (take 3 history)) (put no_grips 0 (Some (record { maker = 1; purpose = Commands 1 }))) ≡ clauses_of_history window (reading window (take 3 history))
+unfolding split_of
+clauses_5 = refl
+
+at_6 : words_at window (reading window (take 5 history)) no_grips 200 ≡ record {
+  line = Ran (run_no 1) ∷ [];
+  up = true ∷ true ∷ [];
+  writers = Some 1 ∷ None ∷ [];
+  values = 2 ∷ 0 ∷ [];
+  holders = (1 ∷ []) ∷ [] ∷ [];
+  touched = (1 ∷ []) ∷ [] ∷ [];
+  first_places = [];
+  places = [];
+  overdue = (None ∷ None ∷ []) ∷ [];
+  starts = (0 ∷ []) ∷ [];
+  ends = (200 ∷ []) ∷ [];
+  whole_ends = 200 ∷ [];
+  choices = Absent ∷ HandsOut 0 (Undoes 0) ∷ Moves (Arrived (run_no 2) 200 ∷ []) ∷ [];
+}
+unfolding split_of
+at_6 = refl
+
+clauses_6 : clauses_of_line window (reading window (take 5 history)) no_grips ≡ clauses_of_history window (reading window (take 5 history))
+unfolding split_of
+clauses_6 = refl
+
+at_7 : words_at window (reading window (take 5 history)) (put no_grips 0 (Some (record { maker = 1; purpose = Undoes 0 }))) 200 ≡ record {
+  line = Ran (run_no 1) ∷ [];
+  up = true ∷ true ∷ [];
+  writers = None ∷ None ∷ [];
+  values = 0 ∷ 0 ∷ [];
+  holders = [] ∷ [] ∷ [];
+  touched = (1 ∷ []) ∷ [] ∷ [];
+  first_places = [];
+  places = [];
+  overdue = (None ∷ None ∷ []) ∷ [];
+  starts = (0 ∷ []) ∷ [];
+  ends = (200 ∷ []) ∷ [];
+  whole_ends = 200 ∷ [];
+  choices = Absent ∷ Waits (Busy (device_no 0)) ∷ Moves (Arrived (run_no 2) 200 ∷ []) ∷ [];
+}
+unfolding split_of
+at_7 = refl
+
+clauses_7 : clauses_of_line window (reading window (take 5 history)) (put no_grips 0 (Some (record { maker = 1; purpose = Undoes 0 }))) ≡ clauses_of_history window (reading window (take 5 history))
+unfolding split_of
+clauses_7 = refl
+
+at_8 : words_at window (reading window (take 6 history)) (put no_grips 0 (Some (record { maker = 1; purpose = Undoes 0 }))) 200 ≡ record {
+  line = Ran (run_no 1) ∷ [];
+  up = true ∷ true ∷ [];
+  writers = None ∷ None ∷ [];
+  values = 0 ∷ 0 ∷ [];
+  holders = [] ∷ [] ∷ [];
+  touched = (1 ∷ []) ∷ [] ∷ [];
+  first_places = 1 ∷ [];
+  places = At (split_at (Ran (run_no 1) ∷ []) 1) ∷ [];
+  overdue = (None ∷ None ∷ []) ∷ [];
+  starts = (0 ∷ []) ∷ [];
+  ends = (200 ∷ []) ∷ [];
+  whole_ends = 200 ∷ [];
+  choices = Absent ∷ Waits (Busy (device_no 0)) ∷ Moves (Placed (run_no 2) 1 200 ∷ []) ∷ [];
+}
+unfolding split_of
+at_8 = refl
+
+clauses_8 : clauses_of_line window (reading window (take 6 history)) (put no_grips 0 (Some (record { maker = 1; purpose = Undoes 0 }))) ≡ clauses_of_history window (reading window (take 6 history))
+unfolding split_of
+clauses_8 = refl
+
+at_9 : words_at window (reading window (take 6 history)) (put (put no_grips 0 (Some (record { maker = 1; purpose = Undoes 0 }))) 1 (Some (record { maker = 0; purpose = Probes None }))) 200 ≡ record {
+  line = Ran (run_no 1) ∷ [];
+  up = true ∷ true ∷ [];
+  writers = None ∷ None ∷ [];
+  values = 0 ∷ 0 ∷ [];
+  holders = [] ∷ [] ∷ [];
+  touched = (1 ∷ []) ∷ [] ∷ [];
+  first_places = 1 ∷ [];
+  places = At (split_at (Ran (run_no 1) ∷ []) 1) ∷ [];
+  overdue = (None ∷ None ∷ []) ∷ [];
+  starts = (0 ∷ []) ∷ [];
+  ends = (200 ∷ []) ∷ [];
+  whole_ends = 200 ∷ [];
+  choices = Absent ∷ Waits (Busy (device_no 0)) ∷ Moves (Placed (run_no 2) 1 200 ∷ []) ∷ [];
+}
+unfolding split_of
+at_9 = refl
+
+clauses_9 : clauses_of_line window (reading window (take 6 history)) (put (put no_grips 0 (Some (record { maker = 1; purpose = Undoes 0 }))) 1 (Some (record { maker = 0; purpose = Probes None }))) ≡ clauses_of_history window (reading window (take 6 history))
+unfolding split_of
+clauses_9 = refl
+
+at_10 : words_at window (reading window (take 6 history)) (put no_grips 0 (Some (record { maker = 1; purpose = Undoes 0 }))) 200 ≡ record {
+  line = Ran (run_no 1) ∷ [];
+  up = true ∷ true ∷ [];
+  writers = None ∷ None ∷ [];
+  values = 0 ∷ 0 ∷ [];
+  holders = [] ∷ [] ∷ [];
+  touched = (1 ∷ []) ∷ [] ∷ [];
+  first_places = 1 ∷ [];
+  places = At (split_at (Ran (run_no 1) ∷ []) 1) ∷ [];
+  overdue = (None ∷ None ∷ []) ∷ [];
+  starts = (0 ∷ []) ∷ [];
+  ends = (200 ∷ []) ∷ [];
+  whole_ends = 200 ∷ [];
+  choices = Absent ∷ Waits (Busy (device_no 0)) ∷ Moves (Placed (run_no 2) 1 200 ∷ []) ∷ [];
+}
+unfolding split_of
+at_10 = refl
+
+clauses_10 : clauses_of_line window (reading window (take 6 history)) (put no_grips 0 (Some (record { maker = 1; purpose = Undoes 0 }))) ≡ clauses_of_history window (reading window (take 6 history))
+unfolding split_of
+clauses_10 = refl
+
+at_11 : words_at window (reading window (take 7 history)) no_grips 200 ≡ record {
+  line = Ran (run_no 1) ∷ [];
+  up = true ∷ true ∷ [];
+  writers = None ∷ None ∷ [];
+  values = 0 ∷ 0 ∷ [];
+  holders = [] ∷ [] ∷ [];
+  touched = (1 ∷ []) ∷ [] ∷ [];
+  first_places = 1 ∷ [];
+  places = At (split_at (Ran (run_no 1) ∷ []) 1) ∷ [];
+  overdue = (None ∷ None ∷ []) ∷ [];
+  starts = (0 ∷ []) ∷ [];
+  ends = (200 ∷ []) ∷ [];
+  whole_ends = 200 ∷ [];
+  choices = Absent ∷ Over (Aborted (Refuted 1 2)) (Ended (run_no 1) (Aborted (Refuted 1 2)) ∷ []) ∷ Moves (Placed (run_no 2) 1 200 ∷ []) ∷ [];
+}
+unfolding split_of
+at_11 = refl
+
+clauses_11 : clauses_of_line window (reading window (take 7 history)) no_grips ≡ clauses_of_history window (reading window (take 7 history))
+unfolding split_of
+clauses_11 = refl
+
+at_12 : words_at window (reading window (take 8 history)) no_grips 200 ≡ record {
+  line = Ran (run_no 1) ∷ Ran (run_no 2) ∷ [];
+  up = true ∷ true ∷ [];
+  writers = None ∷ None ∷ [];
+  values = 0 ∷ 0 ∷ [];
+  holders = (2 ∷ []) ∷ (2 ∷ []) ∷ [];
+  touched = (1 ∷ []) ∷ [] ∷ [];
+  first_places = [];
+  places = [];
+  overdue = (None ∷ None ∷ []) ∷ (None ∷ None ∷ []) ∷ [];
+  starts = (0 ∷ []) ∷ (200 ∷ 300 ∷ []) ∷ [];
+  ends = (200 ∷ []) ∷ (300 ∷ 400 ∷ []) ∷ [];
+  whole_ends = 200 ∷ 400 ∷ [];
+  choices = Absent ∷ Over (Aborted (Refuted 1 2)) (Ended (run_no 1) (Aborted (Refuted 1 2)) ∷ []) ∷ Waits (Strict (run_no 1)) ∷ [];
+}
+unfolding split_of
+at_12 = refl
+
+clauses_12 : clauses_of_line window (reading window (take 8 history)) no_grips ≡ clauses_of_history window (reading window (take 8 history))
+unfolding split_of
+clauses_12 = refl
+
+at_13 : words_at window (reading window (take 9 history)) no_grips 200 ≡ record {
+  line = Ran (run_no 2) ∷ [];
+  up = true ∷ true ∷ [];
+  writers = None ∷ None ∷ [];
+  values = 0 ∷ 0 ∷ [];
+  holders = (2 ∷ []) ∷ (2 ∷ []) ∷ [];
+  touched = (1 ∷ []) ∷ [] ∷ [];
+  first_places = [];
+  places = [];
+  overdue = (None ∷ None ∷ []) ∷ [];
+  starts = (200 ∷ 300 ∷ []) ∷ [];
+  ends = (300 ∷ 400 ∷ []) ∷ [];
+  whole_ends = 400 ∷ [];
+  choices = Absent ∷ Over (Aborted (Refuted 1 2)) [] ∷ HandsOut 0 (Commands 0) ∷ [];
+}
+unfolding split_of
+at_13 = refl
+
+clauses_13 : clauses_of_line window (reading window (take 9 history)) no_grips ≡ clauses_of_history window (reading window (take 9 history))
+unfolding split_of
+clauses_13 = refl
+
+at_14 : words_at window (reading window (take 9 history)) (put no_grips 0 (Some (record { maker = 2; purpose = Commands 0 }))) 200 ≡ record {
+  line = Ran (run_no 2) ∷ [];
+  up = true ∷ true ∷ [];
+  writers = None ∷ None ∷ [];
+  values = 0 ∷ 0 ∷ [];
+  holders = (2 ∷ []) ∷ (2 ∷ []) ∷ [];
+  touched = (1 ∷ 2 ∷ []) ∷ [] ∷ [];
+  first_places = [];
+  places = [];
+  overdue = (None ∷ None ∷ []) ∷ [];
+  starts = (200 ∷ 300 ∷ []) ∷ [];
+  ends = (300 ∷ 400 ∷ []) ∷ [];
+  whole_ends = 400 ∷ [];
+  choices = Absent ∷ Over (Aborted (Refuted 1 2)) [] ∷ Waits (Busy (device_no 0)) ∷ [];
+}
+unfolding split_of
+at_14 = refl
+
+clauses_14 : clauses_of_line window (reading window (take 9 history)) (put no_grips 0 (Some (record { maker = 2; purpose = Commands 0 }))) ≡ clauses_of_history window (reading window (take 9 history))
+unfolding split_of
+clauses_14 = refl
+
+at_15 : words_at window (reading window (take 11 history)) no_grips 300 ≡ record {
+  line = Failed (device_no 0) 1 ∷ Ran (run_no 2) ∷ [];
+  up = false ∷ true ∷ [];
+  writers = None ∷ None ∷ [];
+  values = 0 ∷ 0 ∷ [];
+  holders = [] ∷ (2 ∷ []) ∷ [];
+  touched = (1 ∷ 2 ∷ []) ∷ [] ∷ [];
+  first_places = [];
+  places = [];
+  overdue = (None ∷ None ∷ []) ∷ [];
+  starts = (200 ∷ 300 ∷ []) ∷ [];
+  ends = (300 ∷ 400 ∷ []) ∷ [];
+  whole_ends = 400 ∷ [];
+  choices = Absent ∷ Over (Aborted (Refuted 1 2)) [] ∷ HandsOut 1 (Commands 1) ∷ [];
+}
+unfolding split_of
+at_15 = refl
+
+clauses_15 : clauses_of_line window (reading window (take 11 history)) no_grips ≡ clauses_of_history window (reading window (take 11 history))
+unfolding split_of
+clauses_15 = refl
+
+at_16 : words_at window (reading window (take 11 history)) (put no_grips 1 (Some (record { maker = 2; purpose = Commands 1 }))) 300 ≡ record {
+  line = Failed (device_no 0) 1 ∷ Ran (run_no 2) ∷ [];
+  up = false ∷ true ∷ [];
+  writers = None ∷ None ∷ [];
+  values = 0 ∷ 0 ∷ [];
+  holders = [] ∷ (2 ∷ []) ∷ [];
+  touched = (1 ∷ 2 ∷ []) ∷ (2 ∷ []) ∷ [];
+  first_places = [];
+  places = [];
+  overdue = (None ∷ None ∷ []) ∷ [];
+  starts = (200 ∷ 300 ∷ []) ∷ [];
+  ends = (300 ∷ 400 ∷ []) ∷ [];
+  whole_ends = 400 ∷ [];
+  choices = Absent ∷ Over (Aborted (Refuted 1 2)) [] ∷ Waits (Busy (device_no 1)) ∷ [];
+}
+unfolding split_of
+at_16 = refl
+
+clauses_16 : clauses_of_line window (reading window (take 11 history)) (put no_grips 1 (Some (record { maker = 2; purpose = Commands 1 }))) ≡ clauses_of_history window (reading window (take 11 history))
+unfolding split_of
+clauses_16 = refl
+
+at_17 : words_at window (reading window (take 13 history)) no_grips 400 ≡ record {
+  line = Failed (device_no 0) 1 ∷ Failed (device_no 1) 1 ∷ Ran (run_no 2) ∷ [];
+  up = false ∷ false ∷ [];
+  writers = None ∷ None ∷ [];
+  values = 0 ∷ 0 ∷ [];
+  holders = [] ∷ [] ∷ [];
+  touched = (1 ∷ 2 ∷ []) ∷ (2 ∷ []) ∷ [];
+  first_places = [];
+  places = [];
+  overdue = (None ∷ None ∷ []) ∷ [];
+  starts = (200 ∷ 300 ∷ []) ∷ [];
+  ends = (300 ∷ 400 ∷ []) ∷ [];
+  whole_ends = 400 ∷ [];
+  choices = Absent ∷ Over (Aborted (Refuted 1 2)) [] ∷ Moves (Doomed (run_no 2) (DownAtEnd (device_no 0)) ∷ []) ∷ [];
+}
+unfolding split_of
+at_17 = refl
+
+clauses_17 : clauses_of_line window (reading window (take 13 history)) no_grips ≡ clauses_of_history window (reading window (take 13 history))
+unfolding split_of
+clauses_17 = refl
+
+at_18 : words_at window (reading window (take 14 history)) no_grips 400 ≡ record {
+  line = Failed (device_no 0) 1 ∷ Failed (device_no 1) 1 ∷ Ran (run_no 2) ∷ [];
+  up = false ∷ false ∷ [];
+  writers = None ∷ None ∷ [];
+  values = 0 ∷ 0 ∷ [];
+  holders = [] ∷ [] ∷ [];
+  touched = (1 ∷ 2 ∷ []) ∷ (2 ∷ []) ∷ [];
+  first_places = [];
+  places = [];
+  overdue = (None ∷ None ∷ []) ∷ [];
+  starts = (200 ∷ 300 ∷ []) ∷ [];
+  ends = (300 ∷ 400 ∷ []) ∷ [];
+  whole_ends = 400 ∷ [];
+  choices = Absent ∷ Over (Aborted (Refuted 1 2)) [] ∷ Over (Aborted (DownAtEnd (device_no 0))) (Ended (run_no 2) (Aborted (DownAtEnd (device_no 0))) ∷ []) ∷ [];
+}
+unfolding split_of
+at_18 = refl
+
+clauses_18 : clauses_of_line window (reading window (take 14 history)) no_grips ≡ clauses_of_history window (reading window (take 14 history))
+unfolding split_of
+clauses_18 = refl
+
+at_19 : words_at window (reading window history) no_grips 400 ≡ record {
+  line = Failed (device_no 0) 1 ∷ Failed (device_no 1) 1 ∷ [];
+  up = false ∷ false ∷ [];
+  writers = None ∷ None ∷ [];
+  values = 0 ∷ 0 ∷ [];
+  holders = [] ∷ [] ∷ [];
+  touched = (1 ∷ 2 ∷ []) ∷ (2 ∷ []) ∷ [];
+  first_places = [];
+  places = [];
+  overdue = [];
+  starts = [];
+  ends = [];
+  whole_ends = [];
+  choices = Absent ∷ Over (Aborted (Refuted 1 2)) [] ∷ Over (Aborted (DownAtEnd (device_no 0))) [] ∷ [];
+}
+unfolding split_of
+at_19 = refl
+
+clauses_19 : clauses_of_line window (reading window history) no_grips ≡ clauses_of_history window (reading window history)
+unfolding split_of
+clauses_19 = refl
+
+give_0 : give_entries window (reading window (take 2 history)) 0 (record { maker = 1; purpose = Commands 0 }) Worked ≡ Did (run_no 1) 0 Fine ∷ []
+unfolding split_of
+give_0 = refl
+
+give_1 : give_entries window (reading window (take 3 history)) 0 (record { maker = 1; purpose = Commands 1 }) (Sensed 2) ≡ Did (run_no 1) 1 (Found 2) ∷ Doomed (run_no 1) (Refuted 1 2) ∷ []
+unfolding split_of
+give_1 = refl
+
+give_2 : give_entries window (reading window (take 6 history)) 1 (record { maker = 0; purpose = Probes None }) Worked ≡ []
+unfolding split_of
+give_2 = refl
+
+give_3 : give_entries window (reading window (take 6 history)) 0 (record { maker = 1; purpose = Undoes 0 }) Worked ≡ Undid (run_no 1) (device_no 0) true ∷ []
+unfolding split_of
+give_3 = refl
+
+give_4 : give_entries window (reading window (take 9 history)) 0 (record { maker = 2; purpose = Commands 0 }) Died ≡ Fell (device_no 0) ∷ Did (run_no 2) 0 Down ∷ []
+unfolding split_of
+give_4 = refl
+
+give_5 : give_entries window (reading window (take 11 history)) 1 (record { maker = 2; purpose = Commands 1 }) Died ≡ Fell (device_no 1) ∷ Did (run_no 2) 1 Down ∷ []
+unfolding split_of
+give_5 = refl
+
+all_have_ended : all_ended window history ≡ true
+unfolding split_of
+all_have_ended = refl
+
+verdict_is : verdict window history ≡ record { well_formed = true; clean = true; justified = true; isolated = true }
+unfolding split_of
+verdict_is = refl
+
+abbrev pub order : List Item
+order = Failed (device_no 0) 1 ∷ Failed (device_no 1) 1 ∷ []
+
+order_gives : executed window order ≡ record { home = record { value = 0; up = false } ∷ record { value = 0; up = false } ∷ []; answers = []; refused = false }
+unfolding split_of
+order_gives = refl
+
+answers_are : answers_in (reading window history) order ≡ []
+unfolding split_of
+answers_are = refl
+
+calls_are : map (told_calls window.runs history) (device_numbers window) ≡ 3 ∷ 0 ∷ []
+unfolding split_of
+calls_are = refl
