@@ -1,0 +1,3 @@
+pub mod Conditions
+pub mod Executions
+pub mod Progress

@@ -1,0 +1,64 @@
+ghost use Rattle.std.specs.Prelude.{◌≡◌};
+ghost use Rattle.home_types.specs.Commands.{command_effect, fails as command_fails};
+ghost use Rattle.serial_meaning.specs.Progress.{effect_of};
+
+use home_types::{Answer, Command, Job, Kind, Stand, Value};
+
+/// What a command does: its answer, and then the register of its run and where its device stands.
+#[derive(Clone, Copy)]
+pub struct Outcome {
+    pub answer: Answer,
+    pub register: Value,
+    pub stand: Stand,
+}
+
+/// The outcome of a command with this job and register, on a device of this kind that stands so.
+pub fn outcome_of(kind: Kind, job: Job, register: Value, stand: Stand) -> Outcome
+    ensures { effect_of result ≡ command_effect kind job register stand }
+{
+    if !stand.up {
+        return Outcome {
+            answer: Answer::Down,
+            register,
+            stand,
+        };
+    }
+    match job {
+        Job::Set(value) => Outcome {
+            answer: Answer::Fine,
+            register,
+            stand: Stand { value, up: true },
+        },
+        Job::Check(_) => Outcome {
+            answer: Answer::Found(stand.value),
+            register,
+            stand,
+        },
+        Job::Load => Outcome {
+            answer: Answer::Found(stand.value),
+            register: stand.value,
+            stand,
+        },
+        Job::Store => Outcome {
+            answer: Answer::Fine,
+            register,
+            stand: Stand {
+                value: kind.nearest(register),
+                up: true,
+            },
+        },
+    }
+}
+
+/// Whether the command fails its run with this answer: it is a must, and was told `Down` or found another value than
+/// it checks.
+pub fn fails(command: Command, answer: Answer) -> bool
+    ensures { result ≡ command_fails command answer }
+{
+    command.must
+        && match (command.job, answer) {
+            (_, Answer::Down) => true,
+            (Job::Check(v), Answer::Found(x)) => x != v,
+            _ => false,
+        }
+}

@@ -1,0 +1,11 @@
+// The serial meaning as calls: what a whole routine does, and what the items of an order do one after another.
+#![tactic(auto)]
+
+mod effects;
+pub mod orders;
+pub mod routines;
+#[cfg(test)]
+mod tests;
+
+pub use orders::{RunAnswers, run_order};
+pub use routines::run_whole;
