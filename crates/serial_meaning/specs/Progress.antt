@@ -7,6 +7,7 @@ use Rattle.home_types.specs.declared.items.Item.TheVariants.{Back, Failed}
 use Rattle.home_types.specs.declared.items.Item.{Item}
 use Rattle.home_types.specs.declared.kinds.Kind.{Kind}
 use Rattle.home_types.specs.declared.numbers.DeviceNo.{DeviceNo}
+use Rattle.home_types.specs.declared.worlds.Stand.{Stand}
 use Rattle.serial_meaning.specs.Executions.{served_of}
 use Rattle.serial_meaning.specs.declared.effects.Outcome.{Outcome}
 use Rattle.serial_meaning.specs.declared.orders.OrderProgress.{OrderProgress}
@@ -33,6 +34,10 @@ accepted_run s = if s.refused then None else Some s
 -- this is the routine in execution after the command, or none where it is refused
 abbrev pub DoesCommand : List Kind → RoutineProgress → Command → Option RoutineProgress → Type 0
 DoesCommand kinds run c next = option_map execution_of next ≡ accepted_execution (execute kinds (execution_of run) c)
+
+-- this is the routine in execution after all of its commands from the home, or none where it is refused
+abbrev pub DoesCommands : List Kind → List Stand → List Command → Option RoutineProgress → Type 0
+DoesCommands kinds home commands run = option_map execution_of run ≡ accepted_execution (routine_execution kinds commands home)
 
 -- this is the order in execution after the item, or none where it is refused
 abbrev pub DoesItem : List Run → List Kind → OrderProgress → Item → Option OrderProgress → Type 0

@@ -122,6 +122,9 @@ impl OrderProgress {
 /// item does not apply: a run with a must command that fails, a failure of a device that is down, or a restart of one
 /// that is up.
 ///
+/// Asks for a kind for each device of the world, that each command of the roster is on one of these devices, and that
+/// each item is a run of the roster or an event of one of these devices.
+///
 /// Answers `NoMemory` where there is none for a copy of the world and for the answers. The world is unchanged after
 /// that and after `None`.
 pub fn run_order(
@@ -134,10 +137,13 @@ pub fn run_order(
     requires kinds { HasKinds world.old.devices.items kinds.now.items }
     requires devices { HasRosterDevices world.old.devices.items roster.now }
     requires items { All (IsItemOf world.old.devices.items roster.now) items.now.items }
-    ensures answers { IfOk result (λ told. shown_runs told ≡ order_answers (order_in world.old items.now roster.now kinds.now)) }
-    ensures done { IfOk result (λ told. IfSome told (λ _. world.new.devices.items ≡ (order_in world.old items.now roster.now kinds.now).home)) }
+    ensures answers { IfOk result (λ told.
+        shown_runs told ≡ order_answers (order_in world.old items.now roster.now kinds.now)) }
+    ensures done { IfOk result (λ told. IfSome told (λ _.
+        world.new.devices.items ≡ (order_in world.old items.now roster.now kinds.now).home)) }
     ensures refused { IfOk result (λ told. IfNone told (world.new ≡ world.old)) }
     ensures no_memory { OnErr result (world.new ≡ world.old) }
+    ensures size { length world.new.devices.items ≡ length world.old.devices.items }
 {
     let mut order = OrderProgress {
         home: List::of(alloc, world.devices.as_slice())?,

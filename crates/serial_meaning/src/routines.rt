@@ -1,8 +1,7 @@
-ghost use Rattle.std.specs.Prelude.{◌≡◌, ◌<◌, length, option_map, IfOk, IfSome, IfNone, OnErr};
-ghost use Rattle.home_types.specs.Commands.{routine_execution};
+ghost use Rattle.std.specs.Prelude.{◌≡◌, ◌<◌, length, IfOk, IfSome, IfNone, OnErr};
 ghost use Rattle.serial_meaning.specs.Conditions.{HasDevices, HasKinds};
 ghost use Rattle.serial_meaning.specs.Executions.{routine_answers, routine_in, shown_answers};
-ghost use Rattle.serial_meaning.specs.Progress.{DoesCommand, accepted_execution, execution_of};
+ghost use Rattle.serial_meaning.specs.Progress.{DoesCommand, DoesCommands};
 
 use crate::effects::{fails, outcome_of};
 use home_types::{Answer, Command, Kind, List, NoMemory, Routine, Stand, Value, World};
@@ -51,7 +50,7 @@ pub(crate) fn execute_commands(
 ) -> Result<Option<RoutineProgress>, NoMemory>
     requires kinds { HasKinds home.items kinds.now.items }
     requires devices { HasDevices home.items commands.now }
-    ensures done { IfOk result (λ run. option_map execution_of run ≡ accepted_execution (routine_execution kinds.now.items commands.now home.items)) }
+    ensures done { IfOk result (DoesCommands kinds.now.items home.items commands.now) }
     ensures kept { IfOk result (λ run. IfSome run (λ whole. length whole.home.items ≡ length home.items)) }
 {
     let mut run = RoutineProgress {
@@ -70,6 +69,8 @@ pub(crate) fn execute_commands(
 
 /// Runs a whole routine in the world and gives its answers. `None` exactly where a must command fails.
 ///
+/// Asks for a kind for each device of the world, and that each command is on one of these devices.
+///
 /// Answers `NoMemory` where there is none for a copy of the world and for the answers. The world is unchanged after
 /// that and after `None`.
 pub fn run_whole(
@@ -80,10 +81,13 @@ pub fn run_whole(
 ) -> Result<Option<List<Answer>>, NoMemory>
     requires kinds { HasKinds world.old.devices.items kinds.now.items }
     requires devices { HasDevices world.old.devices.items routine.now.commands.items }
-    ensures answers { IfOk result (λ told. shown_answers told ≡ routine_answers (routine_in world.old routine.now kinds.now)) }
-    ensures done { IfOk result (λ told. IfSome told (λ _. world.new.devices.items ≡ (routine_in world.old routine.now kinds.now).home)) }
+    ensures answers { IfOk result (λ told.
+        shown_answers told ≡ routine_answers (routine_in world.old routine.now kinds.now)) }
+    ensures done { IfOk result (λ told. IfSome told (λ _.
+        world.new.devices.items ≡ (routine_in world.old routine.now kinds.now).home)) }
     ensures refused { IfOk result (λ told. IfNone told (world.new ≡ world.old)) }
     ensures no_memory { OnErr result (world.new ≡ world.old) }
+    ensures size { length world.new.devices.items ≡ length world.old.devices.items }
 {
     let home = List::of(alloc, world.devices.as_slice())?;
     match execute_commands(alloc, home, routine.commands.as_slice(), kinds)? {
