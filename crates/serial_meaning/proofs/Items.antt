@@ -10,7 +10,7 @@ use Rattle.home_types.specs.declared.items.Item.{Item}
 use Rattle.home_types.specs.declared.kinds.Kind.{Kind}
 use Rattle.home_types.specs.declared.worlds.Stand.{Stand}
 use Rattle.serial_meaning.specs.Conditions.{HasDevices, HasRosterDevices}
-use Rattle.std.proofs.Common.{All, List, None, Option, Some, [], arith, length, option_map, refl, slice_get, slice_index_or, suc, true, unwrap_or, zero, ℕ, ◌<◌, ◌≡◌}
+use Rattle.std.proofs.Common.{All, List, None, Option, Some, [], arith, option_map, refl, slice_get, slice_index_or, suc, true, unwrap_or, zero, ℕ, ◌≡◌}
 use Rattle.std.proofs.lemmas.Option.{get_or_from_slice_get, slice_get-map, slice_get_within}
 
 -- an execution that is refused stays so at a command

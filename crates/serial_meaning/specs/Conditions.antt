@@ -1,7 +1,6 @@
 -- What a serial execution asks of the world that it starts in.
 use Rattle.command_rules.specs.Rosters.{is_run, runs_of}
 use Rattle.command_rules.specs.declared.rosters.Roster.{Roster}
-use Rattle.home_types.specs.Listed.{Listed}
 use Rattle.home_types.specs.declared.commands.Command.{Command}
 use Rattle.home_types.specs.declared.items.Item.TheVariants.{Back, Failed, Ran}
 use Rattle.home_types.specs.declared.items.Item.{Item}

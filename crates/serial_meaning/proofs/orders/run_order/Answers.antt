@@ -4,7 +4,7 @@ use Rattle.serial_meaning.proofs.Items.{serve_stays}
 use Rattle.serial_meaning.proofs.Refusals.{fold_stops}
 use Rattle.serial_meaning.proofs.orders.run_order.Goals as goal
 use Rattle.serial_meaning.specs.Progress.{serial_run_of}
-use Rattle.std.proofs.Common.{ap, drop, fold, option_map, refl, rules, sym, ◌∙◌}
+use Rattle.std.proofs.Common.{ap, drop, fold, option_map, refl, sym, ◌∙◌}
 
 pub returns-in-None-clause-answers : goal.returns-in-None-clause-answers
 returns-in-None-clause-answers c =

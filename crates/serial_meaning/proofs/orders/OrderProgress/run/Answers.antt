@@ -1,7 +1,5 @@
 use Rattle.serial_meaning.proofs.Items.{run_devices}
 use Rattle.serial_meaning.proofs.orders.OrderProgress.run.Goals as goal
-use Rattle.serial_meaning.specs.Conditions.{HasDevices}
-use Rattle.std.proofs.Common.{rules}
 
 pub execute_commands-requires-clause-devices : goal.execute_commands-requires-clause-devices
 execute_commands-requires-clause-devices c =

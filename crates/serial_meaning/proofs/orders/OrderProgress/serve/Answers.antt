@@ -1,6 +1,5 @@
 use Rattle.command_rules.specs.Rosters.{runs_of}
 use Rattle.serial_meaning.proofs.orders.OrderProgress.serve.Goals as goal
-use Rattle.std.proofs.Common.{rules}
 
 pub returns-in-Failed-clause-done : goal.returns-in-Failed-clause-done
 returns-in-Failed-clause-done c = rw c.in-Failed.is (c.fail.ensures.done (runs_of c.args.roster.now) c.args.kinds.now.items c.in-Failed.field-1)
