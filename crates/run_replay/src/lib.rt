@@ -1,2 +1,6 @@
 // The replay of a window: its runs and the detector, stepped one after another by a list of picks and by a generator.
 #![tactic(auto)]
+
+pub mod draws;
+
+pub use draws::Draws;

@@ -1,0 +1,65 @@
+ghost use Rattle.std.specs.Prelude.{◌≡◌, ◌<◌};
+ghost use Rattle.run_replay.specs.Draws.{below as below_of, drawn};
+
+use std::marker::Model;
+
+const MULTIPLIER: u128 = 6_364_136_223_846_793_005;
+
+const INCREMENT: u128 = 1_442_695_040_888_963_407;
+
+const STATES: u128 = 1 << 64;
+
+/// How many states give the same number: a draw leaves out the low 33 bits, which are the least random.
+const STATES_OF_A_NUMBER: u64 = 1 << 33;
+
+/// The generator by which picks are drawn. The same state draws the same numbers, on every machine.
+#[derive(Drop)]
+pub struct Draws {
+    state: u64,
+}
+
+impl Model for Draws {
+    ghost use Rattle.std.specs.Prelude.{ℕ};
+
+    ghost Value = { ℕ };
+
+    ghost view = { λ s. s.state };
+}
+
+impl Draws {
+    /// A generator with this state.
+    pub fn new(state: u64) -> Draws
+        ensures { result ≡ state }
+    {
+        Draws { state }
+    }
+
+    /// Draws a number below `k`, which is above 0.
+    pub fn below(&mut self, k: u64) -> u64
+        requires { 0 < k }
+        ensures state { self.new ≡ drawn self.old }
+        ensures number { result ≡ below_of self.new k }
+        ensures below { result < k }
+    {
+        let next = self.state as u128 * MULTIPLIER + INCREMENT;
+        self.state = (next % STATES) as u64;
+        self.state / STATES_OF_A_NUMBER % k
+    }
+}
+
+#[cfg(test)]
+mod tests {
+    use super::*;
+
+    #[test]
+    fn draws_the_worked_numbers(rt: HostRuntime) {
+        let mut two = Draws::new(1);
+        let mut three = Draws::new(1);
+        assert!(rt; two.below(2) == 0 && three.below(3) == 2);
+        assert!(rt; two.state == 7_806_831_264_735_756_412);
+        let mut thousand = Draws::new(1);
+        assert!(rt; thousand.below(1000) == 774 && thousand.below(1000) == 153);
+        let mut last = Draws::new(u64::MAX);
+        assert!(rt; last.below(u64::MAX) == 1_574_552_488);
+    }
+}
