@@ -3,7 +3,7 @@ use Rattle.command_words.specs.OptionWords.{options_of}
 use Rattle.command_words.specs.TrialNumbers.{number_of}
 use Rattle.command_words.specs.declared.command_lines.CommandLine.TheVariants.{Check, Replay, Run, Trial}
 use Rattle.command_words.specs.declared.command_lines.CommandLine.{CommandLine}
-use Rattle.std.specs.Prelude.{List, None, Option, Some, [], codes, if◌then◌else◌, option_map, ℕ, ◌∷◌}
+use Rattle.std.specs.Prelude.{Bool, List, None, Option, Some, [], codes, false, if◌then◌else◌, option_map, ℕ, ◌||◌, ◌∷◌}
 use Rattle.std.specs.Str.{bytes_eq}
 
 -- nothing stands after `check`
@@ -29,3 +29,8 @@ command_of command words =
 abbrev pub command_line_of : List (List ℕ) → Option CommandLine
 command_line_of [] = None
 command_line_of (command ∷ words) = command_of command words
+
+-- the first word is a command that has options
+abbrev pub has_options : List (List ℕ) → Bool
+has_options [] = false
+has_options (command ∷ words) = bytes_eq command (codes "run") || bytes_eq command (codes "replay")

@@ -26,6 +26,6 @@ pub struct Options {
 pub enum WordFault {
     /// The words are not of the format.
     Words,
-    /// Want of memory, which may come where the command is `run` or `replay`.
+    /// Want of memory. It comes with `run` and `replay` alone.
     NoMemory,
 }

@@ -1,5 +1,5 @@
-ghost use Rattle.command_words.specs.CommandLines.{check_of, command_line_of, trial_of};
-ghost use Rattle.std.specs.Prelude.{◌≡◌, Err, IfOk, None, Some, map, string_bytes};
+ghost use Rattle.command_words.specs.CommandLines.{check_of, command_line_of, has_options, trial_of};
+ghost use Rattle.std.specs.Prelude.{◌≡◌, Err, IfOk, None, Some, map, string_bytes, true};
 
 use crate::command_lines::{CommandLine, WordFault};
 use crate::option_words::read_options;
@@ -8,9 +8,11 @@ use std::alloc::Global;
 
 /// Reads the words of a command line, which come without the program's name.
 ///
-/// Answers `Words` where they are not of the format, and `NoMemory` where memory is wanted.
+/// Answers `Words` where they are not of the format. `NoMemory` comes with `run` and `replay` alone, whose options
+/// take memory.
 pub fn read_words(alloc: Global, words: &[String]) -> Result<CommandLine, WordFault>
     ensures meaning { IfOk result (λ line. command_line_of (map string_bytes words.now) ≡ Some line) }
+    ensures memory { result ≡ Err WordFault.NoMemory → has_options (map string_bytes words.now) ≡ true }
     ensures refused { result ≡ Err WordFault.Words → command_line_of (map string_bytes words.now) ≡ None }
 {
     let [command, rest @ ..] = words else {
