@@ -1,9 +1,9 @@
 -- What `clap` answers at the options, and where a word is `--`.
-use Rattle.std.proofs.Common.{◌≡◌, List, [], ◌∷◌, true, false, map, if◌then◌else◌, ℕ, Option, Some, None, refl, ap, ◌∙◌, sym, codes}
+use Rattle.std.proofs.Common.{◌≡◌, List, [], ◌∷◌, true, false, map, if◌then◌else◌, ℕ, Option, None, refl, ap, ◌∙◌, sym, codes}
 use Rattle.std.specs.List.{list_any}
 use Rattle.std.specs.Str.{bytes_eq}
 use Rattle.clap.specs.Matches.{first_value}
-use Rattle.clap.specs.Walk.{Row, Rule, Text, first_of, rows_of}
+use Rattle.clap.specs.Walk.{Text, first_of, rows_of}
 use Rattle.clap.specs.Simple.{is_simple, matches_of}
 use Rattle.clap.specs.Faults.{fault_of, is_simple_and_free}
 use Rattle.clap.specs.Kinds.{Kinds, IsAmong}

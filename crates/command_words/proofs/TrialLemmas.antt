@@ -1,6 +1,6 @@
 -- What `parse` answers at the number of a trial.
 use Rattle.command_words.specs.TrialNumbers.{is_digit, is_numeral, is_window_count, number_of, starts_with_no_zero}
-use Rattle.std.proofs.Common.{Bool, Err, List, None, Ok, Option, Some, [], ap, arith, false, if◌then◌else◌, length, nat_le, not, refl, subst, suc, sym, true, ℕ, ◌*◌, ◌+◌, ◌<◌, ◌≡◌, ◌≤◌, ◌∙◌, ◌∷◌, ◌&&◌, ◌==◌, ◌^◌, ◌≢◌}
+use Rattle.std.proofs.Common.{Err, List, None, Ok, Some, [], ap, arith, false, if◌then◌else◌, length, nat_le, not, refl, subst, suc, sym, true, ℕ, ◌*◌, ◌+◌, ◌<◌, ◌≡◌, ◌≤◌, ◌∙◌, ◌∷◌, ◌==◌, ◌^◌, ◌≢◌}
 use Rattle.std.proofs.lemmas.Bool.{and_from, and_parts, le-leb, leb-true}
 use Rattle.std.proofs.lemmas.Str.Parse.{IsNumeralModel, digits_value_short, numerals_by_value, parse_gives, tells_all_ascii_digits}
 use Rattle.std.proofs.lemmas.Str.{digit_value_digit}

@@ -1,6 +1,6 @@
 use Rattle.command_words.proofs.OptionLemmas.{marked, unmarked}
 use Rattle.command_words.proofs.option_words.read_options.Goals as goal
-use Rattle.std.proofs.Common.{IfOk, Some, codes, map, rules, string_bytes, subst, sym, ◌≡◌}
+use Rattle.std.proofs.Common.{IfOk, Some, rules, string_bytes, subst, sym, ◌≡◌}
 
 pub returns-then-has_end_mark-clause-refused : goal.returns-then-has_end_mark-clause-refused
 returns-then-has_end_mark-clause-refused c = λ _.
