@@ -1,9 +1,9 @@
 -- Devices that go into their places one after another, and out of them.
-use Rattle.std.proofs.Common.{◌≡◌, ℕ, List, [], ◌∷◌, ◌++◌, Some, None, refl, sym, ap, ◌∙◌, zero, suc, length, ◌≤◌, ◌<◌, false, true, arith, reverse}
+use Rattle.std.proofs.Common.{◌≡◌, ℕ, List, [], ◌∷◌, ◌++◌, Some, refl, sym, ap, ◌∙◌, zero, suc, length, ◌≤◌, ◌<◌, ◌+◌, ◌⊎◌, inl, inr, false, true, arith, reverse}
 use Rattle.std.proofs.lemmas.List.{append-nil, append_assoc, length-reverse, map-append, reverse-append}
 use Rattle.std.proofs.lemmas.Option.{slice_get_within}
-use Rattle.std.specs.Prelude.{Option, slice_get}
-use Rattle.device_gate.specs.Places.{AllHome, AreNumbered, IsGate, all_home}
+use Rattle.std.specs.Prelude.{slice_get}
+use Rattle.device_gate.specs.Places.{AllHome, AreNumbered, IsGate, IsHome, all_home}
 use Rattle.device_gate.specs.declared.gates.Place.{Place}
 use Rattle.device_gate.specs.declared.gates.Place.TheVariants.{Home, Out}
 use Rattle.device_gate.specs.declared.slips.Slip.{Slip}
@@ -87,3 +87,15 @@ opens tag devices left places turned room are empty is enough numbers =
       none = empty;
       enough = omega (arith, ap (λ p. length p) is, length-reverse places);
     }
+
+-- the next place is home too
+pub home_so_far : {D : Type 0} (places : List (Place D)) (n : ℕ) (device : D)
+    → ((e : ℕ) → e < n → IsHome places e) → slice_get places n ≡ Some (Home device)
+    → (e : ℕ) → e < n + 1 → IsHome places e
+home_so_far places n device before here e within = elim (le_cases e n within) [ inl less ↦ before e less | inr same ↦ (device, ap (λ k. slice_get places k) same ∙ here) ]
+  where
+    le_cases : (e n : ℕ) → e < n + 1 → (e < n) ⊎ (e ≡ n)
+    le_cases zero zero h = inr refl
+    le_cases zero (suc n) h = inl (omega arith)
+    le_cases (suc e) zero h = absurd (omega arith)
+    le_cases (suc e) (suc n) h = elim (le_cases e n (omega arith)) [ inl less ↦ inl (omega arith) | inr same ↦ inr (ap suc same) ]

@@ -110,9 +110,13 @@ impl<D: Device> Gate<D> {
         ensures some { IfSome result (λ d. IsFirstOut self.now.places d.0) }
         ensures none { IfNone result (AllHome self.now.places) }
     {
-        let mut places = self.places.iter();
-        let at = places.position(|place| matches!(place, Place::Out(_, _)))?;
-        Some(DeviceNo(at as u16))
+        for at in 0..self.places.len() {
+            match &self.places[at] {
+                Place::Home(_) => {}
+                Place::Out(_, _) => return Some(DeviceNo(at as u16)),
+            }
+        }
+        None
     }
 
     /// The device, which is home.
