@@ -1,0 +1,191 @@
+ghost use Rattle.std.specs.Prelude.{◌≡◌, ◌+◌, ℕ, IfSome, IsTrue};
+ghost use Rattle.device_states.specs.Devices.{HasRoom};
+ghost use Rattle.device_gate.specs.Calls.{answered, failed, may_tell, probed, stands_after};
+ghost use Rattle.device_gate.specs.Grips.{Gripped, IsAsLeft, WasCalled};
+ghost use Rattle.device_gate.specs.declared.slips.Slip.{Slip};
+ghost use Rattle.device_gate.specs.declared.slips.Task.{Task};
+
+use crate::slips::{Slip, Task, Told};
+use device_states::{Dead, Device};
+use home_types::Value;
+use std::marker::Model;
+
+/// How far a grip has come: `Ready` or `Done`.
+pub trait Stage {
+    /// How the device is, against its task and slip: its tag, where it stands, its turns, probes and faults.
+    ghost fits: { Self → Task → Slip → ℕ → ℕ → ℕ → ℕ → ℕ → Type 0 };
+}
+
+/// The stage of a grip whose call is still to be made: its device is as it left.
+#[derive(Drop)]
+pub struct Ready;
+
+/// The stage of a grip whose call was made, with what the device told.
+#[derive(Drop)]
+pub struct Done {
+    told: Told,
+}
+
+impl Stage for Ready {
+    ghost fits = { λ _ task slip tag stands turns probes faults. IsAsLeft task slip tag stands turns probes faults };
+}
+
+impl Stage for Done {
+    ghost fits = { λ done task slip tag stands turns probes faults. WasCalled done.told task slip tag stands turns probes faults };
+}
+
+/// A device that is out, with its slip and what is to be done with it.
+///
+/// A grip cannot be dropped: a ready one is spent by `act`, a done one by the gate that takes its device in. Its type
+/// keeps how the device is: as it left while the grip is ready, and as the call and its answer say when it is done.
+pub struct Grip<D: Device, S: Stage> {
+    device: D,
+    slip: Slip,
+    task: Task,
+    stage: S,
+}
+
+impl<D: Device, S: Stage> Model for Grip<D, S> {
+    ghost use Rattle.device_gate.specs.Grips.{Gripped};
+
+    ghost Value = { Gripped D S };
+
+    ghost view = { λ g. record { device = g.device; slip = g.slip; task = g.task; stage = g.stage } };
+
+    ghost invariant = { λ g. S.fits g.stage g.task g.slip (D.tag g.device) (D.stands g.device) (D.turns g.device) (D.probes g.device) (D.faults g.device) };
+}
+
+impl<D: Device, S: Stage> Grip<D, S> {
+    /// What was known of the device as it left.
+    pub fn slip(&self) -> Slip
+        ensures { result ≡ self.now.slip }
+    {
+        self.slip
+    }
+
+    /// What is to be done with the device, or was.
+    pub fn task(&self) -> Task
+        ensures { result ≡ self.now.task }
+    {
+        self.task
+    }
+}
+
+impl<D: Device> Grip<D, Ready> {
+    /// A grip of a device that is as the slip says.
+    pub(crate) fn new(device: D, slip: Slip, task: Task) -> Grip<D, Ready>
+        requires { IsAsLeft task slip (D.tag device) (D.stands device) (D.turns device) (D.probes device) (D.faults device) }
+        ensures device { result.device ≡ device }
+        ensures slip { result.slip ≡ slip }
+        ensures task { result.task ≡ task }
+    {
+        Grip {
+            device,
+            slip,
+            task,
+            stage: Ready,
+        }
+    }
+
+    /// Makes the device call: one, and for a probe that is answered by a device counted down also the drive that
+    /// restores its value.
+    pub fn act(self) -> Grip<D, Done>
+        ensures slip { result.slip ≡ self.slip }
+        ensures task { result.task ≡ self.task }
+        ensures tag { D.tag result.device ≡ D.tag self.device }
+        ensures plan { D.plan result.device ≡ D.plan self.device }
+    {
+        let Grip {
+            mut device,
+            slip,
+            task,
+            stage: Ready,
+        } = self;
+        let told = call(&mut device, task);
+        Grip {
+            device,
+            slip,
+            task,
+            stage: Done { told },
+        }
+    }
+}
+
+impl<D: Device> Grip<D, Done> {
+    /// What the device told.
+    pub fn told(&self) -> Told
+        ensures { result ≡ self.now.stage.told }
+    {
+        self.stage.told
+    }
+
+    /// The device, and how it is after the call.
+    pub(crate) fn spent(self) -> D
+        ensures device { result ≡ self.device }
+        ensures called { WasCalled self.stage.told self.task self.slip (D.tag self.device) (D.stands self.device) (D.turns self.device) (D.probes self.device) (D.faults self.device) }
+    {
+        let Grip {
+            device,
+            slip: _,
+            task: _,
+            stage: Done { told: _ },
+        } = self;
+        device
+    }
+}
+
+/// Does the task with the device.
+fn call<D: Device>(device: &mut D, task: Task) -> Told
+    requires room { HasRoom (D.turns device.old) (D.probes device.old + 1) (D.faults device.old) }
+    ensures told { IsTrue (may_tell task (D.stands device.old) result) }
+    ensures stands { IfSome (stands_after task (D.stands device.old) result) (λ v. D.stands device.new ≡ v) }
+    ensures turns { D.turns device.new ≡ D.turns device.old + answered task result }
+    ensures probes { D.probes device.new ≡ D.probes device.old + probed task }
+    ensures faults { D.faults device.new ≡ D.faults device.old + failed result }
+    ensures tag { D.tag device.new ≡ D.tag device.old }
+    ensures plan { D.plan device.new ≡ D.plan device.old }
+{
+    match task {
+        Task::Drive(value) => drive(device, value),
+        Task::Sense => match device.sense() {
+            Ok(value) => Told::Sensed(value),
+            Err(Dead) => Told::Died,
+        },
+        Task::Probe(restored) => probe(device, restored),
+    }
+}
+
+/// Drives the device to the value.
+fn drive<D: Device>(device: &mut D, value: Value) -> Told
+    requires room { HasRoom (D.turns device.old) (D.probes device.old) (D.faults device.old) }
+    ensures told { IsTrue (may_tell (Task.Drive value) (D.stands device.old) result) }
+    ensures stands { IfSome (stands_after (Task.Drive value) (D.stands device.old) result) (λ v. D.stands device.new ≡ v) }
+    ensures turns { D.turns device.new ≡ D.turns device.old + answered (Task.Drive value) result }
+    ensures probes { D.probes device.new ≡ D.probes device.old }
+    ensures faults { D.faults device.new ≡ D.faults device.old + failed result }
+    ensures tag { D.tag device.new ≡ D.tag device.old }
+    ensures plan { D.plan device.new ≡ D.plan device.old }
+{
+    match device.drive(value) {
+        Ok(()) => Told::Worked,
+        Err(Dead) => Told::Died,
+    }
+}
+
+/// Probes the device, and where it answers drives it to the value that is to be restored.
+fn probe<D: Device>(device: &mut D, restored: Option<Value>) -> Told
+    requires room { HasRoom (D.turns device.old) (D.probes device.old + 1) (D.faults device.old) }
+    ensures told { IsTrue (may_tell (Task.Probe restored) (D.stands device.old) result) }
+    ensures stands { IfSome (stands_after (Task.Probe restored) (D.stands device.old) result) (λ v. D.stands device.new ≡ v) }
+    ensures turns { D.turns device.new ≡ D.turns device.old + answered (Task.Probe restored) result }
+    ensures probes { D.probes device.new ≡ D.probes device.old + 1 }
+    ensures faults { D.faults device.new ≡ D.faults device.old + failed result }
+    ensures tag { D.tag device.new ≡ D.tag device.old }
+    ensures plan { D.plan device.new ≡ D.plan device.old }
+{
+    match (device.probe(), restored) {
+        (Err(Dead), _) => Told::Died,
+        (Ok(()), None) => Told::Worked,
+        (Ok(()), Some(value)) => drive(device, value),
+    }
+}
