@@ -1,3 +1,4 @@
 pub mod Decisions
 pub mod Executions
+pub mod Histories
 pub mod Tables
