@@ -18,8 +18,8 @@ use Rattle.hub_core.proofs.Causes.{and_is, answered_last}
 use Rattle.hub_core.proofs.Gives.{command_is, lost_is}
 use Rattle.hub_core.specs.JustifiedAborts.{abort_is_justified, shows}
 use Rattle.hub_core.specs.Steps.{command_entries, probe_entries, undo_entries}
-use Rattle.hub_core.specs.declared.grips.Told.{Told}
-use Rattle.hub_core.specs.declared.grips.Told.TheVariants.{Died, Sensed, Worked}
+use Rattle.device_gate.specs.declared.slips.Told.{Told}
+use Rattle.device_gate.specs.declared.slips.Told.TheVariants.{Died, Sensed, Worked}
 use Rattle.lock_leasing.specs.Waits.{lost_by}
 use Rattle.std.proofs.Common.{ap, append-nil, append_assoc, arith, refl, sym, ◌∙◌}
 use Rattle.std.proofs.lemmas.Grind.{common_steps}

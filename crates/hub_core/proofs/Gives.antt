@@ -19,8 +19,8 @@ use Rattle.home_types.specs.declared.commands.Command.{Command}
 use Rattle.home_types.specs.declared.numbers.DeviceNo.{DeviceNo}
 use Rattle.hub_core.proofs.Takes.{live_run}
 use Rattle.hub_core.specs.Steps.{command_entries, probe_entries, undo_entries}
-use Rattle.hub_core.specs.declared.grips.Told.{Told}
-use Rattle.hub_core.specs.declared.grips.Told.TheVariants.{Died, Sensed, Worked}
+use Rattle.device_gate.specs.declared.slips.Told.{Told}
+use Rattle.device_gate.specs.declared.slips.Told.TheVariants.{Died, Sensed, Worked}
 use Rattle.lock_leasing.proofs.Effects.{live_runs_live}
 use Rattle.lock_leasing.specs.Waits.{lost_by}
 use Rattle.lock_leasing.specs.Words.{live_runs}

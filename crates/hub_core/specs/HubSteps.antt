@@ -6,11 +6,11 @@ use Rattle.home_types.specs.Commands.{driven, reads}
 use Rattle.home_types.specs.Kinds.{kind_at}
 use Rattle.home_types.specs.declared.commands.Command.{Command}
 use Rattle.hub_core.specs.Steps.{Absent, Choice, HandsOut, Moves, Over, Waits, after_give, after_take, after_take_probe, at_moment, choice_of, give_entries, may_probe, probe_grip}
-use Rattle.hub_core.specs.declared.grips.Slip.{Slip}
-use Rattle.hub_core.specs.declared.grips.Task.{Task}
-use Rattle.hub_core.specs.declared.grips.Task.TheVariants.{Drive, Probe, Sense}
-use Rattle.hub_core.specs.declared.grips.Told.{Told}
-use Rattle.hub_core.specs.declared.refusals.Stranger.{Stranger}
+use Rattle.device_gate.specs.declared.slips.Slip.{Slip}
+use Rattle.device_gate.specs.declared.slips.Task.{Task}
+use Rattle.device_gate.specs.declared.slips.Task.TheVariants.{Drive, Probe, Sense}
+use Rattle.device_gate.specs.declared.slips.Told.{Told}
+use Rattle.device_gate.specs.declared.strangers.Stranger.{Stranger}
 use Rattle.lock_leasing.specs.Configurations.{Commands, Configuration, Grip, Probes, Purpose, Undoes, read_of}
 use Rattle.std.specs.Prelude.{Bool, IsTrue, List, None, Option, Some, [], false, if◌then◌else◌, nat_lt, option_map, true, unwrap_or, ℕ, ⊤, ◌&&◌, ◌==◌, ◌≡◌}
 

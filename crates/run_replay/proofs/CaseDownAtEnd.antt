@@ -10,8 +10,8 @@ use Rattle.home_types.specs.declared.commands.Job.TheVariants.{Set}
 use Rattle.home_types.specs.declared.kinds.Kind.TheVariants.{Range, States}
 use Rattle.home_types.specs.declared.modes.Scheduler.TheVariants.{Fcfs}
 use Rattle.home_types.specs.declared.modes.Visibility.TheVariants.{Partitioned}
-use Rattle.hub_core.specs.declared.grips.Told.{Told}
-use Rattle.hub_core.specs.declared.grips.Told.TheVariants.{Died, Worked}
+use Rattle.device_gate.specs.declared.slips.Told.{Told}
+use Rattle.device_gate.specs.declared.slips.Told.TheVariants.{Died, Worked}
 use Rattle.run_replay.specs.Replays.{actors, replay_of}
 use Rattle.std.proofs.Common.{refl}
 use Rattle.std.specs.Prelude.{List, None, [], false, slice_index_or, true, ◌∷◌, ◌≡◌}
