@@ -19,7 +19,7 @@ use Rattle.home_types.specs.declared.modes.Visibility.TheVariants.{Eventual}
 use Rattle.hub_core.specs.AccountedCalls.{told_calls}
 use Rattle.hub_core.specs.LegalWindows.{all_ended}
 use Rattle.hub_core.specs.Steps.{Absent, HandsOut, Moves, Over, Waits, give_entries}
-use Rattle.hub_core.specs.declared.grips.Told.TheVariants.{Died, Worked}
+use Rattle.device_gate.specs.declared.slips.Told.TheVariants.{Died, Worked}
 use Rattle.hub_core.specs.declared.waits.Why.TheVariants.{Busy, Denied}
 use Rattle.lock_leasing.specs.Configurations.{Commands, no_grips}
 use Rattle.lock_leasing.specs.Places.{At, DeniedBy}
