@@ -23,12 +23,18 @@ pub record Reads : Type 0 where
   pub faults : ℕ
   pub faults_after : ℕ
 
+abbrev pub read_off : Option (List ℕ) → Option (List ℕ) → ℕ → ℕ → Reads
+read_off left rest faults faults_after = record { left = left; rest = rest; faults = faults; faults_after = faults_after }
+
 -- what it does to its sink: the bytes held before and after it, where the sink tells them, and its faults
 pub record Writes : Type 0 where
   pub held : Option (List ℕ)
   pub holds : Option (List ℕ)
   pub faults : ℕ
   pub faults_after : ℕ
+
+abbrev pub written : Option (List ℕ) → Option (List ℕ) → ℕ → ℕ → Writes
+written held holds faults faults_after = record { held = held; holds = holds; faults = faults; faults_after = faults_after }
 
 -- the source gave all of its bytes without a fault, and the script is their reading
 pub record IsRead (source : Reads) (script : Script) : Type 0 where

@@ -14,7 +14,9 @@ pub fn build_devices<B: Bench>(
     bench: &mut B,
 ) -> Result<List<B::Dev>, NoMemory>
     requires few { length script.now.devices.items ≤ 256 }
-    ensures { IfOk result (λ devices. AreNew B.Dev.tag B.Dev.plan B.Dev.stands B.Dev.turns B.Dev.probes B.Dev.faults script.now.devices.items devices.items) }
+    ensures { IfOk result (λ devices.
+        AreNew B.Dev.tag B.Dev.plan B.Dev.stands B.Dev.turns B.Dev.probes B.Dev.faults
+        script.now.devices.items devices.items) }
 {
     let mut devices = List::new(alloc);
     'texts: for (number, text) in script.devices.as_slice().iter().enumerate() {

@@ -1,5 +1,5 @@
 ghost use Rattle.std.specs.Prelude.{IfOk};
-ghost use Rattle.hub_main.specs.Finishes.{InputIsRead};
+ghost use Rattle.hub_main.specs.Finishes.{InputIsRead, read_off};
 ghost use Rattle.hub_main.specs.Stage.{IsSmall};
 
 use crate::faults::Fault;
@@ -13,7 +13,9 @@ use std::alloc::Global;
 /// The input is refused as soon as one byte more than a script may have was taken.
 pub fn read_input<S: Source>(alloc: Global, source: &mut S) -> Result<Script, Fault>
     ensures small { IfOk result (λ script. IsSmall script) }
-    ensures read { InputIsRead (record { left = S.left source.old; rest = S.left source.new; faults = S.faults source.old; faults_after = S.faults source.new }) result }
+    ensures read { InputIsRead
+        (read_off (S.left source.old) (S.left source.new) (S.faults source.old) (S.faults source.new))
+        result }
 {
     let bytes = match read_to_end(alloc, source, limits::SCRIPT_BYTES) {
         Ok(bytes) => bytes,

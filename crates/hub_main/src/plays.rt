@@ -26,7 +26,9 @@ pub fn play_day<B: Bench>(
 where
     B::Dev: Steady,
     requires { IsSmall script.now }
-    ensures { IfOk result (λ played. IsLegalDay B.Dev.tag B.Dev.plan B.Dev.stands B.Dev.turns B.Dev.faults script.now stage_mode played.windows.items played.devices.items) }
+    ensures { IfOk result (λ played.
+        IsLegalDay B.Dev.tag B.Dev.plan B.Dev.stands B.Dev.turns B.Dev.faults
+        script.now stage_mode played.windows.items played.devices.items) }
 {
     let mut devices = build_devices(alloc, script, bench)?;
     let first = start_world(alloc, script)?;

@@ -1,5 +1,5 @@
 ghost use Rattle.std.specs.Prelude.{◌≡◌, ◌↔◌, IfSome, None, Some, false, map, string_bytes};
-ghost use Rattle.hub_main.specs.Finishes.{CallEnds, ReplayEnds};
+ghost use Rattle.hub_main.specs.Finishes.{CallEnds, ReplayEnds, read_off, written};
 ghost use Rattle.hub_main.specs.Stage.{IsSmall};
 ghost use Rattle.hub_main.specs.Statuses.{status_of};
 ghost use Rattle.hub_main.specs.Words.{are_taken as taken};
@@ -41,7 +41,9 @@ where
     B::Dev: Steady,
     requires { IsSmall script.now }
     ensures status { result.status ≡ status_of result.fault }
-    ensures ends { ReplayEnds B.Dev.tag B.Dev.plan B.Dev.stands B.Dev.turns B.Dev.faults script.now (record { held = K.holds sink.old; holds = K.holds sink.new; faults = K.faults sink.old; faults_after = K.faults sink.new }) result.day result.fault }
+    ensures ends { ReplayEnds B.Dev.tag B.Dev.plan B.Dev.stands B.Dev.turns B.Dev.faults script.now
+        (written (K.holds sink.old) (K.holds sink.new) (K.faults sink.old) (K.faults sink.new))
+        result.day result.fault }
 {
     let Ok(Played { windows, devices }) = play_day(alloc, script, bench) else {
         return out_of_memory(List::new(alloc));
@@ -102,7 +104,11 @@ where
     B::Dev: Steady,
     ensures status { result.status ≡ status_of result.fault }
     ensures words { (result.fault ≡ Some Fault.Words) ↔ (taken (map string_bytes words.now) ≡ false) }
-    ensures ends { CallEnds B.Dev.tag B.Dev.plan B.Dev.stands B.Dev.turns B.Dev.faults (taken (map string_bytes words.now)) (record { left = S.left source.old; rest = S.left source.new; faults = S.faults source.old; faults_after = S.faults source.new }) (record { held = K.holds sink.old; holds = K.holds sink.new; faults = K.faults sink.old; faults_after = K.faults sink.new }) result.day result.fault }
+    ensures ends { CallEnds B.Dev.tag B.Dev.plan B.Dev.stands B.Dev.turns B.Dev.faults
+        (taken (map string_bytes words.now))
+        (read_off (S.left source.old) (S.left source.new) (S.faults source.old) (S.faults source.new))
+        (written (K.holds sink.old) (K.holds sink.new) (K.faults sink.old) (K.faults sink.new))
+        result.day result.fault }
 {
     if !are_taken(words) {
         return refuse(Fault::Words);

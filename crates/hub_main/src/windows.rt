@@ -95,7 +95,8 @@ fn set_record(alloc: Global, first: &World, v: Value) -> Result<WindowRecord, No
 /// Drives the one device of the home to `v`.
 fn drive_one<D: Steady>(devices: &mut List<D>, v: Value)
     requires one { length devices.old.items ≡ 1 }
-    requires room { (device : _) → slice_get devices.old.items 0 ≡ Some device → HasRoom (D.turns device) (D.probes device) (D.faults device) }
+    requires room { (device : _) → slice_get devices.old.items 0 ≡ Some device
+        → HasRoom (D.turns device) (D.probes device) (D.faults device) }
     ensures { IsOneDriven D.tag D.plan D.stands D.turns D.faults v devices.old.items devices.new.items }
 {
     let Some(mut device) = devices.pop() else {
@@ -137,8 +138,11 @@ pub fn play_window<D: Steady>(
 ) -> Result<WindowRecord, NoMemory>
     requires sets { SetsIfRun script.now window.now.runs.items }
     requires home { length devices.old.items ≡ length script.now.devices.items }
-    requires room { (device : _) → slice_get devices.old.items 0 ≡ Some device → HasRoom (D.turns device) (D.probes device) (D.faults device) }
-    ensures { IfOk result (IsPlayed D.tag D.plan D.stands D.turns D.faults script.now window.now.runs.items first.now.devices.items devices.old.items devices.new.items) }
+    requires room { (device : _) → slice_get devices.old.items 0 ≡ Some device
+        → HasRoom (D.turns device) (D.probes device) (D.faults device) }
+    ensures { IfOk result (
+        IsPlayed D.tag D.plan D.stands D.turns D.faults script.now window.now.runs.items
+        first.now.devices.items devices.old.items devices.new.items) }
 {
     match window.runs.get(0) {
         None => idle_record(alloc, first),
