@@ -8,3 +8,6 @@ pub mod LegalWindows
 pub mod LegalDays
 pub mod Steps
 pub mod HubSteps
+pub mod Openings
+pub mod Stage
+pub mod HubKept

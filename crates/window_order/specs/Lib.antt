@@ -1,0 +1,2 @@
+pub mod ReadWindows
+pub mod OrderKept

@@ -1,0 +1,59 @@
+-- The record of a window's order that the reading of a history and the grips that are out make.
+use Rattle.command_rules.specs.Rosters.{command_at, commands_of}
+use Rattle.device_order.specs.LineEntries.{command_grip}
+use Rattle.device_order.specs.RunStates.{RunState}
+use Rattle.device_order.specs.Windows.{WindowRecord}
+use Rattle.device_order.specs.declared.records.Grip.TheVariants.{Free, Undoes as HeldToUndo}
+use Rattle.device_order.specs.declared.records.Grip.{Grip as HeldGrip}
+use Rattle.device_order.specs.declared.records.Probe.TheVariants.{Asks, Restores, Unprobed}
+use Rattle.device_order.specs.declared.records.Probe.{Probe}
+use Rattle.history_book.specs.Readings.{Reading, is_committed, is_doomed}
+use Rattle.history_book.specs.Settings.{Setting}
+use Rattle.lock_leasing.specs.Configurations.{Commands, Grip, Grips, Probes, Purpose, Undoes}
+use Rattle.std.specs.Prelude.{None, Option, Some, if◌then◌else◌, ℕ, ◌==◌}
+
+-- what a run holds the grip of a device for, whose device is out for this purpose
+abbrev pub held_for : Setting → ℕ → Purpose → HeldGrip
+held_for w r (Commands k) = command_grip (command_at w.runs r k).job
+held_for w r (Undoes v) = HeldToUndo v
+held_for w r (Probes v) = Free
+
+-- .. and whose device is out with this grip, or home
+abbrev pub held_by : Setting → ℕ → Option Grip → HeldGrip
+held_by w r None = Free
+held_by w r (Some grip) = if grip.maker == r then held_for w r grip.purpose else Free
+
+-- the probe that is out for this purpose
+abbrev pub probe_for : Purpose → Probe
+probe_for (Commands k) = Unprobed
+probe_for (Undoes v) = Unprobed
+probe_for (Probes None) = Asks
+probe_for (Probes (Some v)) = Restores v
+
+-- the probe of a device that is out with this grip, or home
+abbrev pub probe_of : Option Grip → Probe
+probe_of None = Unprobed
+probe_of (Some grip) = probe_for grip.purpose
+
+-- what is known of the run
+abbrev pub run_state : Setting → Reading → Grips → ℕ → RunState
+run_state w n g r = record {
+  commands = commands_of w.runs r;
+  answers = (n.run r).answers;
+  committed = is_committed n r;
+  doomed = is_doomed n r;
+  undid = λ d. ((n.run r).on d).undid;
+  grip = λ d. held_by w r (g d);
+}
+
+-- the window, where each device stands, or stood as it went out, at this value
+abbrev pub window_of : Setting → Reading → Grips → (ℕ → ℕ) → WindowRecord
+window_of w n g held = record {
+  runs = w.runs;
+  first = w.first;
+  line = n.line;
+  states = λ r. run_state w n g r;
+  up = n.up;
+  held = held;
+  probe = λ d. probe_of (g d);
+}

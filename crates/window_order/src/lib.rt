@@ -1,0 +1,3 @@
+// The order of a window as its history and the grips that are out make it: each step of a hub keeps it, and the promises
+// of a window follow from it.
+#![tactic(auto)]
