@@ -64,6 +64,13 @@ impl Book {
         self.kept.get(i).copied()
     }
 
+    /// The entries, in order.
+    pub fn into_list(self) -> List<Kept>
+        ensures { result ≡ self }
+    {
+        self.kept
+    }
+
     /// How the run `r` ended. `None` where it has no `Ended` entry.
     pub fn end_of(&self, r: RunNo) -> Option<End>
         ensures { result ≡ end_of self.now.items r.0 }

@@ -11,3 +11,9 @@ pub mod HubSteps
 pub mod Openings
 pub mod Stage
 pub mod HubKept
+pub mod OpenHubs
+pub mod Homes
+pub mod HubCalls
+pub mod ReadHistories
+pub mod HubsKept
+pub mod Decisions

@@ -1,9 +1,25 @@
-// The hub of a home: its steps, and what has to be believed of a window and of a day.
+// The hub of a home: its windows, the steps in them, and what has to be believed of a window and of a day.
 #![tactic(auto)]
 
+mod changes;
+mod close_calls;
+mod decisions;
+mod give_calls;
+pub mod homes;
+pub mod hubs;
+mod open_calls;
+mod probe_calls;
+pub mod known;
+pub mod purposes;
+mod read_histories;
 pub mod refusals;
+mod take_calls;
+pub mod turns;
 pub mod waits;
 
-pub use device_gate::{Slip, Stranger, Task, Told};
+pub use device_gate::{Done, Grip, Ready, Slip, Stranger, Task, Told};
+pub use homes::Home;
+pub use hubs::Hub;
 pub use refusals::NotQuiet;
+pub use turns::Turn;
 pub use waits::Why;

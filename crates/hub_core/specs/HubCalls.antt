@@ -1,0 +1,143 @@
+-- What the calls of a hub answer, and what it shows after them.
+use Rattle.device_gate.specs.Grips.{Gripped}
+use Rattle.device_gate.specs.Places.{all_home}
+use Rattle.device_gate.specs.declared.gates.Place.TheVariants.{Home, Out}
+use Rattle.device_gate.specs.declared.grips.Done.{Done}
+use Rattle.device_gate.specs.declared.grips.Ready.{Ready}
+use Rattle.device_gate.specs.declared.slips.Slip.{Slip}
+use Rattle.device_gate.specs.declared.strangers.Stranger.{Stranger}
+use Rattle.history_book.specs.Histories.{entries_made, entries_of}
+use Rattle.history_book.specs.Settings.{Setting, is_device, is_weak}
+use Rattle.history_book.specs.declared.entries.Made.{Made}
+use Rattle.history_book.specs.declared.records.WindowRecord.{WindowRecord}
+use Rattle.home_types.specs.HomeStates.{stand_at}
+use Rattle.hub_core.specs.AccountedCalls.{told_calls}
+use Rattle.hub_core.specs.CleanReads.{ReadsAreClean}
+use Rattle.hub_core.specs.Homes.{HomeState}
+use Rattle.hub_core.specs.HubSteps.{Carried, Chose, Give, GiveProbe, Gave, HubStep, Probed, Refused, Returned, Take, TakeProbe, task_of}
+use Rattle.hub_core.specs.JustifiedAborts.{IsJustified}
+use Rattle.hub_core.specs.LegalWindows.{IsLegalWindow}
+use Rattle.hub_core.specs.OpenHubs.{OpenHub, configuration_of, device_at, state_of}
+use Rattle.hub_core.specs.Steps.{Absent as IsAbsent, Choice, HandsOut, Moves, Over as IsOver, Waits, choice_of, opened}
+use Rattle.hub_core.specs.declared.turns.Turn.TheVariants.{Absent, Go, Moved, Over, Wait}
+use Rattle.hub_core.specs.declared.turns.Turn.{Turn}
+use Rattle.hub_core.specs.declared.waits.Why.{Why}
+use Rattle.lock_leasing.specs.Configurations.{Configuration, Purpose, read_of}
+use Rattle.lock_leasing.specs.Order.{OrderStands}
+use Rattle.lock_leasing.specs.Words.{standing_value}
+use Rattle.command_rules.specs.Rosters.{is_run}
+use Rattle.std.specs.Prelude.{Err, List, None, Ok, Option, Result, Some, [], length, slice_get, slice_index_or, slice_set, true, ℕ, ◌*◌, ◌+◌, ◌-◌, ◌<◌, ◌≡◌, ◌≢◌, ◌≤◌}
+
+-- the hub is in the same window, with the same counts of its devices at the opening
+pub record SameWindow {D : Type 0} (s t : OpenHub D) : Type 0 where
+  pub setting : t.setting ≡ s.setting
+  pub rounds : t.rounds ≡ s.rounds
+  pub opened : t.opened ≡ s.opened
+  pub at_opening : (d : ℕ) → (device_at t.devices d).at_opening ≡ (device_at s.devices d).at_opening
+
+-- the step of the run answers so and hands no device out
+pub record Answers {D : Type 0} (s : OpenHub D) (r m : ℕ) (choice : Choice) (t : OpenHub D) : Type 0 where
+  pub step : (slip : Slip) → HubStep (state_of s) (Take r m slip) (Chose choice) (state_of t)
+  pub places : t.places ≡ s.places
+
+-- the step of the run hands this device out, for what it needs it
+pub record GoesOut {D : Type 0} (s : OpenHub D) (r m : ℕ) (grip : Gripped D Ready) (t : OpenHub D) : Type 0 where
+  pub purpose : Purpose
+  pub step : HubStep (state_of s) (Take r m grip.slip) (Chose (HandsOut grip.slip.device.0 purpose)) (state_of t)
+  pub task : grip.task ≡ task_of (configuration_of s) r purpose
+  pub home : slice_get s.places grip.slip.device.0 ≡ Some (Home grip.device)
+  pub places : t.places ≡ slice_set s.places grip.slip.device.0 (Out grip.slip grip.task)
+
+-- what the step of a run answers, and the hub after it
+abbrev pub IsTurn : {D : Type 0} → OpenHub D → ℕ → ℕ → Turn D → OpenHub D → Type 0
+IsTurn s r m (Go grip) t = GoesOut s r m grip t
+IsTurn s r m (Moved made) t = Answers s r m (Moves (entries_made made)) t
+IsTurn s r m (Wait why) t = Answers s r m (Waits why) t
+IsTurn s r m (Over end made) t = Answers s r m (IsOver end (entries_made made)) t
+IsTurn s r m Absent t = Answers s r m IsAbsent t
+
+-- what the grip carries
+abbrev pub carried_by : {D S : Type 0} → Gripped D S → Carried
+carried_by grip = record { slip = grip.slip; task = grip.task }
+
+-- a grip that comes back is taken in: the step back, and the device is home again; or it is refused and nothing changes
+abbrev pub IsGiven : {D : Type 0} → OpenHub D → Gripped D Done → ℕ → Result Made (Gripped D Done × Stranger) → OpenHub D → Type 0
+IsGiven s grip m (Ok made) t =
+    HubStep (state_of s) (Give (carried_by grip) grip.stage.told m) (Returned (Gave (entries_made made))) (state_of t)
+    × (t.places ≡ slice_set s.places grip.slip.device.0 (Home grip.device))
+IsGiven s grip m (Err refused) t =
+    HubStep (state_of s) (Give (carried_by grip) grip.stage.told m) (Returned (Refused refused.1)) (state_of t)
+    × (refused.0 ≡ grip) × (t ≡ s)
+
+-- a probe of the device goes out, or none may
+abbrev pub IsProbed : {D : Type 0} → OpenHub D → ℕ → Option (Gripped D Ready) → OpenHub D → Type 0
+IsProbed s d (Some grip) t =
+    HubStep (state_of s) (TakeProbe d grip.slip) (Probed (Some grip.task)) (state_of t)
+    × (slice_get s.places d ≡ Some (Home grip.device))
+    × (t.places ≡ slice_set s.places d (Out grip.slip grip.task))
+IsProbed s d None t = ((slip : Slip) → HubStep (state_of s) (TakeProbe d slip) (Probed None) (state_of t)) × (t ≡ s)
+
+-- the same for the detector's grip
+abbrev pub IsProbeGiven : {D : Type 0} → OpenHub D → Gripped D Done → Result Made (Gripped D Done × Stranger) → OpenHub D → Type 0
+IsProbeGiven s grip (Ok made) t =
+    HubStep (state_of s) (GiveProbe (carried_by grip) grip.stage.told) (Returned (Gave (entries_made made))) (state_of t)
+    × (t.places ≡ slice_set s.places grip.slip.device.0 (Home grip.device))
+IsProbeGiven s grip (Err refused) t =
+    HubStep (state_of s) (GiveProbe (carried_by grip) grip.stage.told) (Returned (Refused refused.1)) (state_of t)
+    × (refused.0 ≡ grip) × (t ≡ s)
+
+-- the window was opened on this home: with an empty history, each device home, and its counts as it has them
+pub record IsOpened {D : Type 0} (turns probes faults : D → ℕ) (w : Setting) (rounds : ℕ) (home : HomeState D) (hub : OpenHub D) : Type 0 where
+  pub configuration : configuration_of hub ≡ opened w rounds
+  pub places : hub.places ≡ all_home home.devices
+  pub rounds_are : hub.rounds ≡ rounds
+  pub windows : hub.opened ≡ home.opened
+  pub turns_then : (d : ℕ) (device : D) → slice_get home.devices d ≡ Some device → (device_at hub.devices d).at_opening.turns ≡ turns device
+  pub probes_then : (d : ℕ) (device : D) → slice_get home.devices d ≡ Some device → (device_at hub.devices d).at_opening.probes ≡ probes device
+  pub faults_then : (d : ℕ) (device : D) → slice_get home.devices d ≡ Some device → (device_at hub.devices d).at_opening.faults ≡ faults device
+
+-- the window was closed with this record, and leaves this home: its devices are those of the hub, and their counts rose as the record says, the probes by those that were taken
+pub record IsClosed {D : Type 0} (turns probes faults : D → ℕ) (s : OpenHub D) (home : HomeState D) (closed : WindowRecord) : Type 0 where
+  pub legal : IsLegalWindow s.setting closed
+  pub history : closed.history.items ≡ s.history
+  pub kinds : home.kinds ≡ s.setting.kinds
+  pub last : home.world ≡ closed.last.devices.items
+  pub opened : home.opened ≡ s.opened + 1
+  pub places : s.places ≡ all_home home.devices
+  -- in this stage no device fails
+  pub up : (d : ℕ) → d < length home.world → (stand_at home.world d).up ≡ true
+  pub turns_rose : (d : ℕ) (device : D) → slice_get home.devices d ≡ Some device → turns device ≡ (device_at s.devices d).at_opening.turns + slice_index_or closed.turns.items d 0
+  pub probes_rose : (d : ℕ) (device : D) → slice_get home.devices d ≡ Some device → probes device ≡ (device_at s.devices d).at_opening.probes + (s.rounds - (device_at s.devices d).probes_left)
+  pub faults_rose : (d : ℕ) (device : D) → slice_get home.devices d ≡ Some device → faults device ≡ (device_at s.devices d).at_opening.faults + slice_index_or closed.faults.items d 0
+
+-- What is kept of every hub
+
+-- a device that is home, and counted up, stands at its standing value
+abbrev pub DevicesStand : {D : Type 0} → (D → ℕ) → OpenHub D → Type 0
+DevicesStand {D} stands s = (d : ℕ) (device : D) → slice_get s.places d ≡ Some (Home device) → (read_of (configuration_of s)).up d ≡ true
+    → stands device ≡ standing_value s.setting (read_of (configuration_of s)) (configuration_of s).grips d
+
+-- the calls of a device that is home rose since the opening by those that the history tells of, and its probes by those that were taken
+pub record CallsAreTold {D : Type 0} (turns probes : D → ℕ) (s : OpenHub D) : Type 0 where
+  pub turns_rose : (d : ℕ) (device : D) → slice_get s.places d ≡ Some (Home device) → turns device ≡ (device_at s.devices d).at_opening.turns + told_calls s.setting.runs (entries_of s.history) d
+  pub probes_rose : (d : ℕ) (device : D) → slice_get s.places d ≡ Some (Home device) → probes device ≡ (device_at s.devices d).at_opening.probes + (s.rounds - (device_at s.devices d).probes_left)
+
+-- in every hub the four clauses of the order hold, reads are clean, aborts are justified, devices stand where they should, and their calls are told
+pub record HubStands {D : Type 0} (stands turns probes : D → ℕ) (s : OpenHub D) : Type 0 where
+  pub order : OrderStands s.setting (read_of (configuration_of s)) (configuration_of s).grips
+  pub clean : ReadsAreClean s.setting (entries_of s.history)
+  pub justified : IsJustified s.setting (entries_of s.history)
+  pub stand : DevicesStand stands s
+  pub told : CallsAreTold turns probes s
+
+-- where no device is out and some run has not ended, some run does not wait, at any moment
+abbrev pub SomeRunMoves : Configuration → Type 0
+SomeRunMoves s = (r : ℕ) → is_run s.setting.runs r ≡ true → ((read_of s).run r).ended ≡ None → ((d : ℕ) → s.grips d ≡ None)
+    → (q : ℕ) × (is_run s.setting.runs q ≡ true) × ((m : ℕ) (why : Why) → choice_of s q m ≢ Waits why)
+
+-- how many entries a history of one run has at most: its arrival, its placing, an answer to each command with a failure, a doom, an undo of each device with a failure, and its end
+abbrev pub entries_of_a_run : ℕ
+entries_of_a_run = 132
+
+abbrev pub HistoryIsBounded : {D : Type 0} → OpenHub D → Type 0
+HistoryIsBounded s = length s.history ≤ entries_of_a_run * length s.setting.runs

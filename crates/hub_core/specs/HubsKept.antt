@@ -1,0 +1,73 @@
+-- What the type of a hub keeps.
+use Rattle.device_gate.specs.declared.gates.Place.TheVariants.{Home, Out}
+use Rattle.device_gate.specs.declared.gates.Place.{Place}
+use Rattle.device_gate.specs.Calls.{is_counted_up, probed}
+use Rattle.device_gate.specs.declared.slips.Slip.{Slip}
+use Rattle.device_gate.specs.declared.slips.Task.{Task}
+use Rattle.history_book.specs.Histories.{entries_of}
+use Rattle.home_types.specs.Kinds.{has_value, kind_at}
+use Rattle.home_types.specs.Listed.{Listed}
+use Rattle.hub_core.specs.AccountedCalls.{told_calls}
+use Rattle.hub_core.specs.Homes.{CountsAreLow}
+use Rattle.hub_core.specs.HubCalls.{entries_of_a_run}
+use Rattle.hub_core.specs.HubKept.{ConfigurationIsKept}
+use Rattle.hub_core.specs.HubSteps.{task_of}
+use Rattle.hub_core.specs.OpenHubs.{OpenHub, configuration_of, device_at, held_in, purpose_of}
+use Rattle.hub_core.specs.declared.hubs.ClosingLists.{ClosingLists}
+use Rattle.lock_leasing.specs.Configurations.{read_of}
+use Rattle.std.specs.Prelude.{Bool, IsTrue, List, Some, [], count_by, false, length, slice_get, true, ℕ, ◌*◌, ◌+◌, ◌-◌, ◌<◌, ◌≡◌, ◌≤◌}
+
+-- how often the device was called up to now: its counts at the opening, and what the window made of them
+abbrev pub turns_now : {D : Type 0} → OpenHub D → ℕ → ℕ
+turns_now s d = (device_at s.devices d).at_opening.turns + told_calls s.setting.runs (entries_of s.history) d
+
+abbrev pub probes_now : {D : Type 0} → OpenHub D → ℕ → ℕ
+probes_now s d = (device_at s.devices d).at_opening.probes + (s.rounds - (device_at s.devices d).probes_left)
+
+-- in this stage no device fails
+abbrev pub faults_now : {D : Type 0} → OpenHub D → ℕ → ℕ
+faults_now s d = (device_at s.devices d).at_opening.faults
+
+-- a device that is home stands at its value if it is counted up, and its calls are told
+pub record FitsAtHome {D : Type 0} (stands turns probes faults : D → ℕ) (s : OpenHub D) (d : ℕ) (device : D) : Type 0 where
+  pub stand : (read_of (configuration_of s)).up d ≡ true → stands device ≡ held_in s d
+  pub turns_are : turns device ≡ turns_now s d
+  pub probes_are : probes device ≡ probes_now s d
+  pub faults_are : faults device ≡ faults_now s d
+
+-- a slip says the same of a device that is out, whose task is that of its purpose
+pub record FitsOut {D : Type 0} (s : OpenHub D) (d : ℕ) (slip : Slip) (task : Task) : Type 0 where
+  pub device : slip.device.0 ≡ d
+  pub stand : IsTrue (is_counted_up task) → slip.stood ≡ held_in s d
+  pub turns_are : slip.turns ≡ turns_now s d
+  pub probes_are : slip.probes + probed task ≡ probes_now s d
+  pub faults_are : slip.faults ≡ faults_now s d
+  pub does : task ≡ task_of (configuration_of s) slip.maker (purpose_of (device_at s.devices d).purpose)
+
+abbrev pub is_away : {D : Type 0} → Place D → Bool
+is_away (Home device) = false
+is_away (Out slip task) = true
+
+-- what is kept of what a hub shows
+pub record HubIsKept {D : Type 0} (stands turns probes faults : D → ℕ) (s : OpenHub D) : Type 0 where
+  pub configuration : ConfigurationIsKept (configuration_of s) s.rounds s.opened (held_in s)
+  pub devices_size : length s.devices ≡ length s.setting.first
+  pub places_size : length s.places ≡ length s.setting.first
+  pub home : (d : ℕ) (device : D) → slice_get s.places d ≡ Some (Home device) → FitsAtHome stands turns probes faults s d device
+  pub out : (d : ℕ) (slip : Slip) (task : Task) → slice_get s.places d ≡ Some (Out slip task) → FitsOut s d slip task
+  pub low : (d : ℕ) → CountsAreLow s.opened (device_at s.devices d).at_opening.turns (device_at s.devices d).at_opening.probes (device_at s.devices d).at_opening.faults
+  pub values : (d : ℕ) → d < length s.setting.first → IsTrue (has_value (kind_at s.setting.kinds d) (held_in s d))
+  -- each ticket is of a call that is told, or of a device that is out
+  pub few_tickets : s.tickets ≤ length s.history + count_by is_away s.places
+
+-- an empty list with so much room
+abbrev pub IsEmptyFor : {T : Type 0} → Listed T → ℕ → Type 0
+IsEmptyFor list n = (list.items ≡ []) × (n ≤ list.spare)
+
+-- a hub has room for every entry of its history, and for every device in the lists that its closing fills
+pub record HasRoomLeft {D : Type 0} (s : OpenHub D) (spare : ℕ) (closing : ClosingLists) : Type 0 where
+  pub history : entries_of_a_run * length s.setting.runs ≤ spare + length s.history
+  pub last : IsEmptyFor closing.last (length s.setting.first)
+  pub world : IsEmptyFor closing.world (length s.setting.first)
+  pub turns : IsEmptyFor closing.turns (length s.setting.first)
+  pub faults : IsEmptyFor closing.faults (length s.setting.first)

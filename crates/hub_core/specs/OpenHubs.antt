@@ -1,0 +1,72 @@
+-- What an open hub shows, and the configuration that it stands for.
+use Rattle.device_gate.specs.declared.gates.Place.TheVariants.{Home, Out}
+use Rattle.device_gate.specs.declared.gates.Place.{Place}
+use Rattle.history_book.specs.Readings.{OfRun}
+use Rattle.history_book.specs.Settings.{Setting}
+use Rattle.history_book.specs.declared.entries.Kept.{Kept}
+use Rattle.hub_core.specs.HubSteps.{Carried, HubState}
+use Rattle.hub_core.specs.declared.known.Counts.{Counts}
+use Rattle.hub_core.specs.declared.known.DeviceProgress.{DeviceProgress}
+use Rattle.hub_core.specs.declared.known.RunProgress.{RunProgress}
+use Rattle.hub_core.specs.declared.purposes.Purpose.TheVariants.{Command, Probe, Undo}
+use Rattle.hub_core.specs.declared.purposes.Purpose.{Purpose as KeptPurpose}
+use Rattle.lock_leasing.specs.Configurations.{Commands, Configuration, Grip, Probes, Purpose, Undoes}
+use Rattle.std.specs.Prelude.{List, None, Option, Some, is_some, length, slice_get, slice_index_or, ℕ}
+
+-- what a hub shows: what is fixed, the rounds of probes and how many windows were opened before, the history and the last moment, what is known of each device, and its place
+pub record OpenHub (D : Type 0) : Type 0 where
+  pub setting : Setting
+  pub rounds : ℕ
+  pub opened : ℕ
+  pub history : List Kept
+  pub moment : ℕ
+  pub devices : List DeviceProgress
+  pub places : List (Place D)
+  pub tickets : ℕ
+
+abbrev pub no_counts : Counts
+no_counts = record { turns = 0; probes = 0; faults = 0 }
+
+abbrev pub no_device : DeviceProgress
+no_device = record { held = 0; probes_left = 0; purpose = Command 0; at_opening = no_counts }
+
+-- what is known of the device
+abbrev pub device_at : List DeviceProgress → ℕ → DeviceProgress
+device_at devices d = slice_index_or devices d no_device
+
+abbrev pub purpose_of : KeptPurpose → Purpose
+purpose_of (Command k) = Commands k
+purpose_of (Undo v) = Undoes v
+purpose_of (Probe value) = Probes value
+
+-- the grip with which the device in this place is out, for this purpose
+abbrev pub grip_in : {D : Type 0} → Option (Place D) → KeptPurpose → Option Grip
+grip_in None purpose = None
+grip_in (Some (Home device)) purpose = None
+grip_in (Some (Out slip task)) purpose = Some (record { maker = slip.maker; purpose = purpose_of purpose })
+
+-- what that grip carries
+abbrev pub carried_in : {D : Type 0} → Option (Place D) → Option Carried
+carried_in None = None
+carried_in (Some (Home device)) = None
+carried_in (Some (Out slip task)) = Some (record { slip = slip; task = task })
+
+abbrev pub configuration_of : {D : Type 0} → OpenHub D → Configuration
+configuration_of s = record {
+  setting = s.setting;
+  history = s.history;
+  moment = s.moment;
+  probes = λ d. (device_at s.devices d).probes_left;
+  grips = λ d. grip_in (slice_get s.places d) (device_at s.devices d).purpose;
+}
+
+abbrev pub state_of : {D : Type 0} → OpenHub D → HubState
+state_of s = record { configuration = configuration_of s; carried = λ d. carried_in (slice_get s.places d) }
+
+-- where the device stands, or stood as it went out
+abbrev pub held_in : {D : Type 0} → OpenHub D → ℕ → ℕ
+held_in s d = (device_at s.devices d).held
+
+-- what a reading says of a run, in short
+abbrev pub progress_of : OfRun → RunProgress
+progress_of o = record { arrived = o.arrived; placed = is_some o.placed; answered = length o.answers; register = o.register; doomed = o.doomed; ended = o.ended }

@@ -1,0 +1,116 @@
+ghost use Rattle.std.specs.Prelude.{◌≡◌, ◌<◌, Some, None, [], ◌∷◌, max, slice_get, slice_set, ℕ};
+ghost use Rattle.device_gate.specs.Places.{IsKept};
+ghost use Rattle.lock_leasing.specs.Configurations.{read_of};
+ghost use Rattle.hub_core.specs.Decisions.{told_choice};
+ghost use Rattle.hub_core.specs.HubCalls.{Answers, GoesOut, IsGiven, SameWindow};
+ghost use Rattle.hub_core.specs.OpenHubs.{configuration_of, purpose_of};
+ghost use Rattle.hub_core.specs.Steps.{Waits, Absent, Moves, Over, HandsOut, choice_of};
+ghost use Rattle.history_book.specs.Histories.{entries_made};
+ghost use Rattle.history_book.specs.declared.entries.End.TheVariants.{Committed};
+
+use crate::decisions::Chosen;
+use crate::hubs::Hub;
+use crate::known::DeviceProgress;
+use crate::purposes::Purpose;
+use device_gate::{Done, Grip, Ready, Task};
+use device_states::Steady;
+use history_book::{Entry, Made};
+use home_types::{Answer, DeviceNo, RunNo};
+
+/// No entries.
+pub(crate) const NONE_MADE: Made = Made {
+    a: None,
+    b: None,
+    c: None,
+};
+
+/// One entry.
+fn one_made(entry: Entry) -> Made
+    ensures { entries_made result ≡ entry ∷ [] }
+{
+    Made {
+        a: Some(entry),
+        b: None,
+        c: None,
+    }
+}
+
+impl<D: Steady> Hub<D> {
+    /// The last moment is this one, or the one before where that is later.
+    pub(crate) fn reach(&mut self, moment: u64)
+        ensures { self.new ≡ record self.old { moment = max self.old.moment moment } }
+    {
+        self.moment = self.moment.max(moment);
+    }
+
+    /// The run arrives.
+    pub(crate) fn arrive(&mut self, r: RunNo, moment: u64) -> Made
+        requires { choice_of (configuration_of self.old) r.0 moment ≡ told_choice r.0 (max self.old.moment moment) (read_of (configuration_of self.old)) Chosen.Arrives }
+        ensures answer { Answers self.old r.0 moment (Moves (entries_made result)) self.new }
+        ensures window { SameWindow self.old self.new }
+    {
+        self.moment = self.moment.max(moment);
+        one_made(self.history.arrive(r, self.moment))
+    }
+
+    /// The run is placed at the end of the line.
+    pub(crate) fn place(&mut self, r: RunNo, moment: u64) -> Made
+        requires { choice_of (configuration_of self.old) r.0 moment ≡ told_choice r.0 (max self.old.moment moment) (read_of (configuration_of self.old)) Chosen.Joins }
+        ensures answer { Answers self.old r.0 moment (Moves (entries_made result)) self.new }
+        ensures window { SameWindow self.old self.new }
+    {
+        self.moment = self.moment.max(moment);
+        one_made(self.history.place(r, self.moment))
+    }
+
+    /// The run commits.
+    pub(crate) fn commit(&mut self, r: RunNo, moment: u64) -> Made
+        requires { choice_of (configuration_of self.old) r.0 moment ≡ told_choice r.0 (max self.old.moment moment) (read_of (configuration_of self.old)) Chosen.Commits }
+        ensures answer { Answers self.old r.0 moment (Over Committed (entries_made result)) self.new }
+        ensures window { SameWindow self.old self.new }
+    {
+        self.moment = self.moment.max(moment);
+        one_made(self.history.commit(r))
+    }
+
+    /// The device goes out for the run.
+    pub(crate) fn hand_out(
+        &mut self,
+        r: RunNo,
+        moment: u64,
+        d: DeviceNo,
+        purpose: Purpose,
+    ) -> Grip<D, Ready>
+        requires { choice_of (configuration_of self.old) r.0 moment ≡ HandsOut d.0 (purpose_of purpose) }
+        ensures out { GoesOut self.old r.0 moment result self.new }
+        ensures window { SameWindow self.old self.new }
+    {
+        self.moment = self.moment.max(moment);
+        let task = self.task(r, purpose);
+        let known = *self.devices.get(d.0 as u64).unwrap();
+        self.devices.set(d.0 as u64, DeviceProgress { purpose, ..known });
+        self.gate.hand_out(d, r.0, known.held, task)
+    }
+
+    /// The device of a run's grip comes home.
+    pub(crate) fn come_home(&mut self, grip: Grip<D, Done>, moment: u64) -> Made
+        requires kept { IsKept self.old.places grip.slip grip.task }
+        requires maker { 0 < grip.slip.maker }
+        ensures given { IsGiven self.old grip moment (Ok result) self.new }
+        ensures window { SameWindow self.old self.new }
+    {
+        self.moment = self.moment.max(moment);
+        let slip = grip.slip();
+        let Task::Drive(held) = grip.task() else {
+            unreachable!()
+        };
+        let d = slip.device.0 as u64;
+        let known = *self.devices.get(d).unwrap();
+        let Purpose::Command(k) = known.purpose else {
+            unreachable!()
+        };
+        self.gate.take_in(grip);
+        self.devices.set(d, DeviceProgress { held, ..known });
+        one_made(self.history.write(RunNo(slip.maker), k))
+    }
+}

@@ -1,0 +1,125 @@
+ghost use Rattle.std.specs.Prelude.{◌≡◌, ◌≤◌, ◌+◌, IfErr, IfOk, None, Some, length, map, ℕ};
+ghost use Rattle.hub_core.specs.HubCalls.{IsClosed};
+ghost use Rattle.hub_core.specs.OpenHubs.{configuration_of};
+ghost use Rattle.hub_core.specs.Steps.{not_quiet};
+
+use crate::homes::Home;
+use crate::hubs::{ClosingLists, Hub};
+use crate::known::DeviceProgress;
+use crate::read_histories::ReadHistory;
+use crate::refusals::NotQuiet;
+use device_states::Steady;
+use history_book::WindowRecord;
+use home_types::{List, Stand, World};
+
+impl<D: Steady> Hub<D> {
+    /// Closes the window, and gives the home and the window's record.
+    ///
+    /// Refused where `quiet` tells why: the hub comes back as it is. Takes no memory.
+    pub fn close_window(self) -> Result<(Home<D>, WindowRecord), (Hub<D>, NotQuiet)>
+        ensures closed { IfOk result (λ closed. IsClosed D.turns D.probes D.faults self closed.0 closed.1) }
+        ensures quiet { IfOk result (λ closed. not_quiet (configuration_of self) ≡ None) }
+        ensures same { IfErr result (λ refused. refused.0 ≡ self) }
+        ensures refused { IfErr result (λ refused. not_quiet (configuration_of self) ≡ Some refused.1) }
+    {
+        if let Some(why) = self.quiet() {
+            return Err((self, why));
+        }
+        Ok(self.closed())
+    }
+
+    /// The home and the record of a window in which nothing is left to do.
+    fn closed(self) -> (Home<D>, WindowRecord)
+        requires quiet { not_quiet (configuration_of self) ≡ None }
+        ensures { IsClosed D.turns D.probes D.faults self result.0 result.1 }
+    {
+        let Hub {
+            history,
+            rounds: _,
+            opened,
+            moment: _,
+            devices: known,
+            gate,
+            closing,
+        } = self;
+        let ReadHistory {
+            roster: _,
+            mode,
+            kinds,
+            first,
+            book,
+            line,
+            progress: _,
+        } = history;
+        let ClosingLists {
+            last,
+            world,
+            turns,
+            faults,
+        } = closing;
+        let devices = gate.close();
+        let record = WindowRecord {
+            mode,
+            first,
+            history: book.into_list(),
+            order: line,
+            last: World {
+                devices: stands_in(last, &known),
+            },
+            turns: turns_in(turns, &known, &devices),
+            faults: faults_in(faults, &known, &devices),
+        };
+        let home = Home {
+            kinds,
+            world: World {
+                devices: stands_in(world, &known),
+            },
+            devices,
+            opened: opened + 1,
+        };
+        (home, record)
+    }
+}
+
+/// Where the devices stand, all of them up, in a list that has room for them.
+fn stands_in(empty: List<Stand>, known: &List<DeviceProgress>) -> List<Stand> {
+    let mut stands = empty;
+    'known: for device in known.as_slice() {
+        let pushed = stands.push(Stand {
+            value: device.held,
+            up: true,
+        });
+        pushed.unwrap();
+    }
+    stands
+}
+
+/// By how much the turns of each device rose, in a list that has room for them.
+fn turns_in<D: Steady>(
+    empty: List<u64>,
+    known: &List<DeviceProgress>,
+    devices: &List<D>,
+) -> List<u64> {
+    let mut rises = empty;
+    for at in 0..known.len() {
+        let device = devices.get(at).unwrap();
+        let pushed = rises.push(device.turns() - known.get(at).unwrap().at_opening.turns);
+        pushed.unwrap();
+    }
+    rises
+}
+
+/// By how much the faults of each device rose, in a list that has room for them.
+fn faults_in<D: Steady>(
+    empty: List<u64>,
+    known: &List<DeviceProgress>,
+    devices: &List<D>,
+) -> List<u64> {
+    let mut rises = empty;
+    for at in 0..known.len() {
+        let device = devices.get(at).unwrap();
+        let pushed = rises.push(device.faults() - known.get(at).unwrap().at_opening.faults);
+        pushed.unwrap();
+    }
+    rises
+}

@@ -1,0 +1,110 @@
+ghost use Rattle.std.specs.Prelude.{◌≡◌, ◌<◌, ◌≤◌, IsTrue, None, find, max, option_map, true, ℕ};
+ghost use Rattle.command_rules.specs.Rosters.{is_run};
+ghost use Rattle.hub_core.specs.Decisions.{told_choice};
+ghost use Rattle.hub_core.specs.OpenHubs.{configuration_of};
+ghost use Rattle.hub_core.specs.Steps.{choice_of};
+ghost use Rattle.lock_leasing.specs.Configurations.{read_of};
+ghost use Rattle.lock_leasing.specs.Waits.{behind_wait, grip_wait, strict_wait};
+
+use crate::hubs::Hub;
+use crate::purposes::Purpose;
+use crate::waits::Why;
+use device_gate::Task;
+use device_states::Device;
+use history_book::End;
+use home_types::{Command, DeviceNo, Job, RunNo};
+
+/// What the step of a run is to do.
+#[derive(Clone, Copy, Debug, PartialEq, Eq)]
+pub(crate) enum Chosen {
+    /// The window has no such run.
+    Absent,
+    /// The run has ended so before.
+    Over(End),
+    Arrives,
+    /// It is placed at the end of the line.
+    Joins,
+    Commits,
+    Waits(Why),
+    HandsOut(DeviceNo, Purpose),
+}
+
+impl<D: Device> Hub<D> {
+    /// What the step of the run `r` is to do, by the cases of a step in order.
+    ///
+    /// In this stage no run is doomed and none follows another, every device is up and every command writes: the cases
+    /// for these are left out.
+    pub(crate) fn decide(&self, r: RunNo, moment: u64) -> Chosen
+        ensures { told_choice r.0 (max self.now.moment moment) (read_of (configuration_of self.now)) result ≡ choice_of (configuration_of self.now) r.0 moment }
+    {
+        if !self.history.has_run(r) {
+            return Chosen::Absent;
+        }
+        let progress = self.history.progress(r);
+        if let Some(end) = progress.ended {
+            return Chosen::Over(end);
+        }
+        if let Some(d) = self.grip_of(r) {
+            return Chosen::Waits(Why::Busy(d));
+        }
+        if progress.arrived.is_none() {
+            return Chosen::Arrives;
+        }
+        if !progress.placed {
+            return Chosen::Joins;
+        }
+        match self.history.next_command(r) {
+            Some(command) => self.decide_command(r, progress.answered, command),
+            None => Chosen::Commits,
+        }
+    }
+
+    /// What the next command of `r`, with the number `k`, is to do.
+    fn decide_command(&self, r: RunNo, k: u32, command: Command) -> Chosen
+    {
+        if let Some(x) = self.history.first_pending_before(r, command.device) {
+            return Chosen::Waits(Why::Behind(command.device, x));
+        }
+        if let Some(x) = self.history.first_before(r) {
+            return Chosen::Waits(Why::Strict(x));
+        }
+        if self.gate.slip(command.device).is_some() {
+            return Chosen::Waits(Why::Busy(command.device));
+        }
+        Chosen::HandsOut(command.device, Purpose::Command(k))
+    }
+
+    /// The device whose grip the run holds, the smallest one.
+    fn grip_of(&self, r: RunNo) -> Option<DeviceNo>
+        ensures { option_map (λ d. d.0) result ≡ grip_wait self.now.setting (configuration_of self.now).grips r.0 }
+    {
+        for at in 0..self.history.device_count() {
+            let d = DeviceNo(at as u16);
+            if let Some(slip) = self.gate.slip(d) {
+                if slip.maker == r.0 {
+                    return Some(d);
+                }
+            }
+        }
+        None
+    }
+
+    /// What the grip of the run is to do for this purpose.
+    pub(crate) fn task(&self, r: RunNo, purpose: Purpose) -> Task {
+        match purpose {
+            Purpose::Command(k) => self.command_task(r, k),
+            Purpose::Undo(value) => Task::Drive(value),
+            Purpose::Probe(value) => Task::Probe(value),
+        }
+    }
+
+    fn command_task(&self, r: RunNo, k: u32) -> Task
+    {
+        let command = self.history.roster.commands(r)[k as usize];
+        match command.job {
+            Job::Set(value) => Task::Drive(value),
+            Job::Check(_) | Job::Load => Task::Sense,
+            Job::Store => Task::Drive(self.history.kinds.get(command.device.0 as u64).unwrap().nearest(self.history.progress(r).register)),
+        }
+    }
+}

@@ -1,0 +1,29 @@
+ghost use Rattle.std.specs.Prelude.{◌≡◌, ℕ};
+ghost use Rattle.hub_core.specs.HubCalls.{IsGiven, SameWindow};
+
+use crate::hubs::Hub;
+use device_gate::{Done, Grip, Stranger};
+use device_states::Steady;
+use history_book::Made;
+
+impl<D: Steady> Hub<D> {
+    /// Takes the device of a run's grip home, at this moment, in ms, or at the last one where that is later.
+    ///
+    /// Answers the entries that it makes: for a write that worked, the command's answer. A grip that is not the one
+    /// with which its device is out, or that is the detector's, comes back with a `Stranger`, and nothing changes.
+    /// Takes no memory.
+    pub fn give(
+        &mut self,
+        grip: Grip<D, Done>,
+        moment: u64,
+    ) -> Result<Made, (Grip<D, Done>, Stranger)>
+        ensures given { IsGiven self.old grip moment result self.new }
+        ensures window { SameWindow self.old self.new }
+    {
+        if grip.slip().maker == 0 || !self.gate.is_kept(&grip) {
+            let stranger = self.gate.stranger(&grip);
+            return Err((grip, stranger));
+        }
+        Ok(self.come_home(grip, moment))
+    }
+}

@@ -1,0 +1,145 @@
+ghost use Rattle.std.specs.Prelude.{◌≡◌, ◌≤◌, IfErr, IfOk, length, ℕ};
+ghost use Rattle.hub_core.specs.Homes.{AreNew, HomeIsKept};
+ghost use Rattle.routine_reader.specs.Rosters.{kinds_of, start_home};
+ghost use Rattle.routine_reader.specs.Scripts.{plain_script};
+ghost use Rattle.routine_reader.specs.Sound.{IsSound};
+
+use device_states::{Bench, Device};
+use home_types::{DeviceNo, Kind, List, NoMemory, Stand, World};
+use routine_reader::Script;
+use std::alloc::Global;
+use std::marker::Model;
+
+/// A home between its windows: the kinds of its devices, its state, and the devices themselves.
+///
+/// The type keeps that each device is the one of its number, and, where it is up, stands where the state says.
+#[derive(Drop)]
+pub struct Home<D: Device> {
+    pub(crate) kinds: List<Kind>,
+    pub(crate) world: World,
+    pub(crate) devices: List<D>,
+    pub(crate) opened: u32,
+}
+
+impl<D: Device> Model for Home<D> {
+    ghost use Rattle.hub_core.specs.Homes.{HomeIsKept, HomeState};
+
+    ghost Value = { HomeState D };
+
+    ghost view = { λ h. record { kinds = h.kinds.items; world = h.world.devices.items; devices = h.devices.items; opened = h.opened } };
+
+    ghost invariant = { λ h. HomeIsKept D.tag D.stands D.turns D.probes D.faults (record { kinds = h.kinds.items; world = h.world.devices.items; devices = h.devices.items; opened = h.opened }) };
+}
+
+impl<D: Device> Home<D> {
+    /// Builds the home of the script on the bench: every device up at its start.
+    ///
+    /// Answers `NoMemory` where there is none to be had.
+    pub fn build<B: Bench<Dev = D>>(
+        alloc: Global,
+        bench: &mut B,
+        script: &Script,
+    ) -> Result<Home<D>, NoMemory>
+        requires sound { IsSound (plain_script script.now) }
+        ensures kinds { IfOk result (λ home. home.kinds ≡ kinds_of script.now) }
+        ensures world { IfOk result (λ home. home.world ≡ start_home script.now) }
+        ensures opened { IfOk result (λ home. home.opened ≡ 0) }
+        ensures devices { IfOk result (λ home.
+            AreNew D.tag D.plan D.stands D.turns D.probes D.faults
+            script.now.devices.items home.devices) }
+    {
+        let devices = build_devices(alloc, script, bench)?;
+        let world = start_world(alloc, script)?;
+        let kinds = script_kinds(alloc, script)?;
+        Ok(Home {
+            kinds,
+            world,
+            devices,
+            opened: 0,
+        })
+    }
+
+    /// The state of the home: after the last window, or every device up at its start.
+    pub fn world(&self) -> &World
+        ensures { result.now.devices.items ≡ self.now.world }
+    {
+        &self.world
+    }
+
+    /// How many windows were opened on this home.
+    pub fn opened(&self) -> u32
+        ensures { result ≡ self.now.opened }
+    {
+        self.opened
+    }
+
+    /// Does nothing. Its contract is what holds of every home.
+    pub fn kept(&self)
+        ensures { HomeIsKept D.tag D.stands D.turns D.probes D.faults self.now }
+    {
+        let _ = &self.opened;
+    }
+
+    /// The devices, in the order of their numbers.
+    pub fn into_devices(self) -> List<D>
+        ensures devices { result.items ≡ self.devices }
+        ensures kept { HomeIsKept D.tag D.stands D.turns D.probes D.faults self }
+    {
+        let Home {
+            kinds: _,
+            world: _,
+            devices,
+            opened: _,
+        } = self;
+        devices
+    }
+}
+
+/// Builds the devices of the script on the bench, each at its start.
+fn build_devices<B: Bench>(
+    alloc: Global,
+    script: &Script,
+    bench: &mut B,
+) -> Result<List<B::Dev>, NoMemory>
+    requires few { length script.now.devices.items ≤ 256 }
+    ensures { IfOk result (λ devices.
+        AreNew B.Dev.tag B.Dev.plan B.Dev.stands B.Dev.turns B.Dev.probes B.Dev.faults
+        script.now.devices.items devices.items) }
+{
+    let mut devices = List::new(alloc);
+    'texts: for (number, text) in script.devices.as_slice().iter().enumerate() {
+        let device = bench.build(
+            alloc,
+            DeviceNo(number as u16),
+            text.start,
+            text.downs.as_slice(),
+        )?;
+        devices.push(device)?;
+    }
+    Ok(devices)
+}
+
+/// The state of the home before the first window: every device up at its start.
+fn start_world(alloc: Global, script: &Script) -> Result<World, NoMemory>
+    ensures { IfOk result (λ world. world.devices.items ≡ start_home script.now) }
+{
+    let mut devices = List::new(alloc);
+    'texts: for text in script.devices.as_slice() {
+        devices.push(Stand {
+            value: text.start,
+            up: true,
+        })?;
+    }
+    Ok(World { devices })
+}
+
+/// The kinds of the script's devices.
+fn script_kinds(alloc: Global, script: &Script) -> Result<List<Kind>, NoMemory>
+    ensures { IfOk result (λ kinds. kinds.items ≡ kinds_of script.now) }
+{
+    let mut kinds = List::new(alloc);
+    'texts: for text in script.devices.as_slice() {
+        kinds.push(text.kind)?;
+    }
+    Ok(kinds)
+}

@@ -1,0 +1,126 @@
+ghost use Rattle.std.specs.Prelude.{◌≡◌, ◌+◌, ◌-◌, ◌<◌, ◌≤◌, ◌↔◌, IsTrue, None, [], length, true, ℕ};
+ghost use Rattle.hub_core.specs.HubCalls.{HistoryIsBounded, HubStands, SomeRunMoves};
+ghost use Rattle.hub_core.specs.OpenHubs.{configuration_of, device_at};
+ghost use Rattle.hub_core.specs.Steps.{not_quiet, opened};
+
+use crate::known::DeviceProgress;
+use crate::read_histories::ReadHistory;
+use crate::refusals::NotQuiet;
+use device_gate::Gate;
+use device_states::{Device, Steady};
+use home_types::{DeviceNo, List, Stand};
+use std::marker::Model;
+
+/// The lists that closing a window fills: empty, each with room for every device.
+#[derive(Drop)]
+pub(crate) struct ClosingLists {
+    /// For the state of the record.
+    pub(crate) last: List<Stand>,
+    /// For the state of the home.
+    pub(crate) world: List<Stand>,
+    pub(crate) turns: List<u64>,
+    pub(crate) faults: List<u64>,
+}
+
+/// An open window.
+///
+/// Contracts see what is fixed, its history, its last moment, what it knows of each device, and the places of the
+/// devices. The type keeps that these agree.
+#[derive(Drop)]
+pub struct Hub<D: Device> {
+    pub(crate) history: ReadHistory,
+    pub(crate) rounds: u32,
+    pub(crate) opened: u32,
+    pub(crate) moment: u64,
+    pub(crate) devices: List<DeviceProgress>,
+    pub(crate) gate: Gate<D>,
+    pub(crate) closing: ClosingLists,
+}
+
+impl<D: Device> Model for Hub<D> {
+    ghost use Rattle.std.specs.Prelude.{◌≡◌, []};
+    ghost use Rattle.hub_core.specs.HubsKept.{HasRoomLeft, HubIsKept};
+    ghost use Rattle.hub_core.specs.OpenHubs.{OpenHub};
+
+    ghost Value = { OpenHub D };
+
+    ghost view = { λ h. record {
+        setting = h.history.setting;
+        rounds = h.rounds;
+        opened = h.opened;
+        history = h.history.history;
+        moment = h.moment;
+        devices = h.devices.items;
+        places = h.gate.places;
+        tickets = h.gate.tickets } };
+
+    ghost invariant = { λ h.
+        HubIsKept D.stands D.turns D.probes D.faults (record {
+            setting = h.history.setting;
+            rounds = h.rounds;
+            opened = h.opened;
+            history = h.history.history;
+            moment = h.moment;
+            devices = h.devices.items;
+            places = h.gate.places;
+            tickets = h.gate.tickets })
+        × HasRoomLeft (record {
+            setting = h.history.setting;
+            rounds = h.rounds;
+            opened = h.opened;
+            history = h.history.history;
+            moment = h.moment;
+            devices = h.devices.items;
+            places = h.gate.places;
+            tickets = h.gate.tickets }) h.history.spare h.closing };
+}
+
+impl<D: Device> Hub<D> {
+    /// Does nothing. Its contract is what holds of every hub.
+    pub fn kept(&self)
+        ensures { HubStands D.stands D.turns D.probes self.now }
+    {
+        let _ = &self.moment;
+    }
+
+    /// Does nothing. Its contract is that a window is never stuck.
+    pub fn progress(&self)
+        ensures { SomeRunMoves (configuration_of self.now) }
+    {
+        let _ = &self.moment;
+    }
+
+    /// Does nothing. Its contract is how long a history becomes.
+    pub fn bounded(&self)
+        ensures { HistoryIsBounded self.now }
+    {
+        let _ = &self.moment;
+    }
+
+    /// Whether nothing was done in the window: no entry, the last moment 0, no device out and no probe taken.
+    pub fn fresh(&self) -> bool
+        ensures { IsTrue result ↔ (configuration_of self.now ≡ opened self.now.setting self.now.rounds) }
+    {
+        self.history.len() == 0 && self.moment == 0 && self.gate.first_out().is_none()
+    }
+
+    /// How many probes of the device may still be taken, 0 for no device of the home.
+    pub fn probes_left(&self, d: DeviceNo) -> u64
+        ensures { result ≡ (configuration_of self.now).probes d.0 }
+    {
+        match self.devices.get(d.0 as u64) {
+            Some(device) => device.probes_left as u64,
+            None => 0,
+        }
+    }
+
+    /// Why the window cannot be closed: the smallest run that has not ended, else the smallest device that is out.
+    pub fn quiet(&self) -> Option<NotQuiet>
+        ensures { result ≡ not_quiet (configuration_of self.now) }
+    {
+        if let Some(r) = self.history.first_unended() {
+            return Some(NotQuiet::StillLive(r));
+        }
+        self.gate.first_out().map(NotQuiet::StillOut)
+    }
+}

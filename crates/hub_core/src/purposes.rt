@@ -1,0 +1,12 @@
+use home_types::Value;
+
+/// For what a device is out.
+#[derive(Clone, Copy, Debug, PartialEq, Eq)]
+pub enum Purpose {
+    /// The run's command of this number, counted from 0.
+    Command(u32),
+    /// To undo the run's write: this value is driven.
+    Undo(Value),
+    /// The detector's probe, with the value that it restores where the device is counted down.
+    Probe(Option<Value>),
+}

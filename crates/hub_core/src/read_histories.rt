@@ -1,0 +1,222 @@
+ghost use Rattle.std.specs.Prelude.{◌≡◌, ◌+◌, ◌<◌, ◌≤◌, ◌^◌, [], ◌∷◌, ◌++◌, IsTrue, Some, None, find, is_none, is_some, length, option_map, position, true, ℕ};
+ghost use Rattle.command_rules.specs.Rosters.{commands_of, is_run, run_no, runs_of};
+ghost use Rattle.history_book.specs.Histories.{entries_of, kept_by};
+ghost use Rattle.history_book.specs.Settings.{run_numbers};
+ghost use Rattle.history_book.specs.Readings.{is_live, next_command, pends};
+ghost use Rattle.hub_core.specs.OpenHubs.{progress_of};
+ghost use Rattle.hub_core.specs.ReadHistories.{read_in, with_entry};
+ghost use Rattle.lock_leasing.specs.Words.{live_before};
+
+use crate::known::RunProgress;
+use command_rules::Roster;
+use history_book::{Book, End, Entry, Kept};
+use home_types::{Answer, Command, DeviceNo, Item, Kind, List, Mode, RunNo, World};
+use std::marker::Model;
+
+/// The history of a window, with its line and the progress of each run kept beside it, so that no step reads it anew.
+///
+/// Contracts see what is fixed, the entries, and how many more it takes with no memory.
+#[derive(Drop)]
+pub(crate) struct ReadHistory {
+    pub(crate) roster: Roster,
+    pub(crate) mode: Mode,
+    pub(crate) kinds: List<Kind>,
+    pub(crate) first: World,
+    pub(crate) book: Book,
+    pub(crate) line: List<Item>,
+    pub(crate) progress: List<RunProgress>,
+}
+
+impl Model for ReadHistory {
+    ghost use Rattle.command_rules.specs.Rosters.{runs_of};
+    ghost use Rattle.hub_core.specs.ReadHistories.{HistoryState, IsReadBeside};
+
+    ghost Value = { HistoryState };
+
+    ghost view = { λ h. record {
+        setting = record { runs = runs_of h.roster; mode = h.mode; kinds = h.kinds.items; first = h.first.devices.items };
+        history = h.book.items;
+        spare = h.book.spare } };
+
+    ghost invariant = { λ h. IsReadBeside (record {
+        setting = record { runs = runs_of h.roster; mode = h.mode; kinds = h.kinds.items; first = h.first.devices.items };
+        history = h.book.items;
+        spare = h.book.spare }) h.line h.progress.items };
+}
+
+impl ReadHistory {
+    /// Whether the window has the run.
+    pub(crate) fn has_run(&self, r: RunNo) -> bool
+        ensures { result ≡ is_run self.now.setting.runs r.0 }
+    {
+        1 <= r.0 && r.0 as u64 <= self.roster.runs.len()
+    }
+
+    /// How many devices the home has.
+    pub(crate) fn device_count(&self) -> u64
+        ensures { result ≡ length self.now.setting.first }
+    {
+        self.first.devices.len()
+    }
+
+    /// How many entries there are.
+    pub(crate) fn len(&self) -> u64
+        ensures { result ≡ length self.now.history }
+    {
+        self.book.len()
+    }
+
+    /// How many items the line has.
+    pub(crate) fn line_len(&self) -> u64
+        ensures length { result ≡ length (read_in self.now).line }
+        ensures short { result ≤ length self.now.history }
+    {
+        self.line.len()
+    }
+
+    /// What the history says of the run.
+    pub(crate) fn progress(&self, r: RunNo) -> RunProgress
+        requires run { IsTrue (is_run self.now.setting.runs r.0) }
+        ensures { result ≡ progress_of ((read_in self.now).run r.0) }
+    {
+        *self.progress.get(r.0 as u64 - 1).unwrap()
+    }
+
+    /// Whether the run is placed and has not ended.
+    pub(crate) fn is_live(&self, r: RunNo) -> bool
+        requires run { IsTrue (is_run self.now.setting.runs r.0) }
+        ensures { result ≡ is_live (read_in self.now) r.0 }
+    {
+        let progress = self.progress(r);
+        progress.placed && progress.ended.is_none()
+    }
+
+    /// The run's first command with no answer.
+    pub(crate) fn next_command(&self, r: RunNo) -> Option<Command>
+        requires run { IsTrue (is_run self.now.setting.runs r.0) }
+        ensures { result ≡ next_command self.now.setting (read_in self.now) r.0 }
+    {
+        let next = self.progress(r).answered;
+        self.roster.commands(r).get(next as usize).copied()
+    }
+
+    /// Whether a command of the run on the device has no answer yet.
+    pub(crate) fn pends(&self, r: RunNo, d: DeviceNo) -> bool
+        requires run { IsTrue (is_run self.now.setting.runs r.0) }
+        ensures { result ≡ pends self.now.setting (read_in self.now) r.0 d.0 }
+    {
+        let next = self.progress(r).answered;
+        let commands = self.roster.commands(r);
+        commands
+            .iter()
+            .skip(next as usize)
+            .any(|command| command.device == d)
+    }
+
+    /// The first live run before `r` in the line.
+    pub(crate) fn first_before(&self, r: RunNo) -> Option<RunNo>
+        ensures { option_map (λ x. x.0) result ≡ find (λ x. true) (live_before (read_in self.now) r.0) }
+    {
+        'items: for item in self.line.as_slice() {
+            if let Item::Ran(x) = *item {
+                if x == r {
+                    return None;
+                }
+                if self.is_live(x) {
+                    return Some(x);
+                }
+            }
+        }
+        None
+    }
+
+    /// The first live run before `r` in the line with a command on the device that has no answer yet.
+    pub(crate) fn first_pending_before(&self, r: RunNo, d: DeviceNo) -> Option<RunNo>
+        ensures { option_map (λ x. x.0) result ≡ find (λ x. pends self.now.setting (read_in self.now) x d.0) (live_before (read_in self.now) r.0) }
+    {
+        'items: for item in self.line.as_slice() {
+            if let Item::Ran(x) = *item {
+                if x == r {
+                    return None;
+                }
+                if self.is_live(x) && self.pends(x, d) {
+                    return Some(x);
+                }
+            }
+        }
+        None
+    }
+
+    /// The smallest run that has not ended.
+    pub(crate) fn first_unended(&self) -> Option<RunNo>
+        requires few { length self.now.setting.runs < 2 ^ 32 }
+        ensures { option_map (λ x. x.0) result ≡ find (λ r. is_none ((read_in self.now).run r).ended) (run_numbers self.now.setting) }
+    {
+        let progress = self.progress.as_slice();
+        let place = progress.iter().position(|run| run.ended.is_none())?;
+        Some(RunNo(place as u32 + 1))
+    }
+
+    /// The run arrives.
+    pub(crate) fn arrive(&mut self, r: RunNo, moment: u64) -> Entry
+        requires run { IsTrue (is_run self.old.setting.runs r.0) }
+        requires room { 0 < self.old.spare }
+        ensures entry { result ≡ Entry.Arrived r moment }
+        ensures new { self.new ≡ with_entry self.old r.0 result }
+    {
+        let entry = Entry::Arrived(r, moment);
+        let at = r.0 as u64 - 1;
+        let progress = *self.progress.get(at).unwrap();
+        self.progress.set(at, RunProgress { arrived: Some(moment), ..progress });
+        self.book.push(Kept { maker: r.0, entry });
+        entry
+    }
+
+    /// The run is placed at the end of the line.
+    pub(crate) fn place(&mut self, r: RunNo, moment: u64) -> Entry
+        requires run { IsTrue (is_run self.old.setting.runs r.0) }
+        requires room { 0 < self.old.spare }
+        requires few { length self.old.history < 2 ^ 32 }
+        ensures entry { result ≡ Entry.Placed r (length (read_in self.old).line) moment }
+        ensures new { self.new ≡ with_entry self.old r.0 result }
+    {
+        let entry = Entry::Placed(r, self.line.len() as u32, moment);
+        let at = r.0 as u64 - 1;
+        let progress = *self.progress.get(at).unwrap();
+        self.progress.set(at, RunProgress { placed: true, ..progress });
+        self.line.push(Item::Ran(r)).unwrap();
+        self.book.push(Kept { maker: r.0, entry });
+        entry
+    }
+
+    /// The run's write with the number `k` has worked.
+    pub(crate) fn write(&mut self, r: RunNo, k: u32) -> Entry
+        requires run { IsTrue (is_run self.old.setting.runs r.0) }
+        requires room { 0 < self.old.spare }
+        requires few { length self.old.history < 2 ^ 32 }
+        ensures entry { result ≡ Entry.Did r k Answer.Fine }
+        ensures new { self.new ≡ with_entry self.old r.0 result }
+    {
+        let entry = Entry::Did(r, k, Answer::Fine);
+        let at = r.0 as u64 - 1;
+        let progress = *self.progress.get(at).unwrap();
+        self.progress.set(at, RunProgress { answered: progress.answered + 1, ..progress });
+        self.book.push(Kept { maker: r.0, entry });
+        entry
+    }
+
+    /// The run commits.
+    pub(crate) fn commit(&mut self, r: RunNo) -> Entry
+        requires run { IsTrue (is_run self.old.setting.runs r.0) }
+        requires room { 0 < self.old.spare }
+        ensures entry { result ≡ Entry.Ended r End.Committed }
+        ensures new { self.new ≡ with_entry self.old r.0 result }
+    {
+        let entry = Entry::Ended(r, End::Committed);
+        let at = r.0 as u64 - 1;
+        let progress = *self.progress.get(at).unwrap();
+        self.progress.set(at, RunProgress { ended: Some(End::Committed), ..progress });
+        self.book.push(Kept { maker: r.0, entry });
+        entry
+    }
+}

@@ -1,0 +1,41 @@
+ghost use Rattle.std.specs.Prelude.{◌≡◌, ℕ};
+ghost use Rattle.hub_core.specs.HubCalls.{IsTurn, SameWindow};
+
+
+use crate::changes::NONE_MADE;
+use crate::decisions::Chosen;
+use crate::hubs::Hub;
+use crate::turns::Turn;
+use device_states::Steady;
+use history_book::{End, Made};
+use home_types::RunNo;
+
+impl<D: Steady> Hub<D> {
+    /// Makes the step of the run `r` at this moment, in ms, or at the last one where that is later.
+    ///
+    /// Answers what the run does: hands out a device, makes entries, waits, or is over. `Wait` and `Absent` change
+    /// nothing but the last moment. Takes no memory.
+    pub fn take(&mut self, r: RunNo, moment: u64) -> Turn<D>
+        ensures turn { IsTurn self.old r.0 moment result self.new }
+        ensures window { SameWindow self.old self.new }
+    {
+        match self.decide(r, moment) {
+            Chosen::Absent => {
+                self.reach(moment);
+                Turn::Absent
+            }
+            Chosen::Over(end) => {
+                self.reach(moment);
+                Turn::Over(end, NONE_MADE)
+            }
+            Chosen::Waits(why) => {
+                self.reach(moment);
+                Turn::Wait(why)
+            }
+            Chosen::Arrives => Turn::Moved(self.arrive(r, moment)),
+            Chosen::Joins => Turn::Moved(self.place(r, moment)),
+            Chosen::Commits => Turn::Over(End::Committed, self.commit(r, moment)),
+            Chosen::HandsOut(d, purpose) => Turn::Go(self.hand_out(r, moment, d, purpose)),
+        }
+    }
+}
