@@ -5,3 +5,4 @@ pub mod Gives
 pub mod Afters
 pub mod Causes
 pub mod GiveCauses
+pub mod HubReads

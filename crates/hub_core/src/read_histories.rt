@@ -2,7 +2,7 @@ ghost use Rattle.std.specs.Prelude.{◌≡◌, ◌+◌, ◌<◌, ◌≤◌, ◌^
 ghost use Rattle.command_rules.specs.Rosters.{commands_of, is_run, run_no, runs_of};
 ghost use Rattle.history_book.specs.Histories.{entries_of, kept_by};
 ghost use Rattle.history_book.specs.Settings.{run_numbers};
-ghost use Rattle.history_book.specs.Readings.{is_live, next_command, pends};
+ghost use Rattle.history_book.specs.Readings.{is_live, next_command, next_of, pends};
 ghost use Rattle.hub_core.specs.OpenHubs.{progress_of};
 ghost use Rattle.hub_core.specs.ReadHistories.{read_in, with_entry};
 ghost use Rattle.lock_leasing.specs.Words.{live_before};
@@ -193,7 +193,7 @@ impl ReadHistory {
     pub(crate) fn write(&mut self, r: RunNo, k: u32) -> Entry
         requires run { IsTrue (is_run self.old.setting.runs r.0) }
         requires room { 0 < self.old.spare }
-        requires few { length self.old.history < 2 ^ 32 }
+        requires few { next_of (read_in self.old) r.0 < 2 ^ 31 }
         ensures entry { result ≡ Entry.Did r k Answer.Fine }
         ensures new { self.new ≡ with_entry self.old r.0 result }
     {

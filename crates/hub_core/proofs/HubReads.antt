@@ -1,0 +1,180 @@
+-- A history with one entry more, and what is kept beside it.
+use Rattle.command_rules.specs.Rosters.{Run, command_at, is_run, run_no}
+use Rattle.history_book.proofs.Snoc.{entries_on, put_other, put_same, reading_more}
+use Rattle.history_book.specs.Histories.{answered, entries_of, entry, reading}
+use Rattle.history_book.specs.Lines.{with_run_in}
+use Rattle.history_book.specs.Plans.{planned_times, split_of}
+use Rattle.history_book.specs.Readings.{OfRun, Reading, put}
+use Rattle.history_book.specs.Settings.{Setting}
+use Rattle.history_book.specs.declared.entries.End.TheVariants.{Committed}
+use Rattle.history_book.specs.declared.entries.Entry.TheVariants.{Arrived, Did, Ended, Placed}
+use Rattle.history_book.specs.declared.entries.Entry.{Entry}
+use Rattle.history_book.specs.declared.entries.Kept.{Kept}
+use Rattle.home_types.specs.Commands.{register_after}
+use Rattle.home_types.specs.Kinds.{kind_at}
+use Rattle.home_types.specs.Listed.{Listed}
+use Rattle.home_types.specs.declared.commands.Answer.TheVariants.{Fine}
+use Rattle.home_types.specs.declared.commands.Job.TheVariants.{Check, Load, Set, Store}
+use Rattle.home_types.specs.declared.commands.Job.{Job}
+use Rattle.home_types.specs.declared.items.Item.TheVariants.{Ran}
+use Rattle.home_types.specs.declared.items.Item.{Item}
+use Rattle.home_types.specs.declared.numbers.RunNo.{RunNo}
+use Rattle.hub_core.specs.OpenHubs.{progress_of}
+use Rattle.hub_core.specs.ReadHistories.{HistoryState, IsReadBeside, is_item_of, read_in}
+use Rattle.hub_core.specs.declared.known.RunProgress.{RunProgress}
+use Rattle.std.proofs.Common.{ap, ap₂, arith, inl, inr, refl, sym, ◌∙◌, ◌⊎◌}
+use Rattle.std.proofs.lemmas.Grind.{common_steps}
+use Rattle.std.proofs.lemmas.List.{drop_all, length-append, length-set, take_all}
+use Rattle.std.proofs.lemmas.List.Folds.{list_all-append}
+use Rattle.std.proofs.lemmas.Option.{slice_get_within}
+use Rattle.std.specs.List.{list_all}
+use Rattle.std.specs.Prelude.{Bool, IsTrue, List, None, Option, Some, [], is_some, length, slice_get, slice_set, suc, true, zero, ℕ, ◌++◌, ◌+◌, ◌-◌, ◌<◌, ◌∷◌, ◌≡◌, ◌≢◌, ◌≤◌, ◌||◌}
+
+-- the place that was written, or another
+pub get_set : {A : Type 0} (xs : List A) (i j : ℕ) (y : A) → i < length xs
+    → ((j ≡ i) × (slice_get (slice_set xs i y) j ≡ Some y)) ⊎ ((j ≢ i) × (slice_get (slice_set xs i y) j ≡ slice_get xs j))
+get_set [] i j y h = absurd (omega arith)
+get_set (x ∷ xs) zero zero y h = inl (refl, refl)
+get_set (x ∷ xs) zero (suc j) y h = inr ((λ e. absurd (omega arith)), refl)
+get_set (x ∷ xs) (suc i) zero y h = inr ((λ e. absurd (omega arith)), refl)
+get_set (x ∷ xs) (suc i) (suc j) y h =
+    elim (get_set xs i j y (omega arith)) [ inl p ↦ inl (ap (λ n. suc n) p.0, p.1) | inr e ↦ inr ((λ z. e.0 (omega arith)), e.1) ]
+
+some_is : {A : Type 0} (x y : A) → Some x ≡ Some y → x ≡ y
+some_is x y e = cc
+
+-- a run has a number from 1 on, and a place in the roster
+pub run_place : (runs : List Run) (r : ℕ) → IsTrue (is_run runs r) → (r ≡ suc (r - 1)) × (r - 1 < length runs)
+run_place runs zero is = absurd (cc)
+run_place runs (suc i) is =
+    let same : i ≡ suc i - 1 = omega arith in
+    (ap (λ n. suc n) same, rw (← same) (within (slice_get runs i) refl is))
+  where
+    within : (o : Option Run) → slice_get runs i ≡ o → IsTrue (is_some o) → i < length runs
+    within None at is = absurd (cc)
+    within (Some run) at is = slice_get_within runs i run at
+
+pub run_of_place : (runs : List Run) (r : ℕ) → 1 ≤ r → r ≤ length runs → IsTrue (is_run runs r)
+run_of_place runs zero some few = absurd (omega arith)
+run_of_place [] (suc i) some few = absurd (omega arith)
+run_of_place (x ∷ xs) (suc zero) some few = refl
+run_of_place (x ∷ xs) (suc (suc i)) some few = run_of_place xs (suc i) (omega arith) (omega arith)
+
+-- what is kept of a run is what the history says of it
+pub progress_is : (s : HistoryState) (line : Listed Item) (progress : List RunProgress) (r : ℕ) (p : RunProgress)
+    → IsReadBeside s line progress → IsTrue (is_run s.setting.runs r) → slice_get progress (r - 1) ≡ Some p → p ≡ progress_of ((read_in s).run r)
+progress_is s line progress r p k run at =
+    let place = run_place s.setting.runs r run in
+    some_is p (progress_of ((read_in s).run r)) (sym at ∙ k.progress_is (r - 1) place.1 ∙ ap (λ q. Some (progress_of ((read_in s).run q))) (sym place.0))
+
+pub entry_kept : (w : Setting) (h h₂ : List Kept) (n n₂ maker r : ℕ) (e : Entry) (line after : Listed Item) (progress : List RunProgress) (now : RunProgress)
+    → IsReadBeside (record { setting = w; history = h; spare = n }) line progress
+    → IsTrue (is_run w.runs r)
+    → h₂ ≡ h ++ record { maker = maker; entry = e } ∷ []
+    → now ≡ progress_of ((entry w (reading w (entries_of h)) e).run r)
+    → ((q : ℕ) → q ≢ r → (entry w (reading w (entries_of h)) e).run q ≡ (reading w (entries_of h)).run q)
+    → after.items ≡ (entry w (reading w (entries_of h)) e).line
+    → IsTrue (list_all (is_item_of w) after.items)
+    → length after.items ≤ length h + 1 → n₂ ≤ after.spare
+    → IsReadBeside (record { setting = w; history = h₂; spare = n₂ }) after (slice_set progress (r - 1) now)
+entry_kept w h h₂ n n₂ maker r e line after progress now k run more is others line_now items short spare =
+    let read : reading w (entries_of h₂) ≡ entry w (reading w (entries_of h)) e = ap (λ x. reading w (entries_of x)) more ∙ ap (reading w) (entries_on h maker (e ∷ [])) ∙ reading_more w (entries_of h) e in
+    let place = run_place w.runs r run in
+    let inside : r - 1 < length progress = omega (arith, place.1, k.size) in
+    let count : length h₂ ≡ length h + 1 = ap (λ x. length x) more ∙ length-append h (record { maker = maker; entry = e } ∷ []) in
+    record {
+      line_is = line_now ∙ ap (λ x. x.line) (sym read);
+      runs_are = items;
+      short = omega (arith, short, count);
+      room = spare;
+      size = length-set progress (r - 1) now ∙ k.size;
+      progress_is = λ j within. elim (get_set progress (r - 1) j now inside) [
+        | inl p ↦ p.1 ∙ ap (λ x. Some x) (is ∙ ap (λ q. progress_of ((entry w (reading w (entries_of h)) e).run q)) (place.0 ∙ ap (λ n. suc n) (sym p.0))) ∙ ap (λ x. Some (progress_of (x.run (suc j)))) (sym read)
+        | inr q ↦ q.1 ∙ k.progress_is j within ∙ ap (λ x. Some (progress_of x)) (sym (others (suc j) (λ same. q.0 (omega (arith, same, place.0))))) ∙ ap (λ x. Some (progress_of (x.run (suc j)))) (sym read)
+      ];
+    }
+
+-- The changes of this stage
+
+pub arrives_beside : (w : Setting) (h h₂ : List Kept) (n n₂ maker m : ℕ) (r : RunNo) (line : Listed Item) (progress : List RunProgress) (p : RunProgress)
+    → IsReadBeside (record { setting = w; history = h; spare = n }) line progress
+    → IsTrue (is_run w.runs r.0) → slice_get progress (r.0 - 1) ≡ Some p
+    → h₂ ≡ h ++ record { maker = maker; entry = Arrived r m } ∷ [] → n₂ + 1 ≡ n
+    → IsReadBeside (record { setting = w; history = h₂; spare = n₂ }) line (slice_set progress (r.0 - 1) (record p { arrived = Some m }))
+arrives_beside w h h₂ n n₂ maker m r line progress p k run at more left =
+    let o = (reading w (entries_of h)).run r.0 in
+    entry_kept w h h₂ n n₂ maker r.0 (Arrived r m) line line progress (record p { arrived = Some m }) k run more
+    (ap (λ (x : RunProgress). record x { arrived = Some m }) (progress_is _ line progress r.0 p k run at) ∙ ap progress_of (sym (put_same (reading w (entries_of h)).run r.0 (record o { arrived = Some m }))))
+    (λ q other. put_other (reading w (entries_of h)).run r.0 (record o { arrived = Some m }) q other)
+    k.line_is k.runs_are (omega (arith, k.short)) (omega (arith, k.room, left))
+
+pub writes_beside : (w : Setting) (h h₂ : List Kept) (n n₂ maker c : ℕ) (r : RunNo) (line : Listed Item) (progress : List RunProgress) (p : RunProgress)
+    → IsReadBeside (record { setting = w; history = h; spare = n }) line progress
+    → IsTrue (is_run w.runs r.0) → slice_get progress (r.0 - 1) ≡ Some p
+    → h₂ ≡ h ++ record { maker = maker; entry = Did r c Fine } ∷ [] → n₂ + 1 ≡ n
+    → IsReadBeside (record { setting = w; history = h₂; spare = n₂ }) line (slice_set progress (r.0 - 1) (record p { answered = p.answered + 1 }))
+writes_beside w h h₂ n n₂ maker c r line progress p k run at more left =
+    entry_kept w h h₂ n n₂ maker r.0 (Did r c Fine) line line progress (record p { answered = p.answered + 1 }) k run more
+    (ap (λ (x : RunProgress). record x { answered = x.answered + 1 }) (progress_is _ line progress r.0 p k run at) ∙ written ∙ ap progress_of (sym (put_same (reading w (entries_of h)).run r.0 (o c))))
+    (λ q other. put_other (reading w (entries_of h)).run r.0 (o c) q other)
+    k.line_is k.runs_are (omega (arith, k.short)) (omega (arith, k.room, left))
+  where
+    before : OfRun
+    before = (reading w (entries_of h)).run r.0
+
+    o : ℕ → OfRun
+    o c = record before {
+      answers = before.answers ++ Fine ∷ [];
+      register = register_after (command_at w.runs r.0 c).job Fine before.register;
+      answered_doomed = before.answered_doomed || is_some before.doomed;
+      on = put before.on (command_at w.runs r.0 c).device.0 (answered (kind_at w.kinds (command_at w.runs r.0 c).device.0) (command_at w.runs r.0 c) (is_some before.doomed) before.register Fine (before.on (command_at w.runs r.0 c).device.0));
+    }
+
+    -- a write leaves the register
+    same_register : (job : Job) (x : ℕ) → x ≡ register_after job Fine x
+    same_register (Set v) x = refl
+    same_register (Check v) x = refl
+    same_register Load x = refl
+    same_register Store x = refl
+
+    written : record (progress_of before) { answered = length before.answers + 1 } ≡ progress_of (o c)
+    written = ap₂ (λ a x. record (progress_of before) { answered = a; register = x }) (sym (length-append before.answers (Fine ∷ []))) (same_register (command_at w.runs r.0 c).job before.register)
+
+pub commits_beside : (w : Setting) (h h₂ : List Kept) (n n₂ maker : ℕ) (r : RunNo) (line : Listed Item) (progress : List RunProgress) (p : RunProgress)
+    → IsReadBeside (record { setting = w; history = h; spare = n }) line progress
+    → IsTrue (is_run w.runs r.0) → slice_get progress (r.0 - 1) ≡ Some p
+    → h₂ ≡ h ++ record { maker = maker; entry = Ended r Committed } ∷ [] → n₂ + 1 ≡ n
+    → IsReadBeside (record { setting = w; history = h₂; spare = n₂ }) line (slice_set progress (r.0 - 1) (record p { ended = Some Committed }))
+commits_beside w h h₂ n n₂ maker r line progress p k run at more left =
+    let o = (reading w (entries_of h)).run r.0 in
+    entry_kept w h h₂ n n₂ maker r.0 (Ended r Committed) line line progress (record p { ended = Some Committed }) k run more
+    (ap (λ (x : RunProgress). record x { ended = Some Committed }) (progress_is _ line progress r.0 p k run at) ∙ ap progress_of (sym (put_same (reading w (entries_of h)).run r.0 (record o { ended = Some Committed }))))
+    (λ q other. put_other (reading w (entries_of h)).run r.0 (record o { ended = Some Committed }) q other)
+    k.line_is k.runs_are (omega (arith, k.short)) (omega (arith, k.room, left))
+
+-- a run that is placed at the end stands behind all items
+pub at_the_end : (w : Setting) (n : Reading) (r m : ℕ) → with_run_in (split_of w n r (length n.line) m) (run_no r) ≡ n.line ++ Ran (run_no r) ∷ []
+unfolding split_of
+at_the_end w n r m = ap₂ (λ a b. a ++ Ran (run_no r) ∷ b) (take_all (length n.line) n.line (omega arith)) (drop_all (length n.line) n.line (omega arith))
+
+pub places_beside : (w : Setting) (h h₂ : List Kept) (n n₂ maker at m : ℕ) (r : RunNo) (line after : Listed Item) (progress : List RunProgress) (p : RunProgress)
+    → IsReadBeside (record { setting = w; history = h; spare = n }) line progress
+    → IsTrue (is_run w.runs r.0) → slice_get progress (r.0 - 1) ≡ Some p
+    → at ≡ length line.items
+    → h₂ ≡ h ++ record { maker = maker; entry = Placed r at m } ∷ [] → n₂ + 1 ≡ n
+    → after.items ≡ line.items ++ Ran r ∷ [] → after.spare + 1 ≡ line.spare
+    → IsReadBeside (record { setting = w; history = h₂; spare = n₂ }) after (slice_set progress (r.0 - 1) (record p { placed = true }))
+places_beside w h h₂ n n₂ maker at m r line after progress p k run here last more left appended room =
+    entry_kept w h h₂ n n₂ maker r.0 (Placed r at m) line after progress (record p { placed = true }) k run more
+    (ap (λ (x : RunProgress). record x { placed = true }) (progress_is _ line progress r.0 p k run here) ∙ ap progress_of (sym (put_same read.run r.0 placed_run)))
+    (λ q other. put_other read.run r.0 placed_run q other)
+    (appended ∙ ap (λ l. l ++ Ran r ∷ []) k.line_is ∙ sym (at_the_end w read r.0 m) ∙ ap (λ a. with_run_in (split_of w read r.0 a m) r) (ap (λ l. length l) (sym k.line_is) ∙ sym last))
+    (rw (appended, list_all-append (is_item_of w) line.items (Ran r ∷ [])) (rw (k.runs_are, run) refl))
+    (omega (arith, k.short, ap (λ l. length l) appended, length-append line.items (Ran r ∷ [])))
+    (omega (arith, k.room, left, room))
+  where
+    read : Reading
+    read = reading w (entries_of h)
+
+    placed_run : OfRun
+    placed_run = record (read.run r.0) { placed = Some (record { place = at; moment = m; stamp = read.size }); planned = planned_times w read r.0 (split_of w read r.0 at m).front m }

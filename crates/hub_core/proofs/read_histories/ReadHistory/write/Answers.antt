@@ -1,0 +1,20 @@
+use Rattle.command_rules.specs.Rosters.{is_run}
+use Rattle.history_book.specs.Readings.{next_of}
+use Rattle.hub_core.proofs.HubReads.{progress_is, run_place, writes_beside}
+use Rattle.hub_core.proofs.read_histories.ReadHistory.write.Goals as goal
+use Rattle.std.proofs.Common.{ap, arith, sym, ◌∙◌}
+use Rattle.hub_core.specs.ReadHistories.{read_in}
+use Rattle.std.specs.Option.{option_copied}
+
+pub invariant_of-self : goal.invariant_of-self
+invariant_of-self c =
+    rw c.set.ensures.items (writes_beside _ _ _ _ _ _ c.args.k c.args.r _ _ _ c.self.invariant (ap (λ s. is_run s.setting.runs c.args.r.0) c.self.view_is ∙ c.requires.run) (sym c.get.ensures ∙ ap option_copied c.unwrap-progress.ensures) c.push.ensures.items c.push.ensures.spare)
+
+pub overflow_add-progress : goal.overflow_add-progress
+overflow_add-progress c =
+    let known = progress_is _ _ _ c.args.r.0 _ c.self.invariant (ap (λ s. is_run s.setting.runs c.args.r.0) c.self.view_is ∙ c.requires.run) (sym c.get.ensures ∙ ap option_copied c.unwrap-progress.ensures) in
+    let next = ap (λ s. next_of (read_in s) c.args.r.0) c.self.view_is in
+    omega (arith, ap (λ p. p.answered) known, next, c.requires.few)
+
+pub set-requires : goal.set-requires
+set-requires c = (run_place _ _ (ap (λ s. is_run s.setting.runs c.args.r.0) c.self.view_is ∙ c.requires.run)).1
