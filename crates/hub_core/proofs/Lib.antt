@@ -5,3 +5,5 @@ pub mod Gives
 pub mod Afters
 pub mod Causes
 pub mod GiveCauses
+pub mod StageFacts
+pub mod StageChoices
