@@ -7,3 +7,4 @@ pub mod Causes
 pub mod GiveCauses
 pub mod StageFacts
 pub mod StageChoices
+pub mod LineOrder

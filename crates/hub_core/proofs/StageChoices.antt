@@ -87,7 +87,7 @@ each_is P Q [] step all = tt
 each_is P Q (x ∷ xs) step all = (step x all.0, each_is P Q xs step all.1)
 
 -- a run behind this place was placed after this number of entries
-placed_after : (n : Reading) (r stamp : ℕ) (line : List Item) → IsTrue (list_all (is_later n stamp) line) → list_any (is_ran r) line ≡ true → nat_lt stamp (stamp_of n r) ≡ true
+pub placed_after : (n : Reading) (r stamp : ℕ) (line : List Item) → IsTrue (list_all (is_later n stamp) line) → list_any (is_ran r) line ≡ true → nat_lt stamp (stamp_of n r) ≡ true
 placed_after n r stamp [] later there = absurd (cc)
 placed_after n r stamp (Ran x ∷ is) later there = elim (x.0 == r) as (λ b. (x.0 == r) ≡ b → nat_lt stamp (stamp_of n r) ≡ true) [
   | true ↦ (λ e. let same : x.0 ≡ r = grind (arith, common_steps) in subst (λ q. nat_lt stamp (stamp_of n q) ≡ true) same (grind (arith, common_steps)))
