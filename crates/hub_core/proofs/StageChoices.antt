@@ -33,6 +33,11 @@ use Rattle.hub_core.specs.Stage.{plain_choice, plain_command}
 use Rattle.hub_core.specs.Steps.{Absent, Choice, HandsOut, Moves, Over, Waits, answers_down, behind_case, busy_case, command_cases, decide, decide_answered, decide_arrived, decide_command, decide_doomed, dirty_case, down_case, down_entries, first_case, only_if, strict_case}
 use Rattle.hub_core.specs.declared.waits.Why.TheVariants.{Busy, Dirty}
 use Rattle.lock_leasing.specs.Configurations.{Commands, Grips, is_out}
+use Rattle.lock_leasing.specs.Places.{At, DeniedBy, Placing, at_end, scheduled_place}
+use Rattle.history_book.specs.Lines.{Split}
+use Rattle.history_book.specs.declared.entries.Cause.{Cause}
+use Rattle.hub_core.proofs.Choices.{Answered, Commanding, IsNext, decide_is}
+use Rattle.hub_core.specs.declared.waits.Why.{Why}
 use Rattle.lock_leasing.specs.Waits.{busy_wait, dirty_wait, down_at_end, follow_wait, grip_wait}
 use Rattle.lock_leasing.specs.Words.{has_touched, is_overdue, lease_deadline, live_before, live_runs, overdue_for, stamp_of}
 use Rattle.std.proofs.Common.{ap, arith, cond, refl, subst, sym, ◌∙◌}
@@ -142,12 +147,12 @@ ends_up w n g r p = ap (λ o. if is_strict w.mode then o else None) (find_none (
     either true = refl
     either false = refl
 
+pub take_all : (line : List Item) → length (take (length line) line) ≡ length line
+take_all [] = refl
+take_all (i ∷ is) = ap suc (take_all is)
+
 place_is : (w : Setting) (n : Reading) (g : Grips) (r m : ℕ) → StepsPlainly w n → decide_arrived w n g r m ≡ Moves (Placed (run_no r) (length n.line) m ∷ [])
 place_is w n g r m p = rw (no_leader w n r (p.follows_none r), p.mode) (ap (λ k. Moves (Placed (run_no r) k m ∷ [])) (take_all n.line))
-  where
-    take_all : (line : List Item) → length (take (length line) line) ≡ length line
-    take_all [] = refl
-    take_all (i ∷ is) = ap suc (take_all is)
 
 command_is : (w : Setting) (n : Reading) (g : Grips) (r m k : ℕ) (c : Command) → StepsPlainly w n → is_live n r ≡ true → reads c.job ≡ false → is_device w c.device.0 ≡ true → decide_command w n g r m k c ≡ plain_command w n g r k c
 command_is w n g r m k c p live write home =
@@ -216,3 +221,45 @@ steps_plainly s rounds opened held kept =
 -- .. steps so
 pub choice_plain : (s : Configuration) (rounds opened : ℕ) (held : ℕ → ℕ) (r m : ℕ) → ConfigurationIsKept s rounds opened held → choice_of s r m ≡ plain_choice s.setting (read_of s) s.grips r (max s.moment m)
 choice_plain s rounds opened held r m kept = decide_plain s.setting (read_of s) s.grips r (max s.moment m) (steps_plainly s rounds opened held kept)
+
+-- What holds of each thing that a run's step may do in this stage holds of the step
+
+pub record HoldsOfPlain (P : Choice → Type 0) (w : Setting) (n : Reading) (g : Grips) (r m : ℕ) : Type 0 where
+  pub absent : is_run w.runs r ≡ false → P Absent
+  pub over : (e : End) → (n.run r).ended ≡ Some e → P (Over e [])
+  pub waits : (why : Why) → P (Waits why)
+  pub arrives : is_run w.runs r ≡ true → is_none (n.run r).arrived ≡ true → P (Moves (Arrived (run_no r) m ∷ []))
+  pub enters : is_run w.runs r ≡ true → is_none (n.run r).placed ≡ true → P (Moves (Placed (run_no r) (length n.line) m ∷ []))
+  pub goes : (c : Command) → Commanding w n g r c → IsNext w n g r m c → is_out g c.device.0 ≡ false → P (HandsOut c.device.0 (Commands (next_of n r)))
+  pub commits : Answered w n g r → P (Over Committed (Ended (run_no r) Committed ∷ []))
+
+pub plain_is : (P : Choice → Type 0) (w : Setting) (n : Reading) (g : Grips) (r m : ℕ) → StepsPlainly w n → HoldsOfPlain P w n g r m → P (decide w n g r m)
+plain_is P w n g r m p each =
+    decide_is P w n g r m (record {
+      absent = each.absent;
+      over = each.over;
+      waits = each.waits;
+      arrives = each.arrives;
+      enters = λ s enters. subst (λ at. P (Moves (Placed (run_no r) at m ∷ []))) (front_is s enters.place) (each.enters enters.run enters.unplaced);
+      aborted = λ cause act doomed over. absurd (not_doomed cause doomed);
+      drops = λ cause d undoing down. absurd (not_doomed cause undoing.doomed);
+      undoes = λ cause d undoing up. absurd (not_doomed cause undoing.doomed);
+      revokes = λ c x run strong at. absurd (let both : None ≡ Some x = sym (never_overdue w n g r c.device.0 m p run.act.live) ∙ at in cc);
+      downs = λ c run next home down. absurd (let both : false ≡ true = sym (answers_up w n r c.device.0 p (p.homed r (next_of n r) c run.next)) ∙ down in cc);
+      goes = λ c run next home up. each.goes c run (next (ap is_weak p.mode)) (sym (busy_is w n g r c.device.0 p) ∙ home);
+      fails_at_end = λ d all at. absurd (let both : None ≡ Some d = sym (ends_up w n g r p) ∙ at in cc);
+      commits = λ all up. each.commits all;
+    })
+  where
+    not_doomed : (cause : Cause) → (n.run r).doomed ≡ Some cause → ⊥
+    not_doomed cause at = let both : None ≡ Some cause = sym (p.read.runs r).sound ∙ at in absurd (cc)
+
+    front_of : Placing → ℕ
+    front_of (At s) = length s.front
+    front_of (DeniedBy d x) = 0
+
+    at_the_end : scheduled_place w n g r m ≡ at_end n
+    at_the_end = rw p.mode refl
+
+    front_is : (s : Split) → scheduled_place w n g r m ≡ At s → length n.line ≡ length s.front
+    front_is s place = sym (take_all n.line) ∙ ap front_of (sym at_the_end ∙ place)
