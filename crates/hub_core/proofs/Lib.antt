@@ -8,3 +8,4 @@ pub mod GiveCauses
 pub mod StageFacts
 pub mod StageChoices
 pub mod LineOrder
+pub mod HistoryKept
