@@ -1,3 +1,4 @@
 pub mod ReadFacts
 pub mod Grips
 pub mod HistoryOrder
+pub mod Steps
