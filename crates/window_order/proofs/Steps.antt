@@ -1,104 +1,49 @@
 -- Each kind of change keeps the order of a window.
-use Rattle.command_rules.specs.Rosters.{commands_of, is_run, run_no, touches}
-use Rattle.device_order.proofs.LineWords.{cut_at}
+use Rattle.command_rules.specs.Rosters.{command_at, commands_of, is_on, is_run, no_command, run_no, touches}
+use Rattle.device_order.proofs.InPlace.{next_used}
+use Rattle.device_order.proofs.WindowAnswers.{write_answered}
 use Rattle.device_order.proofs.WindowRuns.{run_commits, run_placed, window_begins}
 use Rattle.device_order.specs.LineChanges.{Lacks}
-use Rattle.device_order.specs.LineWords.{CutAt, any_run, is_calm_line}
-use Rattle.device_order.specs.RunStates.{RunState}
+use Rattle.device_order.specs.LineEntries.{stage_of, usage}
+use Rattle.device_order.specs.LineWords.{CutAt, is_calm_line}
+use Rattle.device_order.specs.RunStates.{device_summary, rest, summary_of, uses}
 use Rattle.device_order.specs.Summaries.{AreHomed}
+use Rattle.device_order.specs.Usages.{awaits_first, is_command, is_open}
+use Rattle.device_order.specs.WindowSteps.{ChangesInPlace, GetsAnswer}
 use Rattle.device_order.specs.Windows.{WindowInvariant}
-use Rattle.history_book.proofs.Once.{count_append}
+use Rattle.device_order.specs.declared.records.Grip.TheVariants.{Reads, Writes}
 use Rattle.history_book.proofs.Shapes.{IsShaped}
 use Rattle.history_book.proofs.Snoc.{put_keeps, put_other, put_same}
-use Rattle.history_book.proofs.Standing.{aborted, is_abort}
-use Rattle.history_book.specs.Histories.{entry}
+use Rattle.history_book.proofs.Standing.{aborted}
+use Rattle.history_book.specs.Histories.{answered, entry}
 use Rattle.history_book.specs.Lines.{is_ran}
 use Rattle.history_book.specs.Plans.{planned_times, split_of}
-use Rattle.history_book.specs.Readings.{OfRun, PlacedAt, Reading, did, is_committed, is_committing, is_doomed, is_live, is_next_on, next_of, nothing_read}
+use Rattle.history_book.specs.Readings.{OfRun, OnDevice, PlacedAt, Reading, did, is_committed, is_committing, is_doomed, is_live, is_next_on, next_of, nothing_read, put, view_of}
 use Rattle.history_book.specs.Settings.{Setting, is_device}
 use Rattle.history_book.specs.WellFormed.{may_follow}
 use Rattle.history_book.specs.declared.entries.Cause.{Cause}
 use Rattle.history_book.specs.declared.entries.End.TheVariants.{Committed}
-use Rattle.history_book.specs.declared.entries.End.{End}
-use Rattle.history_book.specs.declared.entries.Entry.TheVariants.{Arrived, Ended, Placed}
+use Rattle.history_book.specs.declared.entries.Entry.TheVariants.{Arrived, Did, Ended, Placed}
+use Rattle.home_types.specs.Commands.{driven, reads, register_after}
 use Rattle.home_types.specs.HomeStates.{stand_at}
+use Rattle.home_types.specs.Kinds.{kind_at}
+use Rattle.home_types.specs.declared.commands.Answer.{Answer}
+use Rattle.home_types.specs.declared.commands.Answer.TheVariants.{Fine}
 use Rattle.home_types.specs.declared.commands.Command.{Command}
-use Rattle.home_types.specs.declared.items.Item.TheVariants.{Back, Failed, Ran}
 use Rattle.home_types.specs.declared.items.Item.{Item}
-use Rattle.lock_leasing.specs.Configurations.{Commands, Grips, Probes, Undoes, no_grips}
+use Rattle.lock_leasing.specs.Configurations.{Commands, Grips, Probes, Purpose, Undoes, no_grips}
 use Rattle.lock_leasing.specs.Waits.{grip_wait}
 use Rattle.std.proofs.Common.{ap, arith, cond, refl, subst, sym, ◌∙◌}
 use Rattle.std.proofs.lemmas.Grind.{common_steps}
 use Rattle.std.proofs.lemmas.List.{take-append-drop}
-use Rattle.std.specs.List.{list_any}
-use Rattle.std.specs.Prelude.{Bool, List, None, Option, Some, [], count_by, drop, false, is_none, is_some, length, nat_lt, not, option_map, slice_get, suc, take, true, unwrap_or, zero, ℕ, ◌&&◌, ◌++◌, ◌+◌, ◌<◌, ◌==◌, ◌||◌, ◌∷◌, ◌≡◌}
-use Rattle.window_order.proofs.Grips.{HoldsNone, fits_other, fits_same, held_none, holds_none, in_place, may_command, may_undo}
+use Rattle.std.specs.Prelude.{Bool, List, None, Option, Some, [], count_by, drop, false, if◌then◌else◌, is_none, is_some, length, nat_lt, not, option_map, slice_get, slice_index_or, suc, take, true, unwrap_or, zero, ℕ, ◌&&◌, ◌++◌, ◌+◌, ◌<◌, ◌==◌, ◌||◌, ◌∷◌, ◌≡◌}
+use Rattle.window_order.proofs.Firsts.{IsNewest, calm_behind, did_history, seen_view, unseen_behind}
+use Rattle.window_order.proofs.Grips.{HoldsNone, fits_other, fits_same, fits_without, held_none, held_other, held_own, holds_none, in_place, may_command, may_undo, none_left}
 use Rattle.window_order.proofs.HistoryOrder.{placed_history, same_history}
-use Rattle.window_order.proofs.ReadFacts.{IsRead, lacks_count, rest_drop, runs_distinct}
+use Rattle.window_order.proofs.ReadFacts.{IsRead, drives_same, rest_drop, rest_next}
+use Rattle.window_order.proofs.Runs.{cut_live, four, lacks_parts, live_run, live_uncommitted, run_positive, state_by, three}
 use Rattle.window_order.specs.OrderKept.{GripsFit, OrderIsKept}
-use Rattle.window_order.specs.ReadWindows.{held_by, window_of}
-
--- Runs
-
--- a run of the window has no number 0
-pub run_positive : (w : Setting) (r : ℕ) → is_run w.runs r ≡ true → (p : ℕ) × (r ≡ suc p)
-run_positive w zero run = absurd (cc)
-run_positive w (suc p) run = (p, refl)
-
-both : (a b : Bool) → (a && b) ≡ true → (a ≡ true) × (b ≡ true)
-both a b h = (grind (arith, common_steps), grind (arith, common_steps))
-
-three : (a b c : Bool) → (a && b && c) ≡ true → (a ≡ true) × (b ≡ true) × (c ≡ true)
-three a b c h = (grind (arith, common_steps), grind (arith, common_steps), grind (arith, common_steps))
-
-four : (a b c d : Bool) → (a && b && c && d) ≡ true → a ≡ true
-four a b c d h = grind (arith, common_steps)
-
-none_ended : (e : Option End) → is_none e ≡ true → unwrap_or (option_map is_committing e) false ≡ false
-none_ended None h = refl
-none_ended (Some x) h = absurd (cc)
-
-not_aborted : (e : Option End) → is_none e ≡ true → unwrap_or (option_map is_abort e) false ≡ false
-not_aborted None h = refl
-not_aborted (Some x) h = absurd (cc)
-
-live_placed : (n : Reading) (r : ℕ) → is_live n r ≡ true → is_some (n.run r).placed ≡ true
-live_placed n r live = (both (is_some (n.run r).placed) (is_none (n.run r).ended) live).0
-
-pub live_uncommitted : (n : Reading) (r : ℕ) → is_live n r ≡ true → is_committed n r ≡ false
-live_uncommitted n r live = none_ended (n.run r).ended (both (is_some (n.run r).placed) (is_none (n.run r).ended) live).1
-
-live_run : (w : Setting) (n : Reading) (r : ℕ) → IsRead w n → is_live n r ≡ true → is_run w.runs r ≡ true
-live_run w n r read live = (read.shaped r).known ((read.shaped r).arrived (live_placed n r live))
-
-any_ran : (r : ℕ) (line : List Item) → any_run (λ q. q == r) line ≡ list_any (is_ran r) line
-unfolding any_run
-any_ran r [] = refl
-any_ran r (Ran q ∷ is) = ap (λ b. (q.0 == r) || b) (any_ran r is)
-any_ran r (Failed e k ∷ is) = any_ran r is
-any_ran r (Back e k ∷ is) = any_ran r is
-
--- what is known of a run, by what its history says
-abbrev pub state_by : Setting → Grips → ℕ → OfRun → RunState
-state_by w g r o = record {
-  commands = commands_of w.runs r;
-  answers = o.answers;
-  committed = unwrap_or (option_map is_committing o.ended) false;
-  doomed = is_some o.doomed;
-  undid = λ d. (o.on d).undid;
-  grip = λ d. held_by w r (g d);
-}
-
--- a live run stands in the line
-pub cut_live : (w : Setting) (n : Reading) (r : ℕ) → IsRead w n → is_live n r ≡ true → CutAt r n.line
-cut_live w n r read live = cut_at r n.line (runs_distinct n read.once) (any_ran r n.line ∙ read.standing.line r ∙ (λ i. live_placed n r live i && not (not_aborted (n.run r).ended (both (is_some (n.run r).placed) (is_none (n.run r).ended) live).1 i)))
-
--- a run that is not placed does not
-lacks_parts : (r : ℕ) (front back : List Item) → count_by (is_ran r) (front ++ back) ≡ 0 → Lacks r front × Lacks r back
-lacks_parts r front back none = (lacks_count r front (omega (arith, none, total)), lacks_count r back (omega (arith, none, total)))
-  where
-    total : count_by (is_ran r) (front ++ back) ≡ count_by (is_ran r) front + count_by (is_ran r) back
-    total = count_append (is_ran r) front back
+use Rattle.window_order.specs.ReadWindows.{held_by, probe_of, run_state, window_of}
 
 -- The start
 
@@ -300,3 +245,158 @@ commits_kept w n g held r read may free kept = record {
     drop_all_commands : (xs : List Command) → drop (length xs) xs ≡ []
     drop_all_commands [] = refl
     drop_all_commands (x ∷ xs) = drop_all_commands xs
+
+-- A command that was out is answered
+
+-- what is known of a command that is out
+pub record IsOut (w : Setting) (n : Reading) (d r k : ℕ) : Type 0 where
+  pub live : is_live n r ≡ true
+  pub number : k ≡ next_of n r
+  pub more : length (n.run r).answers < length (commands_of w.runs r)
+  pub device : d ≡ (command_at w.runs r k).device.0
+
+next_at : (d : ℕ) (cs : List Command) (k : ℕ) → unwrap_or (option_map (is_on d) (slice_get cs k)) false ≡ true → (k < length cs) × (d ≡ (slice_index_or cs k no_command).device.0)
+next_at d [] k h = absurd (cc)
+next_at d (c ∷ cs) zero h = (omega arith, same c.device.0 d h)
+  where
+    same : (x y : ℕ) → (x == y) ≡ true → y ≡ x
+    same x y h = grind (arith, common_steps)
+next_at d (c ∷ cs) (suc k) h = let rest = next_at d cs k h in (omega (arith, rest.0), rest.1)
+
+pub out_is : (w : Setting) (n : Reading) (g : Grips) (d r k : ℕ) → GripsFit w n g → g d ≡ Some (record { maker = r; purpose = Commands k }) → IsOut w n d r k
+out_is w n g d r k f at = record { live = parts.0; number = number; more = next.0; device = next.1 ∙ ap (λ x. (command_at w.runs r x).device.0) (sym number) }
+  where
+    parts : (is_live n r ≡ true) × (is_next_on w n r d ≡ true) × ((k == next_of n r) ≡ true)
+    parts = three (is_live n r) (is_next_on w n r d) (k == next_of n r) (f.runs.commands d r k at)
+
+    same : (x y : ℕ) → (x == y) ≡ true → x ≡ y
+    same x y h = grind (arith, common_steps)
+
+    number : k ≡ next_of n r
+    number = same k (next_of n r) parts.2
+
+    next : (next_of n r < length (commands_of w.runs r)) × (d ≡ (command_at w.runs r (next_of n r)).device.0)
+    next = next_at d (commands_of w.runs r) (next_of n r) parts.1
+
+-- the run's next command, and those behind it
+next_rest : (w : Setting) (n : Reading) (g : Grips) (r k : ℕ) → k ≡ next_of n r → length (n.run r).answers < length (commands_of w.runs r) → rest (run_state w n g r) ≡ command_at w.runs r k ∷ drop (next_of n r + 1) (commands_of w.runs r)
+next_rest w n g r k number more = rest_next (commands_of w.runs r) (n.run r).answers more ∙ ap (λ x. command_at w.runs r x ∷ drop (next_of n r + 1) (commands_of w.runs r)) (sym number)
+
+-- the run gets an answer and its grip comes home
+pub gets_answer : (w : Setting) (n : Reading) (g : Grips) (r k : ℕ) (a : Answer) → k ≡ next_of n r → length (n.run r).answers < length (commands_of w.runs r)
+    → GetsAnswer (run_state w n g r) (run_state w (entry w n (Did (run_no r) k a)) (put g (command_at w.runs r k).device.0 None) r) (command_at w.runs r k) (drop (next_of n r + 1) (commands_of w.runs r)) a false
+gets_answer w n g r k a number more = record {
+  next = next_rest w n g r k number more;
+  commands = refl;
+  answers = ap (λ o. o.answers) own;
+  committed = ap (λ o. unwrap_or (option_map is_committing o.ended) false) own;
+  doomed = ap (λ o. is_some o.doomed) own ∙ or_false (is_some old.doomed);
+  undid = λ e. ap (λ o. (o.on e).undid) own ∙ put_keeps (λ x. x.undid) old.on d on_device refl e;
+  grip = λ e ne. ap (held_by w r) (put_other g d None e ne);
+  free = ap (held_by w r) (put_same g d None);
+}
+  where
+    c : Command
+    c = command_at w.runs r k
+
+    d : ℕ
+    d = c.device.0
+
+    old : OfRun
+    old = n.run r
+
+    on_device : OnDevice
+    on_device = answered (kind_at w.kinds d) c (is_some old.doomed) old.register a (old.on d)
+
+    new : OfRun
+    new = record old { answers = old.answers ++ a ∷ []; register = register_after c.job a old.register; answered_doomed = old.answered_doomed || is_some old.doomed; on = put old.on d on_device }
+
+    own : (entry w n (Did (run_no r) k a)).run r ≡ new
+    own = put_same n.run r new
+
+    or_false : (b : Bool) → b ≡ (b || false)
+    or_false true = refl
+    or_false false = refl
+
+-- .. in its place
+pub answered_place : (w : Setting) (n : Reading) (g : Grips) (held after : ℕ → ℕ) (d r k : ℕ) (a : Answer) (p : Purpose) → CutAt r n.line → g d ≡ Some (record { maker = r; purpose = p }) → ChangesInPlace (window_of w n g held) (window_of w (entry w n (Did (run_no r) k a)) (put g d None) after) r
+answered_place w n g held after d r k a p cut at =
+    in_place w n (entry w n (Did (run_no r) k a)) g (put g d None) held after r cut refl (λ q ne. put_other n.run r _ q ne) (λ q e ne. put_keeps (held_by w q) g d None (sym (ap (held_by w q) at ∙ held_other w r q p ne)) e)
+
+pub answered_fits : (w : Setting) (n : Reading) (g : Grips) (d r k : ℕ) (a : Answer) (p : Purpose) → is_run w.runs r ≡ true → g d ≡ Some (record { maker = r; purpose = p }) → GripsFit w n g → GripsFit w (entry w n (Did (run_no r) k a)) (put g d None)
+answered_fits w n g d r k a p run at f = fits_other w n (entry w n (Did (run_no r) k a)) (put g d None) r (λ q ne. put_other n.run r _ q ne) none (fits_without w n g d f)
+  where
+    none : HoldsNone (put g d None) r
+    none = let is = run_positive w r run in subst (HoldsNone (put g d None)) (sym is.1) (none_left w n g d is.0 p (at ∙ ap (λ x. Some (record { maker = x; purpose = p })) is.1) f)
+
+-- nothing behind the run has happened on the device of its command that is out
+pub out_newest : (w : Setting) (n : Reading) (g : Grips) (held : ℕ → ℕ) (d r k : ℕ) (cut : CutAt r n.line) → IsRead w n → OrderIsKept w n g held → g d ≡ Some (record { maker = r; purpose = Commands k }) → IsOut w n d r k → IsNewest n d r cut.back
+out_newest w n g held d r k cut read kept at out = record { unseen = λ none. unseen_behind w n g held d r cut read kept device used command; calm = λ none sound. calm_behind w n g held d r cut read kept device used (awaits none sound) }
+  where
+    c : Command
+    c = command_at w.runs r k
+
+    device : is_device w d ≡ true
+    device = kept.grips.homed d (ap is_some at)
+
+    left : rest (run_state w n g r) ≡ c ∷ drop (next_of n r + 1) (commands_of w.runs r)
+    left = next_rest w n g r k out.number out.more
+
+    used : touches w.runs r d ≡ true
+    used = subst (λ x. touches w.runs r x ≡ true) (sym out.device) (next_used (run_state w n g r) c (drop (next_of n r + 1) (commands_of w.runs r)) left)
+
+    reading_grip : (b : Bool) → is_command (if b then Reads else Writes) ≡ true
+    reading_grip true = refl
+    reading_grip false = refl
+
+    command : is_command (held_by w r (g d)) ≡ true
+    command = ap is_command (ap (held_by w r) at ∙ held_own w r (Commands k)) ∙ reading_grip (reads c.job)
+
+    pending : uses d (rest (run_state w n g r)) ≡ true
+    pending = ap (uses d) left ∙ self d c.device.0 (uses d (drop (next_of n r + 1) (commands_of w.runs r))) out.device
+      where
+        self : (x y : ℕ) (b : Bool) → x ≡ y → ((y == x) || b) ≡ true
+        self x y b h = grind (arith, common_steps)
+
+    open_first : (x y z v : Bool) → x ≡ false → y ≡ false → z ≡ true → v ≡ false → (is_open (stage_of x y z) && not v) ≡ true
+    open_first x y z v h k e f = grind (arith, common_steps)
+
+    awaits : did n r d ≡ false → is_doomed n r ≡ false → awaits_first (usage w.kinds (run_state w n g r) d) ≡ true
+    awaits none sound = open_first (is_committed n r) (is_doomed n r) (uses d (rest (run_state w n g r))) (is_some (device_summary w.kinds (run_state w n g r) d).view) (live_uncommitted n r out.live) sound pending (ap is_some ((read.summarized r).view d) ∙ seen_view (view_of n r d) ∙ none)
+
+wrote_at : (w : Setting) (n : Reading) (g : Grips) (held : ℕ → ℕ) (r k : ℕ) → IsRead w n → g (command_at w.runs r k).device.0 ≡ Some (record { maker = r; purpose = Commands k }) → reads (command_at w.runs r k).job ≡ false → IsOut w n (command_at w.runs r k).device.0 r k → OrderIsKept w n g held
+    → OrderIsKept w (entry w n (Did (run_no r) k Fine)) (put g (command_at w.runs r k).device.0 None) (put held (command_at w.runs r k).device.0 (driven (kind_at w.kinds (command_at w.runs r k).device.0) (command_at w.runs r k).job (n.run r).register))
+wrote_at w n g held r k read at writes out kept = record {
+  grips = answered_fits w n g d r k Fine (Commands k) (live_run w n r read out.live) at kept.grips;
+  window = write_answered w.kinds (window_of w n g held) (window_of w (entry w n (Did (run_no r) k Fine)) (put g d None) (put held d v)) r c (drop (next_of n r + 1) (commands_of w.runs r)) false (record {
+    place = answered_place w n g held (put held d v) d r k Fine (Commands k) cut at;
+    answer = gets_answer w n g r k Fine out.number out.more;
+    live = live_uncommitted n r out.live;
+    out = ap (held_by w r) at ∙ held_own w r (Commands k) ∙ ap (λ b. if b then Reads else Writes) writes;
+    job = writes;
+    up = refl;
+    held = put_same held d v ∙ sym (drives_same (kind_at w.kinds d) c.job (summary_of w.kinds (run_state w n g r)).register ∙ ap (driven (kind_at w.kinds d) c.job) (read.summarized r).register);
+    probe = ap probe_of (put_same g d None) ∙ sym (ap probe_of at);
+    still = λ e ne. record { up = refl; held = put_other held d v e ne; probe = ap probe_of (put_other g d None e ne) };
+  }) kept.window;
+  history = λ e. did_history w n r k Fine cut read (out_newest w n g held d r k cut read kept at out) e (kept.history e);
+}
+  where
+    c : Command
+    c = command_at w.runs r k
+
+    d : ℕ
+    d = c.device.0
+
+    v : ℕ
+    v = driven (kind_at w.kinds d) c.job (n.run r).register
+
+    cut : CutAt r n.line
+    cut = cut_live w n r read out.live
+
+pub wrote_kept : (w : Setting) (n : Reading) (g : Grips) (held : ℕ → ℕ) (d r k : ℕ) → IsRead w n → g d ≡ Some (record { maker = r; purpose = Commands k }) → reads (command_at w.runs r k).job ≡ false → OrderIsKept w n g held
+    → OrderIsKept w (entry w n (Did (run_no r) k Fine)) (put g d None) (put held d (driven (kind_at w.kinds d) (command_at w.runs r k).job (n.run r).register))
+wrote_kept w n g held d r k read at writes kept =
+    let out = out_is w n g d r k kept.grips at in
+    subst (λ x. OrderIsKept w (entry w n (Did (run_no r) k Fine)) (put g x None) (put held x (driven (kind_at w.kinds x) (command_at w.runs r k).job (n.run r).register))) (sym out.device)
+    (wrote_at w n g held r k read (subst (λ x. g x ≡ Some (record { maker = r; purpose = Commands k })) out.device at) writes (subst (λ x. IsOut w n x r k) out.device out) kept)
