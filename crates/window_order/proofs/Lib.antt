@@ -1,3 +1,4 @@
 pub mod ReadFacts
 pub mod PromisedWords
 pub mod StandingValues
+pub mod SettledOrders
