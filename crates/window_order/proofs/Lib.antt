@@ -2,3 +2,4 @@ pub mod ReadFacts
 pub mod PromisedWords
 pub mod StandingValues
 pub mod SettledOrders
+pub mod WindowEnds
