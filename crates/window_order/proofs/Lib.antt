@@ -3,3 +3,5 @@ pub mod PromisedWords
 pub mod StandingValues
 pub mod SettledOrders
 pub mod WindowEnds
+pub mod PromisedClauses
+pub mod Promises

@@ -1,10 +1,14 @@
 -- The end of a window, where no run is live: its line is a serial order for its history, and its last state agrees with the serial execution of the line.
-use Rattle.command_rules.specs.Rosters.{followed_by, follows}
+use Rattle.command_rules.specs.Rosters.{command_at, followed_by, follows, is_run, touches_from}
+use Rattle.history_book.proofs.Shapes.{put_all}
 use Rattle.history_book.proofs.Standing.{is_abort, stands_in}
-use Rattle.history_book.specs.Histories.{answers_in, executed}
+use Rattle.history_book.specs.Histories.{answers_in, entry, executed, more_if, reading}
 use Rattle.history_book.specs.Lines.{behind, is_event_on, is_ran, of_run}
-use Rattle.history_book.specs.Readings.{Event, First, Last, Mark, OfRun, Reading, did, events_of, is_committed, is_committing, is_live}
+use Rattle.history_book.specs.Readings.{Event, First, Last, Mark, OfRun, PlacedAt, Reading, did, events_of, is_access, nothing_read, is_committed, is_committing, is_live}
 use Rattle.history_book.specs.Settings.{Setting, is_weak}
+use Rattle.history_book.specs.declared.entries.Entry.TheVariants.{Arrived, Did, Doomed, Ended, Fell, Placed, Rose, Undid}
+use Rattle.history_book.specs.declared.entries.Entry.{Entry}
+use Rattle.std.proofs.lemmas.List.Folds.{list_all-append}
 use Rattle.history_book.specs.declared.entries.End.TheVariants.{Aborted, Committed}
 use Rattle.history_book.specs.declared.entries.End.{End}
 use Rattle.home_types.specs.HomeStates.{nowhere, stand_at}
@@ -19,13 +23,22 @@ use Rattle.std.proofs.lemmas.Grind.{common_steps}
 use Rattle.std.proofs.lemmas.List.FromFn.{get_or-map-range_with_len, length-map-range_with_len}
 use Rattle.std.specs.List.{cons_option, list_all, list_any}
 use Rattle.std.specs.Option.{option_or}
-use Rattle.std.specs.Prelude.{Bool, IsTrue, List, None, Option, Some, [], cond, count_by, false, filter, filter_map, fold, if◌then◌else◌, is_none, is_some, length, not, option_map, true, unwrap_or, ℕ, ◌&&◌, ◌<◌, ◌==◌, ◌||◌, ◌∷◌, ◌≡◌}
+use Rattle.std.specs.Prelude.{◌+◌, ◌++◌, Bool, IsTrue, List, None, Option, Some, [], cond, count_by, false, filter, filter_map, fold, if◌then◌else◌, is_none, is_some, length, not, option_map, true, unwrap_or, ℕ, ◌&&◌, ◌<◌, ◌==◌, ◌||◌, ◌∷◌, ◌≡◌}
 use Rattle.window_order.proofs.ReadFacts.{IsRead}
 use Rattle.window_order.proofs.SettledOrders.{same_home, settled_agree}
 use Rattle.window_order.specs.OrderKept.{OrderIsKept}
 
 abbrev pub NoneIsLive : Reading → Type 0
 NoneIsLive n = (r : ℕ) → is_live n r ≡ false
+
+-- no run is live where each run of the window has ended
+pub none_is_live : (w : Setting) (n : Reading) → IsRead w n → ((r : ℕ) → is_run w.runs r ≡ true → is_some (n.run r).ended ≡ true) → NoneIsLive n
+none_is_live w n s ended r = by (n.run r).placed (n.run r).ended (λ e. ended r ((s.shaped r).known ((s.shaped r).arrived e)))
+  where
+    by : (p : Option PlacedAt) (e : Option End) → (is_some p ≡ true → is_some e ≡ true) → (is_some p && is_none e) ≡ false
+    by None e h = refl
+    by (Some p) None h = sym (h refl)
+    by (Some p) (Some e) h = refl
 
 clash : (x : Bool) → x ≡ true → x ≡ false → ⊥
 clash x e f = grind (arith, common_steps)
@@ -60,6 +73,36 @@ is_mark_on d (Last r) = true
 -- each event of a device's log is one of the device
 abbrev pub LogsOwnEvents : Reading → Type 0
 LogsOwnEvents n = (d : ℕ) → list_all (is_mark_on d) (n.log d) ≡ true
+
+events_more : (d : ℕ) (b : Bool) (m : Mark) (marks : List Mark) → is_mark_on d m ≡ true → list_all (is_mark_on d) marks ≡ true → list_all (is_mark_on d) (more_if b m marks) ≡ true
+events_more d true m marks own h = list_all-append (is_mark_on d) marks (m ∷ []) ∙ grind (arith, common_steps)
+events_more d false m marks own h = h
+
+own_step : (w : Setting) (n : Reading) (e : Entry) → LogsOwnEvents n → LogsOwnEvents (entry w n e)
+own_step w n (Arrived r m) s = s
+own_step w n (Placed r at m) s = s
+own_step w n (Did r c a) s =
+    put_all (λ d marks. list_all (is_mark_on d) marks ≡ true) n.log (command_at w.runs r.0 c).device.0 _ s
+    (events_more (command_at w.runs r.0 c).device.0 (not (touches_from w.runs r.0 (command_at w.runs r.0 c).device.0 (c + 1))) (Last r.0) _ refl
+    (events_more (command_at w.runs r.0 c).device.0 (is_access a && is_none ((n.run r.0).on (command_at w.runs r.0 c).device.0).view) (First r.0) (n.log (command_at w.runs r.0 c).device.0) refl (s (command_at w.runs r.0 c).device.0)))
+own_step w n (Undid r d drove) s = s
+own_step w n (Fell d) s = put_all (λ e marks. list_all (is_mark_on e) marks ≡ true) n.log d.0 (n.log d.0 ++ Event (Failed d (n.fell d.0 + 1)) ∷ []) s (events_more d.0 true (Event (Failed d (n.fell d.0 + 1))) (n.log d.0) (same d.0) (s d.0))
+  where
+    same : (k : ℕ) → (k == k) ≡ true
+    same k = grind (arith, common_steps)
+own_step w n (Rose d) s = put_all (λ e marks. list_all (is_mark_on e) marks ≡ true) n.log d.0 (n.log d.0 ++ Event (Back d (n.rose d.0 + 1)) ∷ []) s (events_more d.0 true (Event (Back d (n.rose d.0 + 1))) (n.log d.0) (same d.0) (s d.0))
+  where
+    same : (k : ℕ) → (k == k) ≡ true
+    same k = grind (arith, common_steps)
+own_step w n (Doomed r cause) s = s
+own_step w n (Ended r e) s = s
+
+own_from : (w : Setting) (n : Reading) (h : List Entry) → LogsOwnEvents n → LogsOwnEvents (fold (entry w) n h)
+own_from w n [] s = s
+own_from w n (e ∷ h) s = own_from w (entry w n e) h (own_step w n e s)
+
+pub logs_own_events : (w : Setting) (h : List Entry) → LogsOwnEvents (reading w h)
+logs_own_events w h = own_from w (nothing_read w) h (λ d. refl)
 
 abbrev mark_in : Reading → ℕ → Mark → Option Item
 mark_in n d (First r) = if is_in_line n r && not (is_late n r d) then Some (Ran (record { 0 = r })) else None
