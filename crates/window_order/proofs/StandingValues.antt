@@ -1,6 +1,11 @@
 -- Where a device stands: at its standing value, where it is home and up, and where a command's grip of it is out.
 use Rattle.command_rules.specs.Rosters.{commands_of, is_on, touches}
+use Rattle.device_order.proofs.Claims.{effect}
 use Rattle.device_order.proofs.LineEntries.{used_at}
+use Rattle.device_order.proofs.LineWords.{stand_line}
+use Rattle.device_order.specs.LineWords.{at_device, effective_writer, standing_value_on}
+use Rattle.device_order.specs.Records.{walk_start}
+use Rattle.device_order.specs.declared.records.Grip.TheVariants.{Free, Undoes as HeldToUndo}
 use Rattle.device_order.proofs.Standing.{stands}
 use Rattle.device_order.specs.Claims.{StandsAt, standing_value as device_standing_value}
 use Rattle.device_order.specs.LineEntries.{entries, entry_if, usage, with_entry}
@@ -12,14 +17,14 @@ use Rattle.device_order.specs.declared.records.OrderEntry.TheVariants.{Occurred,
 use Rattle.device_order.specs.declared.records.Usage.{Usage}
 use Rattle.history_book.proofs.Standing.{stands_in}
 use Rattle.history_book.specs.Lines.{is_ran}
-use Rattle.history_book.specs.Readings.{OfRun, Reading, has_written, is_live, is_next_on, next_of}
+use Rattle.history_book.specs.Readings.{OfRun, Reading, has_written, is_doomed, is_live, is_next_on, next_of}
 use Rattle.history_book.specs.Settings.{Setting, is_device, is_weak}
 use Rattle.home_types.specs.HomeStates.{stand_at}
 use Rattle.home_types.specs.declared.commands.Command.{Command}
 use Rattle.home_types.specs.declared.items.Item.TheVariants.{Back, Failed, Ran}
 use Rattle.home_types.specs.declared.items.Item.{Item}
 use Rattle.lock_leasing.specs.Configurations.{Commands, Grip, Grips, Probes, Purpose, Undoes, grips_command, is_command}
-use Rattle.lock_leasing.specs.Words.{Write, effective_write, is_undone, standing_value, write_of}
+use Rattle.lock_leasing.specs.Words.{Write, effective_write, is_undone, last_some, standing_value, write_of}
 use Rattle.std.proofs.Common.{ap, arith, refl, subst, sym, ◌∙◌}
 use Rattle.std.proofs.lemmas.Grind.{common_steps}
 use Rattle.std.specs.List.{list_any}
@@ -151,3 +156,69 @@ stands_out w n g held d r k s o weak device out =
   where
     own : (r : ℕ) → ((r == r) && true) ≡ true
     own r = grind (arith, common_steps)
+
+-- a device of which the grip of an undo is out is driven to its standing value
+pub stands_undone : (w : Setting) (n : Reading) (g : Grips) (held : ℕ → ℕ) (d r v : ℕ) → IsRead w n → OrderIsKept w n g held → is_weak w.mode ≡ false → is_device w d ≡ true → g d ≡ Some (record { maker = r; purpose = Undoes v }) → v ≡ standing_value w n g d
+stands_undone w n g held d r v s o weak device out =
+    let at_value : StandsAt (device_of w.kinds (window_of w n g held) d) (device_standing_value (device_of w.kinds (window_of w n g held) d)) = stands (device_of w.kinds (window_of w n g held) d) (o.window.devices d (device_below w d device)) in
+    let may : IsTrue (is_live n r && is_doomed n r && has_written n r d && not ((n.run r).on d).undid) = o.grips.runs.undos d r v out in
+    let part : SplitsAt r n.line = splits_at r n.line (live_stands w n r s (live (is_live n r) (is_doomed n r) (has_written n r d) (not ((n.run r).on d).undid) may)) in
+    at_value.undone (entries w.kinds (λ q. run_state w n g q) d part.front) (entries w.kinds (λ q. run_state w n g q) d part.back) (usage w.kinds (run_state w n g r) d) v
+    (ap (entries w.kinds (λ q. run_state w n g q) d) part.at ∙ used_at w.kinds (λ q. run_state w n g q) d r part.front part.back (written_touches w n r d s (wrote (is_live n r) (is_doomed n r) (has_written n r d) (not ((n.run r).on d).undid) may)))
+    (ap (λ x. held_by w r x) out ∙ own (r == r) (same r))
+    ∙ standing_same w n g held d s weak
+  where
+    live : (a b c e : Bool) → IsTrue (a && b && c && e) → a ≡ true
+    live a b c e h = grind (arith, common_steps)
+
+    wrote : (a b c e : Bool) → IsTrue (a && b && c && e) → c ≡ true
+    wrote a b c e h = grind (arith, common_steps)
+
+    same : (k : ℕ) → (k == k) ≡ true
+    same k = grind (arith, common_steps)
+
+    own : (b : Bool) → b ≡ true → (if b then HeldToUndo v else Free) ≡ HeldToUndo v
+    own b e = ap (λ x. if x then HeldToUndo v else Free) e
+
+-- a device that a probe asks stands at its standing value, ..
+pub stands_asked : (w : Setting) (n : Reading) (g : Grips) (held : ℕ → ℕ) (d m : ℕ) → IsRead w n → OrderIsKept w n g held → is_weak w.mode ≡ false → is_device w d ≡ true → g d ≡ Some (record { maker = m; purpose = Probes None }) → held d ≡ standing_value w n g d
+stands_asked w n g held d m s o weak device out =
+    (stands (device_of w.kinds (window_of w n g held) d) (o.window.devices d (device_below w d device))).asked (ap (λ x. probe_of x) out) ∙ standing_same w n g held d s weak
+
+-- .. and one that a probe restores is restored to it
+pub stands_restored : (w : Setting) (n : Reading) (g : Grips) (held : ℕ → ℕ) (d m v : ℕ) → IsRead w n → OrderIsKept w n g held → is_weak w.mode ≡ false → is_device w d ≡ true → g d ≡ Some (record { maker = m; purpose = Probes (Some v) }) → v ≡ standing_value w n g d
+stands_restored w n g held d m v s o weak device out =
+    (stands (device_of w.kinds (window_of w n g held) d) (o.window.devices d (device_below w d device))).restored v (ap (λ x. probe_of x) out) ∙ standing_same w n g held d s weak
+
+-- the value at which a line has a device is that of the line's last write in effect, ..
+pub standing_on_line : (w : Setting) (n : Reading) (g : Grips) (d first : ℕ) (line : List Item) → IsRead w n → standing_value_on w.kinds (λ r. run_state w n g r) d first line ≡ value_of (last_some (write_of n g d) line) first
+standing_on_line w n g d first line s =
+    sym (stand_line w.kinds (λ r. run_state w n g r) d first true line)
+    ∙ (effect (walk_start true first) first None (entries w.kinds (λ r. run_state w n g r) d line) (record { stand = refl; settled = refl })).stand
+    ∙ value_along w n g d first None None line s refl
+
+writer_along : (w : Setting) (n : Reading) (g : Grips) (d : ℕ) (o : Option ℕ) (b : Option Write) (line : List Item) → IsRead w n → o ≡ option_map (λ e. e.run) b
+    → effective_writer w.kinds (λ r. run_state w n g r) d o line ≡ option_map (λ e. e.run) (fold (λ best x. option_or (write_of n g d x) best) b line)
+unfolding effective_writer
+writer_along w n g d o b [] s h = h
+writer_along w n g d o b (Ran r ∷ is) s h = writer_along w n g d (if at_device w.kinds (λ q. run_state w n g q) d usage_has_effect r.0 then Some r.0 else o) (option_or (write_of n g d (Ran r)) b) is s
+    (ap (λ x. if (touches w.runs r.0 d && x) then Some r.0 else o) (effect_held w n g r.0 d s) ∙ by ((n.run r.0).on d).wrote (is_undone n g r.0 d) (touches w.runs r.0 d) (λ e. written_touches w n r.0 d s e))
+  where
+    by : (v : Option ℕ) (x y : Bool) → (is_some v ≡ true → y ≡ true) → (if (y && (is_some v && not x)) then Some r.0 else o) ≡ option_map (λ e. e.run) (option_or (if x then None else option_map (λ k. record { run = r.0; value = k }) v) b)
+    by None true true k = h
+    by None true false k = h
+    by None false true k = h
+    by None false false k = h
+    by (Some v) true true k = h
+    by (Some v) true false k = h
+    by (Some v) false true k = refl
+    by (Some v) false false k = absurd (no (k refl))
+      where
+        no : false ≡ true → ⊥
+        no e = grind (arith, common_steps)
+writer_along w n g d o b (Failed e k ∷ is) s h = writer_along w n g d o b is s h
+writer_along w n g d o b (Back e k ∷ is) s h = writer_along w n g d o b is s h
+
+-- .. and its effective writer has made that write
+pub writer_on_line : (w : Setting) (n : Reading) (g : Grips) (d : ℕ) (line : List Item) → IsRead w n → effective_writer w.kinds (λ r. run_state w n g r) d None line ≡ option_map (λ e. e.run) (last_some (write_of n g d) line)
+writer_on_line w n g d line s = writer_along w n g d None None line s refl
