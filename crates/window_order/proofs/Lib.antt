@@ -5,3 +5,4 @@ pub mod SettledOrders
 pub mod WindowEnds
 pub mod PromisedClauses
 pub mod Promises
+pub mod CleanValues

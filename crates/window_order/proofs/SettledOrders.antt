@@ -69,7 +69,7 @@ use_value u s b first v c x y e f h = ap (λ o. if_written (is_some o && stage_i
     by (Some k) false false false = h
 
 -- the walk along the entries that a line makes ends with the value of its last committed write
-value_along : (w : Setting) (n : Reading) (g : Grips) (d first : ℕ) (z : WalkState) (b : Option ℕ) (line : List Item) → IsRead w n → z.value ≡ unwrap_or b first
+pub value_along : (w : Setting) (n : Reading) (g : Grips) (d first : ℕ) (z : WalkState) (b : Option ℕ) (line : List Item) → IsRead w n → z.value ≡ unwrap_or b first
     → (walk_end z (entries w.kinds (λ r. run_state w n g r) d line)).value ≡ unwrap_or (fold (λ best x. option_or (committed_write n d x) best) b line) first
 unfolding entries walk_end
 value_along w n g d first z b [] s h = h
