@@ -6,3 +6,6 @@ pub mod WindowEnds
 pub mod PromisedClauses
 pub mod Promises
 pub mod CleanValues
+pub mod Grips
+pub mod HistoryOrder
+pub mod Steps
