@@ -200,7 +200,7 @@ read_facts w h ok = record { shaped = shapes w h ok; standing = standing w h ok;
 count_cons : (r : ℕ) (i : Item) (is : List Item) → count_by (is_ran r) (i ∷ is) ≡ cond (is_ran r i) 1 0 + count_by (is_ran r) is
 count_cons r i is = sum_by-cons (λ y. cond (is_ran r y) 1 0) i is
 
-lacks_count : (r : ℕ) (line : List Item) → count_by (is_ran r) line ≡ 0 → Lacks r line
+pub lacks_count : (r : ℕ) (line : List Item) → count_by (is_ran r) line ≡ 0 → Lacks r line
 unfolding Lacks
 lacks_count r [] none = tt
 lacks_count r (Ran q ∷ is) none = (differ, lacks_count r is rest)
