@@ -60,7 +60,7 @@ untouched_unseen w n g held d q read none = at_ (did n q d) refl
     at_ true e = absurd (clash (uses d (commands_of w.runs q)) (is_some (device_summary w.kinds (run_state w n g q) d).view) (is_command (held_by w q (g d))) (did n q d) (did_touches w n q d read.shaped e) view e none)
     at_ false e = e
 
-none_seen : (w : Setting) (n : Reading) (g : Grips) (held : ℕ → ℕ) (d : ℕ) (is : List Item) → IsRead w n → any_run (at_device w.kinds (window_of w n g held).states d has_touched) is ≡ false → list_any (of_run (λ q. did n q d)) is ≡ false
+pub none_seen : (w : Setting) (n : Reading) (g : Grips) (held : ℕ → ℕ) (d : ℕ) (is : List Item) → IsRead w n → any_run (at_device w.kinds (window_of w n g held).states d has_touched) is ≡ false → list_any (of_run (λ q. did n q d)) is ≡ false
 unfolding any_run
 none_seen w n g held d [] read none = refl
 none_seen w n g held d (Ran q ∷ is) read none = let parts = neither (at_device w.kinds (window_of w n g held).states d has_touched q.0) (any_run (at_device w.kinds (window_of w n g held).states d has_touched) is) none in λ i. untouched_unseen w n g held d q.0 read parts.0 i || none_seen w n g held d is read parts.1 i

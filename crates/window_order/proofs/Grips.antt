@@ -198,7 +198,7 @@ held_own w r p = ap (λ b. if b then held_for w r p else Free) (self r)
     self x = grind (arith, common_steps)
 
 -- one run of the line changes in its place
-pub in_place : (w : Setting) (n m : Reading) (g h : Grips) (held after : ℕ → ℕ) (r : ℕ) → CutAt r n.line → m.line ≡ n.line → ((q : ℕ) → q ≢ r → m.run q ≡ n.run q) → ((q e : ℕ) → q ≢ r → held_by w q (h e) ≡ held_by w q (g e))
+abbrev pub in_place : (w : Setting) (n m : Reading) (g h : Grips) (held after : ℕ → ℕ) (r : ℕ) → CutAt r n.line → m.line ≡ n.line → ((q : ℕ) → q ≢ r → m.run q ≡ n.run q) → ((q e : ℕ) → q ≢ r → held_by w q (h e) ≡ held_by w q (g e))
     → ChangesInPlace (window_of w n g held) (window_of w m h after) r
 in_place w n m g h held after r cut line runs grips = record {
   front = cut.front;

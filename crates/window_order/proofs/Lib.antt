@@ -10,4 +10,5 @@ pub mod Grips
 pub mod HistoryOrder
 pub mod Runs
 pub mod Firsts
+pub mod Goes
 pub mod Steps

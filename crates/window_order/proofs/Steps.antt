@@ -2,23 +2,25 @@
 use Rattle.command_rules.specs.Rosters.{command_at, commands_of, is_on, is_run, no_command, run_no, touches}
 use Rattle.device_order.proofs.InPlace.{next_used}
 use Rattle.device_order.proofs.WindowAnswers.{write_answered}
+use Rattle.device_order.proofs.WindowGrips.{command_out}
 use Rattle.device_order.proofs.WindowRuns.{run_commits, run_placed, window_begins}
 use Rattle.device_order.specs.LineChanges.{Lacks}
-use Rattle.device_order.specs.LineEntries.{stage_of, usage}
+use Rattle.device_order.specs.LineEntries.{command_grip, stage_of, usage}
 use Rattle.device_order.specs.LineWords.{CutAt, is_calm_line}
 use Rattle.device_order.specs.RunStates.{device_summary, rest, summary_of, uses}
 use Rattle.device_order.specs.Summaries.{AreHomed}
-use Rattle.device_order.specs.Usages.{awaits_first, is_command, is_open}
+use Rattle.device_order.specs.Usages.{awaits_first, is_command, is_down, is_open}
 use Rattle.device_order.specs.WindowSteps.{ChangesInPlace, GetsAnswer}
 use Rattle.device_order.specs.Windows.{WindowInvariant}
 use Rattle.device_order.specs.declared.records.Grip.TheVariants.{Reads, Writes}
+use Rattle.history_book.proofs.Searches.{some_is}
 use Rattle.history_book.proofs.Shapes.{IsShaped}
 use Rattle.history_book.proofs.Snoc.{put_keeps, put_other, put_same}
 use Rattle.history_book.proofs.Standing.{aborted}
 use Rattle.history_book.specs.Histories.{answered, entry}
 use Rattle.history_book.specs.Lines.{is_ran}
 use Rattle.history_book.specs.Plans.{planned_times, split_of}
-use Rattle.history_book.specs.Readings.{OfRun, OnDevice, PlacedAt, Reading, did, is_committed, is_committing, is_doomed, is_live, is_next_on, next_of, nothing_read, put, view_of}
+use Rattle.history_book.specs.Readings.{OfRun, OnDevice, PlacedAt, Reading, did, is_committed, is_committing, is_doomed, is_live, is_next_on, next_command, next_of, nothing_read, put, sees_down, view_of}
 use Rattle.history_book.specs.Settings.{Setting, is_device}
 use Rattle.history_book.specs.WellFormed.{may_follow}
 use Rattle.history_book.specs.declared.entries.Cause.{Cause}
@@ -31,14 +33,16 @@ use Rattle.home_types.specs.declared.commands.Answer.{Answer}
 use Rattle.home_types.specs.declared.commands.Answer.TheVariants.{Fine}
 use Rattle.home_types.specs.declared.commands.Command.{Command}
 use Rattle.home_types.specs.declared.items.Item.{Item}
-use Rattle.lock_leasing.specs.Configurations.{Commands, Grips, Probes, Purpose, Undoes, no_grips}
-use Rattle.lock_leasing.specs.Waits.{grip_wait}
+use Rattle.lock_leasing.specs.Configurations.{Commands, Grip, Grips, Probes, Purpose, Undoes, is_out, no_grips}
+use Rattle.lock_leasing.specs.Waits.{behind_wait, dirty_wait, grip_wait}
+use Rattle.lock_leasing.specs.Words.{has_effect, live_before}
 use Rattle.std.proofs.Common.{ap, arith, cond, refl, subst, sym, ◌∙◌}
 use Rattle.std.proofs.lemmas.Grind.{common_steps}
 use Rattle.std.proofs.lemmas.List.{take-append-drop}
-use Rattle.std.specs.Prelude.{Bool, List, None, Option, Some, [], count_by, drop, false, if◌then◌else◌, is_none, is_some, length, nat_lt, not, option_map, slice_get, slice_index_or, suc, take, true, unwrap_or, zero, ℕ, ◌&&◌, ◌++◌, ◌+◌, ◌<◌, ◌==◌, ◌||◌, ◌∷◌, ◌≡◌}
+use Rattle.std.specs.Prelude.{Bool, List, None, Option, Some, [], count_by, drop, false, find, if◌then◌else◌, is_none, is_some, length, nat_lt, not, option_map, slice_get, slice_index_or, suc, take, true, unwrap_or, zero, ℕ, ◌&&◌, ◌++◌, ◌+◌, ◌<◌, ◌==◌, ◌||◌, ◌∷◌, ◌≡◌}
 use Rattle.window_order.proofs.Firsts.{IsNewest, calm_behind, did_history, seen_view, unseen_behind}
-use Rattle.window_order.proofs.Grips.{HoldsNone, fits_other, fits_same, fits_without, held_none, held_other, held_own, holds_none, in_place, may_command, may_undo, none_left}
+use Rattle.window_order.proofs.Goes.{clean_before, none_before, none_hold, open_behind, view_up}
+use Rattle.window_order.proofs.Grips.{HoldsNone, fits_other, fits_same, fits_with, fits_without, held_none, held_other, held_own, holds_none, in_place, may_command, may_undo, none_left}
 use Rattle.window_order.proofs.HistoryOrder.{placed_history, same_history}
 use Rattle.window_order.proofs.ReadFacts.{IsRead, drives_same, rest_drop, rest_next}
 use Rattle.window_order.proofs.Runs.{cut_live, four, lacks_parts, live_run, live_uncommitted, run_positive, state_by, three}
@@ -400,3 +404,79 @@ wrote_kept w n g held d r k read at writes kept =
     let out = out_is w n g d r k kept.grips at in
     subst (λ x. OrderIsKept w (entry w n (Did (run_no r) k Fine)) (put g x None) (put held x (driven (kind_at w.kinds x) (command_at w.runs r k).job (n.run r).register))) (sym out.device)
     (wrote_at w n g held r k read (subst (λ x. g x ≡ Some (record { maker = r; purpose = Commands k })) out.device at) writes (subst (λ x. IsOut w n x r k) out.device out) kept)
+
+-- A command goes out
+
+next_is : (cs : List Command) (k : ℕ) (c : Command) → slice_get cs k ≡ Some c → (k < length cs) × (slice_index_or cs k no_command ≡ c)
+next_is [] k c at = absurd (cc)
+next_is (x ∷ cs) zero c at = (omega arith, some_is x c at)
+next_is (x ∷ cs) (suc k) c at = let rest = next_is cs k c at in (omega (arith, rest.0), rest.1)
+
+pub goes_kept : (w : Setting) (n : Reading) (g : Grips) (held : ℕ → ℕ) (r : ℕ) (c : Command) → IsRead w n → is_run w.runs r ≡ true → is_live n r ≡ true → (n.run r).doomed ≡ None → grip_wait w g r ≡ None → next_command w n r ≡ Some c
+    → behind_wait w n g r c.device.0 ≡ None → dirty_wait w n g r c ≡ None → is_out g c.device.0 ≡ false → sees_down n r c.device.0 ≡ false → n.up c.device.0 ≡ true → is_device w c.device.0 ≡ true → OrderIsKept w n g held
+    → OrderIsKept w n (put g c.device.0 (Some (record { maker = r; purpose = Commands (next_of n r) }))) held
+goes_kept w n g held r c read run live sound free next behind dirty in' sees up device kept = record {
+  grips = fits_with w n g d r (Commands k) device may (λ q e. holds_none w g r kept.grips.homed free) kept.grips;
+  window = command_out w.kinds (window_of w n g held) (window_of w n (put g d (Some new)) held) r c later (record {
+    place = in_place w n n g (put g d (Some new)) held held r cut refl (λ q ne. refl) (λ q e ne. put_keeps (held_by w q) g d (Some new) (held_other w r q (Commands k) ne ∙ sym (ap (held_by w q) home)) e);
+    keeps = record { commands = refl; answers = refl; committed = refl; doomed = refl; undid = λ e ne. refl; grip = λ e ne. ap (held_by w r) (put_other g d (Some new) e ne) };
+    next = left;
+    live = live_uncommitted n r live;
+    counts = ap is_some sound;
+    undid = refl;
+    out = ap (held_by w r) (put_same g d (Some new)) ∙ held_own w r (Commands k) ∙ ap (λ (x : Command). command_grip x.job) is.1;
+    home = record { free = none_hold w n g held d n.line home; unprobed = ap probe_of home };
+    up = up;
+    view = ap is_down ((read.summarized r).view d) ∙ view_up (view_of n r d) sees;
+    none_before = none_before w n g held r d cut read behind;
+    clean = λ reading none. clean_before w n g held r d cut read (open_behind w n g held d r cut read kept device used pending) (sym ((read.summarized r).wrote d) ∙ none) (sym (clear reading (sym ((read.summarized r).wrote d) ∙ none)) ∙ dirty);
+    still = λ e. record { up = refl; held = refl; probe = put_keeps probe_of g d (Some new) (sym (ap probe_of home)) e };
+  }) kept.window;
+  history = kept.history;
+}
+  where
+    d : ℕ
+    d = c.device.0
+
+    k : ℕ
+    k = next_of n r
+
+    new : Grip
+    new = record { maker = r; purpose = Commands k }
+
+    later : List Command
+    later = drop (k + 1) (commands_of w.runs r)
+
+    cut : CutAt r n.line
+    cut = cut_live w n r read live
+
+    is : (k < length (commands_of w.runs r)) × (command_at w.runs r k ≡ c)
+    is = next_is (commands_of w.runs r) k c next
+
+    left : rest (run_state w n g r) ≡ c ∷ later
+    left = rest_next (commands_of w.runs r) (n.run r).answers is.0 ∙ ap (λ x. x ∷ later) is.1
+
+    used : touches w.runs r d ≡ true
+    used = next_used (run_state w n g r) c later left
+
+    nothing : (o : Option Grip) → is_some o ≡ false → o ≡ None
+    nothing None h = refl
+    nothing (Some x) h = absurd (cc)
+
+    home : g d ≡ None
+    home = nothing (g d) in'
+
+    self : (x : ℕ) (b : Bool) → ((x == x) || b) ≡ true
+    self x b = grind (arith, common_steps)
+
+    same : (x : ℕ) → (x == x) ≡ true
+    same x = grind (arith, common_steps)
+
+    may : may_command w r d k (n.run r) ≡ true
+    may = λ i. live i && ((ap (λ o. unwrap_or (option_map (is_on d) o) false) next ∙ same d) i) && same k i
+
+    pending : is_open (usage w.kinds (run_state w n g r) d).stage ≡ true
+    pending = λ i. is_open (stage_of (live_uncommitted n r live i) (is_some (sound i)) ((ap (uses d) left ∙ self d (uses d later)) i))
+
+    clear : reads c.job ≡ true → ((n.run r).on d).wrote ≡ None → dirty_wait w n g r c ≡ find (λ x. has_effect n g x d) (live_before n r)
+    clear reading none = λ i. if reading i && not (sees i) && not (is_some (none i)) then find (λ x. has_effect n g x d) (live_before n r) else None
