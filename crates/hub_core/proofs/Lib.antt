@@ -9,3 +9,4 @@ pub mod StageFacts
 pub mod StageChoices
 pub mod LineOrder
 pub mod HistoryKept
+pub mod Kept
