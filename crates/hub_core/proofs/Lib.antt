@@ -5,4 +5,9 @@ pub mod Gives
 pub mod Afters
 pub mod Causes
 pub mod GiveCauses
+pub mod StageFacts
+pub mod StageChoices
+pub mod LineOrder
+pub mod HistoryKept
+pub mod Kept
 pub mod HubReads

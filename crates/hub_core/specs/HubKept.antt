@@ -14,12 +14,12 @@ use Rattle.hub_core.specs.Isolation.{IsStrict}
 use Rattle.hub_core.specs.JustifiedAborts.{IsJustified}
 use Rattle.hub_core.specs.Openings.{MayOpen}
 use Rattle.hub_core.specs.Stage.{StageAllows}
-use Rattle.lock_leasing.specs.Configurations.{Configuration, Grips, has_grip, read_of}
+use Rattle.lock_leasing.specs.Configurations.{Configuration, Grip, Grips, has_grip, is_command, read_of}
 use Rattle.lock_leasing.specs.Places.{PlacesAreScheduled}
 use Rattle.lock_leasing.specs.Waits.{strict_wait}
 use Rattle.lock_leasing.specs.Words.{has_touched, stamp_of}
 use Rattle.std.specs.List.{list_all}
-use Rattle.std.specs.Prelude.{Bool, IsTrue, List, None, [], false, length, nat_lt, true, ℕ, ◌&&◌, ◌||◌, ◌∷◌, ◌≡◌, ◌≤◌}
+use Rattle.std.specs.Prelude.{Bool, IsTrue, List, None, Some, [], false, length, nat_lt, true, ℕ, ◌&&◌, ◌||◌, ◌∷◌, ◌≡◌, ◌≤◌}
 use Rattle.window_order.specs.OrderKept.{OrderIsKept}
 
 -- the item is a run that was placed after this number of entries
@@ -53,6 +53,10 @@ is_plain (Doomed r cause) = false
 is_plain (Ended r Committed) = true
 is_plain (Ended r (Aborted cause)) = false
 
+-- in this stage a device is out for a command alone
+abbrev pub CommandsAreOut : Grips → Type 0
+CommandsAreOut g = (d : ℕ) (grip : Grip) → g d ≡ Some grip → IsTrue (is_command grip.purpose)
+
 -- what is kept of the history and the grips
 pub record HistoryIsKept (s : Configuration) : Type 0 where
   pub well_formed : IsWellFormed s.setting (entries_of s.history)
@@ -70,5 +74,7 @@ pub record ConfigurationIsKept (s : Configuration) (rounds opened : ℕ) (held :
   pub opens : MayOpen s.setting rounds opened
   pub stage : StageAllows s.setting rounds
   pub kinds : length s.setting.kinds ≡ length s.setting.first
+  pub probes : (d : ℕ) → s.probes d ≤ rounds
+  pub commands : CommandsAreOut s.grips
   pub history : HistoryIsKept s
   pub order : OrderIsKept s.setting (read_of s) s.grips held

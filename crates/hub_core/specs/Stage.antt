@@ -1,13 +1,20 @@
 -- What this stage of the hub is built for: the global model, on a home with every device up, runs of must `set` commands that follow no run, and no probes.
-use Rattle.command_rules.specs.Rosters.{commands_of, followed_by}
+use Rattle.command_rules.specs.Rosters.{commands_of, device_no, followed_by, is_run, run_no}
+use Rattle.history_book.specs.Readings.{Reading, next_command, next_of}
 use Rattle.history_book.specs.Settings.{Setting}
+use Rattle.history_book.specs.declared.entries.End.TheVariants.{Committed}
+use Rattle.history_book.specs.declared.entries.Entry.TheVariants.{Arrived, Ended, Placed}
 use Rattle.home_types.specs.HomeStates.{stand_at}
 use Rattle.home_types.specs.declared.commands.Command.{Command}
 use Rattle.home_types.specs.declared.commands.Job.{Job}
 use Rattle.home_types.specs.declared.commands.Job.TheVariants.{Check, Load, Set, Store}
 use Rattle.home_types.specs.declared.modes.Scheduler.TheVariants.{Fcfs}
 use Rattle.home_types.specs.declared.modes.Visibility.TheVariants.{Global}
-use Rattle.std.specs.Prelude.{Bool, IsTrue, None, Some, false, length, slice_get, true, ℕ, ◌&&◌, ◌<◌, ◌≡◌}
+use Rattle.hub_core.specs.Steps.{Absent, Choice, HandsOut, Moves, Over, Waits, behind_case, first_case, only_if, strict_case}
+use Rattle.hub_core.specs.declared.waits.Why.TheVariants.{Busy}
+use Rattle.lock_leasing.specs.Configurations.{Commands, Grips, is_out}
+use Rattle.lock_leasing.specs.Waits.{grip_wait}
+use Rattle.std.specs.Prelude.{Bool, IsTrue, None, Some, [], false, is_none, length, not, option_map, slice_get, true, ℕ, ◌&&◌, ◌<◌, ◌∷◌, ◌≡◌}
 
 abbrev pub is_set : Job → Bool
 is_set (Set v) = true
@@ -22,3 +29,21 @@ pub record StageAllows (w : Setting) (rounds : ℕ) : Type 0 where
   pub follows_none : (r : ℕ) → followed_by w.runs r ≡ None
   pub up : (d : ℕ) → d < length w.first → (stand_at w.first d).up ≡ true
   pub no_probes : rounds ≡ 0
+
+-- The step of a run in this stage: the cases that are left
+
+-- the next command, with the number k: a run before it in the line holds its device, a live run stands before it, its device is out, or it goes out
+abbrev pub plain_command : Setting → Reading → Grips → ℕ → ℕ → Command → Choice
+plain_command w n g r k c = first_case (behind_case w n g r c ∷ strict_case w n r ∷ only_if (is_out g c.device.0) (Waits (Busy c.device)) ∷ []) (HandsOut c.device.0 (Commands k))
+
+-- the run arrives, is placed at the end of the line, has its next command, and at last commits
+abbrev pub plain_choice : Setting → Reading → Grips → ℕ → ℕ → Choice
+plain_choice w n g r m =
+    first_case
+    (only_if (not (is_run w.runs r)) Absent
+    ∷ option_map (λ e. Over e []) (n.run r).ended
+    ∷ option_map (λ d. Waits (Busy (device_no d))) (grip_wait w g r)
+    ∷ only_if (is_none (n.run r).arrived) (Moves (Arrived (run_no r) m ∷ []))
+    ∷ only_if (is_none (n.run r).placed) (Moves (Placed (run_no r) (length n.line) m ∷ []))
+    ∷ option_map (plain_command w n g r (next_of n r)) (next_command w n r) ∷ [])
+    (Over Committed (Ended (run_no r) Committed ∷ []))

@@ -1,0 +1,14 @@
+pub mod ReadFacts
+pub mod PromisedWords
+pub mod StandingValues
+pub mod SettledOrders
+pub mod WindowEnds
+pub mod PromisedClauses
+pub mod Promises
+pub mod CleanValues
+pub mod Grips
+pub mod HistoryOrder
+pub mod Runs
+pub mod Firsts
+pub mod Goes
+pub mod Steps

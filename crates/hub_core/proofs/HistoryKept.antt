@@ -1,0 +1,335 @@
+-- What is kept of a history and the grips, with one entry more.
+use Rattle.command_rules.specs.Rosters.{run_no, touches}
+use Rattle.history_book.proofs.Frames.{did_live}
+use Rattle.history_book.proofs.Lines.{any_taken}
+use Rattle.history_book.proofs.Searches.{Each, own_devices}
+use Rattle.history_book.proofs.Shapes.{shapes}
+use Rattle.history_book.proofs.Snoc.{Along_more, each_more, entries_on, put_keeps, put_other, put_same}
+use Rattle.history_book.proofs.Standing.{Standing, standing, stands_in}
+use Rattle.history_book.specs.Histories.{entries_of, entry, kept_by, reading}
+use Rattle.history_book.specs.Lines.{before, is_ran}
+use Rattle.history_book.specs.Plans.{planned_times, split_of}
+use Rattle.history_book.specs.Readings.{OfRun, PlacedAt, Reading, did, is_live, nothing_read, put}
+use Rattle.history_book.specs.Settings.{Setting, devices_of, is_device, is_strict}
+use Rattle.history_book.specs.WellFormed.{each_entry, may_follow}
+use Rattle.history_book.specs.declared.entries.End.TheVariants.{Committed}
+use Rattle.history_book.specs.declared.entries.Entry.{Entry}
+use Rattle.history_book.specs.declared.entries.Entry.TheVariants.{Arrived, Did, Ended, Placed}
+use Rattle.home_types.specs.declared.commands.Answer.{Answer}
+use Rattle.home_types.specs.declared.commands.Answer.TheVariants.{Fine}
+use Rattle.home_types.specs.declared.items.Item.TheVariants.{Ran}
+use Rattle.hub_core.proofs.Afters.{read_with}
+use Rattle.hub_core.proofs.LineOrder.{LineIsKnown, StampsAreBelow, before_more, end_line, is_alone_by, order_at_end, same_order, stamps_below, strict_fewer_by}
+use Rattle.hub_core.proofs.StageChoices.{live_stands}
+use Rattle.hub_core.specs.CleanReads.{entry_is_clean}
+use Rattle.hub_core.specs.HubKept.{ActsInTurn, HistoryIsKept, is_plain, placed_in_order}
+use Rattle.hub_core.specs.Isolation.{is_isolated}
+use Rattle.hub_core.specs.JustifiedAborts.{abort_is_justified}
+use Rattle.lock_leasing.specs.Configurations.{Commands, Configuration, Grip, Grips, Purpose, grips_command, has_grip, is_command, read_of}
+use Rattle.lock_leasing.specs.Places.{IsScheduled, PlacesAreScheduled}
+use Rattle.lock_leasing.specs.Waits.{strict_wait}
+use Rattle.lock_leasing.specs.Words.{has_touched, stamp_of}
+use Rattle.std.proofs.Common.{ap, arith, refl, subst, sym, ◌∙◌}
+use Rattle.std.proofs.lemmas.Grind.{common_steps}
+use Rattle.std.proofs.lemmas.List.Folds.{list_all-append}
+use Rattle.std.specs.List.{list_all, list_any}
+use Rattle.std.specs.Prelude.{Bool, IsTrue, List, None, Option, Some, [], false, if◌then◌else◌, is_none, is_some, length, nat_lt, not, option_map, true, unwrap_or, ℕ, ◌&&◌, ◌++◌, ◌==◌, ◌||◌, ◌∷◌, ◌≡◌, ◌≢◌, ◌≤◌}
+
+-- what an entry has to be that comes at this moment, and leaves these grips out
+pub record MayAdd (s : Configuration) (e : Entry) (m : ℕ) (g : Grips) : Type 0 where
+  pub follows : may_follow s.setting (read_of s) e ≡ true
+  pub plain : is_plain e ≡ true
+  pub clean : entry_is_clean s.setting (read_of s) e ≡ true
+  pub justified : abort_is_justified s.setting (read_of s) e ≡ true
+  pub scheduled : IsScheduled s.setting (read_of s) e
+  pub isolated : IsTrue (is_strict s.setting.mode) → is_isolated s.setting (read_of s) e ≡ true
+  pub moment : (entry s.setting (read_of s) e).moment ≤ m
+  pub in_order : IsTrue (placed_in_order (entry s.setting (read_of s) e) (entry s.setting (read_of s) e).line)
+  pub in_turn : ActsInTurn s.setting (entry s.setting (read_of s) e) g
+
+-- the configuration with one entry more
+abbrev pub added : Configuration → ℕ → ℕ → Grips → Entry → Configuration
+added s maker m g e = record s { history = s.history ++ kept_by maker (e ∷ []); moment = m; grips = g }
+
+pub history_added : (s : Configuration) (maker m : ℕ) (g : Grips) (e : Entry) → MayAdd s e m g → HistoryIsKept s → HistoryIsKept (added s maker m g e)
+history_added s maker m g e may kept =
+    record {
+      well_formed = subst (λ h. IsTrue (each_entry s.setting (may_follow s.setting) h)) (sym entries) (each_more s.setting (may_follow s.setting) (entries_of s.history) e kept.well_formed may.follows);
+      moment = subst (λ n. n.moment ≤ m) (sym read) may.moment;
+      plain = subst (λ h. IsTrue (list_all is_plain h)) (sym entries) (list_all-append is_plain (entries_of s.history) (e ∷ []) ∙ rw (kept.plain, may.plain) refl);
+      clean = subst (λ h. IsTrue (each_entry s.setting (entry_is_clean s.setting) h)) (sym entries) (each_more s.setting (entry_is_clean s.setting) (entries_of s.history) e kept.clean may.clean);
+      justified = subst (λ h. IsTrue (each_entry s.setting (abort_is_justified s.setting) h)) (sym entries) (each_more s.setting (abort_is_justified s.setting) (entries_of s.history) e kept.justified may.justified);
+      places = subst (λ h. PlacesAreScheduled s.setting h) (sym entries) (Along_more s.setting (IsScheduled s.setting) (nothing_read s.setting) (entries_of s.history) e kept.places may.scheduled);
+      isolated = λ strict. subst (λ h. IsTrue (each_entry s.setting (is_isolated s.setting) h)) (sym entries) (each_more s.setting (is_isolated s.setting) (entries_of s.history) e (kept.isolated strict) (may.isolated strict));
+      in_order = subst (λ n. IsTrue (placed_in_order n n.line)) (sym read) may.in_order;
+      in_turn = subst (λ n. ActsInTurn s.setting n g) (sym read) may.in_turn;
+    }
+  where
+    entries : entries_of (s.history ++ kept_by maker (e ∷ [])) ≡ entries_of s.history ++ e ∷ []
+    entries = entries_on s.history maker (e ∷ [])
+
+    read : reading s.setting (entries_of (s.history ++ kept_by maker (e ∷ []))) ≡ entry s.setting (read_of s) e
+    read = read_with s maker (e ∷ [])
+
+-- Runs that act in turn
+
+-- where the line stays, and no run becomes live
+turn_kept : (w : Setting) (n m : Reading) (h : Grips) → m.line ≡ n.line → ((q : ℕ) → is_live m q ≡ true → is_live n q ≡ true) → ((q d : ℕ) → IsTrue (is_live m q && (has_touched m h q d || has_grip h q d)) → strict_wait w n q ≡ None) → ActsInTurn w m h
+turn_kept w n m h line fewer waitless q d acts = strict_fewer_by w.runs w.kinds w.first w.mode.model w.mode.scheduler n m q (ap (before q) line) (λ x there now. fewer x now) (waitless q d acts)
+
+-- a run that acts with less acts with more
+acts_more : (l t c h l' t' c' h' : Bool) → (l ≡ true → l' ≡ true) → (t ≡ true → t' ≡ true) → (c ≡ true → c' ≡ true) → (h ≡ true → h' ≡ true) → (l && ((t || c) || h)) ≡ true → (l' && ((t' || c') || h')) ≡ true
+acts_more false t c h l' t' c' h' fl ft fc fh e = absurd (cc)
+acts_more true true c h l' t' c' h' fl ft fc fh e = rw (fl refl, ft refl) refl
+acts_more true false true h l' t' c' h' fl ft fc fh e = rw (fl refl, fc refl) (grind (arith, common_steps))
+acts_more true false false true l' t' c' h' fl ft fc fh e = rw (fl refl, fh refl) (grind (arith, common_steps))
+acts_more true false false false l' t' c' h' fl ft fc fh e = absurd (cc)
+
+same_true : {a b : Bool} → a ≡ b → a ≡ true → b ≡ true
+same_true p e = sym p ∙ e
+
+abbrev stamp_in : OfRun → ℕ
+stamp_in o = unwrap_or (option_map (λ p. p.stamp) o.placed) 0
+
+-- the order of placings where no run is placed
+order_kept : (n m : Reading) → m.line ≡ n.line → ((q : ℕ) → stamp_of m q ≡ stamp_of n q) → IsTrue (placed_in_order n n.line) → IsTrue (placed_in_order m m.line)
+order_kept n m line same ordered = ap (placed_in_order m) line ∙ same_order n m n.line same ∙ ordered
+
+arrival_turn : (w : Setting) (n : Reading) (g : Grips) (r m : ℕ) → ActsInTurn w n g → ActsInTurn w (entry w n (Arrived (run_no r) m)) g
+arrival_turn w n g r m turn = turn_kept w n (entry w n (Arrived (run_no r) m)) g refl (λ q. same_true (live q)) (λ q d acts. turn q d (acts_more _ _ _ _ _ _ _ _ (same_true (live q)) (same_true (did_is q d)) (λ e. e) (λ e. e) acts))
+  where
+    new : OfRun
+    new = record (n.run r) { arrived = Some m }
+
+    live : (q : ℕ) → is_live (entry w n (Arrived (run_no r) m)) q ≡ is_live n q
+    live q = put_keeps (λ o. is_some o.placed && is_none o.ended) n.run r new refl q
+
+    did_is : (q d : ℕ) → did (entry w n (Arrived (run_no r) m)) q d ≡ did n q d
+    did_is q d = put_keeps (λ o. is_some (o.on d).view) n.run r new refl q
+
+has_none : (g : Grips) (r : ℕ) → ((d : ℕ) → has_grip g r d ≡ false) → (d : ℕ) → grips_command g r d ≡ false
+has_none g r none d = by_grip (g d) (none d)
+  where
+    by_grip : (o : Option Grip) → unwrap_or (option_map (λ p. p.maker == r) o) false ≡ false → unwrap_or (option_map (λ p. (p.maker == r) && is_command p.purpose) o) false ≡ false
+    by_grip None e = refl
+    by_grip (Some p) e = grind (arith, common_steps)
+
+placing_turn : (w : Setting) (n : Reading) (g : Grips) (r m : ℕ) → Standing n → is_none (n.run r).placed ≡ true → ((d : ℕ) → did n r d ≡ false) → ((d : ℕ) → has_grip g r d ≡ false) → ActsInTurn w n g → ActsInTurn w (entry w n (Placed (run_no r) (length n.line) m)) g
+placing_turn w n g r m stands unplaced untouched' gripless turn q d acts = elim (q == r) as (λ b. (q == r) ≡ b → strict_wait w then' q ≡ None) [
+  | true ↦ (λ at. absurd (idle (grind (arith, common_steps))))
+  | false ↦ (λ at. others (grind (arith, common_steps)))
+] refl
+  where
+    then' : Reading
+    then' = entry w n (Placed (run_no r) (length n.line) m)
+
+    new : OfRun
+    new = record (n.run r) { placed = Some (record { place = length n.line; moment = m; stamp = n.size }); planned = planned_times w n r (split_of w n r (length n.line) m).front m }
+
+    did_is : (x e : ℕ) → did then' x e ≡ did n x e
+    did_is x e = put_keeps (λ o. is_some (o.on e).view) n.run r new refl x
+
+    live : (x : ℕ) → x ≢ r → is_live then' x ≡ is_live n x
+    live x other = ap (λ o. is_some o.placed && is_none o.ended) (put_other n.run r new x other)
+
+    idle : q ≡ r → ⊥
+    idle same =
+        let none : (did then' q d || grips_command g q d) || has_grip g q d ≡ false = rw (same, did_is r d, untouched' d, has_none g r gripless d, gripless d) refl in
+        grind (arith, common_steps)
+
+    other : (x : ℕ) → list_any (is_ran x) n.line ≡ true → x ≢ r
+    other x there = λ same. not_both (n.run r).placed unplaced (subst (λ y. is_some (n.run y).placed ≡ true) same (let stands' : stands_in (n.run x) ≡ true = sym (stands.line x) ∙ there in grind (arith, common_steps)))
+      where
+        not_both : (p : Option PlacedAt) → is_none p ≡ true → is_some p ≡ true → ⊥
+        not_both None none some = absurd (cc)
+        not_both (Some p) none some = absurd (cc)
+
+    others : q ≢ r → strict_wait w then' q ≡ None
+    others apart =
+        let acts' : IsTrue (is_live n q && (has_touched n g q d || has_grip g q d)) = acts_more _ _ _ _ _ _ _ _ (same_true (live q apart)) (same_true (did_is q d)) (λ e. e) (λ e. e) acts in
+        let there : list_any (is_ran q) n.line ≡ true = live_stands n q stands (grind (arith, common_steps)) in
+        strict_fewer_by w.runs w.kinds w.first w.mode.model w.mode.scheduler n then' q (ap (before q) (end_line w n r m) ∙ before_more q n.line (Ran (run_no r)) there) (λ x among now. same_true (live x (other x (any_taken (is_ran x) _ n.line among))) now) (turn q d acts')
+
+-- fewer devices are out
+
+drop_grip : (g : Grips) (d q e : ℕ) → has_grip (put g d None) q e ≡ true → has_grip g q e ≡ true
+drop_grip g d q e = elim (e == d) as (λ b. unwrap_or (option_map (λ p. p.maker == q) (if b then None else g e)) false ≡ true → has_grip g q e ≡ true) [ true ↦ (λ f. absurd (cc)) | false ↦ (λ f. f) ]
+
+drop_command : (g : Grips) (d q e : ℕ) → grips_command (put g d None) q e ≡ true → grips_command g q e ≡ true
+drop_command g d q e = elim (e == d) as (λ b. unwrap_or (option_map (λ p. (p.maker == q) && is_command p.purpose) (if b then None else g e)) false ≡ true → grips_command g q e ≡ true) [ true ↦ (λ f. absurd (cc)) | false ↦ (λ f. f) ]
+
+pub holds_is : (g : Grips) (r d : ℕ) (p : Purpose) → g d ≡ Some (record { maker = r; purpose = p }) → has_grip g r d ≡ true
+holds_is g r d p out = ap (λ o. unwrap_or (option_map (λ x. x.maker == r) o) false) out ∙ self
+  where
+    self : (r == r) ≡ true
+    self = grind (arith, common_steps)
+
+answer_turn : (w : Setting) (n : Reading) (g : Grips) (r k d : ℕ) (a : Answer) → strict_wait w n r ≡ None → ActsInTurn w n g → ActsInTurn w (entry w n (Did (run_no r) k a)) (put g d None)
+answer_turn w n g r k d a waitless turn = turn_kept w n (entry w n (Did (run_no r) k a)) (put g d None) refl (λ q. same_true (live q)) (λ q e acts. elim (q == r) as (λ b. (q == r) ≡ b → strict_wait w n q ≡ None) [
+  | true ↦ (λ at. let same : q ≡ r = grind (arith, common_steps) in subst (λ x. strict_wait w n x ≡ None) (sym same) waitless)
+  | false ↦ (λ at. turn q e (acts_more _ _ _ _ _ _ _ _ (same_true (live q)) (same_true (did_is q e (grind (arith, common_steps)))) (drop_command g d q e) (drop_grip g d q e) acts))
+] refl)
+  where
+    live : (q : ℕ) → is_live (entry w n (Did (run_no r) k a)) q ≡ is_live n q
+    live q = did_live w n (run_no r) k a q
+
+    did_is : (q e : ℕ) → q ≢ r → did (entry w n (Did (run_no r) k a)) q e ≡ did n q e
+    did_is q e other = ap (λ o. is_some (o.on e).view) (put_other n.run r _ q other)
+
+commit_turn : (w : Setting) (n : Reading) (g : Grips) (r : ℕ) → ActsInTurn w n g → ActsInTurn w (entry w n (Ended (run_no r) Committed)) g
+commit_turn w n g r turn = turn_kept w n (entry w n (Ended (run_no r) Committed)) g refl fewer (λ q d acts. turn q d (acts_more _ _ _ _ _ _ _ _ (fewer q) (same_true (did_is q d)) (λ e. e) (λ e. e) acts))
+  where
+    new : OfRun
+    new = record (n.run r) { ended = Some Committed }
+
+    fewer : (q : ℕ) → is_live (entry w n (Ended (run_no r) Committed)) q ≡ true → is_live n q ≡ true
+    fewer q = elim (q == r) as (λ b. (is_some (if b then new else n.run q).placed && is_none (if b then new else n.run q).ended) ≡ true → is_live n q ≡ true) [
+      | true ↦ (λ e. absurd (grind (arith, common_steps)))
+      | false ↦ (λ e. e)
+    ]
+
+    did_is : (q d : ℕ) → did (entry w n (Ended (run_no r) Committed)) q d ≡ did n q d
+    did_is q d = put_keeps (λ o. is_some (o.on d).view) n.run r new refl q
+
+-- one device more is out, for a run that waits for none
+pub grip_turn : (w : Setting) (n : Reading) (g : Grips) (r d : ℕ) (p : Purpose) → strict_wait w n r ≡ None → ActsInTurn w n g → ActsInTurn w n (put g d (Some (record { maker = r; purpose = p })))
+grip_turn w n g r d p alone turn q e acts = elim (q == r) as (λ b. (q == r) ≡ b → strict_wait w n q ≡ None) [
+  | true ↦ (λ at. let same : q ≡ r = grind (arith, common_steps) in subst (λ x. strict_wait w n x ≡ None) (sym same) alone)
+  | false ↦ (λ at. turn q e (acts_more _ _ _ _ _ _ _ _ (λ x. x) (λ x. x) (other_command (grind (arith, common_steps))) (other_grip (grind (arith, common_steps))) acts))
+] refl
+  where
+    new : Grip
+    new = record { maker = r; purpose = p }
+
+    other_grip : (r == q) ≡ false → has_grip (put g d (Some new)) q e ≡ true → has_grip g q e ≡ true
+    other_grip other = elim (e == d) as (λ b. unwrap_or (option_map (λ x. x.maker == q) (if b then Some new else g e)) false ≡ true → has_grip g q e ≡ true) [ true ↦ (λ f. absurd (let both : true ≡ false = sym f ∙ other in cc)) | false ↦ (λ f. f) ]
+
+    other_command : (r == q) ≡ false → grips_command (put g d (Some new)) q e ≡ true → grips_command g q e ≡ true
+    other_command other = elim (e == d) as (λ b. unwrap_or (option_map (λ x. (x.maker == q) && is_command x.purpose) (if b then Some new else g e)) false ≡ true → grips_command g q e ≡ true) [ true ↦ (λ f. absurd (let both : (r == q) ≡ true = grind (arith, common_steps) in let all : true ≡ false = sym both ∙ other in cc)) | false ↦ (λ f. f) ]
+
+-- A run arrives
+
+pub arrival_may : (s : Configuration) (r m : ℕ) → may_follow s.setting (read_of s) (Arrived (run_no r) m) ≡ true → (read_of s).moment ≤ m → HistoryIsKept s → MayAdd s (Arrived (run_no r) m) m s.grips
+arrival_may s r m follows later kept =
+    record {
+      follows = follows;
+      plain = refl;
+      clean = refl;
+      justified = refl;
+      scheduled = tt;
+      isolated = λ strict. refl;
+      moment = omega (arith, later);
+      in_order = order_kept n (entry s.setting n (Arrived (run_no r) m)) refl (λ q. put_keeps stamp_in n.run r (record (n.run r) { arrived = Some m }) refl q) kept.in_order;
+      in_turn = arrival_turn s.setting n s.grips r m kept.in_turn;
+    }
+  where
+    n : Reading
+    n = read_of s
+
+-- A run is placed at the end
+
+placing_order : (w : Setting) (n : Reading) (r m : ℕ) → Standing n → StampsAreBelow n → is_none (n.run r).placed ≡ true → IsTrue (placed_in_order n n.line) → IsTrue (placed_in_order (entry w n (Placed (run_no r) (length n.line) m)) (entry w n (Placed (run_no r) (length n.line) m)).line)
+placing_order w n r m stands stamps unplaced ordered = subst (λ l. IsTrue (placed_in_order then' l)) (sym (end_line w n r m)) (order_at_end n then' r n.line same below ordered)
+  where
+    new : OfRun
+    new = record (n.run r) { placed = Some (record { place = length n.line; moment = m; stamp = n.size }); planned = planned_times w n r (split_of w n r (length n.line) m).front m }
+
+    then' : Reading
+    then' = entry w n (Placed (run_no r) (length n.line) m)
+
+    same : (q : ℕ) → q ≢ r → stamp_of then' q ≡ stamp_of n q
+    same q other = ap stamp_in (put_other n.run r new q other)
+
+    -- a run that stands in the line has been placed
+    placed : (q : ℕ) → list_any (is_ran q) n.line ≡ true → is_some (n.run q).placed ≡ true
+    placed q there = let stands' : stands_in (n.run q) ≡ true = sym (stands.line q) ∙ there in grind (arith, common_steps)
+
+    other : (q : ℕ) → list_any (is_ran q) n.line ≡ true → q ≢ r
+    other q there = λ same'. not_both (n.run r).placed unplaced (subst (λ x. is_some (n.run x).placed ≡ true) same' (placed q there))
+      where
+        not_both : (p : Option PlacedAt) → is_none p ≡ true → is_some p ≡ true → ⊥
+        not_both None none some = absurd (cc)
+        not_both (Some p) none some = absurd (cc)
+
+    below : (q : ℕ) → list_any (is_ran q) n.line ≡ true → (q ≢ r) × (nat_lt (stamp_of then' q) (stamp_of then' r) ≡ true)
+    below q there = (other q there, ap (λ k. nat_lt k (stamp_of then' r)) (same q (other q there)) ∙ ap (λ k. nat_lt (stamp_of n q) k) (ap stamp_in (put_same n.run r new)) ∙ stamped (n.run q).placed (placed q there) (stamps q))
+      where
+        stamped : (p : Option PlacedAt) → is_some p ≡ true → unwrap_or (option_map (λ x. nat_lt x.stamp n.size) p) true ≡ true → nat_lt (unwrap_or (option_map (λ x. x.stamp) p) 0) n.size ≡ true
+        stamped None some f = absurd (cc)
+        stamped (Some p) some f = f
+
+pub placing_may : (s : Configuration) (r m : ℕ) → may_follow s.setting (read_of s) (Placed (run_no r) (length (read_of s).line) m) ≡ true → (read_of s).moment ≤ m → IsScheduled s.setting (read_of s) (Placed (run_no r) (length (read_of s).line) m)
+    → is_none ((read_of s).run r).placed ≡ true → ((d : ℕ) → has_grip s.grips r d ≡ false) → HistoryIsKept s → MayAdd s (Placed (run_no r) (length (read_of s).line) m) m s.grips
+placing_may s r m follows later scheduled unplaced gripless kept =
+    record {
+      follows = follows;
+      plain = refl;
+      clean = refl;
+      justified = refl;
+      scheduled = scheduled;
+      isolated = λ strict. refl;
+      moment = omega (arith, later);
+      in_order = placing_order s.setting n r m stands (stamps_below s.setting (entries_of s.history)) unplaced kept.in_order;
+      in_turn = placing_turn s.setting n s.grips r m stands unplaced (λ d. ap (λ o. is_some o.view) ((shapes s.setting (entries_of s.history) kept.well_formed r).clear unplaced d)) gripless kept.in_turn;
+    }
+  where
+    n : Reading
+    n = read_of s
+
+    stands : Standing n
+    stands = standing s.setting (entries_of s.history) kept.well_formed
+
+-- A write is answered
+
+pub answer_may : (s : Configuration) (r k d m : ℕ) → may_follow s.setting (read_of s) (Did (run_no r) k Fine) ≡ true → (read_of s).moment ≤ m → s.grips d ≡ Some (record { maker = r; purpose = Commands k }) → is_live (read_of s) r ≡ true
+    → HistoryIsKept s → MayAdd s (Did (run_no r) k Fine) m (put s.grips d None)
+answer_may s r k d m follows later out live kept =
+    record {
+      follows = follows;
+      plain = refl;
+      clean = refl;
+      justified = refl;
+      scheduled = tt;
+      isolated = λ strict. is_alone_by s.setting.runs s.setting.kinds s.setting.first s.setting.mode.model s.setting.mode.scheduler n r known waitless;
+      moment = later;
+      in_order = order_kept n (entry s.setting n (Did (run_no r) k Fine)) refl (λ q. put_keeps stamp_in n.run r _ refl q) kept.in_order;
+      in_turn = answer_turn s.setting n s.grips r k d Fine waitless kept.in_turn;
+    }
+  where
+    n : Reading
+    n = read_of s
+
+    stands : Standing n
+    stands = standing s.setting (entries_of s.history) kept.well_formed
+
+    waitless : strict_wait s.setting n r ≡ None
+    waitless = kept.in_turn r d (acting (is_live n r) (has_touched n s.grips r d) (has_grip s.grips r d) live (holds_is s.grips r d (Commands k) out))
+      where
+        acting : (l t h : Bool) → l ≡ true → h ≡ true → IsTrue (l && (t || h))
+        acting l t h el eh = grind (arith, common_steps)
+
+    known : LineIsKnown n r
+    known = record { in_order = kept.in_order; there = live_stands n r stands live; live = λ q now. live_stands n q stands now }
+
+-- A run commits
+
+ends_alone : (w : Setting) (n : Reading) (r : ℕ) (ds : List ℕ) → ((d : ℕ) → is_device w d ≡ true → n.up d ≡ true) → Each (λ d. (is_device w d ≡ true) × (touches w.runs r d ≡ true)) ds → IsTrue (list_all (λ d. not (did n r d) || n.up d) ds)
+ends_alone w n r [] up all = refl
+ends_alone w n r (d ∷ ds) up all = rw (up d all.0.0, ends_alone w n r ds up all.1) (grind (arith, common_steps))
+
+pub commit_may : (s : Configuration) (r m : ℕ) → may_follow s.setting (read_of s) (Ended (run_no r) Committed) ≡ true → (read_of s).moment ≤ m → ((d : ℕ) → is_device s.setting d ≡ true → (read_of s).up d ≡ true) → HistoryIsKept s → MayAdd s (Ended (run_no r) Committed) m s.grips
+commit_may s r m follows later up kept =
+    record {
+      follows = follows;
+      plain = refl;
+      clean = refl;
+      justified = refl;
+      scheduled = tt;
+      isolated = λ strict. ends_alone s.setting n r (devices_of s.setting r) up (own_devices s.setting r);
+      moment = later;
+      in_order = order_kept n (entry s.setting n (Ended (run_no r) Committed)) refl (λ q. put_keeps stamp_in n.run r (record (n.run r) { ended = Some Committed }) refl q) kept.in_order;
+      in_turn = commit_turn s.setting n s.grips r kept.in_turn;
+    }
+  where
+    n : Reading
+    n = read_of s

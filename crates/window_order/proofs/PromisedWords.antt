@@ -1,0 +1,125 @@
+-- Words of the reading and of the grips that are out, as the window that they make has them.
+use Rattle.command_rules.specs.Rosters.{run_no, touches}
+use Rattle.device_order.specs.LineEntries.{entries, entry_if, usage, with_entry}
+use Rattle.device_order.specs.RunStates.{RunStates, uses}
+use Rattle.device_order.specs.Usages.{has_effect as usage_has_effect, is_command as holds_command, is_undo as holds_undo}
+use Rattle.device_order.specs.Walks.{has}
+use Rattle.device_order.specs.declared.records.Event.TheVariants.{Failure, Restart}
+use Rattle.device_order.specs.declared.records.Grip.TheVariants.{Free, Reads, Writes}
+use Rattle.device_order.specs.declared.records.OrderEntry.TheVariants.{Occurred, Used}
+use Rattle.device_order.specs.declared.records.Usage.{Usage}
+use Rattle.history_book.proofs.Shapes.{did_touches}
+use Rattle.history_book.specs.Lines.{is_ran}
+use Rattle.history_book.specs.Readings.{Reading, has_written}
+use Rattle.history_book.specs.Settings.{Setting, is_device}
+use Rattle.home_types.specs.declared.items.Item.TheVariants.{Back, Failed, Ran}
+use Rattle.home_types.specs.declared.items.Item.{Item}
+use Rattle.home_types.specs.declared.kinds.Kind.{Kind}
+use Rattle.lock_leasing.specs.Configurations.{Commands, Grip, Grips, Probes, Purpose, Undoes, grips_command, grips_undo, is_command, is_undo}
+use Rattle.lock_leasing.specs.Words.{is_undone}
+use Rattle.std.proofs.Common.{ap, ap₂, arith, refl, ◌∙◌}
+use Rattle.std.proofs.lemmas.Grind.{common_steps}
+use Rattle.std.specs.List.{list_any}
+use Rattle.std.specs.Prelude.{Bool, List, None, Option, Some, [], false, if◌then◌else◌, is_some, length, not, option_map, true, unwrap_or, ℕ, ◌&&◌, ◌++◌, ◌<◌, ◌==◌, ◌||◌, ◌∷◌, ◌≡◌}
+use Rattle.window_order.proofs.ReadFacts.{IsRead}
+use Rattle.window_order.specs.ReadWindows.{held_by, held_for, run_state}
+
+pub device_below : (w : Setting) (d : ℕ) → is_device w d ≡ true → d < length w.first
+device_below w d h = grind (arith, common_steps)
+
+-- Grips
+
+-- a run is held for a command exactly where it has the grip of one
+pub command_held : (w : Setting) (g : Grips) (r d : ℕ) → holds_command (held_by w r (g d)) ≡ grips_command g r d
+command_held w g r d = by (g d)
+  where
+    of_job : (b : Bool) → holds_command (if b then Reads else Writes) ≡ true
+    of_job true = refl
+    of_job false = refl
+
+    of_purpose : (b : Bool) (p : Purpose) → holds_command (if b then held_for w r p else Free) ≡ (b && is_command p)
+    of_purpose true (Commands k) = of_job _
+    of_purpose true (Undoes v) = refl
+    of_purpose true (Probes v) = refl
+    of_purpose false p = refl
+
+    by : (o : Option Grip) → holds_command (held_by w r o) ≡ unwrap_or (option_map (λ p. (p.maker == r) && is_command p.purpose) o) false
+    by None = refl
+    by (Some grip) = of_purpose (grip.maker == r) grip.purpose
+
+-- .. and for an undo exactly where it has the grip of one
+pub undo_held : (w : Setting) (g : Grips) (r d : ℕ) → holds_undo (held_by w r (g d)) ≡ grips_undo g r d
+undo_held w g r d = by (g d)
+  where
+    of_job : (b : Bool) → holds_undo (if b then Reads else Writes) ≡ false
+    of_job true = refl
+    of_job false = refl
+
+    of_purpose : (b : Bool) (p : Purpose) → holds_undo (if b then held_for w r p else Free) ≡ (b && is_undo p)
+    of_purpose true (Commands k) = of_job _
+    of_purpose true (Undoes v) = refl
+    of_purpose true (Probes v) = refl
+    of_purpose false p = refl
+
+    by : (o : Option Grip) → holds_undo (held_by w r o) ≡ unwrap_or (option_map (λ p. (p.maker == r) && is_undo p.purpose) o) false
+    by None = refl
+    by (Some grip) = of_purpose (grip.maker == r) grip.purpose
+
+-- Writes
+
+-- a run that wrote a device uses it
+pub written_touches : (w : Setting) (n : Reading) (r d : ℕ) → IsRead w n → has_written n r d ≡ true → touches w.runs r d ≡ true
+written_touches w n r d s h = did_touches w n r d s.shaped ((s.shaped r).wrote d h)
+
+-- the use of a run has its write in effect where it wrote and is not undone
+pub effect_held : (w : Setting) (n : Reading) (g : Grips) (r d : ℕ) → IsRead w n → usage_has_effect (usage w.kinds (run_state w n g r) d) ≡ (is_some ((n.run r).on d).wrote && not (is_undone n g r d))
+effect_held w n g r d s = ap₂ (λ o x. is_some o && not (((n.run r).on d).undid || x)) ((s.summarized r).wrote d) (undo_held w g r d)
+
+-- Lines
+
+-- a line in two parts, with the run between them
+pub record SplitsAt (r : ℕ) (line : List Item) : Type 0 where
+  pub front : List Item
+  pub back : List Item
+  pub at : line ≡ front ++ Ran (run_no r) ∷ back
+
+pub splits_at : (r : ℕ) (line : List Item) → list_any (is_ran r) line ≡ true → SplitsAt r line
+splits_at r [] h = absurd (cc)
+splits_at r (i ∷ is) h = at_ (λ e. splits_at r is e) (is_ran r i) refl h
+  where
+    later : SplitsAt r is → SplitsAt r (i ∷ is)
+    later s = record { front = i ∷ s.front; back = s.back; at = ap (λ l. i ∷ l) s.at }
+
+    here : (j : Item) → is_ran r j ≡ true → j ≡ Ran (run_no r)
+    here (Ran q) e = ap (λ z. Ran (run_no z)) (same q.0 e)
+      where
+        same : (q : ℕ) → (q == r) ≡ true → q ≡ r
+        same q e = grind (arith, common_steps)
+    here (Failed e k) x = absurd (cc)
+    here (Back e k) x = absurd (cc)
+
+    at_ : (list_any (is_ran r) is ≡ true → SplitsAt r is) → (b : Bool) → is_ran r i ≡ b → (b || list_any (is_ran r) is) ≡ true → SplitsAt r (i ∷ is)
+    at_ ih true e h = record { front = []; back = is; at = ap (λ x. x ∷ is) (here i e) }
+    at_ ih false e h = later (ih h)
+
+-- Entries
+
+-- where no run's use of the device is so, none in its order is
+pub none_has : (kinds : List Kind) (states : RunStates) (d : ℕ) (p : Usage → Bool) (line : List Item) → ((r : ℕ) → p (usage kinds (states r) d) ≡ false) → has p (entries kinds states d line) ≡ false
+unfolding entries has
+none_has kinds states d p [] h = refl
+none_has kinds states d p (Ran r ∷ is) h = at_ (none_has kinds states d p is h) (uses d (states r.0).commands)
+  where
+    at_ : has p (entries kinds states d is) ≡ false → (b : Bool) → has p (with_entry (entry_if b (Used (usage kinds (states r.0) d))) (entries kinds states d is)) ≡ false
+    at_ ih true = ap (λ x. x || has p (entries kinds states d is)) (h r.0) ∙ ih
+    at_ ih false = ih
+none_has kinds states d p (Failed e k ∷ is) h = at_ (none_has kinds states d p is h) (e.0 == d)
+  where
+    at_ : has p (entries kinds states d is) ≡ false → (b : Bool) → has p (with_entry (entry_if b (Occurred Failure)) (entries kinds states d is)) ≡ false
+    at_ ih true = ih
+    at_ ih false = ih
+none_has kinds states d p (Back e k ∷ is) h = at_ (none_has kinds states d p is h) (e.0 == d)
+  where
+    at_ : has p (entries kinds states d is) ≡ false → (b : Bool) → has p (with_entry (entry_if b (Occurred Restart)) (entries kinds states d is)) ≡ false
+    at_ ih true = ih
+    at_ ih false = ih

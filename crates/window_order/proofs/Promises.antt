@@ -1,0 +1,23 @@
+-- The serial order invariant: the four promised clauses of a window whose order is kept.
+use Rattle.history_book.specs.Readings.{Reading}
+use Rattle.history_book.specs.Settings.{Setting}
+use Rattle.lock_leasing.specs.Configurations.{Grips}
+use Rattle.lock_leasing.specs.Order.{OrderStands, live_writes_are_covered, open_runs_are_last}
+use Rattle.std.proofs.Common.{arith}
+use Rattle.std.proofs.lemmas.Grind.{common_steps}
+use Rattle.std.specs.Prelude.{Bool, IsTrue, true, ℕ, ◌≡◌}
+use Rattle.window_order.proofs.PromisedClauses.{live_writes_covered, open_runs_last}
+use Rattle.window_order.proofs.ReadFacts.{IsRead}
+use Rattle.window_order.proofs.SettledOrders.{settled_agree}
+use Rattle.window_order.specs.OrderKept.{OrderIsKept}
+
+test_holds : (b : Bool) → b ≡ true → IsTrue b
+test_holds b e = grind (arith, common_steps)
+
+pub order_stands : (w : Setting) (n : Reading) (g : Grips) (held : ℕ → ℕ) → IsRead w n → OrderIsKept w n g held → OrderStands w n g
+order_stands w n g held s o = record {
+  settled = settled_agree w n g held s o;
+  history = o.history;
+  covered = λ d. test_holds (live_writes_are_covered n g d n.line) (live_writes_covered w n g held d s o);
+  last = λ d. test_holds (open_runs_are_last w n g d n.line) (open_runs_last w n g held d s o);
+}

@@ -1,0 +1,81 @@
+-- What the reading says of the runs of the line.
+use Rattle.command_rules.specs.Rosters.{commands_of, is_run}
+use Rattle.device_order.proofs.LineWords.{cut_at}
+use Rattle.device_order.specs.LineChanges.{Lacks}
+use Rattle.device_order.specs.LineWords.{CutAt, any_run}
+use Rattle.device_order.specs.RunStates.{RunState}
+use Rattle.history_book.proofs.Once.{count_append}
+use Rattle.history_book.proofs.Standing.{is_abort}
+use Rattle.history_book.specs.Lines.{is_ran}
+use Rattle.history_book.specs.Readings.{OfRun, Reading, is_committed, is_committing, is_live}
+use Rattle.history_book.specs.Settings.{Setting}
+use Rattle.history_book.specs.declared.entries.End.{End}
+use Rattle.home_types.specs.declared.items.Item.TheVariants.{Back, Failed, Ran}
+use Rattle.home_types.specs.declared.items.Item.{Item}
+use Rattle.lock_leasing.specs.Configurations.{Grips}
+use Rattle.std.proofs.Common.{ap, arith, refl, ◌∙◌}
+use Rattle.std.proofs.lemmas.Grind.{common_steps}
+use Rattle.std.specs.List.{list_any}
+use Rattle.std.specs.Prelude.{Bool, List, None, Option, Some, [], count_by, false, is_none, is_some, not, option_map, suc, true, unwrap_or, zero, ℕ, ◌&&◌, ◌++◌, ◌+◌, ◌==◌, ◌||◌, ◌∷◌, ◌≡◌}
+use Rattle.window_order.proofs.ReadFacts.{IsRead, lacks_count, runs_distinct}
+use Rattle.window_order.specs.ReadWindows.{held_by}
+
+-- a run of the window has no number 0
+pub run_positive : (w : Setting) (r : ℕ) → is_run w.runs r ≡ true → (p : ℕ) × (r ≡ suc p)
+run_positive w zero run = absurd (cc)
+run_positive w (suc p) run = (p, refl)
+
+pub both : (a b : Bool) → (a && b) ≡ true → (a ≡ true) × (b ≡ true)
+both a b h = (grind (arith, common_steps), grind (arith, common_steps))
+
+pub three : (a b c : Bool) → (a && b && c) ≡ true → (a ≡ true) × (b ≡ true) × (c ≡ true)
+three a b c h = (grind (arith, common_steps), grind (arith, common_steps), grind (arith, common_steps))
+
+pub four : (a b c d : Bool) → (a && b && c && d) ≡ true → a ≡ true
+four a b c d h = grind (arith, common_steps)
+
+pub none_ended : (e : Option End) → is_none e ≡ true → unwrap_or (option_map is_committing e) false ≡ false
+none_ended None h = refl
+none_ended (Some x) h = absurd (cc)
+
+pub not_aborted : (e : Option End) → is_none e ≡ true → unwrap_or (option_map is_abort e) false ≡ false
+not_aborted None h = refl
+not_aborted (Some x) h = absurd (cc)
+
+pub live_placed : (n : Reading) (r : ℕ) → is_live n r ≡ true → is_some (n.run r).placed ≡ true
+live_placed n r live = (both (is_some (n.run r).placed) (is_none (n.run r).ended) live).0
+
+pub live_uncommitted : (n : Reading) (r : ℕ) → is_live n r ≡ true → is_committed n r ≡ false
+live_uncommitted n r live = none_ended (n.run r).ended (both (is_some (n.run r).placed) (is_none (n.run r).ended) live).1
+
+pub live_run : (w : Setting) (n : Reading) (r : ℕ) → IsRead w n → is_live n r ≡ true → is_run w.runs r ≡ true
+live_run w n r read live = (read.shaped r).known ((read.shaped r).arrived (live_placed n r live))
+
+pub any_ran : (r : ℕ) (line : List Item) → any_run (λ q. q == r) line ≡ list_any (is_ran r) line
+unfolding any_run
+any_ran r [] = refl
+any_ran r (Ran q ∷ is) = ap (λ b. (q.0 == r) || b) (any_ran r is)
+any_ran r (Failed e k ∷ is) = any_ran r is
+any_ran r (Back e k ∷ is) = any_ran r is
+
+-- what is known of a run, by what its history says
+abbrev pub state_by : Setting → Grips → ℕ → OfRun → RunState
+state_by w g r o = record {
+  commands = commands_of w.runs r;
+  answers = o.answers;
+  committed = unwrap_or (option_map is_committing o.ended) false;
+  doomed = is_some o.doomed;
+  undid = λ d. (o.on d).undid;
+  grip = λ d. held_by w r (g d);
+}
+
+-- a live run stands in the line
+pub cut_live : (w : Setting) (n : Reading) (r : ℕ) → IsRead w n → is_live n r ≡ true → CutAt r n.line
+cut_live w n r read live = cut_at r n.line (runs_distinct n read.once) (any_ran r n.line ∙ read.standing.line r ∙ (λ i. live_placed n r live i && not (not_aborted (n.run r).ended (both (is_some (n.run r).placed) (is_none (n.run r).ended) live).1 i)))
+
+-- a run that is not placed does not
+pub lacks_parts : (r : ℕ) (front back : List Item) → count_by (is_ran r) (front ++ back) ≡ 0 → Lacks r front × Lacks r back
+lacks_parts r front back none = (lacks_count r front (omega (arith, none, total)), lacks_count r back (omega (arith, none, total)))
+  where
+    total : count_by (is_ran r) (front ++ back) ≡ count_by (is_ran r) front + count_by (is_ran r) back
+    total = count_append (is_ran r) front back
