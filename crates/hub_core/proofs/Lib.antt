@@ -11,3 +11,6 @@ pub mod LineOrder
 pub mod HistoryKept
 pub mod Kept
 pub mod HubReads
+pub mod Searching
+pub mod HubStates
+pub mod HubChoices
