@@ -10,3 +10,4 @@ pub mod StageChoices
 pub mod LineOrder
 pub mod HistoryKept
 pub mod Kept
+pub mod Sizes
