@@ -11,3 +11,4 @@ pub mod LineOrder
 pub mod HistoryKept
 pub mod Kept
 pub mod Sizes
+pub mod Progress
