@@ -12,3 +12,4 @@ pub mod HistoryKept
 pub mod Kept
 pub mod Sizes
 pub mod Progress
+pub mod Calls
