@@ -13,3 +13,4 @@ pub mod Kept
 pub mod Sizes
 pub mod Progress
 pub mod Calls
+pub mod Closings
