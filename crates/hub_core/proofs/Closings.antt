@@ -1,5 +1,5 @@
 -- What a window has to be that is closed in this stage.
-use Rattle.command_rules.specs.Rosters.{Run, device_no, is_run, run_no}
+use Rattle.command_rules.specs.Rosters.{device_no, is_run, run_no}
 use Rattle.history_book.specs.Histories.{entries_of, line_of}
 use Rattle.history_book.specs.Readings.{is_committing}
 use Rattle.history_book.specs.Settings.{device_numbers, is_device, is_weak, run_numbers}
@@ -10,6 +10,7 @@ use Rattle.history_book.specs.declared.entries.Entry.{Entry}
 use Rattle.history_book.specs.declared.records.WindowRecord.{WindowRecord}
 use Rattle.home_types.specs.HomeStates.{stand_at}
 use Rattle.home_types.specs.declared.worlds.Stand.{Stand}
+use Rattle.hub_core.proofs.Sizes.{run_there, run_within}
 use Rattle.hub_core.proofs.StageChoices.{StepsPlainly, steps_plainly}
 use Rattle.hub_core.specs.AccountedCalls.{CallsAreAccounted}
 use Rattle.hub_core.specs.Agreement.{AgreesWithSerial}
@@ -25,10 +26,9 @@ use Rattle.hub_core.specs.declared.refusals.NotQuiet.TheVariants.{StillLive, Sti
 use Rattle.lock_leasing.specs.Configurations.{Configuration, Grip, is_out, read_of}
 use Rattle.std.proofs.Common.{ap, arith, cond, refl, subst, sym, ◌∙◌}
 use Rattle.std.proofs.lemmas.Grind.{common_steps}
-use Rattle.std.proofs.lemmas.Option.{slice_get_within}
 use Rattle.std.specs.List.{list_all, range_with_len}
 use Rattle.std.specs.Option.{option_or}
-use Rattle.std.specs.Prelude.{Bool, IsTrue, List, None, Option, Some, [], false, find, is_none, is_some, length, nat_lt, option_map, slice_get, suc, true, unwrap_or, zero, ℕ, ◌+◌, ◌<◌, ◌==◌, ◌∷◌, ◌≡◌, ◌≢◌, ◌≤◌}
+use Rattle.std.specs.Prelude.{Bool, IsTrue, List, None, Option, Some, false, find, is_none, is_some, length, nat_lt, option_map, suc, true, unwrap_or, zero, ℕ, ◌+◌, ◌<◌, ◌==◌, ◌≡◌, ◌≢◌, ◌≤◌}
 use Rattle.window_order.proofs.ReadFacts.{read_facts}
 use Rattle.window_order.proofs.WindowEnds.{AgreesAtEnd, NoneIsLive, agrees_where_home, logs_own_events, none_is_live, order_events, order_following_none, order_runs}
 
@@ -64,7 +64,7 @@ pub record IsQuiet (s : Configuration) : Type 0 where
 pub quiet_is : (s : Configuration) → not_quiet s ≡ None → IsQuiet s
 quiet_is s quiet =
     record {
-      ended = λ r run. some_of ((read_of s).run r).ended (let within : (1 ≤ r) × (r < 1 + length s.setting.runs) = run_within s.setting.runs r run in none_in_range (λ q. is_none ((read_of s).run q).ended) 1 (length s.setting.runs) r none.0 within.0 within.1);
+      ended = λ r run. some_of ((read_of s).run r).ended (let within : (0 < r) × (r ≤ length s.setting.runs) = run_within s.setting.runs r run in none_in_range (λ q. is_none ((read_of s).run q).ended) 1 (length s.setting.runs) r none.0 (omega (arith, within.0)) (omega (arith, within.1)));
       home = λ d device. none_in_range (is_out s.grips) 0 (length s.setting.first) d none.1 (omega arith) (below d device);
     }
   where
@@ -77,14 +77,6 @@ quiet_is s quiet =
 
     below : (d : ℕ) → is_device s.setting d ≡ true → d < 0 + length s.setting.first
     below d device = let less : nat_lt d (length s.setting.first) ≡ true = device in grind (arith, common_steps)
-
-    run_within : (runs : List Run) (r : ℕ) → is_run runs r ≡ true → (1 ≤ r) × (r < 1 + length runs)
-    run_within runs zero e = absurd (cc)
-    run_within runs (suc i) e = (omega arith, at (slice_get runs i) refl e)
-      where
-        at : (o : Option Run) → slice_get runs i ≡ o → is_some o ≡ true → suc i < 1 + length runs
-        at None f g = absurd (cc)
-        at (Some run) f g = omega (arith, slice_get_within runs i run f)
 
 -- a run has ended committed
 pub ended_committed : (s : Configuration) (rounds opened : ℕ) (held : ℕ → ℕ) (r : ℕ) → ConfigurationIsKept s rounds opened held → IsQuiet s → is_run s.setting.runs r ≡ true → ((read_of s).run r).ended ≡ Some Committed
@@ -140,16 +132,7 @@ each_ended s a zero each = refl
 each_ended s a (suc k) each = rw (each a (omega arith) (omega arith), each_ended s (a + 1) k (λ r from to. each r (omega (arith, from)) (omega (arith, to)))) refl
 
 pub all_have_ended : (s : Configuration) → IsQuiet s → IsTrue (all_ended s.setting (entries_of s.history))
-all_have_ended s quiet = each_ended s 1 (length s.setting.runs) (λ r from to. quiet.ended r (there s.setting.runs r from to))
-  where
-    there : (runs : List Run) (r : ℕ) → 1 ≤ r → r < 1 + length runs → is_run runs r ≡ true
-    there runs zero from to = absurd (omega (arith, from))
-    there runs (suc i) from to = within runs i (omega (arith, to))
-      where
-        within : (xs : List Run) (j : ℕ) → j < length xs → is_some (slice_get xs j) ≡ true
-        within [] j less = absurd (omega (arith, less))
-        within (x ∷ xs) zero less = refl
-        within (x ∷ xs) (suc j) less = within xs j (omega (arith, less))
+all_have_ended s quiet = each_ended s 1 (length s.setting.runs) (λ r from to. quiet.ended r (run_there s.setting.runs r (omega (arith, from)) (omega (arith, to))))
 
 -- what the record of a quiet window tells
 pub record IsRecordOf (s : Configuration) (held : ℕ → ℕ) (closed : WindowRecord) : Type 0 where

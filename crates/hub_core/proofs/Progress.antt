@@ -1,5 +1,5 @@
 -- Where no device is out and a run has not ended, some run goes on.
-use Rattle.command_rules.specs.Rosters.{is_run, run_no}
+use Rattle.command_rules.specs.Rosters.{device_no, is_run, run_no}
 use Rattle.history_book.proofs.Searches.{none_is}
 use Rattle.history_book.proofs.Shapes.{Shaped, shapes}
 use Rattle.history_book.proofs.Standing.{Standing, standing}
@@ -12,6 +12,12 @@ use Rattle.history_book.specs.declared.entries.Entry.TheVariants.{Arrived, Ended
 use Rattle.home_types.specs.declared.commands.Command.{Command}
 use Rattle.home_types.specs.declared.items.Item.{Item}
 use Rattle.home_types.specs.declared.items.Item.TheVariants.{Back, Failed, Ran}
+use Rattle.history_book.proofs.Searches.{some_is}
+use Rattle.hub_core.proofs.Sizes.{run_there}
+use Rattle.hub_core.specs.Steps.{not_quiet}
+use Rattle.hub_core.specs.declared.refusals.NotQuiet.TheVariants.{StillLive, StillOut}
+use Rattle.history_book.specs.Settings.{run_numbers}
+use Rattle.std.specs.Option.{option_or}
 use Rattle.hub_core.proofs.StageChoices.{StepsPlainly, choice_plain, live_stands, steps_plainly}
 use Rattle.hub_core.proofs.Takes.{live_run}
 use Rattle.hub_core.specs.HubKept.{ConfigurationIsKept}
@@ -20,11 +26,11 @@ use Rattle.hub_core.specs.Steps.{Absent, Choice, HandsOut, Moves, Over, Waits, c
 use Rattle.lock_leasing.specs.Configurations.{Configuration, Grips, has_grip, is_out, read_of}
 use Rattle.lock_leasing.specs.Waits.{behind_wait, grip_wait, strict_wait}
 use Rattle.lock_leasing.specs.Words.{holds_device, live_before, live_runs}
-use Rattle.std.proofs.Common.{ap, arith, cond, refl, subst, sym, ◌∙◌}
+use Rattle.std.proofs.Common.{ap, arith, cond, inl, inr, refl, subst, sym, ◌∙◌}
 use Rattle.std.proofs.lemmas.Grind.{common_steps}
 use Rattle.std.proofs.lemmas.List.Sums.{take_while-cons}
-use Rattle.std.specs.List.{cons_option, list_any}
-use Rattle.std.specs.Prelude.{Bool, List, None, Option, Some, [], false, find, if◌then◌else◌, is_none, is_some, length, max, not, option_map, true, unwrap_or, ℕ, ◌&&◌, ◌==◌, ◌∷◌, ◌≡◌}
+use Rattle.std.specs.List.{cons_option, list_any, range_with_len}
+use Rattle.std.specs.Prelude.{Bool, List, None, Option, Some, [], false, find, if◌then◌else◌, is_none, is_some, length, max, not, option_map, suc, true, unwrap_or, zero, ℕ, ◌&&◌, ◌+◌, ◌<◌, ◌==◌, ◌∷◌, ◌≡◌, ◌≤◌, ◌⊎◌}
 
 -- the run is told to wait
 abbrev pub is_wait : Choice → Bool
@@ -152,3 +158,27 @@ some_run_moves s rounds opened held r kept home run going = elim (is_none (n.run
         came : (o : Option ℕ) → is_some o ≡ true → is_none o ≡ false
         came None e = absurd (cc)
         came (Some x) e = refl
+
+-- a window in which no device is out can be closed, or some run of it goes on
+
+find_in_range : (p : ℕ → Bool) (a k x : ℕ) → find p (range_with_len a k) ≡ Some x → (a ≤ x) × (x < a + k) × (p x ≡ true)
+find_in_range p a zero x at = absurd (cc)
+find_in_range p a (suc k) x at = elim (p a) as (λ b. p a ≡ b → cond b (Some a) (find p (range_with_len (a + 1) k)) ≡ Some x → (a ≤ x) × (x < a + suc k) × (p x ≡ true)) [
+  | true ↦ (λ now e. subst (λ y. (a ≤ y) × (y < a + suc k) × (p y ≡ true)) (some_is a x e) (omega arith, omega arith, now))
+  | false ↦ (λ none e. let rest : (a + 1 ≤ x) × (x < a + 1 + k) × (p x ≡ true) = find_in_range p (a + 1) k x e in (omega (arith, rest.0), omega (arith, rest.1), rest.2))
+] refl at
+
+none_found : {A : Type 0} (p : A → Bool) (xs : List A) → ((x : A) → p x ≡ false) → find p xs ≡ None
+none_found p [] none = refl
+none_found p (x ∷ xs) none = ap (λ b. cond b (Some x) (find p xs)) (none x) ∙ none_found p xs none
+
+pub goes_on : (s : Configuration) (rounds opened : ℕ) (held : ℕ → ℕ) → ConfigurationIsKept s rounds opened held → ((d : ℕ) → s.grips d ≡ None)
+    → (not_quiet s ≡ None) ⊎ ((q : ℕ) × (is_run s.setting.runs q ≡ true) × (((read_of s).run q).ended ≡ None) × ((m : ℕ) → is_wait (choice_of s q m) ≡ false))
+goes_on s rounds opened held kept home = by_live (find (λ r. is_none ((read_of s).run r).ended) (run_numbers s.setting)) refl
+  where
+    by_live : (o : Option ℕ) → find (λ r. is_none ((read_of s).run r).ended) (run_numbers s.setting) ≡ o → (not_quiet s ≡ None) ⊎ ((q : ℕ) × (is_run s.setting.runs q ≡ true) × (((read_of s).run q).ended ≡ None) × ((m : ℕ) → is_wait (choice_of s q m) ≡ false))
+    by_live None e = inl (ap (λ o. option_or (option_map (λ r. StillLive (run_no r)) o) (option_map (λ d. StillOut (device_no d)) (find (is_out s.grips) (device_numbers s.setting)))) e
+        ∙ ap (λ o. option_map (λ d. StillOut (device_no d)) o) (none_found (is_out s.grips) (device_numbers s.setting) (λ d. ap (λ o. is_some o) (home d))))
+    by_live (Some r) e =
+        let found : (1 ≤ r) × (r < 1 + length s.setting.runs) × (is_none ((read_of s).run r).ended ≡ true) = find_in_range (λ q. is_none ((read_of s).run q).ended) 1 (length s.setting.runs) r e in
+        inr (some_run_moves s rounds opened held r kept home (run_there s.setting.runs r (omega (arith, found.0)) (omega (arith, found.1))) (none_is ((read_of s).run r).ended found.2))

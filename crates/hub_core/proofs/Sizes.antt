@@ -57,13 +57,22 @@ told_of : OfRun → ℕ
 told_of o = one_if (is_some o.arrived) + one_if (is_some o.placed) + length o.answers + one_if (is_some o.ended)
 
 -- the runs of a window count from 1
-run_within : (runs : List Run) (r : ℕ) → is_run runs r ≡ true → (0 < r) × (r ≤ length runs)
+pub run_within : (runs : List Run) (r : ℕ) → is_run runs r ≡ true → (0 < r) × (r ≤ length runs)
 run_within runs zero e = absurd (cc)
 run_within runs (suc i) e = (omega arith, at (slice_get runs i) refl e)
   where
     at : (o : Option Run) → slice_get runs i ≡ o → is_some o ≡ true → suc i ≤ length runs
     at None f g = absurd (cc)
     at (Some run) f g = omega (arith, slice_get_within runs i run f)
+
+pub run_there : (runs : List Run) (r : ℕ) → 0 < r → r ≤ length runs → is_run runs r ≡ true
+run_there runs zero from to = absurd (omega (arith, from))
+run_there runs (suc i) from to = within runs i (omega (arith, to))
+  where
+    within : (xs : List Run) (j : ℕ) → j < length xs → is_some (slice_get xs j) ≡ true
+    within [] j less = absurd (omega (arith, less))
+    within (x ∷ xs) zero less = refl
+    within (x ∷ xs) (suc j) less = within xs j (omega (arith, less))
 
 -- each entry tells of one run
 abbrev IsTold : Setting → Reading → Type 0
