@@ -15,15 +15,15 @@ use Rattle.hub_core.proofs.StageChoices.{StepsPlainly, steps_plainly}
 use Rattle.hub_core.specs.AccountedCalls.{CallsAreAccounted}
 use Rattle.hub_core.specs.Agreement.{AgreesWithSerial}
 use Rattle.hub_core.specs.CleanReads.{ReadsAreClean}
+use Rattle.hub_core.specs.HubKept.{ConfigurationIsKept}
 use Rattle.hub_core.specs.Isolation.{IsStrict}
 use Rattle.hub_core.specs.JustifiedAborts.{IsJustified}
-use Rattle.lock_leasing.specs.Places.{PlacesAreScheduled}
-use Rattle.hub_core.specs.HubKept.{ConfigurationIsKept}
 use Rattle.hub_core.specs.LegalWindows.{IsLegalWindow, IsSeriallyLegal, IsWeaklyLegal, all_ended, history_of}
 use Rattle.hub_core.specs.Orders.{IsOrderFor}
 use Rattle.hub_core.specs.Steps.{not_quiet}
 use Rattle.hub_core.specs.declared.refusals.NotQuiet.TheVariants.{StillLive, StillOut}
 use Rattle.lock_leasing.specs.Configurations.{Configuration, Grip, is_out, read_of}
+use Rattle.lock_leasing.specs.Places.{PlacesAreScheduled}
 use Rattle.std.proofs.Common.{ap, arith, cond, refl, subst, sym, ◌∙◌}
 use Rattle.std.proofs.lemmas.Grind.{common_steps}
 use Rattle.std.specs.List.{list_all, range_with_len}

@@ -1,5 +1,6 @@
 -- What is kept of a hub's configuration is so at the start, and stays so with each step of a run and each device that comes home.
 use Rattle.command_rules.specs.Rosters.{command_at, is_on, is_run, run_no}
+use Rattle.device_gate.specs.declared.slips.Told.TheVariants.{Worked}
 use Rattle.history_book.proofs.Searches.{some_is}
 use Rattle.history_book.specs.Histories.{entries_of, entry}
 use Rattle.history_book.specs.Plans.{split_of}
@@ -9,7 +10,6 @@ use Rattle.history_book.specs.WellFormed.{along, may_follow}
 use Rattle.history_book.specs.declared.entries.End.TheVariants.{Committed}
 use Rattle.history_book.specs.declared.entries.Entry.{Entry}
 use Rattle.history_book.specs.declared.entries.Entry.TheVariants.{Arrived, Did, Ended, Placed}
-use Rattle.device_gate.specs.declared.slips.Told.TheVariants.{Worked}
 use Rattle.home_types.specs.Commands.{driven, reads}
 use Rattle.home_types.specs.HomeStates.{stand_at}
 use Rattle.home_types.specs.Kinds.{kind_at}

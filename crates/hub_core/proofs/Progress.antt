@@ -1,28 +1,24 @@
 -- Where no device is out and a run has not ended, some run goes on.
 use Rattle.command_rules.specs.Rosters.{device_no, is_run, run_no}
-use Rattle.history_book.proofs.Searches.{none_is}
+use Rattle.history_book.proofs.Searches.{none_is, some_is}
 use Rattle.history_book.proofs.Shapes.{Shaped, shapes}
 use Rattle.history_book.proofs.Standing.{Standing, standing}
 use Rattle.history_book.specs.Histories.{entries_of}
 use Rattle.history_book.specs.Lines.{before, is_ran}
 use Rattle.history_book.specs.Readings.{PlacedAt, Reading, is_live, next_command, next_of}
-use Rattle.history_book.specs.Settings.{Setting, device_numbers}
+use Rattle.history_book.specs.Settings.{Setting, device_numbers, run_numbers}
 use Rattle.history_book.specs.declared.entries.End.TheVariants.{Committed}
 use Rattle.history_book.specs.declared.entries.Entry.TheVariants.{Arrived, Ended, Placed}
 use Rattle.home_types.specs.declared.commands.Command.{Command}
 use Rattle.home_types.specs.declared.items.Item.{Item}
 use Rattle.home_types.specs.declared.items.Item.TheVariants.{Back, Failed, Ran}
-use Rattle.history_book.proofs.Searches.{some_is}
 use Rattle.hub_core.proofs.Sizes.{run_there}
-use Rattle.hub_core.specs.Steps.{not_quiet}
-use Rattle.hub_core.specs.declared.refusals.NotQuiet.TheVariants.{StillLive, StillOut}
-use Rattle.history_book.specs.Settings.{run_numbers}
-use Rattle.std.specs.Option.{option_or}
 use Rattle.hub_core.proofs.StageChoices.{StepsPlainly, choice_plain, live_stands, steps_plainly}
 use Rattle.hub_core.proofs.Takes.{live_run}
 use Rattle.hub_core.specs.HubKept.{ConfigurationIsKept}
 use Rattle.hub_core.specs.Stage.{plain_choice, plain_command}
-use Rattle.hub_core.specs.Steps.{Absent, Choice, HandsOut, Moves, Over, Waits, choice_of, only_if}
+use Rattle.hub_core.specs.Steps.{Absent, Choice, HandsOut, Moves, Over, Waits, choice_of, not_quiet, only_if}
+use Rattle.hub_core.specs.declared.refusals.NotQuiet.TheVariants.{StillLive, StillOut}
 use Rattle.lock_leasing.specs.Configurations.{Configuration, Grips, has_grip, is_out, read_of}
 use Rattle.lock_leasing.specs.Waits.{behind_wait, grip_wait, strict_wait}
 use Rattle.lock_leasing.specs.Words.{holds_device, live_before, live_runs}
@@ -30,6 +26,7 @@ use Rattle.std.proofs.Common.{ap, arith, cond, inl, inr, refl, subst, sym, ◌�
 use Rattle.std.proofs.lemmas.Grind.{common_steps}
 use Rattle.std.proofs.lemmas.List.Sums.{take_while-cons}
 use Rattle.std.specs.List.{cons_option, list_any, range_with_len}
+use Rattle.std.specs.Option.{option_or}
 use Rattle.std.specs.Prelude.{Bool, List, None, Option, Some, [], false, find, if◌then◌else◌, is_none, is_some, length, max, not, option_map, suc, true, unwrap_or, zero, ℕ, ◌&&◌, ◌+◌, ◌<◌, ◌==◌, ◌∷◌, ◌≡◌, ◌≤◌, ◌⊎◌}
 
 -- the run is told to wait
