@@ -14,3 +14,7 @@ pub mod HubReads
 pub mod Searching
 pub mod HubStates
 pub mod HubChoices
+pub mod Sizes
+pub mod Progress
+pub mod Calls
+pub mod Closings

@@ -54,6 +54,13 @@ impl ReadHistory {
         1 <= r.0 && r.0 as u64 <= self.roster.runs.len()
     }
 
+    /// How many runs the window has.
+    pub(crate) fn run_count(&self) -> u64
+        ensures { result ≡ length self.now.setting.runs }
+    {
+        self.roster.runs.len()
+    }
+
     /// How many devices the home has.
     pub(crate) fn device_count(&self) -> u64
         ensures { result ≡ length self.now.setting.first }
