@@ -19,9 +19,10 @@ use Rattle.home_types.specs.declared.numbers.DeviceNo.{DeviceNo}
 use Rattle.home_types.specs.declared.numbers.RunNo.{RunNo}
 use Rattle.hub_core.proofs.StageChoices.{StepsPlainly, choice_plain, steps_plainly}
 use Rattle.hub_core.specs.HubsKept.{HubIsKept}
-use Rattle.hub_core.specs.OpenHubs.{OpenHub, configuration_of, grip_in, held_in}
+use Rattle.hub_core.specs.OpenHubs.{OpenHub, configuration_of, grip_in, held_in, progress_of}
 use Rattle.hub_core.specs.Stage.{plain_choice, plain_command}
 use Rattle.hub_core.specs.Steps.{Absent, Choice, HandsOut, Moves, Over, Waits, choice_of}
+use Rattle.hub_core.specs.declared.known.RunProgress.{RunProgress}
 use Rattle.hub_core.specs.declared.purposes.Purpose.{Purpose as KeptPurpose}
 use Rattle.hub_core.specs.declared.waits.Why.TheVariants.{Behind, Busy, Strict}
 use Rattle.lock_leasing.specs.Configurations.{Commands, Grips, is_out, read_of}
@@ -124,3 +125,43 @@ pub choice_hub : {D : Type 0} (stands turns probes faults : D → ℕ) (s t : Op
 choice_hub {D = D} stands turns probes faults s t r m same k =
     subst (λ (x : OpenHub D). choice_of (configuration_of x) r m ≡ plain_choice x.setting (read_of (configuration_of x)) (configuration_of x).grips r (max x.moment m)) same
     (choice_plain (configuration_of s) s.rounds s.opened (held_in s) r m k.configuration)
+
+-- The last cases, of a run that is under way, by what is kept of it
+
+pub hub_commits : {D : Type 0} (stands turns probes faults : D → ℕ) (s t : OpenHub D) (r m : ℕ) (p : RunProgress) → s ≡ t → HubIsKept stands turns probes faults s
+    → true ≡ is_run s.setting.runs r → p ≡ progress_of ((read_of (configuration_of s)).run r) → p.ended ≡ None → None ≡ grip_wait t.setting (configuration_of t).grips r
+    → is_some p.arrived ≡ true → p.placed ≡ true → None ≡ next_command s.setting (read_of (configuration_of s)) r
+    → Over Committed (Ended (run_no r) Committed ∷ []) ≡ choice_of (configuration_of t) r m
+hub_commits {D = D} stands turns probes faults s t r m p same k run known going free there placed none =
+    case_commits s.setting (read_of (configuration_of s)) (configuration_of s).grips r (max s.moment m) (sym run)
+    (ap (λ (x : RunProgress). x.ended) (sym known) ∙ going)
+    (free ∙ ap (λ (x : OpenHub D). grip_wait x.setting (configuration_of x).grips r) (sym same))
+    (absent ((read_of (configuration_of s)).run r).arrived (ap (λ (x : RunProgress). is_some x.arrived) (sym known) ∙ there))
+    (absent ((read_of (configuration_of s)).run r).placed (ap (λ (x : RunProgress). x.placed) (sym known) ∙ placed))
+    none
+    ∙ sym (choice_plain (configuration_of s) s.rounds s.opened (held_in s) r m k.configuration)
+    ∙ ap (λ (x : OpenHub D). choice_of (configuration_of x) r m) same
+  where
+    absent : {A : Type 0} (o : Option A) → is_some o ≡ true → is_none o ≡ false
+    absent None e = absurd (cc)
+    absent (Some x) e = refl
+
+pub hub_commands : {D : Type 0} (stands turns probes faults : D → ℕ) (s t : OpenHub D) (r m : ℕ) (p : RunProgress) (c : Command) (x : Choice) → s ≡ t → HubIsKept stands turns probes faults s
+    → true ≡ is_run s.setting.runs r → p ≡ progress_of ((read_of (configuration_of s)).run r) → p.ended ≡ None → None ≡ grip_wait t.setting (configuration_of t).grips r
+    → is_some p.arrived ≡ true → p.placed ≡ true → Some c ≡ next_command s.setting (read_of (configuration_of s)) r
+    → x ≡ plain_command t.setting (read_of (configuration_of t)) (configuration_of t).grips r p.answered c
+    → x ≡ choice_of (configuration_of t) r m
+hub_commands {D = D} stands turns probes faults s t r m p c x same k run known going free there placed next is =
+    case_command s.setting (read_of (configuration_of s)) (configuration_of s).grips r (max s.moment m) c x (sym run)
+    (ap (λ (y : RunProgress). y.ended) (sym known) ∙ going)
+    (free ∙ ap (λ (y : OpenHub D). grip_wait y.setting (configuration_of y).grips r) (sym same))
+    (absent ((read_of (configuration_of s)).run r).arrived (ap (λ (y : RunProgress). is_some y.arrived) (sym known) ∙ there))
+    (absent ((read_of (configuration_of s)).run r).placed (ap (λ (y : RunProgress). y.placed) (sym known) ∙ placed))
+    next
+    (is ∙ ap (λ (y : OpenHub D). plain_command y.setting (read_of (configuration_of y)) (configuration_of y).grips r p.answered c) (sym same) ∙ ap (λ (y : RunProgress). plain_command s.setting (read_of (configuration_of s)) (configuration_of s).grips r y.answered c) known)
+    ∙ sym (choice_plain (configuration_of s) s.rounds s.opened (held_in s) r m k.configuration)
+    ∙ ap (λ (y : OpenHub D). choice_of (configuration_of y) r m) same
+  where
+    absent : {A : Type 0} (o : Option A) → is_some o ≡ true → is_none o ≡ false
+    absent None e = absurd (cc)
+    absent (Some y) e = refl
