@@ -18,3 +18,4 @@ pub mod Sizes
 pub mod Progress
 pub mod Calls
 pub mod Closings
+pub mod HubLaws

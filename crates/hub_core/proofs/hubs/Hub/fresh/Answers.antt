@@ -1,0 +1,1 @@
+use Rattle.hub_core.proofs.hubs.Hub.fresh.Goals as goal
