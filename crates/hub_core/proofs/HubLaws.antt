@@ -32,7 +32,7 @@ use Rattle.std.proofs.lemmas.Grind.{common_steps}
 use Rattle.std.proofs.lemmas.Option.{slice_get_within}
 use Rattle.std.specs.List.{range_with_len}
 use Rattle.std.specs.Option.{option_or}
-use Rattle.std.specs.Prelude.{Bool, IfNone, IfSome, IsTrue, List, None, Option, Some, [], false, find, if◌then◌else◌, is_none, is_some, length, nat_lt, option_map, slice_get, suc, true, zero, ℕ, ◌+◌, ◌<◌, ◌∷◌, ◌≡◌, ◌≢◌, ◌≤◌, ◌⊎◌}
+use Rattle.std.specs.Prelude.{Bool, IfNone, IfSome, IsTrue, List, None, Option, Some, [], false, find, if◌then◌else◌, is_none, is_some, length, nat_lt, not, option_map, slice_get, suc, true, zero, ℕ, ◌+◌, ◌<◌, ◌∷◌, ◌≡◌, ◌≢◌, ◌≤◌, ◌↔◌, ◌⊎◌}
 use Rattle.window_order.proofs.Promises.{order_stands}
 use Rattle.window_order.proofs.ReadFacts.{read_facts}
 use Rattle.window_order.proofs.StandingValues.{stands_home}
@@ -122,6 +122,13 @@ first_out_is {D = D} s (Some d) size some none =
     home : (y : ℕ) → (device : D) × (slice_get s.places y ≡ Some (Home device)) → is_out (configuration_of s).grips y ≡ false
     home y at = ap (λ o. is_some (grip_in o (device_at s.devices y).purpose)) at.1
 
+-- .. as the code finds it
+pub quiet_hub : {D : Type 0} (stands turns probes faults : D → ℕ) (s t : OpenHub D) (o : Option DeviceNo) → s ≡ t → HubIsKept stands turns probes faults s
+    → None ≡ find (λ q. is_none ((read_of (configuration_of s)).run q).ended) (run_numbers s.setting) → IfSome o (λ d. IsFirstOut s.places d.0) → IfNone o (AllHome s.places)
+    → option_map (λ d. StillOut d) o ≡ not_quiet (configuration_of t)
+quiet_hub {D = D} stands turns probes faults s t o same k ended some none =
+    quiet_out (configuration_of s) o ended (first_out_is s o k.places_size some none) ∙ ap (λ (x : OpenHub D). not_quiet (configuration_of x)) same
+
 -- Fresh hubs
 
 no_length : {A : Type 0} (xs : List A) → length xs ≡ 0 → xs ≡ []
@@ -159,6 +166,20 @@ fresh_home s (Some d) same out = absurd (
     let away : is_out (configuration_of s).grips d.0 ≡ true = ap (λ p. is_some (grip_in p (device_at s.devices d.0).purpose)) out.0.2 in
     let home : is_out (configuration_of s).grips d.0 ≡ false = ap (λ c. is_out c.grips d.0) same in
     let both : true ≡ false = sym away ∙ home in cc)
+
+pub none_by : {A : Type 0} (o : Option A) (b : Bool) → is_some o ≡ not b → b ≡ is_none o
+none_by None true is = refl
+none_by None false is = absurd (cc)
+none_by (Some x) true is = absurd (cc)
+none_by (Some x) false is = refl
+
+pub fresh_hub : {D : Type 0} (stands turns probes faults : D → ℕ) (s t : OpenHub D) (o : Option DeviceNo) (b : Bool) → s ≡ t → HubIsKept stands turns probes faults s → length s.history ≡ 0 → s.moment ≡ 0
+    → IfSome o (λ d. IsFirstOut s.places d.0) → IfNone o (AllHome s.places) → b ≡ is_none o → IsTrue b ↔ (configuration_of t ≡ opened t.setting t.rounds)
+fresh_hub {D = D} stands turns probes faults s t o b same k none start some home is = subst (λ (x : OpenHub D). IsTrue b ↔ (configuration_of x ≡ opened x.setting x.rounds)) same (to o some home is, λ fresh. is ∙ fresh_home s o fresh some)
+  where
+    to : (x : Option DeviceNo) → IfSome x (λ d. IsFirstOut s.places d.0) → IfNone x (AllHome s.places) → b ≡ is_none x → IsTrue b → configuration_of s ≡ opened s.setting s.rounds
+    to None some home is test = fresh_is stands turns probes faults s k none start home
+    to (Some d) some home is test = absurd (let both : true ≡ false = sym test ∙ is in cc)
 
 -- What a hub tells
 

@@ -114,7 +114,13 @@ impl<D: Device> Hub<D> {
     pub fn fresh(&self) -> bool
         ensures { IsTrue result ↔ (configuration_of self.now ≡ opened self.now.setting self.now.rounds) }
     {
-        self.history.len() == 0 && self.moment == 0 && self.gate.first_out().is_none()
+        if self.history.len() != 0 {
+            return false;
+        }
+        if self.moment != 0 {
+            return false;
+        }
+        self.gate.first_out().is_none()
     }
 
     /// How many probes of the device may still be taken, 0 for no device of the home.
