@@ -11,3 +11,7 @@ pub mod LineOrder
 pub mod HistoryKept
 pub mod Kept
 pub mod HubReads
+pub mod Sizes
+pub mod Progress
+pub mod Calls
+pub mod Closings
