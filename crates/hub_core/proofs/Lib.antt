@@ -11,7 +11,12 @@ pub mod LineOrder
 pub mod HistoryKept
 pub mod Kept
 pub mod HubReads
+pub mod Searching
+pub mod HubStates
+pub mod HubChoices
 pub mod Sizes
 pub mod Progress
 pub mod Calls
 pub mod Closings
+pub mod HubChanges
+pub mod HubOuts
