@@ -19,3 +19,5 @@ pub mod Progress
 pub mod Calls
 pub mod Closings
 pub mod HubLaws
+pub mod HubChanges
+pub mod HubOuts
