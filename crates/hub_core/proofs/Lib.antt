@@ -11,3 +11,5 @@ pub mod LineOrder
 pub mod HistoryKept
 pub mod Kept
 pub mod HubReads
+pub mod NewDevices
+pub mod NewHomes
