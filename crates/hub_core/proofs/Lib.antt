@@ -13,3 +13,4 @@ pub mod Kept
 pub mod HubReads
 pub mod NewDevices
 pub mod NewHomes
+pub mod HubOpens
