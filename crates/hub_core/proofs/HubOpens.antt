@@ -8,6 +8,8 @@ use Rattle.device_gate.specs.declared.slips.Slip.{Slip}
 use Rattle.device_gate.specs.declared.slips.Task.{Task}
 use Rattle.history_book.specs.Settings.{Setting, is_device}
 use Rattle.home_types.specs.Kinds.{has_value, kind_at}
+use Rattle.home_types.specs.declared.kinds.Kind.{Kind}
+use Rattle.history_book.specs.declared.entries.Kept.{Kept}
 use Rattle.home_types.specs.declared.modes.Mode.{Mode}
 use Rattle.hub_core.proofs.Kept.{starts}
 use Rattle.hub_core.specs.HubCalls.{IsOpened, entries_of_a_run}
@@ -247,3 +249,26 @@ first_opened tag stands turns probes faults home roster mode rounds known opens 
   probes_then = λ d device at. ap (λ (k : DeviceProgress). k.at_opening.probes) (known_there turns probes faults home rounds known d device opens.knows at);
   faults_then = λ d device at. ap (λ (k : DeviceProgress). k.at_opening.faults) (known_there turns probes faults home rounds known d device opens.knows at);
 }
+
+-- what was put together is the hub of a window that opens
+pub is_first_hub : {D : Type 0} (home : HomeState D) (roster : Roster) (mode : Mode) (rounds : ℕ) (known : List DeviceProgress) (kinds : List Kind) (world : List Stand) (devices : List D) (opened' : ℕ) (setting : Setting) (history : List Kept) (places : List (Place D)) (tickets : ℕ)
+    → ◌≡◌ {A = HomeState D} (record { kinds = kinds; world = world; devices = devices; opened = opened' }) home
+    → ◌≡◌ {A = Setting} setting (record { runs = runs_of roster; mode = mode; kinds = kinds; first = world })
+    → history ≡ [] → places ≡ all_home devices → tickets ≡ 0
+    → ◌≡◌ {A = OpenHub D} (record { setting = setting; rounds = rounds; opened = opened'; history = history; moment = 0; devices = known; places = places; tickets = tickets }) (first_hub home roster mode rounds known)
+is_first_hub {D = D} home roster mode rounds known kinds world devices opened' setting history places tickets seen fixed none at_home no_ticket = λ i. record {
+  setting = settings i;
+  rounds = rounds;
+  opened = ap (λ (h : HomeState D). h.opened) seen i;
+  history = none i;
+  moment = 0;
+  devices = known;
+  places = all_places i;
+  tickets = no_ticket i;
+}
+  where
+    settings : setting ≡ setting_for home roster mode
+    settings = fixed ∙ ap (λ (h : HomeState D). setting_for h roster mode) seen
+
+    all_places : places ≡ all_home home.devices
+    all_places = at_home ∙ ap (λ (h : HomeState D). all_home h.devices) seen
