@@ -6,6 +6,7 @@ use Rattle.history_book.specs.Lines.{with_run_in}
 use Rattle.history_book.specs.Plans.{planned_times, split_of}
 use Rattle.history_book.specs.Readings.{OfRun, Reading, put}
 use Rattle.history_book.specs.Settings.{Setting}
+use Rattle.history_book.specs.declared.entries.End.{End}
 use Rattle.history_book.specs.declared.entries.End.TheVariants.{Committed}
 use Rattle.history_book.specs.declared.entries.Entry.TheVariants.{Arrived, Did, Ended, Placed}
 use Rattle.history_book.specs.declared.entries.Entry.{Entry}
@@ -28,7 +29,7 @@ use Rattle.std.proofs.lemmas.List.{drop_all, length-append, length-set, take_all
 use Rattle.std.proofs.lemmas.List.Folds.{list_all-append}
 use Rattle.std.proofs.lemmas.Option.{slice_get_within}
 use Rattle.std.specs.List.{list_all}
-use Rattle.std.specs.Prelude.{Bool, IsTrue, List, None, Option, Some, [], is_some, length, slice_get, slice_set, suc, true, zero, ℕ, ◌++◌, ◌+◌, ◌-◌, ◌<◌, ◌∷◌, ◌≡◌, ◌≢◌, ◌≤◌, ◌||◌}
+use Rattle.std.specs.Prelude.{Bool, IsTrue, List, None, Option, Some, [], is_none, is_some, length, not, slice_get, slice_set, suc, true, zero, ℕ, ◌++◌, ◌+◌, ◌-◌, ◌<◌, ◌∷◌, ◌≡◌, ◌≢◌, ◌≤◌, ◌||◌}
 
 -- the place that was written, or another
 pub get_set : {A : Type 0} (xs : List A) (i j : ℕ) (y : A) → i < length xs
@@ -66,6 +67,22 @@ pub progress_is : (s : HistoryState) (line : Listed Item) (progress : List RunPr
 progress_is s line progress r p k run at =
     let place = run_place s.setting.runs r run in
     some_is p (progress_of ((read_in s).run r)) (sym at ∙ k.progress_is (r - 1) place.1 ∙ ap (λ q. Some (progress_of ((read_in s).run q))) (sym place.0))
+
+-- .. at the place of a run
+pub known_at : (s : HistoryState) (line : Listed Item) (progress : List RunProgress) (i : ℕ) (p : RunProgress)
+    → IsReadBeside s line progress → i < length progress → slice_get progress i ≡ Some p → p ≡ progress_of ((read_in s).run (1 + i))
+known_at s line progress i p k within at =
+    let next : suc i ≡ 1 + i = omega arith in
+    some_is p (progress_of ((read_in s).run (1 + i))) (sym at ∙ k.progress_is i (omega (arith, within, k.size)) ∙ ap (λ q. Some (progress_of ((read_in s).run q))) next)
+
+-- .. whether it has ended
+pub ended_at : (s : HistoryState) (line : Listed Item) (progress : List RunProgress) (i : ℕ) (p : RunProgress) (b : Bool)
+    → IsReadBeside s line progress → i < length progress → slice_get progress i ≡ Some p → is_some p.ended ≡ b → is_none ((read_in s).run (1 + i)).ended ≡ not b
+ended_at s line progress i p b k within at is = ap (λ (q : RunProgress). is_none q.ended) (sym (known_at s line progress i p k within at)) ∙ by_end p.ended is
+  where
+    by_end : (o : Option End) → is_some o ≡ b → is_none o ≡ not b
+    by_end None e = ap not e
+    by_end (Some x) e = ap not e
 
 pub entry_kept : (w : Setting) (h h₂ : List Kept) (n n₂ maker r : ℕ) (e : Entry) (line after : Listed Item) (progress : List RunProgress) (now : RunProgress)
     → IsReadBeside (record { setting = w; history = h; spare = n }) line progress

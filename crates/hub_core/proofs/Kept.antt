@@ -1,5 +1,6 @@
 -- What is kept of a hub's configuration is so at the start, and stays so with each step of a run and each device that comes home.
 use Rattle.command_rules.specs.Rosters.{command_at, is_on, is_run, run_no}
+use Rattle.device_gate.specs.declared.slips.Told.TheVariants.{Worked}
 use Rattle.history_book.proofs.Searches.{some_is}
 use Rattle.history_book.specs.Histories.{entries_of, entry}
 use Rattle.history_book.specs.Plans.{split_of}
@@ -9,7 +10,6 @@ use Rattle.history_book.specs.WellFormed.{along, may_follow}
 use Rattle.history_book.specs.declared.entries.End.TheVariants.{Committed}
 use Rattle.history_book.specs.declared.entries.Entry.{Entry}
 use Rattle.history_book.specs.declared.entries.Entry.TheVariants.{Arrived, Did, Ended, Placed}
-use Rattle.device_gate.specs.declared.slips.Told.TheVariants.{Worked}
 use Rattle.home_types.specs.Commands.{driven, reads}
 use Rattle.home_types.specs.HomeStates.{stand_at}
 use Rattle.home_types.specs.Kinds.{kind_at}
@@ -24,7 +24,7 @@ use Rattle.hub_core.proofs.Takes.{Follows, live_run, take_follows}
 use Rattle.hub_core.specs.HubKept.{CommandsAreOut, ConfigurationIsKept}
 use Rattle.hub_core.specs.Openings.{MayOpen, names_values_of}
 use Rattle.hub_core.specs.Stage.{StageAllows}
-use Rattle.hub_core.specs.Steps.{HandsOut, after_choice, after_give, after_take, at_moment, opened}
+use Rattle.hub_core.specs.Steps.{HandsOut, after_choice, after_give, after_take, at_moment, may_probe, opened}
 use Rattle.lock_leasing.specs.Configurations.{Commands, Configuration, Grip, Grips, Probes, Purpose, Undoes, has_grip, is_command, is_out, read_of}
 use Rattle.lock_leasing.specs.Places.{IsScheduled, MayBeOut}
 use Rattle.std.proofs.Common.{ap, append-nil, arith, refl, subst, sym, ◌∙◌}
@@ -78,7 +78,7 @@ gripless w n g r d fit run gone = by_grip (g d) refl
     not_live live = let both : true ≡ false = sym live ∙ gone in absurd (cc)
 
     not_zero : r ≡ 0 → ⊥
-    not_zero zero = let none : is_run w.runs 0 ≡ true = subst (λ x. is_run w.runs x ≡ true) zero run in absurd (cc)
+    not_zero none_first = let none : is_run w.runs 0 ≡ true = subst (λ x. is_run w.runs x ≡ true) none_first run in absurd (cc)
 
     idle : (q : ℕ) (p : Purpose) → g d ≡ Some (record { maker = q; purpose = p }) → q ≡ r → ⊥
     idle q (Commands k) out same = not_live (let may : IsTrue (is_live n q && is_next_on w n q d && (k == next_of n q)) = fit.runs.commands d q k out in let live : is_live n q ≡ true = grind (arith, common_steps) in subst (λ x. is_live n x ≡ true) same live)
@@ -263,3 +263,13 @@ starts w rounds opened' opens stage kinds =
     few : (b : Bool) → (if b then rounds else 0) ≤ rounds
     few true = omega arith
     few false = omega arith
+
+-- no probe is left in this stage
+pub no_probe : (s : Configuration) (rounds opened' : ℕ) (held : ℕ → ℕ) (d : ℕ) → ConfigurationIsKept s rounds opened' held → may_probe s d ≡ false
+no_probe s rounds opened' held d kept =
+    let none : s.probes d ≡ 0 = (let most : s.probes d ≤ rounds = kept.probes d in let zero' : rounds ≡ 0 = kept.stage.no_probes in omega (arith, most, zero')) in
+    rw none (never (is_device s.setting d && not (is_out s.grips d)))
+  where
+    never : (b : Bool) → (b && false) ≡ false
+    never true = refl
+    never false = refl

@@ -14,3 +14,10 @@ pub mod HubReads
 pub mod NewDevices
 pub mod NewHomes
 pub mod HubOpens
+pub mod Searching
+pub mod HubStates
+pub mod HubChoices
+pub mod Sizes
+pub mod Progress
+pub mod Calls
+pub mod Closings

@@ -1,47 +1,40 @@
 -- The step of a run in this stage.
 use Rattle.command_rules.specs.Rosters.{commands_of, device_no, followed_by, is_run, run_no, touches}
-use Rattle.history_book.specs.Lines.{before, is_ran}
-use Rattle.history_book.specs.Readings.{Reading, is_live, next_command, next_of, sees_down}
+use Rattle.history_book.proofs.Searches.{Each, own_devices}
+use Rattle.history_book.proofs.Standing.{Standing, is_abort, standing}
+use Rattle.history_book.specs.Histories.{entries_of}
+use Rattle.history_book.specs.Lines.{Split, before, is_ran}
+use Rattle.history_book.specs.Readings.{PlacedAt, Reading, is_live, next_command, next_of, sees_down}
 use Rattle.history_book.specs.Settings.{Setting, devices_of, is_device, is_strict, is_weak}
+use Rattle.history_book.specs.declared.entries.Cause.{Cause}
+use Rattle.history_book.specs.declared.entries.Cause.TheVariants.{DownAtEnd, Revoked}
+use Rattle.history_book.specs.declared.entries.End.{End}
 use Rattle.history_book.specs.declared.entries.End.TheVariants.{Committed}
-use Rattle.history_book.specs.declared.entries.Entry.TheVariants.{Arrived, Ended, Placed}
+use Rattle.history_book.specs.declared.entries.Entry.TheVariants.{Arrived, Doomed, Ended, Placed}
 use Rattle.home_types.specs.Commands.{reads}
+use Rattle.home_types.specs.Kinds.{kind_at}
 use Rattle.home_types.specs.declared.commands.Command.{Command}
+use Rattle.home_types.specs.declared.commands.Job.{Job}
+use Rattle.home_types.specs.declared.commands.Job.TheVariants.{Check, Load, Set, Store}
 use Rattle.home_types.specs.declared.items.Item.{Item}
 use Rattle.home_types.specs.declared.items.Item.TheVariants.{Back, Failed, Ran}
 use Rattle.home_types.specs.declared.modes.Scheduler.TheVariants.{Fcfs}
 use Rattle.home_types.specs.declared.modes.Visibility.TheVariants.{Global}
-use Rattle.history_book.proofs.Searches.{Each, own_devices}
-use Rattle.history_book.specs.declared.entries.Cause.TheVariants.{DownAtEnd, Revoked}
-use Rattle.history_book.specs.declared.entries.Entry.TheVariants.{Doomed}
-use Rattle.history_book.proofs.Standing.{Standing, is_abort, standing}
-use Rattle.history_book.specs.Histories.{entries_of}
-use Rattle.history_book.specs.Readings.{PlacedAt}
-use Rattle.history_book.specs.declared.entries.End.{End}
-use Rattle.home_types.specs.Kinds.{kind_at}
-use Rattle.home_types.specs.declared.commands.Job.{Job}
-use Rattle.home_types.specs.declared.commands.Job.TheVariants.{Check, Load, Set, Store}
-use Rattle.hub_core.proofs.StageFacts.{ReadsPlainly, reads_plainly}
-use Rattle.hub_core.specs.HubKept.{ConfigurationIsKept}
-use Rattle.hub_core.specs.Openings.{names_values_of}
-use Rattle.hub_core.specs.Stage.{is_set}
-use Rattle.hub_core.specs.Steps.{choice_of}
-use Rattle.lock_leasing.specs.Configurations.{Configuration, read_of}
-use Rattle.std.proofs.lemmas.List.Sums.{take_while-cons}
-use Rattle.hub_core.specs.HubKept.{is_later, placed_in_order}
-use Rattle.hub_core.specs.Stage.{plain_choice, plain_command}
-use Rattle.hub_core.specs.Steps.{Absent, Choice, HandsOut, Moves, Over, Waits, answers_down, behind_case, busy_case, command_cases, decide, decide_answered, decide_arrived, decide_command, decide_doomed, dirty_case, down_case, down_entries, first_case, only_if, strict_case}
-use Rattle.hub_core.specs.declared.waits.Why.TheVariants.{Busy, Dirty}
-use Rattle.lock_leasing.specs.Configurations.{Commands, Grips, is_out}
-use Rattle.lock_leasing.specs.Places.{At, DeniedBy, Placing, at_end, scheduled_place}
-use Rattle.history_book.specs.Lines.{Split}
-use Rattle.history_book.specs.declared.entries.Cause.{Cause}
 use Rattle.hub_core.proofs.Choices.{Answered, Commanding, IsNext, decide_is}
+use Rattle.hub_core.proofs.StageFacts.{ReadsPlainly, reads_plainly}
+use Rattle.hub_core.specs.HubKept.{ConfigurationIsKept, is_later, placed_in_order}
+use Rattle.hub_core.specs.Openings.{names_values_of}
+use Rattle.hub_core.specs.Stage.{is_set, plain_choice, plain_command}
+use Rattle.hub_core.specs.Steps.{Absent, Choice, HandsOut, Moves, Over, Waits, answers_down, behind_case, busy_case, choice_of, command_cases, decide, decide_answered, decide_arrived, decide_command, decide_doomed, dirty_case, down_case, down_entries, first_case, only_if, strict_case}
 use Rattle.hub_core.specs.declared.waits.Why.{Why}
+use Rattle.hub_core.specs.declared.waits.Why.TheVariants.{Busy, Dirty}
+use Rattle.lock_leasing.specs.Configurations.{Commands, Configuration, Grips, is_out, read_of}
+use Rattle.lock_leasing.specs.Places.{At, DeniedBy, Placing, at_end, scheduled_place}
 use Rattle.lock_leasing.specs.Waits.{busy_wait, dirty_wait, down_at_end, follow_wait, grip_wait}
 use Rattle.lock_leasing.specs.Words.{has_touched, is_overdue, lease_deadline, live_before, live_runs, overdue_for, stamp_of}
 use Rattle.std.proofs.Common.{ap, arith, cond, refl, subst, sym, ◌∙◌}
 use Rattle.std.proofs.lemmas.Grind.{common_steps}
+use Rattle.std.proofs.lemmas.List.Sums.{take_while-cons}
 use Rattle.std.specs.List.{cons_option, list_all, list_any}
 use Rattle.std.specs.Prelude.{Bool, IsTrue, List, None, Option, Some, [], false, find, if◌then◌else◌, is_none, is_some, length, max, nat_lt, not, option_map, slice_get, suc, take, true, unwrap_or, ℕ, ◌&&◌, ◌==◌, ◌∷◌, ◌≡◌}
 

@@ -23,13 +23,13 @@ use Rattle.home_types.specs.declared.items.Item.{Item}
 use Rattle.home_types.specs.declared.items.Item.TheVariants.{Ran}
 use Rattle.home_types.specs.declared.kinds.Kind.{Kind}
 use Rattle.hub_core.specs.HubKept.{is_plain}
-use Rattle.std.proofs.Common.{ap, ap₂, append-nil, arith, refl, subst, sym, ◌∙◌}
+use Rattle.std.proofs.Common.{ap, append-nil, ap₂, arith, refl, subst, sym, ◌∙◌}
 use Rattle.std.proofs.lemmas.Grind.{common_steps}
 use Rattle.std.proofs.lemmas.List.Elements.{filter_map-append}
 use Rattle.std.proofs.lemmas.List.Folds.{list_all-append}
 use Rattle.std.specs.List.{list_all, list_any}
 use Rattle.std.specs.Option.{option_or}
-use Rattle.std.specs.Prelude.{Bool, IsTrue, List, None, Option, Some, [], false, fold, is_none, is_some, not, option_map, true, unwrap_or, ℕ, ◌&&◌, ◌++◌, ◌+◌, ◌∷◌, ◌≡◌, ◌||◌}
+use Rattle.std.specs.Prelude.{Bool, IsTrue, List, None, Option, Some, [], false, fold, is_none, is_some, not, option_map, true, unwrap_or, ℕ, ◌&&◌, ◌++◌, ◌+◌, ◌||◌, ◌∷◌, ◌≡◌}
 
 -- what a run has done on a device: nothing, or writes that worked
 pub record OnIsPlain (o : OnDevice) : Type 0 where

@@ -22,11 +22,11 @@ use Rattle.hub_core.specs.Steps.{Absent as IsAbsent, Choice, HandsOut, Moves, Ov
 use Rattle.hub_core.specs.declared.turns.Turn.TheVariants.{Absent, Go, Moved, Over, Wait}
 use Rattle.hub_core.specs.declared.turns.Turn.{Turn}
 use Rattle.hub_core.specs.declared.waits.Why.{Why}
-use Rattle.lock_leasing.specs.Configurations.{Configuration, Purpose, read_of}
+use Rattle.lock_leasing.specs.Configurations.{Commands, Configuration, Grip, Probes, Purpose, Undoes, read_of}
 use Rattle.lock_leasing.specs.Order.{OrderStands}
 use Rattle.lock_leasing.specs.Words.{standing_value}
-use Rattle.command_rules.specs.Rosters.{is_run}
-use Rattle.std.specs.Prelude.{Err, List, None, Ok, Option, Result, Some, [], length, slice_get, slice_index_or, slice_set, true, ℕ, ◌*◌, ◌+◌, ◌-◌, ◌<◌, ◌≡◌, ◌≢◌, ◌≤◌}
+use Rattle.command_rules.specs.Rosters.{command_at, is_run}
+use Rattle.std.specs.Prelude.{Bool, Err, List, None, Ok, Option, Result, Some, [], is_some, length, not, slice_get, slice_index_or, slice_set, true, ℕ, ◌*◌, ◌+◌, ◌-◌, ◌<◌, ◌≡◌, ◌≢◌, ◌≤◌, ◌||◌}
 
 -- the hub is in the same window, with the same counts of its devices at the opening
 pub record SameWindow {D : Type 0} (s t : OpenHub D) : Type 0 where
@@ -110,6 +110,22 @@ pub record IsClosed {D : Type 0} (turns probes faults : D → ℕ) (s : OpenHub 
   pub probes_rose : (d : ℕ) (device : D) → slice_get home.devices d ≡ Some device → probes device ≡ (device_at s.devices d).at_opening.probes + (s.rounds - (device_at s.devices d).probes_left)
   pub faults_rose : (d : ℕ) (device : D) → slice_get home.devices d ≡ Some device → faults device ≡ (device_at s.devices d).at_opening.faults + slice_index_or closed.faults.items d 0
 
+-- What a hub tells
+
+-- there is nothing to do for the run: the window has no such run, or it has ended
+abbrev pub is_past : Configuration → ℕ → Bool
+is_past s r = not (is_run s.setting.runs r) || is_some ((read_of s).run r).ended
+
+-- by how many ms a replay's moment rises with what the device is out for: that of a command, 0 for an undo or a probe
+abbrev pub grip_takes : Setting → Option Grip → ℕ
+grip_takes w None = 0
+grip_takes w (Some grip) = by_purpose grip.purpose
+  where
+    by_purpose : Purpose → ℕ
+    by_purpose (Commands k) = (command_at w.runs grip.maker k).takes
+    by_purpose (Undoes v) = 0
+    by_purpose (Probes v) = 0
+
 -- What is kept of every hub
 
 -- a device that is home, and counted up, stands at its standing value
@@ -122,18 +138,19 @@ pub record CallsAreTold {D : Type 0} (turns probes : D → ℕ) (s : OpenHub D) 
   pub turns_rose : (d : ℕ) (device : D) → slice_get s.places d ≡ Some (Home device) → turns device ≡ (device_at s.devices d).at_opening.turns + told_calls s.setting.runs (entries_of s.history) d
   pub probes_rose : (d : ℕ) (device : D) → slice_get s.places d ≡ Some (Home device) → probes device ≡ (device_at s.devices d).at_opening.probes + (s.rounds - (device_at s.devices d).probes_left)
 
--- in every hub the four clauses of the order hold, reads are clean, aborts are justified, devices stand where they should, and their calls are told
+-- in every hub each device has a place, the four clauses of the order hold, reads are clean, aborts are justified, devices stand where they should, and their calls are told
 pub record HubStands {D : Type 0} (stands turns probes : D → ℕ) (s : OpenHub D) : Type 0 where
+  pub size : length s.places ≡ length s.setting.first
   pub order : OrderStands s.setting (read_of (configuration_of s)) (configuration_of s).grips
   pub clean : ReadsAreClean s.setting (entries_of s.history)
   pub justified : IsJustified s.setting (entries_of s.history)
   pub stand : DevicesStand stands s
   pub told : CallsAreTold turns probes s
 
--- where no device is out and some run has not ended, some run does not wait, at any moment
+-- where no device is out and some run has not ended, some run that has not ended does not wait, at any moment
 abbrev pub SomeRunMoves : Configuration → Type 0
 SomeRunMoves s = (r : ℕ) → is_run s.setting.runs r ≡ true → ((read_of s).run r).ended ≡ None → ((d : ℕ) → s.grips d ≡ None)
-    → (q : ℕ) × (is_run s.setting.runs q ≡ true) × ((m : ℕ) (why : Why) → choice_of s q m ≢ Waits why)
+    → (q : ℕ) × (is_run s.setting.runs q ≡ true) × (((read_of s).run q).ended ≡ None) × ((m : ℕ) (why : Why) → choice_of s q m ≢ Waits why)
 
 -- how many entries a history of one run has at most: its arrival, its placing, an answer to each command with a failure, a doom, an undo of each device with a failure, and its end
 abbrev pub entries_of_a_run : ℕ

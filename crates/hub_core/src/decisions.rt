@@ -1,9 +1,11 @@
-ghost use Rattle.std.specs.Prelude.{◌≡◌, ◌<◌, ◌≤◌, IsTrue, None, find, max, option_map, true, ℕ};
-ghost use Rattle.command_rules.specs.Rosters.{is_run};
+ghost use Rattle.std.specs.Prelude.{◌≡◌, ◌<◌, ◌≤◌, IsTrue, None, find, length, max, option_map, true, ℕ};
+ghost use Rattle.command_rules.specs.Rosters.{command_at, commands_of, is_run};
 ghost use Rattle.hub_core.specs.Decisions.{told_choice};
-ghost use Rattle.hub_core.specs.OpenHubs.{configuration_of};
+ghost use Rattle.hub_core.specs.HubSteps.{command_task, task_of};
+ghost use Rattle.hub_core.specs.OpenHubs.{configuration_of, purpose_of};
+ghost use Rattle.hub_core.specs.Stage.{plain_command};
 ghost use Rattle.hub_core.specs.Steps.{choice_of};
-ghost use Rattle.lock_leasing.specs.Configurations.{read_of};
+ghost use Rattle.lock_leasing.specs.Configurations.{Commands, has_grip, is_out, read_of};
 ghost use Rattle.lock_leasing.specs.Waits.{behind_wait, grip_wait, strict_wait};
 
 use crate::hubs::Hub;
@@ -61,6 +63,7 @@ impl<D: Device> Hub<D> {
 
     /// What the next command of `r`, with the number `k`, is to do.
     fn decide_command(&self, r: RunNo, k: u32, command: Command) -> Chosen
+        ensures { (m : ℕ) → told_choice r.0 m (read_of (configuration_of self.now)) result ≡ plain_command self.now.setting (read_of (configuration_of self.now)) (configuration_of self.now).grips r.0 k command }
     {
         if let Some(x) = self.history.first_pending_before(r, command.device) {
             return Chosen::Waits(Why::Behind(command.device, x));
@@ -68,7 +71,7 @@ impl<D: Device> Hub<D> {
         if let Some(x) = self.history.first_before(r) {
             return Chosen::Waits(Why::Strict(x));
         }
-        if self.gate.slip(command.device).is_some() {
+        if self.is_out(command.device) {
             return Chosen::Waits(Why::Busy(command.device));
         }
         Chosen::HandsOut(command.device, Purpose::Command(k))
@@ -78,19 +81,37 @@ impl<D: Device> Hub<D> {
     fn grip_of(&self, r: RunNo) -> Option<DeviceNo>
         ensures { option_map (λ d. d.0) result ≡ grip_wait self.now.setting (configuration_of self.now).grips r.0 }
     {
-        for at in 0..self.history.device_count() {
+        'devices: for at in 0..self.history.device_count() {
             let d = DeviceNo(at as u16);
-            if let Some(slip) = self.gate.slip(d) {
-                if slip.maker == r.0 {
-                    return Some(d);
-                }
+            if self.holds(r, d) {
+                return Some(d);
             }
         }
         None
     }
 
+    /// Whether the run holds the grip of the device.
+    fn holds(&self, r: RunNo, d: DeviceNo) -> bool
+        ensures { result ≡ has_grip (configuration_of self.now).grips r.0 d.0 }
+    {
+        match self.gate.slip(d) {
+            Some(slip) => slip.maker == r.0,
+            None => false,
+        }
+    }
+
+    /// Whether the device is out.
+    fn is_out(&self, d: DeviceNo) -> bool
+        ensures { result ≡ is_out (configuration_of self.now).grips d.0 }
+    {
+        self.gate.slip(d).is_some()
+    }
+
     /// What the grip of the run is to do for this purpose.
-    pub(crate) fn task(&self, r: RunNo, purpose: Purpose) -> Task {
+    pub(crate) fn task(&self, r: RunNo, purpose: Purpose) -> Task
+        requires command { (k : ℕ) → purpose_of purpose ≡ Commands k → IsTrue (is_run self.now.setting.runs r.0) × (k < length (commands_of self.now.setting.runs r.0)) }
+        ensures { result ≡ task_of (configuration_of self.now) r.0 (purpose_of purpose) }
+    {
         match purpose {
             Purpose::Command(k) => self.command_task(r, k),
             Purpose::Undo(value) => Task::Drive(value),
@@ -98,13 +119,20 @@ impl<D: Device> Hub<D> {
         }
     }
 
+    /// What the command `k` of the run does with its device.
     fn command_task(&self, r: RunNo, k: u32) -> Task
+        requires run { IsTrue (is_run self.now.setting.runs r.0) }
+        requires command { k < length (commands_of self.now.setting.runs r.0) }
+        ensures { result ≡ command_task (configuration_of self.now) r.0 (command_at self.now.setting.runs r.0 k) }
     {
-        let command = self.history.roster.commands(r)[k as usize];
+        let command = self.history.command(r, k);
         match command.job {
             Job::Set(value) => Task::Drive(value),
             Job::Check(_) | Job::Load => Task::Sense,
-            Job::Store => Task::Drive(self.history.kinds.get(command.device.0 as u64).unwrap().nearest(self.history.progress(r).register)),
+            Job::Store => {
+                let register = self.history.progress(r).register;
+                Task::Drive(self.history.kind(command.device).nearest(register))
+            }
         }
     }
 }

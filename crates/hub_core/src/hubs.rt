@@ -1,14 +1,15 @@
 ghost use Rattle.std.specs.Prelude.{◌≡◌, ◌+◌, ◌-◌, ◌<◌, ◌≤◌, ◌↔◌, IsTrue, None, [], length, true, ℕ};
-ghost use Rattle.hub_core.specs.HubCalls.{HistoryIsBounded, HubStands, SomeRunMoves};
+ghost use Rattle.hub_core.specs.HubCalls.{HistoryIsBounded, HubStands, SomeRunMoves, grip_takes, is_past};
 ghost use Rattle.hub_core.specs.OpenHubs.{configuration_of, device_at};
 ghost use Rattle.hub_core.specs.Steps.{not_quiet, opened};
 
 use crate::known::DeviceProgress;
+use crate::purposes::Purpose;
 use crate::read_histories::ReadHistory;
 use crate::refusals::NotQuiet;
 use device_gate::Gate;
 use device_states::{Device, Steady};
-use home_types::{DeviceNo, List, Stand};
+use home_types::{DeviceNo, List, RunNo, Stand};
 use std::marker::Model;
 
 /// The lists that closing a window fills: empty, each with room for every device.
@@ -122,5 +123,40 @@ impl<D: Device> Hub<D> {
             return Some(NotQuiet::StillLive(r));
         }
         self.gate.first_out().map(NotQuiet::StillOut)
+    }
+
+    /// Whether nothing is left to do for the run: the window has no such run, or it has ended.
+    pub fn is_over(&self, r: RunNo) -> bool
+        ensures { result ≡ is_past (configuration_of self.now) r.0 }
+    {
+        !self.history.has_run(r) || self.history.progress(r).ended.is_some()
+    }
+
+    /// How many runs the window has.
+    pub fn run_count(&self) -> u32
+        ensures { result ≡ length self.now.setting.runs }
+    {
+        self.history.run_count() as u32
+    }
+
+    /// How many devices the home has.
+    pub fn device_count(&self) -> u64
+        ensures { result ≡ length self.now.setting.first }
+    {
+        self.history.device_count()
+    }
+
+    /// By how many ms a replay's moment rises with the command for which the device is out. 0 where it is home, or out
+    /// for an undo or a probe.
+    pub fn takes(&self, d: DeviceNo) -> u32
+        ensures { result ≡ grip_takes self.now.setting ((configuration_of self.now).grips d.0) }
+    {
+        let Some(slip) = self.gate.slip(d) else {
+            return 0;
+        };
+        match self.devices.get(d.0 as u64).map(|known| known.purpose) {
+            Some(Purpose::Command(k)) => self.history.command(RunNo(slip.maker), k).takes,
+            _ => 0,
+        }
     }
 }

@@ -1,11 +1,13 @@
 ghost use Rattle.std.specs.Prelude.{◌≡◌, ◌+◌, ◌<◌, ◌≤◌, ◌^◌, [], ◌∷◌, ◌++◌, IsTrue, Some, None, find, is_none, is_some, length, option_map, position, true, ℕ};
-ghost use Rattle.command_rules.specs.Rosters.{commands_of, is_run, run_no, runs_of};
+ghost use Rattle.command_rules.specs.Rosters.{command_at, commands_of, is_run, run_no, runs_of};
 ghost use Rattle.history_book.specs.Histories.{entries_of, kept_by};
+ghost use Rattle.history_book.specs.Lines.{is_ran};
 ghost use Rattle.history_book.specs.Settings.{run_numbers};
 ghost use Rattle.history_book.specs.Readings.{is_live, next_command, next_of, pends};
+ghost use Rattle.home_types.specs.Kinds.{kind_at};
 ghost use Rattle.hub_core.specs.OpenHubs.{progress_of};
-ghost use Rattle.hub_core.specs.ReadHistories.{read_in, with_entry};
-ghost use Rattle.lock_leasing.specs.Words.{live_before};
+ghost use Rattle.hub_core.specs.ReadHistories.{is_item_of, read_in, with_entry};
+ghost use Rattle.lock_leasing.specs.Words.{live_before, live_runs};
 
 use crate::known::RunProgress;
 use command_rules::Roster;
@@ -50,6 +52,13 @@ impl ReadHistory {
         ensures { result ≡ is_run self.now.setting.runs r.0 }
     {
         1 <= r.0 && r.0 as u64 <= self.roster.runs.len()
+    }
+
+    /// How many runs the window has.
+    pub(crate) fn run_count(&self) -> u64
+        ensures { result ≡ length self.now.setting.runs }
+    {
+        self.roster.runs.len()
     }
 
     /// How many devices the home has.
@@ -100,6 +109,25 @@ impl ReadHistory {
         self.roster.commands(r).get(next as usize).copied()
     }
 
+    /// The run's command of this number.
+    pub(crate) fn command(&self, r: RunNo, k: u32) -> Command
+        requires run { IsTrue (is_run self.now.setting.runs r.0) }
+        requires there { k < length (commands_of self.now.setting.runs r.0) }
+        ensures { result ≡ command_at self.now.setting.runs r.0 k }
+    {
+        self.roster.commands(r)[k as usize]
+    }
+
+    /// The kind of the device.
+    pub(crate) fn kind(&self, d: DeviceNo) -> Kind
+        ensures { result ≡ kind_at self.now.setting.kinds d.0 }
+    {
+        match self.kinds.get(d.0 as u64) {
+            Some(kind) => *kind,
+            None => Kind::States(0),
+        }
+    }
+
     /// Whether a command of the run on the device has no answer yet.
     pub(crate) fn pends(&self, r: RunNo, d: DeviceNo) -> bool
         requires run { IsTrue (is_run self.now.setting.runs r.0) }
@@ -118,13 +146,12 @@ impl ReadHistory {
         ensures { option_map (λ x. x.0) result ≡ find (λ x. true) (live_before (read_in self.now) r.0) }
     {
         'items: for item in self.line.as_slice() {
-            if let Item::Ran(x) = *item {
-                if x == r {
-                    return None;
-                }
-                if self.is_live(x) {
-                    return Some(x);
-                }
+            if is_ran(*item, r) {
+                return None;
+            }
+            let live = self.live_run(*item);
+            if live.is_some() {
+                return live;
             }
         }
         None
@@ -135,13 +162,12 @@ impl ReadHistory {
         ensures { option_map (λ x. x.0) result ≡ find (λ x. pends self.now.setting (read_in self.now) x d.0) (live_before (read_in self.now) r.0) }
     {
         'items: for item in self.line.as_slice() {
-            if let Item::Ran(x) = *item {
-                if x == r {
-                    return None;
-                }
-                if self.is_live(x) && self.pends(x, d) {
-                    return Some(x);
-                }
+            if is_ran(*item, r) {
+                return None;
+            }
+            let pending = self.pending_run(*item, d);
+            if pending.is_some() {
+                return pending;
             }
         }
         None
@@ -152,9 +178,34 @@ impl ReadHistory {
         requires few { length self.now.setting.runs < 2 ^ 32 }
         ensures { option_map (λ x. x.0) result ≡ find (λ r. is_none ((read_in self.now).run r).ended) (run_numbers self.now.setting) }
     {
-        let progress = self.progress.as_slice();
-        let place = progress.iter().position(|run| run.ended.is_none())?;
-        Some(RunNo(place as u32 + 1))
+        'runs: for at in 0..self.progress.len() {
+            if self.progress.get(at).unwrap().ended.is_none() {
+                return Some(RunNo(at as u32 + 1));
+            }
+        }
+        None
+    }
+
+    /// The run that the item of the line is, where it is live.
+    fn live_run(&self, item: Item) -> Option<RunNo>
+        requires run { IsTrue (is_item_of self.now.setting item) }
+        ensures { option_map (λ x. x.0) result ≡ find (λ x. true) (live_runs (read_in self.now) (item ∷ [])) }
+    {
+        match item {
+            Item::Ran(x) if self.is_live(x) => Some(x),
+            _ => None,
+        }
+    }
+
+    /// The run that the item of the line is, where it is live and a command of it on the device has no answer yet.
+    fn pending_run(&self, item: Item, d: DeviceNo) -> Option<RunNo>
+        requires run { IsTrue (is_item_of self.now.setting item) }
+        ensures { option_map (λ x. x.0) result ≡ find (λ x. pends self.now.setting (read_in self.now) x d.0) (live_runs (read_in self.now) (item ∷ [])) }
+    {
+        match item {
+            Item::Ran(x) if self.is_live(x) && self.pends(x, d) => Some(x),
+            _ => None,
+        }
     }
 
     /// The run arrives.
@@ -218,5 +269,15 @@ impl ReadHistory {
         self.progress.set(at, RunProgress { ended: Some(End::Committed), ..progress });
         self.book.push(Kept { maker: r.0, entry });
         entry
+    }
+}
+
+/// Whether the item is the run.
+fn is_ran(item: Item, r: RunNo) -> bool
+    ensures { result ≡ is_ran r.0 item }
+{
+    match item {
+        Item::Ran(x) => x == r,
+        Item::Failed(_, _) | Item::Back(_, _) => false,
     }
 }

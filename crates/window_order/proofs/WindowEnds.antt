@@ -23,9 +23,10 @@ use Rattle.std.proofs.lemmas.Grind.{common_steps}
 use Rattle.std.proofs.lemmas.List.FromFn.{get_or-map-range_with_len, length-map-range_with_len}
 use Rattle.std.specs.List.{cons_option, list_all, list_any}
 use Rattle.std.specs.Option.{option_or}
-use Rattle.std.specs.Prelude.{◌+◌, ◌++◌, Bool, IsTrue, List, None, Option, Some, [], cond, count_by, false, filter, filter_map, fold, if◌then◌else◌, is_none, is_some, length, not, option_map, true, unwrap_or, ℕ, ◌&&◌, ◌<◌, ◌==◌, ◌||◌, ◌∷◌, ◌≡◌}
+use Rattle.std.specs.Prelude.{◌+◌, ◌++◌, Bool, IsTrue, List, None, Option, Some, [], cond, count_by, false, filter, filter_map, fold, if◌then◌else◌, is_none, is_some, length, nat_lt, not, option_map, true, unwrap_or, ℕ, ◌&&◌, ◌<◌, ◌==◌, ◌||◌, ◌∷◌, ◌≡◌}
 use Rattle.window_order.proofs.ReadFacts.{IsRead}
 use Rattle.window_order.proofs.SettledOrders.{same_home, settled_agree}
+use Rattle.window_order.proofs.StandingValues.{stands_home}
 use Rattle.window_order.specs.OrderKept.{OrderIsKept}
 
 abbrev pub NoneIsLive : Reading → Type 0
@@ -256,3 +257,12 @@ agrees_at_end w n g held last s o weak over size each =
         get_or-map-range_with_len stand 0 (length w.first) d d nowhere lt (omega arith)
         ∙ ap (λ v. record { value = v; up = n.up d }) (sym (standing_committed w n g held d s o weak over))
         ∙ sym (each d lt)
+
+-- and so where each device is home, up, and left where it stands
+pub agrees_where_home : (w : Setting) (n : Reading) (g : Grips) (held : ℕ → ℕ) (last : List Stand) → IsRead w n → OrderIsKept w n g held → is_weak w.mode ≡ false → NoneIsLive n → length last ≡ length w.first
+    → ((d : ℕ) → d < length w.first → g d ≡ None) → ((d : ℕ) → d < length w.first → n.up d ≡ true) → ((d : ℕ) → d < length w.first → stand_at last d ≡ record { value = held d; up = n.up d }) → AgreesAtEnd w n last
+agrees_where_home w n g held last s o weak over size home up each =
+    agrees_at_end w n g held last s o weak over size (λ d lt. each d lt ∙ ap (λ v. record { value = v; up = n.up d }) (stands_home w n g held d s o weak (device d (length w.first) lt) (home d lt) (up d lt)))
+  where
+    device : (d k : ℕ) → d < k → nat_lt d k ≡ true
+    device d k lt = grind (arith, common_steps)

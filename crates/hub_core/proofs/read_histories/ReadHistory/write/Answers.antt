@@ -1,10 +1,11 @@
-use Rattle.command_rules.specs.Rosters.{is_run}
+use Rattle.command_rules.specs.Rosters.{is_run, runs_of}
 use Rattle.history_book.specs.Readings.{next_of}
 use Rattle.hub_core.proofs.HubReads.{progress_is, run_place, writes_beside}
 use Rattle.hub_core.proofs.read_histories.ReadHistory.write.Goals as goal
 use Rattle.std.proofs.Common.{ap, arith, sym, ◌∙◌}
 use Rattle.hub_core.specs.ReadHistories.{read_in}
 use Rattle.std.specs.Option.{option_copied}
+use Rattle.std.specs.Prelude.{length, ◌-◌, ◌<◌}
 
 pub invariant_of-self : goal.invariant_of-self
 invariant_of-self c =
@@ -17,4 +18,6 @@ overflow_add-progress c =
     omega (arith, ap (λ p. p.answered) known, next, c.requires.few)
 
 pub set-requires : goal.set-requires
-set-requires c = (run_place _ _ (ap (λ s. is_run s.setting.runs c.args.r.0) c.self.view_is ∙ c.requires.run)).1
+set-requires c =
+    let within : c.args.r.0 - 1 < length (runs_of c.self.inside.roster) = (run_place _ _ (ap (λ s. is_run s.setting.runs c.args.r.0) c.self.view_is ∙ c.requires.run)).1 in
+    omega (arith, within, c.self.invariant.size)
