@@ -18,3 +18,4 @@ pub mod ReadHistories
 pub mod HubsKept
 pub mod Decisions
 pub mod OpeningRooms
+pub mod ClosedHomes
