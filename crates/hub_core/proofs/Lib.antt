@@ -11,6 +11,9 @@ pub mod LineOrder
 pub mod HistoryKept
 pub mod Kept
 pub mod HubReads
+pub mod NewDevices
+pub mod NewHomes
+pub mod HubOpens
 pub mod Searching
 pub mod HubStates
 pub mod HubChoices
