@@ -21,3 +21,4 @@ pub mod Sizes
 pub mod Progress
 pub mod Calls
 pub mod Closings
+pub mod HubCloses
