@@ -35,7 +35,7 @@ use Rattle.window_order.proofs.Steps.{arrives_kept, commits_kept, goes_kept, pla
 use Rattle.window_order.specs.OrderKept.{GripsFit, OrderIsKept}
 
 -- the moment alone
-kept_at : (s : Configuration) (rounds opened m : ℕ) (held : ℕ → ℕ) → ConfigurationIsKept s rounds opened held → ConfigurationIsKept (at_moment s m) rounds opened held
+pub kept_at : (s : Configuration) (rounds opened m : ℕ) (held : ℕ → ℕ) → ConfigurationIsKept s rounds opened held → ConfigurationIsKept (at_moment s m) rounds opened held
 kept_at s rounds opened m held kept =
     record {
       opens = kept.opens;

@@ -22,3 +22,6 @@ pub mod Progress
 pub mod Calls
 pub mod Closings
 pub mod HubCloses
+pub mod HubLaws
+pub mod HubChanges
+pub mod HubOuts

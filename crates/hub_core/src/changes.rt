@@ -85,9 +85,9 @@ impl<D: Steady> Hub<D> {
         ensures out { GoesOut self.old r.0 moment result self.new }
         ensures window { SameWindow self.old self.new }
     {
-        self.moment = self.moment.max(moment);
         let task = self.task(r, purpose);
         let known = *self.devices.get(d.0 as u64).unwrap();
+        self.moment = self.moment.max(moment);
         self.devices.set(d.0 as u64, DeviceProgress { purpose, ..known });
         self.gate.hand_out(d, r.0, known.held, task)
     }
@@ -99,18 +99,20 @@ impl<D: Steady> Hub<D> {
         ensures given { IsGiven self.old grip moment (Ok result) self.new }
         ensures window { SameWindow self.old self.new }
     {
-        self.moment = self.moment.max(moment);
         let slip = grip.slip();
-        let Task::Drive(held) = grip.task() else {
-            unreachable!()
-        };
-        let d = slip.device.0 as u64;
-        let known = *self.devices.get(d).unwrap();
+        let d = slip.device;
+        let known = *self.devices.get(d.0 as u64).unwrap();
         let Purpose::Command(k) = known.purpose else {
             unreachable!()
         };
+        let Task::Drive(held) = grip.task() else {
+            unreachable!()
+        };
         self.gate.take_in(grip);
-        self.devices.set(d, DeviceProgress { held, ..known });
+        // A steady device does not fail, so the call worked.
+        self.gate.device(d).calm();
+        self.moment = self.moment.max(moment);
+        self.devices.set(d.0 as u64, DeviceProgress { held, ..known });
         one_made(self.history.write(RunNo(slip.maker), k))
     }
 }

@@ -1,0 +1,404 @@
+-- A device that goes out keeps what the type of a hub keeps.
+use Rattle.command_rules.specs.Rosters.{command_at, commands_of, is_run}
+use Rattle.home_types.specs.Commands.{driven, reads}
+use Rattle.std.specs.Option.{option_copied}
+use Rattle.device_gate.specs.Calls.{is_counted_up, probed}
+use Rattle.device_gate.specs.Grips.{Gripped}
+use Rattle.device_gate.specs.declared.grips.Ready.{Ready}
+use Rattle.device_gate.specs.Places.{IsHome}
+use Rattle.device_gate.specs.declared.gates.Place.TheVariants.{Home, Out}
+use Rattle.device_gate.specs.declared.gates.Place.{Place}
+use Rattle.device_gate.specs.declared.slips.Slip.{Slip}
+use Rattle.device_gate.specs.declared.slips.Task.{Task}
+use Rattle.device_gate.specs.declared.slips.Task.TheVariants.{Drive, Sense}
+use Rattle.device_states.specs.Devices.{HasRoom}
+use Rattle.std.proofs.lemmas.List.Sums.{sum_by-cons}
+use Rattle.std.specs.Borrow.{Bor}
+use Rattle.history_book.specs.Histories.{entries_of}
+use Rattle.history_book.specs.Readings.{next_command, next_of, put}
+use Rattle.history_book.specs.Settings.{Setting, is_device}
+use Rattle.history_book.specs.declared.entries.Kept.{Kept}
+use Rattle.home_types.specs.declared.commands.Command.{Command}
+use Rattle.hub_core.proofs.HubChanges.{few_entries, step_is, task_same, up_first}
+use Rattle.hub_core.proofs.HubReads.{get_set}
+use Rattle.hub_core.proofs.HubStates.{carried_set, device_here, device_there, grips_set, known_same, place_here, place_there}
+use Rattle.hub_core.proofs.Kept.{take_kept}
+use Rattle.hub_core.proofs.StageChoices.{plain_is, steps_plainly}
+use Rattle.hub_core.specs.AccountedCalls.{tells_call, told_calls}
+use Rattle.hub_core.specs.Homes.{CountsAreLow}
+use Rattle.home_types.specs.Kinds.{has_value, kind_at}
+use Rattle.hub_core.specs.HubKept.{ConfigurationIsKept}
+use Rattle.hub_core.specs.HubSteps.{Chose, HubState, HubStep, Take, carried_after, task_of}
+use Rattle.hub_core.specs.HubCalls.{GoesOut, SameWindow}
+use Rattle.hub_core.specs.HubsKept.{FitsAtHome, FitsOut, HubIsKept, is_away, probes_now, turns_now}
+use Rattle.hub_core.specs.OpenHubs.{OpenHub, configuration_of, device_at, grip_in, held_in, purpose_of, state_of}
+use Rattle.hub_core.specs.Steps.{Choice, HandsOut, after_choice, after_take, at_moment, choice_of, with_grip}
+use Rattle.hub_core.specs.declared.known.DeviceProgress.{DeviceProgress}
+use Rattle.hub_core.specs.declared.purposes.Purpose.{Purpose as KeptPurpose}
+use Rattle.lock_leasing.specs.Configurations.{Commands, Configuration, Grip, Purpose, is_out, read_of}
+use Rattle.std.proofs.Common.{ap, ap₂, arith, cond, inl, inr, refl, subst, sym, ◌∙◌, ◌⊎◌}
+use Rattle.std.proofs.lemmas.Grind.{common_steps}
+use Rattle.std.proofs.lemmas.List.{length-set}
+use Rattle.std.proofs.lemmas.List.Sums.{count_by-le-length}
+use Rattle.std.proofs.lemmas.Option.{slice_get_within}
+use Rattle.std.specs.Prelude.{Bool, IsTrue, List, None, Option, Some, [], count_by, false, if◌then◌else◌, is_some, length, max, slice_get, slice_set, suc, true, zero, ℕ, ⊤, ◌*◌, ◌+◌, ◌-◌, ◌<◌, ◌∷◌, ◌≡◌, ◌≢◌, ◌≤◌}
+
+-- Why it goes
+
+-- the step that hands a device out is for the next command of a run of the window, whose device is home
+pub record IsHandedOut (s : Configuration) (r d : ℕ) (purpose : Purpose) : Type 0 where
+  pub command : Command
+  pub run : is_run s.setting.runs r ≡ true
+  pub next : next_command s.setting (read_of s) r ≡ Some command
+  pub is : purpose ≡ Commands (next_of (read_of s) r)
+  pub home : is_out s.grips d ≡ false
+  pub device : is_device s.setting d ≡ true
+
+same_device : (d e : ℕ) (p q : Purpose) → HandsOut d p ≡ HandsOut e q → d ≡ e
+same_device d e p q is = cc
+
+same_purpose : (d e : ℕ) (p q : Purpose) → HandsOut d p ≡ HandsOut e q → p ≡ q
+same_purpose d e p q is = cc
+
+pub handed_out : (s : Configuration) (rounds opened : ℕ) (held : ℕ → ℕ) (r m d : ℕ) (purpose : Purpose) → ConfigurationIsKept s rounds opened held → choice_of s r m ≡ HandsOut d purpose → IsHandedOut s r d purpose
+handed_out s rounds opened held r m d purpose kept =
+    let plainly = steps_plainly s rounds opened held kept in
+    plain_is (λ c. c ≡ HandsOut d purpose → IsHandedOut s r d purpose) s.setting (read_of s) s.grips r (max s.moment m) plainly (record {
+      absent = λ none is. absurd (cc);
+      over = λ e at is. absurd (cc);
+      waits = λ why is. absurd (cc);
+      arrives = λ run none is. absurd (cc);
+      enters = λ run none is. absurd (cc);
+      goes = λ c run next home is. record {
+        command = c;
+        run = run.act.run;
+        next = run.next;
+        is = sym (same_purpose c.device.0 d (Commands (next_of (read_of s) r)) purpose is);
+        home = subst (λ e. is_out s.grips e ≡ false) (same_device c.device.0 d (Commands (next_of (read_of s) r)) purpose is) home;
+        device = subst (λ e. is_device s.setting e ≡ true) (same_device c.device.0 d (Commands (next_of (read_of s) r)) purpose is) (plainly.homed r (next_of (read_of s) r) c run.next);
+      };
+      commits = λ all is. absurd (cc);
+    })
+
+gone_past : {A : Type 0} (xs : List A) (i : ℕ) → slice_get xs i ≡ None → length xs ≤ i
+gone_past [] i none = omega arith
+gone_past (x ∷ xs) zero none = absurd (cc)
+gone_past (x ∷ xs) (suc i) none = omega (arith, gone_past xs i none)
+
+pub device_within : (w : Setting) (d : ℕ) → is_device w d ≡ true → d < length w.first
+device_within w d home = grind (arith, common_steps)
+
+-- a device that is not out is home
+pub home_place : {D : Type 0} (s : OpenHub D) (d : ℕ) → d < length s.places → is_out (configuration_of s).grips d ≡ false → IsHome s.places d
+home_place {D = D} s d within home = by_place (slice_get s.places d) refl home
+  where
+    by_place : (o : Option (Place D)) → slice_get s.places d ≡ o → is_some (grip_in o (device_at s.devices d).purpose) ≡ false → IsHome s.places d
+    by_place None at is = absurd (omega (arith, within, gone_past s.places d at))
+    by_place (Some (Home device)) at is = (device, at)
+    by_place (Some (Out slip task)) at is = absurd (cc)
+
+-- the run of a step that hands a device out has the command
+pub command_there : {D : Type 0} (s : OpenHub D) (rounds opened : ℕ) (held : ℕ → ℕ) (r m d k : ℕ) (purpose : Purpose) → ConfigurationIsKept (configuration_of s) rounds opened held → choice_of (configuration_of s) r m ≡ HandsOut d purpose
+    → purpose ≡ Commands k → IsTrue (is_run s.setting.runs r) × (k < length (commands_of s.setting.runs r))
+command_there s rounds opened held r m d k purpose kept is for =
+    let out = handed_out (configuration_of s) rounds opened held r m d purpose kept is in
+    let within : next_of (read_of (configuration_of s)) r < length (commands_of s.setting.runs r) = slice_get_within (commands_of s.setting.runs r) (next_of (read_of (configuration_of s)) r) out.command out.next in
+    (out.run, subst (λ x. x < length (commands_of s.setting.runs r)) (same_number (next_of (read_of (configuration_of s)) r) k (sym out.is ∙ for)) within)
+  where
+    same_number : (a b : ℕ) → Commands a ≡ Commands b → a ≡ b
+    same_number a b e = cc
+
+pub out_home : {D : Type 0} (stands turns probes faults : D → ℕ) (s : OpenHub D) (r m d : ℕ) (purpose : Purpose) → HubIsKept stands turns probes faults s → choice_of (configuration_of s) r m ≡ HandsOut d purpose → (d < length s.setting.first) × IsHome s.places d
+out_home stands turns probes faults s r m d purpose k is =
+    let out = handed_out (configuration_of s) s.rounds s.opened (held_in s) r m d purpose k.configuration is in
+    let within : d < length s.setting.first = device_within s.setting d out.device in
+    (within, home_place s d (omega (arith, within, k.places_size)) out.home)
+
+-- What it leaves with
+
+-- so often a device may still be called
+pub has_room : {D : Type 0} (stands turns probes faults : D → ℕ) (s : OpenHub D) (d : ℕ) (device : D) → HubIsKept stands turns probes faults s → slice_get s.places d ≡ Some (Home device) → HasRoom (turns device) (probes device + 1) (faults device)
+has_room stands turns probes faults s d device k at =
+    let fits = k.home d device at in
+    let windows : s.opened < 2147483648 = k.configuration.opens.few_windows in
+    let rounds : s.rounds ≤ 100 = k.configuration.opens.few_rounds in
+    let few : length s.history ≤ 132 * 64 = few_entries stands turns probes faults s k in
+    let calls : told_calls s.setting.runs (entries_of s.history) d ≤ length s.history = told_most s.setting s.history d in
+    let had_turns : (device_at s.devices d).at_opening.turns ≤ s.opened * 131072 = (k.low d).few_turns in
+    let had_probes : (device_at s.devices d).at_opening.probes ≤ s.opened * 131072 = (k.low d).few_probes in
+    let had_faults : (device_at s.devices d).at_opening.faults ≤ s.opened * 131072 = (k.low d).few_faults in
+    (omega (arith, fits.turns_are, windows, few, calls, had_turns), omega (arith, fits.probes_are, windows, rounds, had_probes), omega (arith, fits.faults_are, windows, had_faults))
+  where
+    length_entries : (h : List Kept) → length (entries_of h) ≡ length h
+    length_entries [] = refl
+    length_entries (e ∷ h) = ap suc (length_entries h)
+
+    told_most : (w : Setting) (h : List Kept) (e : ℕ) → told_calls w.runs (entries_of h) e ≤ length h
+    told_most w h e = let most : told_calls w.runs (entries_of h) e ≤ length (entries_of h) = count_by-le-length (tells_call w.runs e) (entries_of h) in omega (arith, most, length_entries h)
+
+pub few_tickets : {D : Type 0} (stands turns probes faults : D → ℕ) (s : OpenHub D) → HubIsKept stands turns probes faults s → s.tickets < 9223372036854775808
+few_tickets stands turns probes faults s k =
+    let few : length s.history ≤ 132 * 64 = few_entries stands turns probes faults s k in
+    let tickets : s.tickets ≤ length s.history + count_by is_away s.places = k.few_tickets in
+    let away : count_by is_away s.places ≤ length s.places = count_by-le-length is_away s.places in
+    let devices : length s.setting.first ≤ 256 = k.configuration.opens.few_devices in
+    omega (arith, few, tickets, away, devices, k.places_size)
+
+-- What is kept of another device
+
+pub other_home : {D : Type 0} (stands turns probes faults : D → ℕ) (s : OpenHub D) (x : List Kept) (m : ℕ) (v : List DeviceProgress) (u : List (Place D)) (k e : ℕ) (device : D)
+    → device_at v e ≡ device_at s.devices e
+    → told_calls s.setting.runs (entries_of x) e ≡ told_calls s.setting.runs (entries_of s.history) e
+    → (read_of (configuration_of (record s { history = x; moment = m; devices = v; places = u; tickets = k }))).up e ≡ (read_of (configuration_of s)).up e
+    → FitsAtHome stands turns probes faults s e device → FitsAtHome stands turns probes faults (record s { history = x; moment = m; devices = v; places = u; tickets = k }) e device
+other_home stands turns probes faults s x m v u k e device known told up' fits =
+    record {
+      stand = λ up. fits.stand (sym up' ∙ up) ∙ ap (λ (p : DeviceProgress). p.held) (sym known);
+      turns_are = fits.turns_are ∙ ap₂ (λ (p : DeviceProgress) n. p.at_opening.turns + n) (sym known) (sym told);
+      probes_are = fits.probes_are ∙ ap (λ (p : DeviceProgress). p.at_opening.probes + (s.rounds - p.probes_left)) (sym known);
+      faults_are = fits.faults_are ∙ ap (λ (p : DeviceProgress). p.at_opening.faults) (sym known);
+    }
+
+pub other_out : {D : Type 0} (s : OpenHub D) (x : List Kept) (m : ℕ) (v : List DeviceProgress) (u : List (Place D)) (k e : ℕ) (slip : Slip) (task : Task)
+    → device_at v e ≡ device_at s.devices e
+    → told_calls s.setting.runs (entries_of x) e ≡ told_calls s.setting.runs (entries_of s.history) e
+    → ((read_of (configuration_of s)).run slip.maker).register ≡ ((read_of (configuration_of (record s { history = x; moment = m; devices = v; places = u; tickets = k }))).run slip.maker).register
+    → FitsOut s e slip task → FitsOut (record s { history = x; moment = m; devices = v; places = u; tickets = k }) e slip task
+other_out s x m v u k e slip task known told register fits =
+    record {
+      device = fits.device;
+      stand = λ up. fits.stand up ∙ ap (λ (p : DeviceProgress). p.held) (sym known);
+      turns_are = fits.turns_are ∙ ap₂ (λ (p : DeviceProgress) n. p.at_opening.turns + n) (sym known) (sym told);
+      probes_are = fits.probes_are ∙ ap (λ (p : DeviceProgress). p.at_opening.probes + (s.rounds - p.probes_left)) (sym known);
+      faults_are = fits.faults_are ∙ ap (λ (p : DeviceProgress). p.at_opening.faults) (sym known);
+      does = fits.does ∙ task_same (configuration_of s) (configuration_of (record s { history = x; moment = m; devices = v; places = u; tickets = k })) slip.maker (purpose_of (device_at s.devices e).purpose) refl register
+          ∙ ap (λ (p : DeviceProgress). task_of (configuration_of (record s { history = x; moment = m; devices = v; places = u; tickets = k })) slip.maker (purpose_of p.purpose)) (sym known);
+    }
+
+count_cons : {A : Type 0} (p : A → Bool) (x : A) (xs : List A) → count_by p (x ∷ xs) ≡ cond (p x) 1 0 + count_by p xs
+count_cons p x xs = sum_by-cons (λ y. cond (p y) 1 0) x xs
+
+-- how many are away when one goes out
+count_gone : {D : Type 0} (places : List (Place D)) (d : ℕ) (device : D) (slip : Slip) (task : Task) → slice_get places d ≡ Some (Home device) → count_by is_away (slice_set places d (Out slip task)) ≡ count_by is_away places + 1
+count_gone [] d device slip task at = absurd (cc)
+count_gone (Home x ∷ places) zero device slip task at =
+    let now = count_cons is_away (Out slip task) places in
+    let before = count_cons is_away (Home x) places in
+    omega (arith, now, before)
+count_gone (Out x y ∷ places) zero device slip task at = absurd (cc)
+count_gone (p ∷ places) (suc d) device slip task at =
+    let now = count_cons is_away p (slice_set places d (Out slip task)) in
+    let before = count_cons is_away p places in
+    let rest = count_gone places d device slip task at in
+    omega (arith, now, before, rest)
+
+-- The device goes out
+
+abbrev pub gone : {D : Type 0} → OpenHub D → ℕ → KeptPurpose → Slip → Task → ℕ → OpenHub D
+gone s d purpose slip task m =
+    record s {
+      history = s.history;
+      moment = m;
+      devices = slice_set s.devices d (record (device_at s.devices d) { purpose = purpose });
+      places = slice_set s.places d (Out slip task);
+      tickets = s.tickets + 1;
+    }
+
+-- its slip is for the run, and says how it is
+pub record IsLeaving {D : Type 0} (turns probes faults : D → ℕ) (s : OpenHub D) (r d : ℕ) (purpose : KeptPurpose) (device : D) (slip : Slip) (task : Task) : Type 0 where
+  pub number : slip.device.0 ≡ d
+  pub maker : slip.maker ≡ r
+  pub stood : slip.stood ≡ held_in s d
+  pub had_turns : slip.turns ≡ turns device
+  pub had_probes : slip.probes ≡ probes device
+  pub had_faults : slip.faults ≡ faults device
+  pub does : task ≡ task_of (configuration_of s) r (purpose_of purpose)
+  pub not_probed : probed task ≡ 0
+
+pub gone_configuration : {D : Type 0} (s : OpenHub D) (r d m : ℕ) (purpose : KeptPurpose) (slip : Slip) (task : Task) → slip.maker ≡ r → d < length s.places → d < length s.devices
+    → configuration_of (gone s d purpose slip task (max s.moment m)) ≡ with_grip (at_moment (configuration_of s) m) d (Some (record { maker = r; purpose = purpose_of purpose }))
+gone_configuration s r d m purpose slip task maker within known =
+    let known_now = record (device_at s.devices d) { purpose = purpose } in
+    let probes : ◌≡◌ {A = ℕ → ℕ} (λ e. (device_at (slice_set s.devices d known_now) e).probes_left) (λ e. (device_at s.devices e).probes_left) = λ i e. known_same (λ (p : DeviceProgress). p.probes_left) s.devices d known_now known refl e i in
+    let grips : ◌≡◌ {A = ℕ → Option Grip} (λ e. grip_in (slice_get (slice_set s.places d (Out slip task)) e) (device_at (slice_set s.devices d known_now) e).purpose) (put (configuration_of s).grips d (Some (record { maker = r; purpose = purpose_of purpose }))) =
+        grips_set s.places s.devices d (Out slip task) known_now within known ∙ ap (λ q. put (configuration_of s).grips d (Some (record { maker = q; purpose = purpose_of purpose }))) maker in
+    λ i. record { setting = s.setting; history = s.history; moment = max s.moment m; probes = probes i; grips = grips i }
+
+pub gone_state : {D : Type 0} (s : OpenHub D) (r d m : ℕ) (purpose : KeptPurpose) (slip : Slip) (task : Task) → slip.maker ≡ r → task ≡ task_of (configuration_of s) r (purpose_of purpose) → d < length s.places → d < length s.devices
+    → state_of (gone s d purpose slip task (max s.moment m)) ≡ record { configuration = after_choice (at_moment (configuration_of s) m) r (HandsOut d (purpose_of purpose)); carried = carried_after (state_of s) r (HandsOut d (purpose_of purpose)) slip }
+gone_state s r d m purpose slip task maker does within known =
+    let configuration = gone_configuration s r d m purpose slip task maker within known in
+    let carried = carried_set s.places d (Out slip task) within ∙ ap (λ t. put (state_of s).carried d (Some (record { slip = slip; task = t }))) does in
+    λ i. record { configuration = configuration i; carried = carried i }
+
+pub gone_kept : {D : Type 0} (stands turns probes faults : D → ℕ) (s : OpenHub D) (r d m : ℕ) (purpose : KeptPurpose) (device : D) (slip : Slip) (task : Task)
+    → choice_of (configuration_of s) r m ≡ HandsOut d (purpose_of purpose) → slice_get s.places d ≡ Some (Home device) → IsLeaving turns probes faults s r d purpose device slip task
+    → HubIsKept stands turns probes faults s → HubIsKept stands turns probes faults (gone s d purpose slip task (max s.moment m))
+gone_kept {D = D} stands turns probes faults s r d m purpose device slip task is at leaves k =
+    record {
+      configuration = now;
+      devices_size = length-set s.devices d known_now ∙ k.devices_size;
+      places_size = length-set s.places d (Out slip task) ∙ k.places_size;
+      home = λ e other there. elim (get_set s.places d e (Out slip task) within) [
+        | inl p ↦ absurd (let both : Some (Out slip task) ≡ Some (Home other) = sym p.1 ∙ there in cc)
+        | inr q ↦ other_home stands turns probes faults s s.history (max s.moment m) _ _ _ e other (device_there s.devices d e known_now q.0) refl refl (k.home e other (sym q.1 ∙ there))
+      ];
+      out = λ e other does there. elim (get_set s.places d e (Out slip task) within) [
+        | inl p ↦ subst (λ (x : Place D). IsFitting e x) (same_place (Out slip task) (Out other does) (sym p.1 ∙ there)) (subst (λ x. IsFitting x (Out slip task)) (sym p.0) goes)
+        | inr q ↦ other_out s s.history (max s.moment m) _ _ _ e other does (device_there s.devices d e known_now q.0) refl refl (k.out e other does (sym q.1 ∙ there))
+      ];
+      low = λ e. subst (λ (c : _). CountsAreLow s.opened c.turns c.probes c.faults) (sym (known_same (λ (p : DeviceProgress). p.at_opening) s.devices d known_now known refl e)) (k.low e);
+      values = λ e home. subst (λ v. IsTrue (has_value (kind_at s.setting.kinds e) v)) (sym (known_same (λ (p : DeviceProgress). p.held) s.devices d known_now known refl e)) (k.values e home);
+      few_tickets = let few : s.tickets ≤ length s.history + count_by is_away s.places = k.few_tickets in let more = count_gone s.places d device slip task at in omega (arith, few, more);
+    }
+  where
+    known_now : DeviceProgress
+    known_now = record (device_at s.devices d) { purpose = purpose }
+
+    within : d < length s.places
+    within = slice_get_within s.places d (Home device) at
+
+    known : d < length s.devices
+    known = omega (arith, within, k.places_size, k.devices_size)
+
+    same_place : (x y : Place D) → Some x ≡ Some y → x ≡ y
+    same_place x y e = cc
+
+    t : OpenHub D
+    t = gone s d purpose slip task (max s.moment m)
+
+    IsFitting : ℕ → Place D → Type 0
+    IsFitting e (Home x) = ⊤
+    IsFitting e (Out x y) = FitsOut t e x y
+
+    now : ConfigurationIsKept (configuration_of t) s.rounds s.opened (held_in t)
+    now =
+        let taken : ConfigurationIsKept (after_choice (at_moment (configuration_of s) m) r (HandsOut d (purpose_of purpose))) s.rounds s.opened (held_in s) =
+            subst (λ c. ConfigurationIsKept (after_choice (at_moment (configuration_of s) m) r c) s.rounds s.opened (held_in s)) is (take_kept (configuration_of s) s.rounds s.opened (held_in s) r m k.configuration) in
+        let held : ◌≡◌ {A = ℕ → ℕ} (held_in s) (held_in t) = sym (λ i e. known_same (λ (p : DeviceProgress). p.held) s.devices d known_now known refl e i) in
+        subst (λ (c : Configuration). ConfigurationIsKept c s.rounds s.opened (held_in t)) (sym (gone_configuration s r d m purpose slip task leaves.maker within known)) (subst (λ h. ConfigurationIsKept (after_choice (at_moment (configuration_of s) m) r (HandsOut d (purpose_of purpose))) s.rounds s.opened h) held taken)
+
+    goes : FitsOut t d slip task
+    goes =
+        let fits = k.home d device at in
+        let here = device_here s.devices d known_now known in
+        record {
+          device = leaves.number;
+          stand = λ up. leaves.stood ∙ ap (λ (p : DeviceProgress). p.held) (sym here);
+          turns_are = leaves.had_turns ∙ fits.turns_are ∙ ap (λ (p : DeviceProgress). p.at_opening.turns + told_calls s.setting.runs (entries_of s.history) d) (sym here);
+          probes_are = ap (λ n. slip.probes + n) leaves.not_probed ∙ plus_none slip.probes ∙ leaves.had_probes ∙ fits.probes_are ∙ ap (λ (p : DeviceProgress). p.at_opening.probes + (s.rounds - p.probes_left)) (sym here);
+          faults_are = leaves.had_faults ∙ fits.faults_are ∙ ap (λ (p : DeviceProgress). p.at_opening.faults) (sym here);
+          does = leaves.does ∙ task_same (configuration_of s) (configuration_of t) r (purpose_of purpose) refl refl
+              ∙ ap₂ (λ q (p : DeviceProgress). task_of (configuration_of t) q (purpose_of p.purpose)) (sym leaves.maker) (sym here);
+        }
+      where
+        plus_none : (n : ℕ) → n + 0 ≡ n
+        plus_none n = omega arith
+
+-- a task of a command makes no probe
+not_probing : (s : Configuration) (r k : ℕ) → probed (task_of s r (Commands k)) ≡ 0
+not_probing s r k = by_reading (reads (command_at s.setting.runs r k).job)
+  where
+    by_reading : (b : Bool) → probed (if b then Sense else Drive (driven (kind_at s.setting.kinds (command_at s.setting.runs r k).device.0) (command_at s.setting.runs r k).job ((read_of s).run r).register)) ≡ 0
+    by_reading true = refl
+    by_reading false = refl
+
+at_index : (xs : List DeviceProgress) (i : ℕ) (x : DeviceProgress) → slice_get xs i ≡ Some x → device_at xs i ≡ x
+at_index [] i x at = absurd (cc)
+at_index (y ∷ xs) zero x at = cc
+at_index (y ∷ xs) (suc i) x at = at_index xs i x at
+
+pub is_known : {D : Type 0} (stands turns probes faults : D → ℕ) (s : OpenHub D) (r m d : ℕ) (purpose : Purpose) (o : Option (Bor DeviceProgress)) → HubIsKept stands turns probes faults s → choice_of (configuration_of s) r m ≡ HandsOut d purpose → option_copied o ≡ slice_get s.devices d → is_some o ≡ true
+is_known stands turns probes faults s r m d purpose o k is at =
+    let out = out_home stands turns probes faults s r m d purpose k is in
+    there s.devices d o (omega (arith, out.0, k.devices_size)) at
+  where
+    there : (xs : List DeviceProgress) (i : ℕ) (x : Option (Bor DeviceProgress)) → i < length xs → option_copied x ≡ slice_get xs i → is_some x ≡ true
+    there xs i None less is' = absurd (omega (arith, less, gone_past xs i (sym is')))
+    there xs i (Some x) less is' = refl
+
+-- a device that is home stands where it is known to
+pub stands_home : {D : Type 0} (stands turns probes faults : D → ℕ) (s : OpenHub D) (d : ℕ) (device : D) (known : DeviceProgress) → HubIsKept stands turns probes faults s → slice_get s.places d ≡ Some (Home device) → slice_get s.devices d ≡ Some known → stands device ≡ known.held
+stands_home stands turns probes faults s d device known k at is =
+    let within : d < length s.places = slice_get_within s.places d (Home device) at in
+    let up = up_first (configuration_of s) s.rounds s.opened d (held_in s) k.configuration ∙ k.configuration.stage.up d (omega (arith, within, k.places_size)) in
+    (k.home d device at).stand up ∙ ap (λ (p : DeviceProgress). p.held) (at_index s.devices d known is)
+
+-- What the gate does as it hands the device out
+pub record IsSent {D : Type 0} (turns probes faults : D → ℕ) (places : List (Place D)) (tickets r d held : ℕ) (task : Task) (grip : Gripped D Ready) (after : List (Place D)) (number : ℕ) : Type 0 where
+  pub at : slice_get places d ≡ Some (Home grip.device)
+  pub after_is : after ≡ slice_set places d (Out grip.slip task)
+  pub number_is : number ≡ tickets + 1
+  pub does : grip.task ≡ task
+  pub device : grip.slip.device.0 ≡ d
+  pub maker : grip.slip.maker ≡ r
+  pub stood : grip.slip.stood ≡ held
+  pub had_turns : grip.slip.turns ≡ turns grip.device
+  pub had_probes : grip.slip.probes ≡ probes grip.device
+  pub had_faults : grip.slip.faults ≡ faults grip.device
+
+pub record WentOut {D : Type 0} (stands turns probes faults : D → ℕ) (s : OpenHub D) (r m : ℕ) (grip : Gripped D Ready) (t : OpenHub D) : Type 0 where
+  pub kept : HubIsKept stands turns probes faults t
+  pub out : GoesOut s r m grip t
+  pub window : SameWindow s t
+
+pub went_out : {D : Type 0} (stands turns probes faults : D → ℕ) (s s₀ : OpenHub D) (r m d now number : ℕ) (purpose : KeptPurpose) (task : Task) (known : DeviceProgress) (grip : Gripped D Ready) (devices : List DeviceProgress) (places : List (Place D))
+    → HubIsKept stands turns probes faults s → s ≡ s₀ → choice_of (configuration_of s₀) r m ≡ HandsOut d (purpose_of purpose)
+    → task ≡ task_of (configuration_of s₀) r (purpose_of purpose) → slice_get s.devices d ≡ Some known → now ≡ max s.moment m → devices ≡ slice_set s.devices d (record known { purpose = purpose })
+    → IsSent turns probes faults s.places s.tickets r d known.held task grip places number
+    → WentOut stands turns probes faults s₀ r m grip (record s { moment = now; devices = devices; places = places; tickets = number })
+went_out {D = D} stands turns probes faults s s₀ r m d now number purpose task known grip devices places k same chose does known_is now_is devices_are sent =
+    subst (λ (x : OpenHub D). WentOut stands turns probes faults x r m grip (record s { moment = now; devices = devices; places = places; tickets = number })) same
+    (record {
+      kept = subst (λ (x : OpenHub D). HubIsKept stands turns probes faults x) (sym new) (gone_kept stands turns probes faults s r d m purpose grip.device grip.slip task chosen sent.at leaves k);
+      out = subst (λ (x : OpenHub D). GoesOut s r m grip x) (sym new) (record {
+        purpose = purpose_of purpose;
+        step = subst (λ e. HubStep (state_of s) (Take r m grip.slip) (Chose (HandsOut e (purpose_of purpose))) (state_of t)) (sym sent.device)
+            (step_is s t r m (HandsOut d (purpose_of purpose)) grip.slip chosen (gone_state s r d m purpose grip.slip task sent.maker leaves.does within within_devices) (record { device = sent.device; maker = sent.maker }));
+        task = sent.does ∙ leaves.does;
+        home = subst (λ e. slice_get s.places e ≡ Some (Home grip.device)) (sym sent.device) sent.at;
+        places = ap₂ (λ e x. slice_set s.places e (Out grip.slip x)) (sym sent.device) (sym sent.does);
+      });
+      window = subst (λ (x : OpenHub D). SameWindow s x) (sym new) (record { setting = refl; rounds = refl; opened = refl; at_opening = known_same (λ (p : DeviceProgress). p.at_opening) s.devices d (record (device_at s.devices d) { purpose = purpose }) within_devices refl });
+    })
+  where
+    t : OpenHub D
+    t = gone s d purpose grip.slip task (max s.moment m)
+
+    chosen : choice_of (configuration_of s) r m ≡ HandsOut d (purpose_of purpose)
+    chosen = ap (λ (x : OpenHub D). choice_of (configuration_of x) r m) same ∙ chose
+
+    within : d < length s.places
+    within = slice_get_within s.places d (Home grip.device) sent.at
+
+    within_devices : d < length s.devices
+    within_devices = slice_get_within s.devices d known known_is
+
+    here : device_at s.devices d ≡ known
+    here = at_index s.devices d known known_is
+
+    leaves : IsLeaving turns probes faults s r d purpose grip.device grip.slip task
+    leaves =
+        let task_is = does ∙ ap (λ (x : OpenHub D). task_of (configuration_of x) r (purpose_of purpose)) (sym same) in
+        record {
+          number = sent.device;
+          maker = sent.maker;
+          stood = sent.stood ∙ ap (λ (p : DeviceProgress). p.held) (sym here);
+          had_turns = sent.had_turns;
+          had_probes = sent.had_probes;
+          had_faults = sent.had_faults;
+          does = task_is;
+          not_probed = ap probed (task_is ∙ ap (task_of (configuration_of s) r) (handed_out (configuration_of s) s.rounds s.opened (held_in s) r m d (purpose_of purpose) k.configuration chosen).is) ∙ not_probing (configuration_of s) r (next_of (read_of (configuration_of s)) r);
+        }
+
+    new : ◌≡◌ {A = OpenHub D} (record s { moment = now; devices = devices; places = places; tickets = number }) t
+    new =
+        let devices_now = devices_are ∙ ap (λ (p : DeviceProgress). slice_set s.devices d (record p { purpose = purpose })) (sym here) in
+        λ i. record s { history = s.history; moment = now_is i; devices = devices_now i; places = sent.after_is i; tickets = sent.number_is i }
+
+-- .. also where the hub is seen otherwise
+pub command_given : {D : Type 0} (stands turns probes faults : D → ℕ) (s s₀ : OpenHub D) (r m d k : ℕ) (purpose : Purpose) → HubIsKept stands turns probes faults s → s ≡ s₀ → choice_of (configuration_of s₀) r m ≡ HandsOut d purpose
+    → purpose ≡ Commands k → IsTrue (is_run s₀.setting.runs r) × (k < length (commands_of s₀.setting.runs r))
+command_given {D = D} stands turns probes faults s s₀ r m d k purpose kept same =
+    subst (λ (x : OpenHub D). choice_of (configuration_of x) r m ≡ HandsOut d purpose → purpose ≡ Commands k → IsTrue (is_run x.setting.runs r) × (k < length (commands_of x.setting.runs r))) same
+    (λ is for. command_there s s.rounds s.opened (held_in s) r m d k purpose kept.configuration is for)

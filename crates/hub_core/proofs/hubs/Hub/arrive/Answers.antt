@@ -1,0 +1,17 @@
+use Rattle.history_book.specs.declared.entries.End.TheVariants.{Committed}
+use Rattle.history_book.specs.declared.entries.Entry.TheVariants.{Arrived, Ended, Placed}
+use Rattle.hub_core.proofs.HubChanges.{Ending, Going, entry_inside, few_entries, place_inside}
+use Rattle.hub_core.proofs.hubs.Hub.arrive.Goals as goal
+use Rattle.hub_core.specs.OpenHubs.{OpenHub, configuration_of}
+use Rattle.hub_core.specs.ReadHistories.{with_entry}
+use Rattle.lock_leasing.specs.Configurations.{read_of}
+use Rattle.std.proofs.Common.{ap, refl, ◌∙◌}
+use Rattle.std.specs.Prelude.{length, max}
+
+pub arrive-requires-clause-room : goal.arrive-requires-clause-room
+arrive-requires-clause-room g c = place_inside _ _ _ _ c.self.inside.history _ _ c.self.inside.moment c.args.r.0 c.args.moment _ _ _ _ c.args.self.now _ Going c.self.view_is c.requires c.self.invariant
+
+pub invariant_of-self : goal.invariant_of-self
+invariant_of-self g c =
+    rw c.max-self-inside.ensures (entry_inside _ _ _ _ c.self.inside.history c.arrive.new.self _ _ c.self.inside.moment c.args.r.0 c.args.moment _ _ _ _ c.args.self.now _ Going c.self.view_is c.requires
+    (c.arrive.ensures.new ∙ ap (with_entry c.self.inside.history c.args.r.0) (c.arrive.ensures.entry ∙ ap (λ m. Arrived c.args.r m) c.max-self-inside.ensures ∙ ap (λ s. Arrived c.args.r (max s.moment c.args.moment)) c.self.view_is)) c.self.invariant)
