@@ -21,6 +21,7 @@ pub mod Sizes
 pub mod Progress
 pub mod Calls
 pub mod Closings
+pub mod HubCloses
 pub mod HubLaws
 pub mod HubChanges
 pub mod HubOuts
