@@ -20,3 +20,4 @@ pub mod Calls
 pub mod Closings
 pub mod HubChanges
 pub mod HubOuts
+pub mod HubReturns
