@@ -80,7 +80,7 @@ handed_out s rounds opened held r m d purpose kept =
       commits = λ all is. absurd (cc);
     })
 
-gone_past : {A : Type 0} (xs : List A) (i : ℕ) → slice_get xs i ≡ None → length xs ≤ i
+pub gone_past : {A : Type 0} (xs : List A) (i : ℕ) → slice_get xs i ≡ None → length xs ≤ i
 gone_past [] i none = omega arith
 gone_past (x ∷ xs) zero none = absurd (cc)
 gone_past (x ∷ xs) (suc i) none = omega (arith, gone_past xs i none)
@@ -175,7 +175,7 @@ other_out s x m v u k e slip task known told register fits =
           ∙ ap (λ (p : DeviceProgress). task_of (configuration_of (record s { history = x; moment = m; devices = v; places = u; tickets = k })) slip.maker (purpose_of p.purpose)) (sym known);
     }
 
-count_cons : {A : Type 0} (p : A → Bool) (x : A) (xs : List A) → count_by p (x ∷ xs) ≡ cond (p x) 1 0 + count_by p xs
+pub count_cons : {A : Type 0} (p : A → Bool) (x : A) (xs : List A) → count_by p (x ∷ xs) ≡ cond (p x) 1 0 + count_by p xs
 count_cons p x xs = sum_by-cons (λ y. cond (p y) 1 0) x xs
 
 -- how many are away when one goes out
@@ -303,7 +303,7 @@ not_probing s r k = by_reading (reads (command_at s.setting.runs r k).job)
     by_reading true = refl
     by_reading false = refl
 
-at_index : (xs : List DeviceProgress) (i : ℕ) (x : DeviceProgress) → slice_get xs i ≡ Some x → device_at xs i ≡ x
+pub at_index : (xs : List DeviceProgress) (i : ℕ) (x : DeviceProgress) → slice_get xs i ≡ Some x → device_at xs i ≡ x
 at_index [] i x at = absurd (cc)
 at_index (y ∷ xs) zero x at = cc
 at_index (y ∷ xs) (suc i) x at = at_index xs i x at

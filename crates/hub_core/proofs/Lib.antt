@@ -25,3 +25,4 @@ pub mod HubCloses
 pub mod HubLaws
 pub mod HubChanges
 pub mod HubOuts
+pub mod HubReturns

@@ -1,0 +1,454 @@
+-- A device that comes home keeps what the type of a hub keeps.
+use Rattle.command_rules.specs.Rosters.{command_at, commands_of, is_run, run_no}
+use Rattle.device_gate.specs.Calls.{answered, failed, is_counted_up, may_tell, probed}
+use Rattle.device_gate.specs.Grips.{Gripped, WasCalled}
+use Rattle.device_gate.specs.Places.{IsHome, IsKept}
+use Rattle.device_gate.specs.declared.gates.Place.TheVariants.{Home, Out}
+use Rattle.device_gate.specs.declared.gates.Place.{Place}
+use Rattle.device_gate.specs.declared.grips.Done.{Done}
+use Rattle.device_gate.specs.declared.slips.Slip.{Slip}
+use Rattle.device_gate.specs.declared.slips.Task.TheVariants.{Drive, Probe, Sense}
+use Rattle.device_gate.specs.declared.slips.Task.{Task}
+use Rattle.device_gate.specs.declared.slips.Told.TheVariants.{Died, Sensed, Worked}
+use Rattle.device_gate.specs.declared.slips.Told.{Told}
+use Rattle.history_book.specs.Histories.{entries_made, entries_of, kept_by}
+use Rattle.history_book.specs.Readings.{Reading, next_command, next_of, put}
+use Rattle.history_book.specs.Settings.{Setting, is_device}
+use Rattle.history_book.specs.declared.entries.Entry.TheVariants.{Did}
+use Rattle.history_book.specs.declared.entries.Entry.{Entry}
+use Rattle.history_book.specs.declared.entries.Kept.{Kept}
+use Rattle.history_book.specs.declared.entries.Made.{Made}
+use Rattle.home_types.specs.Commands.{driven, reads}
+use Rattle.home_types.specs.Kinds.{has_value, kind_at}
+use Rattle.home_types.specs.declared.commands.Answer.TheVariants.{Fine}
+use Rattle.home_types.specs.declared.commands.Command.{Command}
+use Rattle.home_types.specs.declared.commands.Job.TheVariants.{Check, Load, Set, Store}
+use Rattle.home_types.specs.declared.commands.Job.{Job}
+use Rattle.home_types.specs.declared.kinds.Kind.{Kind}
+use Rattle.hub_core.proofs.Calls.{give_calls}
+use Rattle.hub_core.proofs.Gives.{command_is}
+use Rattle.hub_core.proofs.HubChanges.{InsideIsKept, has_place, hub_of, no_register, up_first}
+use Rattle.hub_core.proofs.HubOuts.{at_index, count_cons, gone_past, other_home, other_out}
+use Rattle.hub_core.proofs.HubReads.{get_set}
+use Rattle.hub_core.proofs.HubStates.{carried_set, device_here, device_there, grips_set, kept_is, known_same, known_set, place_here}
+use Rattle.hub_core.proofs.Kept.{IsOut, give_kept, out_is}
+use Rattle.hub_core.proofs.StageChoices.{StepsPlainly, steps_plainly}
+use Rattle.hub_core.proofs.Takes.{live_run}
+use Rattle.hub_core.specs.AccountedCalls.{told_calls}
+use Rattle.hub_core.specs.Homes.{CountsAreLow}
+use Rattle.hub_core.specs.HubCalls.{IsGiven, SameWindow, carried_by}
+use Rattle.hub_core.specs.HubKept.{ConfigurationIsKept}
+use Rattle.hub_core.specs.HubSteps.{Carried, Gave, Give, Given, HubState, HubStep, Returned, give, give_if, is_kept, task_of}
+use Rattle.hub_core.specs.HubsKept.{FitsAtHome, FitsOut, HasRoomLeft, HubIsKept, is_away}
+use Rattle.hub_core.specs.Openings.{names_values_of}
+use Rattle.hub_core.specs.OpenHubs.{OpenHub, configuration_of, device_at, grip_in, held_in, purpose_of, state_of}
+use Rattle.hub_core.specs.ReadHistories.{HistoryState, with_entry}
+use Rattle.hub_core.specs.Stage.{is_set}
+use Rattle.hub_core.specs.Steps.{after_give, at_moment, give_entries, with_entries, with_grip}
+use Rattle.hub_core.specs.declared.hubs.ClosingLists.{ClosingLists}
+use Rattle.hub_core.specs.declared.known.DeviceProgress.{DeviceProgress}
+use Rattle.hub_core.specs.declared.purposes.Purpose.TheVariants.{Command as ForCommand, Probe as ForProbe, Undo as ForUndo}
+use Rattle.hub_core.specs.declared.purposes.Purpose.{Purpose as KeptPurpose}
+use Rattle.lock_leasing.specs.Configurations.{Commands, Configuration, Grip, Purpose, is_command, read_of}
+use Rattle.std.proofs.Common.{ap, ap₂, arith, cond, inl, inr, length-append, refl, subst, sym, ◌∙◌, ◌⊎◌}
+use Rattle.std.proofs.lemmas.Grind.{common_steps}
+use Rattle.std.proofs.lemmas.List.{length-set}
+use Rattle.std.proofs.lemmas.Option.{slice_get_within}
+use Rattle.std.specs.Borrow.{Bor}
+use Rattle.std.specs.Option.{option_copied}
+use Rattle.std.specs.Prelude.{Bool, IsTrue, List, None, Ok, Option, Some, [], count_by, false, if◌then◌else◌, is_some, length, max, nat_lt, slice_get, slice_set, suc, true, zero, ℕ, ⊤, ◌&&◌, ◌*◌, ◌++◌, ◌+◌, ◌-◌, ◌<◌, ◌==◌, ◌∷◌, ◌≡◌, ◌≢◌, ◌≤◌}
+use Rattle.window_order.proofs.ReadFacts.{IsRead, read_facts}
+
+-- Why it was out
+
+-- the device is out for the next command of a run, and drives what that sets
+pub record IsForCommand {D : Type 0} (s : OpenHub D) (slip : Slip) (task : Task) (k : ℕ) : Type 0 where
+  pub grip : (configuration_of s).grips slip.device.0 ≡ Some (record { maker = slip.maker; purpose = Commands k })
+  pub run : is_run s.setting.runs slip.maker ≡ true
+  pub next : k ≡ next_of (read_of (configuration_of s)) slip.maker
+  pub few : k < 64
+  pub on : (command_at s.setting.runs slip.maker k).device.0 ≡ slip.device.0
+  pub drives : task ≡ Drive (driven (kind_at s.setting.kinds slip.device.0) (command_at s.setting.runs slip.maker k).job ((read_of (configuration_of s)).run slip.maker).register)
+  pub value : IsTrue (has_value (kind_at s.setting.kinds slip.device.0) (driven (kind_at s.setting.kinds slip.device.0) (command_at s.setting.runs slip.maker k).job ((read_of (configuration_of s)).run slip.maker).register))
+
+-- a set drives its value
+set_value : (kind : Kind) (job : Job) (register : ℕ) → IsTrue (is_set job) → IsTrue (names_values_of kind job) → IsTrue (has_value kind (driven kind job register))
+set_value kind (Set v) register set named = named
+set_value kind (Check v) register set named = absurd (cc)
+set_value kind Load register set named = absurd (cc)
+set_value kind Store register set named = absurd (cc)
+
+command_of : (p : KeptPurpose) → IsTrue (is_command (purpose_of p)) → (k : ℕ) × (p ≡ ForCommand k)
+command_of (ForCommand k) is = (k, refl)
+command_of (ForUndo v) is = absurd (cc)
+command_of (ForProbe v) is = absurd (cc)
+
+grip_there : {D : Type 0} (s : OpenHub D) (slip : Slip) (task : Task) → IsKept s.places slip task → (configuration_of s).grips slip.device.0 ≡ Some (record { maker = slip.maker; purpose = purpose_of (device_at s.devices slip.device.0).purpose })
+grip_there s slip task kept = ap (λ o. grip_in o (device_at s.devices slip.device.0).purpose) kept
+
+-- what is known of a device that is out is that it is so for a command
+pub out_for_command : {D : Type 0} (stands turns probes faults : D → ℕ) (s : OpenHub D) (slip : Slip) (task : Task) (known : DeviceProgress) → HubIsKept stands turns probes faults s → IsKept s.places slip task → slice_get s.devices slip.device.0 ≡ Some known → (k : ℕ) × (known.purpose ≡ ForCommand k)
+out_for_command stands turns probes faults s slip task known k kept is =
+    command_of known.purpose (subst (λ (p : DeviceProgress). IsTrue (is_command (purpose_of p.purpose))) (at_index s.devices slip.device.0 known is) (k.configuration.commands slip.device.0 _ (grip_there s slip task kept)))
+
+pub for_command : {D : Type 0} (stands turns probes faults : D → ℕ) (s : OpenHub D) (slip : Slip) (task : Task) (known : DeviceProgress) (k : ℕ) → HubIsKept stands turns probes faults s → IsKept s.places slip task → slice_get s.devices slip.device.0 ≡ Some known → known.purpose ≡ ForCommand k → IsForCommand s slip task k
+for_command stands turns probes faults s slip task known k kept there is for =
+    record {
+      grip = grip;
+      run = live_run w n r read.shaped (out.1.live);
+      next = out.1.number;
+      few = let within : next_of n r < length (commands_of w.runs r) = slice_get_within (commands_of w.runs r) (next_of n r) out.0 out.1.next in let least : length (commands_of w.runs r) ≤ 64 = kept.configuration.opens.few_commands r in omega (arith, within, least, out.1.number);
+      on = on;
+      drives = (kept.out slip.device.0 slip task there).does ∙ ap (λ (p : KeptPurpose). task_of (configuration_of s) r (purpose_of p)) purpose ∙ ap (λ b. if b then Sense else Drive (driven (kind_at w.kinds (command_at w.runs r k).device.0) (command_at w.runs r k).job (n.run r).register)) writes
+          ∙ ap (λ d. Drive (driven (kind_at w.kinds d) (command_at w.runs r k).job (n.run r).register)) on;
+      value = set_value (kind_at w.kinds slip.device.0) (command_at w.runs r k).job (n.run r).register (subst (λ (c : Command). IsTrue (is_set c.job)) (sym same) set) (subst (λ (c : Command). IsTrue (names_values_of (kind_at w.kinds slip.device.0) c.job)) (sym same) named);
+    }
+  where
+    w : Setting
+    w = s.setting
+
+    n : Reading
+    n = read_of (configuration_of s)
+
+    r : ℕ
+    r = slip.maker
+
+    plainly : StepsPlainly w n
+    plainly = steps_plainly (configuration_of s) s.rounds s.opened (held_in s) kept.configuration
+
+    read : IsRead w n
+    read = read_facts w (entries_of s.history) kept.configuration.history.well_formed
+
+    purpose : (device_at s.devices slip.device.0).purpose ≡ ForCommand k
+    purpose = ap (λ (p : DeviceProgress). p.purpose) (at_index s.devices slip.device.0 known is) ∙ for
+
+    grip : (configuration_of s).grips slip.device.0 ≡ Some (record { maker = r; purpose = Commands k })
+    grip = grip_there s slip task there ∙ ap (λ (p : KeptPurpose). Some (record { maker = r; purpose = purpose_of p })) purpose
+
+    out : (c : Command) × IsOut w n r k slip.device.0 c
+    out = out_is w n (configuration_of s).grips r k slip.device.0 kept.configuration.order.grips.runs grip
+
+    same : command_at w.runs r k ≡ out.0
+    same = ap (command_at w.runs r) out.1.number ∙ command_is w n r out.0 out.1.next
+
+    on : (command_at w.runs r k).device.0 ≡ slip.device.0
+    on = ap (λ (c : Command). c.device.0) same ∙ out.1.on
+
+    writes : reads (command_at w.runs r k).job ≡ false
+    writes = ap (λ (c : Command). reads c.job) same ∙ plainly.writes r (next_of n r) out.0 out.1.next
+
+    set : IsTrue (is_set out.0.job)
+    set = let must : IsTrue (is_set out.0.job && out.0.must) = kept.configuration.stage.sets r (next_of n r) out.0 out.1.next in grind (arith, common_steps)
+
+    named : IsTrue (names_values_of (kind_at w.kinds slip.device.0) out.0.job)
+    named =
+        let home : IsTrue (is_device w out.0.device.0 && names_values_of (kind_at w.kinds out.0.device.0) out.0.job) = kept.configuration.opens.homed r (next_of n r) out.0 out.1.next in
+        let there' : IsTrue (names_values_of (kind_at w.kinds out.0.device.0) out.0.job) = grind (arith, common_steps) in
+        subst (λ d. IsTrue (names_values_of (kind_at w.kinds d) out.0.job)) out.1.on there'
+
+-- What it told
+
+pub has_worked : (told : Told) (v : ℕ) (slip : Slip) (tag stands turns probes faults : ℕ) → WasCalled told (Drive v) slip tag stands turns probes faults → faults ≡ 0 → told ≡ Worked
+has_worked Worked v slip tag stands turns probes faults called none = refl
+has_worked (Sensed x) v slip tag stands turns probes faults called none = absurd (let fits : false ≡ true = called.fits in cc)
+has_worked Died v slip tag stands turns probes faults called none = absurd (let rose : faults ≡ slip.faults + 1 = called.faults_rose in omega (arith, rose, none))
+
+-- how many are away when one is home again
+count_back : {D : Type 0} (places : List (Place D)) (d : ℕ) (device : D) (slip : Slip) (task : Task) → slice_get places d ≡ Some (Out slip task) → count_by is_away (slice_set places d (Home device)) + 1 ≡ count_by is_away places
+count_back [] d device slip task at = absurd (cc)
+count_back (Home x ∷ places) zero device slip task at = absurd (cc)
+count_back (Out x y ∷ places) zero device slip task at =
+    let now = count_cons is_away (Home device) places in
+    let before = count_cons is_away (Out x y) places in
+    omega (arith, now, before)
+count_back (p ∷ places) (suc d) device slip task at =
+    let now = count_cons is_away p (slice_set places d (Home device)) in
+    let before = count_cons is_away p places in
+    let rest = count_back places d device slip task at in
+    omega (arith, now, before, rest)
+
+-- The device is home again
+
+abbrev pub back : {D : Type 0} → OpenHub D → Slip → D → ℕ → ℕ → ℕ → OpenHub D
+back s slip device v k m =
+    record s {
+      history = s.history ++ kept_by slip.maker (Did (run_no slip.maker) k Fine ∷ []);
+      moment = m;
+      devices = slice_set s.devices slip.device.0 (record (device_at s.devices slip.device.0) { held = v });
+      places = slice_set s.places slip.device.0 (Home device);
+      tickets = s.tickets;
+    }
+
+abbrev pub after_back : {D : Type 0} → OpenHub D → Slip → ℕ → ℕ → Configuration
+after_back s slip k m = after_give (at_moment (configuration_of s) m) slip.device.0 (record { maker = slip.maker; purpose = Commands k }) Worked
+
+pub back_configuration : {D : Type 0} (s : OpenHub D) (slip : Slip) (device : D) (v k m : ℕ) → slip.device.0 < length s.places → slip.device.0 < length s.devices → configuration_of (back s slip device v k (max s.moment m)) ≡ after_back s slip k m
+back_configuration s slip device v k m within known =
+    let d = slip.device.0 in
+    let known_now = record (device_at s.devices d) { held = v } in
+    let probes : ◌≡◌ {A = ℕ → ℕ} (λ e. (device_at (slice_set s.devices d known_now) e).probes_left) (λ e. (device_at s.devices e).probes_left) = λ i e. known_same (λ (p : DeviceProgress). p.probes_left) s.devices d known_now known refl e i in
+    let grips : ◌≡◌ {A = ℕ → Option Grip} (λ e. grip_in (slice_get (slice_set s.places d (Home device)) e) (device_at (slice_set s.devices d known_now) e).purpose) (put (configuration_of s).grips d None) = grips_set s.places s.devices d (Home device) known_now within known in
+    λ i. record { setting = s.setting; history = s.history ++ kept_by slip.maker (Did (run_no slip.maker) k Fine ∷ []); moment = max s.moment m; probes = probes i; grips = grips i }
+
+pub back_state : {D : Type 0} (s : OpenHub D) (slip : Slip) (device : D) (v k m : ℕ) → slip.device.0 < length s.places → slip.device.0 < length s.devices
+    → state_of (back s slip device v k (max s.moment m)) ≡ record { configuration = after_back s slip k m; carried = put (state_of s).carried slip.device.0 None }
+back_state s slip device v k m within known =
+    let configuration = back_configuration s slip device v k m within known in
+    let carried = carried_set s.places slip.device.0 (Home device) within in
+    λ i. record { configuration = configuration i; carried = carried i }
+
+pub back_kept : {D : Type 0} (stands turns probes faults : D → ℕ) (s : OpenHub D) (slip : Slip) (device : D) (v k m tag : ℕ)
+    → IsKept s.places slip (Drive v) → IsForCommand s slip (Drive v) k → WasCalled Worked (Drive v) slip tag (stands device) (turns device) (probes device) (faults device) → slip.device.0 < length s.devices
+    → HubIsKept stands turns probes faults s → HubIsKept stands turns probes faults (back s slip device v k (max s.moment m))
+back_kept {D = D} stands turns probes faults s slip device v k m tag at for called known kept =
+    record {
+      configuration = now;
+      devices_size = length-set s.devices d known_now ∙ kept.devices_size;
+      places_size = length-set s.places d (Home device) ∙ kept.places_size;
+      home = λ e other there. elim (get_set s.places d e (Home device) within) [
+        | inl p ↦ subst (λ (x : Place D). IsFitting e x) (same_place (Home device) (Home other) (sym p.1 ∙ there)) (subst (λ x. IsFitting x (Home device)) (sym p.0) comes)
+        | inr q ↦ other_home stands turns probes faults s t.history (max s.moment m) _ _ _ e other (device_there s.devices d e known_now q.0) (told_other e q.0) (up_same e) (kept.home e other (sym q.1 ∙ there))
+      ];
+      out = λ e other does there. elim (get_set s.places d e (Home device) within) [
+        | inl p ↦ absurd (let both : Some (Home device) ≡ Some (Out other does) = sym p.1 ∙ there in cc)
+        | inr q ↦ other_out s t.history (max s.moment m) _ _ _ e other does (device_there s.devices d e known_now q.0) (told_other e q.0)
+            (no_register (configuration_of s) s.rounds s.opened other.maker (held_in s) kept.configuration ∙ sym (no_register (configuration_of t) s.rounds s.opened other.maker (held_in t) now)) (kept.out e other does (sym q.1 ∙ there))
+      ];
+      low = λ e. subst (λ (c : _). CountsAreLow s.opened c.turns c.probes c.faults) (sym (known_same (λ (p : DeviceProgress). p.at_opening) s.devices d known_now known refl e)) (kept.low e);
+      values = λ e home. elim (get_set s.places d e (Home device) within) [
+        | inl p ↦ subst (λ x. IsTrue (has_value (kind_at s.setting.kinds x) (held_in t x))) (sym p.0) (subst (λ x. IsTrue (has_value (kind_at s.setting.kinds d) x)) (sym (ap (λ (p : DeviceProgress). p.held) here)) (subst (λ x. IsTrue (has_value (kind_at s.setting.kinds d) x)) (sym drives) for.value))
+        | inr q ↦ subst (λ x. IsTrue (has_value (kind_at s.setting.kinds e) x)) (sym (ap (λ (p : DeviceProgress). p.held) (device_there s.devices d e known_now q.0))) (kept.values e home)
+      ];
+      few_tickets =
+          let few : s.tickets ≤ length s.history + count_by is_away s.places = kept.few_tickets in
+          let less = count_back s.places d device slip (Drive v) at in
+          let more : length t.history ≡ length s.history + 1 = length-append s.history (kept_by slip.maker (Did (run_no slip.maker) k Fine ∷ [])) in
+          omega (arith, few, less, more);
+    }
+  where
+    d : ℕ
+    d = slip.device.0
+
+    known_now : DeviceProgress
+    known_now = record (device_at s.devices d) { held = v }
+
+    t : OpenHub D
+    t = back s slip device v k (max s.moment m)
+
+    within : d < length s.places
+    within = slice_get_within s.places d (Out slip (Drive v)) at
+
+    here : device_at (slice_set s.devices d known_now) d ≡ known_now
+    here = device_here s.devices d known_now known
+
+    same_place : (x y : Place D) → Some x ≡ Some y → x ≡ y
+    same_place x y e = cc
+
+    IsFitting : ℕ → Place D → Type 0
+    IsFitting e (Home x) = FitsAtHome stands turns probes faults t e x
+    IsFitting e (Out x y) = ⊤
+
+    same_value : (x y : ℕ) → Drive x ≡ Drive y → x ≡ y
+    same_value x y e = cc
+
+    drives : v ≡ driven (kind_at s.setting.kinds d) (command_at s.setting.runs slip.maker k).job ((read_of (configuration_of s)).run slip.maker).register
+    drives = same_value v _ for.drives
+
+    held : held_in t ≡ put (held_in s) d v
+    held = known_set (λ (p : DeviceProgress). p.held) s.devices d known_now known
+
+    now : ConfigurationIsKept (configuration_of t) s.rounds s.opened (held_in t)
+    now =
+        let given = give_kept (configuration_of s) s.rounds s.opened (held_in s) slip.maker k d m for.grip kept.configuration in
+        subst (λ (c : Configuration). ConfigurationIsKept c s.rounds s.opened (held_in t)) (sym (back_configuration s slip device v k m within known))
+        (subst (λ h. ConfigurationIsKept (after_back s slip k m) s.rounds s.opened h) (sym held) (subst (λ x. ConfigurationIsKept (after_back s slip k m) s.rounds s.opened (put (held_in s) d x)) (sym drives) given))
+
+    calls : (e : ℕ) → told_calls s.setting.runs (entries_of t.history) e ≡ told_calls s.setting.runs (entries_of s.history) e + (if d == e then 1 else 0)
+    calls e = give_calls (configuration_of s) slip.maker k d e m for.on
+
+    told_other : (e : ℕ) → e ≢ d → told_calls s.setting.runs (entries_of t.history) e ≡ told_calls s.setting.runs (entries_of s.history) e
+    told_other e other = calls e ∙ ap (λ b. told_calls s.setting.runs (entries_of s.history) e + (if b then 1 else 0)) (apart d e (λ p. other (sym p))) ∙ plus_none (told_calls s.setting.runs (entries_of s.history) e)
+      where
+        apart : (a b : ℕ) → a ≢ b → (a == b) ≡ false
+        apart a b e = grind (arith, common_steps)
+
+        plus_none : (n : ℕ) → n + 0 ≡ n
+        plus_none n = omega arith
+
+    told_here : told_calls s.setting.runs (entries_of t.history) d ≡ told_calls s.setting.runs (entries_of s.history) d + 1
+    told_here = calls d ∙ ap (λ b. told_calls s.setting.runs (entries_of s.history) d + (if b then 1 else 0)) (itself d)
+      where
+        itself : (a : ℕ) → (a == a) ≡ true
+        itself a = grind (arith, common_steps)
+
+    up_same : (e : ℕ) → (read_of (configuration_of t)).up e ≡ (read_of (configuration_of s)).up e
+    up_same e = up_first (configuration_of t) s.rounds s.opened e (held_in t) now ∙ sym (up_first (configuration_of s) s.rounds s.opened e (held_in s) kept.configuration)
+
+    comes : FitsAtHome stands turns probes faults t d device
+    comes =
+        let fits = kept.out d slip (Drive v) at in
+        record {
+          stand = λ up. called.stands_there ∙ ap (λ (p : DeviceProgress). p.held) (sym here);
+          turns_are =
+              let rose : turns device ≡ slip.turns + 1 = called.turns_rose in
+              let had : slip.turns ≡ (device_at s.devices d).at_opening.turns + told_calls s.setting.runs (entries_of s.history) d = fits.turns_are in
+              let same : (device_at t.devices d).at_opening.turns ≡ (device_at s.devices d).at_opening.turns = ap (λ (p : DeviceProgress). p.at_opening.turns) here in
+              omega (arith, rose, had, same, told_here);
+          probes_are = called.probes_rose ∙ fits.probes_are ∙ ap (λ (p : DeviceProgress). p.at_opening.probes + (s.rounds - p.probes_left)) (sym here);
+          faults_are =
+              let rose : faults device ≡ slip.faults + 0 = called.faults_rose in
+              let same : (device_at t.devices d).at_opening.faults ≡ (device_at s.devices d).at_opening.faults = ap (λ (p : DeviceProgress). p.at_opening.faults) here in
+              omega (arith, rose, fits.faults_are, same);
+        }
+
+-- The answer
+
+-- the grip is taken back
+taken_in : (s : HubState) (told : Carried) (grip : Grip) (result : Told) (m : ℕ) → is_kept s told ≡ true → nat_lt 0 told.slip.maker ≡ true → s.configuration.grips told.slip.device.0 ≡ Some grip
+    → give s told result m ≡ record { answer = Gave (give_entries s.configuration.setting (read_of s.configuration) told.slip.device.0 grip result); next = record { configuration = after_give (at_moment s.configuration m) told.slip.device.0 grip result; carried = put s.carried told.slip.device.0 None } }
+taken_in s told grip result m kept maker out =
+    ap (λ b. give_if (b && nat_lt 0 told.slip.maker) s (at_moment s.configuration m) told result) kept ∙ ap (λ b. give_if (true && b) s (at_moment s.configuration m) told result) maker ∙ rw out refl
+
+-- What came of it
+
+pub record CameBack {D : Type 0} (stands turns probes faults : D → ℕ) (h₂ : HistoryState) (rounds opened now number : ℕ) (devices₂ : List DeviceProgress) (places₂ : List (Place D)) (closing : ClosingLists) (s₀ : OpenHub D) (grip : Gripped D Done) (m : ℕ) (made : Made) : Type 0 where
+  pub inside : InsideIsKept stands turns probes faults h₂ rounds opened now devices₂ places₂ number closing
+  pub given : IsGiven s₀ grip m (Ok made) (hub_of h₂ rounds opened now devices₂ places₂ number)
+  pub window : SameWindow s₀ (hub_of h₂ rounds opened now devices₂ places₂ number)
+
+-- what is known of the grip that came back
+pub record IsReturned {D : Type 0} (stands turns probes faults : D → ℕ) (places : List (Place D)) (devices : List DeviceProgress) (known : DeviceProgress) (v k tag : ℕ) (grip : Gripped D Done) : Type 0 where
+  pub there : IsKept places grip.slip grip.task
+  pub maker : 0 < grip.slip.maker
+  pub known_is : slice_get devices grip.slip.device.0 ≡ Some known
+  pub purpose : known.purpose ≡ ForCommand k
+  pub does : grip.task ≡ Drive v
+  pub called : WasCalled grip.stage.told grip.task grip.slip tag (stands grip.device) (turns grip.device) (probes grip.device) (faults grip.device)
+  pub calm : faults grip.device ≡ 0
+
+-- the history has a place for the answer
+pub back_place : {D : Type 0} (stands turns probes faults : D → ℕ) (h : HistoryState) (rounds opened moment tickets k : ℕ) (devices : List DeviceProgress) (places : List (Place D)) (closing : ClosingLists) (known : DeviceProgress) (slip : Slip) (task : Task)
+    → InsideIsKept stands turns probes faults h rounds opened moment devices places tickets closing → IsKept places slip task → slice_get devices slip.device.0 ≡ Some known → known.purpose ≡ ForCommand k → 0 < h.spare
+back_place {D = D} stands turns probes faults h rounds opened moment tickets k devices places closing known slip task inside there known_is purpose =
+    let s : OpenHub D = hub_of h rounds opened moment devices places tickets in
+    let for = for_command stands turns probes faults s slip task known k inside.0 there known_is purpose in
+    has_place (after_back s slip k 0) h.history (record { maker = slip.maker; entry = Did (run_no slip.maker) k Fine }) rounds opened h.spare _ refl (give_kept (configuration_of s) rounds opened (held_in s) slip.maker k slip.device.0 0 for.grip inside.0.configuration) inside.1.history
+
+pub came_back : {D : Type 0} (stands turns probes faults : D → ℕ) (h h₂ : HistoryState) (rounds opened moment now tickets number m k v tag : ℕ) (devices devices₂ : List DeviceProgress) (places places₂ : List (Place D)) (closing : ClosingLists) (s₀ : OpenHub D) (known : DeviceProgress) (grip : Gripped D Done) (made : Made)
+    → InsideIsKept stands turns probes faults h rounds opened moment devices places tickets closing → hub_of h rounds opened moment devices places tickets ≡ s₀
+    → IsReturned stands turns probes faults places devices known v k tag grip
+    → h₂ ≡ with_entry h grip.slip.maker (Did (run_no grip.slip.maker) k Fine) → now ≡ max moment m → number ≡ tickets → devices₂ ≡ slice_set devices grip.slip.device.0 (record known { held = v }) → places₂ ≡ slice_set places grip.slip.device.0 (Home grip.device)
+    → entries_made made ≡ Did (run_no grip.slip.maker) k Fine ∷ []
+    → CameBack stands turns probes faults h₂ rounds opened now number devices₂ places₂ closing s₀ grip m made
+came_back {D = D} stands turns probes faults h h₂ rounds opened moment now tickets number m k v tag devices devices₂ places places₂ closing s₀ known grip made inside same returned h_is now_is number_is devices_are places_are made_is =
+    subst (λ (x : OpenHub D). CameBack stands turns probes faults h₂ rounds opened now number devices₂ places₂ closing x grip m made) same
+    (record {
+      inside = (subst (λ (x : OpenHub D). HubIsKept stands turns probes faults x) (sym new) kept, room);
+      given =
+          ((ap (λ x. Returned (Gave x)) made_is ∙ ap (λ (x : Given). Returned x.answer) (sym gives),
+            ap (λ (x : OpenHub D). state_of x) new ∙ back_state s grip.slip grip.device v k m within within_devices ∙ ap (λ (x : Given). x.next) (sym gives)),
+           places_are);
+      window = subst (λ (x : OpenHub D). SameWindow s x) (sym new) (record { setting = refl; rounds = refl; opened = refl; at_opening = known_same (λ (p : DeviceProgress). p.at_opening) devices grip.slip.device.0 (record (device_at devices grip.slip.device.0) { held = v }) within_devices refl });
+    })
+  where
+    s : OpenHub D
+    s = hub_of h rounds opened moment devices places tickets
+
+    t : OpenHub D
+    t = back s grip.slip grip.device v k (max moment m)
+
+    there : IsKept places grip.slip (Drive v)
+    there = returned.there ∙ ap (λ x. Some (Out grip.slip x)) returned.does
+
+    within : grip.slip.device.0 < length places
+    within = slice_get_within places grip.slip.device.0 (Out grip.slip (Drive v)) there
+
+    within_devices : grip.slip.device.0 < length devices
+    within_devices = slice_get_within devices grip.slip.device.0 known returned.known_is
+
+    here : device_at devices grip.slip.device.0 ≡ known
+    here = at_index devices grip.slip.device.0 known returned.known_is
+
+    called : WasCalled grip.stage.told (Drive v) grip.slip tag (stands grip.device) (turns grip.device) (probes grip.device) (faults grip.device)
+    called = subst (λ x. WasCalled grip.stage.told x grip.slip tag (stands grip.device) (turns grip.device) (probes grip.device) (faults grip.device)) returned.does returned.called
+
+    worked : grip.stage.told ≡ Worked
+    worked = has_worked grip.stage.told v grip.slip tag (stands grip.device) (turns grip.device) (probes grip.device) (faults grip.device) called returned.calm
+
+    for : IsForCommand s grip.slip (Drive v) k
+    for = for_command stands turns probes faults s grip.slip (Drive v) known k inside.0 there returned.known_is returned.purpose
+
+    kept : HubIsKept stands turns probes faults t
+    kept = back_kept stands turns probes faults s grip.slip grip.device v k m tag there for (subst (λ x. WasCalled x (Drive v) grip.slip tag (stands grip.device) (turns grip.device) (probes grip.device) (faults grip.device)) worked called) within_devices inside.0
+
+    gives : give (state_of s) (carried_by grip) grip.stage.told m ≡ record { answer = Gave (Did (run_no grip.slip.maker) k Fine ∷ []); next = record { configuration = after_back s grip.slip k m; carried = put (state_of s).carried grip.slip.device.0 None } }
+    gives =
+        ap (λ x. give (state_of s) (carried_by grip) x m) worked
+        ∙ taken_in (state_of s) (carried_by grip) (record { maker = grip.slip.maker; purpose = Commands k }) Worked m (kept_is s grip.slip grip.task returned.there) (positive grip.slip.maker returned.maker) for.grip
+      where
+        positive : (n : ℕ) → 0 < n → nat_lt 0 n ≡ true
+        positive n some = grind (arith, common_steps, some)
+
+    new : ◌≡◌ {A = OpenHub D} (hub_of h₂ rounds opened now devices₂ places₂ number) t
+    new =
+        let devices_now = devices_are ∙ ap (λ (p : DeviceProgress). slice_set devices grip.slip.device.0 (record p { held = v })) (sym here) in
+        λ i. record {
+          setting = (h_is i).setting;
+          rounds = rounds;
+          opened = opened;
+          history = (h_is i).history;
+          moment = now_is i;
+          devices = devices_now i;
+          places = places_are i;
+          tickets = number_is i;
+        }
+
+    some : 0 < h.spare
+    some = back_place stands turns probes faults h rounds opened moment tickets k devices places closing known grip.slip grip.task inside returned.there returned.known_is returned.purpose
+
+    room : HasRoomLeft (hub_of h₂ rounds opened now devices₂ places₂ number) h₂.spare closing
+    room =
+        let setting : length h₂.setting.first ≡ length h.setting.first = ap (λ (x : HistoryState). length x.setting.first) h_is in
+        let runs : length h₂.setting.runs ≡ length h.setting.runs = ap (λ (x : HistoryState). length x.setting.runs) h_is in
+        let long : length h₂.history ≡ length h.history + 1 = ap (λ (x : HistoryState). length x.history) h_is ∙ length-append h.history (kept_by grip.slip.maker (Did (run_no grip.slip.maker) k Fine ∷ [])) in
+        let left : h₂.spare ≡ h.spare - 1 = ap (λ (x : HistoryState). x.spare) h_is in
+        let enough : 132 * length h.setting.runs ≤ h.spare + length h.history = inside.1.history in
+        record {
+          history = omega (arith, runs, long, left, enough, some);
+          last = (inside.1.last.0, omega (arith, inside.1.last.1, setting));
+          world = (inside.1.world.0, omega (arith, inside.1.world.1, setting));
+          turns = (inside.1.turns.0, omega (arith, inside.1.turns.1, setting));
+          faults = (inside.1.faults.0, omega (arith, inside.1.faults.1, setting));
+        }
+
+-- What the code knows
+
+pub home_again : {D : Type 0} (places after : List (Place D)) (sl slip : Slip) (task : Task) (device : D) → sl ≡ slip → after ≡ slice_set places slip.device.0 (Home device) → IsKept places slip task → slice_get after sl.device.0 ≡ Some (Home device)
+home_again places after sl slip task device same is kept =
+    ap₂ (λ x y. slice_get x y.device.0) is same ∙ place_here places slip.device.0 (Home device) (slice_get_within places slip.device.0 (Out slip task) kept)
+
+-- so few commands were answered
+pub few_answers : {D : Type 0} (stands turns probes faults : D → ℕ) (s : OpenHub D) (sl slip : Slip) (task : Task) (known : DeviceProgress) (k : ℕ) → sl ≡ slip → HubIsKept stands turns probes faults s → IsKept s.places slip task → slice_get s.devices slip.device.0 ≡ Some known → known.purpose ≡ ForCommand k → next_of (read_of (configuration_of s)) sl.maker < 2147483648
+few_answers stands turns probes faults s sl slip task known k same kept there is for =
+    let command = for_command stands turns probes faults s slip task known k kept there is for in
+    let number : next_of (read_of (configuration_of s)) sl.maker ≡ k = ap (λ (x : Slip). next_of (read_of (configuration_of s)) x.maker) same ∙ sym command.next in
+    omega (arith, number, command.few)
+
+pub returned_as : {D : Type 0} (stands turns probes faults : D → ℕ) (places after : List (Place D)) (devices : List DeviceProgress) (known : DeviceProgress) (v k tag : ℕ) (grip : Gripped D Done) (sl : Slip) (task : Task) (told : Told) (x : D)
+    → IsKept places grip.slip grip.task → 0 < grip.slip.maker → sl ≡ grip.slip → task ≡ grip.task → slice_get devices sl.device.0 ≡ Some known → known.purpose ≡ ForCommand k → task ≡ Drive v
+    → after ≡ slice_set places grip.slip.device.0 (Home grip.device) → told ≡ grip.stage.told → WasCalled told grip.task grip.slip tag (stands grip.device) (turns grip.device) (probes grip.device) (faults grip.device)
+    → slice_get after sl.device.0 ≡ Some (Home x) → faults x ≡ 0
+    → IsReturned stands turns probes faults places devices known v k tag grip
+returned_as {D = D} stands turns probes faults places after devices known v k tag grip sl task told x there maker slips tasks known_is purpose drives after_is told_is called here calm =
+    record {
+      there = there;
+      maker = maker;
+      known_is = ap (λ (y : Slip). slice_get devices y.device.0) (sym slips) ∙ known_is;
+      purpose = purpose;
+      does = sym tasks ∙ drives;
+      called = subst (λ y. WasCalled y grip.task grip.slip tag (stands grip.device) (turns grip.device) (probes grip.device) (faults grip.device)) told_is called;
+      calm = ap faults (same_home grip.device x (sym (home_again places after sl grip.slip grip.task grip.device slips after_is there) ∙ here)) ∙ calm;
+    }
+  where
+    same_home : (a b : D) → Some (Home a) ≡ Some (Home b) → a ≡ b
+    same_home a b e = cc
