@@ -75,7 +75,8 @@ impl Book {
     pub fn into_list(self) -> List<Kept>
         ensures { result ≡ self }
     {
-        self.kept
+        let Book { kept } = self;
+        kept
     }
 
     /// How the run `r` ended. `None` where it has no `Ended` entry.
