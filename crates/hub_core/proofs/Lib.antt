@@ -21,3 +21,4 @@ pub mod Closings
 pub mod HubChanges
 pub mod HubOuts
 pub mod HubReturns
+pub mod HubRefusals
