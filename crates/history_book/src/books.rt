@@ -57,6 +57,13 @@ impl Book {
         self.kept.len()
     }
 
+    /// How many more entries the book takes with no memory.
+    pub fn spare(&self) -> u64
+        ensures { result ≡ self.now.spare }
+    {
+        self.kept.spare()
+    }
+
     /// The entry at the place `i`, counted from 0.
     pub fn get(&self, i: u64) -> Option<Kept>
         ensures { result ≡ slice_get self.now.items i }

@@ -49,6 +49,13 @@ impl<T> List<T> {
         self.items.len() as u64
     }
 
+    /// How many more items the list takes with no memory.
+    pub fn spare(&self) -> u64
+        ensures { result ≡ self.now.spare }
+    {
+        (self.items.capacity() - self.items.len()) as u64
+    }
+
     /// The item at the place `i`, counted from 0.
     pub fn get(&self, i: u64) -> Option<&T>
         ensures { option_copied result ≡ slice_get self.now.items i }

@@ -11,6 +11,9 @@ pub mod LineOrder
 pub mod HistoryKept
 pub mod Kept
 pub mod HubReads
+pub mod NewDevices
+pub mod NewHomes
+pub mod HubOpens
 pub mod Searching
 pub mod HubStates
 pub mod HubChoices
@@ -18,6 +21,8 @@ pub mod Sizes
 pub mod Progress
 pub mod Calls
 pub mod Closings
+pub mod HubCloses
+pub mod HubLaws
 pub mod HubChanges
 pub mod HubOuts
 pub mod HubReturns

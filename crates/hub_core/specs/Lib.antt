@@ -17,3 +17,5 @@ pub mod HubCalls
 pub mod ReadHistories
 pub mod HubsKept
 pub mod Decisions
+pub mod OpeningRooms
+pub mod ClosedHomes

@@ -1,5 +1,7 @@
 ghost use Rattle.std.specs.Prelude.{◌≡◌, ◌≤◌, ◌+◌, IfErr, IfOk, None, Some, length, map, ℕ};
+ghost use Rattle.hub_core.specs.ClosedHomes.{HaveRisen, NoneFell, known_stand};
 ghost use Rattle.hub_core.specs.HubCalls.{IsClosed};
+ghost use Rattle.hub_core.specs.HubsKept.{IsEmptyFor};
 ghost use Rattle.hub_core.specs.OpenHubs.{configuration_of};
 ghost use Rattle.hub_core.specs.Steps.{not_quiet};
 
@@ -8,7 +10,7 @@ use crate::hubs::{ClosingLists, Hub};
 use crate::known::DeviceProgress;
 use crate::read_histories::ReadHistory;
 use crate::refusals::NotQuiet;
-use device_states::Steady;
+use device_states::{Device, Steady};
 use history_book::WindowRecord;
 use home_types::{List, Stand, World};
 
@@ -82,7 +84,10 @@ impl<D: Steady> Hub<D> {
 }
 
 /// Where the devices stand, all of them up, in a list that has room for them.
-fn stands_in(empty: List<Stand>, known: &List<DeviceProgress>) -> List<Stand> {
+fn stands_in(empty: List<Stand>, known: &List<DeviceProgress>) -> List<Stand>
+    requires room { IsEmptyFor empty (length known.now.items) }
+    ensures { result.items ≡ map known_stand known.now.items }
+{
     let mut stands = empty;
     'known: for device in known.as_slice() {
         let pushed = stands.push(Stand {
@@ -95,30 +100,40 @@ fn stands_in(empty: List<Stand>, known: &List<DeviceProgress>) -> List<Stand> {
 }
 
 /// By how much the turns of each device rose, in a list that has room for them.
-fn turns_in<D: Steady>(
+fn turns_in<D: Device>(
     empty: List<u64>,
     known: &List<DeviceProgress>,
     devices: &List<D>,
-) -> List<u64> {
+) -> List<u64>
+    requires room { IsEmptyFor empty (length known.now.items) }
+    requires fell { NoneFell D.turns (λ device. device.at_opening.turns) known.now.items devices.now.items }
+    ensures { HaveRisen D.turns (λ device. device.at_opening.turns) known.now.items devices.now.items (length known.now.items) result.items }
+{
     let mut rises = empty;
-    for at in 0..known.len() {
+    'devices: for at in 0..known.len() {
         let device = devices.get(at).unwrap();
-        let pushed = rises.push(device.turns() - known.get(at).unwrap().at_opening.turns);
+        let then = known.get(at).unwrap().at_opening.turns;
+        let pushed = rises.push(device.turns() - then);
         pushed.unwrap();
     }
     rises
 }
 
 /// By how much the faults of each device rose, in a list that has room for them.
-fn faults_in<D: Steady>(
+fn faults_in<D: Device>(
     empty: List<u64>,
     known: &List<DeviceProgress>,
     devices: &List<D>,
-) -> List<u64> {
+) -> List<u64>
+    requires room { IsEmptyFor empty (length known.now.items) }
+    requires fell { NoneFell D.faults (λ device. device.at_opening.faults) known.now.items devices.now.items }
+    ensures { HaveRisen D.faults (λ device. device.at_opening.faults) known.now.items devices.now.items (length known.now.items) result.items }
+{
     let mut rises = empty;
-    for at in 0..known.len() {
+    'devices: for at in 0..known.len() {
         let device = devices.get(at).unwrap();
-        let pushed = rises.push(device.faults() - known.get(at).unwrap().at_opening.faults);
+        let then = known.get(at).unwrap().at_opening.faults;
+        let pushed = rises.push(device.faults() - then);
         pushed.unwrap();
     }
     rises

@@ -3,7 +3,7 @@ ghost use Rattle.hub_core.specs.HubCalls.{HistoryIsBounded, HubStands, SomeRunMo
 ghost use Rattle.hub_core.specs.OpenHubs.{configuration_of, device_at};
 ghost use Rattle.hub_core.specs.Steps.{not_quiet, opened};
 
-use crate::known::DeviceProgress;
+use crate::known::{Counts, DeviceProgress};
 use crate::purposes::Purpose;
 use crate::read_histories::ReadHistory;
 use crate::refusals::NotQuiet;
@@ -11,6 +11,18 @@ use device_gate::Gate;
 use device_states::{Device, Steady};
 use home_types::{DeviceNo, List, RunNo, Stand};
 use std::marker::Model;
+
+/// What is known of no device.
+const NOT_KNOWN: DeviceProgress = DeviceProgress {
+    held: 0,
+    probes_left: 0,
+    purpose: Purpose::Command(0),
+    at_opening: Counts {
+        turns: 0,
+        probes: 0,
+        faults: 0,
+    },
+};
 
 /// The lists that closing a window fills: empty, each with room for every device.
 #[derive(Drop)]
@@ -102,17 +114,20 @@ impl<D: Device> Hub<D> {
     pub fn fresh(&self) -> bool
         ensures { IsTrue result ↔ (configuration_of self.now ≡ opened self.now.setting self.now.rounds) }
     {
-        self.history.len() == 0 && self.moment == 0 && self.gate.first_out().is_none()
+        if self.history.len() != 0 {
+            return false;
+        }
+        if self.moment != 0 {
+            return false;
+        }
+        self.gate.first_out().is_none()
     }
 
     /// How many probes of the device may still be taken, 0 for no device of the home.
     pub fn probes_left(&self, d: DeviceNo) -> u64
         ensures { result ≡ (configuration_of self.now).probes d.0 }
     {
-        match self.devices.get(d.0 as u64) {
-            Some(device) => device.probes_left as u64,
-            None => 0,
-        }
+        self.known(d).probes_left as u64
     }
 
     /// Why the window cannot be closed: the smallest run that has not ended, else the smallest device that is out.
@@ -122,7 +137,10 @@ impl<D: Device> Hub<D> {
         if let Some(r) = self.history.first_unended() {
             return Some(NotQuiet::StillLive(r));
         }
-        self.gate.first_out().map(NotQuiet::StillOut)
+        match self.gate.first_out() {
+            Some(d) => Some(NotQuiet::StillOut(d)),
+            None => None,
+        }
     }
 
     /// Whether nothing is left to do for the run: the window has no such run, or it has ended.
@@ -154,9 +172,19 @@ impl<D: Device> Hub<D> {
         let Some(slip) = self.gate.slip(d) else {
             return 0;
         };
-        match self.devices.get(d.0 as u64).map(|known| known.purpose) {
-            Some(Purpose::Command(k)) => self.history.command(RunNo(slip.maker), k).takes,
-            _ => 0,
+        match self.known(d).purpose {
+            Purpose::Command(k) => self.history.command(RunNo(slip.maker), k).takes,
+            Purpose::Undo(_) | Purpose::Probe(_) => 0,
+        }
+    }
+
+    /// What is known of the device, nothing of no device of the home.
+    fn known(&self, d: DeviceNo) -> DeviceProgress
+        ensures { result ≡ device_at self.now.devices d.0 }
+    {
+        match self.devices.get(d.0 as u64) {
+            Some(known) => *known,
+            None => NOT_KNOWN,
         }
     }
 }

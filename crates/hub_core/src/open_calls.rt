@@ -1,6 +1,10 @@
-ghost use Rattle.std.specs.Prelude.{◌≡◌, ◌≤◌, IfErr, IfOk, length, ℕ};
+ghost use Rattle.std.specs.Prelude.{◌≡◌, ◌<◌, ◌≤◌, IfErr, IfOk, [], length, replicate, slice_get, ℕ};
+ghost use Rattle.command_rules.specs.Rosters.{runs_of};
+ghost use Rattle.home_types.specs.HomeStates.{stand_at};
 ghost use Rattle.hub_core.specs.HubCalls.{IsOpened};
 ghost use Rattle.hub_core.specs.Homes.{setting_for};
+ghost use Rattle.hub_core.specs.HubsKept.{IsEmptyFor};
+ghost use Rattle.hub_core.specs.OpeningRooms.{AreKnown, IsClosingRoom, IsHistoryRoom, known_first, no_progress};
 ghost use Rattle.hub_core.specs.Openings.{MayOpen};
 ghost use Rattle.hub_core.specs.Stage.{StageAllows};
 
@@ -13,15 +17,21 @@ use command_rules::Roster;
 use device_gate::Gate;
 use device_states::Device;
 use history_book::Book;
-use home_types::{Item, List, Mode, NoMemory, World};
+use home_types::{Item, Kind, List, Mode, NoMemory, World};
 use std::alloc::Global;
+
+/// The memory of a window's history.
+#[derive(Drop)]
+struct HistoryRoom {
+    book: Book,
+    line: List<Item>,
+    progress: List<RunProgress>,
+}
 
 /// The memory of a window, all but the places of its devices.
 #[derive(Drop)]
 struct Room {
-    book: Book,
-    line: List<Item>,
-    progress: List<RunProgress>,
+    history: HistoryRoom,
     devices: List<DeviceProgress>,
     closing: ClosingLists,
 }
@@ -46,16 +56,9 @@ impl<D: Device> Home<D> {
         ensures opened { IfOk result (λ hub. IsOpened D.turns D.probes D.faults (setting_for self roster mode) rounds self hub) }
         ensures refused { IfErr result (λ refused. refused.0 ≡ self) }
     {
-        let Ok(room) = self.room(alloc, &roster, rounds) else {
+        let Ok(room) = self.room(alloc, roster.runs.len(), rounds) else {
             return Err((self, NoMemory));
         };
-        let Room {
-            book,
-            line,
-            progress,
-            devices: known,
-            closing,
-        } = room;
         let Home {
             kinds,
             world,
@@ -64,21 +67,13 @@ impl<D: Device> Home<D> {
         } = self;
         match Gate::open(alloc, devices) {
             Ok(gate) => Ok(Hub {
-                history: ReadHistory {
-                    roster,
-                    mode,
-                    kinds,
-                    first: world,
-                    book,
-                    line,
-                    progress,
-                },
+                history: empty_history(roster, mode, kinds, world, room.history),
                 rounds,
                 opened,
                 moment: 0,
-                devices: known,
+                devices: room.devices,
                 gate,
-                closing,
+                closing: room.closing,
             }),
             Err((devices, NoMemory)) => Err((
                 Home {
@@ -92,47 +87,102 @@ impl<D: Device> Home<D> {
         }
     }
 
-    /// Takes the memory of a window of these runs.
-    fn room(&self, alloc: Global, roster: &Roster, rounds: u32) -> Result<Room, NoMemory> {
-        let runs = roster.runs.len();
-        let mut book = Book::new(alloc);
-        book.reserve(ENTRIES_OF_A_RUN * runs)?;
-        let mut line = List::new(alloc);
-        line.reserve(ENTRIES_OF_A_RUN * runs)?;
+    /// Takes the memory of a window of so many runs.
+    fn room(&self, alloc: Global, runs: u64, rounds: u32) -> Result<Room, NoMemory>
+        requires few { runs ≤ 64 }
+        ensures history { IfOk result (λ room. IsHistoryRoom runs room.history.book room.history.line room.history.progress.items) }
+        ensures devices { IfOk result (λ room. AreKnown D.turns D.probes D.faults self.now rounds (length self.now.devices) room.devices.items) }
+        ensures closing { IfOk result (λ room. IsClosingRoom (length self.now.devices) room.closing) }
+    {
         Ok(Room {
-            book,
-            line,
-            progress: new_progress(alloc, runs)?,
+            history: history_room(alloc, runs)?,
             devices: self.known_devices(alloc, rounds)?,
             closing: closing_lists(alloc, self.devices.len())?,
         })
     }
 
     /// What is known of each device as the window opens.
-    fn known_devices(&self, alloc: Global, rounds: u32) -> Result<List<DeviceProgress>, NoMemory> {
+    fn known_devices(&self, alloc: Global, rounds: u32) -> Result<List<DeviceProgress>, NoMemory>
+        ensures { IfOk result (λ known. AreKnown D.turns D.probes D.faults self.now rounds (length self.now.devices) known.items) }
+    {
         let mut known = List::new(alloc);
-        for at in 0..self.devices.len() {
-            let device = self.devices.get(at).unwrap();
-            let stand = self.world.devices.get(at).unwrap();
-            known.push(DeviceProgress {
-                held: stand.value,
-                probes_left: rounds,
-                purpose: Purpose::Command(0),
-                at_opening: Counts {
-                    turns: device.turns(),
-                    probes: device.probes(),
-                    faults: device.faults(),
-                },
-            })?;
+        'devices: for at in 0..self.devices.len() {
+            known.push(self.known_device(at, rounds))?;
         }
         Ok(known)
     }
+
+    /// What is known of the device as the window opens.
+    fn known_device(&self, at: u64, rounds: u32) -> DeviceProgress
+        requires { at < length self.now.devices }
+        ensures { (device : D) → slice_get self.now.devices at ≡ Some device → result ≡ known_first rounds (stand_at self.now.world at).value (D.turns device) (D.probes device) (D.faults device) }
+    {
+        let device = self.devices.get(at).unwrap();
+        let stand = self.world.devices.get(at).unwrap();
+        DeviceProgress {
+            held: stand.value,
+            probes_left: rounds,
+            purpose: Purpose::Command(0),
+            at_opening: Counts {
+                turns: device.turns(),
+                probes: device.probes(),
+                faults: device.faults(),
+            },
+        }
+    }
+}
+
+/// The empty history of a window, in this memory.
+fn empty_history(
+    roster: Roster,
+    mode: Mode,
+    kinds: List<Kind>,
+    first: World,
+    room: HistoryRoom,
+) -> ReadHistory
+    requires room { IsHistoryRoom (length roster.runs.items) room.book room.line room.progress.items }
+    ensures setting { result.setting ≡ record { runs = runs_of roster; mode = mode; kinds = kinds.items; first = first.devices.items } }
+    ensures history { result.history ≡ [] }
+    ensures spare { result.spare ≡ room.book.spare }
+{
+    let HistoryRoom {
+        book,
+        line,
+        progress,
+    } = room;
+    ReadHistory {
+        roster,
+        mode,
+        kinds,
+        first,
+        book,
+        line,
+        progress,
+    }
+}
+
+/// Takes the memory of a history of so many runs.
+fn history_room(alloc: Global, runs: u64) -> Result<HistoryRoom, NoMemory>
+    requires few { runs ≤ 64 }
+    ensures { IfOk result (λ room. IsHistoryRoom runs room.book room.line room.progress.items) }
+{
+    let mut book = Book::new(alloc);
+    book.reserve(ENTRIES_OF_A_RUN * runs)?;
+    let line = roomy_list(alloc, book.spare())?;
+    let progress = no_progress(alloc, runs)?;
+    Ok(HistoryRoom {
+        book,
+        line,
+        progress,
+    })
 }
 
 /// Nothing has happened to so many runs.
-fn new_progress(alloc: Global, runs: u64) -> Result<List<RunProgress>, NoMemory> {
+fn no_progress(alloc: Global, runs: u64) -> Result<List<RunProgress>, NoMemory>
+    ensures { IfOk result (λ progress. progress.items ≡ replicate runs no_progress) }
+{
     let mut progress = List::new(alloc);
-    for _ in 0..runs {
+    'runs: for _ in 0..runs {
         progress.push(RunProgress {
             arrived: None,
             placed: false,
@@ -146,7 +196,9 @@ fn new_progress(alloc: Global, runs: u64) -> Result<List<RunProgress>, NoMemory>
 }
 
 /// The lists that closing fills, with room for so many devices.
-fn closing_lists(alloc: Global, devices: u64) -> Result<ClosingLists, NoMemory> {
+fn closing_lists(alloc: Global, devices: u64) -> Result<ClosingLists, NoMemory>
+    ensures { IfOk result (λ closing. IsClosingRoom devices closing) }
+{
     Ok(ClosingLists {
         last: roomy_list(alloc, devices)?,
         world: roomy_list(alloc, devices)?,
@@ -157,6 +209,7 @@ fn closing_lists(alloc: Global, devices: u64) -> Result<ClosingLists, NoMemory> 
 
 /// An empty list with room for so many items.
 fn roomy_list<T: Drop>(alloc: Global, n: u64) -> Result<List<T>, NoMemory>
+    ensures { IfOk result (λ list. IsEmptyFor list n) }
 {
     let mut list = List::new(alloc);
     list.reserve(n)?;

@@ -1,0 +1,46 @@
+-- The devices that were built, and one more.
+use Rattle.hub_core.specs.Homes.{AreNew, IsNew}
+use Rattle.routine_reader.specs.declared.scripts.DeviceText.{DeviceText}
+use Rattle.std.proofs.Common.{ap, arith, get_or, inl, inr, refl, subst, sym, ◌∙◌}
+use Rattle.std.proofs.lemmas.List.{length-append, length-take-le, take_more}
+use Rattle.std.proofs.lemmas.Option.{slice_get_within}
+use Rattle.std.specs.Prelude.{List, Option, Some, [], length, slice_get, suc, take, zero, ℕ, ◌+◌, ◌++◌, ◌<◌, ◌∷◌, ◌≡◌, ◌⊎◌}
+
+-- a place of a list with one item more is a place of the list, or the new one
+pub snoc_get : {X : Type 0} (xs : List X) (x y : X) (k : ℕ) → slice_get (xs ++ x ∷ []) k ≡ Some y → (slice_get xs k ≡ Some y) ⊎ ((k ≡ length xs) × (x ≡ y))
+snoc_get [] x y zero h = inr (refl, cc)
+snoc_get [] x y (suc k) h = absurd (cc)
+snoc_get (z ∷ xs) x y zero h = inl h
+snoc_get (z ∷ xs) x y (suc k) h = elim (snoc_get xs x y k h) [
+  | inl e ↦ inl e
+  | inr p ↦ inr (ap (λ n. suc n) p.0, p.1)
+]
+
+pub new_more : {D : Type 0} (tag : D → ℕ) (plan : D → Option (List (ℕ × ℕ))) (stands turns probes faults : D → ℕ) (texts : List DeviceText) (devices : List D) (text : DeviceText) (device : D)
+    → AreNew tag plan stands turns probes faults texts devices → IsNew tag plan stands turns probes faults text (length devices) device
+    → AreNew tag plan stands turns probes faults (texts ++ text ∷ []) (devices ++ device ∷ [])
+new_more {D = D} tag plan stands turns probes faults texts devices text device are is = record {
+  size = omega (arith, are.size, length-append devices (device ∷ []), length-append texts (text ∷ []));
+  each = λ d y t device_at text_at. elim (snoc_get devices device y d device_at) [
+    | inl device_old ↦ elim (snoc_get texts text t d text_at) [
+      | inl text_old ↦ are.each d y t device_old text_old
+      | inr text_last ↦ absurd (let within = slice_get_within devices d y device_old in omega (arith, within, text_last.0, are.size))
+    ]
+    | inr device_last ↦ elim (snoc_get texts text t d text_at) [
+      | inl text_old ↦ absurd (let within = slice_get_within texts d t text_old in omega (arith, within, device_last.0, are.size))
+      | inr text_last ↦ (let P : DeviceText × ℕ × D → Type 0 = λ q. IsNew tag plan stands turns probes faults q.0 q.1 q.2 in
+          subst P (λ i. (text_last.1 i, sym device_last.0 i, device_last.1 i)) is)
+    ]
+  ];
+}
+
+-- the same along the texts of a script
+pub new_next : {D : Type 0} (tag : D → ℕ) (plan : D → Option (List (ℕ × ℕ))) (stands turns probes faults : D → ℕ) (texts : List DeviceText) (n : ℕ) (text : DeviceText) (devices after : List D) (device : D)
+    → n < length texts → text ≡ get_or texts n text → after ≡ devices ++ device ∷ []
+    → AreNew tag plan stands turns probes faults (take n texts) devices → IsNew tag plan stands turns probes faults text n device
+    → AreNew tag plan stands turns probes faults (take (n + 1) texts) after
+new_next {D = D} tag plan stands turns probes faults texts n text devices after device within at more are is =
+    let count : n ≡ length devices = sym (are.size ∙ length-take-le n texts (omega (arith, within))) in
+    let here : IsNew tag plan stands turns probes faults text (length devices) device = subst (λ k. IsNew tag plan stands turns probes faults text k device) count is in
+    let longer : take (n + 1) texts ≡ take n texts ++ text ∷ [] = take_more texts n text within ∙ ap (λ t. take n texts ++ t ∷ []) (sym at) in
+    rw (longer, more) (new_more tag plan stands turns probes faults (take n texts) devices text device are here)

@@ -1,0 +1,76 @@
+-- A new home is as every home is kept.
+use Rattle.device_gate.specs.Places.{AreNumbered}
+use Rattle.home_types.specs.HomeStates.{nowhere, stand_at}
+use Rattle.home_types.specs.Kinds.{has_value, kind_at}
+use Rattle.home_types.specs.declared.kinds.Kind.TheVariants.{States}
+use Rattle.home_types.specs.declared.kinds.Kind.{Kind}
+use Rattle.home_types.specs.declared.worlds.Stand.{Stand}
+use Rattle.hub_core.specs.Agreement.{UpDevicesStand}
+use Rattle.hub_core.specs.Homes.{AreNew, CountsAreLow, HomeIsKept, HomeState, IsNew}
+use Rattle.routine_reader.specs.Rosters.{kinds_of, start_home, start_stand}
+use Rattle.routine_reader.specs.Scripts.{PlainDevice, plain_device, plain_script}
+use Rattle.routine_reader.specs.Sound.{IsSound}
+use Rattle.routine_reader.specs.declared.scripts.DeviceText.{DeviceText}
+use Rattle.routine_reader.specs.declared.scripts.Script.{Script}
+use Rattle.std.proofs.Common.{ap, arith, get_or, inl, inr, refl, subst, sym, ◌∙◌}
+use Rattle.std.proofs.lemmas.List.{get_or-map, length-map}
+use Rattle.std.proofs.lemmas.Option.{get_or_from_slice_get, slice_get_cases, slice_get_within}
+use Rattle.std.specs.Prelude.{IsTrue, List, Option, Some, length, map, slice_get, true, ℕ, ◌<◌, ◌≡◌, ◌≤◌}
+
+-- what is within a list is at its place
+at_place : {X : Type 0} (xs : List X) (i : ℕ) → i < length xs → (x : X) × (slice_get xs i ≡ Some x)
+at_place xs i lt = elim (slice_get_cases xs i).1 [
+  | inl p ↦ (p.0, p.2)
+  | inr p ↦ absurd (let past = p.0 in omega (arith, lt, past))
+]
+
+-- the item of a list of which each was made of one
+made_of : {X Y : Type 0} (f : X → Y) (xs : List X) (i : ℕ) (x : X) (e : Y) → slice_get xs i ≡ Some x → get_or (map f xs) i e ≡ f x
+made_of f xs i x e h = get_or-map f xs i x e (slice_get_within xs i x h) ∙ ap f (get_or_from_slice_get xs i x x h)
+
+pub new_home : {D : Type 0} (tag : D → ℕ) (plan : D → Option (List (ℕ × ℕ))) (stands turns probes faults : D → ℕ) (script : Script) (kinds : List Kind) (world : List Stand) (devices : List D)
+    → IsSound (plain_script script) → AreNew tag plan stands turns probes faults script.devices.items devices → kinds ≡ kinds_of script → world ≡ start_home script
+    → HomeIsKept tag stands turns probes faults (record { kinds = kinds; world = world; devices = devices; opened = 0 })
+new_home {D = D} tag plan stands turns probes faults script kinds world devices sound new kinds_are world_is =
+    record {
+      numbered = λ d device at. (new_at d device at).2.own.tag_is;
+      kinds = ap (λ l. length l) kinds_are ∙ length-map texts (λ t. t.kind) ∙ sym size;
+      size = new.size ∙ sym size;
+      few = rw size few;
+      opened = omega arith;
+      values = value_at;
+      stand = stand;
+      counts = λ d device at. (let is = (new_at d device at).2 in record {
+        few_turns = rw (is.no_turns) (omega arith);
+        few_probes = rw (is.no_probes) (omega arith);
+        few_faults = rw (is.no_faults) (omega arith);
+      });
+    }
+  where
+    texts : List DeviceText
+    texts = script.devices.items
+
+    size : length world ≡ length texts
+    size = ap (λ l. length l) world_is ∙ length-map texts start_stand
+
+    few : length texts ≤ 256
+    few = let said = sound.few_devices in let same : length (map plain_device texts) ≡ length texts = length-map texts plain_device in omega (arith, said, same)
+
+    new_at : (d : ℕ) (device : D) → slice_get devices d ≡ Some device → (text : DeviceText) × (slice_get texts d ≡ Some text) × IsNew tag plan stands turns probes faults text d device
+    new_at d device at = (let text = at_place texts d (let within = slice_get_within devices d device at in omega (arith, within, new.size)) in (text.0, text.1, new.each d device text.0 at text.1))
+
+    stand_of : (d : ℕ) (text : DeviceText) → slice_get texts d ≡ Some text → stand_at world d ≡ start_stand text
+    stand_of d text at = ap (λ l. stand_at l d) world_is ∙ made_of start_stand texts d text nowhere at
+
+    kind_of : (d : ℕ) (text : DeviceText) → slice_get texts d ≡ Some text → kind_at kinds d ≡ text.kind
+    kind_of d text at = ap (λ l. kind_at l d) kinds_are ∙ made_of (λ t. t.kind) texts d text (States 0) at
+
+    stand : UpDevicesStand stands devices world
+    stand d device at up = (let is = new_at d device at in is.2.at_start ∙ sym (ap (λ (s : Stand). s.value) (stand_of d is.0 is.1)))
+
+    starts_well : (d : ℕ) (text : DeviceText) → slice_get texts d ≡ Some text → has_value text.kind text.start ≡ true
+    starts_well d text at = (let sound_there = sound.devices d (plain_device text) (let within = slice_get_within texts d text at in let same : length (map plain_device texts) ≡ length texts = length-map texts plain_device in omega (arith, within, same)) in
+        subst (λ (p : PlainDevice). has_value p.kind p.start ≡ true) (made_of plain_device texts d text (plain_device text) at) sound_there.start)
+
+    value_at : (d : ℕ) → d < length world → IsTrue (has_value (kind_at kinds d) (stand_at world d).value)
+    value_at d lt = (let text = at_place texts d (omega (arith, lt, size)) in rw (kind_of d text.0 text.1, stand_of d text.0 text.1) (starts_well d text.0 text.1))

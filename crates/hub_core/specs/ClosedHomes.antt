@@ -1,0 +1,19 @@
+-- What closing a window reads from the devices that are home again.
+use Rattle.home_types.specs.declared.worlds.Stand.{Stand}
+use Rattle.hub_core.specs.OpenHubs.{device_at}
+use Rattle.hub_core.specs.declared.known.DeviceProgress.{DeviceProgress}
+use Rattle.std.specs.Prelude.{List, Some, length, slice_get, slice_index_or, true, ℕ, ◌+◌, ◌<◌, ◌≡◌, ◌≤◌}
+
+-- a device stands where it is known to, and is up
+abbrev pub known_stand : DeviceProgress → Stand
+known_stand known = record { value = known.held; up = true }
+
+-- each device is known, and its count is not below that of the opening
+pub record NoneFell {D : Type 0} (count : D → ℕ) (count_then : DeviceProgress → ℕ) (known : List DeviceProgress) (devices : List D) : Type 0 where
+  pub size : length devices ≡ length known
+  pub each : (d : ℕ) (device : D) → slice_get devices d ≡ Some device → count_then (device_at known d) ≤ count device
+
+-- by so much the count of each of the first n devices rose since the opening
+pub record HaveRisen {D : Type 0} (count : D → ℕ) (count_then : DeviceProgress → ℕ) (known : List DeviceProgress) (devices : List D) (n : ℕ) (rises : List ℕ) : Type 0 where
+  pub size : length rises ≡ n
+  pub each : (d : ℕ) (device : D) → d < n → slice_get devices d ≡ Some device → count device ≡ count_then (device_at known d) + slice_index_or rises d 0
