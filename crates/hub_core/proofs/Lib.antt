@@ -26,3 +26,4 @@ pub mod HubLaws
 pub mod HubChanges
 pub mod HubOuts
 pub mod HubReturns
+pub mod HubRefusals

