@@ -26,6 +26,7 @@ use Rattle.lock_leasing.specs.Configurations.{Commands, Configuration, Grip, Pro
 use Rattle.lock_leasing.specs.Order.{OrderStands}
 use Rattle.lock_leasing.specs.Words.{standing_value}
 use Rattle.command_rules.specs.Rosters.{command_at, is_run}
+use Rattle.window_order.specs.OrderKept.{GripsFit}
 use Rattle.std.specs.Prelude.{Bool, Err, List, None, Ok, Option, Result, Some, [], is_some, length, not, slice_get, slice_index_or, slice_set, true, ℕ, ◌*◌, ◌+◌, ◌-◌, ◌<◌, ◌≡◌, ◌≢◌, ◌≤◌, ◌||◌}
 
 -- the hub is in the same window, with the same counts of its devices at the opening
@@ -138,9 +139,10 @@ pub record CallsAreTold {D : Type 0} (turns probes : D → ℕ) (s : OpenHub D) 
   pub turns_rose : (d : ℕ) (device : D) → slice_get s.places d ≡ Some (Home device) → turns device ≡ (device_at s.devices d).at_opening.turns + told_calls s.setting.runs (entries_of s.history) d
   pub probes_rose : (d : ℕ) (device : D) → slice_get s.places d ≡ Some (Home device) → probes device ≡ (device_at s.devices d).at_opening.probes + (s.rounds - (device_at s.devices d).probes_left)
 
--- in every hub each device has a place, the four clauses of the order hold, reads are clean, aborts are justified, devices stand where they should, and their calls are told
+-- in every hub each device has a place, the grips that are out fit the history, the four clauses of the order hold, reads are clean, aborts are justified, devices stand where they should, and their calls are told
 pub record HubStands {D : Type 0} (stands turns probes : D → ℕ) (s : OpenHub D) : Type 0 where
   pub size : length s.places ≡ length s.setting.first
+  pub grips : GripsFit s.setting (read_of (configuration_of s)) (configuration_of s).grips
   pub order : OrderStands s.setting (read_of (configuration_of s)) (configuration_of s).grips
   pub clean : ReadsAreClean s.setting (entries_of s.history)
   pub justified : IsJustified s.setting (entries_of s.history)
