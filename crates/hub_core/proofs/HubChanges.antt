@@ -1,8 +1,6 @@
 -- A step of a run in which no device goes out keeps what the type of a hub keeps, and is the step that it says.
 use Rattle.device_gate.specs.declared.gates.Place.{Place}
-use Rattle.history_book.proofs.Snoc.{entries_on}
 use Rattle.history_book.specs.Histories.{entries_of, kept_by}
-use Rattle.history_book.specs.Settings.{Setting}
 use Rattle.history_book.specs.declared.entries.End.{End}
 use Rattle.history_book.specs.declared.entries.Entry.{Entry}
 use Rattle.history_book.specs.declared.entries.Kept.{Kept}
@@ -10,9 +8,8 @@ use Rattle.device_gate.specs.declared.slips.Slip.{Slip}
 use Rattle.home_types.specs.Commands.{driven, reads}
 use Rattle.home_types.specs.HomeStates.{stand_at}
 use Rattle.home_types.specs.Kinds.{kind_at}
-use Rattle.home_types.specs.declared.commands.Command.{Command}
 use Rattle.command_rules.specs.Rosters.{command_at}
-use Rattle.device_gate.specs.declared.slips.Task.TheVariants.{Drive, Probe, Sense}
+use Rattle.device_gate.specs.declared.slips.Task.TheVariants.{Drive, Sense}
 use Rattle.hub_core.proofs.Calls.{take_calls}
 use Rattle.hub_core.proofs.Kept.{kept_at, take_kept}
 use Rattle.hub_core.proofs.Sizes.{history_fits}
@@ -20,18 +17,17 @@ use Rattle.hub_core.proofs.StageFacts.{reads_plainly}
 use Rattle.hub_core.specs.AccountedCalls.{told_calls}
 use Rattle.hub_core.specs.HubCalls.{Answers, SameWindow}
 use Rattle.hub_core.specs.HubKept.{ConfigurationIsKept}
-use Rattle.hub_core.specs.HubSteps.{Chose, HubState, HubStep, SlipFits, Take, carried_after, task_of}
+use Rattle.hub_core.specs.HubSteps.{Chose, HubStep, SlipFits, Take, carried_after, task_of}
 use Rattle.hub_core.specs.HubsKept.{HasRoomLeft, HubIsKept, is_away}
 use Rattle.hub_core.specs.OpenHubs.{OpenHub, configuration_of, device_at, held_in, purpose_of, state_of}
 use Rattle.hub_core.specs.ReadHistories.{HistoryState, with_entry}
-use Rattle.hub_core.specs.Steps.{Absent, Choice, HandsOut, Moves, Over, Waits, after_choice, after_take, at_moment, choice_of}
+use Rattle.hub_core.specs.Steps.{Absent, Choice, Moves, Over, Waits, after_choice, after_take, at_moment, choice_of}
 use Rattle.hub_core.specs.declared.hubs.ClosingLists.{ClosingLists}
 use Rattle.hub_core.specs.declared.known.DeviceProgress.{DeviceProgress}
 use Rattle.hub_core.specs.declared.waits.Why.{Why}
-use Rattle.lock_leasing.specs.Configurations.{Commands, Configuration, Grip, Grips, Probes, Purpose, Undoes, read_of}
+use Rattle.lock_leasing.specs.Configurations.{Commands, Configuration, Probes, Purpose, Undoes, read_of}
 use Rattle.std.proofs.Common.{ap, append-nil, ap₂, arith, length-append, refl, subst, sym, ◌∙◌}
-use Rattle.std.proofs.lemmas.Grind.{common_steps}
-use Rattle.std.specs.Prelude.{Bool, List, [], count_by, if◌then◌else◌, length, max, true, ℕ, ⊤, ◌*◌, ◌++◌, ◌+◌, ◌-◌, ◌<◌, ◌∷◌, ◌≡◌, ◌≤◌}
+use Rattle.std.specs.Prelude.{List, [], count_by, if◌then◌else◌, length, max, ℕ, ◌*◌, ◌++◌, ◌+◌, ◌-◌, ◌<◌, ◌∷◌, ◌≡◌, ◌≤◌}
 
 -- the registers of two histories of this stage are the same, so what a device is out for does the same
 pub task_same : (s c : Configuration) (r : ℕ) (purpose : Purpose) → s.setting ≡ c.setting → ((read_of s).run r).register ≡ ((read_of c).run r).register → task_of s r purpose ≡ task_of c r purpose
@@ -156,9 +152,10 @@ pub entry_inside : {D : Type 0} (stands turns probes faults : D → ℕ) (h h₂
     → hub_of h rounds opened moment devices places tickets ≡ s → choice_of (configuration_of s) r m ≡ making c e → h₂ ≡ with_entry h r e
     → InsideIsKept stands turns probes faults h rounds opened moment devices places tickets closing → InsideIsKept stands turns probes faults h₂ rounds opened (max moment m) devices places tickets closing
 entry_inside {D = D} stands turns probes faults h h₂ rounds opened moment r m devices places tickets closing s e c same is new k =
-    subst (λ x. InsideIsKept stands turns probes faults x rounds opened (max moment m) devices places tickets closing) (sym new)
-    (entry_made stands turns probes faults here r m e c (ap (λ x. choice_of (configuration_of x) r m) same ∙ is) k.0,
-     room_made here (h.history ++ kept_by r (e ∷ [])) (record { maker = r; entry = e }) (max moment m) h.spare closing refl (place_inside stands turns probes faults h rounds opened moment r m devices places tickets closing s e c same is k) k.1)
+    subst (λ x. InsideIsKept stands turns probes faults x rounds opened (max moment m) devices places tickets closing) (sym new) (
+      entry_made stands turns probes faults here r m e c (ap (λ x. choice_of (configuration_of x) r m) same ∙ is) k.0,
+      room_made here (h.history ++ kept_by r (e ∷ [])) (record { maker = r; entry = e }) (max moment m) h.spare closing refl (place_inside stands turns probes faults h rounds opened moment r m devices places tickets closing s e c same is k) k.1,
+    )
   where
     here : OpenHub D
     here = hub_of h rounds opened moment devices places tickets
@@ -169,10 +166,11 @@ entry_inside {D = D} stands turns probes faults h h₂ rounds opened moment r m 
 pub step_is : {D : Type 0} (s t : OpenHub D) (r m : ℕ) (c : Choice) (slip : Slip) → choice_of (configuration_of s) r m ≡ c
     → state_of t ≡ record { configuration = after_choice (at_moment (configuration_of s) m) r c; carried = carried_after (state_of s) r c slip } → SlipFits r c slip
     → HubStep (state_of s) (Take r m slip) (Chose c) (state_of t)
-step_is s t r m c slip is next fits =
-    (ap (λ x. Chose x) (sym is),
-     next ∙ ap (λ x. record { configuration = after_choice (at_moment (configuration_of s) m) r x; carried = carried_after (state_of s) r x slip }) (sym is),
-     subst (λ x. SlipFits r x slip) (sym is) fits)
+step_is s t r m c slip is next fits = (
+  ap (λ x. Chose x) (sym is),
+  next ∙ ap (λ x. record { configuration = after_choice (at_moment (configuration_of s) m) r x; carried = carried_after (state_of s) r x slip }) (sym is),
+  subst (λ x. SlipFits r x slip) (sym is) fits,
+)
 
 -- a step that makes no entry
 pub data Idling : Type 0 where

@@ -2,7 +2,7 @@
 use Rattle.command_rules.specs.Rosters.{command_at, commands_of, is_run}
 use Rattle.home_types.specs.Commands.{driven, reads}
 use Rattle.std.specs.Option.{option_copied}
-use Rattle.device_gate.specs.Calls.{is_counted_up, probed}
+use Rattle.device_gate.specs.Calls.{probed}
 use Rattle.device_gate.specs.Grips.{Gripped}
 use Rattle.device_gate.specs.declared.grips.Ready.{Ready}
 use Rattle.device_gate.specs.Places.{IsHome}
@@ -21,27 +21,27 @@ use Rattle.history_book.specs.declared.entries.Kept.{Kept}
 use Rattle.home_types.specs.declared.commands.Command.{Command}
 use Rattle.hub_core.proofs.HubChanges.{few_entries, step_is, task_same, up_first}
 use Rattle.hub_core.proofs.HubReads.{get_set}
-use Rattle.hub_core.proofs.HubStates.{carried_set, device_here, device_there, grips_set, known_same, place_here, place_there}
+use Rattle.hub_core.proofs.HubStates.{carried_set, device_here, device_there, grips_set, known_same}
 use Rattle.hub_core.proofs.Kept.{take_kept}
 use Rattle.hub_core.proofs.StageChoices.{plain_is, steps_plainly}
 use Rattle.hub_core.specs.AccountedCalls.{tells_call, told_calls}
 use Rattle.hub_core.specs.Homes.{CountsAreLow}
 use Rattle.home_types.specs.Kinds.{has_value, kind_at}
 use Rattle.hub_core.specs.HubKept.{ConfigurationIsKept}
-use Rattle.hub_core.specs.HubSteps.{Chose, HubState, HubStep, Take, carried_after, task_of}
+use Rattle.hub_core.specs.HubSteps.{Chose, HubStep, Take, carried_after, task_of}
 use Rattle.hub_core.specs.HubCalls.{GoesOut, SameWindow}
-use Rattle.hub_core.specs.HubsKept.{FitsAtHome, FitsOut, HubIsKept, is_away, probes_now, turns_now}
+use Rattle.hub_core.specs.HubsKept.{FitsAtHome, FitsOut, HubIsKept, is_away}
 use Rattle.hub_core.specs.OpenHubs.{OpenHub, configuration_of, device_at, grip_in, held_in, purpose_of, state_of}
-use Rattle.hub_core.specs.Steps.{Choice, HandsOut, after_choice, after_take, at_moment, choice_of, with_grip}
+use Rattle.hub_core.specs.Steps.{HandsOut, after_choice, at_moment, choice_of, with_grip}
 use Rattle.hub_core.specs.declared.known.DeviceProgress.{DeviceProgress}
 use Rattle.hub_core.specs.declared.purposes.Purpose.{Purpose as KeptPurpose}
 use Rattle.lock_leasing.specs.Configurations.{Commands, Configuration, Grip, Purpose, is_out, read_of}
-use Rattle.std.proofs.Common.{ap, ap₂, arith, cond, inl, inr, refl, subst, sym, ◌∙◌, ◌⊎◌}
+use Rattle.std.proofs.Common.{ap, ap₂, arith, cond, inl, inr, refl, subst, sym, ◌∙◌}
 use Rattle.std.proofs.lemmas.Grind.{common_steps}
 use Rattle.std.proofs.lemmas.List.{length-set}
 use Rattle.std.proofs.lemmas.List.Sums.{count_by-le-length}
 use Rattle.std.proofs.lemmas.Option.{slice_get_within}
-use Rattle.std.specs.Prelude.{Bool, IsTrue, List, None, Option, Some, [], count_by, false, if◌then◌else◌, is_some, length, max, slice_get, slice_set, suc, true, zero, ℕ, ⊤, ◌*◌, ◌+◌, ◌-◌, ◌<◌, ◌∷◌, ◌≡◌, ◌≢◌, ◌≤◌}
+use Rattle.std.specs.Prelude.{Bool, IsTrue, List, None, Option, Some, [], count_by, false, if◌then◌else◌, is_some, length, max, slice_get, slice_set, suc, true, zero, ℕ, ⊤, ◌*◌, ◌+◌, ◌-◌, ◌<◌, ◌∷◌, ◌≡◌, ◌≤◌}
 
 -- Why it goes
 
@@ -221,7 +221,7 @@ gone_configuration s r d m purpose slip task maker within known =
     let known_now = record (device_at s.devices d) { purpose = purpose } in
     let probes : ◌≡◌ {A = ℕ → ℕ} (λ e. (device_at (slice_set s.devices d known_now) e).probes_left) (λ e. (device_at s.devices e).probes_left) = λ i e. known_same (λ (p : DeviceProgress). p.probes_left) s.devices d known_now known refl e i in
     let grips : ◌≡◌ {A = ℕ → Option Grip} (λ e. grip_in (slice_get (slice_set s.places d (Out slip task)) e) (device_at (slice_set s.devices d known_now) e).purpose) (put (configuration_of s).grips d (Some (record { maker = r; purpose = purpose_of purpose }))) =
-        grips_set s.places s.devices d (Out slip task) known_now within known ∙ ap (λ q. put (configuration_of s).grips d (Some (record { maker = q; purpose = purpose_of purpose }))) maker in
+    grips_set s.places s.devices d (Out slip task) known_now within known ∙ ap (λ q. put (configuration_of s).grips d (Some (record { maker = q; purpose = purpose_of purpose }))) maker in
     λ i. record { setting = s.setting; history = s.history; moment = max s.moment m; probes = probes i; grips = grips i }
 
 pub gone_state : {D : Type 0} (s : OpenHub D) (r d m : ℕ) (purpose : KeptPurpose) (slip : Slip) (task : Task) → slip.maker ≡ r → task ≡ task_of (configuration_of s) r (purpose_of purpose) → d < length s.places → d < length s.devices
@@ -274,7 +274,7 @@ gone_kept {D = D} stands turns probes faults s r d m purpose device slip task is
     now : ConfigurationIsKept (configuration_of t) s.rounds s.opened (held_in t)
     now =
         let taken : ConfigurationIsKept (after_choice (at_moment (configuration_of s) m) r (HandsOut d (purpose_of purpose))) s.rounds s.opened (held_in s) =
-            subst (λ c. ConfigurationIsKept (after_choice (at_moment (configuration_of s) m) r c) s.rounds s.opened (held_in s)) is (take_kept (configuration_of s) s.rounds s.opened (held_in s) r m k.configuration) in
+        subst (λ c. ConfigurationIsKept (after_choice (at_moment (configuration_of s) m) r c) s.rounds s.opened (held_in s)) is (take_kept (configuration_of s) s.rounds s.opened (held_in s) r m k.configuration) in
         let held : ◌≡◌ {A = ℕ → ℕ} (held_in s) (held_in t) = sym (λ i e. known_same (λ (p : DeviceProgress). p.held) s.devices d known_now known refl e i) in
         subst (λ (c : Configuration). ConfigurationIsKept c s.rounds s.opened (held_in t)) (sym (gone_configuration s r d m purpose slip task leaves.maker within known)) (subst (λ h. ConfigurationIsKept (after_choice (at_moment (configuration_of s) m) r (HandsOut d (purpose_of purpose))) s.rounds s.opened h) held taken)
 

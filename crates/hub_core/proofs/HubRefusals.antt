@@ -5,7 +5,6 @@ use Rattle.device_gate.specs.declared.gates.Place.TheVariants.{Out}
 use Rattle.device_gate.specs.declared.grips.Done.{Done}
 use Rattle.device_gate.specs.declared.slips.Slip.{Slip}
 use Rattle.device_gate.specs.declared.slips.Task.{Task}
-use Rattle.device_gate.specs.declared.slips.Told.{Told}
 use Rattle.device_gate.specs.declared.strangers.Stranger.{Stranger}
 use Rattle.command_rules.specs.Rosters.{is_run}
 use Rattle.hub_core.proofs.HubOuts.{gone_past}
@@ -13,16 +12,15 @@ use Rattle.hub_core.proofs.HubReturns.{for_command, out_for_command}
 use Rattle.hub_core.proofs.HubStates.{is_kept_there, slip_carried}
 use Rattle.hub_core.proofs.Kept.{no_probe}
 use Rattle.hub_core.specs.HubCalls.{IsGiven, IsProbeGiven, IsProbed, carried_by}
-use Rattle.hub_core.specs.HubSteps.{Carried, Given, GiveProbe, HubState, HubStep, IsSlipOf, ProbeTaken, Probed, Refused, Returned, give, give_if, give_probe, is_kept, stranger, take_probe}
+use Rattle.hub_core.specs.HubSteps.{Given, ProbeTaken, Probed, Refused, Returned, give, give_if, give_probe, is_kept, stranger, take_probe}
 use Rattle.hub_core.specs.HubsKept.{HubIsKept}
 use Rattle.hub_core.specs.OpenHubs.{OpenHub, configuration_of, held_in, state_of}
 use Rattle.hub_core.specs.Steps.{at_moment, may_probe}
 use Rattle.hub_core.specs.declared.known.DeviceProgress.{DeviceProgress}
-use Rattle.lock_leasing.specs.Configurations.{Configuration}
 use Rattle.std.proofs.Common.{ap, arith, refl, subst, sym, ◌∙◌}
 use Rattle.std.proofs.lemmas.Grind.{common_steps}
 use Rattle.std.proofs.lemmas.Option.{slice_get_within}
-use Rattle.std.specs.Prelude.{Bool, Err, IsTrue, List, None, Option, Some, false, length, nat_lt, slice_get, true, ℕ, ◌&&◌, ◌<◌, ◌==◌, ◌≡◌, ◌≤◌}
+use Rattle.std.specs.Prelude.{Bool, Err, None, Option, Some, false, length, nat_lt, slice_get, true, ℕ, ◌&&◌, ◌<◌, ◌==◌, ◌≡◌}
 
 -- the stranger is the hub's
 stranger_is : {D : Type 0} (s : OpenHub D) (grip : Gripped D Done) (x : Stranger) → x.kept ≡ slip_of (slice_get s.places grip.slip.device.0) → x.told ≡ grip.slip → x ≡ stranger (state_of s) (carried_by grip)

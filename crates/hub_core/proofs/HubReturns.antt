@@ -1,22 +1,19 @@
 -- A device that comes home keeps what the type of a hub keeps.
 use Rattle.command_rules.specs.Rosters.{command_at, commands_of, is_run, run_no}
-use Rattle.device_gate.specs.Calls.{answered, failed, is_counted_up, may_tell, probed}
 use Rattle.device_gate.specs.Grips.{Gripped, WasCalled}
-use Rattle.device_gate.specs.Places.{IsHome, IsKept}
+use Rattle.device_gate.specs.Places.{IsKept}
 use Rattle.device_gate.specs.declared.gates.Place.TheVariants.{Home, Out}
 use Rattle.device_gate.specs.declared.gates.Place.{Place}
 use Rattle.device_gate.specs.declared.grips.Done.{Done}
 use Rattle.device_gate.specs.declared.slips.Slip.{Slip}
-use Rattle.device_gate.specs.declared.slips.Task.TheVariants.{Drive, Probe, Sense}
+use Rattle.device_gate.specs.declared.slips.Task.TheVariants.{Drive, Sense}
 use Rattle.device_gate.specs.declared.slips.Task.{Task}
 use Rattle.device_gate.specs.declared.slips.Told.TheVariants.{Died, Sensed, Worked}
 use Rattle.device_gate.specs.declared.slips.Told.{Told}
 use Rattle.history_book.specs.Histories.{entries_made, entries_of, kept_by}
-use Rattle.history_book.specs.Readings.{Reading, next_command, next_of, put}
+use Rattle.history_book.specs.Readings.{Reading, next_of, put}
 use Rattle.history_book.specs.Settings.{Setting, is_device}
 use Rattle.history_book.specs.declared.entries.Entry.TheVariants.{Did}
-use Rattle.history_book.specs.declared.entries.Entry.{Entry}
-use Rattle.history_book.specs.declared.entries.Kept.{Kept}
 use Rattle.history_book.specs.declared.entries.Made.{Made}
 use Rattle.home_types.specs.Commands.{driven, reads}
 use Rattle.home_types.specs.Kinds.{has_value, kind_at}
@@ -28,7 +25,7 @@ use Rattle.home_types.specs.declared.kinds.Kind.{Kind}
 use Rattle.hub_core.proofs.Calls.{give_calls}
 use Rattle.hub_core.proofs.Gives.{command_is}
 use Rattle.hub_core.proofs.HubChanges.{InsideIsKept, has_place, hub_of, no_register, up_first}
-use Rattle.hub_core.proofs.HubOuts.{at_index, count_cons, gone_past, other_home, other_out}
+use Rattle.hub_core.proofs.HubOuts.{at_index, count_cons, other_home, other_out}
 use Rattle.hub_core.proofs.HubReads.{get_set}
 use Rattle.hub_core.proofs.HubStates.{carried_set, device_here, device_there, grips_set, kept_is, known_same, known_set, place_here}
 use Rattle.hub_core.proofs.Kept.{IsOut, give_kept, out_is}
@@ -38,25 +35,23 @@ use Rattle.hub_core.specs.AccountedCalls.{told_calls}
 use Rattle.hub_core.specs.Homes.{CountsAreLow}
 use Rattle.hub_core.specs.HubCalls.{IsGiven, SameWindow, carried_by}
 use Rattle.hub_core.specs.HubKept.{ConfigurationIsKept}
-use Rattle.hub_core.specs.HubSteps.{Carried, Gave, Give, Given, HubState, HubStep, Returned, give, give_if, is_kept, task_of}
-use Rattle.hub_core.specs.HubsKept.{FitsAtHome, FitsOut, HasRoomLeft, HubIsKept, is_away}
+use Rattle.hub_core.specs.HubSteps.{Carried, Gave, Given, HubState, Returned, give, give_if, is_kept, task_of}
+use Rattle.hub_core.specs.HubsKept.{FitsAtHome, HasRoomLeft, HubIsKept, is_away}
 use Rattle.hub_core.specs.Openings.{names_values_of}
 use Rattle.hub_core.specs.OpenHubs.{OpenHub, configuration_of, device_at, grip_in, held_in, purpose_of, state_of}
 use Rattle.hub_core.specs.ReadHistories.{HistoryState, with_entry}
 use Rattle.hub_core.specs.Stage.{is_set}
-use Rattle.hub_core.specs.Steps.{after_give, at_moment, give_entries, with_entries, with_grip}
+use Rattle.hub_core.specs.Steps.{after_give, at_moment, give_entries}
 use Rattle.hub_core.specs.declared.hubs.ClosingLists.{ClosingLists}
 use Rattle.hub_core.specs.declared.known.DeviceProgress.{DeviceProgress}
 use Rattle.hub_core.specs.declared.purposes.Purpose.TheVariants.{Command as ForCommand, Probe as ForProbe, Undo as ForUndo}
 use Rattle.hub_core.specs.declared.purposes.Purpose.{Purpose as KeptPurpose}
-use Rattle.lock_leasing.specs.Configurations.{Commands, Configuration, Grip, Purpose, is_command, read_of}
-use Rattle.std.proofs.Common.{ap, ap₂, arith, cond, inl, inr, length-append, refl, subst, sym, ◌∙◌, ◌⊎◌}
+use Rattle.lock_leasing.specs.Configurations.{Commands, Configuration, Grip, is_command, read_of}
+use Rattle.std.proofs.Common.{ap, ap₂, arith, inl, inr, length-append, refl, subst, sym, ◌∙◌}
 use Rattle.std.proofs.lemmas.Grind.{common_steps}
 use Rattle.std.proofs.lemmas.List.{length-set}
 use Rattle.std.proofs.lemmas.Option.{slice_get_within}
-use Rattle.std.specs.Borrow.{Bor}
-use Rattle.std.specs.Option.{option_copied}
-use Rattle.std.specs.Prelude.{Bool, IsTrue, List, None, Ok, Option, Some, [], count_by, false, if◌then◌else◌, is_some, length, max, nat_lt, slice_get, slice_set, suc, true, zero, ℕ, ⊤, ◌&&◌, ◌*◌, ◌++◌, ◌+◌, ◌-◌, ◌<◌, ◌==◌, ◌∷◌, ◌≡◌, ◌≢◌, ◌≤◌}
+use Rattle.std.specs.Prelude.{IsTrue, List, None, Ok, Option, Some, [], count_by, false, if◌then◌else◌, length, max, nat_lt, slice_get, slice_set, suc, true, zero, ℕ, ⊤, ◌&&◌, ◌*◌, ◌++◌, ◌+◌, ◌-◌, ◌<◌, ◌==◌, ◌∷◌, ◌≡◌, ◌≢◌, ◌≤◌}
 use Rattle.window_order.proofs.ReadFacts.{IsRead, read_facts}
 
 -- Why it was out
@@ -344,10 +339,13 @@ came_back {D = D} stands turns probes faults h h₂ rounds opened moment now tic
     subst (λ (x : OpenHub D). CameBack stands turns probes faults h₂ rounds opened now number devices₂ places₂ closing x grip m made) same
     (record {
       inside = (subst (λ (x : OpenHub D). HubIsKept stands turns probes faults x) (sym new) kept, room);
-      given =
-          ((ap (λ x. Returned (Gave x)) made_is ∙ ap (λ (x : Given). Returned x.answer) (sym gives),
-            ap (λ (x : OpenHub D). state_of x) new ∙ back_state s grip.slip grip.device v k m within within_devices ∙ ap (λ (x : Given). x.next) (sym gives)),
-           places_are);
+      given = (
+        (
+          ap (λ x. Returned (Gave x)) made_is ∙ ap (λ (x : Given). Returned x.answer) (sym gives),
+          ap (λ (x : OpenHub D). state_of x) new ∙ back_state s grip.slip grip.device v k m within within_devices ∙ ap (λ (x : Given). x.next) (sym gives),
+        ),
+        places_are,
+      );
       window = subst (λ (x : OpenHub D). SameWindow s x) (sym new) (record { setting = refl; rounds = refl; opened = refl; at_opening = known_same (λ (p : DeviceProgress). p.at_opening) devices grip.slip.device.0 (record (device_at devices grip.slip.device.0) { held = v }) within_devices refl });
     })
   where

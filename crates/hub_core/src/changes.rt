@@ -88,7 +88,8 @@ impl<D: Steady> Hub<D> {
         let task = self.task(r, purpose);
         let known = *self.devices.get(d.0 as u64).unwrap();
         self.moment = self.moment.max(moment);
-        self.devices.set(d.0 as u64, DeviceProgress { purpose, ..known });
+        self.devices
+            .set(d.0 as u64, DeviceProgress { purpose, ..known });
         self.gate.hand_out(d, r.0, known.held, task)
     }
 
@@ -112,7 +113,8 @@ impl<D: Steady> Hub<D> {
         // A steady device does not fail, so the call worked.
         self.gate.device(d).calm();
         self.moment = self.moment.max(moment);
-        self.devices.set(d.0 as u64, DeviceProgress { held, ..known });
+        self.devices
+            .set(d.0 as u64, DeviceProgress { held, ..known });
         one_made(self.history.write(RunNo(slip.maker), k))
     }
 }

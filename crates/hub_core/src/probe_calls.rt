@@ -25,10 +25,7 @@ impl<D: Steady> Hub<D> {
     ///
     /// A grip that is not the one with which its device is out, or that is a run's, comes back with a `Stranger`, and
     /// nothing changes. In this stage that is every grip.
-    pub fn give_probe(
-        &mut self,
-        grip: Grip<D, Done>,
-    ) -> Result<Made, (Grip<D, Done>, Stranger)>
+    pub fn give_probe(&mut self, grip: Grip<D, Done>) -> Result<Made, (Grip<D, Done>, Stranger)>
         ensures given { IsProbeGiven self.old grip result self.new }
         ensures window { SameWindow self.old self.new }
     {

@@ -1,7 +1,6 @@
 ghost use Rattle.std.specs.Prelude.{◌≡◌, ℕ};
 ghost use Rattle.hub_core.specs.HubCalls.{IsTurn, SameWindow};
 
-
 use crate::changes::NONE_MADE;
 use crate::decisions::Chosen;
 use crate::hubs::Hub;

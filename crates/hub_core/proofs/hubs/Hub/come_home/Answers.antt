@@ -1,6 +1,5 @@
 use Rattle.command_rules.specs.Rosters.{is_run}
 use Rattle.history_book.specs.declared.entries.Entry.TheVariants.{Did}
-use Rattle.history_book.specs.Readings.{next_of}
 use Rattle.home_types.specs.declared.commands.Answer.TheVariants.{Fine}
 use Rattle.command_rules.specs.Rosters.{run_no}
 use Rattle.hub_core.proofs.HubReturns.{back_place, came_back, few_answers, for_command, home_again, out_for_command, returned_as}
@@ -11,14 +10,14 @@ use Rattle.std.specs.Option.{option_copied}
 use Rattle.std.specs.Prelude.{[], slice_get, slice_set, ◌∷◌}
 
 pub unreachable-requires : goal.unreachable-requires
-unreachable-requires g c = 
+unreachable-requires g c =
     let there = (ap (λ s. slice_get s.places c.args.grip.slip.device.0) c.self.view_is ∙ c.requires.kept) in
     let known_is = (ap (λ s. slice_get c.self.inside.devices.items s.device.0) (sym c.slip-slip.ensures) ∙ sym c.get.ensures ∙ ap option_copied c.unwrap-known.ensures) in
     let for = out_for_command _ _ _ _ _ c.args.grip.slip c.args.grip.task _ c.self.invariant.0 there known_is in
     c.in_default.not-Command for.0 for.1
 
 pub unreachable-requires-in_default-task : goal.unreachable-requires-in_default-task
-unreachable-requires-in_default-task g c = 
+unreachable-requires-in_default-task g c =
     let there = (ap (λ s. slice_get s.places c.args.grip.slip.device.0) c.self.view_is ∙ c.requires.kept) in
     let known_is = (ap (λ s. slice_get c.self.inside.devices.items s.device.0) (sym c.slip-slip.ensures) ∙ sym c.get.ensures ∙ ap option_copied c.unwrap-known.ensures) in
     c.in_default-task.not-Drive _ (c.task.ensures ∙ (for_command _ _ _ _ _ c.args.grip.slip c.args.grip.task _ c.in-Command.k c.self.invariant.0 there known_is c.in-Command.is).drives)
@@ -27,19 +26,19 @@ pub device-requires : goal.device-requires
 device-requires g c = record { home = (c.args.grip.device, home_again _ _ _ _ _ c.args.grip.device c.slip-slip.ensures c.take_in.ensures.places (ap (λ s. slice_get s.places c.args.grip.slip.device.0) c.self.view_is ∙ c.requires.kept)) }
 
 pub write-requires-clause-run : goal.write-requires-clause-run
-write-requires-clause-run g c = 
+write-requires-clause-run g c =
     let there = (ap (λ s. slice_get s.places c.args.grip.slip.device.0) c.self.view_is ∙ c.requires.kept) in
     let known_is = (ap (λ s. slice_get c.self.inside.devices.items s.device.0) (sym c.slip-slip.ensures) ∙ sym c.get.ensures ∙ ap option_copied c.unwrap-known.ensures) in
     ap (λ s. is_run c.self.inside.history.setting.runs s.maker) c.slip-slip.ensures ∙ (for_command _ _ _ _ _ c.args.grip.slip c.args.grip.task _ c.in-Command.k c.self.invariant.0 there known_is c.in-Command.is).run
 
 pub write-requires-clause-room : goal.write-requires-clause-room
-write-requires-clause-room g c = 
+write-requires-clause-room g c =
     let there = (ap (λ s. slice_get s.places c.args.grip.slip.device.0) c.self.view_is ∙ c.requires.kept) in
     let known_is = (ap (λ s. slice_get c.self.inside.devices.items s.device.0) (sym c.slip-slip.ensures) ∙ sym c.get.ensures ∙ ap option_copied c.unwrap-known.ensures) in
     back_place _ _ _ _ c.self.inside.history _ _ _ _ c.in-Command.k _ _ _ _ c.args.grip.slip c.args.grip.task c.self.invariant there known_is c.in-Command.is
 
 pub write-requires-clause-few : goal.write-requires-clause-few
-write-requires-clause-few g c = 
+write-requires-clause-few g c =
     let there = (ap (λ s. slice_get s.places c.args.grip.slip.device.0) c.self.view_is ∙ c.requires.kept) in
     let known_is = (ap (λ s. slice_get c.self.inside.devices.items s.device.0) (sym c.slip-slip.ensures) ∙ sym c.get.ensures ∙ ap option_copied c.unwrap-known.ensures) in
     few_answers _ _ _ _ _ c.slip-slip.result c.args.grip.slip c.args.grip.task _ c.in-Command.k c.slip-slip.ensures c.self.invariant.0 there known_is c.in-Command.is

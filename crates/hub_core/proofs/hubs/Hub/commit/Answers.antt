@@ -1,12 +1,8 @@
 use Rattle.history_book.specs.declared.entries.End.TheVariants.{Committed}
-use Rattle.history_book.specs.declared.entries.Entry.TheVariants.{Arrived, Ended, Placed}
-use Rattle.hub_core.proofs.HubChanges.{Ending, Going, entry_inside, few_entries, place_inside}
+use Rattle.hub_core.proofs.HubChanges.{Ending, entry_inside, place_inside}
 use Rattle.hub_core.proofs.hubs.Hub.commit.Goals as goal
-use Rattle.hub_core.specs.OpenHubs.{OpenHub, configuration_of}
 use Rattle.hub_core.specs.ReadHistories.{with_entry}
-use Rattle.lock_leasing.specs.Configurations.{read_of}
-use Rattle.std.proofs.Common.{ap, refl, ◌∙◌}
-use Rattle.std.specs.Prelude.{length, max}
+use Rattle.std.proofs.Common.{ap, ◌∙◌}
 
 pub commit-requires-clause-room : goal.commit-requires-clause-room
 commit-requires-clause-room g c = place_inside _ _ _ _ c.self.inside.history _ _ c.self.inside.moment c.args.r.0 c.args.moment _ _ _ _ c.args.self.now _ (Ending Committed) c.self.view_is c.requires c.self.invariant

@@ -1,4 +1,4 @@
-use Rattle.hub_core.proofs.HubOuts.{IsSent, command_given, few_tickets, has_room, is_known, out_home, stands_home, went_out}
+use Rattle.hub_core.proofs.HubOuts.{command_given, few_tickets, has_room, is_known, out_home, stands_home, went_out}
 use Rattle.hub_core.proofs.hubs.Hub.hand_out.Goals as goal
 use Rattle.hub_core.specs.OpenHubs.{configuration_of, purpose_of}
 use Rattle.hub_core.specs.Steps.{choice_of}
@@ -32,10 +32,11 @@ hand_out-requires-clause-tickets g c = few_tickets _ _ _ _ _ c.self.invariant.0
 
 pub invariant_of-self : goal.invariant_of-self
 invariant_of-self g c =
-    let e = c.hand_out.ensures in
-    ((went_out _ _ _ _ _ c.args.self.now c.args.r.0 c.args.moment c.args.d.0 _ _ c.args.purpose c.task-task.result _ c.hand_out.result _ _ c.self.invariant.0 c.self.view_is c.requires c.task-task.ensures (sym c.get.ensures ∙ ap option_copied c.unwrap-known.ensures) c.max-self-inside.ensures c.set.ensures.items
-    (record { at = e.device; after_is = e.places; number_is = e.tickets; does = e.task; device = ap (λ x. x.0) e.number; maker = e.maker; stood = e.stood; had_turns = e.turns; had_probes = e.probes; had_faults = e.faults })).kept,
-     record { history = c.self.invariant.1.history; last = c.self.invariant.1.last; world = c.self.invariant.1.world; turns = c.self.invariant.1.turns; faults = c.self.invariant.1.faults })
+    let e = c.hand_out.ensures in (
+      (went_out _ _ _ _ _ c.args.self.now c.args.r.0 c.args.moment c.args.d.0 _ _ c.args.purpose c.task-task.result _ c.hand_out.result _ _ c.self.invariant.0 c.self.view_is c.requires c.task-task.ensures (sym c.get.ensures ∙ ap option_copied c.unwrap-known.ensures) c.max-self-inside.ensures c.set.ensures.items
+          (record { at = e.device; after_is = e.places; number_is = e.tickets; does = e.task; device = ap (λ x. x.0) e.number; maker = e.maker; stood = e.stood; had_turns = e.turns; had_probes = e.probes; had_faults = e.faults })).kept,
+      record { history = c.self.invariant.1.history; last = c.self.invariant.1.last; world = c.self.invariant.1.world; turns = c.self.invariant.1.turns; faults = c.self.invariant.1.faults },
+    )
 
 pub returns-clause-out : goal.returns-clause-out
 returns-clause-out g c =

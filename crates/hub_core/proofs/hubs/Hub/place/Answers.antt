@@ -1,8 +1,7 @@
-use Rattle.history_book.specs.declared.entries.End.TheVariants.{Committed}
-use Rattle.history_book.specs.declared.entries.Entry.TheVariants.{Arrived, Ended, Placed}
-use Rattle.hub_core.proofs.HubChanges.{Ending, Going, entry_inside, few_entries, place_inside}
+use Rattle.history_book.specs.declared.entries.Entry.TheVariants.{Placed}
+use Rattle.hub_core.proofs.HubChanges.{Going, entry_inside, few_entries, place_inside}
 use Rattle.hub_core.proofs.hubs.Hub.place.Goals as goal
-use Rattle.hub_core.specs.OpenHubs.{OpenHub, configuration_of}
+use Rattle.hub_core.specs.OpenHubs.{configuration_of}
 use Rattle.hub_core.specs.ReadHistories.{read_in, with_entry}
 use Rattle.lock_leasing.specs.Configurations.{read_of}
 use Rattle.std.proofs.Common.{ap, arith, ◌∙◌}
