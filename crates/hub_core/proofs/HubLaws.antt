@@ -66,7 +66,7 @@ stands_hub {D = D} stands turns probes faults s k =
       clean = c.history.clean;
       justified = c.history.justified;
       stand = λ d device at up. (k.home d device at).stand up
-        ∙ stands_home s.setting (read_of (configuration_of s)) (configuration_of s).grips (held_in s) d read c.order (ap (λ mode. is_weak mode) c.stage.mode) (device_has s d (Home device) k.places_size at) (ap (λ o. grip_in o (device_at s.devices d).purpose) at) up;
+          ∙ stands_home s.setting (read_of (configuration_of s)) (configuration_of s).grips (held_in s) d read c.order (ap (λ mode. is_weak mode) c.stage.mode) (device_has s d (Home device) k.places_size at) (ap (λ o. grip_in o (device_at s.devices d).purpose) at) up;
       told = record {
         turns_rose = λ d device at. (k.home d device at).turns_are;
         probes_rose = λ d device at. (k.home d device at).probes_are;

@@ -72,9 +72,9 @@ known_set f devices d y known = put_at _ _ d _ (ap f (device_here devices d y kn
 pub known_same : {A : Type 0} (f : DeviceProgress → A) (devices : List DeviceProgress) (d : ℕ) (y : DeviceProgress) → d < length devices → f y ≡ f (device_at devices d)
     → (e : ℕ) → f (device_at (slice_set devices d y) e) ≡ f (device_at devices e)
 known_same f devices d y known same e = elim (e == d) as (λ b. (e == d) ≡ b → f (device_at (slice_set devices d y) e) ≡ f (device_at devices e)) [
-    | true ↦ (λ q. let here : e ≡ d = grind (arith, common_steps) in ap (λ k. f (device_at (slice_set devices d y) k)) here ∙ ap f (device_here devices d y known) ∙ same ∙ ap (λ k. f (device_at devices k)) (sym here))
-    | false ↦ (λ q. ap f (device_there devices d e y (λ p. absurd (cc (sym q ∙ eq_true e d p)))))
-  ] refl
+  | true ↦ (λ q. let here : e ≡ d = grind (arith, common_steps) in ap (λ k. f (device_at (slice_set devices d y) k)) here ∙ ap f (device_here devices d y known) ∙ same ∙ ap (λ k. f (device_at devices k)) (sym here))
+  | false ↦ (λ q. ap f (device_there devices d e y (λ p. absurd (cc (sym q ∙ eq_true e d p)))))
+] refl
 
 -- A grip is the one with which its device is out where slip and task are the same
 
@@ -114,16 +114,22 @@ slip_is a b e =
   where
     ticket : a.ticket ≡ b.ticket
     ticket = grind (arith, common_steps)
+
     device : a.device.0 ≡ b.device.0
     device = grind (arith, common_steps)
+
     maker : a.maker ≡ b.maker
     maker = grind (arith, common_steps)
+
     stood : a.stood ≡ b.stood
     stood = grind (arith, common_steps)
+
     turns : a.turns ≡ b.turns
     turns = grind (arith, common_steps)
+
     probes : a.probes ≡ b.probes
     probes = grind (arith, common_steps)
+
     faults : a.faults ≡ b.faults
     faults = grind (arith, common_steps)
 

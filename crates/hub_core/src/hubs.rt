@@ -58,34 +58,37 @@ impl<D: Device> Model for Hub<D> {
     ghost Value = { OpenHub D };
 
     ghost view = { λ h. record {
-        setting = h.history.setting;
-        rounds = h.rounds;
-        opened = h.opened;
-        history = h.history.history;
-        moment = h.moment;
-        devices = h.devices.items;
-        places = h.gate.places;
-        tickets = h.gate.tickets } };
+      setting = h.history.setting;
+      rounds = h.rounds;
+      opened = h.opened;
+      history = h.history.history;
+      moment = h.moment;
+      devices = h.devices.items;
+      places = h.gate.places;
+      tickets = h.gate.tickets;
+    } };
 
     ghost invariant = { λ h.
         HubIsKept D.stands D.turns D.probes D.faults (record {
-            setting = h.history.setting;
-            rounds = h.rounds;
-            opened = h.opened;
-            history = h.history.history;
-            moment = h.moment;
-            devices = h.devices.items;
-            places = h.gate.places;
-            tickets = h.gate.tickets })
+          setting = h.history.setting;
+          rounds = h.rounds;
+          opened = h.opened;
+          history = h.history.history;
+          moment = h.moment;
+          devices = h.devices.items;
+          places = h.gate.places;
+          tickets = h.gate.tickets;
+        })
         × HasRoomLeft (record {
-            setting = h.history.setting;
-            rounds = h.rounds;
-            opened = h.opened;
-            history = h.history.history;
-            moment = h.moment;
-            devices = h.devices.items;
-            places = h.gate.places;
-            tickets = h.gate.tickets }) h.history.spare h.closing };
+          setting = h.history.setting;
+          rounds = h.rounds;
+          opened = h.opened;
+          history = h.history.history;
+          moment = h.moment;
+          devices = h.devices.items;
+          places = h.gate.places;
+          tickets = h.gate.tickets;
+        }) h.history.spare h.closing };
 }
 
 impl<D: Device> Hub<D> {

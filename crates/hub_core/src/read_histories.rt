@@ -36,14 +36,16 @@ impl Model for ReadHistory {
     ghost Value = { HistoryState };
 
     ghost view = { λ h. record {
-        setting = record { runs = runs_of h.roster; mode = h.mode; kinds = h.kinds.items; first = h.first.devices.items };
-        history = h.book.items;
-        spare = h.book.spare } };
+      setting = record { runs = runs_of h.roster; mode = h.mode; kinds = h.kinds.items; first = h.first.devices.items };
+      history = h.book.items;
+      spare = h.book.spare;
+    } };
 
     ghost invariant = { λ h. IsReadBeside (record {
-        setting = record { runs = runs_of h.roster; mode = h.mode; kinds = h.kinds.items; first = h.first.devices.items };
-        history = h.book.items;
-        spare = h.book.spare }) h.line h.progress.items };
+      setting = record { runs = runs_of h.roster; mode = h.mode; kinds = h.kinds.items; first = h.first.devices.items };
+      history = h.book.items;
+      spare = h.book.spare;
+    }) h.line h.progress.items };
 }
 
 impl ReadHistory {
@@ -218,7 +220,13 @@ impl ReadHistory {
         let entry = Entry::Arrived(r, moment);
         let at = r.0 as u64 - 1;
         let progress = *self.progress.get(at).unwrap();
-        self.progress.set(at, RunProgress { arrived: Some(moment), ..progress });
+        self.progress.set(
+            at,
+            RunProgress {
+                arrived: Some(moment),
+                ..progress
+            },
+        );
         self.book.push(Kept { maker: r.0, entry });
         entry
     }
@@ -234,7 +242,13 @@ impl ReadHistory {
         let entry = Entry::Placed(r, self.line.len() as u32, moment);
         let at = r.0 as u64 - 1;
         let progress = *self.progress.get(at).unwrap();
-        self.progress.set(at, RunProgress { placed: true, ..progress });
+        self.progress.set(
+            at,
+            RunProgress {
+                placed: true,
+                ..progress
+            },
+        );
         self.line.push(Item::Ran(r)).unwrap();
         self.book.push(Kept { maker: r.0, entry });
         entry
@@ -251,7 +265,13 @@ impl ReadHistory {
         let entry = Entry::Did(r, k, Answer::Fine);
         let at = r.0 as u64 - 1;
         let progress = *self.progress.get(at).unwrap();
-        self.progress.set(at, RunProgress { answered: progress.answered + 1, ..progress });
+        self.progress.set(
+            at,
+            RunProgress {
+                answered: progress.answered + 1,
+                ..progress
+            },
+        );
         self.book.push(Kept { maker: r.0, entry });
         entry
     }
@@ -266,7 +286,13 @@ impl ReadHistory {
         let entry = Entry::Ended(r, End::Committed);
         let at = r.0 as u64 - 1;
         let progress = *self.progress.get(at).unwrap();
-        self.progress.set(at, RunProgress { ended: Some(End::Committed), ..progress });
+        self.progress.set(
+            at,
+            RunProgress {
+                ended: Some(End::Committed),
+                ..progress
+            },
+        );
         self.book.push(Kept { maker: r.0, entry });
         entry
     }

@@ -127,7 +127,9 @@ fn two_runs_switch_one_after_another(rt: HostRuntime) {
     let mut hub = hub.expect(&rt, "memory");
     let (one, two) = (RunNo(1), RunNo(2));
     assert!(rt; hub.fresh() && hub.run_count() == 2 && hub.device_count() == 1);
-    assert!(rt; step(&mut hub, RunNo(0), 0) == Said::Absent && step(&mut hub, RunNo(3), 0) == Said::Absent);
+    assert!(rt;
+        step(&mut hub, RunNo(0), 0) == Said::Absent && step(&mut hub, RunNo(3), 0) == Said::Absent
+    );
     assert!(rt; step(&mut hub, one, 0) == Said::Moved(made(Entry::Arrived(one, 0))));
     assert!(rt; !hub.fresh());
     assert!(rt; step(&mut hub, two, 0) == Said::Moved(made(Entry::Arrived(two, 0))));
@@ -138,18 +140,30 @@ fn two_runs_switch_one_after_another(rt: HostRuntime) {
     assert!(rt; step(&mut hub, two, 5) == Said::Waits(Why::Strict(one)));
     assert!(rt; !hub.is_over(one) && hub.quiet() == Some(NotQuiet::StillLive(one)));
     let committed = End::Committed;
-    assert!(rt; step(&mut hub, one, 105) == Said::Over(committed, made(Entry::Ended(one, committed))));
+    assert!(rt;
+        step(&mut hub, one, 105) == Said::Over(committed, made(Entry::Ended(one, committed)))
+    );
     assert!(rt; hub.is_over(one) && step(&mut hub, one, 105) == Said::Over(committed, NONE_MADE));
     assert!(rt; step(&mut hub, two, 105) == Said::Went(made(Entry::Did(two, 0, Answer::Fine))));
-    assert!(rt; step(&mut hub, two, 205) == Said::Over(committed, made(Entry::Ended(two, committed))));
+    assert!(rt;
+        step(&mut hub, two, 205) == Said::Over(committed, made(Entry::Ended(two, committed)))
+    );
     assert!(rt; hub.quiet() == None);
     match hub.close_window() {
         Ok((home, record)) => {
             assert!(rt; record.order.as_slice() == [Item::Ran(one), Item::Ran(two)].as_slice());
             assert!(rt; record.history.len() == 8 && record.mode == GLOBAL);
-            assert!(rt; record.turns.as_slice() == [2].as_slice() && record.faults.as_slice() == [0].as_slice());
-            assert!(rt; record.last.devices.as_slice() == [Stand { value: 0, up: true }].as_slice());
-            assert!(rt; home.opened() == 1 && home.world().devices.get(0) == Some(&Stand { value: 0, up: true }));
+            assert!(rt;
+                record.turns.as_slice() == [2].as_slice()
+                    && record.faults.as_slice() == [0].as_slice()
+            );
+            assert!(rt;
+                record.last.devices.as_slice() == [Stand { value: 0, up: true }].as_slice()
+            );
+            assert!(rt;
+                home.opened() == 1
+                    && home.world().devices.get(0) == Some(&Stand { value: 0, up: true })
+            );
             assert!(rt; home.into_devices().len() == 1);
         }
         Err((_, _)) => assert!(rt; false),
@@ -205,7 +219,8 @@ fn asked<D: Steady>(
 
 #[test]
 fn a_home_is_built_of_a_script(rt: HostRuntime) -> Result<(), Fail> {
-    let text = r#"{"safehome":1,"devices":[{"name":"lamp","states":["off","on"],"start":"on"}],"routines":[],"windows":[]}"#;
+    let text =
+        r#"{"safehome":1,"devices":[{"name":"lamp","states":["off","on"],"start":"on"}],"routines":[],"windows":[]}"#;
     let script = read_script(rt.alloc(), text.as_bytes())?;
     let home = Home::build(rt.alloc(), &mut CalmBench, &script);
     let home = home.expect(&rt, "memory");
