@@ -1,5 +1,5 @@
 -- What the code finds in each case of a step is the choice of the step.
-use Rattle.command_rules.specs.Rosters.{device_no, is_run, run_no}
+use Rattle.command_rules.specs.Rosters.{is_run, run_no}
 use Rattle.device_gate.specs.Places.{slip_of}
 use Rattle.device_gate.specs.declared.gates.Place.TheVariants.{Home, Out}
 use Rattle.device_gate.specs.declared.gates.Place.{Place}
@@ -13,8 +13,6 @@ use Rattle.history_book.specs.declared.entries.Entry.TheVariants.{Arrived, Ended
 use Rattle.home_types.specs.declared.commands.Command.{Command}
 use Rattle.home_types.specs.declared.items.Item.TheVariants.{Back, Failed, Ran}
 use Rattle.home_types.specs.declared.items.Item.{Item}
-use Rattle.home_types.specs.declared.modes.Scheduler.TheVariants.{Fcfs}
-use Rattle.home_types.specs.declared.modes.Visibility.TheVariants.{Global}
 use Rattle.home_types.specs.declared.numbers.DeviceNo.{DeviceNo}
 use Rattle.home_types.specs.declared.numbers.RunNo.{RunNo}
 use Rattle.hub_core.proofs.StageChoices.{StepsPlainly, choice_plain, steps_plainly}
@@ -28,9 +26,8 @@ use Rattle.hub_core.specs.declared.waits.Why.TheVariants.{Behind, Busy, Strict}
 use Rattle.lock_leasing.specs.Configurations.{Commands, Grips, is_out, read_of}
 use Rattle.lock_leasing.specs.Waits.{behind_wait, grip_wait, strict_wait}
 use Rattle.lock_leasing.specs.Words.{holds_device, live_before, live_runs}
-use Rattle.std.proofs.Common.{ap, arith, refl, subst, sym, ◌∙◌}
-use Rattle.std.proofs.lemmas.Grind.{common_steps}
-use Rattle.std.specs.Prelude.{Bool, IsTrue, List, None, Option, Some, [], false, find, is_none, is_some, length, max, option_map, true, unwrap_or, ℕ, ◌==◌, ◌∷◌, ◌≡◌}
+use Rattle.std.proofs.Common.{ap, refl, subst, sym, ◌∙◌}
+use Rattle.std.specs.Prelude.{Bool, List, None, Option, Some, [], false, find, is_none, is_some, length, max, option_map, true, unwrap_or, ℕ, ◌==◌, ◌∷◌, ◌≡◌}
 
 -- The grip and the slip of a place
 

@@ -9,25 +9,23 @@ use Rattle.home_types.specs.Kinds.{has_value, kind_at}
 use Rattle.home_types.specs.declared.kinds.Kind.{Kind}
 use Rattle.home_types.specs.declared.worlds.Stand.{Stand}
 use Rattle.hub_core.proofs.Calls.{no_falls}
-use Rattle.hub_core.proofs.Closings.{IsLastState, IsQuiet, IsRecordOf, legal_window, none_out, quiet_is}
+use Rattle.hub_core.proofs.Closings.{legal_window, none_out, quiet_is}
 use Rattle.hub_core.proofs.Sizes.{history_fits}
 use Rattle.hub_core.proofs.StageChoices.{StepsPlainly, steps_plainly}
-use Rattle.hub_core.specs.AccountedCalls.{CallsAreAccounted, tells_call, told_calls, told_falls}
+use Rattle.hub_core.specs.AccountedCalls.{CallsAreAccounted, tells_call, told_calls}
 use Rattle.hub_core.specs.Agreement.{UpDevicesStand}
 use Rattle.hub_core.specs.ClosedHomes.{HaveRisen, NoneFell, known_stand}
-use Rattle.hub_core.specs.Homes.{CountsAreLow, HomeIsKept, HomeState, window_calls}
+use Rattle.hub_core.specs.Homes.{CountsAreLow, HomeIsKept}
 use Rattle.hub_core.specs.HubCalls.{IsClosed}
 use Rattle.hub_core.specs.HubsKept.{FitsAtHome, HubIsKept}
 use Rattle.hub_core.specs.OpenHubs.{OpenHub, configuration_of, device_at, grip_in, held_in, no_device}
 use Rattle.hub_core.specs.Steps.{not_quiet}
-use Rattle.hub_core.specs.declared.known.DeviceProgress.{DeviceProgress}
-use Rattle.lock_leasing.specs.Configurations.{Grip, read_of}
-use Rattle.std.proofs.Common.{ap, arith, inl, inr, refl, subst, sym, ◌∙◌}
-use Rattle.std.proofs.lemmas.Grind.{common_steps}
+use Rattle.lock_leasing.specs.Configurations.{read_of}
+use Rattle.std.proofs.Common.{ap, arith, inl, inr, refl, sym, ◌∙◌}
 use Rattle.std.proofs.lemmas.List.{get_or-map, length-map}
 use Rattle.std.proofs.lemmas.List.Sums.{count_by-le-length}
 use Rattle.std.proofs.lemmas.Option.{slice_get-map, slice_get_cases, slice_get_within}
-use Rattle.std.specs.Prelude.{IsTrue, List, None, Option, Some, count_by, length, map, option_map, slice_get, slice_index_or, true, ℕ, ◌*◌, ◌+◌, ◌-◌, ◌<◌, ◌^◌, ◌≡◌, ◌≤◌}
+use Rattle.std.specs.Prelude.{IsTrue, List, None, Some, length, map, option_map, slice_get, slice_index_or, true, ℕ, ◌*◌, ◌+◌, ◌<◌, ◌^◌, ◌≡◌, ◌≤◌}
 
 -- what is within a list is at its place
 at_place : {X : Type 0} (xs : List X) (i : ℕ) → i < length xs → (x : X) × (slice_get xs i ≡ Some x)

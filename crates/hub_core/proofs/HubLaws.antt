@@ -8,8 +8,7 @@ use Rattle.device_gate.specs.declared.slips.Task.{Task}
 use Rattle.history_book.proofs.Shapes.{shapes}
 use Rattle.history_book.specs.Histories.{entries_of}
 use Rattle.history_book.specs.Readings.{next_of}
-use Rattle.history_book.specs.Settings.{Setting, device_numbers, is_device, is_weak, run_numbers}
-use Rattle.history_book.specs.declared.entries.Kept.{Kept}
+use Rattle.history_book.specs.Settings.{device_numbers, is_device, is_weak, run_numbers}
 use Rattle.home_types.specs.declared.numbers.DeviceNo.{DeviceNo}
 use Rattle.home_types.specs.declared.numbers.RunNo.{RunNo}
 use Rattle.hub_core.proofs.Kept.{out_is}
@@ -17,22 +16,19 @@ use Rattle.hub_core.proofs.Progress.{is_wait, some_run_moves}
 use Rattle.hub_core.proofs.Sizes.{history_fits}
 use Rattle.hub_core.proofs.Takes.{live_run}
 use Rattle.hub_core.specs.HubCalls.{HistoryIsBounded, HubStands, SomeRunMoves, grip_takes}
-use Rattle.hub_core.specs.HubKept.{ConfigurationIsKept}
 use Rattle.hub_core.specs.HubsKept.{HubIsKept}
 use Rattle.hub_core.specs.OpenHubs.{OpenHub, configuration_of, device_at, grip_in, held_in, purpose_of}
-use Rattle.hub_core.specs.Steps.{Choice, Waits, choice_of, not_quiet, opened}
+use Rattle.hub_core.specs.Steps.{Waits, not_quiet, opened}
 use Rattle.hub_core.specs.declared.purposes.Purpose.TheVariants.{Command}
 use Rattle.hub_core.specs.declared.purposes.Purpose.{Purpose as KeptPurpose}
 use Rattle.hub_core.specs.declared.refusals.NotQuiet.TheVariants.{StillLive, StillOut}
-use Rattle.hub_core.specs.declared.refusals.NotQuiet.{NotQuiet}
-use Rattle.hub_core.specs.declared.waits.Why.{Why}
 use Rattle.lock_leasing.specs.Configurations.{Commands, Configuration, is_out, read_of}
 use Rattle.std.proofs.Common.{ap, arith, inl, inr, refl, subst, sym, ◌∙◌}
 use Rattle.std.proofs.lemmas.Grind.{common_steps}
 use Rattle.std.proofs.lemmas.Option.{slice_get_within}
 use Rattle.std.specs.List.{range_with_len}
 use Rattle.std.specs.Option.{option_or}
-use Rattle.std.specs.Prelude.{Bool, IfNone, IfSome, IsTrue, List, None, Option, Some, [], false, find, if◌then◌else◌, is_none, is_some, length, nat_lt, not, option_map, slice_get, suc, true, zero, ℕ, ◌+◌, ◌<◌, ◌∷◌, ◌≡◌, ◌≢◌, ◌≤◌, ◌↔◌, ◌⊎◌}
+use Rattle.std.specs.Prelude.{Bool, IfNone, IfSome, IsTrue, List, None, Option, Some, [], false, find, if◌then◌else◌, is_none, is_some, length, not, option_map, slice_get, suc, true, zero, ℕ, ◌+◌, ◌<◌, ◌∷◌, ◌≡◌, ◌≤◌, ◌↔◌, ◌⊎◌}
 use Rattle.window_order.proofs.Promises.{order_stands}
 use Rattle.window_order.proofs.ReadFacts.{read_facts}
 use Rattle.window_order.proofs.StandingValues.{stands_home}

@@ -24,7 +24,6 @@ use Rattle.hub_core.specs.OpenHubs.{progress_of}
 use Rattle.hub_core.specs.ReadHistories.{HistoryState, IsReadBeside, is_item_of, read_in}
 use Rattle.hub_core.specs.declared.known.RunProgress.{RunProgress}
 use Rattle.std.proofs.Common.{ap, ap₂, arith, inl, inr, refl, sym, ◌∙◌, ◌⊎◌}
-use Rattle.std.proofs.lemmas.Grind.{common_steps}
 use Rattle.std.proofs.lemmas.List.{drop_all, length-append, length-set, take_all}
 use Rattle.std.proofs.lemmas.List.Folds.{list_all-append}
 use Rattle.std.proofs.lemmas.Option.{slice_get_within}

@@ -7,16 +7,14 @@ use Rattle.device_gate.specs.declared.slips.Task.TheVariants.{Drive, Probe, Sens
 use Rattle.device_gate.specs.declared.slips.Task.{Task}
 use Rattle.history_book.specs.Readings.{put}
 use Rattle.hub_core.proofs.HubReads.{get_set}
-use Rattle.hub_core.specs.HubSteps.{Carried, HubState, is_kept, same_carried, same_optional, same_slip, same_task}
-use Rattle.hub_core.specs.OpenHubs.{OpenHub, carried_in, device_at, grip_in, no_device, purpose_of, state_of}
+use Rattle.hub_core.specs.HubSteps.{Carried, is_kept, same_carried, same_optional, same_slip, same_task}
+use Rattle.hub_core.specs.OpenHubs.{OpenHub, carried_in, device_at, grip_in, no_device, state_of}
 use Rattle.hub_core.specs.declared.known.DeviceProgress.{DeviceProgress}
-use Rattle.hub_core.specs.declared.purposes.Purpose.{Purpose as KeptPurpose}
 use Rattle.lock_leasing.specs.Configurations.{Grip}
-use Rattle.std.proofs.Common.{ap, arith, inl, inr, refl, subst, sym, ◌∙◌}
+use Rattle.std.proofs.Common.{ap, arith, inl, inr, refl, sym, ◌∙◌}
 use Rattle.std.proofs.lemmas.Grind.{common_steps}
 use Rattle.std.proofs.lemmas.List.{get_or-set_other, get_or-set_same}
-use Rattle.std.proofs.lemmas.Option.{slice_get_within}
-use Rattle.std.specs.Prelude.{Bool, IsTrue, List, None, Option, Some, false, if◌then◌else◌, length, option_map, slice_get, slice_set, true, unwrap_or, ℕ, ◌&&◌, ◌<◌, ◌==◌, ◌≡◌, ◌≢◌}
+use Rattle.std.specs.Prelude.{List, None, Option, Some, false, if◌then◌else◌, length, option_map, slice_get, slice_set, true, unwrap_or, ℕ, ◌<◌, ◌==◌, ◌≡◌, ◌≢◌}
 
 eq_true : (a b : ℕ) → a ≡ b → (a == b) ≡ true
 eq_true a b e = grind (arith, common_steps)

@@ -27,4 +27,3 @@ pub mod HubChanges
 pub mod HubOuts
 pub mod HubReturns
 pub mod HubRefusals
-pub mod TestWindows

@@ -1,18 +1,17 @@
 -- A new home is as every home is kept.
-use Rattle.device_gate.specs.Places.{AreNumbered}
 use Rattle.home_types.specs.HomeStates.{nowhere, stand_at}
 use Rattle.home_types.specs.Kinds.{has_value, kind_at}
 use Rattle.home_types.specs.declared.kinds.Kind.TheVariants.{States}
 use Rattle.home_types.specs.declared.kinds.Kind.{Kind}
 use Rattle.home_types.specs.declared.worlds.Stand.{Stand}
 use Rattle.hub_core.specs.Agreement.{UpDevicesStand}
-use Rattle.hub_core.specs.Homes.{AreNew, CountsAreLow, HomeIsKept, HomeState, IsNew}
+use Rattle.hub_core.specs.Homes.{AreNew, HomeIsKept, IsNew}
 use Rattle.routine_reader.specs.Rosters.{kinds_of, start_home, start_stand}
 use Rattle.routine_reader.specs.Scripts.{PlainDevice, plain_device, plain_script}
 use Rattle.routine_reader.specs.Sound.{IsSound}
 use Rattle.routine_reader.specs.declared.scripts.DeviceText.{DeviceText}
 use Rattle.routine_reader.specs.declared.scripts.Script.{Script}
-use Rattle.std.proofs.Common.{ap, arith, get_or, inl, inr, refl, subst, sym, ◌∙◌}
+use Rattle.std.proofs.Common.{ap, arith, get_or, inl, inr, subst, sym, ◌∙◌}
 use Rattle.std.proofs.lemmas.List.{get_or-map, length-map}
 use Rattle.std.proofs.lemmas.Option.{get_or_from_slice_get, slice_get_cases, slice_get_within}
 use Rattle.std.specs.Prelude.{IsTrue, List, Option, Some, length, map, slice_get, true, ℕ, ◌<◌, ◌≡◌, ◌≤◌}

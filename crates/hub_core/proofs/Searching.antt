@@ -1,6 +1,6 @@
 -- Searches along a line and along numbers, one after another.
 use Rattle.history_book.specs.Lines.{before, is_ran}
-use Rattle.history_book.specs.Readings.{Reading, is_live}
+use Rattle.history_book.specs.Readings.{Reading}
 use Rattle.history_book.specs.Settings.{Setting}
 use Rattle.home_types.specs.declared.items.Item.{Item}
 use Rattle.home_types.specs.declared.numbers.RunNo.{RunNo}

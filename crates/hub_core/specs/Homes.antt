@@ -11,7 +11,7 @@ use Rattle.home_types.specs.declared.worlds.Stand.{Stand}
 use Rattle.hub_core.specs.Agreement.{UpDevicesStand}
 use Rattle.hub_core.specs.LegalDays.{IsDeviceOf}
 use Rattle.routine_reader.specs.declared.scripts.DeviceText.{DeviceText}
-use Rattle.std.specs.Prelude.{IsTrue, List, Option, Some, length, slice_get, true, ℕ, ◌*◌, ◌<◌, ◌^◌, ◌≡◌, ◌≤◌}
+use Rattle.std.specs.Prelude.{IsTrue, List, Option, Some, length, slice_get, ℕ, ◌*◌, ◌<◌, ◌^◌, ◌≡◌, ◌≤◌}
 
 -- what a home shows: its kinds, its state, its devices, and how many windows were opened on it
 pub record HomeState (D : Type 0) : Type 0 where

@@ -7,7 +7,7 @@ use Rattle.device_gate.specs.declared.grips.Ready.{Ready}
 use Rattle.device_gate.specs.declared.slips.Slip.{Slip}
 use Rattle.device_gate.specs.declared.strangers.Stranger.{Stranger}
 use Rattle.history_book.specs.Histories.{entries_made, entries_of}
-use Rattle.history_book.specs.Settings.{Setting, is_device, is_weak}
+use Rattle.history_book.specs.Settings.{Setting}
 use Rattle.history_book.specs.declared.entries.Made.{Made}
 use Rattle.history_book.specs.declared.records.WindowRecord.{WindowRecord}
 use Rattle.home_types.specs.HomeStates.{stand_at}
@@ -27,7 +27,7 @@ use Rattle.lock_leasing.specs.Order.{OrderStands}
 use Rattle.lock_leasing.specs.Words.{standing_value}
 use Rattle.command_rules.specs.Rosters.{command_at, is_run}
 use Rattle.window_order.specs.OrderKept.{GripsFit}
-use Rattle.std.specs.Prelude.{Bool, Err, List, None, Ok, Option, Result, Some, [], is_some, length, not, slice_get, slice_index_or, slice_set, true, ℕ, ◌*◌, ◌+◌, ◌-◌, ◌<◌, ◌≡◌, ◌≢◌, ◌≤◌, ◌||◌}
+use Rattle.std.specs.Prelude.{Bool, Err, None, Ok, Option, Result, Some, is_some, length, not, slice_get, slice_index_or, slice_set, true, ℕ, ◌*◌, ◌+◌, ◌-◌, ◌<◌, ◌≡◌, ◌≢◌, ◌≤◌, ◌||◌}
 
 -- the hub is in the same window, with the same counts of its devices at the opening
 pub record SameWindow {D : Type 0} (s t : OpenHub D) : Type 0 where

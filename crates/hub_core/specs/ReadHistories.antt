@@ -1,7 +1,6 @@
 -- A history, and what is kept beside it of what it says.
 use Rattle.command_rules.specs.Rosters.{is_run}
 use Rattle.history_book.specs.Histories.{entries_of, kept_by, reading}
-use Rattle.history_book.specs.Lines.{of_run}
 use Rattle.history_book.specs.Readings.{Reading}
 use Rattle.history_book.specs.Settings.{Setting}
 use Rattle.history_book.specs.declared.entries.Entry.{Entry}

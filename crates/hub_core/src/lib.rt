@@ -14,8 +14,6 @@ pub mod purposes;
 mod read_histories;
 pub mod refusals;
 mod take_calls;
-#[cfg(test)]
-mod tests;
 pub mod turns;
 pub mod waits;
 

@@ -1,11 +1,9 @@
-use Rattle.device_gate.specs.Places.{AllHome}
 use Rattle.home_types.specs.Listed.{Listed}
 use Rattle.history_book.specs.declared.entries.Kept.{Kept}
 use Rattle.history_book.specs.declared.records.WindowRecord.{WindowRecord}
 use Rattle.hub_core.proofs.HubCloses.{Closes, Tells, all_are_home, faults_fell, home_left, turns_fell, window_closed}
 use Rattle.hub_core.proofs.hubs.Hub.closed.Goals as goal
 use Rattle.hub_core.specs.HubCalls.{IsClosed}
-use Rattle.hub_core.specs.HubsKept.{HubIsKept}
 use Rattle.hub_core.specs.OpenHubs.{OpenHub, configuration_of}
 use Rattle.hub_core.specs.ReadHistories.{HistoryState, read_in}
 use Rattle.hub_core.specs.Steps.{not_quiet}

@@ -2,7 +2,7 @@ use Rattle.hub_core.proofs.HubChoices.{out_by_slip}
 use Rattle.hub_core.proofs.hubs.Hub.is_out.Goals as goal
 use Rattle.hub_core.specs.OpenHubs.{configuration_of, device_at}
 use Rattle.lock_leasing.specs.Configurations.{is_out}
-use Rattle.std.proofs.Common.{ap, sym, ◌∙◌}
+use Rattle.std.proofs.Common.{ap, ◌∙◌}
 
 pub returns : goal.returns
 returns g c =

@@ -1,4 +1,3 @@
-use Rattle.history_book.specs.Readings.{pends}
 use Rattle.hub_core.proofs.Searching.{here, item_of, no_more, own, past}
 use Rattle.hub_core.proofs.read_histories.ReadHistory.first_before.Goals as goal
 use Rattle.hub_core.specs.ReadHistories.{is_item_of, read_in}

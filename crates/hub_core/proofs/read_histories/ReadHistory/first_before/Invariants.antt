@@ -1,4 +1,3 @@
-use Rattle.history_book.specs.Readings.{pends}
 use Rattle.hub_core.proofs.Searching.{found}
 use Rattle.hub_core.proofs.read_histories.ReadHistory.first_before.Given as goal
 use Rattle.hub_core.specs.ReadHistories.{read_in}

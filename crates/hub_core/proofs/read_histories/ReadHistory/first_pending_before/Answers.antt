@@ -4,7 +4,7 @@ use Rattle.hub_core.proofs.read_histories.ReadHistory.first_pending_before.Goals
 use Rattle.hub_core.specs.ReadHistories.{is_item_of, read_in}
 use Rattle.std.proofs.Common.{ap, sym, ◌∙◌}
 use Rattle.std.specs.List.{list_all}
-use Rattle.std.specs.Prelude.{IsTrue, true}
+use Rattle.std.specs.Prelude.{IsTrue}
 
 pub items-preserved : goal.items-preserved
 items-preserved c = past (read_in c.args.self.now) c.args.r.0 (λ x. pends c.args.self.now.setting (read_in c.args.self.now) x c.args.d.0) _ _ c.items.item-index _ _ (c.as_slice-item-items.ensures ∙ c.self.invariant.line_is ∙ ap (λ s. (read_in s).line) c.self.view_is) c.items-test.true c.if-is_ran.ensures (sym c.if-is_some.ensures) c.pending_run-pending.ensures c.items.invariant

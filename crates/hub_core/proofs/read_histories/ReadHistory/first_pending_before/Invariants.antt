@@ -2,7 +2,7 @@ use Rattle.history_book.specs.Readings.{pends}
 use Rattle.hub_core.proofs.Searching.{found}
 use Rattle.hub_core.proofs.read_histories.ReadHistory.first_pending_before.Given as goal
 use Rattle.hub_core.specs.ReadHistories.{read_in}
-use Rattle.std.specs.Prelude.{drop, true, ◌≡◌}
+use Rattle.std.specs.Prelude.{drop, ◌≡◌}
 
 -- no run is found up to here
 abbrev pub invariant-items : goal.invariant-items

@@ -3,7 +3,7 @@ use Rattle.hub_core.proofs.HubReads.{places_beside}
 use Rattle.hub_core.proofs.read_histories.ReadHistory.place.Goals as goal
 use Rattle.std.proofs.Common.{ap, arith, sym, ◌∙◌}
 use Rattle.std.specs.Option.{option_copied}
-use Rattle.std.specs.Prelude.{◌+◌, ◌<◌, ◌≡◌}
+use Rattle.std.specs.Prelude.{◌<◌}
 
 pub invariant_of-self : goal.invariant_of-self
 invariant_of-self c =
