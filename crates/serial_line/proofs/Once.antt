@@ -4,8 +4,7 @@ use Rattle.home_types.specs.declared.items.Item.{Item}
 use Rattle.home_types.specs.declared.numbers.DeviceNo.{DeviceNo}
 use Rattle.home_types.specs.declared.numbers.RunNo.{RunNo}
 use Rattle.serial_line.proofs.Searches.{any_at, last_unfound, position_none, position_told, position_untold}
-use Rattle.serial_line.specs.Lines.{all_differ}
-use Rattle.serial_line.specs.Marks.{Mark, is_failure, is_item, is_restart, is_run, items_of, place_of, stands, untouched}
+use Rattle.serial_line.specs.Marks.{Mark, all_differ, is_failure, is_item, is_restart, is_ran, items_of, place_of, stands, untouched}
 use Rattle.serial_line.specs.Searches.{last_place}
 use Rattle.serial_line.specs.Sets.{Devices}
 use Rattle.std.proofs.Common.{ap, ap₂, arith, cond, refl, subst, sym, ◌∙◌}
@@ -19,7 +18,7 @@ use Rattle.std.specs.Prelude.{Bool, List, None, Option, Some, [], drop, false, f
 
 -- items that are the same are the same as each other item
 like : (x y z : Item) → is_item x y ≡ true → is_item x z ≡ is_item y z
-like (Ran r) (Ran q) z e = let same : r.0 ≡ q.0 = grind (arith, common_steps) in ap (λ n. is_run n z) same
+like (Ran r) (Ran q) z e = let same : r.0 ≡ q.0 = grind (arith, common_steps) in ap (λ n. is_ran n z) same
 like (Ran r) (Failed d k) z e = absurd (cc)
 like (Ran r) (Back d k) z e = absurd (cc)
 like (Failed d k) (Ran r) z e = absurd (cc)

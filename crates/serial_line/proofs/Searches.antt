@@ -5,7 +5,7 @@ use Rattle.std.proofs.lemmas.Grind.{common_steps}
 use Rattle.std.proofs.lemmas.List.Sums.{prefix_len_stops}
 use Rattle.std.specs.List.{list_any, prefix_len}
 use Rattle.std.specs.Option.{option_or}
-use Rattle.std.specs.Prelude.{Bool, List, None, Option, Some, [], drop, false, get_or, if◌then◌else◌, length, nat_lt, not, option_map, position, suc, true, unwrap_or, zero, ℕ, ◌+◌, ◌-◌, ◌<◌, ◌∷◌, ◌≡◌, ◌≤◌, ◌||◌}
+use Rattle.std.specs.Prelude.{Bool, List, None, Option, Some, [], drop, false, get_or, if◌then◌else◌, length, max, nat_lt, not, option_map, position, suc, take, take_while, true, unwrap_or, zero, ℕ, ◌+◌, ◌-◌, ◌<◌, ◌∷◌, ◌≡◌, ◌≤◌, ◌||◌}
 
 -- where a place passes and nothing behind it, it is the last place
 last_is : {A : Type 0} (test : A → Bool) (xs : List A) (k : ℕ) (x : A) → k < length xs → test (get_or xs k x) ≡ true → last_place test (drop (suc k) xs) ≡ None → last_place test xs ≡ Some k
@@ -75,3 +75,61 @@ last_unfound test (x ∷ xs) none =
     head_none o false e = refl
     head_none None true e = absurd (cc)
     head_none (Some k) true e = absurd (cc)
+
+-- the number of items up to and with the last one of which the test holds
+abbrev pub up_to_last : {A : Type 0} → (A → Bool) → List A → ℕ
+up_to_last test [] = 0
+up_to_last test (x ∷ xs) = if list_any test (x ∷ xs) then up_to_last test xs + 1 else 0
+
+up_to_none : {A : Type 0} (test : A → Bool) (xs : List A) → list_any test xs ≡ false → up_to_last test xs ≡ 0
+up_to_none test [] none = refl
+up_to_none test (x ∷ xs) none = rw none refl
+
+last_found : {A : Type 0} (test : A → Bool) (xs : List A) (k : ℕ) → last_place test xs ≡ Some k → list_any test xs ≡ true
+last_found {A} test xs k found = by_cases (list_any test xs) refl
+  where
+    none_of : (ys : List A) → list_any test ys ≡ false → last_place test ys ≡ None
+    none_of [] none = refl
+    none_of (y ∷ ys) none = let here : test y ≡ false = grind (arith, common_steps) in rw (none_of ys (grind (arith, common_steps)), here) refl
+    by_cases : (b : Bool) → list_any test xs ≡ b → b ≡ true
+    by_cases true e = refl
+    by_cases false e = absurd (cc (sym found ∙ none_of xs e))
+
+-- it is one more than the last place, and nought where there is none
+pub last_counted : {A : Type 0} (test : A → Bool) (xs : List A) → up_to_last test xs ≡ unwrap_or (option_map (λ k. k + 1) (last_place test xs)) 0
+last_counted test [] = refl
+last_counted test (x ∷ xs) = by_cases (last_place test xs) refl (last_counted test xs)
+  where
+    by_cases : (o : Option ℕ) → last_place test xs ≡ o → up_to_last test xs ≡ unwrap_or (option_map (λ k. k + 1) o) 0 → (if test x || list_any test xs then up_to_last test xs + 1 else 0) ≡ unwrap_or (option_map (λ k. k + 1) (option_or (option_map (λ k. k + 1) o) (if test x then Some 0 else None))) 0
+    by_cases None e rest = rw (rest, last_unfound test xs e) (head (test x))
+      where
+        head : (b : Bool) → (if b || false then 0 + 1 else 0) ≡ unwrap_or (option_map (λ k. k + 1) (if b then Some 0 else None)) 0
+        head true = refl
+        head false = refl
+    by_cases (Some k) e rest = rw (rest, last_found test xs k e) (head (test x))
+      where
+        head : (b : Bool) → (if b || true then (k + 1) + 1 else 0) ≡ (k + 1) + 1
+        head true = refl
+        head false = refl
+
+-- up to the last one of which one of two tests holds: the greater of both numbers
+pub up_to_either : {A : Type 0} (p q : A → Bool) (xs : List A) → up_to_last (λ x. p x || q x) xs ≡ max (up_to_last p xs) (up_to_last q xs)
+up_to_either p q [] = refl
+up_to_either {A} p q (x ∷ xs) = by_cases (list_any p (x ∷ xs)) (list_any q (x ∷ xs)) refl refl (up_to_either p q xs)
+  where
+    either : (ys : List A) → list_any (λ y. p y || q y) ys ≡ (list_any p ys || list_any q ys)
+    either [] = refl
+    either (y ∷ ys) = rw (either ys) (grind (arith, common_steps))
+    by_cases : (a b : Bool) → list_any p (x ∷ xs) ≡ a → list_any q (x ∷ xs) ≡ b → up_to_last (λ y. p y || q y) xs ≡ max (up_to_last p xs) (up_to_last q xs) → up_to_last (λ y. p y || q y) (x ∷ xs) ≡ max (if a then up_to_last p xs + 1 else 0) (if b then up_to_last q xs + 1 else 0)
+    by_cases true true e f rest = rw (either (x ∷ xs), e, rest) (omega arith)
+    by_cases true false e f rest = let none : up_to_last q xs ≡ 0 = up_to_none q xs (grind (arith, common_steps)) in rw (either (x ∷ xs), e, rest, none) (omega arith)
+    by_cases false true e f rest = let none : up_to_last p xs ≡ 0 = up_to_none p xs (grind (arith, common_steps)) in rw (either (x ∷ xs), e, f, rest, none) (omega arith)
+    by_cases false false e f rest = rw (either (x ∷ xs), e, f) refl
+
+-- what stands before the first place are so many items
+pub before_place : {A : Type 0} (p : A → Bool) (xs : List A) (k : ℕ) → position p xs ≡ Some k → take_while (λ x. not (p x)) xs ≡ take k xs
+before_place p xs k told = by_cases (nat_lt (prefix_len (λ x. not (p x)) xs) (length xs)) told
+  where
+    by_cases : (b : Bool) → cond b (Some (prefix_len (λ x. not (p x)) xs)) None ≡ Some k → take (prefix_len (λ x. not (p x)) xs) xs ≡ take k xs
+    by_cases true found = ap (λ o. take (unwrap_or o k) xs) found
+    by_cases false found = absurd (cc)

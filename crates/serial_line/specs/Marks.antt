@@ -7,7 +7,7 @@ use Rattle.serial_line.specs.Sets.{Devices}
 use Rattle.std.specs.Coded.{Coded, code_by, coded_list, coded×, coded_ℕ}
 use Rattle.std.specs.FinSet as set
 use Rattle.std.specs.List.{list_any}
-use Rattle.std.specs.Prelude.{Bool, List, Option, false, filter, if◌then◌else◌, insert, map, not, position, refl, ℕ, ◌&&◌, ◌==◌}
+use Rattle.std.specs.Prelude.{Bool, List, Option, [], false, filter, if◌then◌else◌, insert, map, not, position, refl, true, ℕ, ◌&&◌, ◌==◌, ◌∷◌}
 
 -- an item of the line, and the set of devices that it has touched
 pub record Mark : Type 0 where
@@ -30,10 +30,10 @@ abbrev pub items_of : List Mark → List Item
 items_of marks = map (λ m. m.item) marks
 
 -- the item is the run
-abbrev pub is_run : ℕ → Item → Bool
-is_run r (Ran q) = q.0 == r
-is_run r (Failed d k) = false
-is_run r (Back d k) = false
+abbrev pub is_ran : ℕ → Item → Bool
+is_ran r (Ran q) = q.0 == r
+is_ran r (Failed d k) = false
+is_ran r (Back d k) = false
 
 -- the item is the device's failure of this number
 abbrev pub is_failure : ℕ → ℕ → Item → Bool
@@ -49,9 +49,14 @@ is_restart d k (Back e n) = (e.0 == d) && (n == k)
 
 -- it is this item
 abbrev pub is_item : Item → Item → Bool
-is_item (Ran r) = is_run r.0
+is_item (Ran r) = is_ran r.0
 is_item (Failed d k) = is_failure d.0 k
 is_item (Back d k) = is_restart d.0 k
+
+-- no item stands twice
+abbrev pub all_differ : List Item → Bool
+all_differ [] = true
+all_differ (i ∷ is) = not (list_any (is_item i) is) && all_differ is
 
 -- the item stands in the line
 abbrev pub stands : Item → List Mark → Bool
@@ -73,15 +78,19 @@ with_item at item marks = insert marks at (untouched item)
 
 -- the others stand in their order, with their touches
 abbrev pub without : ℕ → List Mark → List Mark
-without r marks = filter (λ m. not (is_run r m.item)) marks
+without r marks = filter (λ m. not (is_ran r m.item)) marks
+
+-- the device too, where the mark is the run's
+abbrev pub with_touch : ℕ → ℕ → Mark → Mark
+with_touch r d m = if is_ran r m.item then record { item = m.item; touched = set.insert m.touched d } else m
 
 -- the run has touched the device too, and all else stays
 abbrev pub touching : ℕ → ℕ → List Mark → List Mark
-touching r d marks = map (λ m. if is_run r m.item then record { item = m.item; touched = set.insert m.touched d } else m) marks
+touching r d marks = map (with_touch r d) marks
 
 -- the run has touched the device
 abbrev pub has_touched : ℕ → ℕ → List Mark → Bool
-has_touched r d marks = list_any (λ m. is_run r m.item && set.contains m.touched d) marks
+has_touched r d marks = list_any (λ m. is_ran r m.item && set.contains m.touched d) marks
 
 abbrev pub place_of : Item → List Mark → Option ℕ
 place_of item marks = position (is_item item) (items_of marks)

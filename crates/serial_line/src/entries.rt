@@ -1,6 +1,6 @@
 ghost use Rattle.std.specs.Prelude.{◌≡◌, ◌<◌, true};
 ghost use Rattle.std.specs.FinSet as set;
-ghost use Rattle.serial_line.specs.Marks.{is_item, is_run, untouched};
+ghost use Rattle.serial_line.specs.Marks.{is_item, is_ran, untouched};
 
 use crate::touches::Touches;
 use home_types::{DeviceNo, Item, RunNo};
@@ -61,7 +61,7 @@ impl Entry {
 
     /// The run of the entry has touched the device too.
     pub(crate) fn touch(&mut self, run: RunNo, device: DeviceNo)
-        requires run { is_run run.0 self.old.item ≡ true }
+        requires run { is_ran run.0 self.old.item ≡ true }
         requires device { device.0 < 256 }
         ensures item { self.new.item ≡ self.old.item }
         ensures touched { self.new.touched ≡ set.insert self.old.touched device.0 }

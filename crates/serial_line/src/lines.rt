@@ -1,6 +1,6 @@
-ghost use Rattle.std.specs.Prelude.{◌≡◌, true, false, if◌then◌else◌, ◌+◌, ◌<◌, ◌≤◌, ◌^◌, [], length, option_map, slice_get, OnOk, OnErr};
+ghost use Rattle.std.specs.Prelude.{◌≡◌, true, false, if◌then◌else◌, ◌+◌, ◌<◌, ◌≤◌, ◌^◌, [], length, slice_get, OnOk, OnErr};
 ghost use Rattle.home_types.specs.declared.items.Item.TheVariants.{Ran};
-ghost use Rattle.serial_line.specs.Marks.{has_touched, last_on, place_of, stands, touching, with_item, without};
+ghost use Rattle.serial_line.specs.Marks.{all_differ, has_touched, items_of, last_on, place_of, stands, touching, with_item, without};
 
 use crate::entries::Entry;
 use home_types::{DeviceNo, Item, NoMemory, RunNo};
@@ -33,7 +33,7 @@ impl Line {
     /// Makes an empty line. Takes no memory.
     pub fn new(alloc: Global) -> Line
         ensures empty { result.marks ≡ [] }
-        ensures few { result.spare < 2 ^ 32 }
+        ensures few { length result.marks + result.spare < 2 ^ 32 }
     {
         Line {
             entries: Vec::new(alloc),
@@ -104,9 +104,10 @@ impl Line {
         }
     }
 
-    /// The place of an item, counted from 0. `None` where it is not in the line.
+    /// The place of an item, counted from 0; no item stands twice. `None` where it is not in the line.
     pub fn place_of(&self, item: Item) -> Option<u32>
-        ensures { result ≡ place_of item self.now.marks }
+        ensures place { result ≡ place_of item self.now.marks }
+        ensures once { all_differ (items_of self.now.marks) ≡ true }
     {
         let mut at = self.entries.len();
         while at > 0 {
@@ -120,14 +121,15 @@ impl Line {
 
     /// The item at the place `at`, counted from 0. `None` from the end of the line on.
     pub fn get(&self, at: u32) -> Option<Item>
-        ensures { result ≡ option_map (λ m. m.item) (slice_get self.now.marks at) }
+        ensures { result ≡ slice_get (items_of self.now.marks) at }
     {
         self.entries.get(at as usize).map(Entry::item)
     }
 
-    /// How many items the line has.
+    /// How many items the line has. With its room they are always below 2^32.
     pub fn len(&self) -> u32
-        ensures { result ≡ length self.now.marks }
+        ensures len { result ≡ length self.now.marks }
+        ensures few { length self.now.marks + self.now.spare < 2 ^ 32 }
     {
         self.entries.len() as u32
     }
