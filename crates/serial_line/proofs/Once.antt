@@ -1,20 +1,16 @@
 -- A line in which no item stands twice.
 use Rattle.home_types.specs.declared.items.Item.TheVariants.{Back, Failed, Ran}
 use Rattle.home_types.specs.declared.items.Item.{Item}
-use Rattle.home_types.specs.declared.numbers.DeviceNo.{DeviceNo}
-use Rattle.home_types.specs.declared.numbers.RunNo.{RunNo}
 use Rattle.serial_line.proofs.Searches.{any_at, last_unfound, position_none, position_told, position_untold}
 use Rattle.serial_line.specs.Marks.{Mark, all_differ, is_failure, is_item, is_restart, is_ran, items_of, place_of, stands, untouched}
 use Rattle.serial_line.specs.Searches.{last_place}
-use Rattle.serial_line.specs.Sets.{Devices}
-use Rattle.std.proofs.Common.{ap, ap₂, arith, cond, refl, subst, sym, ◌∙◌}
+use Rattle.std.proofs.Common.{ap, ap₂, arith, cond, refl, sym, ◌∙◌}
 use Rattle.std.proofs.lemmas.Grind.{common_steps}
 use Rattle.std.proofs.lemmas.List.{get_or-map, length-map, map-append, take-append-drop}
 use Rattle.std.proofs.lemmas.List.Folds.{list_any-append}
 use Rattle.std.specs.FinSet as set
 use Rattle.std.specs.List.{list_any, prefix_len}
-use Rattle.std.specs.Option.{option_or}
-use Rattle.std.specs.Prelude.{Bool, List, None, Option, Some, [], drop, false, filter, get_or, insert, if◌then◌else◌, length, map, nat_lt, not, option_map, position, remove, slice_set, suc, take, true, zero, ℕ, ◌&&◌, ◌+◌, ◌-◌, ◌<◌, ◌==◌, ◌||◌, ◌++◌, ◌∷◌, ◌≡◌, ◌≤◌}
+use Rattle.std.specs.Prelude.{Bool, List, None, Option, Some, [], drop, false, filter, get_or, insert, if◌then◌else◌, is_some, length, map, not, remove, slice_set, suc, take, true, zero, ℕ, ◌&&◌, ◌<◌, ◌||◌, ◌++◌, ◌∷◌, ◌≡◌}
 
 -- items that are the same are the same as each other item
 like : (x y z : Item) → is_item x y ≡ true → is_item x z ≡ is_item y z
@@ -68,6 +64,7 @@ not_first x m ms k d differ within there = by_cases (is_item x m.item) refl
   where
     among : stands x ms ≡ true
     among = any_at (is_item x) (items_of ms) k d.item (rw (length-map ms (λ y. y.item)) within) (rw (get_or-map (λ y. y.item) ms k d d.item within) there)
+
     by_cases : (b : Bool) → is_item x m.item ≡ b → b ≡ false
     by_cases true e = absurd (cc (sym among ∙ others x m ms differ e))
     by_cases false e = refl
@@ -198,3 +195,8 @@ pub touched_told : (x : Item) (device : ℕ) (ms : List Mark) (k : ℕ) (old : M
 touched_told x device ms k old differ told is =
     let found = place_told x ms k old told in
     ap (λ m. set.contains m.touched device) is ∙ touched_at x device ms k old differ found.0 found.1
+
+-- a place is told exactly where the item stands
+pub told_there : (x : Item) (ms : List Mark) (o : Option ℕ) → o ≡ place_of x ms → is_some o ≡ stands x ms
+told_there x ms None is = sym (untold_stands x ms (sym is))
+told_there x ms (Some k) is = sym (told_stands x ms k (sym is))

@@ -71,6 +71,7 @@ last_unfound test (x ∷ xs) none =
     tail_none : (o h : Option ℕ) → option_or (option_map (λ k. k + 1) o) h ≡ None → o ≡ None
     tail_none None h e = refl
     tail_none (Some k) h e = absurd (cc)
+
     head_none : (o : Option ℕ) (b : Bool) → option_or (option_map (λ k. k + 1) o) (if b then Some 0 else None) ≡ None → (b || false) ≡ false
     head_none o false e = refl
     head_none None true e = absurd (cc)
@@ -91,6 +92,7 @@ last_found {A} test xs k found = by_cases (list_any test xs) refl
     none_of : (ys : List A) → list_any test ys ≡ false → last_place test ys ≡ None
     none_of [] none = refl
     none_of (y ∷ ys) none = let here : test y ≡ false = grind (arith, common_steps) in rw (none_of ys (grind (arith, common_steps)), here) refl
+
     by_cases : (b : Bool) → list_any test xs ≡ b → b ≡ true
     by_cases true e = refl
     by_cases false e = absurd (cc (sym found ∙ none_of xs e))
@@ -120,6 +122,7 @@ up_to_either {A} p q (x ∷ xs) = by_cases (list_any p (x ∷ xs)) (list_any q (
     either : (ys : List A) → list_any (λ y. p y || q y) ys ≡ (list_any p ys || list_any q ys)
     either [] = refl
     either (y ∷ ys) = rw (either ys) (grind (arith, common_steps))
+
     by_cases : (a b : Bool) → list_any p (x ∷ xs) ≡ a → list_any q (x ∷ xs) ≡ b → up_to_last (λ y. p y || q y) xs ≡ max (up_to_last p xs) (up_to_last q xs) → up_to_last (λ y. p y || q y) (x ∷ xs) ≡ max (if a then up_to_last p xs + 1 else 0) (if b then up_to_last q xs + 1 else 0)
     by_cases true true e f rest = rw (either (x ∷ xs), e, rest) (omega arith)
     by_cases true false e f rest = let none : up_to_last q xs ≡ 0 = up_to_none q xs (grind (arith, common_steps)) in rw (either (x ∷ xs), e, rest, none) (omega arith)

@@ -15,7 +15,7 @@ use Rattle.std.specs.FinSet as set
 use Rattle.std.specs.List.{list_any}
 use Rattle.std.specs.Option.{option_or}
 use Rattle.std.specs.Ordering.{nat_cmp}
-use Rattle.std.specs.Prelude.{Bool, List, None, Option, Some, [], drop, false, filter, if◌then◌else◌, insert, length, map, not, option_map, position, suc, take, true, zero, ℕ, ◌&&◌, ◌+◌, ◌++◌, ◌==◌, ◌||◌, ◌∷◌, ◌≡◌}
+use Rattle.std.specs.Prelude.{Bool, List, None, Some, [], drop, false, filter, if◌then◌else◌, insert, length, not, option_map, position, suc, take, true, zero, ℕ, ◌&&◌, ◌+◌, ◌++◌, ◌==◌, ◌||◌, ◌∷◌, ◌≡◌}
 
 -- an empty line has no items
 pub line_empty : (touched : Item → ℕ → Bool) → IsLineOf [] touched []
@@ -41,9 +41,9 @@ items_at_end (m ∷ marks) x = ap (λ is. m.item ∷ is) (items_at_end marks x)
 
 pub line_inserted : {line : List Item} {touched : Item → ℕ → Bool} {marks : List Mark} (at : ℕ) (x : Item) → IsLineOf line touched marks → TouchesAs touched (untouched x) → IsLineOf (take at line ++ x ∷ drop at line) touched (with_item at x marks)
 line_inserted {marks} at x old new = record {
-    items = items_inserted marks at x ∙ ap (λ is. take at is ++ x ∷ drop at is) old.items;
-    touches = each_inserted _ marks at (untouched x) old.touches new
-  }
+  items = items_inserted marks at x ∙ ap (λ is. take at is ++ x ∷ drop at is) old.items;
+  touches = each_inserted _ marks at (untouched x) old.touches new;
+}
 
 -- a run has touched nothing when it comes, an event its device
 
@@ -80,9 +80,9 @@ items_removed r marks = items_filtered (λ i. not (is_ran r i)) marks
 
 pub line_removed : {line : List Item} {touched : Item → ℕ → Bool} {marks : List Mark} (r : ℕ) → IsLineOf line touched marks → IsLineOf (filter (λ i. not (is_ran r i)) line) touched (without r marks)
 line_removed {marks} r old = record {
-    items = items_removed r marks ∙ ap (filter (λ i. not (is_ran r i))) old.items;
-    touches = each_filtered _ (λ i. not (is_ran r i)) marks old.touches
-  }
+  items = items_removed r marks ∙ ap (filter (λ i. not (is_ran r i))) old.items;
+  touches = each_filtered _ (λ i. not (is_ran r i)) marks old.touches;
+}
 
 -- a run that touches a device
 
@@ -155,6 +155,7 @@ touched_in_line {line} {touched} {marks} r d is there = any marks is.touches ∙
   where
     one : (m : Mark) → TouchesAs touched m → (is_ran r.0 m.item && set.contains m.touched d) ≡ (is_ran r.0 m.item && touched (Ran r) d)
     one m fits = ap (λ b. is_ran r.0 m.item && b) (fits d) ∙ at_run touched r d m.item
+
     any : (ms : List Mark) → Each (TouchesAs touched) ms → has_touched r.0 d ms ≡ (list_any (is_ran r.0) (items_of ms) && touched (Ran r) d)
     any [] all = refl
     any (m ∷ ms) all = rw (one m all.0, any ms all.1) (grind (arith, common_steps))

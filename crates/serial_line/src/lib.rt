@@ -3,8 +3,8 @@
 
 pub mod entries;
 pub mod lines;
-pub mod touches;
 #[cfg(test)]
 mod tests;
+pub mod touches;
 
 pub use lines::Line;

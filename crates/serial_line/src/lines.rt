@@ -1,4 +1,4 @@
-ghost use Rattle.std.specs.Prelude.{◌≡◌, true, false, if◌then◌else◌, ◌+◌, ◌<◌, ◌≤◌, ◌^◌, [], length, slice_get, OnOk, OnErr};
+ghost use Rattle.std.specs.Prelude.{◌≡◌, true, false, if◌then◌else◌, ◌+◌, ◌<◌, ◌≤◌, ◌^◌, [], is_some, length, slice_get, OnOk, OnErr};
 ghost use Rattle.home_types.specs.declared.items.Item.TheVariants.{Ran};
 ghost use Rattle.serial_line.specs.Marks.{all_differ, has_touched, items_of, last_on, place_of, stands, touching, with_item, without};
 
@@ -107,6 +107,7 @@ impl Line {
     /// The place of an item, counted from 0; no item stands twice. `None` where it is not in the line.
     pub fn place_of(&self, item: Item) -> Option<u32>
         ensures place { result ≡ place_of item self.now.marks }
+        ensures there { is_some result ≡ stands item self.now.marks }
         ensures once { all_differ (items_of self.now.marks) ≡ true }
     {
         let mut at = self.entries.len();

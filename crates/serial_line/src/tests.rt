@@ -1,8 +1,7 @@
-//! The line of a window with two runs on a fan, which fails and comes back under the second.
+//! The calls that a hub makes on its line, and the line that they leave: in the first three tests those of the worked
+//! windows named, and at the end the printed order of each.
 use crate::Line;
 use home_types::{DeviceNo, Item, NoMemory, RunNo};
-use std::alloc::Global;
-use std::test::Fail;
 
 const LAMP: DeviceNo = DeviceNo(0);
 
@@ -16,67 +15,120 @@ const B: RunNo = RunNo(2);
 
 const C: RunNo = RunNo(3);
 
-/// A has touched the fan and B lamp and fan; then the fan failed and came back, and both events stand
-/// before B, as they may not stand among its accesses: A, failure, restart, B.
-fn line(alloc: Global) -> Result<Line, NoMemory> {
-    let mut line = Line::new(alloc);
-    line.reserve(4)?;
-    line.insert(0, Item::Ran(A));
-    line.insert(1, Item::Ran(B));
-    line.mark(A, FAN);
-    line.mark(B, LAMP);
-    line.insert(1, Item::Failed(FAN, 1));
-    line.insert(2, Item::Back(FAN, 1));
-    Ok(line)
+const LAMP_FAILED: Item = Item::Failed(LAMP, 1);
+
+const LAMP_BACK: Item = Item::Back(LAMP, 1);
+
+/// Puts an item into the line. Refuses one that is there, and a place behind the end.
+fn put(line: &mut Line, at: u32, item: Item) -> Result<(), NoMemory> {
+    if line.len() >= 64 || at > line.len() || line.place_of(item).is_some() {
+        return Err(NoMemory);
+    }
+    line.reserve(1)?;
+    line.insert(at, item);
+    Ok(())
 }
 
-#[test]
-fn stands_in_order(rt: HostRuntime) {
-    let line = line(rt.alloc()).expect(&rt, "memory");
-
-    assert!(rt; line.len() == 4);
-    assert!(rt; line.get(0) == Some(Item::Ran(A)));
-    assert!(rt; line.get(1) == Some(Item::Failed(FAN, 1)));
-    assert!(rt; line.get(2) == Some(Item::Back(FAN, 1)));
-    assert!(rt; line.get(3) == Some(Item::Ran(B)));
-    assert!(rt; line.get(4) == None);
-    assert!(rt; line.place_of(Item::Ran(B)) == Some(3));
-    assert!(rt; line.place_of(Item::Back(FAN, 1)) == Some(2));
-    assert!(rt; line.place_of(Item::Back(FAN, 2)) == None);
-    assert!(rt; line.place_of(Item::Ran(C)) == None);
+/// The run of the line touches the devices.
+fn touch(line: &mut Line, run: RunNo, device: DeviceNo) {
+    if line.place_of(Item::Ran(run)).is_some() && device.0 < 256 {
+        line.mark(run, device);
+    }
 }
 
-#[test]
-fn tells_what_was_touched(rt: HostRuntime) {
-    let mut line = line(rt.alloc()).expect(&rt, "memory");
+/// Whether a run of the line has touched the device.
+fn has_touched(line: &Line, run: RunNo, device: DeviceNo) -> bool {
+    line.place_of(Item::Ran(run)).is_some() && line.touched(run, device)
+}
 
-    assert!(rt; line.touched(A, FAN) && !line.touched(A, LAMP));
-    assert!(rt; line.touched(B, LAMP) && !line.touched(B, FAN));
-    assert!(rt; line.last_on(LAMP) == Some(3));
-    // the restart, and not the run before it
-    assert!(rt; line.last_on(FAN) == Some(2));
+/// Whether these are the items of the line.
+fn has_order(line: &Line, order: &[Item]) -> bool {
+    let items = (0..line.len()).filter_map(|at| line.get(at));
+    items.eq(order.iter().copied())
+}
+
+/// `failure-after-last-access`: the lamp fails when the run is done with it.
+#[test]
+fn failure_behind_the_last_access(rt: HostRuntime) -> Result<(), NoMemory> {
+    let mut line = Line::new(rt.alloc());
+    put(&mut line, 0, Item::Ran(A))?;
+    touch(&mut line, A, LAMP);
+    put(&mut line, 1, LAMP_FAILED)?;
+    touch(&mut line, A, FAN);
+
+    assert!(rt; has_order(&line, &[Item::Ran(A), LAMP_FAILED]));
+    assert!(rt; line.last_on(LAMP) == Some(1));
+    assert!(rt; line.last_on(FAN) == Some(0));
     assert!(rt; line.last_on(OVEN) == None);
-    assert!(rt; line.last_on(DeviceNo(300)) == None);
-
-    line.mark(B, FAN);
-    assert!(rt; line.touched(B, FAN) && line.last_on(FAN) == Some(3));
+    Ok(())
 }
 
+/// `lost-between-accesses`: the lamp fails between two accesses of the run, which is lost and leaves the line.
 #[test]
-fn lets_a_run_go_and_come_before_others(rt: HostRuntime) -> Result<(), Fail> {
-    let mut line = line(rt.alloc()).expect(&rt, "memory");
+fn lost_run_leaves(rt: HostRuntime) -> Result<(), NoMemory> {
+    let mut line = Line::new(rt.alloc());
+    put(&mut line, 0, Item::Ran(A))?;
+    touch(&mut line, A, LAMP);
+    put(&mut line, 1, LAMP_FAILED)?;
+    assert!(rt; has_touched(&line, A, LAMP));
+    assert!(rt; !has_touched(&line, A, FAN));
+    assert!(rt; line.remove(A));
 
-    assert!(rt; !line.remove(C));
-    assert!(rt; line.remove(B));
-    assert!(rt; !line.remove(B));
-    assert!(rt; line.len() == 3 && line.last_on(LAMP) == None && line.last_on(FAN) == Some(2));
-    assert!(rt; line.touched(A, FAN));
+    assert!(rt; has_order(&line, &[LAMP_FAILED]));
+    assert!(rt; line.last_on(LAMP) == Some(0));
+    assert!(rt; !line.remove(A));
+    Ok(())
+}
 
-    // the room of the run that went is there for another
-    line.insert(0, Item::Ran(C));
-    line.mark(C, DeviceNo(255));
+/// `restart-keeps-down-view`: the run's first call of the lamp dies, so the failure stands before it; the restart
+/// stands behind it.
+#[test]
+fn restart_behind_the_run(rt: HostRuntime) -> Result<(), NoMemory> {
+    let mut line = Line::new(rt.alloc());
+    put(&mut line, 0, Item::Ran(A))?;
+    put(&mut line, 0, LAMP_FAILED)?;
+    touch(&mut line, A, LAMP);
+    touch(&mut line, A, FAN);
+    put(&mut line, 2, LAMP_BACK)?;
+
+    assert!(rt; has_order(&line, &[LAMP_FAILED, Item::Ran(A), LAMP_BACK]));
+    assert!(rt; line.last_on(LAMP) == Some(2));
     assert!(rt; line.place_of(Item::Ran(A)) == Some(1));
-    assert!(rt; line.touched(A, FAN) && !line.touched(C, FAN));
-    assert!(rt; line.last_on(DeviceNo(255)) == Some(0) && line.last_on(DeviceNo(191)) == None);
+    assert!(rt; line.place_of(LAMP_BACK) == Some(2));
+    assert!(rt; line.place_of(Item::Back(LAMP, 2)) == None);
+    assert!(rt; line.place_of(Item::Ran(B)) == None);
+    Ok(())
+}
+
+/// A run that is put before others leaves what they have touched, and a run that comes again has touched nothing.
+#[test]
+fn others_keep_their_touches(rt: HostRuntime) -> Result<(), NoMemory> {
+    let mut line = Line::new(rt.alloc());
+    put(&mut line, 0, Item::Ran(A))?;
+    put(&mut line, 1, Item::Ran(B))?;
+    touch(&mut line, A, FAN);
+    touch(&mut line, B, DeviceNo(255));
+    put(&mut line, 0, Item::Ran(C))?;
+    touch(&mut line, C, DeviceNo(64));
+    assert!(rt; has_order(&line, &[Item::Ran(C), Item::Ran(A), Item::Ran(B)]));
+    assert!(rt;
+        has_touched(&line, A, FAN)
+            && has_touched(&line, B, DeviceNo(255))
+            && has_touched(&line, C, DeviceNo(64))
+    );
+    assert!(rt;
+        !has_touched(&line, C, LAMP)
+            && !has_touched(&line, B, FAN)
+            && !has_touched(&line, B, DeviceNo(191))
+    );
+    assert!(rt; line.last_on(FAN) == Some(1));
+    assert!(rt; line.last_on(DeviceNo(255)) == Some(2));
+    assert!(rt; line.last_on(DeviceNo(256)) == None);
+
+    assert!(rt; line.remove(A));
+    put(&mut line, 2, Item::Ran(A))?;
+    assert!(rt; !has_touched(&line, A, FAN));
+    assert!(rt; line.last_on(FAN) == None);
+    assert!(rt; has_touched(&line, B, DeviceNo(255)) && has_touched(&line, C, DeviceNo(64)));
     Ok(())
 }

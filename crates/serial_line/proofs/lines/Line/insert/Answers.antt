@@ -9,5 +9,5 @@ invariant_of-self c =
     record {
       once = rw (c.insert-inserted.ensures.items, c.unwrap.ensures, c.new.ensures) (differ_insert c.self.inside.entries.items c.args.at (untouched c.args.item) c.self.invariant.once absent);
       room = search rules;
-      few = search rules
+      few = search rules;
     }

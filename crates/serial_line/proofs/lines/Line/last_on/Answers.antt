@@ -1,6 +1,6 @@
 use Rattle.serial_line.proofs.Searches.{last_before}
 use Rattle.serial_line.proofs.lines.Line.last_on.Goals as goal
-use Rattle.std.proofs.Common.{ap, rules, sym, ◌∙◌}
+use Rattle.std.proofs.Common.{ap, sym, ◌∙◌}
 use Rattle.std.specs.FinSet as set
 
 pub returns-then-has_touched : goal.returns-then-has_touched

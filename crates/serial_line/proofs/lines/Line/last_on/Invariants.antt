@@ -1,7 +1,6 @@
 use Rattle.serial_line.specs.Searches.{last_place}
 use Rattle.serial_line.proofs.lines.Line.last_on.Given as goal
 use Rattle.std.proofs.Common.{None, drop, length, ◌≡◌, ◌≤◌}
-use Rattle.serial_line.specs.Marks.{is_item}
 use Rattle.std.specs.FinSet as set
 
 -- nothing from the place on is what is looked for

@@ -2,7 +2,7 @@ use Rattle.home_types.specs.declared.items.Item.TheVariants.{Ran}
 use Rattle.serial_line.proofs.Once.{differ_touched, old_told, touching_told, untold_stands}
 use Rattle.serial_line.proofs.lines.Line.mark.Goals as goal
 use Rattle.serial_line.specs.Marks.{place_of, stands, touching}
-use Rattle.std.proofs.Common.{Some, None, ap, rules, sym, ◌∙◌, ◌≡◌, false}
+use Rattle.std.proofs.Common.{ap, rules, sym, ◌∙◌, ◌≡◌, false}
 
 pub touch-requires-clause-run : goal.touch-requires-clause-run
 touch-requires-clause-run c =
@@ -15,7 +15,7 @@ invariant_of-self c =
     record {
       once = differ_touched (Ran c.args.run) c.self.inside.entries.items c.in-Some.at c.index_mut.result.now c.touch.new.self c.self.invariant.once told c.index_mut.ensures.value c.touch.ensures.item;
       room = c.self.invariant.room;
-      few = c.self.invariant.few
+      few = c.self.invariant.few;
     }
 
 pub returns-in-Some-clause-marks : goal.returns-in-Some-clause-marks

@@ -2,7 +2,6 @@ use Rattle.serial_line.specs.Searches.{last_place}
 use Rattle.serial_line.proofs.lines.Line.place_of.Given as goal
 use Rattle.std.proofs.Common.{None, drop, length, ◌≡◌, ◌≤◌}
 use Rattle.serial_line.specs.Marks.{is_item}
-use Rattle.std.specs.FinSet as set
 
 -- nothing from the place on is what is looked for
 abbrev pub invariant-loop-at : goal.invariant-loop-at

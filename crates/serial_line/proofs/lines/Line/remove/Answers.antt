@@ -10,7 +10,7 @@ invariant_of-self c =
     record {
       once = rw c.remove.ensures.items (differ_removed (Ran c.args.run) c.self.inside.entries.items c.in-Some.at c.self.invariant.once told);
       room = search rules;
-      few = search rules
+      few = search rules;
     }
 
 pub returns-in-Some-clause-was_there : goal.returns-in-Some-clause-was_there

@@ -1,6 +1,6 @@
 use Rattle.serial_line.proofs.Bits.{with_device}
 use Rattle.serial_line.proofs.touches.Touches.add.Goals as goal
-use Rattle.std.proofs.Common.{arith, length, rules, ◌<◌, ◌%◌, ◌≡◌}
+use Rattle.std.proofs.Common.{arith, length, rules, ◌%◌, ◌≡◌}
 use Rattle.std.proofs.lemmas.Nat.{one_shl}
 
 pub returns : goal.returns

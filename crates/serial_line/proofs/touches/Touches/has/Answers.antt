@@ -1,7 +1,6 @@
 use Rattle.serial_line.proofs.Bits.{contains_bits, in_words, test_bit, word_at}
 use Rattle.serial_line.proofs.touches.Touches.has.Goals as goal
-use Rattle.std.proofs.Common.{ap, length, nat_lt, refl, sym, ◌%◌, ◌/◌, ◌∙◌}
-
+use Rattle.std.proofs.Common.{ap, length, refl, sym, ◌%◌, ◌/◌, ◌∙◌}
 use Rattle.std.specs.Int.{bit_at}
 use Rattle.std.specs.Prelude.{◌==◌}
 
