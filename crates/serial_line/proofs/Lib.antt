@@ -1,0 +1,4 @@
+pub mod Bits
+pub mod Searches
+pub mod Once
+pub mod Ties

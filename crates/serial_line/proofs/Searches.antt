@@ -1,0 +1,157 @@
+-- What a search from the end finds.
+use Rattle.serial_line.specs.Searches.{last_place}
+use Rattle.std.proofs.Common.{ap, arith, cond, refl, subst, sym, ◌∙◌}
+use Rattle.std.proofs.lemmas.Grind.{common_steps}
+use Rattle.std.proofs.lemmas.List.Sums.{prefix_len_stops}
+use Rattle.std.specs.List.{list_any, prefix_len}
+use Rattle.std.specs.Option.{option_or}
+use Rattle.std.specs.Prelude.{Bool, List, None, Option, Some, [], drop, false, get_or, if◌then◌else◌, length, max, nat_lt, not, option_map, position, suc, take, take_while, true, unwrap_or, zero, ℕ, ◌+◌, ◌-◌, ◌++◌, ◌<◌, ◌∷◌, ◌≡◌, ◌≤◌, ◌||◌}
+
+-- where a place passes and nothing behind it, it is the last place
+last_is : {A : Type 0} (test : A → Bool) (xs : List A) (k : ℕ) (x : A) → k < length xs → test (get_or xs k x) ≡ true → last_place test (drop (suc k) xs) ≡ None → last_place test xs ≡ Some k
+last_is test [] k x within passes none = absurd (omega (arith, within))
+last_is test (y ∷ ys) zero x within passes none = rw (none, passes) refl
+last_is test (y ∷ ys) (suc k) x within passes none = let e : suc k ≡ k + 1 = omega arith in rw (last_is test ys k x (omega (arith, within)) passes none, e) refl
+
+-- .. for the place just before another
+pub last_before : {A : Type 0} (test : A → Bool) (xs : List A) (k : ℕ) (x : A) → 0 < k → k ≤ length xs → test (get_or xs (k - 1) x) ≡ true → last_place test (drop k xs) ≡ None → last_place test xs ≡ Some (k - 1)
+last_before test xs zero x some within passes none = absurd (omega (arith, some))
+last_before test xs (suc k) x some within passes none = let e : suc k - 1 ≡ k = omega arith in last_is test xs k x (omega (arith, within)) (subst (λ j. test (get_or xs j x) ≡ true) e passes) none ∙ ap Some (sym e)
+
+-- what stands at a place is among the list
+pub any_at : {A : Type 0} (p : A → Bool) (xs : List A) (k : ℕ) (d : A) → k < length xs → p (get_or xs k d) ≡ true → list_any p xs ≡ true
+any_at p [] k d within passes = absurd (omega (arith, within))
+any_at p (x ∷ xs) zero d within passes = rw passes refl
+any_at p (x ∷ xs) (suc k) d within passes = rw (any_at p xs k d (omega (arith, within)) passes) (grind (arith, common_steps))
+
+-- what the first place is where it is told, and where none is
+
+pub position_told : {A : Type 0} (p : A → Bool) (xs : List A) (k : ℕ) (d : A) → position p xs ≡ Some k → (k < length xs) × (p (get_or xs k d) ≡ true)
+position_told {A} p xs k d told = by_cases (nat_lt (prefix_len (λ x. not (p x)) xs) (length xs)) refl told
+  where
+    by_cases : (b : Bool) → nat_lt (prefix_len (λ x. not (p x)) xs) (length xs) ≡ b → cond b (Some (prefix_len (λ x. not (p x)) xs)) None ≡ Some k → (k < length xs) × (p (get_or xs k d) ≡ true)
+    by_cases true within found =
+        let here : prefix_len (λ x. not (p x)) xs ≡ k = ap (λ o. unwrap_or o k) found in
+        let inside : prefix_len (λ x. not (p x)) xs < length xs = grind (arith, common_steps) in
+        let stops : not (p (get_or xs (prefix_len (λ x. not (p x)) xs) d)) ≡ false = prefix_len_stops (λ x. not (p x)) xs d inside in
+        subst (λ j. (j < length xs) × (p (get_or xs j d) ≡ true)) here (inside, grind (arith, common_steps))
+    by_cases false within found = absurd (cc)
+
+any_none : {A : Type 0} (p : A → Bool) (xs : List A) → length xs ≤ prefix_len (λ x. not (p x)) xs → list_any p xs ≡ false
+any_none p [] all = refl
+any_none p (x ∷ xs) all = by_cases (p x) refl all (any_none p xs)
+  where
+    by_cases : (b : Bool) → p x ≡ b → suc (length xs) ≤ cond (not b) (1 + prefix_len (λ y. not (p y)) xs) 0 → (length xs ≤ prefix_len (λ y. not (p y)) xs → list_any p xs ≡ false) → (p x || list_any p xs) ≡ false
+    by_cases true e all rest = absurd (omega (arith, all))
+    by_cases false e all rest = rw (e, rest (omega (arith, all))) refl
+
+pub position_untold : {A : Type 0} (p : A → Bool) (xs : List A) → position p xs ≡ None → list_any p xs ≡ false
+position_untold {A} p xs told = by_cases (nat_lt (prefix_len (λ x. not (p x)) xs) (length xs)) refl told
+  where
+    by_cases : (b : Bool) → nat_lt (prefix_len (λ x. not (p x)) xs) (length xs) ≡ b → cond b (Some (prefix_len (λ x. not (p x)) xs)) None ≡ None → list_any p xs ≡ false
+    by_cases true within none = absurd (cc)
+    by_cases false within none = any_none p xs (grind (arith, common_steps))
+
+none_len : {A : Type 0} (p : A → Bool) (xs : List A) → list_any p xs ≡ false → prefix_len (λ x. not (p x)) xs ≡ length xs
+none_len p [] absent = refl
+none_len p (x ∷ xs) absent =
+    let here : p x ≡ false = grind (arith, common_steps) in
+    rw (here, none_len p xs (grind (arith, common_steps))) (omega arith)
+
+pub position_none : {A : Type 0} (p : A → Bool) (xs : List A) → list_any p xs ≡ false → position p xs ≡ None
+position_none p xs absent = rw (none_len p xs absent) (grind (arith, common_steps))
+
+-- what a search from the end does not find is not there
+pub last_unfound : {A : Type 0} (test : A → Bool) (xs : List A) → last_place test xs ≡ None → list_any test xs ≡ false
+last_unfound test [] none = refl
+last_unfound test (x ∷ xs) none =
+    let behind : last_place test xs ≡ None = tail_none (last_place test xs) (if test x then Some 0 else None) none in
+    rw (last_unfound test xs behind) (head_none (last_place test xs) (test x) none)
+  where
+    tail_none : (o h : Option ℕ) → option_or (option_map (λ k. k + 1) o) h ≡ None → o ≡ None
+    tail_none None h e = refl
+    tail_none (Some k) h e = absurd (cc)
+
+    head_none : (o : Option ℕ) (b : Bool) → option_or (option_map (λ k. k + 1) o) (if b then Some 0 else None) ≡ None → (b || false) ≡ false
+    head_none o false e = refl
+    head_none None true e = absurd (cc)
+    head_none (Some k) true e = absurd (cc)
+
+-- the number of items up to and with the last one of which the test holds
+abbrev pub up_to_last : {A : Type 0} → (A → Bool) → List A → ℕ
+up_to_last test [] = 0
+up_to_last test (x ∷ xs) = if list_any test (x ∷ xs) then up_to_last test xs + 1 else 0
+
+up_to_none : {A : Type 0} (test : A → Bool) (xs : List A) → list_any test xs ≡ false → up_to_last test xs ≡ 0
+up_to_none test [] none = refl
+up_to_none test (x ∷ xs) none = rw none refl
+
+last_found : {A : Type 0} (test : A → Bool) (xs : List A) (k : ℕ) → last_place test xs ≡ Some k → list_any test xs ≡ true
+last_found {A} test xs k found = by_cases (list_any test xs) refl
+  where
+    none_of : (ys : List A) → list_any test ys ≡ false → last_place test ys ≡ None
+    none_of [] none = refl
+    none_of (y ∷ ys) none = let here : test y ≡ false = grind (arith, common_steps) in rw (none_of ys (grind (arith, common_steps)), here) refl
+
+    by_cases : (b : Bool) → list_any test xs ≡ b → b ≡ true
+    by_cases true e = refl
+    by_cases false e = absurd (cc (sym found ∙ none_of xs e))
+
+-- it is one more than the last place, and nought where there is none
+pub last_counted : {A : Type 0} (test : A → Bool) (xs : List A) → up_to_last test xs ≡ unwrap_or (option_map (λ k. k + 1) (last_place test xs)) 0
+last_counted test [] = refl
+last_counted test (x ∷ xs) = by_cases (last_place test xs) refl (last_counted test xs)
+  where
+    by_cases : (o : Option ℕ) → last_place test xs ≡ o → up_to_last test xs ≡ unwrap_or (option_map (λ k. k + 1) o) 0 → (if test x || list_any test xs then up_to_last test xs + 1 else 0) ≡ unwrap_or (option_map (λ k. k + 1) (option_or (option_map (λ k. k + 1) o) (if test x then Some 0 else None))) 0
+    by_cases None e rest = rw (rest, last_unfound test xs e) (head (test x))
+      where
+        head : (b : Bool) → (if b || false then 0 + 1 else 0) ≡ unwrap_or (option_map (λ k. k + 1) (if b then Some 0 else None)) 0
+        head true = refl
+        head false = refl
+    by_cases (Some k) e rest = rw (rest, last_found test xs k e) (head (test x))
+      where
+        head : (b : Bool) → (if b || true then (k + 1) + 1 else 0) ≡ (k + 1) + 1
+        head true = refl
+        head false = refl
+
+-- up to the last one of which one of two tests holds: the greater of both numbers
+pub up_to_either : {A : Type 0} (p q : A → Bool) (xs : List A) → up_to_last (λ x. p x || q x) xs ≡ max (up_to_last p xs) (up_to_last q xs)
+up_to_either p q [] = refl
+up_to_either {A} p q (x ∷ xs) = by_cases (list_any p (x ∷ xs)) (list_any q (x ∷ xs)) refl refl (up_to_either p q xs)
+  where
+    either : (ys : List A) → list_any (λ y. p y || q y) ys ≡ (list_any p ys || list_any q ys)
+    either [] = refl
+    either (y ∷ ys) = rw (either ys) (grind (arith, common_steps))
+
+    by_cases : (a b : Bool) → list_any p (x ∷ xs) ≡ a → list_any q (x ∷ xs) ≡ b → up_to_last (λ y. p y || q y) xs ≡ max (up_to_last p xs) (up_to_last q xs) → up_to_last (λ y. p y || q y) (x ∷ xs) ≡ max (if a then up_to_last p xs + 1 else 0) (if b then up_to_last q xs + 1 else 0)
+    by_cases true true e f rest = rw (either (x ∷ xs), e, rest) (omega arith)
+    by_cases true false e f rest = let none : up_to_last q xs ≡ 0 = up_to_none q xs (grind (arith, common_steps)) in rw (either (x ∷ xs), e, rest, none) (omega arith)
+    by_cases false true e f rest = let none : up_to_last p xs ≡ 0 = up_to_none p xs (grind (arith, common_steps)) in rw (either (x ∷ xs), e, f, rest, none) (omega arith)
+    by_cases false false e f rest = rw (either (x ∷ xs), e, f) refl
+
+-- what stands before the first place are so many items
+pub before_place : {A : Type 0} (p : A → Bool) (xs : List A) (k : ℕ) → position p xs ≡ Some k → take_while (λ x. not (p x)) xs ≡ take k xs
+before_place p xs k told = by_cases (nat_lt (prefix_len (λ x. not (p x)) xs) (length xs)) told
+  where
+    by_cases : (b : Bool) → cond b (Some (prefix_len (λ x. not (p x)) xs)) None ≡ Some k → take (prefix_len (λ x. not (p x)) xs) xs ≡ take k xs
+    by_cases true found = ap (λ o. take (unwrap_or o k) xs) found
+    by_cases false found = absurd (cc)
+
+-- the number of items before the first one of which the test holds
+abbrev pub up_to_first : {A : Type 0} → (A → Bool) → List A → ℕ
+up_to_first test [] = 0
+up_to_first test (x ∷ xs) = if test x then 0 else up_to_first test xs + 1
+
+-- the item stands immediately before the first one of which the test holds, else at the end
+abbrev pub put_before : {A : Type 0} → (A → Bool) → A → List A → List A
+put_before test new [] = new ∷ []
+put_before test new (x ∷ xs) = if test x then new ∷ x ∷ xs else x ∷ put_before test new xs
+
+-- .. which is to put it at that place
+pub put_before_at : {A : Type 0} (test : A → Bool) (new : A) (xs : List A) → put_before test new xs ≡ take (up_to_first test xs) xs ++ new ∷ drop (up_to_first test xs) xs
+put_before_at test new [] = refl
+put_before_at {A} test new (x ∷ xs) = by_cases (test x) (put_before_at test new xs)
+  where
+    by_cases : (b : Bool) → put_before test new xs ≡ take (up_to_first test xs) xs ++ new ∷ drop (up_to_first test xs) xs → (if b then new ∷ x ∷ xs else x ∷ put_before test new xs) ≡ take (if b then 0 else up_to_first test xs + 1) (x ∷ xs) ++ new ∷ drop (if b then 0 else up_to_first test xs + 1) (x ∷ xs)
+    by_cases true rest = refl
+    by_cases false rest = let next : up_to_first test xs + 1 ≡ suc (up_to_first test xs) = omega arith in rw next (ap (λ ys. x ∷ ys) rest)

@@ -1,0 +1,30 @@
+use Rattle.home_types.specs.declared.items.Item.TheVariants.{Ran}
+use Rattle.serial_line.proofs.Once.{differ_touched, old_told, touching_told, untold_stands}
+use Rattle.serial_line.proofs.lines.Line.mark.Goals as goal
+use Rattle.serial_line.specs.Marks.{place_of, stands, touching}
+use Rattle.std.proofs.Common.{ap, rules, sym, ◌∙◌, ◌≡◌, false}
+
+pub touch-requires-clause-run : goal.touch-requires-clause-run
+touch-requires-clause-run c =
+    let told = ap (λ s. place_of (Ran c.args.run) s.marks) c.self.view_is ∙ sym c.place_of.ensures.place ∙ c.in-Some.is in
+    old_told (Ran c.args.run) c.self.inside.entries.items c.in-Some.at c.index_mut.result.now told c.index_mut.ensures.value
+
+pub invariant_of-self : goal.invariant_of-self
+invariant_of-self c =
+    let told = ap (λ s. place_of (Ran c.args.run) s.marks) c.self.view_is ∙ sym c.place_of.ensures.place ∙ c.in-Some.is in
+    record {
+      once = differ_touched (Ran c.args.run) c.self.inside.entries.items c.in-Some.at c.index_mut.result.now c.touch.new.self c.self.invariant.once told c.index_mut.ensures.value c.touch.ensures.item;
+      room = c.self.invariant.room;
+      few = c.self.invariant.few;
+    }
+
+pub returns-in-Some-clause-marks : goal.returns-in-Some-clause-marks
+returns-in-Some-clause-marks c =
+    let told = ap (λ s. place_of (Ran c.args.run) s.marks) c.self.view_is ∙ sym c.place_of.ensures.place ∙ c.in-Some.is in
+    touching_told (Ran c.args.run) c.args.device.0 c.self.inside.entries.items c.in-Some.at c.index_mut.result.now c.touch.new.self c.self.invariant.once told c.index_mut.ensures.value c.touch.ensures.item c.touch.ensures.touched
+    ∙ ap (λ s. touching c.args.run.0 c.args.device.0 s.marks) c.self.view_is
+
+pub returns-in_default-clause-marks : goal.returns-in_default-clause-marks
+returns-in_default-clause-marks c =
+    let absent : stands (Ran c.args.run) c.args.self.now.marks ≡ false = untold_stands (Ran c.args.run) c.args.self.now.marks (search rules) in
+    absurd (cc (sym c.requires.run ∙ absent))

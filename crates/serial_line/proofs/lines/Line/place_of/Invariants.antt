@@ -1,0 +1,11 @@
+use Rattle.serial_line.specs.Searches.{last_place}
+use Rattle.serial_line.proofs.lines.Line.place_of.Given as goal
+use Rattle.std.proofs.Common.{None, drop, length, ◌≡◌, ◌≤◌}
+use Rattle.serial_line.specs.Marks.{is_item}
+
+-- nothing from the place on is what is looked for
+abbrev pub invariant-loop-at : goal.invariant-loop-at
+invariant-loop-at l = (l.at ≤ length l.self-inside.entries.items) × (last_place (λ m. is_item l.item m.item) (drop l.at l.self-inside.entries.items) ≡ None)
+
+abbrev pub decreases-loop-at : goal.decreases-loop-at
+decreases-loop-at l = l.at

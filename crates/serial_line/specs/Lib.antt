@@ -1,0 +1,5 @@
+pub mod Searches
+pub mod Sets
+pub mod Marks
+pub mod Lines
+pub mod Ties

@@ -1,0 +1,9 @@
+-- What is true of the fields of each line.
+use Rattle.serial_line.specs.Marks.{all_differ, items_of}
+use Rattle.serial_line.specs.declared.lines.Line.TheInside.{Inside}
+use Rattle.std.specs.Prelude.{true, vec_capacity, vec_len, ◌+◌, ◌<◌, ◌^◌, ◌≡◌, ◌≤◌}
+
+pub record IsSound (line : Inside) : Type 0 where
+  pub once : all_differ (items_of line.entries.items) ≡ true
+  pub room : vec_len line.entries + line.spare ≤ vec_capacity line.entries
+  pub few : vec_len line.entries + line.spare < 2 ^ 32

@@ -1,0 +1,100 @@
+-- The items of a line, each with the devices that it has touched.
+use Rattle.home_types.specs.declared.items.Item.{Item}
+use Rattle.home_types.specs.declared.items.Item.TheVariants.{Back, Failed, Ran}
+use Rattle.home_types.specs.contracts.items.Item as the_item
+use Rattle.serial_line.specs.Searches.{last_place}
+use Rattle.serial_line.specs.Sets.{Devices}
+use Rattle.std.specs.Coded.{Coded, code_by, coded_list, coded×, coded_ℕ}
+use Rattle.std.specs.FinSet as set
+use Rattle.std.specs.List.{list_any}
+use Rattle.std.specs.Prelude.{Bool, List, Option, [], false, filter, if◌then◌else◌, insert, map, not, position, refl, true, ℕ, ◌&&◌, ◌==◌, ◌∷◌}
+
+-- an item of the line, and the set of devices that it has touched
+pub record Mark : Type 0 where
+  pub item : Item
+  pub touched : Devices
+
+-- the line, and how many more items it takes with no memory
+pub record Marked : Type 0 where
+  pub marks : List Mark
+  pub spare : ℕ
+
+-- a mark is stored as the pair of its fields, and a line too
+abbrev pub mark_code : Coded Mark
+mark_code = code_by (Item × Devices) (coded× the_item.the_row.coded (set.code coded_ℕ)) (λ m. (m.item, m.touched)) (λ p. record { item = p.0; touched = p.1 }) (λ m. refl)
+
+abbrev pub marked_code : Coded Marked
+marked_code = code_by (List Mark × ℕ) (coded× (coded_list mark_code) coded_ℕ) (λ l. (l.marks, l.spare)) (λ p. record { marks = p.0; spare = p.1 }) (λ l. refl)
+
+abbrev pub items_of : List Mark → List Item
+items_of marks = map (λ m. m.item) marks
+
+-- the item is the run
+abbrev pub is_ran : ℕ → Item → Bool
+is_ran r (Ran q) = q.0 == r
+is_ran r (Failed d k) = false
+is_ran r (Back d k) = false
+
+-- the item is the device's failure of this number
+abbrev pub is_failure : ℕ → ℕ → Item → Bool
+is_failure d k (Ran q) = false
+is_failure d k (Failed e n) = (e.0 == d) && (n == k)
+is_failure d k (Back e n) = false
+
+-- the item is the device's restart of this number
+abbrev pub is_restart : ℕ → ℕ → Item → Bool
+is_restart d k (Ran q) = false
+is_restart d k (Failed e n) = false
+is_restart d k (Back e n) = (e.0 == d) && (n == k)
+
+-- it is this item
+abbrev pub is_item : Item → Item → Bool
+is_item (Ran r) = is_ran r.0
+is_item (Failed d k) = is_failure d.0 k
+is_item (Back d k) = is_restart d.0 k
+
+-- no item stands twice
+abbrev pub all_differ : List Item → Bool
+all_differ [] = true
+all_differ (i ∷ is) = not (list_any (is_item i) is) && all_differ is
+
+-- the item stands in the line
+abbrev pub stands : Item → List Mark → Bool
+stands item marks = list_any (is_item item) (items_of marks)
+
+-- the devices that an item has touched, where the run has touched these: an event its own alone
+abbrev pub touched_by : Item → Devices → Devices
+touched_by (Ran r) devices = devices
+touched_by (Failed d k) devices = set.insert set.empty d.0
+touched_by (Back d k) devices = set.insert set.empty d.0
+
+-- an item as it comes into the line: a run has touched nothing, an event its device
+abbrev pub untouched : Item → Mark
+untouched item = record { item = item; touched = touched_by item set.empty }
+
+-- the item stands at this place, the others in their order, with their touches
+abbrev pub with_item : ℕ → Item → List Mark → List Mark
+with_item at item marks = insert marks at (untouched item)
+
+-- the others stand in their order, with their touches
+abbrev pub without : ℕ → List Mark → List Mark
+without r marks = filter (λ m. not (is_ran r m.item)) marks
+
+-- the device too, where the mark is the run's
+abbrev pub with_touch : ℕ → ℕ → Mark → Mark
+with_touch r d m = if is_ran r m.item then record { item = m.item; touched = set.insert m.touched d } else m
+
+-- the run has touched the device too, and all else stays
+abbrev pub touching : ℕ → ℕ → List Mark → List Mark
+touching r d marks = map (with_touch r d) marks
+
+-- the run has touched the device
+abbrev pub has_touched : ℕ → ℕ → List Mark → Bool
+has_touched r d marks = list_any (λ m. is_ran r m.item && set.contains m.touched d) marks
+
+abbrev pub place_of : Item → List Mark → Option ℕ
+place_of item marks = position (is_item item) (items_of marks)
+
+-- the last place that has touched the device
+abbrev pub last_on : ℕ → List Mark → Option ℕ
+last_on d marks = last_place (λ m. set.contains m.touched d) marks

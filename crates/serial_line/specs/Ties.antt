@@ -1,0 +1,19 @@
+-- What a layer above keeps of a line: that it is the line which a history says, with the touches that it says.
+use Rattle.home_types.specs.declared.items.Item.{Item}
+use Rattle.serial_line.specs.Marks.{Mark, items_of}
+use Rattle.std.specs.FinSet as set
+use Rattle.std.specs.Prelude.{Bool, List, [], ℕ, ⊤, ◌∷◌, ◌≡◌}
+
+-- it holds of each
+abbrev pub Each : {A : Type 0} → (A → Type 0) → List A → Type 0
+Each P [] = ⊤
+Each P (x ∷ xs) = P x × Each P xs
+
+-- an item with a mark has touched the devices that the test tells
+abbrev pub TouchesAs : (Item → ℕ → Bool) → Mark → Type 0
+TouchesAs touched m = (d : ℕ) → set.contains m.touched d ≡ touched m.item d
+
+-- these are the items, and each has touched the devices that the test tells
+pub record IsLineOf (line : List Item) (touched : Item → ℕ → Bool) (marks : List Mark) : Type 0 where
+  pub items : items_of marks ≡ line
+  pub touches : Each (TouchesAs touched) marks

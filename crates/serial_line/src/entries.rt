@@ -1,0 +1,71 @@
+ghost use Rattle.std.specs.Prelude.{◌≡◌, ◌<◌, true};
+ghost use Rattle.std.specs.FinSet as set;
+ghost use Rattle.serial_line.specs.Marks.{is_item, is_ran, untouched};
+
+use crate::touches::Touches;
+use home_types::{DeviceNo, Item, RunNo};
+use std::marker::Model;
+
+/// An item of the line, with the devices that it has touched.
+#[derive(Drop)]
+pub(crate) struct Entry {
+    item: Item,
+    // of a run; an event has touched its own device alone
+    touches: Touches,
+}
+
+impl Model for Entry {
+    ghost use Rattle.serial_line.specs.Marks.{Mark, mark_code, touched_by};
+
+    ghost Value = { Mark };
+
+    ghost coded = { mark_code };
+
+    ghost view = { λ e. record { item = e.item; touched = touched_by e.item e.touches } };
+}
+
+impl Entry {
+    /// An item as it comes into the line.
+    pub(crate) fn new(item: Item) -> Entry
+        ensures { result ≡ untouched item }
+    {
+        Entry {
+            item,
+            touches: Touches::none(),
+        }
+    }
+
+    pub(crate) fn item(&self) -> Item
+        ensures { result ≡ self.now.item }
+    {
+        self.item
+    }
+
+    /// Whether it is this item.
+    pub(crate) fn is(&self, item: Item) -> bool
+        ensures { result ≡ is_item item self.now.item }
+    {
+        self.item == item
+    }
+
+    /// Whether it has touched the device.
+    pub(crate) fn has_touched(&self, device: DeviceNo) -> bool
+        ensures { result ≡ set.contains self.now.touched device.0 }
+    {
+        match self.item {
+            Item::Ran(_) => self.touches.has(device),
+            Item::Failed(failed, _) => failed == device,
+            Item::Back(back, _) => back == device,
+        }
+    }
+
+    /// The run of the entry has touched the device too.
+    pub(crate) fn touch(&mut self, run: RunNo, device: DeviceNo)
+        requires run { is_ran run.0 self.old.item ≡ true }
+        requires device { device.0 < 256 }
+        ensures item { self.new.item ≡ self.old.item }
+        ensures touched { self.new.touched ≡ set.insert self.old.touched device.0 }
+    {
+        self.touches.add(device);
+    }
+}

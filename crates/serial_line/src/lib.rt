@@ -1,0 +1,10 @@
+// The line: the items of a window's serial order, and the devices that each has touched.
+#![tactic(auto)]
+
+pub mod entries;
+pub mod lines;
+#[cfg(test)]
+mod tests;
+pub mod touches;
+
+pub use lines::Line;

@@ -1,0 +1,163 @@
+ghost use Rattle.std.specs.Prelude.{◌≡◌, true, false, if◌then◌else◌, ◌+◌, ◌<◌, ◌≤◌, ◌^◌, [], is_some, length, slice_get, OnOk, OnErr};
+ghost use Rattle.home_types.specs.declared.items.Item.TheVariants.{Ran};
+ghost use Rattle.serial_line.specs.Marks.{all_differ, has_touched, items_of, last_on, place_of, stands, touching, with_item, without};
+
+use crate::entries::Entry;
+use home_types::{DeviceNo, Item, NoMemory, RunNo};
+use std::alloc::Global;
+use std::marker::Model;
+
+/// The line of a window: its items in their order. Contracts see each with the devices that it has
+/// touched, and beside them how many more the line takes with no memory.
+#[derive(Drop)]
+pub struct Line {
+    entries: Vec<Entry>,
+    spare: u32,
+}
+
+impl Model for Line {
+    ghost use Rattle.serial_line.specs.Marks.{Marked, marked_code};
+
+    ghost Value = { Marked };
+
+    ghost coded = { marked_code };
+
+    ghost use Rattle.serial_line.specs.Lines.{IsSound};
+
+    ghost view = { λ l. record { marks = l.entries.items; spare = l.spare } };
+
+    ghost invariant = { IsSound };
+}
+
+impl Line {
+    /// Makes an empty line. Takes no memory.
+    pub fn new(alloc: Global) -> Line
+        ensures empty { result.marks ≡ [] }
+        ensures few { length result.marks + result.spare < 2 ^ 32 }
+    {
+        Line {
+            entries: Vec::new(alloc),
+            spare: 0,
+        }
+    }
+
+    /// Makes room for `n` more items, or answers `NoMemory`. The items stay in both cases, and after
+    /// a refusal the room too.
+    pub fn reserve(&mut self, n: u64) -> Result<(), NoMemory>
+        requires few { length self.old.marks + n < 2 ^ 32 }
+        ensures marks { self.new.marks ≡ self.old.marks }
+        ensures room { OnOk result (n ≤ self.new.spare) }
+        ensures refused { OnErr result (self.new ≡ self.old) }
+        ensures few { length self.new.marks + self.new.spare < 2 ^ 32 }
+    {
+        let more = n as u32;
+        if self.spare < more {
+            match self.entries.reserve(n as usize) {
+                Ok(()) => self.spare = more,
+                Err(_) => return Err(NoMemory),
+            }
+        }
+        Ok(())
+    }
+
+    /// Puts an item at the place `at`, counted from 0: a run that has touched nothing, or an event.
+    /// The others stay in their order, with their touches. Takes no memory.
+    pub fn insert(&mut self, at: u32, item: Item)
+        requires room { 0 < self.old.spare }
+        requires place { at ≤ length self.old.marks }
+        requires absent { stands item self.old.marks ≡ false }
+        ensures marks { self.new.marks ≡ with_item at item self.old.marks }
+        ensures spare { self.new.spare + 1 ≡ self.old.spare }
+    {
+        let inserted = self.entries.insert(at as usize, Entry::new(item));
+        inserted.unwrap();
+        self.spare -= 1;
+    }
+
+    /// Takes a run out, and keeps its room; answers whether it was there. The others stay in their
+    /// order, with their touches.
+    pub fn remove(&mut self, run: RunNo) -> bool
+        ensures was_there { result ≡ stands (Ran run) self.old.marks }
+        ensures marks { self.new.marks ≡ without run.0 self.old.marks }
+        ensures spare { self.new.spare ≡ (if result then self.old.spare + 1 else self.old.spare) }
+    {
+        match self.place_of(Item::Ran(run)) {
+            Some(at) => {
+                self.entries.remove(at as usize);
+                self.spare += 1;
+                true
+            }
+            None => false,
+        }
+    }
+
+    /// The run has touched the device from now on, one of the 256 that a home may have. Takes no
+    /// memory.
+    pub fn mark(&mut self, run: RunNo, device: DeviceNo)
+        requires run { stands (Ran run) self.old.marks ≡ true }
+        requires device { device.0 < 256 }
+        ensures marks { self.new.marks ≡ touching run.0 device.0 self.old.marks }
+        ensures spare { self.new.spare ≡ self.old.spare }
+    {
+        if let Some(at) = self.place_of(Item::Ran(run)) {
+            self.entries[at as usize].touch(run, device);
+        }
+    }
+
+    /// The place of an item, counted from 0; no item stands twice. `None` where it is not in the line.
+    pub fn place_of(&self, item: Item) -> Option<u32>
+        ensures place { result ≡ place_of item self.now.marks }
+        ensures there { is_some result ≡ stands item self.now.marks }
+        ensures once { all_differ (items_of self.now.marks) ≡ true }
+    {
+        let mut at = self.entries.len();
+        while at > 0 {
+            at -= 1;
+            if self.entries[at].is(item) {
+                return Some(at as u32);
+            }
+        }
+        None
+    }
+
+    /// The item at the place `at`, counted from 0. `None` from the end of the line on.
+    pub fn get(&self, at: u32) -> Option<Item>
+        ensures { result ≡ slice_get (items_of self.now.marks) at }
+    {
+        self.entries.get(at as usize).map(Entry::item)
+    }
+
+    /// How many items the line has. With its room they are always below 2^32.
+    pub fn len(&self) -> u32
+        ensures len { result ≡ length self.now.marks }
+        ensures few { length self.now.marks + self.now.spare < 2 ^ 32 }
+    {
+        self.entries.len() as u32
+    }
+
+    /// The last place of an item that has touched the device, counted from 0. `None` where no item
+    /// has.
+    pub fn last_on(&self, device: DeviceNo) -> Option<u32>
+        ensures { result ≡ last_on device.0 self.now.marks }
+    {
+        let mut at = self.entries.len();
+        while at > 0 {
+            at -= 1;
+            if self.entries[at].has_touched(device) {
+                return Some(at as u32);
+            }
+        }
+        None
+    }
+
+    /// Whether the run has touched the device.
+    pub fn touched(&self, run: RunNo, device: DeviceNo) -> bool
+        requires { stands (Ran run) self.now.marks ≡ true }
+        ensures { result ≡ has_touched run.0 device.0 self.now.marks }
+    {
+        match self.place_of(Item::Ran(run)) {
+            Some(at) => self.entries[at as usize].has_touched(device),
+            None => false,
+        }
+    }
+}
