@@ -1,3 +1,4 @@
 pub mod Pairs
 pub mod Splits
 pub mod Keeping
+pub mod Standing
