@@ -1,7 +1,7 @@
 -- What each call does with the list of accesses, and that it keeps the discipline.
 use Rattle.home_types.specs.declared.commands.View.{View}
 use Rattle.lineage_table.proofs.Pairs.{Pairs, all_from_pairs, every_so, pairs_back, pairs_changed, pairs_from_all, pairs_put}
-use Rattle.lineage_table.proofs.Splits.{access_at, behind_at, before_at, change_at, cut_at, put_at, without_at, without_none}
+use Rattle.lineage_table.proofs.Splits.{any_access, access_at, behind_at, before_at, change_at, cut_at, put_at, without_at, without_none}
 use Rattle.lineage_table.specs.Accesses.{AreInTurn, AreOfTwoRuns, IsDisciplined, access_of, before, behind, has_access, is_acquired, is_of, is_released, is_scheduled, place_before, put_before, put_before_run, some_acquired, some_scheduled, status_of, with_change, without, written_by}
 use Rattle.lineage_table.specs.declared.accesses.Access.{Access}
 use Rattle.lineage_table.specs.declared.accesses.Status.TheVariants.{Acquired, Released, Scheduled}
@@ -66,6 +66,19 @@ put_insert r i xs d y h =
     ∙ sym (put_at r y c.front c.access c.rest c.none c.own)
     ∙ sym (ap (put_before_run r y) c.list)
 
+-- what stands before the access of the run
+pub before_take : (r i : ℕ) (xs : List Access) → position (is_of r) xs ≡ Some i → take i xs ≡ before r xs
+before_take r i xs h =
+    let c = cut_at r i xs any_access h in
+    ap (take i) c.list
+    ∙ take_at c.front (c.access ∷ c.rest) i c.size
+    ∙ sym (before_at r c.front c.access c.rest c.none c.own)
+    ∙ sym (ap (before r) c.list)
+
+all_before : (r : ℕ) (xs : List Access) → has_access r xs ≡ false → before r xs ≡ xs
+all_before r [] h = refl
+all_before r (x ∷ xs) h = grind (arith, common_steps, all_before r xs)
+
 drop_next : (a : List Access) (x : Access) (b : List Access) (i : ℕ) → length a ≡ i → drop (suc i) (a ++ x ∷ b) ≡ b
 drop_next [] x b zero e = refl
 drop_next [] x b (suc i) e = absurd (omega (arith, e))
@@ -124,6 +137,9 @@ place_of false i = refl
 pub has_place : (r : ℕ) (xs : List Access) → has_access r xs ≡ is_some (position (is_of r) xs)
 has_place r xs = sym (placed r xs) ∙ place_of (nat_lt (position_or_len (is_of r) xs) (length xs)) (position_or_len (is_of r) xs)
 
+pub before_none : (r : ℕ) (xs : List Access) → position (is_of r) xs ≡ None → xs ≡ before r xs
+before_none r xs h = sym (all_before r xs (has_place r xs ∙ ap is_some h))
+
 -- Discipline
 
 -- the discipline where an access is changed
@@ -132,11 +148,11 @@ kept_at : (a : List Access) (x y : Access) (b : List Access) → y.run.0 ≡ x.r
 kept_at a x y b same front back k = record {
   in_turn = all_from_pairs AreInTurn (a ++ y ∷ b) (pairs_changed AreInTurn a x y b front back (pairs_from_all AreInTurn (a ++ x ∷ b) k.in_turn));
   one_each = all_from_pairs AreOfTwoRuns (a ++ y ∷ b) (
-    pairs_changed AreOfTwoRuns a x y b
+      pairs_changed AreOfTwoRuns a x y b
       (every_so (λ u. AreOfTwoRuns u x → AreOfTwoRuns u y) a (λ u. before x y u same))
       (every_so (λ v. AreOfTwoRuns x v → AreOfTwoRuns y v) b (λ v. after x y v same))
       (pairs_from_all AreOfTwoRuns (a ++ x ∷ b) k.one_each)
-  );
+      );
 }
   where
     before : (x y u : Access) → y.run.0 ≡ x.run.0 → AreOfTwoRuns u x → AreOfTwoRuns u y
@@ -176,13 +192,13 @@ acquire_keeps xs r i x v k h is s n f =
     let status : c.access.status ≡ Scheduled = status_there r c.access (sym (ap (option_map (λ x. x.status)) (ap (access_of r) c.list ∙ access_at r c.front c.access c.rest c.none c.own)) ∙ s) in
     let y : Access = record c.access { status = Acquired; view = Some v } in
     subst IsDisciplined
-      (sym (ap (λ z. set xs i (record z { status = Acquired; view = Some v })) here ∙ ap (λ l. set l i y) c.list ∙ set_at c.front c.access c.rest y i c.size))
-      (
-        kept_at c.front c.access y c.rest refl
-          (front c.access y c.front (quiet c.front (c.access ∷ c.rest) (ap some_acquired (sym c.list) ∙ n)) (ap some_scheduled (sym (ap (before r) c.list ∙ before_at r c.front c.access c.rest c.none c.own)) ∙ f))
-          (every_so (λ z. AreInTurn c.access z → AreInTurn y z) c.rest (λ z. back c.access z y status))
-          (subst IsDisciplined c.list k)
-      )
+    (sym (ap (λ z. set xs i (record z { status = Acquired; view = Some v })) here ∙ ap (λ l. set l i y) c.list ∙ set_at c.front c.access c.rest y i c.size))
+    (
+    kept_at c.front c.access y c.rest refl
+    (front c.access y c.front (quiet c.front (c.access ∷ c.rest) (ap some_acquired (sym c.list) ∙ n)) (ap some_scheduled (sym (ap (before r) c.list ∙ before_at r c.front c.access c.rest c.none c.own)) ∙ f))
+    (every_so (λ z. AreInTurn c.access z → AreInTurn y z) c.rest (λ z. back c.access z y status))
+    (subst IsDisciplined c.list k)
+    )
   where
     quiet : (a b : List Access) → some_acquired (a ++ b) ≡ false → some_acquired a ≡ false
     quiet [] b n = refl
@@ -207,13 +223,13 @@ release_keeps xs r i x k h is s =
     let status : c.access.status ≡ Acquired = status_there r c.access (sym (ap (option_map (λ x. x.status)) (ap (access_of r) c.list ∙ access_at r c.front c.access c.rest c.none c.own)) ∙ s) in
     let y : Access = record c.access { status = Released } in
     subst IsDisciplined
-      (sym (ap (λ z. set xs i (record z { status = Released })) here ∙ ap (λ l. set l i y) c.list ∙ set_at c.front c.access c.rest y i c.size))
-      (
-        kept_at c.front c.access y c.rest refl
-          (every_so (λ u. AreInTurn u c.access → AreInTurn u y) c.front (λ u. front u c.access y status))
-          (every_so (λ v. AreInTurn c.access v → AreInTurn y v) c.rest (λ v. back c.access y v refl))
-          (subst IsDisciplined c.list k)
-      )
+    (sym (ap (λ z. set xs i (record z { status = Released })) here ∙ ap (λ l. set l i y) c.list ∙ set_at c.front c.access c.rest y i c.size))
+    (
+    kept_at c.front c.access y c.rest refl
+    (every_so (λ u. AreInTurn u c.access → AreInTurn u y) c.front (λ u. front u c.access y status))
+    (every_so (λ v. AreInTurn c.access v → AreInTurn y v) c.rest (λ v. back c.access y v refl))
+    (subst IsDisciplined c.list k)
+    )
   where
     front : (u x y : Access) → x.status ≡ Acquired → AreInTurn u x → AreInTurn u y
     front u x y e h = grind (arith, common_steps)
@@ -260,8 +276,8 @@ schedule_keeps xs q i y d k h s t n =
     let old : IsDisciplined (c.front ++ c.access ∷ c.rest) = subst IsDisciplined c.list k in
     let later : AllByRecursion (AreInTurn c.access) c.rest = rest AreInTurn c.front c.access c.rest (pairs_from_all AreInTurn (c.front ++ c.access ∷ c.rest) old.in_turn) in
     subst IsDisciplined
-      (sym (ap (λ l. insert l i y) c.list ∙ insert_parts c.front (c.access ∷ c.rest) y i c.size))
-      (put_keeps c.front y (c.access ∷ c.rest) t parts.0 parts.1 (status, all_scheduled c.access c.rest status later) old)
+    (sym (ap (λ l. insert l i y) c.list ∙ insert_parts c.front (c.access ∷ c.rest) y i c.size))
+    (put_keeps c.front y (c.access ∷ c.rest) t parts.0 parts.1 (status, all_scheduled c.access c.rest status later) old)
   where
     apart : (r : ℕ) (a b : List Access) → has_access r (a ++ b) ≡ false → (has_access r a ≡ false) × (has_access r b ≡ false)
     apart r [] b n = (refl, n)

@@ -2,3 +2,4 @@ pub mod Pairs
 pub mod Splits
 pub mod Keeping
 pub mod Standing
+pub mod Steps

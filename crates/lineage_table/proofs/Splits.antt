@@ -1,10 +1,15 @@
 -- The words on accesses, where the list is cut at a run's access.
 use Rattle.lineage_table.specs.Accesses.{access_of, before, behind, has_access, is_of, put_before_run, with_change, without}
+use Rattle.command_rules.specs.Rosters.{run_no}
 use Rattle.lineage_table.specs.declared.accesses.Access.{Access}
-use Rattle.std.proofs.Common.{Bool, List, Some, [], ap, arith, false, get_or, length, refl, suc, true, zero, ℕ, ◌++◌, ◌<◌, ◌∷◌, ◌≡◌}
+use Rattle.lineage_table.specs.declared.accesses.Status.TheVariants.{Released}
+use Rattle.std.proofs.Common.{Bool, List, None, Some, [], ap, arith, false, get_or, length, refl, suc, true, zero, ℕ, ◌++◌, ◌<◌, ◌∷◌, ◌≡◌}
 use Rattle.std.proofs.lemmas.Grind.{common_steps}
 use Rattle.std.proofs.lemmas.List.Quantifiers.{position-Some}
 use Rattle.std.specs.Prelude.{position, ◌||◌}
+
+abbrev pub any_access : Access
+any_access = record { run = run_no 0; status = Released; view = None; wrote = None; from = 0; to = 0 }
 
 -- a list cut at the first access of the run, which stands at the place i
 pub record Cut (r i : ℕ) (xs : List Access) : Type 0 where

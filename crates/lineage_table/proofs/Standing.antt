@@ -1,11 +1,13 @@
 -- The value that stands, and whose it is.
 use Rattle.command_rules.specs.Rosters.{run_no}
 use Rattle.home_types.specs.declared.numbers.RunNo.{RunNo}
-use Rattle.lineage_table.specs.Accesses.{access_of, behind, effective_writer, has_access, is_of, standing_value, with_change, without, written_by}
+use Rattle.lineage_table.proofs.Pairs.{Pairs, pairs_from_all}
+use Rattle.std.specs.List.{AllByRecursion}
+use Rattle.lineage_table.specs.Accesses.{AreOfTwoRuns, IsDisciplined, has_access, access_of, behind, effective_writer, is_of, standing_value, with_change, without, written_by}
 use Rattle.lineage_table.specs.declared.accesses.Access.{Access}
-use Rattle.std.proofs.Common.{Bool, IsSome, ap, subst,  List, None, Option, Some, [], arith, cond, false, refl, sym, true, ℕ, ◌++◌, ◌∙◌, ◌∷◌, ◌≡◌}
+use Rattle.std.proofs.Common.{◌∙◌, Bool, IsSome, ap, subst, List, None, Option, Some, [], arith, false, refl, sym, true, ℕ, ◌++◌, ◌∷◌, ◌≡◌}
 use Rattle.std.proofs.lemmas.Grind.{common_steps}
-use Rattle.std.specs.Prelude.{fold, if◌then◌else◌, is_some, not, option_and_then, option_map, unwrap_or, ◌==◌, ◌≢◌}
+use Rattle.std.specs.Prelude.{fold, if◌then◌else◌, is_some, not, option_and_then, option_map, unwrap_or, ◌==◌, ◌≢◌, ◌||◌}
 
 -- a list in two parts
 pub standing-append : (c : ℕ) (a b : List Access) → standing_value c (a ++ b) ≡ standing_value (standing_value c a) b
@@ -52,8 +54,8 @@ without_from : (r : ℕ) (v u : ℕ) (w : Option RunNo) (xs : List Access) → (
 without_from r v u w [] h e = h e
 without_from r v u w (x ∷ xs) h e =
     at (is_of r x) refl
-      (λ q. without_from r (unwrap_or x.wrote v) u (if is_some x.wrote then Some x.run else w) xs (gone x.wrote q) e)
-      (without_from r (unwrap_or x.wrote v) (unwrap_or x.wrote u) (if is_some x.wrote then Some x.run else w) xs (stays x.wrote) e)
+    (λ q. without_from r (unwrap_or x.wrote v) u (if is_some x.wrote then Some x.run else w) xs (gone x.wrote q) e)
+    (without_from r (unwrap_or x.wrote v) (unwrap_or x.wrote u) (if is_some x.wrote then Some x.run else w) xs (stays x.wrote) e)
   where
     gone : (o : Option ℕ) → is_of r x ≡ true → is_writer r (if is_some o then Some x.run else w) ≡ false → u ≡ unwrap_or o v
     gone None q f = h f
@@ -104,3 +106,91 @@ committed_stands c (x ∷ xs) e = at x.wrote (committed_stands c xs) (some_wrote
         → writer_from (if is_some o then Some x.run else None) xs ≡ None → standing_value (unwrap_or o c) xs ≡ c
     at None f g e = f e
     at (Some k) f g e = absurd (g e)
+
+-- the effective writer is that of what stands behind, where some run wrote there
+writer_later : (w : Option RunNo) (q : RunNo) (xs : List Access) → effective_writer xs ≡ Some q → writer_from w xs ≡ Some q
+writer_later w q [] e = absurd (cc)
+writer_later w q (x ∷ xs) e = at x.wrote (writer_later w q xs) e
+  where
+    at : (o : Option ℕ) → (effective_writer xs ≡ Some q → writer_from w xs ≡ Some q) → writer_from (if is_some o then Some x.run else None) xs ≡ Some q → writer_from (if is_some o then Some x.run else w) xs ≡ Some q
+    at None f e = f e
+    at (Some k) f e = e
+
+-- .. else the one before
+writer_earlier : (w : Option RunNo) (xs : List Access) → effective_writer xs ≡ None → writer_from w xs ≡ w
+writer_earlier w [] e = refl
+writer_earlier w (x ∷ xs) e = at x.wrote (writer_earlier w xs) (some_wrote x.run xs) e
+  where
+    at : (o : Option ℕ) → (effective_writer xs ≡ None → writer_from w xs ≡ w) → (writer_from (Some x.run) xs ≡ None → ⊥) → writer_from (if is_some o then Some x.run else None) xs ≡ None → writer_from (if is_some o then Some x.run else w) xs ≡ w
+    at None f g e = f e
+    at (Some k) f g e = absurd (g e)
+
+has_written : (q : RunNo) (xs : List Access) → effective_writer xs ≡ Some q → has_access q.0 xs ≡ true
+has_written q [] e = absurd (cc)
+has_written q (x ∷ xs) e = at (effective_writer xs) refl (has_written q xs)
+  where
+    own : (o : Option ℕ) → (if is_some o then Some x.run else None) ≡ Some q → is_of q.0 x ≡ true
+    own None h = absurd (cc)
+    own (Some k) h = grind (arith, common_steps)
+
+    either : (a b : Bool) → b ≡ true → (a || b) ≡ true
+    either a b h = grind (arith, common_steps)
+
+    first : (a b : Bool) → a ≡ true → (a || b) ≡ true
+    first a b h = grind (arith, common_steps)
+
+    at : (w : Option RunNo) → effective_writer xs ≡ w → (effective_writer xs ≡ Some q → has_access q.0 xs ≡ true) → (is_of q.0 x || has_access q.0 xs) ≡ true
+    at None h f = first (is_of q.0 x) (has_access q.0 xs) (own x.wrote (sym (writer_earlier (if is_some x.wrote then Some x.run else None) xs h) ∙ e))
+    at (Some p) h f = either (is_of q.0 x) (has_access q.0 xs) (f (h ∙ sym (writer_later (if is_some x.wrote then Some x.run else None) p xs h) ∙ e))
+
+none_behind : (x : Access) (xs : List Access) → AllByRecursion (AreOfTwoRuns x) xs → has_access x.run.0 xs ≡ false
+none_behind x [] h = refl
+none_behind x (y ∷ xs) h = one x y (has_access x.run.0 xs) h.0 (none_behind x xs h.1)
+  where
+    one : (x y : Access) (q : Bool) → AreOfTwoRuns x y → q ≡ false → (is_of x.run.0 y || q) ≡ false
+    one x y q h n = grind (arith, common_steps)
+
+-- the effective writer's own value is the one that stands
+writer_stands : (c : ℕ) (q : RunNo) (xs : List Access) → Pairs AreOfTwoRuns xs → effective_writer xs ≡ Some q → written_by q.0 xs ≡ Some (standing_value c xs)
+unfolding Pairs
+writer_stands c q [] k e = absurd (cc)
+writer_stands c q (x ∷ xs) k e = at (effective_writer xs) refl (writer_stands (unwrap_or x.wrote c) q xs k.1)
+  where
+    first : Option RunNo
+    first = if is_some x.wrote then Some x.run else None
+
+    own : (o : Option ℕ) → (if is_some o then Some x.run else None) ≡ Some q → (is_of q.0 x ≡ true) × (o ≡ Some (unwrap_or o c))
+    own None h = absurd (cc)
+    own (Some v) h = (grind (arith, common_steps), refl)
+
+    here : (b : Bool) → b ≡ true → option_and_then (λ (a : Access). a.wrote) (if b then Some x else access_of q.0 xs) ≡ x.wrote
+    here true h = refl
+    here false h = absurd (cc)
+
+    later : (b : Bool) → b ≡ false → option_and_then (λ (a : Access). a.wrote) (if b then Some x else access_of q.0 xs) ≡ written_by q.0 xs
+    later true h = absurd (cc)
+    later false h = refl
+
+    other : has_access q.0 xs ≡ true → is_of q.0 x ≡ false
+    other h = split (is_of q.0 x) refl
+      where
+        split : (b : Bool) → is_of q.0 x ≡ b → is_of q.0 x ≡ false
+        split true f = absurd (two (has_access q.0 xs) h (subst (λ n. has_access n xs ≡ false) (same f) (none_behind x xs k.0)))
+          where
+            same : is_of q.0 x ≡ true → x.run.0 ≡ q.0
+            same f = grind (arith, common_steps)
+
+            two : (b : Bool) → b ≡ true → b ≡ false → ⊥
+            two b s t = cc
+        split false f = f
+
+    at : (w : Option RunNo) → effective_writer xs ≡ w → (effective_writer xs ≡ Some q → written_by q.0 xs ≡ Some (standing_value (unwrap_or x.wrote c) xs)) → written_by q.0 (x ∷ xs) ≡ Some (standing_value (unwrap_or x.wrote c) xs)
+    at None h f =
+        let o = own x.wrote (sym (writer_earlier first xs h) ∙ e) in
+        here (is_of q.0 x) o.0 ∙ o.1 ∙ ap (λ v. Some v) (sym (committed_stands (unwrap_or x.wrote c) xs h))
+    at (Some p) h f =
+        let g : effective_writer xs ≡ Some q = h ∙ sym (writer_later first p xs h) ∙ e in
+        later (is_of q.0 x) (other (has_written q xs g)) ∙ f g
+
+pub effective_stands : (c : ℕ) (q : RunNo) (xs : List Access) → IsDisciplined xs → effective_writer xs ≡ Some q → written_by q.0 xs ≡ Some (standing_value c xs)
+effective_stands c q xs k e = writer_stands c q xs (pairs_from_all AreOfTwoRuns xs k.one_each) e

@@ -4,6 +4,10 @@
 pub mod accesses;
 pub mod lineages;
 pub mod tables;
+#[cfg(test)]
+mod tests;
+#[cfg(test)]
+mod windows;
 
 pub use accesses::{Access, Status};
 pub use home_types::View;

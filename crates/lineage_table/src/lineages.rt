@@ -145,6 +145,13 @@ impl Lineage {
         self.up
     }
 
+    /// How many more accesses it takes.
+    pub fn room(&self) -> u64
+        ensures { result ≡ self.now.room }
+    {
+        (self.accesses.capacity() - self.accesses.len()) as u64
+    }
+
     /// The accesses, in line order.
     pub fn accesses(&self) -> &[Access]
         ensures accesses { result.now ≡ self.now.accesses }
@@ -165,19 +172,22 @@ impl Lineage {
     pub fn stand(&self) -> Value
         ensures { result ≡ standing_value self.now.committed self.now.accesses }
     {
-        self.accesses
-            .iter()
-            .fold(self.committed, |value, access| access.wrote.unwrap_or(value))
+        self.accesses.iter().fold(
+            self.committed,
+            |value, access| access.wrote.unwrap_or(value),
+        )
     }
 
     /// The run of the last access that has a written value.
     pub fn effective_writer(&self) -> Option<RunNo>
         ensures { result ≡ effective_writer self.now.accesses }
     {
-        self.accesses.iter().fold(None, |writer, access| match access.wrote {
-            Some(_) => Some(access.run),
-            None => writer,
-        })
+        self.accesses
+            .iter()
+            .fold(None, |writer, access| match access.wrote {
+                Some(_) => Some(access.run),
+                None => writer,
+            })
     }
 
     /// The place of an access that will stand before that of this run, last where none is named.

@@ -122,6 +122,14 @@ impl Table {
         self.lineages[d.0 as usize].accesses()
     }
 
+    /// How many more accesses the device takes.
+    pub fn room(&self, d: DeviceNo) -> u64
+        requires { d.0 < length self.now }
+        ensures { result ≡ (lineage_at self.now d.0).room }
+    {
+        self.lineages[d.0 as usize].room()
+    }
+
     /// The value that stands on the device: the last one written, else the committed one.
     pub fn stand(&self, d: DeviceNo) -> Value
         requires { d.0 < length self.now }

@@ -16,4 +16,4 @@ pub returns-in-Some-clause-left : goal.returns-in-Some-clause-left
 returns-in-Some-clause-left c =
     let place = sym c.place_of.ensures ∙ c.in-Some.is in
     removed_state _ c.args.self.now c.args.r.0 c.in-Some.at _ c.remove.result c.remove.new.self.items c.self.view_is c.self.invariant place c.remove.ensures.items
-      (omega (arith, c.remove.ensures.len, c.remove.ensures.capacity))
+    (omega (arith, c.remove.ensures.len, c.remove.ensures.capacity))

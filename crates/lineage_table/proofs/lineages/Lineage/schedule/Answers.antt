@@ -11,4 +11,4 @@ returns c =
     let room : vec_capacity c.self.inside.accesses - vec_len c.self.inside.accesses ≡ c.args.self.now.room = ap (λ s. s.room) c.self.view_is in
     let roomy : vec_len c.self.inside.accesses < vec_capacity c.self.inside.accesses = omega (arith, room, c.requires.room) in
     scheduled_state _ c.args.self.now c.args.before c.place_before-at.result _ c.args.access c.insert.new.self.items c.self.view_is c.place_before-at.ensures c.in-Ok.ensures.items
-      (omega (arith, c.in-Ok.ensures.len, (c.in-Ok.ensures.in_place roomy).1.0))
+    (omega (arith, c.in-Ok.ensures.len, (c.in-Ok.ensures.in_place roomy).1.0))

@@ -17,5 +17,5 @@ pub returns : goal.returns
 returns c =
     let left : c.drop-drain.new.self.0.items ≡ drop (c.place-at.result + 1) c.self.inside.accesses.items = c.drop-drain.ensures.items ∙ c.drain.ensures.kept in
     settled_state _ c.args.self.now c.args.r.0 c.place-at.result _ c.unwrap-self-inside.result c.index.result.now c.drop-drain.new.self.0.items c.self.view_is c.place-at.ensures c.index.ensures c.unwrap-self-inside.ensures
-      left
-      (omega (arith, c.drop-drain.ensures.capacity, c.drain.ensures.capacity, c.self.inside.accesses.ok.0, c.self.inside.accesses.ok.1, c.drop-drain.new.self.0.ok.0, ap length left, length-drop (c.place-at.result + 1) c.self.inside.accesses.items))
+    left
+    (omega (arith, c.drop-drain.ensures.capacity, c.drain.ensures.capacity, c.self.inside.accesses.ok.0, c.self.inside.accesses.ok.1, c.drop-drain.new.self.0.ok.0, ap length left, length-drop (c.place-at.result + 1) c.self.inside.accesses.items))

@@ -8,5 +8,5 @@ abbrev pub invariant-devices : goal.invariant-devices
 invariant-devices l = record {
   size : length l.lineages.items ≡ l.d;
   room : length l.stands ≤ l.lineages.cap;
-  each : (d : ℕ) → d < l.d → IsNew (stand_at l.stands d) (runs_on (runs_of l.roster) d) (lineage_at l.lineages.items d)
+  each : (d : ℕ) → d < l.d → IsNew (stand_at l.stands d) (runs_on (runs_of l.roster) d) (lineage_at l.lineages.items d);
 }
