@@ -1,0 +1,2 @@
+pub mod LineOrders
+pub mod Statuses

@@ -1,0 +1,9 @@
+use Rattle.lineage_laws.proofs.laws.removal_keeps.Goals as goal
+use Rattle.lineage_table.proofs.Standing.{not_writer, without_stands}
+use Rattle.lineage_table.specs.Accesses.{effective_writer}
+use Rattle.lineage_table.specs.Lineages.{accesses_at, lineage_at}
+
+pub returns : goal.returns
+returns c =
+    let accesses = accesses_at c.args.table.now c.args.d.0 in
+    without_stands c.args.r.0 (lineage_at c.args.table.now c.args.d.0).committed accesses (not_writer c.args.r (effective_writer accesses) c.requires.not_effective)

@@ -1,0 +1,51 @@
+ghost use Rattle.std.specs.Prelude.{◌≡◌, ◌≢◌, ◌<◌, ◌≤◌, ℕ, false, IsSome, Some, drop, insert, length};
+ghost use Rattle.lineage_laws.specs.Laws.{AreDifferent, AreInOrder, StandByStatus, is_among, next_with_access, stand_of};
+ghost use Rattle.lineage_table.specs.Accesses.{effective_writer, put_before, status_of, without, written_by};
+ghost use Rattle.lineage_table.specs.Lineages.{accesses_at, lineage_at, released, removed, settled};
+
+use home_types::{DeviceNo, List, RunNo};
+use lineage_table::{Access, Status, Table};
+
+/// Among the accesses of `d` the released ones stand before the acquired one and that before the scheduled ones, and
+/// at most one is acquired.
+pub fn statuses(table: &Table, d: DeviceNo)
+    requires { d.0 < length table.now }
+    ensures { StandByStatus (accesses_at table.now d.0) }
+{
+    // The type of the table keeps it.
+    let _ = table.accesses(d);
+}
+
+/// Where the runs of the accesses of `d` stand in `runs` in the same order, they do so without the access of any one
+/// run, without any left part, and with an access that is put before that of the next run of `runs` that has one.
+pub fn line_order(table: &Table, d: DeviceNo, runs: &List<RunNo>)
+    requires device { d.0 < length table.now }
+    requires differ { AreDifferent runs.now.items }
+    requires order { AreInOrder runs.now.items (accesses_at table.now d.0) }
+    ensures without { (r : ℕ) → AreInOrder runs.now.items (without r (accesses_at table.now d.0)) }
+    ensures left { (k : ℕ) → AreInOrder runs.now.items (drop k (accesses_at table.now d.0)) }
+    ensures put { (place : ℕ) (access : Access) → place ≤ length runs.now.items → is_among access.run runs.now.items ≡ false
+        → AreInOrder (insert runs.now.items place access.run)
+        (put_before (next_with_access (drop place runs.now.items) (accesses_at table.now d.0)) access (accesses_at table.now d.0)) }
+{}
+
+/// The list with the acquired access of `r` released has the same standing value.
+pub fn release_keeps(table: &Table, d: DeviceNo, r: RunNo)
+    requires device { d.0 < length table.now }
+    requires acquired { status_of r.0 (accesses_at table.now d.0) ≡ Some Status.Acquired }
+    ensures { stand_of (released r.0 (lineage_at table.now d.0)) ≡ stand_of (lineage_at table.now d.0) }
+{}
+
+/// The list without the access of `r`, which is not the effective writer of `d`, has the same standing value.
+pub fn removal_keeps(table: &Table, d: DeviceNo, r: RunNo)
+    requires device { d.0 < length table.now }
+    requires not_effective { effective_writer (accesses_at table.now d.0) ≢ Some r }
+    ensures { stand_of (removed r.0 (lineage_at table.now d.0)) ≡ stand_of (lineage_at table.now d.0) }
+{}
+
+/// What is left when the value of `r`, which wrote, is committed has the same standing value.
+pub fn compaction_keeps(table: &Table, d: DeviceNo, r: RunNo)
+    requires device { d.0 < length table.now }
+    requires wrote { IsSome (written_by r.0 (accesses_at table.now d.0)) }
+    ensures { stand_of (settled r.0 (lineage_at table.now d.0)) ≡ stand_of (lineage_at table.now d.0) }
+{}

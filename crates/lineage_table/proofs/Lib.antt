@@ -1,0 +1,5 @@
+pub mod Pairs
+pub mod Splits
+pub mod Keeping
+pub mod Standing
+pub mod Steps

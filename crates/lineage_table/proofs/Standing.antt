@@ -1,0 +1,196 @@
+-- The value that stands, and whose it is.
+use Rattle.command_rules.specs.Rosters.{run_no}
+use Rattle.home_types.specs.declared.numbers.RunNo.{RunNo}
+use Rattle.lineage_table.proofs.Pairs.{Pairs, pairs_from_all}
+use Rattle.std.specs.List.{AllByRecursion}
+use Rattle.lineage_table.specs.Accesses.{AreOfTwoRuns, IsDisciplined, has_access, access_of, behind, effective_writer, is_of, standing_value, with_change, without, written_by}
+use Rattle.lineage_table.specs.declared.accesses.Access.{Access}
+use Rattle.std.proofs.Common.{◌∙◌, Bool, IsSome, ap, subst, List, None, Option, Some, [], arith, false, refl, sym, true, ℕ, ◌++◌, ◌∷◌, ◌≡◌}
+use Rattle.std.proofs.lemmas.Grind.{common_steps}
+use Rattle.std.specs.Prelude.{fold, if◌then◌else◌, is_some, not, option_and_then, option_map, unwrap_or, ◌==◌, ◌≢◌, ◌||◌}
+
+-- a list in two parts
+pub standing-append : (c : ℕ) (a b : List Access) → standing_value c (a ++ b) ≡ standing_value (standing_value c a) b
+standing-append c [] b = refl
+standing-append c (x ∷ a) b = standing-append (unwrap_or x.wrote c) a b
+
+-- a change that keeps the written value keeps the value that stands
+pub change_stands : (r : ℕ) (f : Access → Access) → ((x : Access) → (f x).wrote ≡ x.wrote) → (c : ℕ) (xs : List Access) → standing_value c (with_change r f xs) ≡ standing_value c xs
+change_stands r f same c [] = refl
+change_stands r f same c (x ∷ xs) = at (change_stands r f same (unwrap_or x.wrote c) xs) (is_of r x)
+  where
+    at : standing_value (unwrap_or x.wrote c) (with_change r f xs) ≡ standing_value (unwrap_or x.wrote c) xs → (b : Bool) → standing_value c (if b then (f x ∷ xs) else (x ∷ with_change r f xs)) ≡ standing_value c (x ∷ xs)
+    at h true = ap (λ o. standing_value (unwrap_or o c) xs) (same x)
+    at h false = h
+
+-- the run's value, with what stands behind it, is what stands
+pub behind_stands : (r : ℕ) (v c : ℕ) (xs : List Access) → written_by r xs ≡ Some v → standing_value v (behind r xs) ≡ standing_value c xs
+behind_stands r v c [] w = absurd (cc)
+behind_stands r v c (x ∷ xs) w = at (is_of r x) (behind_stands r v (unwrap_or x.wrote c) xs) w
+  where
+    at : (b : Bool) → (written_by r xs ≡ Some v → standing_value v (behind r xs) ≡ standing_value (unwrap_or x.wrote c) xs)
+        → option_and_then (λ (a : Access). a.wrote) (if b then Some x else access_of r xs) ≡ Some v → standing_value v (if b then xs else behind r xs) ≡ standing_value c (x ∷ xs)
+    at true h e = ap (λ o. standing_value (unwrap_or o c) xs) (sym e)
+    at false h e = h e
+
+-- what stands when the run's value is committed
+pub settled_stands : (r : ℕ) (c : ℕ) (xs : List Access) → IsSome (written_by r xs) → standing_value (unwrap_or (written_by r xs) c) (behind r xs) ≡ standing_value c xs
+settled_stands r c xs h = at (written_by r xs) refl h
+  where
+    at : (o : Option ℕ) → written_by r xs ≡ o → IsSome o → standing_value (unwrap_or (written_by r xs) c) (behind r xs) ≡ standing_value c xs
+    at None e h = absurd (grind (arith, common_steps))
+    at (Some v) e h = subst (λ o. standing_value (unwrap_or o c) (behind r xs) ≡ standing_value c xs) (sym e) (behind_stands r v c xs e)
+
+-- the run is the one
+abbrev pub is_writer : ℕ → Option RunNo → Bool
+is_writer r writer = unwrap_or (option_map (λ q. q.0 == r) writer) false
+
+-- the run of the last write, where those before it have this one
+abbrev pub writer_from : Option RunNo → List Access → Option RunNo
+writer_from writer xs = fold (λ w x. if is_some x.wrote then Some x.run else w) writer xs
+
+-- the list without a run that did not write what stands
+without_from : (r : ℕ) (v u : ℕ) (w : Option RunNo) (xs : List Access) → (is_writer r w ≡ false → u ≡ v) → is_writer r (writer_from w xs) ≡ false → standing_value u (without r xs) ≡ standing_value v xs
+without_from r v u w [] h e = h e
+without_from r v u w (x ∷ xs) h e =
+    at (is_of r x) refl
+    (λ q. without_from r (unwrap_or x.wrote v) u (if is_some x.wrote then Some x.run else w) xs (gone x.wrote q) e)
+    (without_from r (unwrap_or x.wrote v) (unwrap_or x.wrote u) (if is_some x.wrote then Some x.run else w) xs (stays x.wrote) e)
+  where
+    gone : (o : Option ℕ) → is_of r x ≡ true → is_writer r (if is_some o then Some x.run else w) ≡ false → u ≡ unwrap_or o v
+    gone None q f = h f
+    gone (Some k) q f = absurd (two (is_of r x) q f)
+      where
+        two : (b : Bool) → b ≡ true → b ≡ false → ⊥
+        two b s t = cc
+
+    stays : (o : Option ℕ) → is_writer r (if is_some o then Some x.run else w) ≡ false → unwrap_or o u ≡ unwrap_or o v
+    stays None f = h f
+    stays (Some k) f = refl
+
+    at : (b : Bool) → is_of r x ≡ b → (is_of r x ≡ true → standing_value u (without r xs) ≡ standing_value (unwrap_or x.wrote v) xs)
+        → standing_value (unwrap_or x.wrote u) (without r xs) ≡ standing_value (unwrap_or x.wrote v) xs
+        → standing_value u (if not b then (x ∷ without r xs) else without r xs) ≡ standing_value v (x ∷ xs)
+    at true q f g = f q
+    at false q f g = g
+
+pub without_stands : (r c : ℕ) (xs : List Access) → is_writer r (effective_writer xs) ≡ false → standing_value c (without r xs) ≡ standing_value c xs
+without_stands r c xs e = without_from r c c None xs (λ f. refl) e
+
+pub not_writer : (r : RunNo) (w : Option RunNo) → w ≢ Some r → is_writer r.0 w ≡ false
+not_writer r None h = refl
+not_writer r (Some q) h = at (q.0 == r.0) refl
+  where
+    same : (q.0 == r.0) ≡ true → q ≡ r
+    same e = ap run_no (grind (arith, common_steps))
+
+    at : (t : Bool) → (q.0 == r.0) ≡ t → (q.0 == r.0) ≡ false
+    at true e = absurd (h (ap (λ x. Some x) (same e)))
+    at false e = e
+
+-- some run wrote
+some_wrote : (w : RunNo) (xs : List Access) → writer_from (Some w) xs ≡ None → ⊥
+some_wrote w [] e = cc
+some_wrote w (x ∷ xs) e = at x.wrote (some_wrote w xs) (some_wrote x.run xs) e
+  where
+    at : (o : Option ℕ) → (writer_from (Some w) xs ≡ None → ⊥) → (writer_from (Some x.run) xs ≡ None → ⊥) → writer_from (if is_some o then Some x.run else Some w) xs ≡ None → ⊥
+    at None f g e = f e
+    at (Some k) f g e = g e
+
+-- where no run wrote, the committed value stands
+pub committed_stands : (c : ℕ) (xs : List Access) → effective_writer xs ≡ None → standing_value c xs ≡ c
+committed_stands c [] e = refl
+committed_stands c (x ∷ xs) e = at x.wrote (committed_stands c xs) (some_wrote x.run xs) e
+  where
+    at : (o : Option ℕ) → (effective_writer xs ≡ None → standing_value c xs ≡ c) → (writer_from (Some x.run) xs ≡ None → ⊥)
+        → writer_from (if is_some o then Some x.run else None) xs ≡ None → standing_value (unwrap_or o c) xs ≡ c
+    at None f g e = f e
+    at (Some k) f g e = absurd (g e)
+
+-- the effective writer is that of what stands behind, where some run wrote there
+writer_later : (w : Option RunNo) (q : RunNo) (xs : List Access) → effective_writer xs ≡ Some q → writer_from w xs ≡ Some q
+writer_later w q [] e = absurd (cc)
+writer_later w q (x ∷ xs) e = at x.wrote (writer_later w q xs) e
+  where
+    at : (o : Option ℕ) → (effective_writer xs ≡ Some q → writer_from w xs ≡ Some q) → writer_from (if is_some o then Some x.run else None) xs ≡ Some q → writer_from (if is_some o then Some x.run else w) xs ≡ Some q
+    at None f e = f e
+    at (Some k) f e = e
+
+-- .. else the one before
+writer_earlier : (w : Option RunNo) (xs : List Access) → effective_writer xs ≡ None → writer_from w xs ≡ w
+writer_earlier w [] e = refl
+writer_earlier w (x ∷ xs) e = at x.wrote (writer_earlier w xs) (some_wrote x.run xs) e
+  where
+    at : (o : Option ℕ) → (effective_writer xs ≡ None → writer_from w xs ≡ w) → (writer_from (Some x.run) xs ≡ None → ⊥) → writer_from (if is_some o then Some x.run else None) xs ≡ None → writer_from (if is_some o then Some x.run else w) xs ≡ w
+    at None f g e = f e
+    at (Some k) f g e = absurd (g e)
+
+has_written : (q : RunNo) (xs : List Access) → effective_writer xs ≡ Some q → has_access q.0 xs ≡ true
+has_written q [] e = absurd (cc)
+has_written q (x ∷ xs) e = at (effective_writer xs) refl (has_written q xs)
+  where
+    own : (o : Option ℕ) → (if is_some o then Some x.run else None) ≡ Some q → is_of q.0 x ≡ true
+    own None h = absurd (cc)
+    own (Some k) h = grind (arith, common_steps)
+
+    either : (a b : Bool) → b ≡ true → (a || b) ≡ true
+    either a b h = grind (arith, common_steps)
+
+    first : (a b : Bool) → a ≡ true → (a || b) ≡ true
+    first a b h = grind (arith, common_steps)
+
+    at : (w : Option RunNo) → effective_writer xs ≡ w → (effective_writer xs ≡ Some q → has_access q.0 xs ≡ true) → (is_of q.0 x || has_access q.0 xs) ≡ true
+    at None h f = first (is_of q.0 x) (has_access q.0 xs) (own x.wrote (sym (writer_earlier (if is_some x.wrote then Some x.run else None) xs h) ∙ e))
+    at (Some p) h f = either (is_of q.0 x) (has_access q.0 xs) (f (h ∙ sym (writer_later (if is_some x.wrote then Some x.run else None) p xs h) ∙ e))
+
+none_behind : (x : Access) (xs : List Access) → AllByRecursion (AreOfTwoRuns x) xs → has_access x.run.0 xs ≡ false
+none_behind x [] h = refl
+none_behind x (y ∷ xs) h = one x y (has_access x.run.0 xs) h.0 (none_behind x xs h.1)
+  where
+    one : (x y : Access) (q : Bool) → AreOfTwoRuns x y → q ≡ false → (is_of x.run.0 y || q) ≡ false
+    one x y q h n = grind (arith, common_steps)
+
+-- the effective writer's own value is the one that stands
+writer_stands : (c : ℕ) (q : RunNo) (xs : List Access) → Pairs AreOfTwoRuns xs → effective_writer xs ≡ Some q → written_by q.0 xs ≡ Some (standing_value c xs)
+unfolding Pairs
+writer_stands c q [] k e = absurd (cc)
+writer_stands c q (x ∷ xs) k e = at (effective_writer xs) refl (writer_stands (unwrap_or x.wrote c) q xs k.1)
+  where
+    first : Option RunNo
+    first = if is_some x.wrote then Some x.run else None
+
+    own : (o : Option ℕ) → (if is_some o then Some x.run else None) ≡ Some q → (is_of q.0 x ≡ true) × (o ≡ Some (unwrap_or o c))
+    own None h = absurd (cc)
+    own (Some v) h = (grind (arith, common_steps), refl)
+
+    here : (b : Bool) → b ≡ true → option_and_then (λ (a : Access). a.wrote) (if b then Some x else access_of q.0 xs) ≡ x.wrote
+    here true h = refl
+    here false h = absurd (cc)
+
+    later : (b : Bool) → b ≡ false → option_and_then (λ (a : Access). a.wrote) (if b then Some x else access_of q.0 xs) ≡ written_by q.0 xs
+    later true h = absurd (cc)
+    later false h = refl
+
+    other : has_access q.0 xs ≡ true → is_of q.0 x ≡ false
+    other h = split (is_of q.0 x) refl
+      where
+        split : (b : Bool) → is_of q.0 x ≡ b → is_of q.0 x ≡ false
+        split true f = absurd (two (has_access q.0 xs) h (subst (λ n. has_access n xs ≡ false) (same f) (none_behind x xs k.0)))
+          where
+            same : is_of q.0 x ≡ true → x.run.0 ≡ q.0
+            same f = grind (arith, common_steps)
+
+            two : (b : Bool) → b ≡ true → b ≡ false → ⊥
+            two b s t = cc
+        split false f = f
+
+    at : (w : Option RunNo) → effective_writer xs ≡ w → (effective_writer xs ≡ Some q → written_by q.0 xs ≡ Some (standing_value (unwrap_or x.wrote c) xs)) → written_by q.0 (x ∷ xs) ≡ Some (standing_value (unwrap_or x.wrote c) xs)
+    at None h f =
+        let o = own x.wrote (sym (writer_earlier first xs h) ∙ e) in
+        here (is_of q.0 x) o.0 ∙ o.1 ∙ ap (λ v. Some v) (sym (committed_stands (unwrap_or x.wrote c) xs h))
+    at (Some p) h f =
+        let g : effective_writer xs ≡ Some q = h ∙ sym (writer_later first p xs h) ∙ e in
+        later (is_of q.0 x) (other (has_written q xs g)) ∙ f g
+
+pub effective_stands : (c : ℕ) (q : RunNo) (xs : List Access) → IsDisciplined xs → effective_writer xs ≡ Some q → written_by q.0 xs ≡ Some (standing_value c xs)
+effective_stands c q xs k e = writer_stands c q xs (pairs_from_all AreOfTwoRuns xs k.one_each) e

@@ -1,0 +1,19 @@
+use Rattle.lineage_table.proofs.lineages.Lineage.remove.Goals as goal
+use Rattle.lineage_table.proofs.Keeping.{has_place, nothing_removed, removed_state}
+use Rattle.std.proofs.Common.{ap, arith, sym, ◌∙◌}
+use Rattle.std.specs.Prelude.{is_some}
+
+pub returns-in-None-clause-found : goal.returns-in-None-clause-found
+returns-in-None-clause-found c = sym (has_place c.args.r.0 c.args.self.now.accesses ∙ ap is_some (sym c.place_of.ensures ∙ c.in-None.is))
+
+pub returns-in-None-clause-left : goal.returns-in-None-clause-left
+returns-in-None-clause-left c = nothing_removed c.args.self.now c.args.r.0 (sym c.place_of.ensures ∙ c.in-None.is)
+
+pub returns-in-Some-clause-found : goal.returns-in-Some-clause-found
+returns-in-Some-clause-found c = sym (has_place c.args.r.0 c.args.self.now.accesses ∙ ap is_some (sym c.place_of.ensures ∙ c.in-Some.is))
+
+pub returns-in-Some-clause-left : goal.returns-in-Some-clause-left
+returns-in-Some-clause-left c =
+    let place = sym c.place_of.ensures ∙ c.in-Some.is in
+    removed_state _ c.args.self.now c.args.r.0 c.in-Some.at _ c.remove.result c.remove.new.self.items c.self.view_is c.self.invariant place c.remove.ensures.items
+    (omega (arith, c.remove.ensures.len, c.remove.ensures.capacity))

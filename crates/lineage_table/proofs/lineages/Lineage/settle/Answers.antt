@@ -1,0 +1,21 @@
+use Rattle.lineage_table.proofs.lineages.Lineage.settle.Goals as goal
+use Rattle.lineage_table.proofs.Keeping.{drop_keeps, found_by_value, settled_state, wrote_there}
+use Rattle.lineage_table.specs.Accesses.{IsDisciplined}
+use Rattle.std.proofs.lemmas.List.{length-drop}
+use Rattle.std.proofs.Common.{ap, arith, drop, length, subst, ◌≡◌, sym, ◌+◌, ◌∙◌}
+
+pub place-at-requires : goal.place-at-requires
+place-at-requires c = found_by_value c.args.r.0 c.args.self.now.accesses c.requires.wrote
+
+pub unwrap-self-inside-requires : goal.unwrap-self-inside-requires
+unwrap-self-inside-requires c = wrote_there _ c.args.self.now c.args.r.0 c.place-at.result c.index.result.now c.self.view_is c.place-at.ensures c.index.ensures c.requires.wrote
+
+pub invariant_of-self : goal.invariant_of-self
+invariant_of-self c = subst IsDisciplined (sym (c.drop-drain.ensures.items ∙ c.drain.ensures.kept)) (drop_keeps c.self.inside.accesses.items (c.place-at.result + 1) c.self.invariant)
+
+pub returns : goal.returns
+returns c =
+    let left : c.drop-drain.new.self.0.items ≡ drop (c.place-at.result + 1) c.self.inside.accesses.items = c.drop-drain.ensures.items ∙ c.drain.ensures.kept in
+    settled_state _ c.args.self.now c.args.r.0 c.place-at.result _ c.unwrap-self-inside.result c.index.result.now c.drop-drain.new.self.0.items c.self.view_is c.place-at.ensures c.index.ensures c.unwrap-self-inside.ensures
+    left
+    (omega (arith, c.drop-drain.ensures.capacity, c.drain.ensures.capacity, c.self.inside.accesses.ok.0, c.self.inside.accesses.ok.1, c.drop-drain.new.self.0.ok.0, ap length left, length-drop (c.place-at.result + 1) c.self.inside.accesses.items))

@@ -1,0 +1,87 @@
+-- The lineage of a device, what each call makes of it, and the lineages of a home.
+use Rattle.command_rules.specs.Rosters.{Run, is_on}
+use Rattle.home_types.specs.HomeStates.{stand_at}
+use Rattle.home_types.specs.declared.commands.View.{View}
+use Rattle.home_types.specs.declared.numbers.RunNo.{RunNo}
+use Rattle.home_types.specs.declared.worlds.Stand.{Stand}
+use Rattle.lineage_table.specs.Accesses.{behind, put_before, with_change, without, written_by}
+use Rattle.lineage_table.specs.declared.accesses.Access.{Access}
+use Rattle.lineage_table.specs.declared.accesses.Status.TheVariants.{Acquired, Released}
+use Rattle.std.specs.List.{list_any}
+use Rattle.std.specs.Prelude.{Bool, List, Option, Some, [], count_by, false, length, slice_index_or, slice_set, unwrap_or, ℕ, ◌+◌, ◌-◌, ◌<◌, ◌≡◌, ◌≤◌}
+
+-- a device's committed value, its accesses in line order, how many more it takes, and whether it is counted up
+pub record LineageState : Type 0 where
+  pub committed : ℕ
+  pub accesses : List Access
+  pub room : ℕ
+  pub up : Bool
+
+-- One lineage after a call
+
+-- an access is put into its place, and takes room
+abbrev pub scheduled : Option RunNo → Access → LineageState → LineageState
+scheduled before access s = record s { accesses = put_before before access s.accesses; room = s.room - 1 }
+
+-- the run touches the device, and sees it so
+abbrev pub acquired : ℕ → View → LineageState → LineageState
+acquired r view s = record s { accesses = with_change r (λ x. record x { status = Acquired; view = Some view }) s.accesses }
+
+-- the run wrote the value
+abbrev pub written : ℕ → ℕ → LineageState → LineageState
+written r v s = record s { accesses = with_change r (λ x. record x { wrote = Some v }) s.accesses }
+
+-- the run is done with the device
+abbrev pub released : ℕ → LineageState → LineageState
+released r s = record s { accesses = with_change r (λ x. record x { status = Released }) s.accesses }
+
+-- only these of its accesses are left; each of the others leaves its room
+abbrev pub with_left : List Access → LineageState → LineageState
+with_left accesses s = record s { accesses = accesses; room = s.room + (length s.accesses - length accesses) }
+
+-- the access of the run is gone
+abbrev pub removed : ℕ → LineageState → LineageState
+removed r s = with_left (without r s.accesses) s
+
+-- the run's value is committed: its access and those before it are gone
+abbrev pub settled : ℕ → LineageState → LineageState
+settled r s = record (with_left (behind r s.accesses) s) { committed = unwrap_or (written_by r s.accesses) s.committed }
+
+abbrev pub with_committed : ℕ → LineageState → LineageState
+with_committed v s = record s { committed = v }
+
+abbrev pub counted_up : Bool → LineageState → LineageState
+counted_up up s = record s { up = up }
+
+-- The lineages of a home
+
+-- the lineage of a device that is none of the home
+abbrev pub no_lineage : LineageState
+no_lineage = record { committed = 0; accesses = []; room = 0; up = false }
+
+abbrev pub lineage_at : List LineageState → ℕ → LineageState
+lineage_at table d = slice_index_or table d no_lineage
+
+-- the accesses to the device
+abbrev pub accesses_at : List LineageState → ℕ → List Access
+accesses_at table d = (lineage_at table d).accesses
+
+-- the table with this change to the lineage of the device
+abbrev pub with_lineage : List LineageState → ℕ → (LineageState → LineageState) → List LineageState
+with_lineage table d change = slice_set table d (change (lineage_at table d))
+
+-- how many runs have the device in their footprint
+abbrev pub runs_on : List Run → ℕ → ℕ
+runs_on runs d = count_by (λ run. list_any (is_on d) run.commands) runs
+
+-- a lineage as a window opens: nothing but what the device has, with room for so many accesses
+pub record IsNew (stand : Stand) (runs : ℕ) (s : LineageState) : Type 0 where
+  pub committed : s.committed ≡ stand.value
+  pub up : s.up ≡ stand.up
+  pub none : s.accesses ≡ []
+  pub room : runs ≤ s.room
+
+-- each device of the home has a new lineage, with room for the runs that have it in their footprint
+pub record IsOpened (runs : List Run) (home : List Stand) (table : List LineageState) : Type 0 where
+  pub devices : length table ≡ length home
+  pub each : (d : ℕ) → d < length home → IsNew (stand_at home d) (runs_on runs d) (lineage_at table d)

@@ -1,0 +1,218 @@
+ghost use Rattle.std.specs.Prelude.{◌≡◌, ◌<◌, ◌≤◌, [], false, IfOk, IsSome, IsTrue, None, Some, not, option_map, position};
+ghost use Rattle.std.specs.Option.{ForSome};
+ghost use Rattle.lineage_table.specs.Accesses.{IsDisciplined, access_of, before, effective_writer, has_access, is_of, place_before, some_acquired, some_scheduled, standing_value, status_of, written_by};
+ghost use Rattle.lineage_table.specs.Lineages.{IsNew, acquired, counted_up, released, removed, scheduled, settled, with_committed, written};
+
+use crate::accesses::{Access, Status};
+use home_types::{NoMemory, RunNo, Stand, Value, View};
+use std::alloc::Global;
+use std::marker::Model;
+
+/// The lineage of one device: its committed value, its accesses in line order, and whether it is counted up.
+///
+/// Contracts see beside them how many more accesses it takes. Only `open` takes memory.
+#[derive(Drop)]
+pub struct Lineage {
+    committed: Value,
+    accesses: Vec<Access>,
+    up: bool,
+}
+
+impl Model for Lineage {
+    ghost use Rattle.std.specs.Prelude.{◌-◌, vec_capacity, vec_len};
+    ghost use Rattle.lineage_table.specs.Accesses.{IsDisciplined};
+    ghost use Rattle.lineage_table.specs.Lineages.{LineageState};
+
+    ghost Value = { LineageState };
+
+    ghost view = { λ l. record { committed = l.committed; accesses = l.accesses.items; room = vec_capacity l.accesses - vec_len l.accesses; up = l.up } };
+
+    ghost invariant = { λ l. IsDisciplined l.accesses.items };
+}
+
+impl Lineage {
+    /// Opens the lineage of a device that stands so, with room for `runs` accesses.
+    pub fn open(alloc: Global, stand: Stand, runs: usize) -> Result<Lineage, NoMemory>
+        ensures { IfOk result (IsNew stand runs) }
+    {
+        let Ok(accesses) = Vec::with_capacity(alloc, runs) else {
+            return Err(NoMemory);
+        };
+        Ok(Lineage {
+            committed: stand.value,
+            accesses,
+            up: stand.up,
+        })
+    }
+
+    /// Puts a scheduled access before that of this run, last where none is named.
+    pub fn schedule(&mut self, before: Option<RunNo>, access: Access)
+        requires scheduled { access.status ≡ Status.Scheduled }
+        requires new { has_access access.run.0 self.old.accesses ≡ false }
+        requires room { 0 < self.old.room }
+        requires before { ForSome before (λ r. status_of r.0 self.old.accesses ≡ Some Status.Scheduled) }
+        ensures { self.new ≡ scheduled before access self.old }
+    {
+        let at = self.place_before(before);
+        match self.accesses.insert(at, access) {
+            Ok(()) => {}
+            Err(_) => unreachable!(),
+        }
+    }
+
+    /// The run touches the device, and sees it so.
+    pub fn acquire(&mut self, r: RunNo, view: View)
+        requires scheduled { status_of r.0 self.old.accesses ≡ Some Status.Scheduled }
+        requires none_acquired { some_acquired self.old.accesses ≡ false }
+        requires first { some_scheduled (before r.0 self.old.accesses) ≡ false }
+        ensures { self.new ≡ acquired r.0 view self.old }
+    {
+        let at = self.place(r);
+        self.accesses[at] = Access {
+            status: Status::Acquired,
+            view: Some(view),
+            ..self.accesses[at]
+        };
+    }
+
+    /// The run wrote the value.
+    pub fn note_write(&mut self, r: RunNo, v: Value)
+        requires acquired { status_of r.0 self.old.accesses ≡ Some Status.Acquired }
+        ensures { self.new ≡ written r.0 v self.old }
+    {
+        let at = self.place(r);
+        self.accesses[at] = Access {
+            wrote: Some(v),
+            ..self.accesses[at]
+        };
+    }
+
+    /// The run is done with the device.
+    pub fn release(&mut self, r: RunNo)
+        requires acquired { status_of r.0 self.old.accesses ≡ Some Status.Acquired }
+        ensures { self.new ≡ released r.0 self.old }
+    {
+        let at = self.place(r);
+        self.accesses[at] = Access {
+            status: Status::Released,
+            ..self.accesses[at]
+        };
+    }
+
+    /// Takes the access of the run out. Answers false where it has none.
+    pub fn remove(&mut self, r: RunNo) -> bool
+        ensures found { result ≡ has_access r.0 self.old.accesses }
+        ensures left { self.new ≡ removed r.0 self.old }
+    {
+        match self.place_of(r) {
+            Some(at) => {
+                self.accesses.remove(at);
+                true
+            }
+            None => false,
+        }
+    }
+
+    /// Commits the value that the run wrote: its access and those before it leave.
+    pub fn settle(&mut self, r: RunNo)
+        requires wrote { IsSome (written_by r.0 self.old.accesses) }
+        ensures { self.new ≡ settled r.0 self.old }
+    {
+        let at = self.place(r);
+        self.committed = self.accesses[at].wrote.unwrap();
+        self.accesses.drain(..=at);
+    }
+
+    /// Sets the committed value. There are no accesses.
+    pub fn set_committed(&mut self, v: Value)
+        requires none { self.old.accesses ≡ [] }
+        ensures { self.new ≡ with_committed v self.old }
+    {
+        self.committed = v;
+    }
+
+    /// Sets whether the device is counted up.
+    pub fn set_up(&mut self, up: bool)
+        ensures { self.new ≡ counted_up up self.old }
+    {
+        self.up = up;
+    }
+
+    /// Whether the device is counted up.
+    pub fn is_up(&self) -> bool
+        ensures { result ≡ self.now.up }
+    {
+        self.up
+    }
+
+    /// How many more accesses it takes.
+    pub fn room(&self) -> u64
+        ensures { result ≡ self.now.room }
+    {
+        (self.accesses.capacity() - self.accesses.len()) as u64
+    }
+
+    /// The accesses, in line order.
+    pub fn accesses(&self) -> &[Access]
+        ensures accesses { result.now ≡ self.now.accesses }
+        ensures disciplined { IsDisciplined self.now.accesses }
+    {
+        self.accesses.as_slice()
+    }
+
+    /// The access of the run, where it has one.
+    pub fn access(&self, r: RunNo) -> Option<Access>
+        ensures { result ≡ access_of r.0 self.now.accesses }
+    {
+        let at = self.place_of(r)?;
+        Some(self.accesses[at])
+    }
+
+    /// The value that stands: the last one written, else the committed one.
+    pub fn stand(&self) -> Value
+        ensures { result ≡ standing_value self.now.committed self.now.accesses }
+    {
+        self.accesses.iter().fold(
+            self.committed,
+            |value, access| access.wrote.unwrap_or(value),
+        )
+    }
+
+    /// The run of the last access that has a written value.
+    pub fn effective_writer(&self) -> Option<RunNo>
+        ensures { result ≡ effective_writer self.now.accesses }
+    {
+        self.accesses
+            .iter()
+            .fold(None, |writer, access| match access.wrote {
+                Some(_) => Some(access.run),
+                None => writer,
+            })
+    }
+
+    /// The place of an access that will stand before that of this run, last where none is named.
+    fn place_before(&self, before: Option<RunNo>) -> usize
+        requires { ForSome before (λ r. status_of r.0 self.now.accesses ≡ Some Status.Scheduled) }
+        ensures { place_before before self.now.accesses ≡ Some result }
+    {
+        match before {
+            Some(r) => self.place(r),
+            None => self.accesses.len(),
+        }
+    }
+
+    /// The place of the run's access, counted from 0. It has one.
+    fn place(&self, r: RunNo) -> usize
+        requires { IsTrue (has_access r.0 self.now.accesses) }
+        ensures { position (is_of r.0) self.now.accesses ≡ Some result }
+    {
+        self.place_of(r).unwrap()
+    }
+
+    /// The place of the run's access, counted from 0, where it has one.
+    fn place_of(&self, r: RunNo) -> Option<usize>
+        ensures { result ≡ position (is_of r.0) self.now.accesses }
+    {
+        self.accesses.iter().position(|access| access.run == r)
+    }
+}

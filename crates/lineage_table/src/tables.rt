@@ -1,0 +1,201 @@
+ghost use Rattle.std.specs.Prelude.{◌≡◌, ◌<◌, ◌≤◌, ◌^◌, [], false, IfOk, IsSome, Some, length};
+ghost use Rattle.std.specs.Option.{ForSome};
+ghost use Rattle.command_rules.specs.Rosters.{is_on, runs_of};
+ghost use Rattle.lineage_table.specs.Accesses.{IsDisciplined, access_of, before, effective_writer, has_access, some_acquired, some_scheduled, standing_value, status_of, written_by};
+ghost use Rattle.lineage_table.specs.Lineages.{IsOpened, accesses_at, acquired, counted_up, lineage_at, released, removed, runs_on, scheduled, settled, with_committed, with_lineage, written};
+
+use crate::accesses::{Access, Status};
+use crate::lineages::Lineage;
+use command_rules::Roster;
+use command_rules::footprints::has_command_on;
+use home_types::{DeviceNo, NoMemory, RunNo, Value, View, World};
+use std::alloc::Global;
+use std::marker::Model;
+
+/// The lineages of a home's devices while a window is open, each in the place of its device's number.
+///
+/// A device's lineage has its committed value, its accesses in line order and whether it is counted up. Contracts see
+/// beside these how many more accesses it takes. Only `open` takes memory.
+#[derive(Drop)]
+pub struct Table {
+    lineages: Vec<Lineage>,
+}
+
+impl Model for Table {
+    ghost use Rattle.std.specs.Prelude.{◌≤◌, ◌^◌, List, length};
+    ghost use Rattle.lineage_table.specs.Lineages.{LineageState};
+
+    ghost Value = { List LineageState };
+
+    ghost view = { λ t. t.lineages.items };
+
+    ghost invariant = { λ t. length t.lineages.items ≤ 2 ^ 16 };
+}
+
+impl Table {
+    /// Opens the table of a home, with no accesses, and room for those of the roster's runs.
+    ///
+    /// Answers `NoMemory` where there is none to be had.
+    pub fn open(alloc: Global, world: &World, roster: &Roster) -> Result<Table, NoMemory>
+        requires few { length world.now.devices.items ≤ 2 ^ 16 }
+        ensures { IfOk result (IsOpened (runs_of roster.now) world.now.devices.items) }
+    {
+        let stands = world.devices.as_slice();
+        let Ok(mut lineages) = Vec::with_capacity(alloc, stands.len()) else {
+            return Err(NoMemory);
+        };
+        'devices: for d in 0..stands.len() {
+            let runs = count_runs_on(roster, DeviceNo(d as u16));
+            lineages.push_reserved(Lineage::open(alloc, stands[d], runs)?);
+        }
+        Ok(Table { lineages })
+    }
+
+    /// Puts the scheduled access of a run before that of the run `before`, or last. Takes no memory.
+    ///
+    /// The run has no access on the device yet, the run `before` has a scheduled one, and there is room.
+    pub fn schedule(&mut self, d: DeviceNo, before: Option<RunNo>, access: Access)
+        requires device { d.0 < length self.old }
+        requires scheduled { access.status ≡ Status.Scheduled }
+        requires new { has_access access.run.0 (accesses_at self.old d.0) ≡ false }
+        requires room { 0 < (lineage_at self.old d.0).room }
+        requires before { ForSome before (λ r. status_of r.0 (accesses_at self.old d.0) ≡ Some Status.Scheduled) }
+        ensures { self.new ≡ with_lineage self.old d.0 (scheduled before access) }
+    {
+        self.lineages[d.0 as usize].schedule(before, access);
+    }
+
+    /// Marks that the run touches the device, and sees it so.
+    ///
+    /// Its access is scheduled, none is acquired, and no scheduled one stands before it.
+    pub fn acquire(&mut self, d: DeviceNo, r: RunNo, view: View)
+        requires device { d.0 < length self.old }
+        requires scheduled { status_of r.0 (accesses_at self.old d.0) ≡ Some Status.Scheduled }
+        requires none_acquired { some_acquired (accesses_at self.old d.0) ≡ false }
+        requires first { some_scheduled (before r.0 (accesses_at self.old d.0)) ≡ false }
+        ensures { self.new ≡ with_lineage self.old d.0 (acquired r.0 view) }
+    {
+        self.lineages[d.0 as usize].acquire(r, view);
+    }
+
+    /// Marks that the run, whose access is acquired, wrote the value.
+    pub fn note_write(&mut self, d: DeviceNo, r: RunNo, v: Value)
+        requires device { d.0 < length self.old }
+        requires acquired { status_of r.0 (accesses_at self.old d.0) ≡ Some Status.Acquired }
+        ensures { self.new ≡ with_lineage self.old d.0 (written r.0 v) }
+    {
+        self.lineages[d.0 as usize].note_write(r, v);
+    }
+
+    /// Marks that the run, whose access is acquired, is done with the device.
+    pub fn release(&mut self, d: DeviceNo, r: RunNo)
+        requires device { d.0 < length self.old }
+        requires acquired { status_of r.0 (accesses_at self.old d.0) ≡ Some Status.Acquired }
+        ensures { self.new ≡ with_lineage self.old d.0 (released r.0) }
+    {
+        self.lineages[d.0 as usize].release(r);
+    }
+
+    /// Takes the access of the run out. Answers false where it has none.
+    pub fn remove(&mut self, d: DeviceNo, r: RunNo) -> bool
+        requires { d.0 < length self.old }
+        ensures found { result ≡ has_access r.0 (accesses_at self.old d.0) }
+        ensures left { self.new ≡ with_lineage self.old d.0 (removed r.0) }
+    {
+        self.lineages[d.0 as usize].remove(r)
+    }
+
+    /// The access of the run, where it has one.
+    pub fn access(&self, d: DeviceNo, r: RunNo) -> Option<Access>
+        requires { d.0 < length self.now }
+        ensures { result ≡ access_of r.0 (accesses_at self.now d.0) }
+    {
+        self.lineages[d.0 as usize].access(r)
+    }
+
+    /// The accesses to the device, in line order.
+    pub fn accesses(&self, d: DeviceNo) -> &[Access]
+        requires { d.0 < length self.now }
+        ensures accesses { result.now ≡ accesses_at self.now d.0 }
+        ensures disciplined { IsDisciplined (accesses_at self.now d.0) }
+    {
+        self.lineages[d.0 as usize].accesses()
+    }
+
+    /// How many more accesses the device takes.
+    pub fn room(&self, d: DeviceNo) -> u64
+        requires { d.0 < length self.now }
+        ensures { result ≡ (lineage_at self.now d.0).room }
+    {
+        self.lineages[d.0 as usize].room()
+    }
+
+    /// The value that stands on the device: the last one written, else the committed one.
+    pub fn stand(&self, d: DeviceNo) -> Value
+        requires { d.0 < length self.now }
+        ensures { result ≡ standing_value (lineage_at self.now d.0).committed (accesses_at self.now d.0) }
+    {
+        self.lineages[d.0 as usize].stand()
+    }
+
+    /// The live run that wrote the value that stands. `None` where no access has a written value.
+    pub fn effective_writer(&self, d: DeviceNo) -> Option<RunNo>
+        requires { d.0 < length self.now }
+        ensures { result ≡ effective_writer (accesses_at self.now d.0) }
+    {
+        self.lineages[d.0 as usize].effective_writer()
+    }
+
+    /// Sets whether the device is counted up.
+    pub fn set_up(&mut self, d: DeviceNo, up: bool)
+        requires { d.0 < length self.old }
+        ensures { self.new ≡ with_lineage self.old d.0 (counted_up up) }
+    {
+        self.lineages[d.0 as usize].set_up(up);
+    }
+
+    /// Whether the device is counted up.
+    pub fn is_up(&self, d: DeviceNo) -> bool
+        requires { d.0 < length self.now }
+        ensures { result ≡ (lineage_at self.now d.0).up }
+    {
+        self.lineages[d.0 as usize].is_up()
+    }
+
+    /// Commits the value that the run wrote. Its access and those before it leave.
+    pub fn settle(&mut self, d: DeviceNo, r: RunNo)
+        requires device { d.0 < length self.old }
+        requires wrote { IsSome (written_by r.0 (accesses_at self.old d.0)) }
+        ensures { self.new ≡ with_lineage self.old d.0 (settled r.0) }
+    {
+        self.lineages[d.0 as usize].settle(r);
+    }
+
+    /// Sets the committed value of a device that has no accesses, as under the weak model.
+    pub fn set_committed(&mut self, d: DeviceNo, v: Value)
+        requires device { d.0 < length self.old }
+        requires none { accesses_at self.old d.0 ≡ [] }
+        ensures { self.new ≡ with_lineage self.old d.0 (with_committed v) }
+    {
+        self.lineages[d.0 as usize].set_committed(v);
+    }
+
+    /// The number of devices.
+    pub fn devices(&self) -> u32
+        ensures { result ≡ length self.now }
+    {
+        self.lineages.len() as u32
+    }
+}
+
+/// How many runs of the roster have the device in their footprint.
+fn count_runs_on(roster: &Roster, d: DeviceNo) -> usize
+    ensures { result ≡ runs_on (runs_of roster.now) d.0 }
+{
+    roster
+        .runs
+        .as_slice()
+        .iter()
+        .filter(|run| has_command_on(run.routine.commands.as_slice(), d))
+        .count()
+}
