@@ -8,7 +8,7 @@ use Rattle.routine_reader.specs.Rosters.{routine_at}
 use Rattle.routine_reader.specs.declared.scripts.RunText.{RunText}
 use Rattle.routine_reader.specs.declared.scripts.Script.{Script}
 use Rattle.routine_reader.specs.declared.scripts.WindowText.{WindowText}
-use Rattle.std.proofs.Common.{Bool, List, None, Option, Some, [], arith, false, is_none, length, nat_le, refl, rules, subst, suc, sym, true, zero, ℕ, ◌&&◌, ◌==◌, ◌≡◌, ◌≤◌, ◌∷◌}
+use Rattle.std.proofs.Common.{Bool, List, None, Option, Some, [], false, is_none, length, nat_le, refl, rules, subst, suc, true, zero, ℕ, ◌&&◌, ◌==◌, ◌≡◌, ◌≤◌, ◌∷◌}
 use Rattle.std.specs.List.{list_all}
 use Rattle.std.specs.Prelude.{slice_get}
 
@@ -45,43 +45,42 @@ one_set : (commands : List Command) → sets_one commands ≡ true → (v : ℕ)
 one_set [] h = absurd (cc)
 one_set (command ∷ other ∷ commands) h = absurd (cc)
 one_set (command ∷ []) h =
-    let must = and_true command.must (command.device.0 == 0 && is_set command.job) h in
-    let rest = and_true (command.device.0 == 0) (is_set command.job) must.1 in
-    let set = made command.device.0 command.job command.must command.ms command.takes must.0 (equal_true command.device.0 0 rest.0) rest.1 in
+    let all = and_true (command.must && command.device.0 == 0) (is_set command.job) h in
+    let first = and_true command.must (command.device.0 == 0) all.0 in
+    let set = made command.device.0 command.job command.must command.ms command.takes first.0 (equal_true command.device.0 0 first.1) all.1 in
     let same : ◌≡◌ {A = Command} command (set_command set.0 command.ms command.takes) = set.1 in
     (set.0, command.ms, command.takes, cc)
 
 run_sets : (script : Script) (run : RunText) → sets_once script run ≡ true → (v : ℕ) × SetsOnce script run v
 run_sets script run h =
-    let alone = and_true (is_none run.follows) (length script.devices.items == 1 && sets_one (routine_at script run.routine)) h in
-    let rest = and_true (length script.devices.items == 1) (sets_one (routine_at script run.routine)) alone.1 in
-    let set = one_set (routine_at script run.routine) rest.1 in (
+    let all = and_true (is_none run.follows && length script.devices.items == 1) (sets_one (routine_at script run.routine)) h in
+    let alone = and_true (is_none run.follows) (length script.devices.items == 1) all.0 in
+    let set = one_set (routine_at script run.routine) all.1 in (
       set.0,
       record {
         ms = set.1;
         takes = set.2;
         follows = none_followed run.follows alone.0;
         routine = set.3;
-        home = equal_true (length script.devices.items) 1 rest.0;
+        home = equal_true (length script.devices.items) 1 alone.1;
       },
     )
 
--- this stage plays a script that passes
+-- each window of a script that passes has few runs, which set once
+runs_pass : (script : Script) → is_small script ≡ true → (k : ℕ) (window : WindowText) → slice_get script.windows.items k ≡ Some window
+    → (nat_le (length window.runs.items) 1 ≡ true) × (list_all (sets_once script) window.runs.items ≡ true)
+runs_pass script h k window at =
+    let all = and_true (nat_le (length script.devices.items) 1 && nat_le (length script.windows.items) 1) (list_all (has_small_runs script) script.windows.items) h in
+    and_true (nat_le (length window.runs.items) 1) (list_all (sets_once script) window.runs.items) (all_at (has_small_runs script) script.windows.items all.1 k window at)
+
+-- a script that passes is small
 pub passes_is_small : (script : Script) → is_small script ≡ true → IsSmall script
 passes_is_small script h =
-    let devices = and_true (nat_le (length script.devices.items) 1) (nat_le (length script.windows.items) 1 && list_all (has_small_runs script) script.windows.items) h in
-    let windows = and_true (nat_le (length script.windows.items) 1) (list_all (has_small_runs script) script.windows.items) devices.1 in
+    let all = and_true (nat_le (length script.devices.items) 1 && nat_le (length script.windows.items) 1) (list_all (has_small_runs script) script.windows.items) h in
+    let sizes = and_true (nat_le (length script.devices.items) 1) (nat_le (length script.windows.items) 1) all.0 in
     record {
-      devices = most_true (length script.devices.items) 1 devices.0;
-      windows = most_true (length script.windows.items) 1 windows.0;
-      runs = λ k window at. most_true (length window.runs.items) 1 (runs_of k window at).0;
-      sets = λ k i window run window_at run_at. run_sets script run (all_at (sets_once script) window.runs.items (runs_of k window window_at).1 i run run_at);
+      devices = most_true (length script.devices.items) 1 sizes.0;
+      windows = most_true (length script.windows.items) 1 sizes.1;
+      runs = λ k window at. most_true (length window.runs.items) 1 (runs_pass script h k window at).0;
+      sets = λ k i window run window_at run_at. run_sets script run (all_at (sets_once script) window.runs.items (runs_pass script h k window window_at).1 i run run_at);
     }
-  where
-    runs_of : (k : ℕ) (window : WindowText) → slice_get script.windows.items k ≡ Some window
-        → (nat_le (length window.runs.items) 1 ≡ true) × (list_all (sets_once script) window.runs.items ≡ true)
-    runs_of k window at =
-        let devices = and_true (nat_le (length script.devices.items) 1) (nat_le (length script.windows.items) 1 && list_all (has_small_runs script) script.windows.items) h in
-        let windows = and_true (nat_le (length script.windows.items) 1) (list_all (has_small_runs script) script.windows.items) devices.1 in
-        and_true (nat_le (length window.runs.items) 1) (list_all (sets_once script) window.runs.items)
-        (all_at (has_small_runs script) script.windows.items windows.1 k window at)
