@@ -4,14 +4,15 @@ use Rattle.day_report.specs.Days.{day_text}
 use Rattle.history_book.specs.declared.records.WindowRecord.{WindowRecord}
 use Rattle.home_types.specs.Listed.{Listed}
 use Rattle.hub_core.specs.LegalDays.{IsLegalDay}
-use Rattle.hub_main.specs.Stage.{stage_mode}
-use Rattle.hub_main.specs.declared.faults.Fault.TheVariants.{Check, Memory, Read, Script as Refuses, Words, Write}
+use Rattle.hub_main.specs.Stage.{is_small, stage_mode}
+use Rattle.hub_main.specs.declared.faults.Fault.TheVariants.{Check, Later, Memory, Read, Script as Refuses, Words, Write}
 use Rattle.hub_main.specs.declared.faults.Fault.{Fault}
 use Rattle.hub_main.specs.declared.finishes.Day.{Day}
+use Rattle.routine_reader.specs.Readings.{script_reading}
 use Rattle.routine_reader.specs.Scripts.{plain_script}
-use Rattle.routine_reader.specs.Small.{small_script_reading}
-use Rattle.routine_reader.specs.Spots.{is_memory}
+use Rattle.routine_reader.specs.Spots.{is_memory, top}
 use Rattle.routine_reader.specs.declared.faults.ReadFault.{ReadFault}
+use Rattle.routine_reader.specs.declared.faults.Spot.{Spot}
 use Rattle.routine_reader.specs.declared.scripts.Script.{Script}
 use Rattle.std.specs.Io.KnownBytes.{Appends, IsAtEnd, Keeps}
 use Rattle.std.specs.Prelude.{Bool, Err, IfSome, List, None, Ok, Option, Result, Some, false, true, ℕ, ◌<◌, ◌≡◌}
@@ -39,14 +40,21 @@ written held holds faults faults_after = record { held = held; holds = holds; fa
 -- the source gave all of its bytes without a fault, and the script is their reading
 pub record IsRead (source : Reads) (script : Script) : Type 0 where
   pub ended : IsAtEnd source.rest
-  pub reading : IfSome source.left (λ bytes. small_script_reading bytes ≡ Ok (plain_script script))
+  pub reading : IfSome source.left (λ bytes. script_reading bytes ≡ Ok (plain_script script))
   pub calm : source.faults_after ≡ source.faults
 
 -- the source gave its bytes without a fault, and their reading is this refusal
 pub record IsRefused (source : Reads) (fault : ReadFault) : Type 0 where
   pub named : is_memory fault ≡ false
-  pub reading : IfSome source.left (λ bytes. small_script_reading bytes ≡ Err fault)
+  pub reading : IfSome source.left (λ bytes. script_reading bytes ≡ Err fault)
   pub calm : source.faults_after ≡ source.faults
+
+-- the source gave its bytes without a fault, and their reading is a script that this stage does not play
+pub record IsLater (source : Reads) (spot : Spot) : Type 0 where
+  pub script : Script
+  pub read : IsRead source script
+  pub large : is_small script ≡ false
+  pub place : spot ≡ top
 
 -- what came of the input
 abbrev pub InputIsRead : Reads → Result Script Fault → Type 0
@@ -57,6 +65,7 @@ InputIsRead source (Err Read) = source.faults < source.faults_after
 InputIsRead source (Err Write) = ⊥
 InputIsRead source (Err Memory) = source.faults_after ≡ source.faults
 InputIsRead source (Err (Check window place name)) = ⊥
+InputIsRead source (Err (Later spot)) = IsLater source spot
 
 -- the record of these windows
 abbrev pub record_text : Script → List WindowRecord → List ℕ
@@ -90,6 +99,7 @@ ReplayEnds tag plan stands turns faults script sink day (Some Read) = ⊥
 ReplayEnds tag plan stands turns faults script sink day (Some Write) = IsWritten AppendsPart tag plan stands turns faults script sink day × (sink.faults < sink.faults_after)
 ReplayEnds tag plan stands turns faults script sink day (Some Memory) = IsUnwritten sink day
 ReplayEnds tag plan stands turns faults script sink day (Some (Check window place name)) = ⊥
+ReplayEnds tag plan stands turns faults script sink day (Some (Later spot)) = ⊥
 
 -- how the call ends, by its fault; the words are taken, or not
 abbrev pub CallEnds : {D : Type 0} → (D → ℕ) → (D → Option (List (ℕ × ℕ))) → (D → ℕ) → (D → ℕ) → (D → ℕ) → Bool → Reads → Writes → Option (Day D) → Option Fault → Type 0
@@ -103,3 +113,4 @@ CallEnds tag plan stands turns faults taken source sink day (Some Write) =
     (taken ≡ true) × (script : Script) × IsRead source script × ReplayEnds tag plan stands turns faults script sink day (Some Write)
 CallEnds tag plan stands turns faults taken source sink day (Some Memory) = (taken ≡ true) × (source.faults_after ≡ source.faults) × IsUnwritten sink day
 CallEnds tag plan stands turns faults taken source sink day (Some (Check window place name)) = ⊥
+CallEnds tag plan stands turns faults taken source sink day (Some (Later spot)) = (taken ≡ true) × IsLater source spot × (day ≡ None) × IsUnwritten sink day

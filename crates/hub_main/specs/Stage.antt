@@ -6,7 +6,8 @@ use Rattle.history_book.specs.declared.entries.Kept.{Kept}
 use Rattle.history_book.specs.declared.records.WindowRecord.{WindowRecord}
 use Rattle.home_types.specs.declared.commands.Answer.TheVariants.{Fine}
 use Rattle.home_types.specs.declared.commands.Command.{Command}
-use Rattle.home_types.specs.declared.commands.Job.TheVariants.{Set}
+use Rattle.home_types.specs.declared.commands.Job.TheVariants.{Check, Load, Set, Store}
+use Rattle.home_types.specs.declared.commands.Job.{Job}
 use Rattle.home_types.specs.declared.items.Item.TheVariants.{Ran}
 use Rattle.home_types.specs.declared.modes.Mode.{Mode}
 use Rattle.home_types.specs.declared.modes.Scheduler.TheVariants.{Fcfs}
@@ -16,7 +17,8 @@ use Rattle.routine_reader.specs.Rosters.{routine_at}
 use Rattle.routine_reader.specs.declared.scripts.RunText.{RunText}
 use Rattle.routine_reader.specs.declared.scripts.Script.{Script}
 use Rattle.routine_reader.specs.declared.scripts.WindowText.{WindowText}
-use Rattle.std.specs.Prelude.{List, None, Some, [], length, slice_get, slice_index_or, true, ℕ, ◌∷◌, ◌≡◌, ◌≤◌}
+use Rattle.std.specs.List.{list_all}
+use Rattle.std.specs.Prelude.{Bool, List, None, Some, [], false, is_none, length, nat_le, slice_get, slice_index_or, true, ℕ, ◌&&◌, ◌==◌, ◌∷◌, ◌≡◌, ◌≤◌}
 
 -- the mode of every window
 abbrev pub stage_mode : Mode
@@ -40,6 +42,32 @@ pub record IsSmall (script : Script) : Type 0 where
   pub windows : length script.windows.items ≤ 1
   pub runs : (k : ℕ) (window : WindowText) → slice_get script.windows.items k ≡ Some window → length window.runs.items ≤ 1
   pub sets : (k i : ℕ) (window : WindowText) (run : RunText) → slice_get script.windows.items k ≡ Some window → slice_get window.runs.items i ≡ Some run → (v : ℕ) × SetsOnce script run v
+
+-- this stage plays the script: these facts, as a test
+
+abbrev pub is_set : Job → Bool
+is_set (Set v) = true
+is_set (Check v) = false
+is_set Load = false
+is_set Store = false
+
+-- one must `set` of the device 0
+abbrev pub sets_one : List Command → Bool
+sets_one [] = false
+sets_one (command ∷ []) = command.must && command.device.0 == 0 && is_set command.job
+sets_one (command ∷ other ∷ commands) = false
+
+abbrev pub sets_once : Script → RunText → Bool
+sets_once script run =
+    is_none run.follows && length script.devices.items == 1 && sets_one (routine_at script run.routine)
+
+abbrev pub has_small_runs : Script → WindowText → Bool
+has_small_runs script window = nat_le (length window.runs.items) 1 && list_all (sets_once script) window.runs.items
+
+abbrev pub is_small : Script → Bool
+is_small script =
+    nat_le (length script.devices.items) 1 && nat_le (length script.windows.items) 1
+    && list_all (has_small_runs script) script.windows.items
 
 -- what a run of one `set` leaves in the history
 abbrev pub set_history : List Kept

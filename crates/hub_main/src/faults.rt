@@ -2,7 +2,7 @@ ghost use Rattle.std.specs.Prelude.{◌≡◌};
 ghost use Rattle.hub_main.specs.Statuses.{fault_status};
 
 use home_types::{DeviceNo, RunNo, Text};
-use routine_reader::ReadFault;
+use routine_reader::{ReadFault, Spot};
 use std::fmt;
 
 /// Why the program ends with another status than 0. docs/FORMATS.md has the texts.
@@ -26,6 +26,8 @@ pub enum Fault {
         /// The name of the device in `place`, empty where there is none.
         name: Text,
     },
+    /// What is asked for here is not built yet.
+    Later(Spot),
 }
 
 /// A place in a record.
@@ -55,6 +57,7 @@ impl Fault {
             Fault::Write => 4,
             Fault::Memory => 5,
             Fault::Check { .. } => 7,
+            Fault::Later(_) => 8,
         }
     }
 }
@@ -73,6 +76,7 @@ impl fmt::Display for Fault {
                 name,
             } => write!(f, "check: window {window} device {}", name.as_str()),
             Fault::Check { window, place, .. } => write!(f, "check: window {window} {place}"),
+            Fault::Later(spot) => write!(f, "later {spot}"),
         }
     }
 }

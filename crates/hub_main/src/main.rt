@@ -6,6 +6,7 @@ mod finishes;
 mod homes;
 mod inputs;
 mod plays;
+mod stages;
 mod stills;
 #[cfg(test)]
 mod tests;

@@ -83,7 +83,7 @@ fn refusals_by_name(rt: HostRuntime) -> Result<(), Fail> {
     let cut = on(r#"{"safehome":1,"dev"#);
     assert!(rt; ends_so(alloc, &cut, 1, "script: not json", "")?);
     assert!(rt; ends_so(alloc, &on("[]"), 1, "script: shape top", "")?);
-    assert!(rt; ends_so(alloc, &on(TWO_WINDOWS), 1, "script: not built top", "")?);
+    assert!(rt; ends_so(alloc, &on(TWO_WINDOWS), 8, "later top", "")?);
     let other_words = Tried {
         model: "xx",
         ..on(ONE_LIGHT)

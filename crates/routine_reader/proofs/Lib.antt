@@ -1,5 +1,12 @@
+pub mod DeviceSound
 pub mod FormLemmas
 pub mod NameLemmas
 pub mod PrefixLemmas
 pub mod ReadingLemmas
-pub mod SoundLemmas
+pub mod RosterLemmas
+pub mod RoutineSound
+pub mod ScriptSound
+pub mod WalkLemmas
+pub mod WalkSound
+pub mod WindowLemmas
+pub mod WindowSound

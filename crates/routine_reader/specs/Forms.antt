@@ -1,11 +1,12 @@
 -- The members of each object of a script, as the value that `serde_json` reads has them.
+use Rattle.routine_reader.specs.Limits.{most_of_32_bits, most_of_64_bits}
 use Rattle.routine_reader.specs.declared.forms.Form.TheVariants.{Command, Day, Device, Routine, Run, Window}
 use Rattle.routine_reader.specs.declared.forms.Form.{Form}
 use Rattle.serde_json.specs.Data.{Data, Items, Members, item, member, no_items, no_members}
 use Rattle.serde_json.specs.Find.{as_array, as_number, as_object, as_str, as_u64, get}
 use Rattle.std.specs.List.{list_all}
 use Rattle.std.specs.Option.{option_map_or}
-use Rattle.std.specs.Prelude.{Bool, List, Option, [], codes, false, is_none, option_and_then, option_map, ℕ, ◌||◌, ◌∷◌}
+use Rattle.std.specs.Prelude.{Bool, List, None, Option, Some, [], codes, false, if◌then◌else◌, is_none, is_some, nat_le, option_and_then, option_map, ℕ, ◌||◌, ◌∷◌}
 use Rattle.std.specs.Str.{bytes_eq}
 
 -- the table of an object has a member of this name
@@ -45,12 +46,38 @@ has_form form value = option_map_or (λ members. list_all (knows form) (names_of
 abbrev pub lacks : List ℕ → Data → Bool
 lacks name value = is_none (get name value)
 
--- the text, the list, the whole number that a member is
-abbrev pub text_at : List ℕ → Data → Option (List ℕ)
-text_at name value = option_and_then as_str (get name value)
+-- the number, where it is at most this
+abbrev pub at_most : ℕ → ℕ → Option ℕ
+at_most most number = if nat_le number most then Some number else None
 
-abbrev pub list_at : List ℕ → Data → Option (List Data)
-list_at name value = option_map list_of (option_and_then as_array (get name value))
+-- a whole number of 64 bits, and one of 32 bits
+abbrev pub long_number_of : Data → Option ℕ
+long_number_of value = option_and_then (at_most most_of_64_bits) (option_and_then as_u64 (as_number value))
 
-abbrev pub number_at : List ℕ → Data → Option ℕ
-number_at name value = option_and_then as_u64 (option_and_then as_number (get name value))
+abbrev pub number_of : Data → Option ℕ
+number_of value = option_and_then (at_most most_of_32_bits) (option_and_then as_u64 (as_number value))
+
+-- a text or a whole number, which may name a state
+abbrev pub is_state : Data → Bool
+is_state value = is_some (as_str value) || is_some (number_of value)
+
+abbrev pub state_of : Data → Option Data
+state_of value = if is_state value then Some value else None
+
+abbrev pub items_in : Data → Option (List Data)
+items_in value = option_map list_of (as_array value)
+
+-- a member that is required, of this type
+abbrev pub needed : {T : Type 0} → (Data → Option T) → List ℕ → Data → Option T
+needed type name value = option_and_then type (get name value)
+
+-- a member of this type, or what stands for it where it is missing
+abbrev pub or_default : {T : Type 0} → (Data → Option T) → T → List ℕ → Data → Option T
+or_default type default name value = option_map_or type (get name value) (Some default)
+
+abbrev pub present : {T : Type 0} → (Data → Option T) → Data → Option (Option T)
+present type value = option_map (λ t. Some t) (type value)
+
+-- a member of this type, or none where it is missing
+abbrev pub if_there : {T : Type 0} → (Data → Option T) → List ℕ → Data → Option (Option T)
+if_there type name value = option_map_or (present type) (get name value) (Some None)

@@ -1,9 +1,14 @@
+pub mod AreRead
+pub mod Commands
+pub mod Devices
 pub mod Forms
 pub mod Limits
 pub mod Names
 pub mod Readings
 pub mod Rosters
+pub mod Routines
 pub mod Scripts
-pub mod Small
 pub mod Sound
 pub mod Spots
+pub mod Walks
+pub mod Windows

@@ -1,8 +1,11 @@
 -- Names of devices, states and routines.
 use Rattle.routine_reader.specs.Limits.{most_characters}
-use Rattle.std.specs.List.{list_all, position}
+use Rattle.routine_reader.specs.declared.faults.ReadFault.TheVariants.{BadName, DoubleName}
+use Rattle.routine_reader.specs.declared.faults.ReadFault.{ReadFault}
+use Rattle.routine_reader.specs.declared.faults.Spot.{Spot}
+use Rattle.std.specs.List.{list_all, list_any, position}
 use Rattle.std.specs.Option.{option_map_or}
-use Rattle.std.specs.Prelude.{Bool, List, Option, false, is_some, length, nat_le, not, slice_get, ℕ, ◌&&◌, ◌==◌, ◌||◌}
+use Rattle.std.specs.Prelude.{Bool, Err, List, Ok, Option, Result, false, if◌then◌else◌, length, nat_le, slice_get, ℕ, ◌&&◌, ◌==◌, ◌||◌}
 use Rattle.std.specs.Str.{bytes_eq}
 
 -- a to z
@@ -29,8 +32,9 @@ abbrev pub place_of : List (List ℕ) → List ℕ → Option ℕ
 place_of names name = position (bytes_eq name) names
 
 abbrev pub is_among : List (List ℕ) → List ℕ → Bool
-is_among names name = is_some (place_of names name)
+is_among names name = list_any (bytes_eq name) names
 
--- a name that is none of the names
-abbrev pub is_new_name : List (List ℕ) → List ℕ → Bool
-is_new_name names name = is_name name && not (is_among names name)
+-- the text, where it is a name and none of the names
+abbrev pub new_name : Spot → List (List ℕ) → List ℕ → Result (List ℕ) ReadFault
+new_name spot names name =
+    if is_name name then (if is_among names name then Err (DoubleName spot) else Ok name) else Err (BadName spot)

@@ -7,14 +7,14 @@ use Rattle.home_types.specs.declared.commands.Job.TheVariants.{Check, Load, Set,
 use Rattle.home_types.specs.declared.commands.Job.{Job}
 use Rattle.home_types.specs.declared.kinds.Kind.TheVariants.{Range, States}
 use Rattle.home_types.specs.declared.kinds.Kind.{Kind}
+use Rattle.routine_reader.specs.Devices.{device_names}
 use Rattle.routine_reader.specs.Limits.{most_commands, most_devices, most_downs, most_ms, most_probes, most_routines, most_runs, most_states, most_turns, most_windows}
 use Rattle.routine_reader.specs.Names.{is_among, is_name}
+use Rattle.routine_reader.specs.Routines.{routine_names}
 use Rattle.routine_reader.specs.Scripts.{PlainDevice, PlainRoutine, PlainScript, PlainWindow}
-use Rattle.routine_reader.specs.Small.{device_names, routine_names}
+use Rattle.routine_reader.specs.Windows.{is_before}
 use Rattle.routine_reader.specs.declared.scripts.RunText.{RunText}
-use Rattle.std.specs.Cmp.Lexicographic.{slice_cmp}
-use Rattle.std.specs.Ordering.{is_lt, nat_cmp}
-use Rattle.std.specs.Prelude.{All, Bool, IfSome, List, Some, [], false, length, map, slice_get, take, true, ℕ, ◌+◌, ◌<◌, ◌^◌, ◌≡◌, ◌≤◌, ◌∷◌}
+use Rattle.std.specs.Prelude.{All, Bool, IfSome, List, Some, [], false, length, map, slice_get, take, true, ℕ, ◌+◌, ◌<◌, ◌^◌, ◌≡◌, ◌≤◌}
 
 abbrev pub IsName : List ℕ → Type 0
 IsName name = is_name name ≡ true
@@ -76,12 +76,8 @@ pub record IsSoundWindow (routines : ℕ) (window : PlainWindow) : Type 0 where
   pub few_runs : length window.runs ≤ most_runs
   pub runs : (k : ℕ) (run : RunText) → slice_get window.runs k ≡ Some run → IsSoundRun routines k run
 
-abbrev pub fields_of : When → List ℕ
-fields_of at = at.year ∷ at.month ∷ at.day ∷ at.hour ∷ at.minute ∷ at.second ∷ []
-
--- by the first field in which the times differ
 abbrev pub IsBefore : When → When → Type 0
-IsBefore a b = is_lt (slice_cmp nat_cmp (fields_of a) (fields_of b)) ≡ true
+IsBefore a b = is_before a b ≡ true
 
 -- each window is later than the one before
 abbrev pub AreInOrder : List PlainWindow → Type 0

@@ -59,3 +59,10 @@ is_memory fault = false
 
 abbrev pub top : Spot
 top = record { part = Top; outer = 0; inner = 0 }
+
+-- a part with its number, and one with the number of the part that it stands in and its own
+abbrev pub at : Part → ℕ → Spot
+at part outer = record { part = part; outer = outer; inner = 0 }
+
+abbrev pub inside : Part → ℕ → ℕ → Spot
+inside part outer inner = record { part = part; outer = outer; inner = inner }

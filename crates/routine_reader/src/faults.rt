@@ -1,3 +1,9 @@
+ghost use Rattle.routine_reader.specs.Limits.{limit_of};
+ghost use Rattle.routine_reader.specs.Spots.{at, inside};
+ghost use Rattle.routine_reader.specs.Walks.{within_limit};
+ghost use Rattle.std.specs.Prelude.{◌≡◌, Err, MatchResult, Ok};
+
+use home_types::{NoMemory, limits};
 use std::fmt;
 use thiserror::Error;
 
@@ -50,6 +56,30 @@ pub enum Part {
     Run,
 }
 
+impl Part {
+    /// The part with this number.
+    pub fn at(self, outer: u32) -> Spot
+        ensures { result ≡ at self outer }
+    {
+        Spot {
+            part: self,
+            outer,
+            inner: 0,
+        }
+    }
+
+    /// The part with the number `inner` in the one with the number `outer`.
+    pub fn inside(self, outer: u32, inner: u32) -> Spot
+        ensures { result ≡ inside self outer inner }
+    {
+        Spot {
+            part: self,
+            outer,
+            inner,
+        }
+    }
+}
+
 impl fmt::Display for Part {
     ghost use Rattle.routine_reader.specs.Spots.{part_text};
     ghost use Rattle.std.specs.Prelude.{Some};
@@ -84,6 +114,27 @@ pub enum Count {
     Runs,
     Turns,
     Probes,
+}
+
+impl Count {
+    /// The most that a script may have.
+    pub fn limit(self) -> u64
+        ensures { result ≡ limit_of self }
+    {
+        match self {
+            Count::Bytes => limits::SCRIPT_BYTES,
+            Count::Devices => u64::from(limits::DEVICES),
+            Count::States => u64::from(limits::STATES),
+            Count::Downs => u64::from(limits::DOWNS),
+            Count::Routines => u64::from(limits::ROUTINES),
+            Count::Commands => u64::from(limits::COMMANDS),
+            Count::Ms => u64::from(limits::COMMAND_MS),
+            Count::Windows => u64::from(limits::WINDOWS),
+            Count::Runs => u64::from(limits::RUNS),
+            Count::Turns => u64::from(limits::TURNS),
+            Count::Probes => u64::from(limits::PROBES),
+        }
+    }
 }
 
 impl fmt::Display for Count {
@@ -145,10 +196,29 @@ pub enum ReadFault {
     /// The version is not 1.
     #[error("bad version {0}")]
     BadVersion(u64),
-    /// What this reader does not read yet.
-    #[error("not built {0}")]
-    NotBuilt(Spot),
     /// The turn is no run of the window.
     #[error("bad turn {0}")]
     BadTurn(Spot),
+}
+
+impl From<NoMemory> for ReadFault {
+    ghost use Rattle.routine_reader.specs.declared.faults.ReadFault.{ReadFault};
+
+    ghost from_gives = { λ _ fault. fault ≡ ReadFault.NoMemory };
+
+    fn from(_want: NoMemory) -> ReadFault {
+        ReadFault::NoMemory
+    }
+}
+
+/// Refuses more than the limit.
+pub fn within_limit(kind: Count, count: u64) -> Result<(), ReadFault>
+    ensures { MatchResult result (λ _. within_limit kind count ≡ Ok count) (λ fault. within_limit kind count ≡ Err fault) }
+{
+    let limit = kind.limit();
+    if count <= limit {
+        Ok(())
+    } else {
+        Err(ReadFault::TooMany { kind, count, limit })
+    }
 }

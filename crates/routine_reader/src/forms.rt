@@ -1,11 +1,10 @@
-ghost use Rattle.routine_reader.specs.Forms.{has_form, knows, lacks, list_at, number_at, text_at};
-ghost use Rattle.routine_reader.specs.Small.{name_at, one_at_most};
+ghost use Rattle.routine_reader.specs.Forms.{has_form, if_there, is_state, items_in, knows, lacks, long_number_of, needed, number_of, or_default, state_of};
+ghost use Rattle.serde_json.specs.Find.{as_bool, as_str};
 ghost use Rattle.serde_json.specs.View.{view};
 ghost use Rattle.std.specs.BTreeMap.{keys};
 ghost use Rattle.std.specs.List.{list_all};
-ghost use Rattle.std.specs.Prelude.{◌≡◌, map, option_map, string_bytes};
+ghost use Rattle.std.specs.Prelude.{◌≡◌, [], map, option_map, string_bytes};
 
-use crate::names::is_name;
 use serde_json::{Map, Value};
 
 /// An object of a script, each with a table of its members.
@@ -59,47 +58,138 @@ pub fn lacks(value: &Value, name: &str) -> bool
     value.get(name).is_none()
 }
 
+/// A whole number of 64 bits.
+pub fn long_number_of(value: &Value) -> Option<u64>
+    ensures { result ≡ long_number_of (view value.now) }
+{
+    value.as_u64()
+}
+
+/// A whole number of 32 bits.
+pub fn number_of(value: &Value) -> Option<u32>
+    ensures { result ≡ number_of (view value.now) }
+{
+    match value.as_u64() {
+        Some(number) if number <= u64::from(u32::MAX) => Some(number as u32),
+        _ => None,
+    }
+}
+
+/// The items of a list.
+pub fn items_in(value: &Value) -> Option<&[Value]>
+    ensures { option_map (λ items. map view items.now) result ≡ items_in (view value.now) }
+{
+    match value.as_array() {
+        Some(items) => Some(items.as_slice()),
+        None => None,
+    }
+}
+
+/// A text or a whole number, which may name a state.
+pub fn state_of(value: &Value) -> Option<&Value>
+    ensures { option_map (λ state. view state.now) result ≡ state_of (view value.now) }
+{
+    if value.is_string() || number_of(value).is_some() {
+        Some(value)
+    } else {
+        None
+    }
+}
+
 /// The text that a member is.
 pub fn text_at<'a>(value: &'a Value, name: &str) -> Option<&'a str>
-    ensures { option_map (λ text. text.now) result ≡ text_at name.now (view value.now) }
+    ensures { option_map (λ text. text.now) result ≡ needed as_str name.now (view value.now) }
 {
     value.get(name).and_then(Value::as_str)
 }
 
 /// The list that a member is.
 pub fn list_at<'a>(value: &'a Value, name: &str) -> Option<&'a [Value]>
-    ensures { option_map (λ values. map view values.now) result ≡ list_at name.now (view value.now) }
+    ensures { option_map (λ items. map view items.now) result ≡ needed items_in name.now (view value.now) }
 {
-    match value.get(name).and_then(Value::as_array) {
-        Some(values) => Some(values.as_slice()),
-        None => None,
+    items_in(value.get(name)?)
+}
+
+/// The list that a member is, empty where the member is missing.
+pub fn list_or_empty<'a>(value: &'a Value, name: &str) -> Option<&'a [Value]>
+    ensures { option_map (λ items. map view items.now) result ≡ or_default items_in [] name.now (view value.now) }
+{
+    match value.get(name) {
+        Some(member) => items_in(member),
+        None => Some(&[]),
     }
 }
 
-/// The whole number, from 0 to 2^64 - 1, that a member is.
-pub fn number_at(value: &Value, name: &str) -> Option<u64>
-    ensures { result ≡ number_at name.now (view value.now) }
+/// The list that a member is, if it is there.
+pub fn list_if_there<'a>(value: &'a Value, name: &str) -> Option<Option<&'a [Value]>>
+    ensures { option_map (λ there. option_map (λ items. map view items.now) there) result ≡ if_there items_in name.now (view value.now) }
 {
-    value.get(name).and_then(Value::as_u64)
-}
-
-/// The name that a member is.
-pub fn name_at<'a>(value: &'a Value, member: &str) -> Option<&'a str>
-    ensures { option_map (λ name. name.now) result ≡ name_at member.now (view value.now) }
-{
-    match text_at(value, member) {
-        Some(name) if is_name(name) => Some(name),
-        _ => None,
+    match value.get(name) {
+        Some(member) => Some(Some(items_in(member)?)),
+        None => Some(None),
     }
 }
 
-/// What a list of at most one value holds; none where it has more.
-pub fn one_at_most(values: &[Value]) -> Option<Option<&Value>>
-    ensures { option_map (λ one. option_map (λ value. view value.now) one) result ≡ one_at_most (map view values.now) }
+/// The whole number of 64 bits that a member is.
+pub fn long_number_at(value: &Value, name: &str) -> Option<u64>
+    ensures { result ≡ needed long_number_of name.now (view value.now) }
 {
-    match values {
-        [] => Some(None),
-        [value] => Some(Some(value)),
-        _ => None,
+    long_number_of(value.get(name)?)
+}
+
+/// The whole number of 64 bits that a member is, or this one where the member is missing.
+pub fn long_number_or(value: &Value, name: &str, default: u64) -> Option<u64>
+    ensures { result ≡ or_default long_number_of default name.now (view value.now) }
+{
+    match value.get(name) {
+        Some(member) => long_number_of(member),
+        None => Some(default),
+    }
+}
+
+/// The whole number of 32 bits that a member is, or this one where the member is missing.
+pub fn number_or(value: &Value, name: &str, default: u32) -> Option<u32>
+    ensures { result ≡ or_default number_of default name.now (view value.now) }
+{
+    match value.get(name) {
+        Some(member) => number_of(member),
+        None => Some(default),
+    }
+}
+
+/// The whole number of 32 bits that a member is, if it is there.
+pub fn number_if_there(value: &Value, name: &str) -> Option<Option<u32>>
+    ensures { result ≡ if_there number_of name.now (view value.now) }
+{
+    match value.get(name) {
+        Some(member) => Some(Some(number_of(member)?)),
+        None => Some(None),
+    }
+}
+
+/// The flag that a member is, or this one where the member is missing.
+pub fn flag_or(value: &Value, name: &str, default: bool) -> Option<bool>
+    ensures { result ≡ or_default as_bool default name.now (view value.now) }
+{
+    match value.get(name) {
+        Some(member) => member.as_bool(),
+        None => Some(default),
+    }
+}
+
+/// The text or the whole number that a member is.
+pub fn state_at<'a>(value: &'a Value, name: &str) -> Option<&'a Value>
+    ensures { option_map (λ state. view state.now) result ≡ needed state_of name.now (view value.now) }
+{
+    state_of(value.get(name)?)
+}
+
+/// The text or the whole number that a member is, if it is there.
+pub fn state_if_there<'a>(value: &'a Value, name: &str) -> Option<Option<&'a Value>>
+    ensures { option_map (λ there. option_map (λ state. view state.now) there) result ≡ if_there state_of name.now (view value.now) }
+{
+    match value.get(name) {
+        Some(member) => Some(Some(state_of(member)?)),
+        None => Some(None),
     }
 }

@@ -1,11 +1,13 @@
 // A day's script, read from its bytes.
 #![tactic(auto)]
 
+pub mod commands;
 pub mod devices;
 pub mod faults;
 pub mod forms;
 pub mod names;
 pub mod readers;
+pub mod rosters;
 pub mod routines;
 pub mod scripts;
 #[cfg(test)]
@@ -14,4 +16,5 @@ pub mod windows;
 
 pub use faults::{Count, Part, ReadFault, Spot};
 pub use readers::read_script;
+pub use rosters::roster;
 pub use scripts::{DeviceText, RoutineText, RunText, Script, WindowText};

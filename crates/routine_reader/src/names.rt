@@ -1,9 +1,13 @@
-ghost use Rattle.home_types.specs.Listed.{Listed};
-ghost use Rattle.routine_reader.specs.Names.{is_name, is_name_byte, is_new_name, place_of, starts_with_letter};
+ghost use Rattle.routine_reader.specs.Names.{is_among, is_name, is_name_byte, new_name, place_of, starts_with_letter};
+ghost use Rattle.routine_reader.specs.Walks.{IsReading};
 ghost use Rattle.std.specs.List.{list_all};
-ghost use Rattle.std.specs.Prelude.{◌≡◌, ◌<◌, IfSome, length};
+ghost use Rattle.std.specs.Prelude.{◌≡◌, ◌<◌, ◌++◌, ◌∷◌, [], IfOk, IfSome, OnOk, false, length};
 
-use home_types::Text;
+use crate::faults::{ReadFault, Spot};
+use home_types::{NoMemory, Text};
+use indexmap::IndexSet;
+use std::alloc::Global;
+use std::marker::Model;
 
 /// How many characters a name has at most.
 pub const CHARACTERS: usize = 32;
@@ -45,9 +49,70 @@ pub fn place_of(names: &[Text], name: &str) -> Option<usize>
     names.iter().position(|known| name == known.as_str())
 }
 
-/// Whether the text is a name, and none of the names.
-pub fn is_new_name(names: &[Text], text: &str) -> bool
-    ensures { result ≡ is_new_name names.now text.now }
+/// Names, all different, each with its number from 0 in the order in which they were added.
+#[derive(Drop)]
+pub struct Names {
+    names: IndexSet<String>,
+}
+
+impl Model for Names {
+    ghost use Rattle.std.specs.Prelude.{ℕ, List, map, string_bytes};
+
+    ghost Value = { List (List ℕ) };
+
+    ghost view = { λ s. map string_bytes s.names.keys };
+}
+
+impl Names {
+    /// No names. Takes no memory.
+    pub fn new(alloc: Global) -> Names
+        ensures { result ≡ [] }
+    {
+        Names {
+            names: IndexSet::new(alloc),
+        }
+    }
+
+    /// The number of a name.
+    pub fn place_of(&self, name: &str) -> Option<usize>
+        ensures place { result ≡ place_of self.now name.now }
+        ensures within { IfSome result (λ place. place < length self.now) }
+    {
+        self.names.get_index_of(name)
+    }
+
+    /// Whether it is one of the names.
+    pub fn has(&self, name: &str) -> bool
+        ensures { result ≡ is_among self.now name.now }
+    {
+        self.names.contains(name)
+    }
+
+    /// Gives the next number to a name, or answers `NoMemory`.
+    pub fn add(&mut self, alloc: Global, name: &str) -> Result<(), NoMemory>
+        requires { is_among self.old name.now ≡ false }
+        ensures { OnOk result (self.new ≡ self.old ++ name.now ∷ []) }
+    {
+        let Ok(owned) = String::from_str(alloc, name) else {
+            return Err(NoMemory);
+        };
+        match self.names.insert(owned) {
+            Ok(_) => Ok(()),
+            Err(_) => Err(NoMemory),
+        }
+    }
+}
+
+/// Refuses a text that is no name, and a name that is one of these.
+pub fn new_name<'a>(spot: Spot, names: &Names, text: &'a str) -> Result<&'a str, ReadFault>
+    ensures reading { IsReading (λ name. name.now) result (new_name spot names.now text.now) }
+    ensures new { IfOk result (λ name. is_among names.now name.now ≡ false) }
 {
-    is_name(text) && place_of(names, text).is_none()
+    if !is_name(text) {
+        return Err(ReadFault::BadName(spot));
+    }
+    if names.has(text) {
+        return Err(ReadFault::DoubleName(spot));
+    }
+    Ok(text)
 }

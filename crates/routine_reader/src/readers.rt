@@ -1,18 +1,20 @@
-ghost use Rattle.routine_reader.specs.Readings.{day_members, value_of};
+ghost use Rattle.day_clock.specs.Times.{IsCivilTime};
+ghost use Rattle.routine_reader.specs.Limits.{most_devices, most_routines, most_windows};
+ghost use Rattle.routine_reader.specs.Readings.{day_members, members_reading, parts_reading, script_reading, value_of, value_reading};
 ghost use Rattle.routine_reader.specs.Scripts.{plain_script};
-ghost use Rattle.routine_reader.specs.Small.{small_reading, small_script, small_script_reading};
 ghost use Rattle.routine_reader.specs.Sound.{IsSound};
 ghost use Rattle.routine_reader.specs.Spots.{is_memory};
+ghost use Rattle.routine_reader.specs.Walks.{IsReading};
 ghost use Rattle.serde_json.specs.View.{view};
-ghost use Rattle.std.specs.Prelude.{◌≡◌, Err, IfErr, IfOk, IfSome, None, Ok, Some, false, map, option_map};
+ghost use Rattle.std.specs.Prelude.{◌≡◌, ◌≤◌, All, Err, IfErr, IfOk, None, Ok, Some, false, length, map, option_map};
 
 use crate::devices::read_devices;
-use crate::faults::{ReadFault, Spot};
-use crate::forms::{Form, has_form, list_at, number_at};
+use crate::faults::{Count, ReadFault, Spot, within_limit};
+use crate::forms::{Form, has_form, list_at, long_number_at};
 use crate::routines::read_routines;
 use crate::scripts::Script;
 use crate::windows::read_windows;
-use home_types::{NoMemory, limits};
+use home_types::limits;
 use serde_json::Value as Json;
 use std::alloc::Global;
 
@@ -36,7 +38,7 @@ fn read_value(alloc: Global, bytes: &[u8]) -> Result<Json, ReadFault>
     }
 }
 
-/// The members of the top object.
+/// The members of the top object, each of its type.
 #[derive(Clone, Copy)]
 struct Members<'a> {
     version: u64,
@@ -52,70 +54,86 @@ fn members_of(value: &Json) -> Option<Members<'_>>
         return None;
     }
     Some(Members {
-        version: number_at(value, "safehome")?,
+        version: long_number_at(value, "safehome")?,
         devices: list_at(value, "devices")?,
         routines: list_at(value, "routines")?,
         windows: list_at(value, "windows")?,
     })
 }
 
-/// Reads a small script of version 1; none where it is no such script.
-fn read_small(alloc: Global, members: &Members<'_>) -> Result<Option<Script>, NoMemory>
-    ensures reading { IfOk result (λ o. option_map plain_script o ≡ small_script (record { version = members.now.version; devices = map view members.now.devices.now; routines = map view members.now.routines.now; windows = map view members.now.windows.now })) }
-    ensures sound { IfOk result (λ o. IfSome o (λ script. IsSound (plain_script script))) }
+/// Reads the devices, then the routines, then the windows.
+#[tactic(auto, unfolding(crate::specs::Readings::parts_reading))]
+fn read_parts(alloc: Global, members: &Members<'_>) -> Result<Script, ReadFault>
+    requires devices { length members.now.devices.now ≤ most_devices }
+    requires routines { length members.now.routines.now ≤ most_routines }
+    requires windows { length members.now.windows.now ≤ most_windows }
+    ensures reading { IsReading plain_script result (parts_reading (record { version = members.now.version; devices = map view members.now.devices.now; routines = map view members.now.routines.now; windows = map view members.now.windows.now })) }
+    ensures in_range { IfOk result (λ script. All (λ window. IsCivilTime window.at) script.windows.items) }
 {
-    if members.version != VERSION {
-        return Ok(None);
-    }
-    let Some(devices) = read_devices(alloc, members.devices)? else {
-        return Ok(None);
-    };
-    let Some(routines) = read_routines(alloc, members.routines, devices.as_slice())? else {
-        return Ok(None);
-    };
-    let Some(windows) = read_windows(alloc, members.windows, routines.as_slice())? else {
-        return Ok(None);
-    };
-    Ok(Some(Script {
-        devices,
-        routines,
+    let devices = read_devices(alloc, members.devices)?;
+    let routines = read_routines(alloc, &devices, members.routines)?;
+    let windows = read_windows(alloc, &routines.names, members.windows)?;
+    Ok(Script {
+        devices: devices.texts,
+        routines: routines.texts,
         windows,
-    }))
+    })
 }
 
-fn read_top(alloc: Global, value: &Json) -> Result<Script, ReadFault>
-    ensures reading { IfOk result (λ script. small_reading (view value.now) ≡ Ok (plain_script script)) }
+/// Reads a script of version 1, with no more of each than the limit.
+#[tactic(auto, unfolding(crate::specs::Readings::members_reading))]
+fn read_members(alloc: Global, members: &Members<'_>) -> Result<Script, ReadFault>
+    ensures reading { IsReading plain_script result (members_reading (record { version = members.now.version; devices = map view members.now.devices.now; routines = map view members.now.routines.now; windows = map view members.now.windows.now })) }
     ensures sound { IfOk result (λ script. IsSound (plain_script script)) }
-    ensures refused { IfErr result (λ fault. is_memory fault ≡ false → small_reading (view value.now) ≡ Err fault) }
+{
+    if members.version != VERSION {
+        return Err(ReadFault::BadVersion(members.version));
+    }
+    within_limit(Count::Devices, members.devices.len() as u64)?;
+    within_limit(Count::Routines, members.routines.len() as u64)?;
+    within_limit(Count::Windows, members.windows.len() as u64)?;
+    read_parts(alloc, members)
+}
+
+#[tactic(auto, unfolding(crate::specs::Readings::value_reading))]
+fn read_top(alloc: Global, value: &Json) -> Result<Script, ReadFault>
+    ensures reading { IsReading plain_script result (value_reading (view value.now)) }
+    ensures sound { IfOk result (λ script. IsSound (plain_script script)) }
 {
     let Some(members) = members_of(value) else {
         return Err(ReadFault::Shape(Spot::TOP));
     };
-    match read_small(alloc, &members) {
-        Ok(Some(script)) => Ok(script),
-        Ok(None) => Err(ReadFault::NotBuilt(Spot::TOP)),
-        Err(NoMemory) => Err(ReadFault::NoMemory),
-    }
+    read_members(alloc, &members)
 }
 
-/// Reads a script, or gives the first refusal.
-///
-/// For now this is a small script: it has at most one device, with `states` and no `down`; at most one routine, with
-/// one command, a `set` without `must`, `ms` and `takes`; and at most one window without `seed`, `probes` and `turns`,
-/// with at most one run without `follows`.
+/// Reads a script of version 1, or gives the first refusal of a walk over it.
 ///
 /// # Errors
 ///
-/// In this order: `NotBuilt` at the top for more than `limits::SCRIPT_BYTES` bytes; `NotJson` where `serde_json` reads
-/// no value; `Shape` at the top where that is no object, or one with a member that is missing, foreign or of another
-/// type; `NotBuilt` at the top where it is no small script of version 1. `NoMemory` may come at any point.
+/// The first of these, in this order:
+///
+/// - `TooMany` with `Bytes` for more than `limits::SCRIPT_BYTES` bytes, and `NotJson` where `serde_json` reads no value;
+/// - at the top: `Shape`, `BadVersion`, and `TooMany` for the devices, the routines and the windows;
+/// - at each device in order: `Shape`, then of its name `BadName` and `DoubleName`, of its states `Shape`, `TooMany`,
+///   `BadName` and `DoubleName`, of its range and its start `BadState`, of its downs `TooMany` and `Shape`;
+/// - at each routine in order: `Shape`, then of its name `BadName` and `DoubleName`, of its commands `Shape` and `TooMany`,
+///   and at each command `Shape`, `UnknownName`, `BadState`, and `TooMany` for `ms` and `takes`;
+/// - at each window in order: `Shape`, `BadTime`, `TooMany` for probes, turns and runs, at each turn `Shape` and
+///   `BadTurn`, and at each run `Shape`, `UnknownName` and `BadFollow`.
+///
+/// `NoMemory` may come at any point.
+#[tactic(auto, unfolding(crate::specs::Readings::script_reading))]
 pub fn read_script(alloc: Global, bytes: &[u8]) -> Result<Script, ReadFault>
-    ensures reading { IfOk result (λ script. small_script_reading bytes.now ≡ Ok (plain_script script)) }
+    ensures reading { IfOk result (λ script. script_reading bytes.now ≡ Ok (plain_script script)) }
     ensures sound { IfOk result (λ script. IsSound (plain_script script)) }
-    ensures refused { IfErr result (λ fault. is_memory fault ≡ false → small_script_reading bytes.now ≡ Err fault) }
+    ensures refused { IfErr result (λ fault. is_memory fault ≡ false → script_reading bytes.now ≡ Err fault) }
 {
     if bytes.len() as u64 > limits::SCRIPT_BYTES {
-        return Err(ReadFault::NotBuilt(Spot::TOP));
+        return Err(ReadFault::TooMany {
+            kind: Count::Bytes,
+            count: limits::SCRIPT_BYTES + 1,
+            limit: limits::SCRIPT_BYTES,
+        });
     }
     let value = read_value(alloc, bytes)?;
     read_top(alloc, &value)

@@ -1,150 +1,135 @@
-ghost use Rattle.routine_reader.specs.Limits.{most_devices, most_states};
-ghost use Rattle.routine_reader.specs.Names.{place_of};
+ghost use Rattle.home_types.specs.Listed.{Listed};
+ghost use Rattle.routine_reader.specs.AreRead.{AreDevices};
+ghost use Rattle.routine_reader.specs.Commands.{next_command};
+ghost use Rattle.routine_reader.specs.Limits.{most_commands, most_routines};
+ghost use Rattle.routine_reader.specs.Names.{is_among};
+ghost use Rattle.routine_reader.specs.Routines.{commands_reading, next_routine, routine_members, routine_names, routine_reading};
 ghost use Rattle.routine_reader.specs.Scripts.{plain_device, plain_routine};
-ghost use Rattle.routine_reader.specs.Small.{few, is_set, is_small_command, routine_names, single, small_command, small_routine};
+ghost use Rattle.routine_reader.specs.Walks.{IsReading, read_each};
 ghost use Rattle.serde_json.specs.View.{view};
-ghost use Rattle.std.specs.List.{position};
-ghost use Rattle.std.specs.Prelude.{◌≡◌, ◌<◌, ◌≤◌, All, IfOk, IfSome, length, map, option_map};
-ghost use Rattle.std.specs.Str.{bytes_eq};
+ghost use Rattle.std.specs.Prelude.{◌≡◌, ◌≤◌, [], IfOk, false, length, map, option_map};
 
-use crate::devices::{device_named, state_at, states_of};
-use crate::forms::{Form, has_form, lacks, list_at, name_at, one_at_most, text_at};
-use crate::scripts::{DeviceText, RoutineText};
-use home_types::{Command, DeviceNo, Job, List, NoMemory, Routine, Text};
+use crate::commands::read_command;
+use crate::devices::Devices;
+use crate::faults::{Count, Part, ReadFault, within_limit};
+use crate::forms::{Form, has_form, list_at, text_at};
+use crate::names::{Names, new_name};
+use crate::scripts::RoutineText;
+use home_types::{Command, List, Routine, Text};
 use serde_json::Value as Json;
 use std::alloc::Global;
 
-/// The estimate of a command that gives none, in ms.
-const DEFAULT_MS: u32 = 100;
-
-fn is_set(value: &Json) -> bool
-    ensures { result ≡ is_set (view value.now) }
-{
-    match text_at(value, "do") {
-        Some(job) => job == "set",
-        None => false,
-    }
+/// The members of a routine, each of its type.
+#[derive(Clone, Copy)]
+struct RoutineMembers<'a> {
+    name: &'a str,
+    commands: &'a [Json],
 }
 
-fn is_small_command(value: &Json) -> bool
-    ensures { result ≡ is_small_command (view value.now) }
+fn routine_members(value: &Json) -> Option<RoutineMembers<'_>>
+    ensures { option_map (λ members. record { name = members.name.now; commands = map view members.commands.now }) result ≡ routine_members (view value.now) }
 {
-    has_form(Form::Command, value)
-        && lacks(value, "must")
-        && lacks(value, "ms")
-        && lacks(value, "takes")
-        && is_set(value)
-}
-
-/// Reads a `set` without `must`, `ms` and `takes`; none where it is no such command.
-pub fn read_command(value: &Json, devices: &[DeviceText]) -> Option<Command>
-    requires few { length devices.now ≤ most_devices }
-    requires states { All (λ device. length device.states.items ≤ most_states) devices.now }
-    ensures { result ≡ small_command (map plain_device devices.now) (view value.now) }
-{
-    if !is_small_command(value) {
+    if !has_form(Form::Routine, value) {
         return None;
     }
-    let name = text_at(value, "on")?;
-    let device = device_named(devices, name)?;
-    let state = state_at(value, "to", states_of(devices, device))?;
-    Some(Command {
-        device: DeviceNo(device as u16),
-        job: Job::Set(state),
-        must: true,
-        ms: DEFAULT_MS,
-        takes: DEFAULT_MS,
+    Some(RoutineMembers {
+        name: text_at(value, "name")?,
+        commands: list_at(value, "commands")?,
     })
 }
 
-fn read_commands(
+fn read_each_command(
     alloc: Global,
+    devices: &Devices,
+    routine: u32,
     values: &[Json],
-    devices: &[DeviceText],
-) -> Result<Option<List<Command>>, NoMemory>
-    requires few { length devices.now ≤ most_devices }
-    requires states { All (λ device. length device.states.items ≤ most_states) devices.now }
-    ensures { IfOk result (λ o. option_map (λ commands. commands.items) o ≡ single (small_command (map plain_device devices.now)) (map view values.now)) }
+) -> Result<List<Command>, ReadFault>
+    requires devices { AreDevices devices.now }
+    requires few { length values.now ≤ most_commands }
+    ensures { IsReading (λ commands. commands.items) result
+        (read_each (next_command (map plain_device devices.now.texts.items) routine) [] (map view values.now)) }
 {
     let mut commands = List::new(alloc);
-    let Some(Some(value)) = one_at_most(values) else {
-        return Ok(None);
-    };
-    let Some(command) = read_command(value, devices) else {
-        return Ok(None);
-    };
-    commands.push(command)?;
-    Ok(Some(commands))
+    'values: for value in values {
+        let number = commands.len() as u32 + 1;
+        let command = read_command(devices, routine, number, value)?;
+        commands.push(command)?;
+    }
+    Ok(commands)
 }
 
-/// Reads a routine with one command; none where it is no such routine.
-pub fn read_routine(
+/// Reads the commands of a routine: 1 to `limits::COMMANDS`.
+#[tactic(auto, unfolding(crate::specs::Routines::commands_reading))]
+fn read_commands(
     alloc: Global,
-    value: &Json,
-    devices: &[DeviceText],
-) -> Result<Option<RoutineText>, NoMemory>
-    requires few { length devices.now ≤ most_devices }
-    requires states { All (λ device. length device.states.items ≤ most_states) devices.now }
-    ensures { IfOk result (λ o. option_map plain_routine o ≡ small_routine (map plain_device devices.now) (view value.now)) }
+    devices: &Devices,
+    routine: u32,
+    values: &[Json],
+) -> Result<List<Command>, ReadFault>
+    requires { AreDevices devices.now }
+    ensures { IsReading (λ commands. commands.items) result
+        (commands_reading (map plain_device devices.now.texts.items) routine (map view values.now)) }
 {
-    if !has_form(Form::Routine, value) {
-        return Ok(None);
+    if values.is_empty() {
+        return Err(ReadFault::Shape(Part::Routine.at(routine)));
     }
-    let Some(name) = name_at(value, "name") else {
-        return Ok(None);
+    within_limit(Count::Commands, values.len() as u64)?;
+    read_each_command(alloc, devices, routine, values)
+}
+
+/// Reads the routine with this number, after routines with these names.
+#[tactic(auto, unfolding(crate::specs::Routines::routine_reading))]
+fn read_routine(
+    alloc: Global,
+    devices: &Devices,
+    number: u32,
+    names: &Names,
+    value: &Json,
+) -> Result<RoutineText, ReadFault>
+    requires { AreDevices devices.now }
+    ensures reading { IsReading plain_routine result
+        (routine_reading (map plain_device devices.now.texts.items) number names.now (view value.now)) }
+    ensures new { IfOk result (λ routine. is_among names.now routine.name ≡ false) }
+{
+    let spot = Part::Routine.at(number);
+    let Some(members) = routine_members(value) else {
+        return Err(ReadFault::Shape(spot));
     };
-    let Some(values) = list_at(value, "commands") else {
-        return Ok(None);
-    };
-    let Some(commands) = read_commands(alloc, values, devices)? else {
-        return Ok(None);
-    };
-    Ok(Some(RoutineText {
+    let name = new_name(spot, names, members.name)?;
+    let commands = read_commands(alloc, devices, number, members.commands)?;
+    Ok(RoutineText {
         name: Text::of(alloc, name)?,
         routine: Routine { commands },
-    }))
+    })
 }
 
-/// Reads at most one routine; none where there are more, or it is not read.
+/// The routines of a script, with their numbers by name.
+#[derive(Drop)]
+pub struct Routines {
+    pub names: Names,
+    pub texts: List<RoutineText>,
+}
+
+/// Reads the routines of a script with these devices.
 pub fn read_routines(
     alloc: Global,
+    devices: &Devices,
     values: &[Json],
-    devices: &[DeviceText],
-) -> Result<Option<List<RoutineText>>, NoMemory>
-    requires few { length devices.now ≤ most_devices }
-    requires states { All (λ device. length device.states.items ≤ most_states) devices.now }
-    ensures reading { IfOk result (λ o. option_map (λ routines. map plain_routine routines.items) o ≡ few (small_routine (map plain_device devices.now)) (map view values.now)) }
-    ensures count { IfOk result (λ o. IfSome o (λ routines. length routines.items ≤ 1)) }
+) -> Result<Routines, ReadFault>
+    requires devices { AreDevices devices.now }
+    requires few { length values.now ≤ most_routines }
+    ensures reading { IsReading (λ routines. map plain_routine routines.texts.items) result
+        (read_each (next_routine (map plain_device devices.now.texts.items)) [] (map view values.now)) }
+    ensures names { IfOk result (λ routines. routines.names ≡ routine_names (map plain_routine routines.texts.items)) }
+    ensures few { IfOk result (λ routines. length routines.texts.items ≤ most_routines) }
 {
-    let mut routines = List::new(alloc);
-    let Some(one) = one_at_most(values) else {
-        return Ok(None);
-    };
-    if let Some(value) = one {
-        let Some(routine) = read_routine(alloc, value, devices)? else {
-            return Ok(None);
-        };
-        routines.push(routine)?;
+    let mut names = Names::new(alloc);
+    let mut texts = List::new(alloc);
+    'values: for value in values {
+        let number = texts.len() as u32 + 1;
+        let routine = read_routine(alloc, devices, number, &names, value)?;
+        names.add(alloc, routine.name.as_str())?;
+        texts.push(routine)?;
     }
-    Ok(Some(routines))
-}
-
-fn is_named(routine: &RoutineText, name: &str) -> bool
-    ensures { result ≡ bytes_eq name.now routine.now.name }
-{
-    name == routine.name.as_str()
-}
-
-fn routine_place(routines: &[RoutineText], name: &str) -> Option<usize>
-    ensures { result ≡ position (λ routine. bytes_eq name.now routine.name) routines.now }
-{
-    routines.iter().position(|routine| is_named(routine, name))
-}
-
-/// The routine of this name, counted from 0.
-pub fn routine_named(routines: &[RoutineText], name: &str) -> Option<usize>
-    ensures number { result ≡ place_of (routine_names (map plain_routine routines.now)) name.now }
-    ensures within { IfSome result (λ r. r < length routines.now) }
-{
-    routine_place(routines, name)
+    Ok(Routines { names, texts })
 }

@@ -1,26 +1,24 @@
-use crate::{Count, Part, ReadFault, Spot, read_script};
-use home_types::{DeviceNo, Job, Kind, limits};
+use crate::{Count, Part, ReadFault, Spot, read_script, roster};
+use home_types::{DeviceNo, Job, Kind, RunNo, limits};
 use std::alloc::Global;
 use std::test::Fail;
-
-const SHAPE: Option<ReadFault> = Some(ReadFault::Shape(Spot::TOP));
-
-const NOT_BUILT: Option<ReadFault> = Some(ReadFault::NotBuilt(Spot::TOP));
 
 const ONE_LIGHT: &str =
     r#"{"safehome":1,"devices":[{"name":"lamp","states":["off","on"],"start":"off"}],"routines":[{"name":"light","commands":[{"on":"lamp","do":"set","to":"on"}]}],"windows":[{"at":"2021-04-26T07:00:00","runs":[{"routine":"light"}]}]}"#;
 
-fn refusal(alloc: Global, text: &str) -> Option<ReadFault> {
-    match read_script(alloc, text.as_bytes()) {
-        Ok(_) => None,
-        Err(fault) => Some(fault),
-    }
+/// A script with every member and every job.
+const A_MORNING: &str =
+    r#"{"safehome":1,"devices":[{"name":"fan","states":["off","low","high"],"start":"low","down":[[3,5],[9,10]]},{"name":"heat","low":10,"high":30,"start":20}],"routines":[{"name":"warm","commands":[{"on":"heat","do":"set","to":25,"must":false,"ms":1000,"takes":5},{"on":"heat","do":"load","ms":7},{"on":"fan","do":"store","must":false},{"on":"fan","do":"check","to":"high"}]}],"windows":[{"at":"2021-04-26T07:00","seed":18446744073709551615,"probes":100,"turns":[2,0,1],"runs":[{"routine":"warm"},{"routine":"warm","follows":1}]},{"at":"2021-04-26T07:05","runs":[]}]}"#;
+
+/// Whether the text is refused so.
+fn is_refused(alloc: Global, text: &str, why: ReadFault) -> bool {
+    read_script(alloc, text.as_bytes()).is_err_and(|fault| fault == why)
 }
 
-/// What is said of one light's script with a part written otherwise.
-fn refusal_with(alloc: Global, part: &str, other: &str) -> Result<Option<ReadFault>, Fail> {
+/// Whether one light's script with a part written otherwise is refused so.
+fn is_refused_with(alloc: Global, part: &str, other: &str, why: ReadFault) -> Result<bool, Fail> {
     let text = ONE_LIGHT.replace(alloc, part, other)?;
-    Ok(refusal(alloc, text.as_str()))
+    Ok(is_refused(alloc, text.as_str(), why))
 }
 
 #[test]
@@ -66,122 +64,144 @@ fn reads_one_light(rt: HostRuntime) -> Result<(), Fail> {
 }
 
 #[test]
-fn refuses_what_is_no_json(rt: HostRuntime) {
-    for text in [
-        "",
-        "{\"safehome\":1,\"devr",
-        "{\"safehome\":01}",
-        "\u{feff}{}",
-        "{\"safehome\":1e999}",
-        "{} {}",
-    ] {
-        assert!(rt;
-            refusal(rt.alloc(), text) == Some(ReadFault::NotJson),
-            "{text}"
-        );
-    }
-}
-
-#[test]
-fn refuses_other_shapes(rt: HostRuntime) {
-    for text in [
-        "1",
-        "[]",
-        "{}",
-        r#"{"safehome":1,"devices":[],"routines":[]}"#,
-        r#"{"safehome":1,"devices":[],"routines":[],"windows":[],"rooms":[]}"#,
-        r#"{"safehome":1.0,"devices":[],"routines":[],"windows":[]}"#,
-        r#"{"safehome":-1,"devices":[],"routines":[],"windows":[]}"#,
-        r#"{"safehome":18446744073709551616,"devices":[],"routines":[],"windows":[]}"#,
-        r#"{"safehome":"1","devices":[],"routines":[],"windows":[]}"#,
-        r#"{"safehome":1,"devices":{},"routines":[],"windows":[]}"#,
-        r#"{"safehome":2,"devices":[],"routines":null,"windows":[]}"#,
-        r#"{"safehome":1,"devices":[1,2],"routines":[],"windows":"","windows":1}"#,
-    ] {
-        assert!(rt; refusal(rt.alloc(), text) == SHAPE, "{text}");
-    }
-}
-
-#[test]
-fn refuses_what_is_no_small_script(rt: HostRuntime) -> Result<(), Fail> {
-    for (part, other) in [
-        ("\"safehome\":1", "\"safehome\":2"),
-        ("\"safehome\":1", "\"safehome\":18446744073709551615"),
-        ("\"name\":\"lamp\"", "\"name\":\"Lamp\""),
-        ("\"lamp\"", "\"\""),
-        ("\"lamp\"", "\"-lamp\""),
-        ("\"lamp\"", "\"lampe\u{e9}\""),
-        ("\"lamp\"", "\"abcdefghijklmnopqrstuvwxyz0123456\""),
-        ("[\"off\",\"on\"]", "[]"),
-        ("[\"off\",\"on\"]", "[\"off\",\"on\",\"off\"]"),
-        ("[\"off\",\"on\"]", "[\"off\",\"on\",1]"),
-        ("[\"off\",\"on\"]", "\"off\""),
-        ("\"start\":\"off\"", "\"start\":\"dim\""),
-        ("\"start\":\"off\"", "\"start\":0"),
-        ("\"start\":\"off\"", "\"start\":\"off\",\"down\":[]"),
-        ("\"start\":\"off\"", "\"start\":\"off\",\"low\":0"),
-        ("\"start\":\"off\"", "\"start\":\"off\",\"color\":0"),
-        ("\"on\":\"lamp\"", "\"on\":\"fan\""),
-        ("\"to\":\"on\"", "\"to\":\"up\""),
-        ("\"to\":\"on\"", "\"to\":\"on\",\"must\":true"),
-        ("\"to\":\"on\"", "\"to\":\"on\",\"ms\":100"),
-        ("\"to\":\"on\"", "\"to\":\"on\",\"takes\":100"),
-        ("\"do\":\"set\",\"to\":\"on\"", "\"do\":\"load\""),
-        ("\"do\":\"set\"", "\"do\":\"check\""),
-        ("\"name\":\"light\",", ""),
-        ("[{\"on\":\"lamp\",\"do\":\"set\",\"to\":\"on\"}]", "[]"),
-        ("2021-04-26T07:00:00", "2021-04-26T07:00:00Z"),
-        ("2021-04-26T07:00:00", "2021-02-29T07:00:00"),
-        ("2021-04-26T07:00:00", "10000-01-01T00:00:00"),
-        ("2021-04-26T07:00:00", ""),
-        ("\"runs\":", "\"seed\":1,\"runs\":"),
-        ("\"runs\":", "\"probes\":0,\"runs\":"),
-        ("\"runs\":", "\"turns\":[],\"runs\":"),
-        ("{\"routine\":\"light\"}", "{\"routine\":\"dark\"}"),
-        (
-            "{\"routine\":\"light\"}",
-            "{\"routine\":\"light\",\"follows\":1}",
-        ),
-        (
-            "{\"routine\":\"light\"}",
-            "{\"routine\":\"light\"},{\"routine\":\"light\"}",
-        ),
-        (
-            "\"windows\":[",
-            "\"windows\":[{\"at\":\"2021-04-26T06:00:00\",\"runs\":[]},",
-        ),
-    ] {
-        assert!(rt;
-            refusal_with(rt.alloc(), part, other)? == NOT_BUILT,
-            "{part} as {other}"
-        );
-    }
+fn reads_every_member(rt: HostRuntime) -> Result<(), Fail> {
+    let script = read_script(rt.alloc(), A_MORNING.as_bytes())?;
+    let [fan, heat] = script.devices.as_slice() else {
+        return Err(Fail::new("no two devices"));
+    };
+    assert_eq!(rt; (fan.kind, fan.start), (Kind::States(3), 1));
+    assert!(rt; fan.downs.as_slice() == [(3, 5), (9, 10)].as_slice());
+    assert_eq!(rt; (heat.kind, heat.start), (Kind::Range(10, 30), 20));
+    let [warm] = script.routines.as_slice() else {
+        return Err(Fail::new("no routine"));
+    };
+    let [set, load, store, check] = warm.routine.commands.as_slice() else {
+        return Err(Fail::new("no four commands"));
+    };
+    assert_eq!(rt;
+        (set.device, set.job, set.must),
+        (DeviceNo(1), Job::Set(25), false)
+    );
+    assert_eq!(rt; (set.ms, set.takes), (1000, 5));
+    assert_eq!(rt;
+        (load.device, load.job, load.takes),
+        (DeviceNo(1), Job::Load, 7)
+    );
+    assert_eq!(rt;
+        (store.device, store.job, store.must),
+        (DeviceNo(0), Job::Store, false)
+    );
+    assert_eq!(rt;
+        (check.device, check.job, check.must),
+        (DeviceNo(0), Job::Check(2), true)
+    );
+    let [first, second] = script.windows.as_slice() else {
+        return Err(Fail::new("no two windows"));
+    };
+    assert_eq!(rt;
+        (first.seed, first.probes),
+        (18_446_744_073_709_551_615, 100)
+    );
+    assert!(rt; first.turns.as_slice() == [2, 0, 1].as_slice());
+    assert_eq!(rt; second.at.minute, 5);
+    let [_, follower] = first.runs.as_slice() else {
+        return Err(Fail::new("no two runs"));
+    };
+    assert_eq!(rt; (follower.routine, follower.follows), (0, Some(RunNo(1))));
     Ok(())
 }
 
 #[test]
-fn accepts_other_forms(rt: HostRuntime) -> Result<(), Fail> {
-    for (part, other) in [
-        ("\"safehome\":1", "\"safehome\":2, \"safehome\" : 1"),
-        ("\"lamp\"", "\"l\""),
-        ("\"lamp\"", "\"a0_-\""),
-        ("\"lamp\"", "\"abcdefghijklmnopqrstuvwxyz012345\""),
-        ("\"lamp\"", "\"l\\u0061mp\""),
-        ("[\"off\",\"on\"]", "[\"on\",\"off\"]"),
-        ("\"start\":\"off\"", "\"start\":\"on\""),
-        ("2021-04-26T07:00:00", "2021-04-26"),
-        ("2021-04-26T07:00:00", "2021-04-26 23:59:60"),
-        ("{\"routine\":\"light\"}", ""),
-        (
-            "[{\"at\":\"2021-04-26T07:00:00\",\"runs\":[{\"routine\":\"light\"}]}]",
-            "[]",
-        ),
-    ] {
-        assert!(rt;
-            refusal_with(rt.alloc(), part, other)? == None,
-            "{part} as {other}"
-        );
-    }
+fn gives_the_runs_of_a_window(rt: HostRuntime) -> Result<(), Fail> {
+    let script = read_script(rt.alloc(), A_MORNING.as_bytes())?;
+    let Ok(first) = roster(rt.alloc(), &script, 0) else {
+        return Err(Fail::new("no memory"));
+    };
+    let [run, follower] = first.runs.as_slice() else {
+        return Err(Fail::new("no two runs"));
+    };
+    assert_eq!(rt; run.routine.commands.len(), 4);
+    assert_eq!(rt; run.follows, None);
+    assert_eq!(rt; follower.follows, Some(RunNo(1)));
+    let Ok(second) = roster(rt.alloc(), &script, 1) else {
+        return Err(Fail::new("no memory"));
+    };
+    assert_eq!(rt; second.runs.len(), 0);
+    Ok(())
+}
+
+#[test]
+fn refuses_by_name_and_place(rt: HostRuntime) -> Result<(), Fail> {
+    let a = rt.alloc();
+    assert!(rt; is_refused(a, "", ReadFault::NotJson));
+    assert!(rt; is_refused(a, "[]", ReadFault::Shape(Spot::TOP)));
+    let device = Part::Device.at(1);
+    let command = Part::Command.inside(1, 1);
+    let run = Part::Run.inside(1, 1);
+    assert!(rt;
+        is_refused_with(
+            a,
+            "\"safehome\":1",
+            "\"safehome\":2",
+            ReadFault::BadVersion(2)
+        )?
+    );
+    assert!(rt;
+        is_refused_with(
+            a,
+            "\"lamp\",\"s",
+            "\"Lamp\",\"s",
+            ReadFault::BadName(device)
+        )?
+    );
+    assert!(rt;
+        is_refused_with(
+            a,
+            "\"off\",\"on\"",
+            "\"on\",\"on\"",
+            ReadFault::DoubleName(device)
+        )?
+    );
+    assert!(rt;
+        is_refused_with(
+            a,
+            "\"start\":\"off\"",
+            "\"start\":0",
+            ReadFault::BadState(device)
+        )?
+    );
+    assert!(rt;
+        is_refused_with(
+            a,
+            "\"on\":\"lamp\"",
+            "\"on\":\"fan\"",
+            ReadFault::UnknownName(command)
+        )?
+    );
+    assert!(rt;
+        is_refused_with(
+            a,
+            "T07:00:00",
+            "T24",
+            ReadFault::BadTime(Part::Window.at(1))
+        )?
+    );
+    assert!(rt;
+        is_refused_with(
+            a,
+            "\"light\"}",
+            "\"light\",\"follows\":1}",
+            ReadFault::BadFollow(run)
+        )?
+    );
+    assert!(rt;
+        is_refused_with(
+            a,
+            "\"runs\"",
+            "\"turns\":[1,2],\"runs\"",
+            ReadFault::BadTurn(Part::Turn.inside(1, 2))
+        )?
+    );
     Ok(())
 }
 
@@ -194,9 +214,13 @@ fn refuses_more_bytes_than_the_limit(rt: HostRuntime) -> Result<(), Fail> {
     }
     assert!(rt; read_script(a, bytes.as_slice()).is_ok());
     bytes.push(b' ')?;
-    assert!(rt;
-        read_script(a, bytes.as_slice()).is_err_and(|fault| fault == ReadFault::NotBuilt(Spot::TOP))
-    );
+    bytes.push(b' ')?;
+    let too_many = ReadFault::TooMany {
+        kind: Count::Bytes,
+        count: limits::SCRIPT_BYTES + 1,
+        limit: limits::SCRIPT_BYTES,
+    };
+    assert!(rt; read_script(a, bytes.as_slice()).is_err_and(|fault| fault == too_many));
     Ok(())
 }
 
@@ -275,7 +299,6 @@ fn shows_each_fault(rt: HostRuntime) -> Result<(), Fail> {
             ReadFault::BadVersion(18_446_744_073_709_551_615),
             "bad version 18446744073709551615",
         ),
-        (ReadFault::NotBuilt(Spot::TOP), "not built top"),
         (
             ReadFault::BadTurn(spot(Part::Turn, 1, 4096)),
             "bad turn turn 1.4096",

@@ -1,127 +1,230 @@
 ghost use Rattle.day_clock.specs.Times.{IsCivilTime};
-ghost use Rattle.routine_reader.specs.Forms.{text_at};
-ghost use Rattle.routine_reader.specs.Limits.{most_routines};
-ghost use Rattle.routine_reader.specs.Scripts.{plain_routine, plain_window};
-ghost use Rattle.routine_reader.specs.Small.{few, is_small_window, small_run, small_window, time_at};
+ghost use Rattle.home_types.specs.Listed.{Listed};
+ghost use Rattle.routine_reader.specs.Limits.{most_routines, most_runs, most_turns, most_windows};
+ghost use Rattle.routine_reader.specs.Scripts.{plain_window};
+ghost use Rattle.routine_reader.specs.Walks.{IsReading, read_each};
+ghost use Rattle.routine_reader.specs.Windows.{follows_reading, is_before, is_later, next_run, next_turn, next_window, run_members, run_reading, time_reading, turn_reading, window_members, window_reading};
 ghost use Rattle.serde_json.specs.View.{view};
-ghost use Rattle.std.specs.Prelude.{◌≡◌, ◌≤◌, All, IfOk, IfSome, length, map, option_and_then, option_map};
+ghost use Rattle.std.specs.Prelude.{◌≡◌, ◌<◌, ◌≤◌, ◌^◌, [], All, IfOk, length, map, option_map};
 
-use crate::forms::{Form, has_form, lacks, list_at, one_at_most, text_at};
-use crate::routines::routine_named;
-use crate::scripts::{RoutineText, RunText, WindowText};
+use crate::faults::{Count, Part, ReadFault, Spot, within_limit};
+use crate::forms::{
+    Form, has_form, list_at, list_or_empty, long_number_or, number_if_there, number_of, number_or,
+    text_at,
+};
+use crate::names::Names;
+use crate::scripts::{RunText, WindowText};
 use day_clock::{When, read_time};
-use home_types::{List, NoMemory};
+use home_types::{List, RunNo};
 use serde_json::Value as Json;
 use std::alloc::Global;
 
 /// The seed of a window that gives none.
 const DEFAULT_SEED: u64 = 1;
 
-/// Reads a run without `follows`; none where it is no such run.
-pub fn read_run(value: &Json, routines: &[RoutineText]) -> Option<RunText>
-    requires { length routines.now ≤ most_routines }
-    ensures { result ≡ small_run (map plain_routine routines.now) (view value.now) }
+/// The members of a window, each of its type.
+#[derive(Clone, Copy)]
+struct WindowMembers<'a> {
+    at: &'a str,
+    seed: u64,
+    probes: u32,
+    turns: &'a [Json],
+    runs: &'a [Json],
+}
+
+fn window_members(value: &Json) -> Option<WindowMembers<'_>>
+    ensures { option_map (λ members. record { at = members.at.now; seed = members.seed; probes = members.probes; turns = map view members.turns.now; runs = map view members.runs.now }) result ≡ window_members (view value.now) }
 {
-    if !has_form(Form::Run, value) || !lacks(value, "follows") {
+    if !has_form(Form::Window, value) {
         return None;
     }
-    let name = text_at(value, "routine")?;
-    let routine = routine_named(routines, name)?;
-    Some(RunText {
-        routine: routine as u32,
-        follows: None,
+    Some(WindowMembers {
+        at: text_at(value, "at")?,
+        seed: long_number_or(value, "seed", DEFAULT_SEED)?,
+        probes: number_or(value, "probes", 0)?,
+        turns: list_or_empty(value, "turns")?,
+        runs: list_at(value, "runs")?,
     })
 }
 
-fn read_runs(
+fn is_before(a: When, b: When) -> bool
+    ensures { result ≡ is_before a b }
+{
+    a < b
+}
+
+fn is_later(before: Option<When>, time: When) -> bool
+    ensures { result ≡ is_later before time }
+{
+    match before {
+        Some(before) => is_before(before, time),
+        None => true,
+    }
+}
+
+/// Reads the time of a window, later than that of the window before.
+fn read_window_time(spot: Spot, before: Option<When>, text: &str) -> Result<When, ReadFault>
+    ensures reading { result ≡ time_reading spot before text.now }
+    ensures in_range { IfOk result IsCivilTime }
+{
+    match read_time(text) {
+        Ok(time) if is_later(before, time) => Ok(time),
+        _ => Err(ReadFault::BadTime(spot)),
+    }
+}
+
+/// Reads a turn of a window with so many runs.
+fn read_turn(window: u32, runs: u32, number: u32, value: &Json) -> Result<u32, ReadFault>
+    ensures { result ≡ turn_reading window runs number (view value.now) }
+{
+    let Some(turn) = number_of(value) else {
+        return Err(ReadFault::Shape(Part::Window.at(window)));
+    };
+    if turn > runs {
+        return Err(ReadFault::BadTurn(Part::Turn.inside(window, number)));
+    }
+    Ok(turn)
+}
+
+fn read_each_turn(
     alloc: Global,
+    window: u32,
+    runs: u32,
     values: &[Json],
-    routines: &[RoutineText],
-) -> Result<Option<List<RunText>>, NoMemory>
+) -> Result<List<u32>, ReadFault>
+    requires { length values.now ≤ most_turns }
+    ensures { IsReading (λ turns. turns.items) result (read_each (next_turn window runs) [] (map view values.now)) }
+{
+    let mut turns = List::new(alloc);
+    'values: for value in values {
+        let number = turns.len() as u32 + 1;
+        let turn = read_turn(window, runs, number, value)?;
+        turns.push(turn)?;
+    }
+    Ok(turns)
+}
+
+/// The members of a run, each of its type.
+#[derive(Clone, Copy)]
+struct RunMembers<'a> {
+    routine: &'a str,
+    follows: Option<u32>,
+}
+
+fn run_members(value: &Json) -> Option<RunMembers<'_>>
+    ensures { option_map (λ members. record { routine = members.routine.now; follows = members.follows }) result ≡ run_members (view value.now) }
+{
+    if !has_form(Form::Run, value) {
+        return None;
+    }
+    Some(RunMembers {
+        routine: text_at(value, "routine")?,
+        follows: number_if_there(value, "follows")?,
+    })
+}
+
+/// Reads the run that the run with this number follows, if any: an earlier one.
+fn read_follows(spot: Spot, number: u32, follows: Option<u32>) -> Result<Option<RunNo>, ReadFault>
+    ensures { result ≡ follows_reading spot number follows }
+{
+    match follows {
+        None => Ok(None),
+        Some(followed) if 1 <= followed && followed < number => Ok(Some(RunNo(followed))),
+        Some(_) => Err(ReadFault::BadFollow(spot)),
+    }
+}
+
+/// Reads the run at this place, of routines with these names.
+#[tactic(auto, unfolding(crate::specs::Windows::run_reading))]
+fn read_run(routines: &Names, window: u32, number: u32, value: &Json) -> Result<RunText, ReadFault>
     requires { length routines.now ≤ most_routines }
-    ensures { IfOk result (λ o. option_map (λ runs. runs.items) o ≡ few (small_run (map plain_routine routines.now)) (map view values.now)) }
+    ensures { result ≡ run_reading routines.now window number (view value.now) }
+{
+    let spot = Part::Run.inside(window, number);
+    let Some(members) = run_members(value) else {
+        return Err(ReadFault::Shape(spot));
+    };
+    let Some(routine) = routines.place_of(members.routine) else {
+        return Err(ReadFault::UnknownName(spot));
+    };
+    let follows = read_follows(spot, number, members.follows)?;
+    Ok(RunText {
+        routine: routine as u32,
+        follows,
+    })
+}
+
+fn read_each_run(
+    alloc: Global,
+    routines: &Names,
+    window: u32,
+    values: &[Json],
+) -> Result<List<RunText>, ReadFault>
+    requires routines { length routines.now ≤ most_routines }
+    requires few { length values.now ≤ most_runs }
+    ensures { IsReading (λ runs. runs.items) result (read_each (next_run routines.now window) [] (map view values.now)) }
 {
     let mut runs = List::new(alloc);
-    let Some(one) = one_at_most(values) else {
-        return Ok(None);
-    };
-    if let Some(value) = one {
-        let Some(run) = read_run(value, routines) else {
-            return Ok(None);
-        };
+    'values: for value in values {
+        let number = runs.len() as u32 + 1;
+        let run = read_run(routines, window, number, value)?;
         runs.push(run)?;
     }
-    Ok(Some(runs))
+    Ok(runs)
 }
 
-/// The time that a member is.
-pub fn time_at(value: &Json, member: &str) -> Option<When>
-    ensures reading { result ≡ time_at member.now (view value.now) }
-    ensures in_range { IfSome result IsCivilTime }
-{
-    let text = text_at(value, member)?;
-    read_time(text).ok()
-}
-
-fn is_small_window(value: &Json) -> bool
-    ensures { result ≡ is_small_window (view value.now) }
-{
-    has_form(Form::Window, value)
-        && lacks(value, "seed")
-        && lacks(value, "probes")
-        && lacks(value, "turns")
-}
-
-/// Reads a window without `seed`, `probes` and `turns`, with at most one run; none where it is no such window.
-pub fn read_window(
+/// Reads the window with this number, after one at the time `before`, of routines with these names.
+#[tactic(auto, unfolding(crate::specs::Windows::window_reading))]
+fn read_window(
     alloc: Global,
+    routines: &Names,
+    number: u32,
+    before: Option<When>,
     value: &Json,
-    routines: &[RoutineText],
-) -> Result<Option<WindowText>, NoMemory>
+) -> Result<WindowText, ReadFault>
     requires { length routines.now ≤ most_routines }
-    ensures reading { IfOk result (λ o. option_map plain_window o ≡ small_window (map plain_routine routines.now) (view value.now)) }
-    ensures in_range { IfOk result (λ o. IfSome o (λ window. IsCivilTime window.at)) }
+    ensures reading { IsReading plain_window result (window_reading routines.now number before (view value.now)) }
+    ensures in_range { IfOk result (λ window. IsCivilTime window.at) }
 {
-    if !is_small_window(value) {
-        return Ok(None);
-    }
-    let Some(at) = time_at(value, "at") else {
-        return Ok(None);
+    let spot = Part::Window.at(number);
+    let Some(members) = window_members(value) else {
+        return Err(ReadFault::Shape(spot));
     };
-    let Some(values) = list_at(value, "runs") else {
-        return Ok(None);
-    };
-    let Some(runs) = read_runs(alloc, values, routines)? else {
-        return Ok(None);
-    };
-    Ok(Some(WindowText {
+    let at = read_window_time(spot, before, members.at)?;
+    within_limit(Count::Probes, u64::from(members.probes))?;
+    within_limit(Count::Turns, members.turns.len() as u64)?;
+    within_limit(Count::Runs, members.runs.len() as u64)?;
+    let runs = members.runs.len() as u32;
+    let turns = read_each_turn(alloc, number, runs, members.turns)?;
+    let runs = read_each_run(alloc, routines, number, members.runs)?;
+    Ok(WindowText {
         at,
-        seed: DEFAULT_SEED,
-        probes: 0,
-        turns: List::new(alloc),
+        seed: members.seed,
+        probes: members.probes,
+        turns,
         runs,
-    }))
+    })
 }
 
-/// Reads at most one window; none where there are more, or it is not read.
+/// Reads the windows of a script, of routines with these names.
 pub fn read_windows(
     alloc: Global,
+    routines: &Names,
     values: &[Json],
-    routines: &[RoutineText],
-) -> Result<Option<List<WindowText>>, NoMemory>
-    requires { length routines.now ≤ most_routines }
-    ensures reading { IfOk result (λ o. option_map (λ windows. map plain_window windows.items) o ≡ few (small_window (map plain_routine routines.now)) (map view values.now)) }
-    ensures in_range { IfOk result (λ o. IfSome o (λ windows. All (λ window. IsCivilTime window.at) windows.items)) }
+) -> Result<List<WindowText>, ReadFault>
+    requires routines { length routines.now ≤ most_routines }
+    requires few { length values.now ≤ most_windows }
+    ensures reading { IsReading (λ windows. map plain_window windows.items) result
+        (read_each (next_window routines.now) [] (map view values.now)) }
+    ensures in_range { IfOk result (λ windows. All (λ window. IsCivilTime window.at) windows.items) }
 {
     let mut windows = List::new(alloc);
-    let Some(one) = one_at_most(values) else {
-        return Ok(None);
-    };
-    if let Some(value) = one {
-        let Some(window) = read_window(alloc, value, routines)? else {
-            return Ok(None);
-        };
+    let mut before = None;
+    'values: for value in values {
+        let number = windows.len() as u32 + 1;
+        let window = read_window(alloc, routines, number, before, value)?;
+        before = Some(window.at);
         windows.push(window)?;
     }
-    Ok(Some(windows))
+    Ok(windows)
 }

@@ -1,0 +1,49 @@
+-- The runs of a window of a sound script.
+use Rattle.routine_reader.specs.Rosters.{run_of_text, script_runs}
+use Rattle.routine_reader.specs.Scripts.{plain_routine, plain_script, plain_window}
+use Rattle.routine_reader.specs.Sound.{IsSound, IsSoundWindow}
+use Rattle.routine_reader.specs.declared.scripts.RunText.{RunText}
+use Rattle.routine_reader.specs.declared.scripts.Script.{Script}
+use Rattle.routine_reader.specs.declared.scripts.WindowText.{WindowText}
+use Rattle.std.proofs.Common.{List, Some, [], ap, get_or, length, map, option_map, subst, sym, take, ℕ, ◌+◌, ◌++◌, ◌<◌, ◌∙◌, ◌≡◌, ◌≤◌, ◌∷◌}
+use Rattle.std.proofs.lemmas.List.Elements.{All-get_or}
+use Rattle.std.proofs.lemmas.List.{length-map, map-append, take_all, take_more}
+use Rattle.std.proofs.lemmas.Option.{get_or_from_slice_get, slice_get-get_or, slice_get-map, slice_get_within}
+use Rattle.std.specs.Prelude.{All, slice_get, unwrap_or}
+
+-- one more run
+pub runs-more : (script : Script) (texts : List RunText) (i : ℕ) (d : RunText) → i < length texts
+    → map (run_of_text script) (take i texts) ++ run_of_text script (get_or texts i d) ∷ [] ≡ map (run_of_text script) (take (i + 1) texts)
+runs-more script texts i d within =
+    sym (map-append (run_of_text script) (take i texts) (get_or texts i d ∷ []))
+    ∙ ap (map (run_of_text script)) (sym (take_more texts i d within))
+
+pub runs-all : (script : Script) (texts : List RunText) (i : ℕ) → length texts ≤ i
+    → map (run_of_text script) (take i texts) ≡ map (run_of_text script) texts
+runs-all script texts i all = ap (map (run_of_text script)) (take_all i texts all)
+
+-- the routines of the runs are there
+pub routines-there : (script : Script) (k : ℕ) (window : WindowText) → IsSound (plain_script script) → slice_get script.windows.items k ≡ Some window
+    → All (λ run. run.routine < length script.routines.items) window.runs.items
+routines-there script k window sound at i d within =
+    let there = slice_get-map plain_window script.windows.items k ∙ ap (option_map plain_window) at in
+    let inside : k < length (map plain_window script.windows.items) = slice_get_within (map plain_window script.windows.items) k (plain_window window) there in
+    let P = IsSoundWindow (length (map plain_routine script.routines.items)) in
+    let sound_window = subst P (get_or_from_slice_get (map plain_window script.windows.items) k (plain_window window) (plain_window window) there)
+    (All-get_or P (map plain_window script.windows.items) k (plain_window window) inside sound.windows) in
+    let run = get_or window.runs.items i d in
+    let placed : run.routine < length (map plain_routine script.routines.items) = (sound_window.runs i run (slice_get-get_or window.runs.items i d within)).routine in
+    subst (λ n. run.routine < n) (length-map script.routines.items plain_routine) placed
+
+-- the runs of a window that is there
+pub runs-there : (script : Script) (k : ℕ) (window : WindowText) → slice_get script.windows.items k ≡ Some window
+    → map (run_of_text script) window.runs.items ≡ script_runs script k
+runs-there script k window at =
+    sym (ap (λ o. unwrap_or (option_map (λ (t : WindowText). map (run_of_text script) t.runs.items) o) []) at)
+
+-- the window at a number that is there
+pub window-there : (script : Script) (k : ℕ) (seen : List WindowText) (window : WindowText) → k < length script.windows.items
+    → seen ≡ script.windows.items → window ≡ get_or seen k window → slice_get script.windows.items k ≡ Some window
+window-there script k seen window within same is =
+    slice_get-get_or script.windows.items k window within
+    ∙ ap (λ ws. Some (get_or ws k window)) (sym same) ∙ ap (λ (w : WindowText). Some w) (sym is)

@@ -1,0 +1,15 @@
+-- The last of the windows.
+use Rattle.routine_reader.specs.Scripts.{PlainWindow}
+use Rattle.routine_reader.specs.Windows.{last_time}
+use Rattle.std.proofs.Common.{List, Some, [], ap, arith, length, length-append, option_map, refl, ◌-◌, ◌++◌, ◌∙◌, ◌≡◌, ◌∷◌}
+use Rattle.std.specs.Prelude.{slice_get}
+
+get-end : {X : Type 0} (xs : List X) (x : X) → slice_get (xs ++ x ∷ []) (length xs) ≡ Some x
+get-end [] x = refl
+get-end (y ∷ ys) x = get-end ys x
+
+pub last-more : (windows : List PlainWindow) (window : PlainWindow) → last_time (windows ++ window ∷ []) ≡ Some window.at
+last-more windows window =
+    let count : length (windows ++ window ∷ []) - 1 ≡ length windows = rw length-append (omega arith) in
+    ap (λ n. option_map (λ (w : PlainWindow). w.at) (slice_get (windows ++ window ∷ []) n)) count
+    ∙ ap (option_map (λ (w : PlainWindow). w.at)) (get-end windows window)

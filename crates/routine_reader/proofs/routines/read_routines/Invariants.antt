@@ -1,0 +1,16 @@
+use Rattle.routine_reader.proofs.routines.read_routines.Given as goal
+use Rattle.routine_reader.specs.Routines.{next_routine, routine_names}
+use Rattle.routine_reader.specs.Scripts.{plain_device, plain_routine}
+use Rattle.routine_reader.specs.Walks.{read_each}
+use Rattle.serde_json.specs.View.{view}
+use Rattle.std.proofs.Common.{[], drop, length, map, ◌≡◌}
+
+abbrev pub invariant-values : goal.invariant-values
+invariant-values l =
+    record {
+      walk :
+          read_each (next_routine (map plain_device l.devices.texts.items)) [] (map view l.values)
+          ≡ read_each (next_routine (map plain_device l.devices.texts.items)) (map plain_routine l.texts.items) (map view (drop l.value-index l.values));
+      names : l.names ≡ routine_names (map plain_routine l.texts.items);
+      count : length l.texts.items ≡ l.value-index;
+    }

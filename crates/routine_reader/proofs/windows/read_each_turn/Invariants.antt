@@ -1,0 +1,14 @@
+use Rattle.routine_reader.proofs.windows.read_each_turn.Given as goal
+use Rattle.routine_reader.specs.Windows.{next_turn}
+use Rattle.routine_reader.specs.Walks.{read_each}
+use Rattle.serde_json.specs.View.{view}
+use Rattle.std.proofs.Common.{[], drop, length, map, ◌≡◌}
+
+abbrev pub invariant-values : goal.invariant-values
+invariant-values l =
+    record {
+      walk :
+          read_each (next_turn l.window l.runs) [] (map view l.values)
+          ≡ read_each (next_turn l.window l.runs) l.turns.items (map view (drop l.value-index l.values));
+      count : length l.turns.items ≡ l.value-index;
+    }
