@@ -56,6 +56,7 @@ pub mod EventsElsewhereDoNotBind
 pub mod FirstLiveRunBoundsTheFloor
 pub mod UndoWaitsForTheDevice
 pub mod SkippedWriteThenRead
+pub mod SlipsAndStrangers
 pub mod AlteredHistories
 pub mod OtherRecords
 pub mod CappedTimes
