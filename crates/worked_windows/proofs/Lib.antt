@@ -61,3 +61,5 @@ pub mod AlteredHistories
 pub mod OtherRecords
 pub mod CappedTimes
 pub mod LegalWindow
+pub mod LegalDay
+pub mod OtherDays
