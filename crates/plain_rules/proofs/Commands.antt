@@ -1,6 +1,5 @@
 -- The commands of a run, found by its place.
 use Rattle.command_rules.specs.Rosters.{commands_of, followed_by, plain_run}
-use Rattle.home_types.specs.declared.numbers.RunNo.{RunNo}
 use Rattle.command_rules.specs.declared.rosters.RosterRun.{RosterRun}
 use Rattle.std.proofs.Common.{ap, arith, sym, ◌∙◌}
 use Rattle.std.proofs.lemmas.Option.{slice_get-map}

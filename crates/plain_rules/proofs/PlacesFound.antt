@@ -1,13 +1,12 @@
 -- Places, found one item or one device after another.
 use Rattle.command_rules.specs.Rosters.{device_no, reads_first, run_no, touches}
 use Rattle.history_book.specs.Lines.{split_at}
-use Rattle.history_book.specs.Readings.{Reading, is_live}
+use Rattle.history_book.specs.Readings.{Reading}
 use Rattle.history_book.specs.Settings.{Setting}
 use Rattle.home_types.specs.declared.items.Item.{Item}
 use Rattle.home_types.specs.declared.numbers.DeviceNo.{DeviceNo}
-use Rattle.home_types.specs.declared.numbers.RunNo.{RunNo}
 use Rattle.lock_leasing.specs.Configurations.{Grips}
-use Rattle.lock_leasing.specs.Places.{At, Denial, Placing, at_end, denied_by, first_place, first_some, fits, fits_on, timeline, up_to_first, up_to_last}
+use Rattle.lock_leasing.specs.Places.{At, Denial, at_end, denied_by, first_place, first_some, fits, timeline, up_to_first, up_to_last}
 use Rattle.lock_leasing.specs.Words.{effective_writer_of, holds_device, live_runs}
 use Rattle.plain_rules.proofs.FirstFound.{any_found, find_filtered}
 use Rattle.plain_rules.proofs.PlannedTimes.{next_range}
@@ -19,7 +18,7 @@ use Rattle.std.proofs.lemmas.List.Folds.{list_any-append}
 use Rattle.std.proofs.lemmas.List.{length-take-le, take_all, take_more}
 use Rattle.std.specs.List.{list_all, list_any, range_with_len}
 use Rattle.std.specs.Option.{option_or}
-use Rattle.std.specs.Prelude.{Bool, List, None, Option, Some, [], drop, false, filter, find, if◌then◌else◌, is_some, length, not, option_map, slice_index_or, suc, take, true, unwrap_or, zero, ℕ, ◌&&◌, ◌+◌, ◌++◌, ◌-◌, ◌<◌, ◌||◌, ◌∷◌, ◌≡◌, ◌≤◌}
+use Rattle.std.specs.Prelude.{Bool, List, None, Option, Some, [], false, filter, find, if◌then◌else◌, is_some, length, not, option_map, slice_index_or, suc, take, true, unwrap_or, zero, ℕ, ◌&&◌, ◌+◌, ◌++◌, ◌-◌, ◌<◌, ◌||◌, ◌∷◌, ◌≡◌, ◌≤◌}
 
 any_one : (test : Item → Bool) (j : Item) → list_any test (j ∷ []) ≡ test j
 any_one test j = elim (test j) as (λ b. (b || false) ≡ b) [

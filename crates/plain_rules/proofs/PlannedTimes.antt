@@ -1,7 +1,7 @@
 -- Planned times, as the plain programs find them in a list of many runs' commands.
-use Rattle.command_rules.specs.Rosters.{Run, commands_of, no_command, touches}
+use Rattle.command_rules.specs.Rosters.{Run, commands_of, touches}
 use Rattle.history_book.specs.Lines.{behind, is_ran}
-use Rattle.history_book.specs.Plans.{Planning, free, plan_more, planned_end, planned_start, planned_times, whole_end}
+use Rattle.history_book.specs.Plans.{Planning, free, plan_more, planned_end, planned_times, whole_end}
 use Rattle.history_book.specs.Readings.{Planned, Reading}
 use Rattle.history_book.specs.Settings.{Setting}
 use Rattle.home_types.specs.declared.commands.Command.{Command}
@@ -27,7 +27,7 @@ use Rattle.std.proofs.lemmas.List.Sums.{fold-append}
 use Rattle.std.proofs.lemmas.List.{map-append, take_more}
 use Rattle.std.specs.List.{list_any, range_with_len}
 use Rattle.std.specs.Option.{option_or}
-use Rattle.std.specs.Prelude.{Bool, List, None, Option, Some, [], false, filter, find, fold, if◌then◌else◌, length, map, max, not, option_map, slice_index_or, suc, take, true, unwrap_or, zero, ℕ, ◌&&◌, ◌+◌, ◌++◌, ◌<◌, ◌==◌, ◌||◌, ◌∷◌, ◌≡◌}
+use Rattle.std.specs.Prelude.{Bool, List, None, Option, Some, [], false, filter, find, fold, if◌then◌else◌, length, map, max, not, option_map, slice_index_or, suc, take, true, zero, ℕ, ◌&&◌, ◌+◌, ◌++◌, ◌<◌, ◌==◌, ◌||◌, ◌∷◌, ◌≡◌}
 
 -- Starts and ends on a device
 

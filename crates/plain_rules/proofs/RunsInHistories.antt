@@ -20,7 +20,7 @@ use Rattle.plain_rules.specs.declared.runs.Use.{Use}
 use Rattle.std.proofs.Common.{ap, arith, refl, sym, ◌∙◌}
 use Rattle.std.proofs.lemmas.Grind.{common_steps}
 use Rattle.std.proofs.lemmas.List.{length-take-le, take_more}
-use Rattle.std.specs.Prelude.{Bool, List, Some, [], false, if◌then◌else◌, length, slice_index_or, take, true, ℕ, ◌&&◌, ◌+◌, ◌++◌, ◌<◌, ◌==◌, ◌∷◌, ◌≡◌, ◌≤◌}
+use Rattle.std.specs.Prelude.{Bool, List, Some, false, if◌then◌else◌, length, slice_index_or, take, true, ℕ, ◌&&◌, ◌+◌, ◌<◌, ◌==◌, ◌≡◌}
 
 -- a part of one place's value, where another place or this one is put
 pub put_told : {A B : Type 0} (told : A → B) (f : ℕ → A) (q r : ℕ) (v : A) (s : B) → (q ≡ r → s ≡ told v) → (if q == r then s else told (f r)) ≡ told (put f q v r)

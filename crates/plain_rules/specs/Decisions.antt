@@ -18,7 +18,7 @@ use Rattle.plain_rules.specs.declared.decisions.Cases.{Cases}
 use Rattle.plain_rules.specs.declared.decisions.Decision.TheVariants.{Absent as IsAbsent, HandsOut as Hands, Moves as Moved, Over as IsOver, Waits as WaitsFor}
 use Rattle.plain_rules.specs.declared.decisions.Decision.{Decision}
 use Rattle.plain_rules.specs.declared.decisions.Overdue.{Overdue}
-use Rattle.std.specs.Prelude.{Bool, List, None, Option, [], false, is_none, not, option_map, true, unwrap_or, ℕ, ◌∷◌}
+use Rattle.std.specs.Prelude.{Bool, List, None, Option, [], false, is_none, not, option_map, true, ℕ, ◌∷◌}
 
 -- the decision as a step
 abbrev pub choice_told : Decision → Choice

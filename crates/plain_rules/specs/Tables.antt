@@ -1,7 +1,6 @@
 -- Words of a line beside a plain table.
-use Rattle.home_types.specs.declared.items.Item.TheVariants.{Back, Failed, Ran}
 use Rattle.home_types.specs.declared.items.Item.{Item}
-use Rattle.std.specs.Prelude.{Bool, List, None, Option, [], false, if◌then◌else◌, option_map, slice_index_or, ℕ, ◌∷◌}
+use Rattle.std.specs.Prelude.{Bool, List, [], false, if◌then◌else◌, slice_index_or, ℕ, ◌∷◌}
 
 -- the table marks the run, by its number
 abbrev pub is_marked : List Bool → ℕ → Bool

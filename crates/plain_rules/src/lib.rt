@@ -1,23 +1,25 @@
 // Plain programs for some of the rules: small and slow, over lists, each equal to its definition. No other crate stands on them.
 #![tactic(auto)]
 
-pub mod accesses;
-pub mod decisions;
-pub mod devices;
-pub mod histories;
-pub mod lines;
-pub mod orders;
-pub mod places;
-pub mod plans;
-pub mod readings;
-pub mod reads;
-pub mod routines;
-pub mod runs;
-pub mod searches;
-pub mod situations;
-pub mod takes;
-pub mod waits;
-pub mod windows;
+mod accesses;
+mod decisions;
+mod devices;
+mod histories;
+mod lines;
+mod orders;
+mod places;
+mod plans;
+mod readings;
+mod reads;
+mod routines;
+mod runs;
+mod searches;
+mod situations;
+mod takes;
+#[cfg(test)]
+mod tests;
+mod waits;
+mod windows;
 
 pub use accesses::Write;
 pub use decisions::Decision;

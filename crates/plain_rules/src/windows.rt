@@ -56,7 +56,7 @@ impl Window {
     }
 
     /// Its runs.
-    pub fn roster(&self) -> &Roster
+    pub(crate) fn roster(&self) -> &Roster
         ensures runs { runs_of result.now ≡ self.now.runs }
         ensures few { length result.now.runs.items < 2 ^ 32 }
     {
@@ -64,21 +64,21 @@ impl Window {
     }
 
     /// Its mode.
-    pub fn mode(&self) -> Mode
+    pub(crate) fn mode(&self) -> Mode
         ensures { result ≡ self.now.mode }
     {
         self.mode
     }
 
     /// How many devices the home has.
-    pub fn device_count(&self) -> u16
+    pub(crate) fn device_count(&self) -> u16
         ensures { result ≡ length self.now.first }
     {
         self.first.devices.len() as u16
     }
 
     /// The commands of a run; none where there is no such run.
-    pub fn commands(&self, run: RunNo) -> &[Command]
+    pub(crate) fn commands(&self, run: RunNo) -> &[Command]
         ensures are { result.now ≡ commands_of self.now.runs run.0 }
         ensures few { length result.now < 2 ^ 32 }
     {
@@ -86,7 +86,7 @@ impl Window {
     }
 
     /// The run's command of this number, counted from 0; a load from device 0 where there is none.
-    pub fn command_at(&self, run: RunNo, number: u32) -> Command
+    pub(crate) fn command_at(&self, run: RunNo, number: u32) -> Command
         ensures { result ≡ command_at_in self.now.runs run.0 number }
     {
         match commands(&self.roster, run).get(number as usize) {
@@ -102,28 +102,28 @@ impl Window {
     }
 
     /// Whether the window has this run.
-    pub fn has_run(&self, run: RunNo) -> bool
+    pub(crate) fn has_run(&self, run: RunNo) -> bool
         ensures { result ≡ is_run_in self.now.runs run.0 }
     {
         has_run(&self.roster, run)
     }
 
     /// The run that this one follows.
-    pub fn followed_by(&self, run: RunNo) -> Option<RunNo>
+    pub(crate) fn followed_by(&self, run: RunNo) -> Option<RunNo>
         ensures { result ≡ followed_in self.now.runs run.0 }
     {
         followed_by(&self.roster, run)
     }
 
     /// Whether a command of the run is on the device.
-    pub fn touches(&self, run: RunNo, device: DeviceNo) -> bool
+    pub(crate) fn touches(&self, run: RunNo, device: DeviceNo) -> bool
         ensures { result ≡ touches_in self.now.runs run.0 device.0 }
     {
         has_command_on(self.commands(run), device)
     }
 
     /// Whether the run's first command on the device reads it.
-    pub fn reads_first(&self, run: RunNo, device: DeviceNo) -> bool
+    pub(crate) fn reads_first(&self, run: RunNo, device: DeviceNo) -> bool
         ensures { result ≡ reads_first self.now.runs run.0 device.0 }
     {
         let commands = self.commands(run);
@@ -134,7 +134,7 @@ impl Window {
     }
 
     /// Whether a command of the run on the device writes it.
-    pub fn writes_on(&self, run: RunNo, device: DeviceNo) -> bool
+    pub(crate) fn writes_on(&self, run: RunNo, device: DeviceNo) -> bool
         ensures { result ≡ writes_on self.now.runs run.0 device.0 }
     {
         let commands = self.commands(run);
@@ -144,7 +144,7 @@ impl Window {
     }
 
     /// Whether both runs touch some device.
-    pub fn shares(&self, one: RunNo, other: RunNo) -> bool
+    pub(crate) fn shares(&self, one: RunNo, other: RunNo) -> bool
         ensures { result ≡ shares_in self.now.runs one.0 other.0 }
     {
         let others = self.commands(other);
@@ -155,14 +155,14 @@ impl Window {
     }
 
     /// The sum of the run's estimates, in ms, up to and with its last command on the device.
-    pub fn estimate_to_last(&self, run: RunNo, device: DeviceNo) -> u64
+    pub(crate) fn estimate_to_last(&self, run: RunNo, device: DeviceNo) -> u64
         ensures { result ≡ estimate_to_last device.0 (commands_of self.now.runs run.0) }
     {
         sum_to_last(self.commands(run), device)
     }
 
     /// The kind of the device; one of no states where the home has no such device.
-    pub fn kind_at(&self, device: DeviceNo) -> Kind
+    pub(crate) fn kind_at(&self, device: DeviceNo) -> Kind
         ensures { result ≡ kind_in self.now.kinds device.0 }
     {
         match self.kinds.as_slice().get(device.0 as usize) {
@@ -172,7 +172,7 @@ impl Window {
     }
 
     /// Where the device stood when the window was opened; down at 0 where the home has no such device.
-    pub fn first_stand(&self, device: DeviceNo) -> Stand
+    pub(crate) fn first_stand(&self, device: DeviceNo) -> Stand
         ensures { result ≡ stand_at self.now.first device.0 }
     {
         match self.first.devices.as_slice().get(device.0 as usize) {
