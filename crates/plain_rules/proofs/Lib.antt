@@ -1,6 +1,11 @@
 pub mod Commands
+pub mod DecidedCases
 pub mod EventsInHistories
 pub mod EventsInLines
+pub mod HistoriesRead
 pub mod HistoryWords
+pub mod PlacesFound
+pub mod PlannedTimes
+pub mod RunsInHistories
+pub mod FirstFound
 pub mod ToldCases
-pub mod WritesInEffect

@@ -1,4 +1,12 @@
+pub mod Accesses
 pub mod Decisions
+pub mod DeviceStates
 pub mod Executions
 pub mod Histories
+pub mod Places
+pub mod Plans
+pub mod Reads
+pub mod RunStates
+pub mod Situations
+pub mod Sizes
 pub mod Tables

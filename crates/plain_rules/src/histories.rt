@@ -93,7 +93,7 @@ fn with_run(mut line: Vec<Item>, run: RunNo, place: u32) -> Result<Vec<Item>, Al
 /// Gives the line with one entry more.
 ///
 /// `AllocError` where there is no memory for the new line.
-fn with_entry(
+pub fn with_entry(
     alloc: Global,
     roster: &Roster,
     mode: Mode,

@@ -1,4 +1,4 @@
-ghost use Rattle.command_rules.specs.Rosters.{commands_of, plain_run, run_at, runs_of};
+ghost use Rattle.command_rules.specs.Rosters.{commands_of, followed_by as followed_in, is_run, plain_run, run_at, runs_of};
 ghost use Rattle.command_rules.specs.Serial.{serial_execution, serve as serve_item};
 ghost use Rattle.plain_rules.specs.Executions.{IsHomed, is_item_in, serial_of};
 ghost use Rattle.std.specs.Prelude.{◌≡◌, ◌<◌, All, IfOk, List, OnOk, fold, length, map};
@@ -38,6 +38,26 @@ pub fn commands(roster: &Roster, run: RunNo) -> &[Command]
         Some(run) => run.routine.commands.as_slice(),
         None => &[],
     }
+}
+
+/// The run that this one follows.
+pub fn followed_by(roster: &Roster, run: RunNo) -> Option<RunNo>
+    ensures { result ≡ followed_in (runs_of roster.now) run.0 }
+{
+    if run.0 == 0 {
+        return None;
+    }
+    match roster.runs.get(run.0 as u64 - 1) {
+        Some(run) => run.follows,
+        None => None,
+    }
+}
+
+/// Whether the window has this run.
+pub fn has_run(roster: &Roster, run: RunNo) -> bool
+    ensures { result ≡ is_run (runs_of roster.now) run.0 }
+{
+    run.0 != 0 && roster.runs.get(run.0 as u64 - 1).is_some()
 }
 
 /// Executes the next item.

@@ -1,5 +1,5 @@
 -- The window jit-denied-by-the-floor-itself.
-use Rattle.command_rules.specs.Rosters.{device_no, follows, run_no}
+use Rattle.command_rules.specs.Rosters.{device_no, run_no}
 use Rattle.history_book.specs.Histories.{answers_in, executed, reading}
 use Rattle.history_book.specs.Lines.{split_at}
 use Rattle.history_book.specs.Plans.{split_of}

@@ -49,7 +49,7 @@ unfolding split_of
 agrees_is = record { applies = refl; answers = refl; home = refl; counted = λ d within. grind (arith, common_steps) }
 
 -- each field of a legal window
-one_window_is_legal : IsLegalWindow worked.window closed
+pub one_window_is_legal : IsLegalWindow worked.window closed
 unfolding split_of
 one_window_is_legal = record {
   mode = refl;

@@ -56,7 +56,10 @@ pub mod EventsElsewhereDoNotBind
 pub mod FirstLiveRunBoundsTheFloor
 pub mod UndoWaitsForTheDevice
 pub mod SkippedWriteThenRead
+pub mod SlipsAndStrangers
 pub mod AlteredHistories
 pub mod OtherRecords
 pub mod CappedTimes
 pub mod LegalWindow
+pub mod LegalDay
+pub mod OtherDays

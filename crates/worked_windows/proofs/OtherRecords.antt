@@ -23,7 +23,7 @@ use Rattle.std.proofs.lemmas.Grind.{common_steps}
 use Rattle.std.specs.Prelude.{List, [], false, length, refl, true, ℕ, ◌==◌, ◌∷◌, ◌≡◌, ◌≤◌}
 use Rattle.worked_windows.proofs.Edits.{replaced}
 
-differ : (a b : ℕ) → (a == b) ≡ false → a ≡ b → ⊥
+pub differ : (a b : ℕ) → (a == b) ≡ false → a ≡ b → ⊥
 differ a b other same = grind (arith, common_steps)
 
 -- the value in the first answer, 0 where it has none

@@ -1,5 +1,5 @@
 -- The window skipped-and-down-at-end: under a strict model a device on which a best-effort command was answered Down is an access, and down at the end.
-use Rattle.command_rules.specs.Rosters.{device_no, follows, run_no}
+use Rattle.command_rules.specs.Rosters.{device_no, run_no}
 use Rattle.history_book.specs.Histories.{answers_in, executed, reading}
 use Rattle.history_book.specs.Lines.{split_at}
 use Rattle.history_book.specs.Plans.{split_of}

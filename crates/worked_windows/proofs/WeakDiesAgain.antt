@@ -1,5 +1,5 @@
 -- The window weak-dies-again: under the weak model a run may see a device down, then up, then dead, and a dead later access is not a loss.
-use Rattle.command_rules.specs.Rosters.{device_no, follows, run_no}
+use Rattle.command_rules.specs.Rosters.{device_no, run_no}
 use Rattle.history_book.specs.Histories.{reading}
 use Rattle.history_book.specs.Lines.{split_at}
 use Rattle.history_book.specs.Plans.{split_of}

@@ -1,0 +1,31 @@
+use Rattle.command_rules.specs.Rosters.{device_no}
+use Rattle.history_book.specs.Readings.{Reading}
+use Rattle.history_book.specs.Settings.{Setting}
+use Rattle.hub_core.specs.Steps.{Waits, decide_answered}
+use Rattle.hub_core.specs.declared.waits.Why.TheVariants.{Busy}
+use Rattle.lock_leasing.specs.Configurations.{Grips}
+use Rattle.lock_leasing.specs.Waits.{grip_wait}
+use Rattle.plain_rules.proofs.DecidedCases.{case_none, case_some}
+use Rattle.plain_rules.proofs.decisions.decide_unended.Goals as goal
+use Rattle.plain_rules.specs.Decisions.{new_cases}
+use Rattle.plain_rules.specs.Places.{placing_told}
+use Rattle.plain_rules.specs.Situations.{grips_of, reading_in}
+use Rattle.std.proofs.Common.{refl, ◌∙◌}
+use Rattle.std.specs.Prelude.{ℕ}
+
+pub returns-in-Some : goal.returns-in-Some
+returns-in-Some c =
+    let w : Setting = c.args.window.now in
+    let n : Reading = reading_in w c.args.now.now in
+    let g : Grips = grips_of c.args.now.now.grips.items in
+    let r : ℕ = c.args.run.0 in
+    case_some device_no (λ d. Waits (Busy (device_no d))) (λ x. Waits (Busy x)) (λ a. refl) (grip_wait w g r) c.in-Some.device (new_cases w n g r c.args.moment (placing_told c.args.now.now.line.items c.args.placing)) (decide_answered w n g r) c.in-Some.ensures
+
+pub returns-in-None : goal.returns-in-None
+returns-in-None c =
+    let w : Setting = c.args.window.now in
+    let n : Reading = reading_in w c.args.now.now in
+    let g : Grips = grips_of c.args.now.now.grips.items in
+    let r : ℕ = c.args.run.0 in
+    c.decide_free.ensures
+    ∙ case_none device_no (λ d. Waits (Busy (device_no d))) (grip_wait w g r) (new_cases w n g r c.args.moment (placing_told c.args.now.now.line.items c.args.placing)) (decide_answered w n g r) c.in-None.ensures
