@@ -114,6 +114,9 @@ fn reads_every_member(rt: HostRuntime) -> Result<(), Fail> {
 #[test]
 fn gives_the_runs_of_a_window(rt: HostRuntime) -> Result<(), Fail> {
     let script = read_script(rt.alloc(), A_MORNING.as_bytes())?;
+    if script.windows.len() != 2 {
+        return Err(Fail::new("no two windows"));
+    }
     let Ok(first) = roster(rt.alloc(), &script, 0) else {
         return Err(Fail::new("no memory"));
     };
