@@ -2,14 +2,14 @@
 use Rattle.device_gate.specs.Places.{AllHome, AreNumbered, all_home}
 use Rattle.device_gate.specs.declared.gates.Place.TheVariants.{Home, Out}
 use Rattle.device_gate.specs.declared.gates.Place.{Place}
-use Rattle.history_book.specs.Histories.{entries_of}
+use Rattle.history_book.specs.Histories.{entries_of, reading}
 use Rattle.history_book.specs.declared.records.WindowRecord.{WindowRecord}
 use Rattle.home_types.specs.HomeStates.{nowhere, stand_at}
 use Rattle.home_types.specs.Kinds.{has_value, kind_at}
 use Rattle.home_types.specs.declared.kinds.Kind.{Kind}
 use Rattle.home_types.specs.declared.worlds.Stand.{Stand}
 use Rattle.hub_core.proofs.Calls.{no_falls}
-use Rattle.hub_core.proofs.Closings.{legal_window, none_out, quiet_is}
+use Rattle.hub_core.proofs.Closings.{ended_committed, legal_window, none_out, quiet_is}
 use Rattle.hub_core.proofs.Sizes.{history_fits}
 use Rattle.hub_core.proofs.StageChoices.{StepsPlainly, steps_plainly}
 use Rattle.hub_core.specs.AccountedCalls.{CallsAreAccounted, tells_call, told_calls}
@@ -174,6 +174,7 @@ window_closed {D = D} tag stands turns probes faults s devices kinds world close
       kinds = kinds_are;
       last = world_is ∙ sym tells.last;
       opened = refl;
+      commits = λ r run. ap (λ h. ((reading s.setting (entries_of h)).run r).ended) tells.history ∙ ended_committed (configuration_of s) s.rounds s.opened (held_in s) r c.kept.configuration (quiet_is (configuration_of s) c.quiet) run;
       places = sym c.places;
       up = λ d lt. ap (λ l. (stand_at l d).up) world_is ∙ ap (λ (x : Stand). x.up) (stand_of d (let same = ap (λ l. length l) world_is in omega (arith, lt, same, size)));
       turns_rose = λ d device at. tells.turns_rose.each d device (known d device at) at;

@@ -133,7 +133,7 @@ for_command stands turns probes faults s slip task known k kept there is for =
     writes = ap (λ (c : Command). reads c.job) same ∙ plainly.writes r (next_of n r) out.0 out.1.next
 
     set : IsTrue (is_set out.0.job)
-    set = let must : IsTrue (is_set out.0.job && out.0.must) = kept.configuration.stage.sets r (next_of n r) out.0 out.1.next in grind (arith, common_steps)
+    set = kept.configuration.stage.sets r (next_of n r) out.0 out.1.next
 
     named : IsTrue (names_values_of (kind_at w.kinds slip.device.0) out.0.job)
     named =

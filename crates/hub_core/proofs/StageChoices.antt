@@ -180,11 +180,11 @@ decide_plain w n g r m p =
 
 -- A configuration that is kept
 
-is_write : (job : Job) (must : Bool) → (is_set job && must) ≡ true → reads job ≡ false
-is_write (Set v) must e = refl
-is_write (Check v) must e = absurd (cc)
-is_write Load must e = absurd (cc)
-is_write Store must e = absurd (cc)
+is_write : (job : Job) → is_set job ≡ true → reads job ≡ false
+is_write (Set v) e = refl
+is_write (Check v) e = absurd (cc)
+is_write Load e = absurd (cc)
+is_write Store e = absurd (cc)
 
 -- a live run stands in the line
 pub live_stands : (n : Reading) (r : ℕ) → Standing n → is_live n r ≡ true → list_any (is_ran r) n.line ≡ true
@@ -200,7 +200,7 @@ steps_plainly s rounds opened held kept =
     record {
       mode = kept.stage.mode;
       follows_none = kept.stage.follows_none;
-      writes = λ r k c at. is_write c.job c.must (kept.stage.sets r k c at);
+      writes = λ r k c at. is_write c.job (kept.stage.sets r k c at);
       homed = λ r k c at. let home : IsTrue (is_device s.setting c.device.0 && names_values_of (kind_at s.setting.kinds c.device.0) c.job) = kept.opens.homed r k c at in grind (arith, common_steps);
       up = λ d home. read.up d ∙ kept.stage.up d (let below : nat_lt d (length s.setting.first) ≡ true = home in grind (arith, common_steps));
       read = read;

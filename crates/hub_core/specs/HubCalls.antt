@@ -6,8 +6,9 @@ use Rattle.device_gate.specs.declared.grips.Done.{Done}
 use Rattle.device_gate.specs.declared.grips.Ready.{Ready}
 use Rattle.device_gate.specs.declared.slips.Slip.{Slip}
 use Rattle.device_gate.specs.declared.strangers.Stranger.{Stranger}
-use Rattle.history_book.specs.Histories.{entries_made, entries_of}
+use Rattle.history_book.specs.Histories.{entries_made, entries_of, reading}
 use Rattle.history_book.specs.Settings.{Setting}
+use Rattle.history_book.specs.declared.entries.End.TheVariants.{Committed}
 use Rattle.history_book.specs.declared.entries.Made.{Made}
 use Rattle.history_book.specs.declared.records.WindowRecord.{WindowRecord}
 use Rattle.home_types.specs.HomeStates.{stand_at}
@@ -105,7 +106,9 @@ pub record IsClosed {D : Type 0} (turns probes faults : D → ℕ) (s : OpenHub 
   pub last : home.world ≡ closed.last.devices.items
   pub opened : home.opened ≡ s.opened + 1
   pub places : s.places ≡ all_home home.devices
-  -- in this stage no device fails
+  -- in this stage every run commits
+  pub commits : (r : ℕ) → is_run s.setting.runs r ≡ true → ((reading s.setting (entries_of closed.history.items)).run r).ended ≡ Some Committed
+  -- and no device fails
   pub up : (d : ℕ) → d < length home.world → (stand_at home.world d).up ≡ true
   pub turns_rose : (d : ℕ) (device : D) → slice_get home.devices d ≡ Some device → turns device ≡ (device_at s.devices d).at_opening.turns + slice_index_or closed.turns.items d 0
   pub probes_rose : (d : ℕ) (device : D) → slice_get home.devices d ≡ Some device → probes device ≡ (device_at s.devices d).at_opening.probes + (s.rounds - (device_at s.devices d).probes_left)
@@ -142,6 +145,7 @@ pub record CallsAreTold {D : Type 0} (turns probes : D → ℕ) (s : OpenHub D) 
 -- in every hub each device has a place, the grips that are out fit the history, the four clauses of the order hold, reads are clean, aborts are justified, devices stand where they should, and their calls are told
 pub record HubStands {D : Type 0} (stands turns probes : D → ℕ) (s : OpenHub D) : Type 0 where
   pub size : length s.places ≡ length s.setting.first
+  pub few_runs : length s.setting.runs ≤ 64
   pub grips : GripsFit s.setting (read_of (configuration_of s)) (configuration_of s).grips
   pub order : OrderStands s.setting (read_of (configuration_of s)) (configuration_of s).grips
   pub clean : ReadsAreClean s.setting (entries_of s.history)

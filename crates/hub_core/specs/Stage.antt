@@ -1,4 +1,4 @@
--- What this stage of the hub is built for: the global model, on a home with every device up, runs of must `set` commands that follow no run, and no probes.
+-- What this stage of the hub is built for: the global model, on a home with every device up, runs of `set` commands that follow no run, and no probes.
 use Rattle.command_rules.specs.Rosters.{commands_of, device_no, followed_by, is_run, run_no}
 use Rattle.history_book.specs.Readings.{Reading, next_command, next_of}
 use Rattle.history_book.specs.Settings.{Setting}
@@ -14,7 +14,7 @@ use Rattle.hub_core.specs.Steps.{Absent, Choice, HandsOut, Moves, Over, Waits, b
 use Rattle.hub_core.specs.declared.waits.Why.TheVariants.{Busy}
 use Rattle.lock_leasing.specs.Configurations.{Commands, Grips, is_out}
 use Rattle.lock_leasing.specs.Waits.{grip_wait}
-use Rattle.std.specs.Prelude.{Bool, IsTrue, None, Some, [], false, is_none, length, not, option_map, slice_get, true, ℕ, ◌&&◌, ◌<◌, ◌∷◌, ◌≡◌}
+use Rattle.std.specs.Prelude.{Bool, IsTrue, None, Some, [], false, is_none, length, not, option_map, slice_get, true, ℕ, ◌<◌, ◌∷◌, ◌≡◌}
 
 abbrev pub is_set : Job → Bool
 is_set (Set v) = true
@@ -25,7 +25,7 @@ is_set Store = false
 -- this stage works the window
 pub record StageAllows (w : Setting) (rounds : ℕ) : Type 0 where
   pub mode : w.mode ≡ record { model = Global; scheduler = Fcfs }
-  pub sets : (r k : ℕ) (c : Command) → slice_get (commands_of w.runs r) k ≡ Some c → IsTrue (is_set c.job && c.must)
+  pub sets : (r k : ℕ) (c : Command) → slice_get (commands_of w.runs r) k ≡ Some c → is_set c.job ≡ true
   pub follows_none : (r : ℕ) → followed_by w.runs r ≡ None
   pub up : (d : ℕ) → d < length w.first → (stand_at w.first d).up ≡ true
   pub no_probes : rounds ≡ 0
