@@ -57,7 +57,7 @@ stands_hub {D = D} stands turns probes faults s k =
     let read = read_facts s.setting (entries_of s.history) c.history.well_formed in
     record {
       size = k.places_size;
-    few_runs = c.opens.few_runs;
+      few_runs = c.opens.few_runs;
       grips = c.order.grips;
       order = order_stands s.setting (read_of (configuration_of s)) (configuration_of s).grips (held_in s) read c.order;
       clean = c.history.clean;
