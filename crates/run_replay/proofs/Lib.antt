@@ -2,3 +2,18 @@ mod CaseDownAtEnd
 mod CaseLeaseOverdue
 mod CaseProbePassed
 mod CaseUndoDies
+pub mod Waiting
+pub mod Tellings
+pub mod Drawn
+pub mod Making
+pub mod Settings
+pub mod Holding
+pub mod Gripping
+pub mod Picking
+pub mod Stepping
+pub mod Living
+pub mod Ending
+pub mod Taking
+pub mod Acting
+pub mod Progress
+pub mod HubSteps

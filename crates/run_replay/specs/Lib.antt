@@ -1,2 +1,4 @@
 pub mod Draws
 pub mod Replays
+pub mod Playing
+pub mod Players

@@ -2,7 +2,6 @@
 use Rattle.command_rules.specs.Rosters.{command_at, is_run}
 use Rattle.history_book.specs.Settings.{Setting}
 use Rattle.history_book.specs.declared.entries.Entry.{Entry}
-use Rattle.history_book.specs.declared.entries.Kept.{Kept}
 use Rattle.hub_core.specs.Steps.{Absent, Choice, HandsOut, Moves, Over, Waits, after_give, after_take, after_take_probe, at_moment, choice_of, give_entries, may_probe, opened}
 use Rattle.device_gate.specs.declared.slips.Told.{Told}
 use Rattle.hub_core.specs.declared.waits.Why.{Why}
@@ -84,19 +83,17 @@ act_on course p d grip =
 abbrev pub act_where_out : Course → Play → ℕ → Pick
 act_where_out course p d = unwrap_or (option_map (act_on course p d) (p.configuration.grips d)) (passes p)
 
+-- what a pick does whose run takes this step
+abbrev pub picked_by : Choice → Picked
+picked_by Absent = Passed
+picked_by (Over e entries) = Made entries
+picked_by (Moves entries) = Made entries
+picked_by (Waits why) = Waited why
+picked_by (HandsOut d purpose) = Took d
+
 -- a run with no grip takes its step
 abbrev pub run_takes : Play → ℕ → Pick
-run_takes p r = record { picked = picked_by choice; next = record p { configuration = after_take p.configuration r p.moment } }
-  where
-    choice : Choice
-    choice = choice_of p.configuration r p.moment
-
-    picked_by : Choice → Picked
-    picked_by Absent = Passed
-    picked_by (Over e entries) = Made entries
-    picked_by (Moves entries) = Made entries
-    picked_by (Waits why) = Waited why
-    picked_by (HandsOut d purpose) = Took d
+run_takes p r = record { picked = picked_by (choice_of p.configuration r p.moment); next = record p { configuration = after_take p.configuration r p.moment } }
 
 -- the detector comes to the next device of its round
 abbrev pub detector_takes : Play → Pick
@@ -105,13 +102,14 @@ detector_takes p = if may_probe p.configuration d then record { picked = Took d;
     d : ℕ
     d = p.place % length p.configuration.setting.first
 
+-- an actor with no grip takes
+abbrev pub actor_takes : Play → ℕ → Pick
+actor_takes p zero = detector_takes p
+actor_takes p (suc r) = run_takes p (suc r)
+
 -- an actor with a grip acts and gives it back, one without takes
 abbrev pub pick_live : Course → Play → ℕ → Pick
-pick_live course p a = unwrap_or (option_map (act_where_out course p) (gripped p a)) (takes a)
-  where
-    takes : ℕ → Pick
-    takes zero = detector_takes p
-    takes (suc r) = run_takes p (suc r)
+pick_live course p a = unwrap_or (option_map (act_where_out course p) (gripped p a)) (actor_takes p a)
 
 -- one pick of an actor: a run, or 0 for the detector
 abbrev pub pick : Course → Play → ℕ → Pick
@@ -163,13 +161,17 @@ draw_times course (suc k) s = draw_times course k (draw_once course s)
 abbrev pub start_of : Setting → ℕ → Play
 start_of w rounds = record { configuration = opened w rounds; moment = 0; place = 0; acts = 0 }
 
+-- a play goes on by these picks, and then by so many draws of the generator from this seed
+abbrev pub replay_from : Course → Play → List ℕ → ℕ → ℕ → Play
+replay_from course p picks seed draws = (draw_times course draws (record { play = play course p picks; state = seed })).play
+
 -- the window replayed: its picks, and then so many draws of the generator from this seed
 abbrev pub replay_of : Course → Setting → List ℕ → ℕ → ℕ → Play
-replay_of course w picks seed draws = (draw_times course draws (record { play = play course (start_of w course.rounds) picks; state = seed })).play
+replay_of course w picks seed draws = replay_from course (start_of w course.rounds) picks seed draws
 
--- the history is that of the replay, for what the devices told: after some draws every actor has ended
-pub record IsReplay (w : Setting) (rounds : ℕ) (picks : List ℕ) (seed : ℕ) (history : List Kept) : Type 0 where
+-- the play is the replay of the window with so many probes of each device, in so many rounds of the detector, for what the devices told: after some draws every actor has ended
+pub record IsReplay (w : Setting) (probes rounds : ℕ) (picks : List ℕ) (seed : ℕ) (p : Play) : Type 0 where
   pub told : ℕ → Told
   pub draws : ℕ
-  pub over : actors (record { rounds = rounds; told = told }) (replay_of (record { rounds = rounds; told = told }) w picks seed draws) ≡ []
-  pub history_is : (replay_of (record { rounds = rounds; told = told }) w picks seed draws).configuration.history ≡ history
+  pub over : actors (record { rounds = rounds; told = told }) p ≡ []
+  pub replayed : replay_from (record { rounds = rounds; told = told }) (start_of w probes) picks seed draws ≡ p

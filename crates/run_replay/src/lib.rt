@@ -2,5 +2,9 @@
 #![tactic(auto)]
 
 pub mod draws;
+pub mod picked;
+pub mod players;
 
 pub use draws::Draws;
+pub use picked::Picked;
+pub use players::Player;

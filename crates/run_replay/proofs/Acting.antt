@@ -1,0 +1,156 @@
+-- An actor makes its grip's call and gives the grip back: what its player is after it.
+use Rattle.device_gate.specs.Grips.{Gripped}
+use Rattle.device_gate.specs.declared.gates.Place.TheVariants.{Home}
+use Rattle.device_gate.specs.declared.grips.Done.{Done}
+use Rattle.device_gate.specs.declared.grips.Ready.{Ready}
+use Rattle.device_gate.specs.declared.slips.Slip.{Slip}
+use Rattle.device_gate.specs.declared.strangers.Stranger.{Stranger}
+use Rattle.history_book.specs.declared.entries.Entry.{Entry}
+use Rattle.hub_core.specs.HubCalls.{SameWindow, carried_by, entries_of_a_run, grip_takes}
+use Rattle.hub_core.specs.HubSteps.{Gave, Give, HubStep, Refused, Returned}
+use Rattle.hub_core.specs.OpenHubs.{OpenHub, carried_in, configuration_of, device_at, grip_in, purpose_of, state_of}
+use Rattle.hub_core.specs.Steps.{after_give, at_moment, give_entries}
+use Rattle.lock_leasing.specs.Configurations.{Commands, Configuration, Probes, Purpose, Undoes, is_command, is_undo, read_of}
+use Rattle.run_replay.proofs.Holding.{Gives, gives_keeps, gives_plans}
+use Rattle.run_replay.proofs.HubSteps.{gave_back, never_refused}
+use Rattle.run_replay.proofs.Making.{give_makes}
+use Rattle.run_replay.proofs.Picking.{acted_is_picked, full_is, met}
+use Rattle.run_replay.proofs.Stepping.{gave_fewer}
+use Rattle.run_replay.proofs.Taking.{grown, stays_by}
+use Rattle.run_replay.specs.Players.{HavePlans, PlayerIsKept, PlayerState, is_ended, is_full, play_of, steps_left}
+use Rattle.run_replay.specs.Playing.{IsPicked}
+use Rattle.run_replay.specs.Replays.{Made, takes_of}
+use Rattle.std.proofs.Common.{ap, arith, refl, subst, sym, ◌∙◌}
+use Rattle.std.proofs.lemmas.Grind.{common_steps}
+use Rattle.std.proofs.lemmas.Option.{slice_get_read, slice_get_within}
+use Rattle.std.proofs.Math.ListN.{get_or}
+use Rattle.std.specs.Prelude.{List, None, Option, Some, false, length, slice_get, slice_set, suc, true, zero, ℕ, ◌*◌, ◌+◌, ◌<◌, ◌==◌, ◌||◌, ◌^◌, ◌≡◌, ◌≤◌}
+use Rattle.window_order.specs.OrderKept.{GripsFit}
+
+-- a run's grip was done, and is given back
+pub record IsDone {D : Type 0} (s : PlayerState D) (a : ℕ) (grip : Gripped D Ready) (done : Gripped D Done) : Type 0 where
+  pub kept : PlayerIsKept s
+  pub run : 0 < a
+  pub going : is_ended s a ≡ false
+  pub hand : slice_get s.grips a ≡ Some (Some grip)
+  pub size : length s.hub.places ≡ length s.hub.setting.first
+  pub fit : GripsFit s.hub.setting (read_of (configuration_of s.hub)) (configuration_of s.hub).grips
+  pub slip : done.slip ≡ grip.slip
+  pub task : done.task ≡ grip.task
+
+-- the device's purpose
+abbrev pub purpose_at : {D : Type 0} → PlayerState D → Gripped D Ready → Purpose
+purpose_at s grip = purpose_of (device_at s.hub.devices grip.slip.device.0).purpose
+
+pub out_of_hand : {D : Type 0} (s : PlayerState D) (a : ℕ) (grip : Gripped D Ready) → PlayerIsKept s → slice_get s.grips a ≡ Some (Some grip) → (configuration_of s.hub).grips grip.slip.device.0 ≡ Some (record { maker = a; purpose = purpose_at s grip })
+out_of_hand s a grip kept hand = ap (λ o. grip_in o (device_at s.hub.devices grip.slip.device.0).purpose) (kept.held a grip hand) ∙ ap (λ m. Some (record { maker = m; purpose = purpose_at s grip })) (kept.makers a grip hand)
+
+-- a done grip is not refused
+pub not_refused_now : {D : Type 0} (s : PlayerState D) (t : OpenHub D) (a m : ℕ) (grip : Gripped D Ready) (done : Gripped D Done) (x : Stranger) → IsDone s a grip done → HubStep (state_of s.hub) (Give (carried_by done) done.stage.told m) (Returned (Refused x)) (state_of t) → ⊥
+not_refused_now {D = D} s t a m grip done x is step = never_refused (state_of s.hub) (state_of t) (carried_by done) done.stage.told m x carried maker step
+  where
+    carried : carried_in (slice_get s.hub.places done.slip.device.0) ≡ Some (carried_by done)
+    carried = ap (λ (y : Slip). carried_in (slice_get s.hub.places y.device.0)) is.slip ∙ ap carried_in (is.kept.held a grip is.hand) ∙ λ i. Some (record { slip = sym is.slip i; task = sym is.task i })
+
+    maker : 0 < done.slip.maker
+    maker = let run = is.run in let same = ap (λ (y : Slip). y.maker) is.slip in let own = is.kept.makers a grip is.hand in omega (arith, run, same, own)
+
+-- it was given back
+pub record IsGivenBack {D : Type 0} (s t : PlayerState D) (a : ℕ) (grip : Gripped D Ready) (done : Gripped D Done) (entries : List Entry) : Type 0 where
+  pub is : IsDone s a grip done
+  pub step : HubStep (state_of s.hub) (Give (carried_by done) done.stage.told t.moment) (Returned (Gave entries)) (state_of t.hub)
+  pub places : t.hub.places ≡ slice_set s.hub.places done.slip.device.0 (Home done.device)
+  pub window : SameWindow s.hub t.hub
+  pub grips : t.grips ≡ slice_set s.grips a None
+  pub rounds : t.rounds ≡ s.rounds
+  pub place : t.place ≡ s.place
+  pub low : grip_takes s.hub.setting ((configuration_of s.hub).grips grip.slip.device.0) < 2 ^ 32
+  pub moment : t.moment ≡ s.moment + grip_takes s.hub.setting ((configuration_of s.hub).grips grip.slip.device.0)
+
+takes_same : {D : Type 0} (s : PlayerState D) (a acts : ℕ) (purpose : Purpose) → grip_takes s.hub.setting (Some (record { maker = a; purpose = purpose })) ≡ takes_of (play_of s acts) (record { maker = a; purpose = purpose })
+takes_same s a acts (Commands k) = refl
+takes_same s a acts (Undoes v) = refl
+takes_same s a acts (Probes v) = refl
+
+met_run : (c : Configuration) (a m : ℕ) → 0 < a → met c a m ≡ at_moment c m
+met_run c zero m run = absurd (omega (arith, run))
+met_run c (suc a) m run = let no : (suc a == 0) ≡ false = grind (arith, common_steps) in rw no refl
+
+-- what came of it
+
+entries_are : {D : Type 0} (s t : PlayerState D) (a : ℕ) (grip : Gripped D Ready) (done : Gripped D Done) (entries : List Entry) → IsGivenBack s t a grip done entries
+    → (entries ≡ give_entries s.hub.setting (read_of (configuration_of s.hub)) grip.slip.device.0 (record { maker = a; purpose = purpose_at s grip }) done.stage.told)
+    × (configuration_of t.hub ≡ after_give (at_moment (configuration_of s.hub) t.moment) grip.slip.device.0 (record { maker = a; purpose = purpose_at s grip }) done.stage.told)
+entries_are {D = D} s t a grip done entries by =
+    let out = out_of_hand s a grip by.is.kept by.is.hand in
+    let there : (configuration_of s.hub).grips done.slip.device.0 ≡ Some (record { maker = a; purpose = purpose_at s grip }) = ap (λ (x : Slip). (configuration_of s.hub).grips x.device.0) by.is.slip ∙ out in
+    let back = gave_back (state_of s.hub) (state_of t.hub) (carried_by done) done.stage.told t.moment (record { maker = a; purpose = purpose_at s grip }) entries there by.step in
+    (back.0 ∙ ap (λ (x : Slip). give_entries s.hub.setting (read_of (configuration_of s.hub)) x.device.0 (record { maker = a; purpose = purpose_at s grip }) done.stage.told) by.is.slip,
+     back.1 ∙ ap (λ (x : Slip). after_give (at_moment (configuration_of s.hub) t.moment) x.device.0 (record { maker = a; purpose = purpose_at s grip }) done.stage.told) by.is.slip)
+
+moment_is : {D : Type 0} (s t : PlayerState D) (a acts : ℕ) (grip : Gripped D Ready) (done : Gripped D Done) (entries : List Entry) → IsGivenBack s t a grip done entries → t.moment ≡ s.moment + takes_of (play_of s acts) (record { maker = a; purpose = purpose_at s grip })
+moment_is s t a acts grip done entries by = by.moment ∙ ap (λ o. s.moment + grip_takes s.hub.setting o) (out_of_hand s a grip by.is.kept by.is.hand) ∙ ap (λ n. s.moment + n) (takes_same s a acts (purpose_at s grip))
+
+pub given_picked : {D : Type 0} (s t : PlayerState D) (a acts : ℕ) (grip : Gripped D Ready) (done : Gripped D Done) (entries : List Entry) → IsGivenBack s t a grip done entries → IsPicked s.rounds a (play_of s acts) (Made entries) (play_of t (acts + 1))
+given_picked s t a acts grip done entries by =
+    let two = entries_are s t a grip done entries by in
+    acted_is_picked s t a acts grip (purpose_at s grip) done.stage.told entries by.is.kept by.is.size by.is.going by.is.hand (out_of_hand s a grip by.is.kept by.is.hand) (moment_is s t a acts grip done entries by) two.0
+      (two.1 ∙ ap (λ c. after_give c grip.slip.device.0 (record { maker = a; purpose = purpose_at s grip }) done.stage.told) (sym (met_run (configuration_of s.hub) a t.moment by.is.run))) by.place
+
+-- a run's grip is for a command or an undo
+runs_purpose : {D : Type 0} (s : PlayerState D) (a d : ℕ) (purpose : Purpose) → 0 < a → GripsFit s.hub.setting (read_of (configuration_of s.hub)) (configuration_of s.hub).grips → (configuration_of s.hub).grips d ≡ Some (record { maker = a; purpose = purpose }) → (is_command purpose || is_undo purpose) ≡ true
+runs_purpose s a d (Commands k) run fit out = refl
+runs_purpose s a d (Undoes v) run fit out = refl
+runs_purpose s a d (Probes v) run fit out = absurd (let no = fit.probes d a v out in omega (arith, run, no))
+
+grows : {D : Type 0} (s t : PlayerState D) (a : ℕ) (grip : Gripped D Ready) (done : Gripped D Done) (entries : List Entry) → IsGivenBack s t a grip done entries → length s.hub.history < length t.hub.history
+grows {D = D} s t a grip done entries by =
+    let two = entries_are s t a grip done entries by in
+    let some = give_makes s.hub.setting (read_of (configuration_of s.hub)) grip.slip.device.0 a (purpose_at s grip) done.stage.told (runs_purpose s a grip.slip.device.0 (purpose_at s grip) by.is.run by.is.fit (out_of_hand s a grip by.is.kept by.is.hand)) in
+    let longer = grown s.hub.history a (give_entries s.hub.setting (read_of (configuration_of s.hub)) grip.slip.device.0 (record { maker = a; purpose = purpose_at s grip }) done.stage.told) in
+    let whole = ap (λ (c : Configuration). length c.history) two.1 in
+    omega (arith, some, longer, whole)
+
+gives_of : {D : Type 0} (s t : PlayerState D) (a : ℕ) (grip : Gripped D Ready) (done : Gripped D Done) (entries : List Entry) → IsGivenBack s t a grip done entries → Gives s t a grip done.device
+gives_of s t a grip done entries by = record {
+  run = by.is.run;
+  hand = by.is.hand;
+  places = by.places ∙ ap (λ (x : Slip). slice_set s.hub.places x.device.0 (Home done.device)) by.is.slip;
+  grips = by.grips;
+  setting = by.window.setting;
+  rounds = by.rounds;
+  early = (let more = grows s t a grip done entries by in let early = by.is.kept.early in let low = by.low in let same = by.moment in omega (arith, more, early, low, same));
+  place = by.place;
+}
+
+pub given_keeps : {D : Type 0} (s t : PlayerState D) (a : ℕ) (grip : Gripped D Ready) (done : Gripped D Done) (entries : List Entry) → IsGivenBack s t a grip done entries → PlayerIsKept t
+given_keeps s t a grip done entries by = gives_keeps s t a grip done.device (gives_of s t a grip done entries by) by.is.kept
+
+-- The same of the player as callers see it
+
+pub given_picked_now : {D : Type 0} (now s t : PlayerState D) (a : ℕ) (grip : Gripped D Ready) (done : Gripped D Done) (entries : List Entry) → s ≡ now → IsGivenBack s t a grip done entries → (acts : ℕ) → (later : ℕ) × IsPicked now.rounds a (play_of now acts) (Made entries) (play_of t later)
+given_picked_now {D = D} now s t a grip done entries same by acts = (acts + 1, subst (λ (x : PlayerState D). IsPicked x.rounds a (play_of x acts) (Made entries) (play_of t (acts + 1))) same (given_picked s t a acts grip done entries by))
+
+pub given_plans_now : {D P : Type 0} (plan : D → P) (now s t : PlayerState D) (a : ℕ) (grip : Gripped D Ready) (done : Gripped D Done) (entries : List Entry) → s ≡ now → IsGivenBack s t a grip done entries → plan done.device ≡ plan grip.device → (plans : ℕ → P) → HavePlans plan plans now → HavePlans plan plans t
+given_plans_now {D = D} plan now s t a grip done entries same by own plans have = gives_plans plan plans s t a grip done.device (gives_of s t a grip done entries by) by.is.kept own (subst (λ (x : PlayerState D). HavePlans plan plans x) (sym same) have)
+
+pub given_fewer_now : {D : Type 0} (now s t : PlayerState D) (a : ℕ) (grip : Gripped D Ready) (done : Gripped D Done) (entries : List Entry) → s ≡ now → IsGivenBack s t a grip done entries → length t.hub.history ≤ entries_of_a_run * length t.hub.setting.runs → steps_left t < steps_left now
+given_fewer_now now s t zero grip done entries same by bound = absurd (let run = by.is.run in omega (arith, run))
+given_fewer_now {D = D} now s t (suc r) grip done entries same by bound = subst (λ (x : PlayerState D). steps_left t < steps_left x) same (gave_fewer s t r (stays_by s t by.window by.rounds) by.grips by.place (grows s t (suc r) grip done entries by) bound)
+
+-- What is taken from a hand
+
+hand_there : {D : Type 0} (s : PlayerState D) (a : ℕ) (now : Option (Gripped D Ready)) → is_full s a ≡ true → now ≡ get_or s.grips a now → slice_get s.grips a ≡ Some now
+hand_there s a now full value = let held = full_is s a full in slice_get_read s.grips (length s.grips) a now refl (slice_get_within s.grips a (Some held.0) held.1) value
+
+pub hand_by : {D : Type 0} (s : PlayerState D) (a : ℕ) (now : Option (Gripped D Ready)) (grip : Gripped D Ready) → is_full s a ≡ true → now ≡ get_or s.grips a now → now ≡ Some grip → slice_get s.grips a ≡ Some (Some grip)
+hand_by s a now grip full value is = hand_there s a now full value ∙ ap (λ o. Some o) is
+
+pub hand_never : {D : Type 0} (s : PlayerState D) (a : ℕ) (now : Option (Gripped D Ready)) → is_full s a ≡ true → now ≡ get_or s.grips a now → now ≡ None → ⊥
+hand_never {D = D} s a now full value is = let held = full_is s a full in absurd (let both : ◌≡◌ {A = Option (Option (Gripped D Ready))} (Some None) (Some (Some held.0)) = ap (λ o. Some o) (sym is) ∙ sym (hand_there s a now full value) ∙ held.1 in cc)
+
+pub full_now : {D : Type 0} (now s : PlayerState D) (a : ℕ) → s ≡ now → is_full now a ≡ true → is_full s a ≡ true
+full_now {D = D} now s a same full = subst (λ (x : PlayerState D). is_full x a ≡ true) (sym same) full
+
+pub done_of : {D : Type 0} (now s : PlayerState D) (a : ℕ) (grip : Gripped D Ready) (done : Gripped D Done) → s ≡ now → PlayerIsKept s → 0 < a → is_ended now a ≡ false → slice_get s.grips a ≡ Some (Some grip) → length s.hub.places ≡ length s.hub.setting.first → GripsFit s.hub.setting (read_of (configuration_of s.hub)) (configuration_of s.hub).grips → done.slip ≡ grip.slip → done.task ≡ grip.task → IsDone s a grip done
+done_of {D = D} now s a grip done same kept run going hand size fit slip task = record { kept = kept; run = run; going = subst (λ (x : PlayerState D). is_ended x a ≡ false) (sym same) going; hand = hand; size = size; fit = fit; slip = slip; task = task }

@@ -1,0 +1,119 @@
+-- Where every actor has ended the hub is quiet, and no hand holds a grip.
+use Rattle.command_rules.specs.Rosters.{Run, is_run}
+use Rattle.device_gate.specs.Grips.{Gripped}
+use Rattle.device_gate.specs.declared.gates.Place.TheVariants.{Home, Out}
+use Rattle.device_gate.specs.declared.gates.Place.{Place}
+use Rattle.device_gate.specs.declared.grips.Ready.{Ready}
+use Rattle.history_book.proofs.Searches.{Each}
+use Rattle.history_book.specs.Readings.{is_live}
+use Rattle.hub_core.specs.OpenHubs.{configuration_of, device_at, grip_in, purpose_of}
+use Rattle.hub_core.specs.Steps.{not_quiet}
+use Rattle.lock_leasing.specs.Configurations.{Commands, Configuration, Probes, Purpose, Undoes, is_out, read_of}
+use Rattle.run_replay.proofs.Progress.{each_at}
+use Rattle.run_replay.specs.Players.{PlayerIsKept, PlayerState, are_live, is_ended, is_full}
+use Rattle.std.proofs.Common.{ap, arith, refl, subst, sym, ◌∙◌}
+use Rattle.std.proofs.lemmas.Grind.{common_steps}
+use Rattle.std.proofs.lemmas.Option.{slice_get_within}
+use Rattle.std.specs.List.{range_with_len}
+use Rattle.std.specs.Prelude.{Bool, IsTrue, List, None, Option, Some, [], false, filter, find, is_none, is_some, length, not, option_map, slice_get, suc, true, unwrap_or, zero, ℕ, ◌&&◌, ◌+◌, ◌<◌, ◌||◌, ◌∷◌, ◌≡◌, ◌≤◌}
+use Rattle.window_order.specs.OrderKept.{GripsFit}
+
+-- no number of the range passes
+no_number : (p : ℕ → Bool) (a n : ℕ) → ((x : ℕ) → a ≤ x → x < a + n → p x ≡ false) → find p (range_with_len a n) ≡ None
+no_number p a zero none = refl
+no_number p a (suc n) none = rw (none a (omega arith) (omega arith)) (no_number p (a + 1) n (λ x low high. none x (omega (arith, low)) (omega (arith, high))))
+
+run_there : (runs : List Run) (r : ℕ) → 1 ≤ r → r < 1 + length runs → is_run runs r ≡ true
+run_there runs zero low high = absurd (omega (arith, low))
+run_there runs (suc r) low high = there runs r (omega (arith, high))
+  where
+    there : {A : Type 0} (xs : List A) (i : ℕ) → i < length xs → is_some (slice_get xs i) ≡ true
+    there [] i less = absurd (omega (arith, less))
+    there (x ∷ xs) zero less = refl
+    there (x ∷ xs) (suc i) less = there xs i (omega (arith, less))
+
+not_none : {A : Type 0} (o : Option A) → is_some o ≡ true → is_none o ≡ false
+not_none None e = absurd (cc)
+not_none (Some x) e = refl
+
+-- each run has ended and no device is out
+pub quiet_where : (s : Configuration) → ((r : ℕ) → is_run s.setting.runs r ≡ true → is_some ((read_of s).run r).ended ≡ true) → ((d : ℕ) → s.grips d ≡ None) → not_quiet s ≡ None
+quiet_where s ended home =
+    let live : find (λ r. is_none ((read_of s).run r).ended) (range_with_len 1 (length s.setting.runs)) ≡ None = no_number (λ r. is_none ((read_of s).run r).ended) 1 (length s.setting.runs) (λ r low high. not_none ((read_of s).run r).ended (ended r (run_there s.setting.runs r low high))) in
+    let out : find (is_out s.grips) (range_with_len 0 (length s.setting.first)) ≡ None = no_number (is_out s.grips) 0 (length s.setting.first) (λ d low high. ap is_some (home d)) in
+    rw (live, out) refl
+
+-- where none is left that has not ended each actor has ended
+none_left : (p : ℕ → Bool) (n : ℕ) → filter (λ a. not (p a)) (range_with_len 0 n) ≡ [] → (a : ℕ) → a < n → p a ≡ true
+none_left p n none a low = by_test (p a) refl
+  where
+    by_test : (b : Bool) → p a ≡ b → p a ≡ true
+    by_test true e = e
+    by_test false e = absurd (each_at (λ x. ⊥) (λ x. not (p x)) 0 n a (subst (Each (λ x. ⊥)) (sym none) tt) (omega arith) (omega (arith, low)) (ap not e))
+
+pub each_ended : {D : Type 0} (s : PlayerState D) → are_live s ≡ [] → (a : ℕ) → a < length s.grips → is_ended s a ≡ true
+each_ended s none a low = none_left (is_ended s) (length s.grips) none a low
+
+runs_ended : {D : Type 0} (s : PlayerState D) → PlayerIsKept s → are_live s ≡ [] → (r : ℕ) → is_run s.hub.setting.runs r ≡ true → is_some ((read_of (configuration_of s.hub)).run r).ended ≡ true
+runs_ended s kept none zero run = absurd (cc)
+runs_ended s kept none (suc r) run =
+    let low = within s.hub.setting.runs r run in
+    let actors = kept.actors in
+    by_or (is_run s.hub.setting.runs (suc r)) (is_some ((read_of (configuration_of s.hub)).run (suc r)).ended) run (each_ended s none (suc r) (omega (arith, low, actors)))
+  where
+    by_or : (a b : Bool) → a ≡ true → (not a || b) ≡ true → b ≡ true
+    by_or true b is e = e
+    by_or false b is e = absurd (cc)
+
+    within : {A : Type 0} (xs : List A) (i : ℕ) → is_some (slice_get xs i) ≡ true → i < length xs
+    within [] i e = absurd (cc)
+    within (x ∷ xs) zero e = omega arith
+    within (x ∷ xs) (suc i) e = let h = within xs i e in omega (arith, h)
+
+-- no actor holds a grip
+pub hands_are_empty : {D : Type 0} (s : PlayerState D) → PlayerIsKept s → GripsFit s.hub.setting (read_of (configuration_of s.hub)) (configuration_of s.hub).grips → are_live s ≡ [] → (a : ℕ) (grip : Gripped D Ready) → slice_get s.grips a ≡ Some (Some grip) → ⊥
+hands_are_empty {D = D} s kept fit none a grip hand = by_purpose a (purpose_of (device_at s.hub.devices grip.slip.device.0).purpose) low ended hand out
+  where
+    low : a < length s.grips
+    low = slice_get_within s.grips a (Some grip) hand
+
+    ended : is_ended s a ≡ true
+    ended = each_ended s none a low
+
+    out : (configuration_of s.hub).grips grip.slip.device.0 ≡ Some (record { maker = a; purpose = purpose_of (device_at s.hub.devices grip.slip.device.0).purpose })
+    out = ap (λ o. grip_in o (device_at s.hub.devices grip.slip.device.0).purpose) (kept.held a grip hand) ∙ ap (λ m. Some (record { maker = m; purpose = purpose_of (device_at s.hub.devices grip.slip.device.0).purpose })) (kept.makers a grip hand)
+
+    live_not : (r : ℕ) → is_live (read_of (configuration_of s.hub)) r ≡ true → is_some ((read_of (configuration_of s.hub)).run r).ended ≡ false
+    live_not r live = by_end ((read_of (configuration_of s.hub)).run r).ended (grind (arith, common_steps))
+      where
+        by_end : {A : Type 0} (o : Option A) → is_none o ≡ true → is_some o ≡ false
+        by_end None e = refl
+        by_end (Some x) e = absurd (cc)
+
+    is_live_of : (r : ℕ) (b c : Bool) → IsTrue (is_live (read_of (configuration_of s.hub)) r && b && c) → is_live (read_of (configuration_of s.hub)) r ≡ true
+    is_live_of r b c e = grind (arith, common_steps)
+
+    run_of : (r : ℕ) → suc r < length s.grips → is_run s.hub.setting.runs (suc r) ≡ true
+    run_of r less = let actors = kept.actors in run_there s.hub.setting.runs (suc r) (omega arith) (omega (arith, less, actors))
+
+    run_not : (r : ℕ) → suc r < length s.grips → is_ended s (suc r) ≡ true → is_live (read_of (configuration_of s.hub)) (suc r) ≡ true → ⊥
+    run_not r less over live = absurd (let run = run_of r less in let going = live_not (suc r) live in let both : is_ended s (suc r) ≡ false = rw (run, going) refl in let no : true ≡ false = sym over ∙ both in cc)
+
+    by_purpose : (b : ℕ) (purpose : Purpose) → b < length s.grips → is_ended s b ≡ true → slice_get s.grips b ≡ Some (Some grip) → (configuration_of s.hub).grips grip.slip.device.0 ≡ Some (record { maker = b; purpose = purpose }) → ⊥
+    by_purpose zero purpose less over holds at = absurd (let full : is_full s 0 ≡ true = ap (λ o. unwrap_or (option_map is_some o) false) holds in let both : is_ended s zero ≡ false = rw full refl in let no : true ≡ false = sym over ∙ both in cc)
+    by_purpose (suc r) (Commands k) less over holds at = run_not r less over (is_live_of (suc r) _ _ (fit.runs.commands grip.slip.device.0 (suc r) k at))
+    by_purpose (suc r) (Undoes v) less over holds at = run_not r less over (let undo = fit.runs.undos grip.slip.device.0 (suc r) v at in grind (arith, common_steps))
+    by_purpose (suc r) (Probes v) less over holds at = absurd (let no = fit.probes grip.slip.device.0 (suc r) v at in omega (arith, no))
+
+-- every device is home
+devices_home : {D : Type 0} (s : PlayerState D) → PlayerIsKept s → ((a : ℕ) (grip : Gripped D Ready) → slice_get s.grips a ≡ Some (Some grip) → ⊥) → (d : ℕ) → (configuration_of s.hub).grips d ≡ None
+devices_home {D = D} s kept empty d = by_place (slice_get s.hub.places d) refl
+  where
+    by_place : (o : Option (Place D)) → slice_get s.hub.places d ≡ o → (configuration_of s.hub).grips d ≡ None
+    by_place None at = ap (λ o. grip_in o (device_at s.hub.devices d).purpose) at
+    by_place (Some (Home device)) at = ap (λ o. grip_in o (device_at s.hub.devices d).purpose) at
+    by_place (Some (Out slip task)) at = absurd (let hand = kept.out d slip task at in empty slip.maker hand.grip hand.there)
+
+-- the hub is quiet
+pub quiet_at_end : {D : Type 0} (s : PlayerState D) → PlayerIsKept s → GripsFit s.hub.setting (read_of (configuration_of s.hub)) (configuration_of s.hub).grips → are_live s ≡ [] → not_quiet (configuration_of s.hub) ≡ None
+quiet_at_end s kept fit none = quiet_where (configuration_of s.hub) (runs_ended s kept none) (devices_home s kept (hands_are_empty s kept fit none))

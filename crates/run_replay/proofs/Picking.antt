@@ -1,0 +1,159 @@
+-- A pick of an actor is a step of its hub.
+use Rattle.command_rules.specs.Rosters.{is_run}
+use Rattle.device_gate.specs.Grips.{Gripped}
+use Rattle.device_gate.specs.declared.grips.Ready.{Ready}
+use Rattle.device_gate.specs.declared.slips.Told.{Told}
+use Rattle.history_book.specs.declared.entries.Entry.{Entry}
+use Rattle.hub_core.specs.OpenHubs.{configuration_of}
+use Rattle.hub_core.specs.Steps.{Choice, after_give, after_take, after_take_probe, at_moment, choice_of, give_entries, may_probe}
+use Rattle.lock_leasing.specs.Configurations.{Configuration, Grip, Purpose, read_of}
+use Rattle.run_replay.proofs.Gripping.{empty_hand, full_hand}
+use Rattle.run_replay.specs.Players.{PlayerIsKept, PlayerState, is_ended, is_full, play_of}
+use Rattle.run_replay.specs.Playing.{IsPicked, Tells}
+use Rattle.run_replay.specs.Replays.{Course, Made, Passed, Play, Took, act_on, detector_takes, gripped, has_ended, passes, pick, pick_live, picked_by, run_takes, takes_of}
+use Rattle.std.proofs.Common.{ap, arith, refl, sym, ◌∙◌}
+use Rattle.std.specs.Prelude.{Bool, List, None, Option, Some, [], false, if◌then◌else◌, is_some, length, nat_le, option_map, slice_get, suc, true, unwrap_or, zero, ℕ, ◌%◌, ◌*◌, ◌+◌, ◌<◌, ◌==◌, ◌∷◌, ◌≡◌}
+
+-- Which actors have ended
+
+hand_of : {A : Type 0} (o : Option (Option A)) → unwrap_or (option_map is_some o) false ≡ true → (x : A) × (o ≡ Some (Some x))
+hand_of None e = absurd (cc)
+hand_of (Some None) e = absurd (cc)
+hand_of (Some (Some x)) e = (x, refl)
+
+no_hand : {A : Type 0} (o : Option (Option A)) → unwrap_or (option_map is_some o) false ≡ false → is_some o ≡ true → o ≡ Some None
+no_hand None e some = absurd (cc)
+no_hand (Some None) e some = refl
+no_hand (Some (Some x)) e some = absurd (cc)
+
+there : {A : Type 0} (xs : List A) (r : ℕ) → r < length xs → is_some (slice_get xs r) ≡ true
+there [] r low = absurd (omega (arith, low))
+there (x ∷ xs) zero low = refl
+there (x ∷ xs) (suc r) low = there xs r (omega (arith, low))
+
+-- the grip in the hand of an actor
+pub full_is : {D : Type 0} (s : PlayerState D) (a : ℕ) → is_full s a ≡ true → (grip : Gripped D Ready) × (slice_get s.grips a ≡ Some (Some grip))
+full_is s a e = hand_of (slice_get s.grips a) e
+
+-- .. and an empty hand
+pub empty_is : {D : Type 0} (s : PlayerState D) (a : ℕ) → is_full s a ≡ false → a < length s.grips → slice_get s.grips a ≡ Some None
+empty_is s a e low = no_hand (slice_get s.grips a) e (there s.grips a low)
+
+-- what the actors' hands tell
+pub ended_is : {D : Type 0} (course : Course) (s : PlayerState D) (acts a : ℕ) → PlayerIsKept s → length s.hub.places ≡ length s.hub.setting.first → course.rounds ≡ s.rounds → has_ended course (play_of s acts) a ≡ is_ended s a
+ended_is course s acts (suc r) kept size same = refl
+ended_is {D = D} course s acts zero kept size same = by_hand (is_full s 0) refl
+  where
+    by_hand : (b : Bool) → is_full s 0 ≡ b → has_ended course (play_of s acts) zero ≡ is_ended s zero
+    by_hand true full = let grip = full_is s 0 full in rw (full_hand s 0 acts grip.0 kept size grip.1, full) refl
+    by_hand false none = rw (empty_hand s 0 acts kept (empty_is s 0 none (let actors = kept.actors in omega (arith, actors))), none) (ap (λ n. nat_le (n * length s.hub.setting.first) s.place) same)
+
+-- An actor that has ended, or is none
+
+ended_pick : (course : Course) (p : Play) (a : ℕ) → has_ended course p a ≡ true → pick course p a ≡ passes p
+ended_pick course p a e = rw e refl
+
+pub passed_is_picked : {D : Type 0} (s : PlayerState D) (a acts : ℕ) → PlayerIsKept s → length s.hub.places ≡ length s.hub.setting.first → is_ended s a ≡ true → IsPicked s.rounds a (play_of s acts) Passed (play_of s acts)
+passed_is_picked s a acts kept size ended = record { told = []; acts = omega arith; leads = λ course same tells. ended_pick course (play_of s acts) a (ended_is course s acts a kept size same ∙ ended) }
+
+-- A run that takes
+
+-- a run of the window that has not ended
+abbrev pub IsGoing : Configuration → ℕ → Type 0
+IsGoing c r = (is_run c.setting.runs r ≡ true) × (((read_of c).run r).ended ≡ None)
+
+pub going_pick : (course : Course) (p : Play) (r : ℕ) → IsGoing p.configuration r → pick course p r ≡ pick_live course p r
+going_pick course p zero going = absurd (let no : false ≡ true = going.0 in cc)
+going_pick course p (suc r) going = rw (going.0, going.1) refl
+
+pub take_pick : (course : Course) (p : Play) (r : ℕ) → IsGoing p.configuration r → gripped p r ≡ None → pick course p r ≡ run_takes p r
+take_pick course p zero going none = absurd (let no : false ≡ true = going.0 in cc)
+take_pick course p (suc r) going none = going_pick course p (suc r) going ∙ rw none refl
+
+pub taken_is_picked : {D : Type 0} (s t : PlayerState D) (rounds r acts : ℕ) (choice : Choice) → PlayerIsKept s → IsGoing (configuration_of s.hub) r → slice_get s.grips r ≡ Some None
+    → choice ≡ choice_of (configuration_of s.hub) r s.moment → configuration_of t.hub ≡ after_take (configuration_of s.hub) r s.moment → t.moment ≡ s.moment → t.place ≡ s.place → IsPicked rounds r (play_of s acts) (picked_by choice) (play_of t acts)
+taken_is_picked s t rounds r acts choice kept going free chosen after moment place = record {
+  told = [];
+  acts = omega arith;
+  leads = λ course same tells. take_pick course (play_of s acts) r going (empty_hand s r acts kept free) ∙ λ i. record {
+    picked = picked_by (sym chosen i);
+    next = record { configuration = sym after i; moment = sym moment i; place = sym place i; acts = acts };
+  };
+}
+
+-- An actor that acts, and gives back
+
+one_told : (course : Course) (acts : ℕ) (told : Told) → Tells course acts (told ∷ []) → course.told acts ≡ told
+one_told course acts told tells = let same : acts + 0 ≡ acts = omega arith in sym (ap course.told same) ∙ tells 0 told refl
+
+act_pick : (course : Course) (p : Play) (a d : ℕ) (grip : Grip) → has_ended course p a ≡ false → gripped p a ≡ Some d → p.configuration.grips d ≡ Some grip → pick course p a ≡ act_on course p d grip
+act_pick course p a d grip going holds out = rw going (rw holds (rw out refl))
+
+-- where a grip comes back to: the hub at the new moment, or as it is where the grip is the detector's
+abbrev pub met : Configuration → ℕ → ℕ → Configuration
+met c a m = if a == 0 then c else at_moment c m
+
+-- an actor with a grip acts and gives it back
+pub acted_is_picked : {D : Type 0} (s t : PlayerState D) (a acts : ℕ) (grip : Gripped D Ready) (purpose : Purpose) (told : Told) (entries : List Entry) → PlayerIsKept s → length s.hub.places ≡ length s.hub.setting.first → is_ended s a ≡ false
+    → slice_get s.grips a ≡ Some (Some grip)
+    → (configuration_of s.hub).grips grip.slip.device.0 ≡ Some (record { maker = a; purpose = purpose })
+    → t.moment ≡ s.moment + takes_of (play_of s acts) (record { maker = a; purpose = purpose })
+    → entries ≡ give_entries s.hub.setting (read_of (configuration_of s.hub)) grip.slip.device.0 (record { maker = a; purpose = purpose }) told
+    → configuration_of t.hub ≡ after_give (met (configuration_of s.hub) a t.moment) grip.slip.device.0 (record { maker = a; purpose = purpose }) told → t.place ≡ s.place
+    → IsPicked s.rounds a (play_of s acts) (Made entries) (play_of t (acts + 1))
+acted_is_picked {D = D} s t a acts grip purpose told entries kept size going hand out moment made after place = record {
+  told = told ∷ [];
+  acts = omega arith;
+  leads = λ course same tells. act_pick course (play_of s acts) a grip.slip.device.0 (record { maker = a; purpose = purpose }) (ended_is course s acts a kept size same ∙ going) (full_hand s a acts grip kept size hand) out ∙ acts_so course (one_told course acts told tells);
+}
+  where
+    acts_so : (course : Course) → course.told acts ≡ told → act_on course (play_of s acts) grip.slip.device.0 (record { maker = a; purpose = purpose }) ≡ record { picked = Made entries; next = play_of t (acts + 1) }
+    acts_so course is = λ i. record {
+      picked = Made ((ap (λ x. give_entries s.hub.setting (read_of (configuration_of s.hub)) grip.slip.device.0 out_so x) is ∙ sym made) i);
+      next = record { configuration = given i; moment = sym moment i; place = sym place i; acts = acts + 1 };
+    }
+      where
+        out_so : Grip
+        out_so = record { maker = a; purpose = purpose }
+
+        later : ℕ
+        later = s.moment + takes_of (play_of s acts) (record { maker = a; purpose = purpose })
+
+        given : after_give (met (configuration_of s.hub) a later) grip.slip.device.0 out_so (course.told acts) ≡ configuration_of t.hub
+        given = ap (λ x. after_give (met (configuration_of s.hub) a later) grip.slip.device.0 out_so x) is
+            ∙ ap (λ m. after_give (met (configuration_of s.hub) a m) grip.slip.device.0 out_so told) (sym moment)
+            ∙ sym after
+
+-- The detector
+
+rest_pick : (course : Course) (p : Play) → has_ended course p 0 ≡ false → gripped p 0 ≡ None → pick course p 0 ≡ detector_takes p
+rest_pick course p going none = rw going (rw none refl)
+
+-- the device that the detector comes to
+abbrev pub next_device : {D : Type 0} → PlayerState D → ℕ
+next_device s = s.place % length s.hub.setting.first
+
+by_probe : (p : Play) (b : Bool) → may_probe p.configuration (p.place % length p.configuration.setting.first) ≡ b → detector_takes p ≡ (if b then record { picked = Took (p.place % length p.configuration.setting.first); next = record p { configuration = after_take_probe p.configuration (p.place % length p.configuration.setting.first); place = p.place + 1 } } else passes (record p { place = p.place + 1 }))
+by_probe p b is = ap (λ (x : Bool). if x then record { picked = Took (p.place % length p.configuration.setting.first); next = record p { configuration = after_take_probe p.configuration (p.place % length p.configuration.setting.first); place = p.place + 1 } } else passes (record p { place = p.place + 1 })) is
+
+pub detector_passed : {D : Type 0} (s t : PlayerState D) (acts : ℕ) → PlayerIsKept s → length s.hub.places ≡ length s.hub.setting.first → is_ended s 0 ≡ false → slice_get s.grips 0 ≡ Some None
+    → may_probe (configuration_of s.hub) (next_device s) ≡ false → configuration_of t.hub ≡ configuration_of s.hub → t.moment ≡ s.moment → t.place ≡ s.place + 1 → IsPicked s.rounds 0 (play_of s acts) Passed (play_of t acts)
+detector_passed s t acts kept size going free may after moment place = record {
+  told = [];
+  acts = omega arith;
+  leads = λ course same tells. rest_pick course (play_of s acts) (ended_is course s acts 0 kept size same ∙ going) (empty_hand s 0 acts kept free) ∙ by_probe (play_of s acts) false may ∙ λ i. record {
+    picked = Passed;
+    next = record { configuration = sym after i; moment = sym moment i; place = sym place i; acts = acts };
+  };
+}
+
+pub detector_took : {D : Type 0} (s t : PlayerState D) (acts : ℕ) → PlayerIsKept s → length s.hub.places ≡ length s.hub.setting.first → is_ended s 0 ≡ false → slice_get s.grips 0 ≡ Some None
+    → may_probe (configuration_of s.hub) (next_device s) ≡ true → configuration_of t.hub ≡ after_take_probe (configuration_of s.hub) (next_device s) → t.moment ≡ s.moment → t.place ≡ s.place + 1 → IsPicked s.rounds 0 (play_of s acts) (Took (next_device s)) (play_of t acts)
+detector_took s t acts kept size going free may after moment place = record {
+  told = [];
+  acts = omega arith;
+  leads = λ course same tells. rest_pick course (play_of s acts) (ended_is course s acts 0 kept size same ∙ going) (empty_hand s 0 acts kept free) ∙ by_probe (play_of s acts) true may ∙ λ i. record {
+    picked = Took (next_device s);
+    next = record { configuration = sym after i; moment = sym moment i; place = sym place i; acts = acts };
+  };
+}

@@ -1,0 +1,178 @@
+-- Of the actors that have not ended one does not wait.
+use Rattle.command_rules.specs.Rosters.{is_run}
+use Rattle.device_gate.specs.declared.gates.Place.TheVariants.{Home, Out}
+use Rattle.device_gate.specs.declared.gates.Place.{Place}
+use Rattle.history_book.proofs.Searches.{Each}
+use Rattle.history_book.specs.Readings.{is_live}
+use Rattle.hub_core.specs.OpenHubs.{configuration_of, device_at, grip_in, purpose_of}
+use Rattle.hub_core.specs.Steps.{Absent, Choice, HandsOut, Moves, Over, Waits, choice_of}
+use Rattle.hub_core.specs.declared.waits.Why.{Why}
+use Rattle.lock_leasing.specs.Configurations.{Commands, Configuration, Probes, Purpose, Undoes, has_grip, read_of}
+use Rattle.run_replay.proofs.Gripping.{full_hand}
+use Rattle.run_replay.proofs.Picking.{IsGoing, take_pick}
+use Rattle.run_replay.proofs.Waiting.{act_never_waits, detector_never_waits}
+use Rattle.run_replay.proofs.Settings.{at_or_past}
+use Rattle.run_replay.specs.Players.{PlayerIsKept, PlayerState, play_of}
+use Rattle.run_replay.specs.Replays.{Course, Pick, Play, actors, from_place, gripped, has_ended, pick, picked_by, waits}
+use Rattle.std.proofs.Common.{ap, arith, inl, inr, refl, subst, sym, ◌∙◌}
+use Rattle.std.proofs.lemmas.Grind.{common_steps}
+use Rattle.std.proofs.lemmas.List.{take-append-drop}
+use Rattle.std.proofs.lemmas.Option.{slice_get_within}
+use Rattle.std.specs.List.{range_with_len}
+use Rattle.std.specs.Prelude.{Bool, IsTrue, List, None, Option, Some, [], drop, false, filter, find, if◌then◌else◌, is_none, is_some, length, not, slice_get, suc, take, true, zero, ℕ, ◌&&◌, ◌++◌, ◌+◌, ◌<◌, ◌||◌, ◌∷◌, ◌≡◌, ◌≢◌, ◌≤◌}
+use Rattle.window_order.specs.OrderKept.{GripsFit}
+
+-- what holds of each number of a range that passes a test holds of the one
+pub each_at : (Q : ℕ → Type 0) (p : ℕ → Bool) (from n a : ℕ) → Each Q (filter p (range_with_len from n)) → from ≤ a → a < from + n → p a ≡ true → Q a
+each_at Q p from zero a each low high is = absurd (omega (arith, low, high))
+each_at Q p from (suc n) a each low high is = elim (at_or_past from a low) [
+  | inl same ↦ subst Q (sym same) (head (p from) (ap p (sym same) ∙ is) each)
+  | inr more ↦ each_at Q p (from + 1) n a (rest (p from) each) more (omega (arith, high)) is
+]
+  where
+    head : (b : Bool) → b ≡ true → Each Q (if b then from ∷ filter p (range_with_len (from + 1) n) else filter p (range_with_len (from + 1) n)) → Q from
+    head true e all = all.0
+    head false e all = absurd (cc)
+
+    rest : (b : Bool) → Each Q (if b then from ∷ filter p (range_with_len (from + 1) n) else filter p (range_with_len (from + 1) n)) → Each Q (filter p (range_with_len (from + 1) n))
+    rest true all = all.1
+    rest false all = all
+
+each_join : {A : Type 0} (P : A → Type 0) (xs ys : List A) → Each P xs → Each P ys → Each P (xs ++ ys)
+each_join P [] ys a b = b
+each_join P (x ∷ xs) ys a b = (a.0, each_join P xs ys a.1 b)
+
+each_front : {A : Type 0} (P : A → Type 0) (xs ys : List A) → Each P (xs ++ ys) → Each P xs
+each_front P [] ys a = tt
+each_front P (x ∷ xs) ys a = (a.0, each_front P xs ys a.1)
+
+each_back : {A : Type 0} (P : A → Type 0) (xs ys : List A) → Each P (xs ++ ys) → Each P ys
+each_back P [] ys a = a
+each_back P (x ∷ xs) ys a = each_back P xs ys a.1
+
+-- what holds of each of a list from a place on holds of each of the list
+pub each_from_place : (P : ℕ → Type 0) (k : ℕ) (xs : List ℕ) → Each P (from_place k xs) → Each P xs
+each_from_place P k xs each = subst (Each P) (take-append-drop k xs) (each_join P (take k xs) (drop k xs) (each_back P (drop k xs) (take k xs) each) (each_front P (drop k xs) (take k xs) each))
+
+-- The actors
+
+-- where no device is out and some run has not ended, some run that has not ended does not wait, at any moment
+abbrev pub SomeMoves : Configuration → Type 0
+SomeMoves s = (r : ℕ) → IsGoing s r → ((d : ℕ) → s.grips d ≡ None) → (q : ℕ) × IsGoing s q × ((m : ℕ) (why : Why) → choice_of s q m ≢ Waits why)
+
+-- each actor that has not ended waits
+abbrev pub AllWait : Course → Play → Type 0
+AllWait course p = Each (λ a. waits (pick course p a).picked ≡ true) (actors course p)
+
+wait_of : (course : Course) (p : Play) (a : ℕ) → AllWait course p → a < length p.configuration.setting.runs + 1 → has_ended course p a ≡ false → waits (pick course p a).picked ≡ true
+wait_of course p a all low going = each_at (λ b. waits (pick course p b).picked ≡ true) (λ b. not (has_ended course p b)) 0 (length p.configuration.setting.runs + 1) a all (omega arith) (omega (arith, low)) (ap not going)
+
+-- a run that goes on is one of the window
+run_within : (s : Configuration) (r : ℕ) → IsGoing s r → r < length s.setting.runs + 1
+run_within s zero going = absurd (let no : false ≡ true = going.0 in cc)
+run_within s (suc r) going = let low = within s.setting.runs going.0 in omega (arith, low)
+  where
+    within : {A : Type 0} (xs : List A) → is_some (slice_get xs r) ≡ true → r < length xs
+    within xs some = by_option xs (slice_get xs r) refl some
+      where
+        by_option : {A : Type 0} (xs : List A) (o : Option A) → slice_get xs r ≡ o → is_some o ≡ true → r < length xs
+        by_option xs None at some = absurd (cc)
+        by_option xs (Some x) at some = slice_get_within xs r x at
+
+going_not_ended : (course : Course) (p : Play) (r : ℕ) → IsGoing p.configuration r → has_ended course p r ≡ false
+going_not_ended course p zero going = absurd (let no : false ≡ true = going.0 in cc)
+going_not_ended course p (suc r) going = rw (going.0, going.1) refl
+
+both_are : (a b : Bool) → (not a || b) ≡ false → (a ≡ true) × (b ≡ false)
+both_are true false e = (refl, refl)
+both_are true true e = absurd (cc)
+both_are false b e = absurd (cc)
+
+none_of : {A : Type 0} (o : Option A) → is_some o ≡ false → o ≡ None
+none_of None e = refl
+none_of (Some x) e = absurd (cc)
+
+-- a run that has not ended goes on
+pub is_going : (course : Course) (p : Play) (r : ℕ) → has_ended course p r ≡ false → 0 < r → IsGoing p.configuration r
+is_going course p zero on some = absurd (omega (arith, some))
+is_going course p (suc r) on some = let two = both_are (is_run p.configuration.setting.runs (suc r)) (is_some ((read_of p.configuration).run (suc r)).ended) on in (two.0, none_of ((read_of p.configuration).run (suc r)).ended two.1)
+
+-- an actor with a grip acts
+acts_on : (course : Course) (p : Play) (a d : ℕ) → has_ended course p a ≡ false → gripped p a ≡ Some d → waits (pick course p a).picked ≡ false
+acts_on course p a d going holds = rw going (rw holds (act_never_waits course p d (p.configuration.grips d)))
+
+-- with a device out its maker acts
+none_out : {D : Type 0} (course : Course) (s : PlayerState D) (acts d : ℕ) → PlayerIsKept s → length s.hub.places ≡ length s.hub.setting.first → GripsFit s.hub.setting (read_of (configuration_of s.hub)) (configuration_of s.hub).grips
+    → AllWait course (play_of s acts) → (o : Option (Place D)) → slice_get s.hub.places d ≡ o → grip_in o (device_at s.hub.devices d).purpose ≡ None
+none_out course s acts d kept size fit all None at = refl
+none_out course s acts d kept size fit all (Some (Home device)) at = refl
+none_out {D = D} course s acts d kept size fit all (Some (Out slip task)) at = absurd (
+    let hand = kept.out d slip task at in
+    let holds : gripped (play_of s acts) slip.maker ≡ Some hand.grip.slip.device.0 = full_hand s slip.maker acts hand.grip kept size hand.there in
+    let low : slip.maker < length s.hub.setting.runs + 1 = (let within = slice_get_within s.grips slip.maker (Some hand.grip) hand.there in omega (arith, within, kept.actors)) in
+    let out : (configuration_of s.hub).grips d ≡ Some (record { maker = slip.maker; purpose = purpose_of (device_at s.hub.devices d).purpose }) = ap (λ o. grip_in o (device_at s.hub.devices d).purpose) at in
+    let going : has_ended course (play_of s acts) slip.maker ≡ false = by_purpose slip.maker (purpose_of (device_at s.hub.devices d).purpose) low out hand.grip.slip.device.0 holds in
+    let waited = wait_of course (play_of s acts) slip.maker all low going in
+    let moved = acts_on course (play_of s acts) slip.maker hand.grip.slip.device.0 going holds in
+    let both : true ≡ false = sym waited ∙ moved in cc)
+  where
+    live_going : (r : ℕ) → is_live (read_of (configuration_of s.hub)) r ≡ true → ((read_of (configuration_of s.hub)).run r).ended ≡ None
+    live_going r live = by_end ((read_of (configuration_of s.hub)).run r).ended (grind (arith, common_steps))
+      where
+        by_end : {A : Type 0} (o : Option A) → is_none o ≡ true → o ≡ None
+        by_end None e = refl
+        by_end (Some x) e = absurd (cc)
+
+    live_of : (r : ℕ) (b c : Bool) → IsTrue (is_live (read_of (configuration_of s.hub)) r && b && c) → is_live (read_of (configuration_of s.hub)) r ≡ true
+    live_of r b c e = grind (arith, common_steps)
+
+    is_there : {A : Type 0} (xs : List A) (r : ℕ) → r < length xs → is_some (slice_get xs r) ≡ true
+    is_there [] r low = absurd (omega (arith, low))
+    is_there (x ∷ xs) zero low = refl
+    is_there (x ∷ xs) (suc r) low = is_there xs r (omega (arith, low))
+
+    going_on : (r : ℕ) → suc r < length s.hub.setting.runs + 1 → is_live (read_of (configuration_of s.hub)) (suc r) ≡ true → has_ended course (play_of s acts) (suc r) ≡ false
+    going_on r low live = going_not_ended course (play_of s acts) (suc r) (is_there s.hub.setting.runs r (omega (arith, low)), live_going (suc r) live)
+
+    by_purpose : (a : ℕ) (purpose : Purpose) → a < length s.hub.setting.runs + 1 → (configuration_of s.hub).grips d ≡ Some (record { maker = a; purpose = purpose }) → (e : ℕ) → gripped (play_of s acts) a ≡ Some e → has_ended course (play_of s acts) a ≡ false
+    by_purpose zero purpose low out e holds = rw holds refl
+    by_purpose (suc r) (Commands k) low out e holds = going_on r low (live_of (suc r) _ _ (fit.runs.commands d (suc r) k out))
+    by_purpose (suc r) (Undoes v) low out e holds = going_on r low (let undo = fit.runs.undos d (suc r) v out in grind (arith, common_steps))
+    by_purpose (suc r) (Probes v) low out e holds = absurd (let no = fit.probes d (suc r) v out in omega (arith, no))
+
+waits_by : (c : Choice) → ((why : Why) → c ≢ Waits why) → waits (picked_by c) ≡ false
+waits_by Absent none = refl
+waits_by (Over e entries) none = refl
+waits_by (Moves entries) none = refl
+waits_by (Waits why) none = absurd (none why refl)
+waits_by (HandsOut d purpose) none = refl
+
+-- not all of the actors that have not ended wait, where there is one
+pub not_all_wait : {D : Type 0} (course : Course) (s : PlayerState D) (acts : ℕ) → PlayerIsKept s → length s.hub.places ≡ length s.hub.setting.first → GripsFit s.hub.setting (read_of (configuration_of s.hub)) (configuration_of s.hub).grips
+    → SomeMoves (configuration_of s.hub) → AllWait course (play_of s acts) → (a : ℕ) → a < length s.hub.setting.runs + 1 → has_ended course (play_of s acts) a ≡ false → ⊥
+not_all_wait {D = D} course s acts kept size fit moves all a low going = by_actor a low going
+  where
+    home : (d : ℕ) → (configuration_of s.hub).grips d ≡ None
+    home d = none_out course s acts d kept size fit all (slice_get s.hub.places d) refl
+
+    free : (b : ℕ) → gripped (play_of s acts) b ≡ None
+    free b = no_grip (range_with_len 0 (length s.hub.setting.first))
+      where
+        no_grip : (ds : List ℕ) → find (has_grip (configuration_of s.hub).grips b) ds ≡ None
+        no_grip [] = refl
+        no_grip (d ∷ ds) = rw (home d) (no_grip ds)
+
+    run_moves : (r : ℕ) → IsGoing (configuration_of s.hub) r → ⊥
+    run_moves r run =
+        let q = moves r run home in
+        let waited = wait_of course (play_of s acts) q.0 all (run_within (configuration_of s.hub) q.0 q.1) (going_not_ended course (play_of s acts) q.0 q.1) in
+        let picked = ap (λ (x : Pick). waits x.picked) (take_pick course (play_of s acts) q.0 q.1 (free q.0)) in
+        let moved : waits (picked_by (choice_of (configuration_of s.hub) q.0 s.moment)) ≡ false = waits_by (choice_of (configuration_of s.hub) q.0 s.moment) (q.2 s.moment) in
+        absurd (let both : true ≡ false = sym waited ∙ picked ∙ moved in cc)
+
+    by_actor : (b : ℕ) → b < length s.hub.setting.runs + 1 → has_ended course (play_of s acts) b ≡ false → ⊥
+    by_actor zero within on = absurd (
+        let waited = wait_of course (play_of s acts) zero all within on in
+        let picked : waits (pick course (play_of s acts) zero).picked ≡ false = rw on (rw (free zero) (detector_never_waits (play_of s acts))) in
+        let both : true ≡ false = sym waited ∙ picked in cc)
+    by_actor (suc r) within on = run_moves (suc r) (is_going course (play_of s acts) (suc r) on (omega arith))

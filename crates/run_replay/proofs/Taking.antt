@@ -1,0 +1,252 @@
+-- A run takes its step: what its player is after it.
+use Rattle.command_rules.specs.Rosters.{is_run}
+use Rattle.device_gate.specs.Grips.{Gripped}
+use Rattle.device_gate.specs.declared.grips.Ready.{Ready}
+use Rattle.device_gate.specs.declared.slips.Slip.{Slip}
+use Rattle.history_book.specs.Histories.{kept_by}
+use Rattle.history_book.specs.declared.entries.Entry.{Entry}
+use Rattle.history_book.specs.declared.entries.Kept.{Kept}
+use Rattle.hub_core.proofs.Choices.{decide_is}
+use Rattle.hub_core.specs.HubCalls.{Answers, GoesOut, SameWindow, entries_of_a_run}
+use Rattle.hub_core.specs.HubSteps.{IsSlipOf, SlipFits}
+use Rattle.hub_core.specs.OpenHubs.{configuration_of, state_of}
+use Rattle.hub_core.specs.Steps.{Absent, Choice, HandsOut, Moves, Over, Waits, after_choice, after_take, at_moment, choice_of}
+use Rattle.lock_leasing.specs.Configurations.{Configuration, read_of}
+use Rattle.run_replay.proofs.Holding.{Moves as MovesOn, Takes, moves_keeps, moves_plans, takes_keeps, takes_plans}
+use Rattle.run_replay.proofs.HubSteps.{took_after, took_choice}
+use Rattle.run_replay.proofs.Making.{Makes, choice_makes}
+use Rattle.run_replay.proofs.Picking.{IsGoing, empty_is, passed_is_picked, taken_is_picked}
+use Rattle.run_replay.proofs.Stepping.{StaysBy, made_fewer, took_fewer}
+use Rattle.run_replay.specs.Players.{HavePlans, PlayerIsKept, PlayerState, is_ended, is_full, play_of, steps_left}
+use Rattle.run_replay.specs.Playing.{IsPicked}
+use Rattle.run_replay.specs.Replays.{Passed, Took, picked_by}
+use Rattle.std.proofs.Common.{ap, arith, refl, subst, sym, ◌∙◌}
+use Rattle.std.proofs.lemmas.List.{length-append}
+use Rattle.std.specs.Prelude.{Bool, List, None, Option, Some, [], false, is_some, length, not, slice_get, slice_set, suc, true, zero, ℕ, ◌*◌, ◌++◌, ◌+◌, ◌<◌, ◌^◌, ◌||◌, ◌∷◌, ◌≡◌, ◌≢◌, ◌≤◌}
+
+-- What is known before
+
+-- a run that goes on, with an empty hand
+pub record IsFree {D : Type 0} (s : PlayerState D) (r : ℕ) : Type 0 where
+  pub kept : PlayerIsKept s
+  pub run : 0 < r
+  pub going : is_ended s r ≡ false
+  pub empty : is_full s r ≡ false
+
+both_are : (a b : Bool) → (not a || b) ≡ false → (a ≡ true) × (b ≡ false)
+both_are true false e = (refl, refl)
+both_are true true e = absurd (cc)
+both_are false b e = absurd (cc)
+
+none_of : {A : Type 0} (o : Option A) → is_some o ≡ false → o ≡ None
+none_of None e = refl
+none_of (Some x) e = absurd (cc)
+
+goes : {D : Type 0} (s : PlayerState D) (r : ℕ) → 0 < r → is_ended s r ≡ false → IsGoing (configuration_of s.hub) r
+goes s zero some on = absurd (omega (arith, some))
+goes s (suc r) some on = let two = both_are (is_run s.hub.setting.runs (suc r)) (is_some ((read_of (configuration_of s.hub)).run (suc r)).ended) on in (two.0, none_of ((read_of (configuration_of s.hub)).run (suc r)).ended two.1)
+
+within : {A : Type 0} (xs : List A) (i : ℕ) → is_some (slice_get xs i) ≡ true → i < length xs
+within [] i e = absurd (cc)
+within (x ∷ xs) zero e = omega arith
+within (x ∷ xs) (suc i) e = let h = within xs i e in omega (arith, h)
+
+run_low : {D : Type 0} (s : PlayerState D) (r : ℕ) → PlayerIsKept s → IsGoing (configuration_of s.hub) r → r < length s.grips
+run_low s zero kept going = absurd (let no : false ≡ true = going.0 in cc)
+run_low s (suc r) kept going = let low = within s.hub.setting.runs r going.0 in let actors = kept.actors in omega (arith, low, actors)
+
+free_hand : {D : Type 0} (s : PlayerState D) (r : ℕ) → IsFree s r → slice_get s.grips r ≡ Some None
+free_hand s r free = empty_is s r free.empty (run_low s r free.kept (goes s r free.run free.going))
+
+pub going_of : {D : Type 0} (s : PlayerState D) (r : ℕ) → IsFree s r → IsGoing (configuration_of s.hub) r
+going_of s r free = goes s r free.run free.going
+
+pub hand_is_there : {D : Type 0} (s : PlayerState D) (r : ℕ) → IsFree s r → r < length s.grips
+hand_is_there s r free = run_low s r free.kept (going_of s r free)
+
+-- the hand of a free run is empty
+pub hand_is_empty : {D : Type 0} (s : PlayerState D) (r : ℕ) → IsFree s r → slice_get s.grips r ≡ Some None
+hand_is_empty s r free = free_hand s r free
+
+-- Histories grow
+
+kept_length : (maker : ℕ) (entries : List Entry) → length (kept_by maker entries) ≡ length entries
+kept_length maker [] = refl
+kept_length maker (e ∷ entries) = ap (λ n. suc n) (kept_length maker entries)
+
+pub grown : (h : List Kept) (maker : ℕ) (entries : List Entry) → length (h ++ kept_by maker entries) ≡ length h + length entries
+grown h maker entries = length-append h (kept_by maker entries) ∙ ap (λ n. length h + n) (kept_length maker entries)
+
+history_by : (s : Configuration) (r : ℕ) (c : Choice) → length s.history ≤ length (after_choice s r c).history
+history_by s r Absent = omega arith
+history_by s r (Over e entries) = let h = grown s.history r entries in omega (arith, h)
+history_by s r (Moves entries) = let h = grown s.history r entries in omega (arith, h)
+history_by s r (Waits why) = omega arith
+history_by s r (HandsOut d purpose) = omega arith
+
+-- entries are made where the choice says so
+abbrev pub makes : Choice → Bool
+makes Absent = false
+makes (Over e entries) = true
+makes (Moves entries) = true
+makes (Waits why) = false
+makes (HandsOut d purpose) = false
+
+more_by : (s : Configuration) (r : ℕ) (c : Choice) → makes c ≡ true → Makes c → length s.history < length (after_choice s r c).history
+more_by s r Absent yes' some = absurd (cc)
+more_by s r (Over e entries) yes' some = let h = grown s.history r entries in omega (arith, h, some)
+more_by s r (Moves entries) yes' some = let h = grown s.history r entries in omega (arith, h, some)
+more_by s r (Waits why) yes' some = absurd (cc)
+more_by s r (HandsOut d purpose) yes' some = absurd (cc)
+
+-- The step
+
+-- the run's step was answered so, and no device went out
+pub record IsAnswered {D : Type 0} (s t : PlayerState D) (r : ℕ) (choice : Choice) : Type 0 where
+  pub free : IsFree s r
+  pub answers : Answers s.hub r s.moment choice t.hub
+  pub window : SameWindow s.hub t.hub
+  pub grips : t.grips ≡ s.grips
+  pub rounds : t.rounds ≡ s.rounds
+  pub moment : t.moment ≡ s.moment
+  pub place : t.place ≡ s.place
+
+some_slip : Slip
+some_slip = record { ticket = 0; device = record { 0 = 0 }; maker = 0; stood = 0; turns = 0; probes = 0; faults = 0 }
+
+chosen : {D : Type 0} (s t : PlayerState D) (r : ℕ) (choice : Choice) → Answers s.hub r s.moment choice t.hub → choice ≡ choice_of (configuration_of s.hub) r s.moment
+chosen s t r choice answers = took_choice (state_of s.hub) (state_of t.hub) r s.moment some_slip choice (answers.step some_slip)
+
+after : {D : Type 0} (s t : PlayerState D) (r : ℕ) (choice : Choice) → Answers s.hub r s.moment choice t.hub → configuration_of t.hub ≡ after_take (configuration_of s.hub) r s.moment
+after s t r choice answers = took_after (state_of s.hub) (state_of t.hub) r s.moment some_slip choice (answers.step some_slip)
+
+longer : {D : Type 0} (s t : PlayerState D) (r : ℕ) → configuration_of t.hub ≡ after_take (configuration_of s.hub) r s.moment → length s.hub.history ≤ length t.hub.history
+longer s t r is = subst (λ (c : Configuration). length s.hub.history ≤ length c.history) (sym is) (history_by (at_moment (configuration_of s.hub) s.moment) r (choice_of (configuration_of s.hub) r s.moment))
+
+pub stays_by : {D : Type 0} (s t : PlayerState D) → SameWindow s.hub t.hub → t.rounds ≡ s.rounds → StaysBy s t
+stays_by s t window rounds = record { runs = ap (λ w. length w.runs) window.setting; devices = ap (λ w. length w.first) window.setting; rounds = rounds }
+
+moved : {D : Type 0} (s t : PlayerState D) (r : ℕ) (choice : Choice) → IsAnswered s t r choice → MovesOn s t
+moved s t r choice is = record {
+  places = is.answers.places;
+  grips = is.grips;
+  setting = is.window.setting;
+  rounds = is.rounds;
+  early = (let more = longer s t r (after s t r choice is.answers) in let early = is.free.kept.early in let same = is.moment in omega (arith, more, early, same));
+  place = subst (λ n. n ≤ t.rounds * length t.hub.setting.first) (sym is.place) (subst (λ n. s.place ≤ n * length t.hub.setting.first) (sym is.rounds) (subst (λ w. s.place ≤ s.rounds * length w.first) (sym is.window.setting) is.free.kept.place));
+}
+
+pub answered_keeps : {D : Type 0} (s t : PlayerState D) (r : ℕ) (choice : Choice) → IsAnswered s t r choice → PlayerIsKept t
+answered_keeps s t r choice is = moves_keeps s t (moved s t r choice is) is.free.kept
+
+pub answered_plans : {D P : Type 0} (plan : D → P) (plans : ℕ → P) (s t : PlayerState D) (r : ℕ) (choice : Choice) → IsAnswered s t r choice → HavePlans plan plans s → HavePlans plan plans t
+answered_plans plan plans s t r choice is = moves_plans plan plans s t (moved s t r choice is)
+
+pub answered_picked : {D : Type 0} (s t : PlayerState D) (r acts : ℕ) (choice : Choice) → IsAnswered s t r choice → IsPicked s.rounds r (play_of s acts) (picked_by choice) (play_of t acts)
+answered_picked s t r acts choice is = taken_is_picked s t s.rounds r acts choice is.free.kept (going_of s r is.free) (hand_is_empty s r is.free) (chosen s t r choice is.answers) (after s t r choice is.answers) is.moment is.place
+
+made_entries : {D : Type 0} (s : PlayerState D) (r : ℕ) (choice : Choice) → IsFree s r → choice ≡ choice_of (configuration_of s.hub) r s.moment → Makes choice
+made_entries s r choice free is = subst Makes (sym is) (choice_makes (configuration_of s.hub) r s.moment (going_of s r free).1)
+
+there_is : {D : Type 0} (s : PlayerState D) (r : ℕ) → IsFree s r → choice_of (configuration_of s.hub) r s.moment ≢ Absent
+there_is s r free = decide_is (λ c. c ≢ Absent) s.hub.setting (read_of (configuration_of s.hub)) (configuration_of s.hub).grips r _ (record {
+  absent = λ none e. absurd (let run = (going_of s r free).0 in let no : true ≡ false = sym run ∙ none in cc);
+  over = λ e at no. absurd (cc);
+  waits = λ why no. absurd (cc);
+  arrives = λ run none no. absurd (cc);
+  enters = λ split known no. absurd (cc);
+  aborted = λ cause act doomed over no. absurd (cc);
+  drops = λ cause d undoing down no. absurd (cc);
+  undoes = λ cause d undoing up no. absurd (cc);
+  revokes = λ c x run strong at no. absurd (cc);
+  downs = λ c run next home down no. absurd (cc);
+  goes = λ c run next home up no. absurd (cc);
+  fails_at_end = λ d all at no. absurd (cc);
+  commits = λ all up no. absurd (cc);
+})
+
+-- what is no wait and hands nothing out leaves fewer steps
+pub answered_fewer : {D : Type 0} (s t : PlayerState D) (r : ℕ) (choice : Choice) → makes choice ≡ true → IsAnswered s t r choice → length t.hub.history ≤ entries_of_a_run * length t.hub.setting.runs → steps_left t < steps_left s
+answered_fewer s t r choice yes' is bound =
+    let same = chosen s t r choice is.answers in
+    let more : length s.hub.history < length t.hub.history = subst (λ (c : Configuration). length s.hub.history < length c.history) (sym (after s t r choice is.answers))
+          (subst (λ c. length s.hub.history < length (after_choice (at_moment (configuration_of s.hub) s.moment) r c).history) same (more_by (at_moment (configuration_of s.hub) s.moment) r choice yes' (made_entries s r choice is.free same))) in
+    made_fewer s t (stays_by s t is.window is.rounds) is.grips is.place more bound
+
+-- a run of the window is not absent
+pub never_absent : {D : Type 0} (s t : PlayerState D) (r : ℕ) → IsAnswered s t r Absent → ⊥
+never_absent s t r is = there_is s r is.free (sym (chosen s t r Absent is.answers))
+
+-- A device goes out
+
+pub record GoesToHand {D : Type 0} (s t : PlayerState D) (r : ℕ) (grip : Gripped D Ready) : Type 0 where
+  pub free : IsFree s r
+  pub out : GoesOut s.hub r s.moment grip t.hub
+  pub window : SameWindow s.hub t.hub
+  pub grips : t.grips ≡ slice_set s.grips r (Some grip)
+  pub rounds : t.rounds ≡ s.rounds
+  pub moment : t.moment ≡ s.moment
+  pub place : t.place ≡ s.place
+
+went : {D : Type 0} (s t : PlayerState D) (r : ℕ) (grip : Gripped D Ready) → (is : GoesToHand s t r grip) → HandsOut grip.slip.device.0 is.out.purpose ≡ choice_of (configuration_of s.hub) r s.moment
+went s t r grip is = took_choice (state_of s.hub) (state_of t.hub) r s.moment grip.slip (HandsOut grip.slip.device.0 is.out.purpose) is.out.step
+
+went_after : {D : Type 0} (s t : PlayerState D) (r : ℕ) (grip : Gripped D Ready) → (is : GoesToHand s t r grip) → configuration_of t.hub ≡ after_take (configuration_of s.hub) r s.moment
+went_after s t r grip is = took_after (state_of s.hub) (state_of t.hub) r s.moment grip.slip (HandsOut grip.slip.device.0 is.out.purpose) is.out.step
+
+its_slip : {D : Type 0} (s t : PlayerState D) (r : ℕ) (grip : Gripped D Ready) → (is : GoesToHand s t r grip) → IsSlipOf r grip.slip.device.0 grip.slip
+its_slip s t r grip is = subst (λ c. SlipFits r c grip.slip) (sym (went s t r grip is)) is.out.step.2
+
+same_history : {D : Type 0} (s t : PlayerState D) (r : ℕ) (grip : Gripped D Ready) → (is : GoesToHand s t r grip) → t.hub.history ≡ s.hub.history
+same_history s t r grip is = ap (λ (c : Configuration). c.history) (went_after s t r grip is) ∙ ap (λ c. (after_choice (at_moment (configuration_of s.hub) s.moment) r c).history) (sym (went s t r grip is))
+
+takes_of : {D : Type 0} (s t : PlayerState D) (r : ℕ) (grip : Gripped D Ready) → (is : GoesToHand s t r grip) → Takes s t r grip
+takes_of s t r grip is = record {
+  run = is.free.run;
+  free = hand_is_empty s r is.free;
+  home = is.out.home;
+  maker = (its_slip s t r grip is).maker;
+  places = is.out.places;
+  grips = is.grips;
+  setting = is.window.setting;
+  rounds = is.rounds;
+  early = subst (λ h. t.moment ≤ 2 ^ 32 * length h) (sym (same_history s t r grip is)) (subst (λ m. m ≤ 2 ^ 32 * length s.hub.history) (sym is.moment) is.free.kept.early);
+  place = subst (λ n. n ≤ t.rounds * length t.hub.setting.first) (sym is.place) (subst (λ n. s.place ≤ n * length t.hub.setting.first) (sym is.rounds) (subst (λ w. s.place ≤ s.rounds * length w.first) (sym is.window.setting) is.free.kept.place));
+}
+
+pub went_keeps : {D : Type 0} (s t : PlayerState D) (r : ℕ) (grip : Gripped D Ready) → GoesToHand s t r grip → PlayerIsKept t
+went_keeps s t r grip is = takes_keeps s t r grip (takes_of s t r grip is) is.free.kept
+
+pub went_plans : {D P : Type 0} (plan : D → P) (plans : ℕ → P) (s t : PlayerState D) (r : ℕ) (grip : Gripped D Ready) → GoesToHand s t r grip → HavePlans plan plans s → HavePlans plan plans t
+went_plans plan plans s t r grip is = takes_plans plan plans s t r grip (takes_of s t r grip is)
+
+pub went_picked : {D : Type 0} (s t : PlayerState D) (r acts : ℕ) (grip : Gripped D Ready) → GoesToHand s t r grip → IsPicked s.rounds r (play_of s acts) (Took grip.slip.device.0) (play_of t acts)
+went_picked s t r acts grip is = taken_is_picked s t s.rounds r acts (HandsOut grip.slip.device.0 is.out.purpose) is.free.kept (going_of s r is.free) (hand_is_empty s r is.free) (went s t r grip is) (went_after s t r grip is) is.moment is.place
+
+pub went_fewer : {D : Type 0} (s t : PlayerState D) (r : ℕ) (grip : Gripped D Ready) → GoesToHand s t r grip → steps_left t < steps_left s
+went_fewer s t zero grip is = absurd (let run = is.free.run in omega (arith, run))
+went_fewer s t (suc r) grip is = took_fewer s t r grip (stays_by s t is.window is.rounds) (hand_is_empty s (suc r) is.free) is.grips is.place (same_history s t (suc r) grip is)
+
+-- The same of the player as callers see it
+
+pub answered_picked_now : {D : Type 0} (now s t : PlayerState D) (r : ℕ) (choice : Choice) → s ≡ now → IsAnswered s t r choice → (acts : ℕ) → (later : ℕ) × IsPicked now.rounds r (play_of now acts) (picked_by choice) (play_of t later)
+answered_picked_now {D = D} now s t r choice same is acts = (acts, subst (λ (x : PlayerState D). IsPicked x.rounds r (play_of x acts) (picked_by choice) (play_of t acts)) same (answered_picked s t r acts choice is))
+
+pub answered_plans_now : {D P : Type 0} (plan : D → P) (now s t : PlayerState D) (r : ℕ) (choice : Choice) → s ≡ now → IsAnswered s t r choice → (plans : ℕ → P) → HavePlans plan plans now → HavePlans plan plans t
+answered_plans_now {D = D} plan now s t r choice same is plans have = answered_plans plan plans s t r choice is (subst (λ (x : PlayerState D). HavePlans plan plans x) (sym same) have)
+
+pub answered_fewer_now : {D : Type 0} (now s t : PlayerState D) (r : ℕ) (choice : Choice) → s ≡ now → makes choice ≡ true → IsAnswered s t r choice → length t.hub.history ≤ entries_of_a_run * length t.hub.setting.runs → steps_left t < steps_left now
+answered_fewer_now {D = D} now s t r choice same yes' is bound = subst (λ (x : PlayerState D). steps_left t < steps_left x) same (answered_fewer s t r choice yes' is bound)
+
+pub went_picked_now : {D : Type 0} (now s t : PlayerState D) (r d : ℕ) (grip : Gripped D Ready) → s ≡ now → d ≡ grip.slip.device.0 → GoesToHand s t r grip → (acts : ℕ) → (later : ℕ) × IsPicked now.rounds r (play_of now acts) (Took d) (play_of t later)
+went_picked_now {D = D} now s t r d grip same number is acts = (acts, subst (λ (x : PlayerState D). IsPicked x.rounds r (play_of x acts) (Took d) (play_of t acts)) same (subst (λ e. IsPicked s.rounds r (play_of s acts) (Took e) (play_of t acts)) (sym number) (went_picked s t r acts grip is)))
+
+pub went_plans_now : {D P : Type 0} (plan : D → P) (now s t : PlayerState D) (r : ℕ) (grip : Gripped D Ready) → s ≡ now → GoesToHand s t r grip → (plans : ℕ → P) → HavePlans plan plans now → HavePlans plan plans t
+went_plans_now {D = D} plan now s t r grip same is plans have = went_plans plan plans s t r grip is (subst (λ (x : PlayerState D). HavePlans plan plans x) (sym same) have)
+
+pub went_fewer_now : {D : Type 0} (now s t : PlayerState D) (r : ℕ) (grip : Gripped D Ready) → s ≡ now → GoesToHand s t r grip → steps_left t < steps_left now
+went_fewer_now {D = D} now s t r grip same is = subst (λ (x : PlayerState D). steps_left t < steps_left x) same (went_fewer s t r grip is)
+
+-- an actor that has ended passes
+pub passed_now : {D : Type 0} (now s : PlayerState D) (a acts : ℕ) → s ≡ now → PlayerIsKept s → length s.hub.places ≡ length s.hub.setting.first → is_ended now a ≡ true → (later : ℕ) × IsPicked now.rounds a (play_of now acts) Passed (play_of now later)
+passed_now {D = D} now s a acts same kept size ended = (acts, subst (λ (x : PlayerState D). IsPicked x.rounds a (play_of x acts) Passed (play_of x acts)) same (passed_is_picked s a acts kept size (subst (λ (x : PlayerState D). is_ended x a ≡ true) (sym same) ended)))

@@ -1,0 +1,105 @@
+-- What a player shows, and the play that it stands for.
+use Rattle.command_rules.specs.Rosters.{is_run}
+use Rattle.device_gate.specs.Grips.{Gripped}
+use Rattle.device_gate.specs.declared.gates.Place.TheVariants.{Home, Out}
+use Rattle.device_gate.specs.declared.grips.Ready.{Ready}
+use Rattle.device_gate.specs.declared.slips.Slip.{Slip}
+use Rattle.device_gate.specs.declared.slips.Task.{Task}
+use Rattle.history_book.specs.Histories.{entries_made}
+use Rattle.hub_core.specs.HubCalls.{entries_of_a_run}
+use Rattle.hub_core.specs.OpenHubs.{OpenHub, configuration_of}
+use Rattle.lock_leasing.specs.Configurations.{read_of}
+use Rattle.run_replay.specs.Replays.{Made, Passed, Picked, Play, Took, Waited, start_of}
+use Rattle.run_replay.specs.declared.picked.Picked.TheVariants.{Made as MadeSo, Passed as PassedSo, Took as TookSo, Waits as WaitsSo}
+use Rattle.run_replay.specs.declared.picked.Picked.{Picked as PickedSo}
+use Rattle.std.specs.List.{range_with_len}
+use Rattle.std.specs.Prelude.{Bool, List, None, Option, Some, [], drop, false, filter, is_some, length, nat_le, not, option_map, suc, unwrap_or, zero, slice_get, ℕ, ◌*◌, ◌+◌, ◌-◌, ◌<◌, ◌^◌, ◌&&◌, ◌||◌, ◌∷◌, ◌≡◌, ◌≤◌, ◌⊎◌}
+
+-- what a player shows: its hub, the grips that its actors hold, by their numbers, the detector's rounds, the moment, and how many devices the detector has come to
+pub record PlayerState (D : Type 0) : Type 0 where
+  pub hub : OpenHub D
+  pub grips : List (Option (Gripped D Ready))
+  pub rounds : ℕ
+  pub moment : ℕ
+  pub place : ℕ
+
+-- the play that it stands for, after so many acts
+abbrev pub play_of : {D : Type 0} → PlayerState D → ℕ → Play
+play_of s acts = record { configuration = configuration_of s.hub; moment = s.moment; place = s.place; acts = acts }
+
+-- what a pick did
+abbrev pub picked_of : PickedSo → Picked
+picked_of PassedSo = Passed
+picked_of (MadeSo made) = Made (entries_made made)
+picked_of (TookSo d) = Took d.0
+picked_of (WaitsSo why) = Waited why
+
+-- the actor holds a grip
+abbrev pub is_full : {D : Type 0} → PlayerState D → ℕ → Bool
+is_full s a = unwrap_or (option_map is_some (slice_get s.grips a)) false
+
+-- the detector has ended when its rounds are over and it holds no grip; a run when it has its end, and where it is none of the window
+abbrev pub is_ended : {D : Type 0} → PlayerState D → ℕ → Bool
+is_ended s zero = not (is_full s 0) && nat_le (s.rounds * length s.hub.setting.first) s.place
+is_ended s (suc r) = not (is_run s.hub.setting.runs (suc r)) || is_some ((read_of (configuration_of s.hub)).run (suc r)).ended
+
+-- the grip that holds the device of this slip is in its maker's hands
+pub record IsInHand {D : Type 0} (s : PlayerState D) (d : ℕ) (slip : Slip) : Type 0 where
+  pub grip : Gripped D Ready
+  pub there : slice_get s.grips slip.maker ≡ Some (Some grip)
+  pub own : grip.slip ≡ slip
+  pub number : slip.device.0 ≡ d
+
+-- what is kept of a player: each grip that an actor holds is its own, with which its device is out, and each device is out with a grip in its maker's hands;
+-- the moment and the detector's place are low
+pub record PlayerIsKept {D : Type 0} (s : PlayerState D) : Type 0 where
+  pub actors : length s.grips ≡ length s.hub.setting.runs + 1
+  pub makers : (a : ℕ) (grip : Gripped D Ready) → slice_get s.grips a ≡ Some (Some grip) → grip.slip.maker ≡ a
+  pub held : (a : ℕ) (grip : Gripped D Ready) → slice_get s.grips a ≡ Some (Some grip) → slice_get s.hub.places grip.slip.device.0 ≡ Some (Out grip.slip grip.task)
+  pub out : (d : ℕ) (slip : Slip) (task : Task) → slice_get s.hub.places d ≡ Some (Out slip task) → IsInHand s d slip
+  pub early : s.moment ≤ 2 ^ 32 * length s.hub.history
+  pub rounds : s.rounds < 2 ^ 32
+  pub devices : length s.hub.setting.first ≤ 256
+  pub place : s.place ≤ s.rounds * length s.hub.setting.first
+  -- in this stage the detector has no rounds, and no grip
+  pub still : s.rounds * length s.hub.setting.first ≡ 0
+  pub detector : slice_get s.grips 0 ≡ Some None
+
+-- the device d of the player: it is home, or in the hands of an actor
+abbrev pub IsDevice : {D : Type 0} → PlayerState D → ℕ → D → Type 0
+IsDevice {D} s d device =
+    (slice_get s.hub.places d ≡ Some (Home device))
+    ⊎ ((a : ℕ) × (grip : Gripped D Ready) × (slice_get s.grips a ≡ Some (Some grip)) × (grip.slip.device.0 ≡ d) × (grip.device ≡ device))
+
+-- each device was built with this plan
+abbrev pub HavePlans : {D P : Type 0} → (D → P) → (ℕ → P) → PlayerState D → Type 0
+HavePlans {D} plan plans s = (d : ℕ) (device : D) → IsDevice s d device → plan device ≡ plans d
+
+-- how many of these places hold nothing
+abbrev pub empty_places : {A : Type 0} → List (Option A) → ℕ
+empty_places [] = 0
+empty_places (None ∷ xs) = empty_places xs + 1
+empty_places (Some x ∷ xs) = empty_places xs
+
+-- whether the first place holds something
+abbrev pub first_is_full : {A : Type 0} → List (Option A) → ℕ
+first_is_full [] = 0
+first_is_full (None ∷ xs) = 0
+first_is_full (Some x ∷ xs) = 1
+
+-- how many steps are left at most: two for each entry that the hub may still make, one for each run without a grip, two for each device that the detector has still to come to, and one for the grip that it holds
+abbrev pub steps_left : {D : Type 0} → PlayerState D → ℕ
+steps_left s =
+    2 * (entries_of_a_run * length s.hub.setting.runs - length s.hub.history) + empty_places (drop 1 s.grips)
+    + 2 * (s.rounds * length s.hub.setting.first - s.place) + first_is_full s.grips
+
+-- the actors that have not ended, ascending
+abbrev pub are_live : {D : Type 0} → PlayerState D → List ℕ
+are_live s = filter (λ a. not (is_ended s a)) (range_with_len 0 (length s.grips))
+
+-- a player of the hub, with an empty hand for each actor, at the start of its play
+pub record IsOpened {D : Type 0} (hub : OpenHub D) (rounds : ℕ) (s : PlayerState D) : Type 0 where
+  pub own : s.hub ≡ hub
+  pub detector : s.rounds ≡ rounds
+  pub start : play_of s 0 ≡ start_of hub.setting hub.rounds
+  pub hands : (a : ℕ) (grip : Gripped D Ready) → slice_get s.grips a ≡ Some (Some grip) → ⊥
