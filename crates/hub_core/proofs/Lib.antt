@@ -27,3 +27,4 @@ pub mod HubChanges
 pub mod HubOuts
 pub mod HubReturns
 pub mod HubRefusals
+pub mod TestWindows

@@ -14,6 +14,8 @@ pub mod purposes;
 mod read_histories;
 pub mod refusals;
 mod take_calls;
+#[cfg(test)]
+mod tests;
 pub mod turns;
 pub mod waits;
 
