@@ -1,5 +1,5 @@
 -- A script that passes the test is small.
-use Rattle.hub_main.specs.Stage.{IsSmall, SetsOnce, has_small_runs, is_set, is_small, set_command, sets_once, sets_one}
+use Rattle.hub_main.specs.Stage.{IsSmall, SetsOnce, is_never_down, is_set, is_small, is_small_window, set_command, sets_once, sets_one}
 use Rattle.home_types.specs.declared.commands.Command.{Command}
 use Rattle.home_types.specs.declared.commands.Job.TheVariants.{Check, Load, Set, Store}
 use Rattle.home_types.specs.declared.commands.Job.{Job}
@@ -8,7 +8,7 @@ use Rattle.routine_reader.specs.Rosters.{routine_at}
 use Rattle.routine_reader.specs.declared.scripts.RunText.{RunText}
 use Rattle.routine_reader.specs.declared.scripts.Script.{Script}
 use Rattle.routine_reader.specs.declared.scripts.WindowText.{WindowText}
-use Rattle.std.proofs.Common.{Bool, List, None, Option, Some, [], false, is_none, length, nat_le, refl, rules, subst, suc, true, zero, ℕ, ◌&&◌, ◌==◌, ◌≡◌, ◌≤◌, ◌∷◌}
+use Rattle.std.proofs.Common.{Bool, List, None, Option, Some, [], arith, false, is_none, length, nat_le, refl, rules, subst, suc, true, zero, ℕ, ◌&&◌, ◌==◌, ◌≡◌, ◌≤◌, ◌∷◌}
 use Rattle.std.specs.List.{list_all}
 use Rattle.std.specs.Prelude.{slice_get}
 
@@ -66,21 +66,44 @@ run_sets script run h =
       },
     )
 
--- each window of a script that passes has few runs, which set once
-runs_pass : (script : Script) → is_small script ≡ true → (k : ℕ) (window : WindowText) → slice_get script.windows.items k ≡ Some window
-    → (nat_le (length window.runs.items) 1 ≡ true) × (list_all (sets_once script) window.runs.items ≡ true)
-runs_pass script h k window at =
-    let all = and_true (nat_le (length script.devices.items) 1 && nat_le (length script.windows.items) 1) (list_all (has_small_runs script) script.windows.items) h in
-    and_true (nat_le (length window.runs.items) 1) (list_all (sets_once script) window.runs.items) (all_at (has_small_runs script) script.windows.items all.1 k window at)
+-- a list of no item is empty
+none_of : {X : Type 0} (xs : List X) → (length xs == 0) ≡ true → xs ≡ []
+none_of [] h = refl
+none_of (x ∷ xs) h = absurd (let none = equal_true (suc (length xs)) 0 h in omega (arith, none))
+
+-- what a script that passes has gone through
+record Passes (script : Script) : Type 0 where
+  devices : nat_le (length script.devices.items) 1 ≡ true
+  never_down : list_all is_never_down script.devices.items ≡ true
+  windows : nat_le (length script.windows.items) 1 ≡ true
+  each : list_all (is_small_window script) script.windows.items ≡ true
+
+passes : (script : Script) → is_small script ≡ true → Passes script
+passes script h =
+    let three = and_true (nat_le (length script.devices.items) 1 && list_all is_never_down script.devices.items && nat_le (length script.windows.items) 1) (list_all (is_small_window script) script.windows.items) h in
+    let two = and_true (nat_le (length script.devices.items) 1 && list_all is_never_down script.devices.items) (nat_le (length script.windows.items) 1) three.0 in
+    let one = and_true (nat_le (length script.devices.items) 1) (list_all is_never_down script.devices.items) two.0 in
+    record { devices = one.0; never_down = one.1; windows = two.1; each = three.1 }
+
+-- what a window that passes has gone through
+record PassesWindow (script : Script) (window : WindowText) : Type 0 where
+  probes : window.probes ≡ 0
+  runs : length window.runs.items ≤ 1
+  each : list_all (sets_once script) window.runs.items ≡ true
+
+window_passes : (script : Script) → is_small script ≡ true → (k : ℕ) (window : WindowText) → slice_get script.windows.items k ≡ Some window → PassesWindow script window
+window_passes script h k window at =
+    let two = and_true (window.probes == 0 && nat_le (length window.runs.items) 1) (list_all (sets_once script) window.runs.items) (all_at (is_small_window script) script.windows.items (passes script h).each k window at) in
+    let one = and_true (window.probes == 0) (nat_le (length window.runs.items) 1) two.0 in
+    record { probes = equal_true window.probes 0 one.0; runs = most_true (length window.runs.items) 1 one.1; each = two.1 }
 
 -- a script that passes is small
 pub passes_is_small : (script : Script) → is_small script ≡ true → IsSmall script
-passes_is_small script h =
-    let all = and_true (nat_le (length script.devices.items) 1 && nat_le (length script.windows.items) 1) (list_all (has_small_runs script) script.windows.items) h in
-    let sizes = and_true (nat_le (length script.devices.items) 1) (nat_le (length script.windows.items) 1) all.0 in
-    record {
-      devices = most_true (length script.devices.items) 1 sizes.0;
-      windows = most_true (length script.windows.items) 1 sizes.1;
-      runs = λ k window at. most_true (length window.runs.items) 1 (runs_pass script h k window at).0;
-      sets = λ k i window run window_at run_at. run_sets script run (all_at (sets_once script) window.runs.items (runs_pass script h k window window_at).1 i run run_at);
-    }
+passes_is_small script h = record {
+  devices = most_true (length script.devices.items) 1 (passes script h).devices;
+  never_down = λ d device at. none_of device.downs.items (all_at is_never_down script.devices.items (passes script h).never_down d device at);
+  windows = most_true (length script.windows.items) 1 (passes script h).windows;
+  no_probes = λ k window at. (window_passes script h k window at).probes;
+  runs = λ k window at. (window_passes script h k window at).runs;
+  sets = λ k i window run window_at run_at. run_sets script run (all_at (sets_once script) window.runs.items (window_passes script h k window window_at).each i run run_at);
+}

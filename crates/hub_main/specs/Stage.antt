@@ -1,4 +1,4 @@
--- What this stage plays: a window with no run, or with one run of one must `set` on the home's one device.
+-- What this stage plays: a window with no run, or with one run of one must `set` on the home's one device, which is never down.
 use Rattle.command_rules.specs.Rosters.{device_no, run_no}
 use Rattle.history_book.specs.declared.entries.End.TheVariants.{Committed}
 use Rattle.history_book.specs.declared.entries.Entry.TheVariants.{Arrived, Did, Ended, Placed}
@@ -14,6 +14,7 @@ use Rattle.home_types.specs.declared.modes.Scheduler.TheVariants.{Fcfs}
 use Rattle.home_types.specs.declared.modes.Visibility.TheVariants.{Global}
 use Rattle.home_types.specs.declared.worlds.Stand.{Stand}
 use Rattle.routine_reader.specs.Rosters.{routine_at}
+use Rattle.routine_reader.specs.declared.scripts.DeviceText.{DeviceText}
 use Rattle.routine_reader.specs.declared.scripts.RunText.{RunText}
 use Rattle.routine_reader.specs.declared.scripts.Script.{Script}
 use Rattle.routine_reader.specs.declared.scripts.WindowText.{WindowText}
@@ -36,38 +37,47 @@ pub record SetsOnce (script : Script) (run : RunText) (v : ℕ) : Type 0 where
   pub routine : routine_at script run.routine ≡ set_command v ms takes ∷ []
   pub home : length script.devices.items ≡ 1
 
--- at most one device, one window and one run, which sets once
+-- at most one device, never down, one window without probes and one run, which sets once
 pub record IsSmall (script : Script) : Type 0 where
   pub devices : length script.devices.items ≤ 1
+  pub never_down : (d : ℕ) (device : DeviceText) → slice_get script.devices.items d ≡ Some device → device.downs.items ≡ []
   pub windows : length script.windows.items ≤ 1
+  pub no_probes : (k : ℕ) (window : WindowText) → slice_get script.windows.items k ≡ Some window → window.probes ≡ 0
   pub runs : (k : ℕ) (window : WindowText) → slice_get script.windows.items k ≡ Some window → length window.runs.items ≤ 1
   pub sets : (k i : ℕ) (window : WindowText) (run : RunText) → slice_get script.windows.items k ≡ Some window → slice_get window.runs.items i ≡ Some run → (v : ℕ) × SetsOnce script run v
 
--- this stage plays the script: these facts, as a test
-
+-- whether the job is a `set`
 abbrev pub is_set : Job → Bool
 is_set (Set v) = true
 is_set (Check v) = false
 is_set Load = false
 is_set Store = false
 
--- one must `set` of the device 0
+-- whether these are one must `set` of the device 0
 abbrev pub sets_one : List Command → Bool
 sets_one [] = false
 sets_one (command ∷ []) = command.must && command.device.0 == 0 && is_set command.job
 sets_one (command ∷ other ∷ commands) = false
 
+-- whether the run follows none, and its routine is one must `set` of the home's one device
 abbrev pub sets_once : Script → RunText → Bool
 sets_once script run =
     is_none run.follows && length script.devices.items == 1 && sets_one (routine_at script run.routine)
 
-abbrev pub has_small_runs : Script → WindowText → Bool
-has_small_runs script window = nat_le (length window.runs.items) 1 && list_all (sets_once script) window.runs.items
+-- whether the window has no probes and at most one run, which sets once
+abbrev pub is_small_window : Script → WindowText → Bool
+is_small_window script window =
+    window.probes == 0 && nat_le (length window.runs.items) 1 && list_all (sets_once script) window.runs.items
 
+-- whether the device is never down
+abbrev pub is_never_down : DeviceText → Bool
+is_never_down device = length device.downs.items == 0
+
+-- whether the script has at most one device, never down, and at most one window, which is small
 abbrev pub is_small : Script → Bool
 is_small script =
-    nat_le (length script.devices.items) 1 && nat_le (length script.windows.items) 1
-    && list_all (has_small_runs script) script.windows.items
+    nat_le (length script.devices.items) 1 && list_all is_never_down script.devices.items
+    && nat_le (length script.windows.items) 1 && list_all (is_small_window script) script.windows.items
 
 -- what a run of one `set` leaves in the history
 abbrev pub set_history : List Kept

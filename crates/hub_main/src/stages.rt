@@ -1,9 +1,9 @@
 ghost use Rattle.std.specs.List.{list_all};
 ghost use Rattle.std.specs.Prelude.{◌≡◌};
-ghost use Rattle.hub_main.specs.Stage.{has_small_runs, is_set, is_small, sets_once, sets_one};
+ghost use Rattle.hub_main.specs.Stage.{is_never_down, is_set, is_small, is_small_window, sets_once, sets_one};
 
 use home_types::{Command, Job};
-use routine_reader::{RunText, Script, WindowText};
+use routine_reader::{DeviceText, RunText, Script, WindowText};
 
 fn is_set(job: Job) -> bool
     ensures { result ≡ is_set job }
@@ -41,22 +41,39 @@ fn all_set_once(script: &Script, runs: &[RunText]) -> bool
     runs.iter().all(|run| sets_once(script, run))
 }
 
-fn has_small_runs(script: &Script, window: &WindowText) -> bool
-    ensures { result ≡ has_small_runs script.now window.now }
+/// Whether the window has no probes and at most one run, which sets once.
+fn is_small_window(script: &Script, window: &WindowText) -> bool
+    ensures { result ≡ is_small_window script.now window.now }
 {
-    window.runs.len() <= 1 && all_set_once(script, window.runs.as_slice())
+    window.probes == 0 && window.runs.len() <= 1 && all_set_once(script, window.runs.as_slice())
 }
 
 fn has_small_windows(script: &Script) -> bool
-    ensures { result ≡ list_all (has_small_runs script.now) script.now.windows.items }
+    ensures { result ≡ list_all (is_small_window script.now) script.now.windows.items }
 {
     let windows = script.windows.as_slice();
-    windows.iter().all(|window| has_small_runs(script, window))
+    windows.iter().all(|window| is_small_window(script, window))
 }
 
-/// Whether this stage plays the script: at most one device, one window and one run, which sets once.
+fn is_never_down(device: &DeviceText) -> bool
+    ensures { result ≡ is_never_down device.now }
+{
+    device.downs.len() == 0
+}
+
+fn are_never_down(devices: &[DeviceText]) -> bool
+    ensures { result ≡ list_all is_never_down devices.now }
+{
+    devices.iter().all(|device| is_never_down(device))
+}
+
+/// Whether this stage plays the script: at most one device, which is never down, and one window without probes, with at
+/// most one run, which sets once.
 pub fn is_small(script: &Script) -> bool
     ensures { result ≡ is_small script.now }
 {
-    script.devices.len() <= 1 && script.windows.len() <= 1 && has_small_windows(script)
+    script.devices.len() <= 1
+        && are_never_down(script.devices.as_slice())
+        && script.windows.len() <= 1
+        && has_small_windows(script)
 }

@@ -92,7 +92,8 @@ fn out_of_memory<Dev: Device>(windows: List<WindowRecord>) -> Finish<Dev>
 ///
 /// The status tells how the call ended: 0, the record is written; 1, the script is refused; 2, the words are not
 /// taken, and nothing was read; 3, the source failed; 4, the sink failed, and holds a first part of the record; 5, want
-/// of memory. At 1, 2, 3 and 5 nothing is written. docs/FORMATS.md has the words, the script and the record.
+/// of memory; 8, the script is read, and this stage does not play it. At 1, 2, 3, 5 and 8 nothing is written.
+/// docs/FORMATS.md has the words, the script and the record.
 pub fn still_command<S: Source, K: Sink, B: Bench>(
     alloc: Global,
     words: &[String],
