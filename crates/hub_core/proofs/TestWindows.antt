@@ -10,13 +10,12 @@ use Rattle.home_types.specs.declared.kinds.Kind.TheVariants.{States}
 use Rattle.home_types.specs.declared.kinds.Kind.{Kind}
 use Rattle.home_types.specs.declared.modes.Scheduler.TheVariants.{Fcfs}
 use Rattle.home_types.specs.declared.modes.Visibility.TheVariants.{Global}
-use Rattle.home_types.specs.declared.numbers.RunNo.{RunNo}
 use Rattle.home_types.specs.declared.worlds.Stand.{Stand}
 use Rattle.hub_core.specs.Homes.{CountsAreLow, HomeIsKept, HomeState, setting_for}
 use Rattle.hub_core.specs.Openings.{MayOpen, names_values_of}
 use Rattle.hub_core.specs.Stage.{StageAllows, is_set}
 use Rattle.std.proofs.Common.{ap, arith, refl, subst, sym, ◌∙◌}
-use Rattle.std.specs.Prelude.{Bool, Err, IsTrue, List, None, Option, Some, [], length, nat_lt, slice_get, slice_set, suc, true, zero, ℕ, ◌&&◌, ◌<◌, ◌∷◌, ◌≡◌, ◌≤◌}
+use Rattle.std.specs.Prelude.{IsTrue, List, None, Some, [], length, slice_get, suc, true, zero, ℕ, ◌&&◌, ◌<◌, ◌∷◌, ◌≡◌, ◌≤◌}
 
 some_is : {A : Type 0} (x y : A) → Some x ≡ Some y → x ≡ y
 some_is x y e = cc
@@ -103,7 +102,7 @@ lamp_may = record {
 lamp_allows : StageAllows lamp_setting 0
 lamp_allows = record {
   mode = refl;
-  sets = each_command (λ c. IsTrue (is_set c.job && c.must)) refl refl;
+  sets = each_command (λ c. is_set c.job ≡ true) refl refl;
   follows_none = none_follows;
   up = up;
   no_probes = refl;

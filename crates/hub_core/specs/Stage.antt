@@ -14,7 +14,7 @@ use Rattle.hub_core.specs.Steps.{Absent, Choice, HandsOut, Moves, Over, Waits, b
 use Rattle.hub_core.specs.declared.waits.Why.TheVariants.{Busy}
 use Rattle.lock_leasing.specs.Configurations.{Commands, Grips, is_out}
 use Rattle.lock_leasing.specs.Waits.{grip_wait}
-use Rattle.std.specs.Prelude.{Bool, IsTrue, None, Some, [], false, is_none, length, not, option_map, slice_get, true, ℕ, ◌<◌, ◌∷◌, ◌≡◌}
+use Rattle.std.specs.Prelude.{Bool, None, Some, [], false, is_none, length, not, option_map, slice_get, true, ℕ, ◌<◌, ◌∷◌, ◌≡◌}
 
 abbrev pub is_set : Job → Bool
 is_set (Set v) = true

@@ -84,9 +84,10 @@ entries_are : {D : Type 0} (s t : PlayerState D) (a : ℕ) (grip : Gripped D Rea
 entries_are {D = D} s t a grip done entries by =
     let out = out_of_hand s a grip by.is.kept by.is.hand in
     let there : (configuration_of s.hub).grips done.slip.device.0 ≡ Some (record { maker = a; purpose = purpose_at s grip }) = ap (λ (x : Slip). (configuration_of s.hub).grips x.device.0) by.is.slip ∙ out in
-    let back = gave_back (state_of s.hub) (state_of t.hub) (carried_by done) done.stage.told t.moment (record { maker = a; purpose = purpose_at s grip }) entries there by.step in
-    (back.0 ∙ ap (λ (x : Slip). give_entries s.hub.setting (read_of (configuration_of s.hub)) x.device.0 (record { maker = a; purpose = purpose_at s grip }) done.stage.told) by.is.slip,
-     back.1 ∙ ap (λ (x : Slip). after_give (at_moment (configuration_of s.hub) t.moment) x.device.0 (record { maker = a; purpose = purpose_at s grip }) done.stage.told) by.is.slip)
+    let back = gave_back (state_of s.hub) (state_of t.hub) (carried_by done) done.stage.told t.moment (record { maker = a; purpose = purpose_at s grip }) entries there by.step in (
+      back.0 ∙ ap (λ (x : Slip). give_entries s.hub.setting (read_of (configuration_of s.hub)) x.device.0 (record { maker = a; purpose = purpose_at s grip }) done.stage.told) by.is.slip,
+      back.1 ∙ ap (λ (x : Slip). after_give (at_moment (configuration_of s.hub) t.moment) x.device.0 (record { maker = a; purpose = purpose_at s grip }) done.stage.told) by.is.slip,
+    )
 
 moment_is : {D : Type 0} (s t : PlayerState D) (a acts : ℕ) (grip : Gripped D Ready) (done : Gripped D Done) (entries : List Entry) → IsGivenBack s t a grip done entries → t.moment ≡ s.moment + takes_of (play_of s acts) (record { maker = a; purpose = purpose_at s grip })
 moment_is s t a acts grip done entries by = by.moment ∙ ap (λ o. s.moment + grip_takes s.hub.setting o) (out_of_hand s a grip by.is.kept by.is.hand) ∙ ap (λ n. s.moment + n) (takes_same s a acts (purpose_at s grip))
@@ -95,7 +96,7 @@ pub given_picked : {D : Type 0} (s t : PlayerState D) (a acts : ℕ) (grip : Gri
 given_picked s t a acts grip done entries by =
     let two = entries_are s t a grip done entries by in
     acted_is_picked s t a acts grip (purpose_at s grip) done.stage.told entries by.is.kept by.is.size by.is.going by.is.hand (out_of_hand s a grip by.is.kept by.is.hand) (moment_is s t a acts grip done entries by) two.0
-      (two.1 ∙ ap (λ c. after_give c grip.slip.device.0 (record { maker = a; purpose = purpose_at s grip }) done.stage.told) (sym (met_run (configuration_of s.hub) a t.moment by.is.run))) by.place
+    (two.1 ∙ ap (λ c. after_give c grip.slip.device.0 (record { maker = a; purpose = purpose_at s grip }) done.stage.told) (sym (met_run (configuration_of s.hub) a t.moment by.is.run))) by.place
 
 -- a run's grip is for a command or an undo
 runs_purpose : {D : Type 0} (s : PlayerState D) (a d : ℕ) (purpose : Purpose) → 0 < a → GripsFit s.hub.setting (read_of (configuration_of s.hub)) (configuration_of s.hub).grips → (configuration_of s.hub).grips d ≡ Some (record { maker = a; purpose = purpose }) → (is_command purpose || is_undo purpose) ≡ true

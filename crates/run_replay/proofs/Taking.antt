@@ -170,7 +170,7 @@ pub answered_fewer : {D : Type 0} (s t : PlayerState D) (r : ℕ) (choice : Choi
 answered_fewer s t r choice yes' is bound =
     let same = chosen s t r choice is.answers in
     let more : length s.hub.history < length t.hub.history = subst (λ (c : Configuration). length s.hub.history < length c.history) (sym (after s t r choice is.answers))
-          (subst (λ c. length s.hub.history < length (after_choice (at_moment (configuration_of s.hub) s.moment) r c).history) same (more_by (at_moment (configuration_of s.hub) s.moment) r choice yes' (made_entries s r choice is.free same))) in
+    (subst (λ c. length s.hub.history < length (after_choice (at_moment (configuration_of s.hub) s.moment) r c).history) same (more_by (at_moment (configuration_of s.hub) s.moment) r choice yes' (made_entries s r choice is.free same))) in
     made_fewer s t (stays_by s t is.window is.rounds) is.grips is.place more bound
 
 -- a run of the window is not absent

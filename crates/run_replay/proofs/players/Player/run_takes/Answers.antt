@@ -64,4 +64,3 @@ returns-in-None-clause-plans g c = went_plans_now g.D.Device.plan _ _ _ c.args.r
 
 pub returns-in-None-clause-fewer : goal.returns-in-None-clause-fewer
 returns-in-None-clause-fewer g c moves = went_fewer_now _ _ _ c.args.r.0 c.in-Go.grip c.self.view_is (record { free = free_of _ _ c.args.r.0 c.self.view_is c.self.invariant c.requires.run c.requires.going c.requires.empty; out = c.in-Go.ensures.turn; window = c.in-Go.ensures.window; grips = ap (λ x. slice_set c.self.inside.grips.items c.args.r.0 x) c.replace.ensures.after; rounds = refl; moment = refl; place = refl })
-
