@@ -1,6 +1,8 @@
-mod LegalDays
-mod LegalWindows
-mod NewDevices
-mod RecordTexts
-mod SmallScripts
-mod Zeros
+mod Snocs
+mod DaysUnderWay
+mod Openings
+mod PlayedWindows
+mod OverLimit
+mod Texts
+mod Replays
+mod LaterScripts

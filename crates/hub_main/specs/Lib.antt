@@ -1,6 +1,5 @@
-pub mod Stage
-pub mod Homes
+pub mod Days
 pub mod Played
 pub mod Statuses
-pub mod Words
 pub mod Finishes
+pub mod Pieces

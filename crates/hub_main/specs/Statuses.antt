@@ -9,8 +9,8 @@ fault_status Words = 2
 fault_status Read = 3
 fault_status Write = 4
 fault_status Memory = 5
-fault_status (Check window place name) = 7
 fault_status (Later spot) = 8
+fault_status (Check window place name) = 7
 
 -- 0 where there is no fault
 abbrev pub status_of : Option Fault → ℕ

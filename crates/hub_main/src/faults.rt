@@ -18,6 +18,8 @@ pub enum Fault {
     Write,
     /// Want of memory.
     Memory,
+    /// The command, its mode, or a form of the script is not built yet: the first one, at this place.
+    Later(Spot),
     /// The record does not agree with the serial execution of its orders.
     Check {
         /// The window, from 1; 0 for the head.
@@ -26,8 +28,6 @@ pub enum Fault {
         /// The name of the device in `place`, empty where there is none.
         name: Text,
     },
-    /// What is asked for here is not built yet.
-    Later(Spot),
 }
 
 /// A place in a record.
@@ -56,8 +56,8 @@ impl Fault {
             Fault::Read => 3,
             Fault::Write => 4,
             Fault::Memory => 5,
-            Fault::Check { .. } => 7,
             Fault::Later(_) => 8,
+            Fault::Check { .. } => 7,
         }
     }
 }
@@ -70,13 +70,13 @@ impl fmt::Display for Fault {
             Fault::Read => write!(f, "read"),
             Fault::Write => write!(f, "write"),
             Fault::Memory => write!(f, "memory"),
+            Fault::Later(spot) => write!(f, "later {spot}"),
             Fault::Check {
                 window,
                 place: Place::Device(_),
                 name,
             } => write!(f, "check: window {window} device {}", name.as_str()),
             Fault::Check { window, place, .. } => write!(f, "check: window {window} {place}"),
-            Fault::Later(spot) => write!(f, "later {spot}"),
         }
     }
 }

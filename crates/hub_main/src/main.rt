@@ -3,16 +3,12 @@
 
 mod faults;
 mod finishes;
-mod homes;
 mod inputs;
+mod pieces;
 mod plays;
-mod stages;
 mod stills;
 #[cfg(test)]
 mod tests;
-mod texts;
-mod windows;
-mod words;
 
 use day_clock::{StdSink, StdSource};
 use device_states::CalmBench;

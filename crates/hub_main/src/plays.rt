@@ -1,43 +1,91 @@
-ghost use Rattle.std.specs.Prelude.{IfOk};
-ghost use Rattle.hub_core.specs.LegalDays.{IsLegalDay};
-ghost use Rattle.hub_main.specs.Stage.{IsSmall, stage_mode};
+ghost use Rattle.std.specs.Prelude.{◌≡◌, ◌<◌, ◌≤◌, ◌++◌, ◌∷◌, [], None, IfErr, IfOk, length, true};
+ghost use Rattle.home_types.specs.HomeStates.{stand_at};
+ghost use Rattle.hub_main.specs.Days.{IsUnderWay, built_mode};
+ghost use Rattle.hub_main.specs.Played.{HasGoneOn, IsPlayed};
+ghost use Rattle.later_forms.specs.Scripts.{first_later};
+ghost use Rattle.routine_reader.specs.Rosters.{kinds_of};
+ghost use Rattle.routine_reader.specs.Scripts.{plain_script};
+ghost use Rattle.routine_reader.specs.Sound.{IsSound};
 
-use crate::homes::{build_devices, start_world};
-use crate::windows::play_window;
-use device_states::{Bench, Steady};
+use device_states::Steady;
 use history_book::WindowRecord;
-use home_types::{List, NoMemory};
-use routine_reader::Script;
+use home_types::{List, Mode, NoMemory};
+use hub_core::Home;
+use routine_reader::{Script, roster};
+use run_replay::replay_window;
 use std::alloc::Global;
 
-/// The windows and the devices of a day that was played.
+/// A day under way: the home after its last window, and the records of its windows.
 #[derive(Drop)]
-pub struct Played<Dev: Steady> {
+pub struct DayUnderWay<Dev: Steady> {
+    pub home: Home<Dev>,
     pub windows: List<WindowRecord>,
-    pub devices: List<Dev>,
 }
 
-/// Builds the home of a script on the bench, and plays its windows.
-pub fn play_day<B: Bench>(
+/// Plays the next window of the script.
+///
+/// Where memory is wanted the records of the windows before come back; the home is dropped.
+pub fn play_next<Dev: Steady>(
     alloc: Global,
     script: &Script,
-    bench: &mut B,
-) -> Result<Played<B::Dev>, NoMemory>
-where
-    B::Dev: Steady,
-    requires { IsSmall script.now }
-    ensures { IfOk result (λ played.
-        IsLegalDay B.Dev.tag B.Dev.plan B.Dev.stands B.Dev.turns B.Dev.faults
-        script.now stage_mode played.windows.items played.devices.items) }
+    mode: Mode,
+    day: DayUnderWay<Dev>,
+) -> Result<DayUnderWay<Dev>, List<WindowRecord>>
+    requires sound { IsSound (plain_script script.now) }
+    requires built { first_later script.now ≡ None }
+    requires mode { mode ≡ built_mode }
+    requires next { length day.windows.items < length script.now.windows.items }
+    requires under_way { IsUnderWay Dev.tag Dev.plan Dev.stands Dev.turns Dev.probes Dev.faults script.now mode day.home day.windows.items }
+    ensures played { IfOk result (λ next. HasGoneOn Dev.tag Dev.plan Dev.stands Dev.turns Dev.probes Dev.faults script.now mode day.windows.items next.home next.windows.items) }
+    ensures starved { IfErr result (λ windows. windows.items ≡ day.windows.items) }
 {
-    let mut devices = build_devices(alloc, script, bench)?;
-    let first = start_world(alloc, script)?;
-    let mut windows = List::new(alloc);
-    windows.reserve(1)?;
-    if let Some(window) = script.windows.get(0) {
-        let closed = play_window(alloc, script, window, &first, &mut devices)?;
-        let kept = windows.push(closed);
-        kept.unwrap();
+    let DayUnderWay { home, mut windows } = day;
+    if windows.reserve(1).is_err() {
+        return Err(windows);
     }
-    Ok(Played { windows, devices })
+    let number = windows.len() as u32;
+    match play_window(alloc, script, number, mode, home) {
+        Ok((home, closed)) => {
+            home.kept();
+            let kept = windows.push(closed);
+            kept.unwrap();
+            Ok(DayUnderWay { home, windows })
+        }
+        Err(NoMemory) => Err(windows),
+    }
+}
+
+/// Plays the window of this number, from 0, on the home.
+fn play_window<Dev: Steady>(
+    alloc: Global,
+    script: &Script,
+    number: u32,
+    mode: Mode,
+    home: Home<Dev>,
+) -> Result<(Home<Dev>, WindowRecord), NoMemory>
+    requires sound { IsSound (plain_script script.now) }
+    requires built { first_later script.now ≡ None }
+    requires mode { mode ≡ built_mode }
+    requires there { number < length script.now.windows.items }
+    requires kinds { home.kinds ≡ kinds_of script.now }
+    requires few { home.opened ≤ 288 }
+    requires up { (d : _) → d < length home.world → (stand_at home.world d).up ≡ true }
+    ensures { IfOk result (λ done. IsPlayed Dev.tag Dev.plan Dev.turns Dev.probes Dev.faults script.now mode number home done.0 done.1) }
+{
+    let window = &script.windows.as_slice()[number as usize];
+    let roster = roster(alloc, script, number)?;
+    home.kept();
+    let Ok(hub) = home.open_window(alloc, roster, mode, window.probes) else {
+        return Err(NoMemory);
+    };
+    match replay_window(
+        alloc,
+        hub,
+        window.turns.as_slice(),
+        window.seed,
+        window.probes,
+    ) {
+        Ok(done) => Ok(done),
+        Err((_, NoMemory)) => Err(NoMemory),
+    }
 }

@@ -12,20 +12,14 @@ const ONE_LIGHT: &str =
 
 const EMPTY: &str = r#"{"safehome":1,"devices":[],"routines":[],"windows":[]}"#;
 
-const WARM: &str =
-    r#"{"safehome":1,"devices":[{"name":"heater","low":10,"high":30,"start":18}],"routines":[{"name":"none","commands":[{"on":"heater","do":"load"}]},{"name":"warm","commands":[{"on":"heater","do":"set","to":21,"must":true,"ms":7,"takes":9}]}],"windows":[{"at":"2021-04-26","seed":3,"turns":[0,1],"runs":[{"routine":"warm"}]}]}"#;
-
-const DOWN: &str =
-    r#"{"safehome":1,"devices":[{"name":"lamp","states":["off","on"],"start":"off","down":[[1,2]]}],"routines":[{"name":"light","commands":[{"on":"lamp","do":"set","to":"on"}]}],"windows":[{"at":"2021-04-26T07:00:00","runs":[{"routine":"light"}]}]}"#;
-
-const PROBED: &str =
-    r#"{"safehome":1,"devices":[{"name":"lamp","states":["off","on"],"start":"off"}],"routines":[{"name":"light","commands":[{"on":"lamp","do":"set","to":"on"}]}],"windows":[{"at":"2021-04-26T07:00:00","probes":1,"runs":[{"routine":"light"}]}]}"#;
-
-const BEST_EFFORT: &str =
-    r#"{"safehome":1,"devices":[{"name":"lamp","states":["off","on"],"start":"off"}],"routines":[{"name":"light","commands":[{"on":"lamp","do":"set","to":"on","must":false}]}],"windows":[{"at":"2021-04-26T07:00:00","runs":[{"routine":"light"}]}]}"#;
-
 const TWO_WINDOWS: &str =
     r#"{"safehome":1,"devices":[],"routines":[],"windows":[{"at":"2021-04-26T07:00:00","runs":[]},{"at":"2021-04-26T08:00:00","runs":[]}]}"#;
+
+const LOADS: &str =
+    r#"{"safehome":1,"devices":[{"name":"lamp","states":["off","on"],"start":"off"}],"routines":[{"name":"light","commands":[{"on":"lamp","do":"load"}]}],"windows":[]}"#;
+
+const NO_NAME: &str =
+    r#"{"safehome":1,"devices":[{"name":"lamp","states":["off","on"],"start":"off"}],"routines":[{"name":"light","commands":[{"on":"fan","do":"set","to":"on"}]}],"windows":[]}"#;
 
 /// What a call is tried on: its last word, its script, and the call of the source and of the sink that fails, or 0.
 #[derive(Clone, Copy)]
@@ -83,12 +77,12 @@ fn days_from_bytes_to_bytes(rt: HostRuntime) -> Result<(), Fail> {
     let alloc = rt.alloc();
     let one_light =
         "safehome day\nmodel gsv fcfs\nwindow 1 2021-04-26T07:00:00\nrun 1 light committed .\norder 1\nhome lamp=on\ntotal windows 1 runs 1 committed 1 aborted 0\n";
-    let warm =
-        "safehome day\nmodel gsv fcfs\nwindow 1 2021-04-26T00:00:00\nrun 1 warm committed .\norder 1\nhome heater=21\ntotal windows 1 runs 1 committed 1 aborted 0\n";
     let empty = "safehome day\nmodel gsv fcfs\ntotal windows 0 runs 0 committed 0 aborted 0\n";
     assert!(rt; ends_so(alloc, &on(ONE_LIGHT), 0, "", one_light)?);
-    assert!(rt; ends_so(alloc, &on(WARM), 0, "", warm)?);
     assert!(rt; ends_so(alloc, &on(EMPTY), 0, "", empty)?);
+    let two =
+        "safehome day\nmodel gsv fcfs\nwindow 1 2021-04-26T07:00:00\norder none\nhome none\nwindow 2 2021-04-26T08:00:00\norder none\nhome none\ntotal windows 2 runs 0 committed 0 aborted 0\n";
+    assert!(rt; ends_so(alloc, &on(TWO_WINDOWS), 0, "", two)?);
     Ok(())
 }
 
@@ -98,6 +92,21 @@ fn refusals_by_name(rt: HostRuntime) -> Result<(), Fail> {
     let cut = on(r#"{"safehome":1,"dev"#);
     assert!(rt; ends_so(alloc, &cut, 1, "script: not json", "")?);
     assert!(rt; ends_so(alloc, &on("[]"), 1, "script: shape top", "")?);
+    assert!(rt; ends_so(alloc, &on(LOADS), 8, "later command 1.1", "")?);
+    assert!(rt;
+        ends_so(
+            alloc,
+            &on(NO_NAME),
+            1,
+            "script: unknown name command 1.1",
+            ""
+        )?
+    );
+    let eventual = Tried {
+        model: "ev",
+        ..on("[]")
+    };
+    assert!(rt; ends_so(alloc, &eventual, 8, "later top", "")?);
     let other_words = Tried {
         model: "xx",
         ..on(ONE_LIGHT)
@@ -113,15 +122,6 @@ fn refusals_by_name(rt: HostRuntime) -> Result<(), Fail> {
         ..on(ONE_LIGHT)
     };
     assert!(rt; ends_so(alloc, &failing_sink, 4, "write", "safehome d")?);
-    Ok(())
-}
-
-#[test]
-fn scripts_that_are_not_small(rt: HostRuntime) -> Result<(), Fail> {
-    let alloc = rt.alloc();
-    for script in [DOWN, PROBED, BEST_EFFORT, TWO_WINDOWS] {
-        assert!(rt; ends_so(alloc, &on(script), 8, "later top", "")?);
-    }
     Ok(())
 }
 

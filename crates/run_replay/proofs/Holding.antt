@@ -63,7 +63,6 @@ takes_keeps {D = D} s t r grip by kept = record {
   ];
   early = by.early;
   rounds = subst (λ n. n < 2 ^ 32) (sym by.rounds) kept.rounds;
-  devices = subst (λ w. length w.first ≤ 256) (sym by.setting) kept.devices;
   place = by.place;
   still = subst (λ n. n * length t.hub.setting.first ≡ 0) (sym by.rounds) (subst (λ w. s.rounds * length w.first ≡ 0) (sym by.setting) kept.still);
   detector = ap (λ l. slice_get l 0) by.grips ∙ put_other_place s.grips r 0 (Some grip) (λ e. absurd (let run = by.run in omega (arith, run, e))) ∙ kept.detector;
@@ -148,7 +147,6 @@ gives_keeps {D = D} s t a grip device by kept = record {
   ];
   early = by.early;
   rounds = subst (λ n. n < 2 ^ 32) (sym by.rounds) kept.rounds;
-  devices = subst (λ w. length w.first ≤ 256) (sym by.setting) kept.devices;
   place = subst (λ n. n ≤ t.rounds * length t.hub.setting.first) (sym by.place) (subst (λ n. s.place ≤ n * length t.hub.setting.first) (sym by.rounds) (subst (λ w. s.place ≤ s.rounds * length w.first) (sym by.setting) kept.place));
   still = subst (λ n. n * length t.hub.setting.first ≡ 0) (sym by.rounds) (subst (λ w. s.rounds * length w.first ≡ 0) (sym by.setting) kept.still);
   detector = ap (λ l. slice_get l 0) by.grips ∙ put_other_place s.grips a 0 None (λ e. absurd (let run = by.run in omega (arith, run, e))) ∙ kept.detector;
@@ -207,7 +205,6 @@ moves_keeps s t by kept = record {
       record { grip = hand.grip; there = ap (λ l. slice_get l slip.maker) by.grips ∙ hand.there; own = hand.own; number = hand.number };
   early = by.early;
   rounds = subst (λ n. n < 2 ^ 32) (sym by.rounds) kept.rounds;
-  devices = subst (λ w. length w.first ≤ 256) (sym by.setting) kept.devices;
   place = by.place;
   still = subst (λ n. n * length t.hub.setting.first ≡ 0) (sym by.rounds) (subst (λ w. s.rounds * length w.first ≡ 0) (sym by.setting) kept.still);
   detector = ap (λ l. slice_get l 0) by.grips ∙ kept.detector;

@@ -11,9 +11,16 @@ pub mod Holding
 pub mod Gripping
 pub mod Picking
 pub mod Stepping
+pub mod Counting
 pub mod Living
 pub mod Ending
+pub mod Hands
+pub mod Opening
+pub mod Replayed
 pub mod Taking
 pub mod Acting
+pub mod Played
 pub mod Progress
+pub mod Trying
+pub mod Finishing
 pub mod HubSteps

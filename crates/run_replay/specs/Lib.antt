@@ -2,3 +2,4 @@ pub mod Draws
 pub mod Replays
 pub mod Playing
 pub mod Players
+pub mod ReplayedWindows

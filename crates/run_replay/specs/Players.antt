@@ -6,7 +6,7 @@ use Rattle.device_gate.specs.declared.grips.Ready.{Ready}
 use Rattle.device_gate.specs.declared.slips.Slip.{Slip}
 use Rattle.device_gate.specs.declared.slips.Task.{Task}
 use Rattle.history_book.specs.Histories.{entries_made}
-use Rattle.hub_core.specs.HubCalls.{entries_of_a_run}
+use Rattle.hub_core.specs.HubCalls.{SomeRunMoves, entries_of_a_run}
 use Rattle.hub_core.specs.OpenHubs.{OpenHub, configuration_of}
 use Rattle.lock_leasing.specs.Configurations.{read_of}
 use Rattle.run_replay.specs.Replays.{Made, Passed, Picked, Play, Took, Waited, start_of}
@@ -14,6 +14,7 @@ use Rattle.run_replay.specs.declared.picked.Picked.TheVariants.{Made as MadeSo, 
 use Rattle.run_replay.specs.declared.picked.Picked.{Picked as PickedSo}
 use Rattle.std.specs.List.{range_with_len}
 use Rattle.std.specs.Prelude.{Bool, List, None, Option, Some, [], drop, false, filter, is_some, length, nat_le, not, option_map, suc, unwrap_or, zero, slice_get, ℕ, ◌*◌, ◌+◌, ◌-◌, ◌<◌, ◌^◌, ◌&&◌, ◌||◌, ◌∷◌, ◌≡◌, ◌≤◌, ◌⊎◌}
+use Rattle.window_order.specs.OrderKept.{GripsFit}
 
 -- what a player shows: its hub, the grips that its actors hold, by their numbers, the detector's rounds, the moment, and how many devices the detector has come to
 pub record PlayerState (D : Type 0) : Type 0 where
@@ -59,7 +60,6 @@ pub record PlayerIsKept {D : Type 0} (s : PlayerState D) : Type 0 where
   pub out : (d : ℕ) (slip : Slip) (task : Task) → slice_get s.hub.places d ≡ Some (Out slip task) → IsInHand s d slip
   pub early : s.moment ≤ 2 ^ 32 * length s.hub.history
   pub rounds : s.rounds < 2 ^ 32
-  pub devices : length s.hub.setting.first ≤ 256
   pub place : s.place ≤ s.rounds * length s.hub.setting.first
   -- in this stage the detector has no rounds, and no grip
   pub still : s.rounds * length s.hub.setting.first ≡ 0
@@ -103,3 +103,11 @@ pub record IsOpened {D : Type 0} (hub : OpenHub D) (rounds : ℕ) (s : PlayerSta
   pub detector : s.rounds ≡ rounds
   pub start : play_of s 0 ≡ start_of hub.setting hub.rounds
   pub hands : (a : ℕ) (grip : Gripped D Ready) → slice_get s.grips a ≡ Some (Some grip) → ⊥
+
+-- what stands of every player: what is kept of it, and what its hub tells
+pub record PlayerStands {D : Type 0} (s : PlayerState D) : Type 0 where
+  pub kept : PlayerIsKept s
+  pub size : length s.hub.places ≡ length s.hub.setting.first
+  pub few_runs : length s.hub.setting.runs ≤ 64
+  pub grips : GripsFit s.hub.setting (read_of (configuration_of s.hub)) (configuration_of s.hub).grips
+  pub moves : SomeRunMoves (configuration_of s.hub)

@@ -2,9 +2,12 @@
 #![tactic(auto)]
 
 pub mod draws;
+mod finishes;
 pub mod picked;
 pub mod players;
+pub mod windows;
 
 pub use draws::Draws;
 pub use picked::Picked;
 pub use players::Player;
+pub use windows::replay_window;

@@ -1,7 +1,7 @@
 ghost use Rattle.std.specs.Prelude.{◌≡◌, ◌<◌, false, true, ℕ};
-ghost use Rattle.hub_core.specs.HubCalls.{SameWindow};
-ghost use Rattle.run_replay.specs.Players.{HavePlans, is_ended, is_full, picked_of, play_of, steps_left};
-ghost use Rattle.run_replay.specs.Playing.{IsPicked};
+ghost use Rattle.hub_core.specs.HubCalls.{HubStands, SameWindow};
+ghost use Rattle.run_replay.specs.Players.{HavePlans, PlayerStands, is_ended, is_full, picked_of, play_of, steps_left};
+ghost use Rattle.run_replay.specs.Playing.{IsPicked, IsPlayed};
 ghost use Rattle.run_replay.specs.Replays.{waits};
 
 use crate::picked::Picked;
@@ -55,6 +55,18 @@ impl<D: Steady> Player<D> {
             Picked::Made(self.act(actor))
         } else {
             self.run_takes(RunNo(actor))
+        }
+    }
+
+    /// Steps each of these actors, one after another.
+    pub fn play(&mut self, picks: &[u32])
+        ensures played { (acts : ℕ) → (later : ℕ) × IsPlayed self.old.rounds picks.now (play_of self.old acts) (play_of self.new later) }
+        ensures window { SameWindow self.old.hub self.new.hub }
+        ensures rounds { self.new.rounds ≡ self.old.rounds }
+        ensures plans { (plans : ℕ → _) → HavePlans D.plan plans self.old → HavePlans D.plan plans self.new }
+    {
+        'picks: for actor in picks {
+            self.pick(*actor);
         }
     }
 
@@ -130,5 +142,14 @@ impl<D: Steady> Player<D> {
             Turn::Wait(why) => Picked::Waits(why),
             Turn::Absent => Picked::Passed,
         }
+    }
+
+    /// Does nothing. Its contract is what is kept of every player and of its hub, and that its window is never stuck.
+    pub(crate) fn kept(&self)
+        ensures player { PlayerStands self.now }
+        ensures hub { HubStands D.stands D.turns D.probes self.now.hub }
+    {
+        self.hub.kept();
+        self.hub.progress();
     }
 }

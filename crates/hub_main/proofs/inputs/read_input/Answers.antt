@@ -1,7 +1,10 @@
-use Rattle.hub_main.proofs.SmallScripts.{passes_is_small}
+use Rattle.hub_main.proofs.OverLimit.{over_limit}
 use Rattle.hub_main.proofs.inputs.read_input.Goals as goal
-use Rattle.std.proofs.Common.{sym, ◌∙◌}
+use Rattle.std.proofs.Common.{Err, ap, refl, rules}
 
--- a script that passes the test is small
-pub returns-then-is_small-clause-small : goal.returns-then-is_small-clause-small
-returns-then-is_small-clause-small g c = passes_is_small c.in-Ok-read_script.script (sym c.is_small.ensures ∙ c.if-is_small.true)
+pub returns-in-Err-OverLimit-clause-read : goal.returns-in-Err-OverLimit-clause-read
+returns-in-Err-OverLimit-clause-read g c = record {
+  named = refl;
+  reading = over_limit (g.S.Source.left c.args.source.now) (g.S.Source.left c.read_to_end.new.source) (c.in-Err-OverLimit.ensures.over_limit (ap (λ e. Err e) c.in-Err-OverLimit.field-0-is));
+  calm = search rules;
+}

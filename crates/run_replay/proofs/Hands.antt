@@ -1,0 +1,49 @@
+-- Where each device is home no hand holds a grip.
+use Rattle.device_gate.specs.Places.{all_home}
+use Rattle.device_gate.specs.declared.gates.Place.TheVariants.{Out}
+use Rattle.device_gate.specs.declared.slips.Slip.{Slip}
+use Rattle.device_gate.specs.declared.slips.Task.{Task}
+use Rattle.run_replay.specs.Players.{PlayerIsKept, PlayerState}
+use Rattle.std.proofs.Common.{ap, arith, refl, sym, ◌∙◌}
+use Rattle.std.specs.Prelude.{List, None, Option, Some, [], length, slice_get, suc, zero, ℕ, ◌++◌, ◌<◌, ◌∷◌, ◌≡◌}
+
+-- none of these hands holds a thing
+abbrev pub HoldNothing : {A : Type 0} → List (Option A) → Type 0
+HoldNothing {A} hands = (a : ℕ) (x : A) → slice_get hands a ≡ Some (Some x) → ⊥
+
+no_hands : {A : Type 0} → HoldNothing {A = A} []
+no_hands a x at = absurd (cc)
+
+-- one empty hand more
+pub more_hands : {A : Type 0} (hands : List (Option A)) → HoldNothing hands → HoldNothing (hands ++ None ∷ [])
+more_hands [] none zero x at = absurd (cc)
+more_hands [] none (suc a) x at = absurd (cc)
+more_hands (h ∷ hands) none zero x at = none zero x at
+more_hands (h ∷ hands) none (suc a) x at = more_hands hands (λ b y there. none (suc b) y there) a x at
+
+-- the hands in front of others
+pub front_hands : {A : Type 0} (hands others : List (Option A)) → HoldNothing (hands ++ others) → HoldNothing hands
+front_hands [] others none a x at = absurd (cc)
+front_hands (h ∷ hands) others none zero x at = none zero x at
+front_hands (h ∷ hands) others none (suc a) x at = front_hands hands others (λ b y there. none (suc b) y there) a x at
+
+-- .. and the hand behind them
+pub last_hand : {A : Type 0} (hands : List (Option A)) (x : A) → HoldNothing (hands ++ Some x ∷ []) → ⊥
+last_hand [] x none = none 0 x refl
+last_hand (h ∷ hands) x none = last_hand hands x (λ b y there. none (suc b) y there)
+
+-- an empty hand is there
+pub empty_there : {A : Type 0} (hands : List (Option A)) (a : ℕ) → HoldNothing hands → a < length hands → slice_get hands a ≡ Some None
+empty_there [] a none low = absurd (omega (arith, low))
+empty_there (None ∷ hands) zero none low = refl
+empty_there (Some x ∷ hands) zero none low = absurd (none 0 x refl)
+empty_there (h ∷ hands) (suc a) none low = empty_there hands a (λ b y there. none (suc b) y there) (omega (arith, low))
+
+pub none_is_out : {D : Type 0} (devices : List D) (d : ℕ) (slip : Slip) (task : Task) → slice_get (all_home devices) d ≡ Some (Out slip task) → ⊥
+none_is_out [] d slip task at = absurd (cc)
+none_is_out (x ∷ devices) zero slip task at = absurd (cc)
+none_is_out (x ∷ devices) (suc d) slip task at = none_is_out devices d slip task at
+
+-- where each device is home
+pub hands_at_close : {D : Type 0} (s : PlayerState D) (devices : List D) → PlayerIsKept s → s.hub.places ≡ all_home devices → HoldNothing s.grips
+hands_at_close s devices kept home a grip at = none_is_out devices grip.slip.device.0 grip.slip grip.task (ap (λ l. slice_get l grip.slip.device.0) (sym home) ∙ kept.held a grip at)

@@ -1,0 +1,77 @@
+-- The player of a hub in which nothing was done yet.
+use Rattle.device_gate.specs.Grips.{Gripped}
+use Rattle.device_gate.specs.declared.gates.Place.TheVariants.{Out}
+use Rattle.device_gate.specs.declared.grips.Ready.{Ready}
+use Rattle.device_gate.specs.declared.slips.Slip.{Slip}
+use Rattle.device_gate.specs.declared.slips.Task.{Task}
+use Rattle.history_book.specs.Settings.{Setting, is_device}
+use Rattle.hub_core.specs.Homes.{HomeState}
+use Rattle.hub_core.specs.HubCalls.{IsOpened as IsOpenedOn}
+use Rattle.hub_core.specs.OpenHubs.{OpenHub, configuration_of, device_at, grip_in}
+use Rattle.hub_core.specs.Steps.{opened}
+use Rattle.run_replay.proofs.Hands.{HoldNothing, empty_there}
+use Rattle.run_replay.specs.Players.{IsOpened, PlayerIsKept, PlayerState}
+use Rattle.std.proofs.Common.{ap, arith, refl, subst, sym, ◌∙◌}
+use Rattle.std.specs.Prelude.{Bool, List, Option, Some, false, if◌then◌else◌, length, slice_get, suc, true, zero, ℕ, ◌*◌, ◌+◌, ◌<◌, ◌^◌, ◌≡◌, ◌≤◌}
+
+-- the player of the hub, with these hands
+abbrev pub player_of : {D : Type 0} → OpenHub D → List (Option (Gripped D Ready)) → ℕ → PlayerState D
+player_of hub grips rounds = record { hub = hub; grips = grips; rounds = rounds; moment = 0; place = 0 }
+
+no_rounds : (rounds devices : ℕ) → (0 < devices → rounds ≡ 0) → rounds * devices ≡ 0
+no_rounds rounds zero none = omega arith
+no_rounds rounds (suc n) none = ap (λ r. r * suc n) (none (omega arith)) ∙ omega arith
+
+least : (n : ℕ) → 0 ≤ n
+least n = omega arith
+
+-- the detector has no rounds where the hub has none
+no_probes : {D : Type 0} (hub : OpenHub D) (rounds : ℕ) → configuration_of hub ≡ opened hub.setting hub.rounds → ((d : ℕ) → d < length hub.setting.first → rounds ≤ (configuration_of hub).probes d) → hub.rounds ≡ 0 → 0 < length hub.setting.first → rounds ≡ 0
+no_probes hub rounds fresh low stage some =
+    let most = low 0 some in
+    let are : (configuration_of hub).probes 0 ≡ (if is_device hub.setting 0 then hub.rounds else 0) = ap (λ c. c.probes 0) fresh in
+    let few = at_most (is_device hub.setting 0) hub.rounds in
+    omega (arith, most, are, few, stage)
+  where
+    at_most : (b : Bool) (n : ℕ) → (if b then n else 0) ≤ n
+    at_most true n = omega arith
+    at_most false n = omega arith
+
+pub opens_kept : {D : Type 0} (hub : OpenHub D) (grips : List (Option (Gripped D Ready))) (rounds : ℕ) → configuration_of hub ≡ opened hub.setting hub.rounds → ((d : ℕ) → d < length hub.setting.first → rounds ≤ (configuration_of hub).probes d) → hub.rounds ≡ 0
+    → rounds < 2 ^ 32 → HoldNothing grips → length grips ≡ length hub.setting.runs + 1 → PlayerIsKept (player_of hub grips rounds)
+opens_kept {D = D} hub grips rounds fresh low stage few none size = record {
+  actors = size;
+  makers = λ a grip at. absurd (none a grip at);
+  held = λ a grip at. absurd (none a grip at);
+  out = λ d slip task at. absurd (no_out d slip task at);
+  early = least (2 ^ 32 * length hub.history);
+  rounds = few;
+  place = least (rounds * length hub.setting.first);
+  still = no_rounds rounds (length hub.setting.first) (no_probes hub rounds fresh low stage);
+  detector = empty_there grips 0 none (omega (arith, size));
+}
+  where
+    no_out : (d : ℕ) (slip : Slip) (task : Task) → slice_get hub.places d ≡ Some (Out slip task) → ⊥
+    no_out d slip task at =
+        let gone = ap (λ p. grip_in p (device_at hub.devices d).purpose) at in
+        let home = ap (λ c. c.grips d) fresh in
+        cc (sym gone ∙ home)
+
+pub is_opened : {D : Type 0} (hub : OpenHub D) (grips : List (Option (Gripped D Ready))) (rounds : ℕ) → configuration_of hub ≡ opened hub.setting hub.rounds → HoldNothing grips → IsOpened hub rounds (player_of hub grips rounds)
+is_opened hub grips rounds fresh none = record {
+  own = refl;
+  detector = refl;
+  start = ap (λ c. record { configuration = c; moment = 0; place = 0; acts = 0 }) fresh;
+  hands = none;
+}
+
+-- A window that was just opened, in this stage without probes, may be replayed
+
+pub fresh_where : {D : Type 0} (turns probes faults : D → ℕ) (w : Setting) (rounds : ℕ) (home : HomeState D) (hub : OpenHub D) → IsOpenedOn turns probes faults w rounds home hub → configuration_of hub ≡ opened hub.setting hub.rounds
+fresh_where turns probes faults w rounds home hub is = is.configuration ∙ sym (ap (λ v. opened v rounds) (ap (λ c. c.setting) is.configuration)) ∙ ap (λ n. opened hub.setting n) (sym is.rounds_are)
+
+pub rounds_where : {D : Type 0} (turns probes faults : D → ℕ) (w : Setting) (rounds : ℕ) (home : HomeState D) (hub : OpenHub D) → IsOpenedOn turns probes faults w rounds home hub → rounds ≡ 0 → (d : ℕ) → d < length hub.setting.first → rounds ≤ (configuration_of hub).probes d
+rounds_where turns probes faults w rounds home hub is none d low = let all = least ((configuration_of hub).probes d) in subst (λ n. n ≤ (configuration_of hub).probes d) (sym none) all
+
+pub stage_where : {D : Type 0} (turns probes faults : D → ℕ) (w : Setting) (rounds : ℕ) (home : HomeState D) (hub : OpenHub D) → IsOpenedOn turns probes faults w rounds home hub → rounds ≡ 0 → hub.rounds ≡ 0
+stage_where turns probes faults w rounds home hub is none = is.rounds_are ∙ none

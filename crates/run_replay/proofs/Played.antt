@@ -1,0 +1,41 @@
+-- Picks played one after another.
+use Rattle.hub_core.specs.HubCalls.{SameWindow}
+use Rattle.hub_core.specs.OpenHubs.{OpenHub}
+use Rattle.run_replay.proofs.Tellings.{played_more}
+use Rattle.run_replay.specs.Players.{PlayerState, play_of}
+use Rattle.run_replay.specs.Playing.{IsPicked, IsPlayed}
+use Rattle.run_replay.specs.Replays.{Picked}
+use Rattle.std.proofs.Common.{ap, arith, refl, subst, sym, ◌∙◌}
+use Rattle.std.proofs.Math.ListN.{get_or}
+use Rattle.std.specs.Prelude.{List, [], length, suc, take, zero, ℕ, ◌++◌, ◌+◌, ◌<◌, ◌∷◌, ◌≡◌, ◌≤◌}
+
+take_one : (xs : List ℕ) (i d : ℕ) → i < length xs → take (i + 1) xs ≡ take i xs ++ get_or xs i d ∷ []
+take_one [] i d low = absurd (omega (arith, low))
+take_one (y ∷ xs) zero d low = refl
+take_one (y ∷ xs) (suc i) d low = let same : suc i + 1 ≡ suc (i + 1) = omega arith in ap (λ n. take n (y ∷ xs)) same ∙ ap (λ zs. y ∷ zs) (take_one xs i d (omega (arith, low)))
+
+-- one pick more of the list
+pub played_next : {D : Type 0} (start s t : PlayerState D) (rounds i d : ℕ) (picks : List ℕ) (picked : Picked) → i < length picks → s.rounds ≡ rounds
+    → ((acts : ℕ) → (later : ℕ) × IsPlayed rounds (take i picks) (play_of start acts) (play_of s later)) → ((acts : ℕ) → (later : ℕ) × IsPicked s.rounds (get_or picks i d) (play_of s acts) picked (play_of t later))
+    → (acts : ℕ) → (later : ℕ) × IsPlayed rounds (take (i + 1) picks) (play_of start acts) (play_of t later)
+played_next {D = D} start s t rounds i d picks picked low same before pick acts =
+    let first = before acts in
+    let then' = pick first.0 in
+    let one : IsPicked rounds (get_or picks i d) (play_of s first.0) picked (play_of t then'.0) = subst (λ n. IsPicked n (get_or picks i d) (play_of s first.0) picked (play_of t then'.0)) same then'.1 in
+    (then'.0, subst (λ xs. IsPlayed rounds xs (play_of start acts) (play_of t then'.0)) (sym (take_one picks i d low)) (played_more rounds (get_or picks i d) (take i picks) (play_of start acts) (play_of s first.0) (play_of t then'.0) picked first.1 one))
+
+take_whole : (xs : List ℕ) (i : ℕ) → length xs ≤ i → take i xs ≡ xs
+take_whole [] zero low = refl
+take_whole [] (suc i) low = refl
+take_whole (y ∷ xs) zero low = absurd (omega (arith, low))
+take_whole (y ∷ xs) (suc i) low = ap (λ zs. y ∷ zs) (take_whole xs i (omega (arith, low)))
+
+-- the list is played
+pub played_whole : {D : Type 0} (start s : PlayerState D) (rounds i : ℕ) (picks : List ℕ) → length picks ≤ i → ((acts : ℕ) → (later : ℕ) × IsPlayed rounds (take i picks) (play_of start acts) (play_of s later)) → (acts : ℕ) → (later : ℕ) × IsPlayed rounds picks (play_of start acts) (play_of s later)
+played_whole start s rounds i picks low before acts = let first = before acts in (first.0, subst (λ xs. IsPlayed rounds xs (play_of start acts) (play_of s first.0)) (take_whole picks i low) first.1)
+
+pub same_player : {D : Type 0} (s : OpenHub D) → SameWindow s s
+same_player s = record { setting = refl; rounds = refl; opened = refl; at_opening = λ d. refl }
+
+pub later_window : {D : Type 0} (s t u : OpenHub D) → SameWindow s t → SameWindow t u → SameWindow s u
+later_window s t u one two = record { setting = two.setting ∙ one.setting; rounds = two.rounds ∙ one.rounds; opened = two.opened ∙ one.opened; at_opening = λ d. two.at_opening d ∙ one.at_opening d }

@@ -1,0 +1,10 @@
+use Rattle.run_replay.proofs.Hands.{HoldNothing}
+use Rattle.run_replay.proofs.players.Player.close.Given as goal
+use Rattle.std.specs.Prelude.{vec_len}
+
+-- the hands that are left hold nothing
+abbrev pub invariant-hands : goal.invariant-hands
+invariant-hands g l = HoldNothing l.grips.items
+
+abbrev pub decreases-hands : goal.decreases-hands
+decreases-hands g l = vec_len l.grips

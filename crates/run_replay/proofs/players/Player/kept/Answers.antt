@@ -1,0 +1,6 @@
+use Rattle.run_replay.proofs.players.Player.kept.Goals as goal
+use Rattle.run_replay.specs.Players.{PlayerStands}
+use Rattle.std.proofs.Common.{subst}
+
+pub returns-clause-player : goal.returns-clause-player
+returns-clause-player g c = subst PlayerStands c.self.view_is (record { kept = c.self.invariant; size = c.kept.ensures.size; few_runs = c.kept.ensures.few_runs; grips = c.kept.ensures.grips; moves = c.progress.ensures })

@@ -1,0 +1,14 @@
+use Rattle.run_replay.proofs.Played.{later_window, played_next, played_whole, same_player}
+use Rattle.run_replay.proofs.Tellings.{stays}
+use Rattle.run_replay.proofs.players.Player.play.Goals as goal
+use Rattle.run_replay.specs.Players.{picked_of}
+use Rattle.std.proofs.Common.{arith, refl, ◌∙◌}
+
+pub picks-init : goal.picks-init
+picks-init g c = ((λ acts. (acts, stays _ _ _ (λ course. refl))), same_player _, refl, (λ plans have. have))
+
+pub picks-preserved : goal.picks-preserved
+picks-preserved g c = (played_next c.args.self.now c.picks.self c.pick.new.self c.args.self.now.rounds c.picks.actor-index _ c.args.picks.now (picked_of c.pick.result) c.picks-test.true c.picks.invariant.2 c.picks.invariant.0 c.pick.ensures.picked, later_window c.args.self.now.hub c.picks.self.hub c.pick.new.self.hub c.picks.invariant.1 c.pick.ensures.window, c.pick.ensures.rounds ∙ c.picks.invariant.2, (λ plans have. c.pick.ensures.plans plans (c.picks.invariant.3 plans have)))
+
+pub returns-clause-played : goal.returns-clause-played
+returns-clause-played g c = played_whole c.args.self.now c.picks.self c.args.self.now.rounds c.picks.actor-index c.args.picks.now (let past = c.picks-test.false in omega (arith, past)) c.picks.invariant.0

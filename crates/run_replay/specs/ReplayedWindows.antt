@@ -1,0 +1,31 @@
+-- A window that was replayed on a hub, from the hub that was opened to the home that it leaves.
+use Rattle.command_rules.specs.Rosters.{is_run}
+use Rattle.device_gate.specs.Places.{AreNumbered}
+use Rattle.device_gate.specs.declared.gates.Place.TheVariants.{Home}
+use Rattle.history_book.specs.Histories.{reading}
+use Rattle.history_book.specs.declared.entries.End.TheVariants.{Committed}
+use Rattle.history_book.specs.declared.records.WindowRecord.{WindowRecord}
+use Rattle.home_types.specs.HomeStates.{stand_at}
+use Rattle.hub_core.specs.Homes.{HomeState}
+use Rattle.hub_core.specs.LegalWindows.{IsLegalWindow, history_of}
+use Rattle.hub_core.specs.OpenHubs.{OpenHub, device_at}
+use Rattle.run_replay.specs.Replays.{IsReplay, Play}
+use Rattle.std.specs.Prelude.{List, Option, Some, length, slice_get, slice_index_or, true, ℕ, ◌+◌, ◌-◌, ◌<◌, ◌≡◌}
+
+-- the hub's window was replayed by these picks, and then by draws from this seed, in so many rounds of the detector: the record tells of that play, and the home has each device in the place of its number, with the plan that it had and with counts that rose as the record says
+pub record IsReplayed {D : Type 0} (tag : D → ℕ) (plan : D → Option (List (ℕ × ℕ))) (turns probes faults : D → ℕ) (s : OpenHub D) (picks : List ℕ) (seed rounds : ℕ) (home : HomeState D) (closed : WindowRecord) : Type 0 where
+  pub legal : IsLegalWindow s.setting closed
+  pub play : Play
+  pub is_replay : IsReplay s.setting s.rounds rounds picks seed play
+  pub history : closed.history.items ≡ play.configuration.history
+  pub commits : (r : ℕ) → is_run s.setting.runs r ≡ true → ((reading s.setting (history_of closed)).run r).ended ≡ Some Committed
+  pub kinds : home.kinds ≡ s.setting.kinds
+  pub last : home.world ≡ closed.last.devices.items
+  pub opened : home.opened ≡ s.opened + 1
+  pub up : (d : ℕ) → d < length home.world → (stand_at home.world d).up ≡ true
+  pub size : length home.devices ≡ length s.places
+  pub numbered : AreNumbered tag home.devices
+  pub plans : (d : ℕ) (before after : D) → slice_get s.places d ≡ Some (Home before) → slice_get home.devices d ≡ Some after → plan after ≡ plan before
+  pub turns_rose : (d : ℕ) (device : D) → slice_get home.devices d ≡ Some device → turns device ≡ (device_at s.devices d).at_opening.turns + slice_index_or closed.turns.items d 0
+  pub probes_rose : (d : ℕ) (device : D) → slice_get home.devices d ≡ Some device → probes device ≡ (device_at s.devices d).at_opening.probes + (s.rounds - play.configuration.probes d)
+  pub faults_rose : (d : ℕ) (device : D) → slice_get home.devices d ≡ Some device → faults device ≡ (device_at s.devices d).at_opening.faults + slice_index_or closed.faults.items d 0

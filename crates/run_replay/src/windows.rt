@@ -1,0 +1,118 @@
+ghost use Rattle.std.specs.Prelude.{◌≡◌, ◌<◌, ◌≤◌, None, Some, IfErr, IfOk, ℕ, length};
+ghost use Rattle.hub_core.specs.HubCalls.{IsClosed};
+ghost use Rattle.hub_core.specs.OpenHubs.{configuration_of};
+ghost use Rattle.hub_core.specs.Steps.{not_quiet, opened};
+ghost use Rattle.run_replay.specs.Players.{IsOpened};
+ghost use Rattle.run_replay.specs.ReplayedWindows.{IsReplayed};
+
+use crate::players::Player;
+use device_states::Steady;
+use history_book::WindowRecord;
+use home_types::NoMemory;
+use hub_core::{Home, Hub, NotQuiet};
+use std::alloc::Global;
+
+impl<D: Steady> Player<D> {
+    /// Makes a player of a hub in which nothing was done yet, whose detector comes so often to each device.
+    ///
+    /// In this stage the hub has no probes. Takes all memory of the replay. Answers `NoMemory` where there is none to be had, and gives the hub back.
+    pub fn open(alloc: Global, hub: Hub<D>, rounds: u32) -> Result<Player<D>, (Hub<D>, NoMemory)>
+        requires fresh { configuration_of hub ≡ opened hub.setting hub.rounds }
+        requires rounds { (d : ℕ) → d < length hub.setting.first → rounds ≤ (configuration_of hub).probes d }
+        requires stage { hub.rounds ≡ 0 }
+        ensures opened { IfOk result (λ player. IsOpened hub rounds player) }
+        ensures refused { IfErr result (λ refused. refused.0 ≡ hub) }
+    {
+        hub.kept();
+        let mut grips = Vec::new(alloc);
+        let actors = hub.run_count() as usize + 1;
+        if grips.reserve(actors).is_err() {
+            grips.destroy_empty();
+            return Err((hub, NoMemory));
+        }
+        'actors: while grips.len() < actors {
+            grips.push_reserved(None);
+        }
+        Ok(Player {
+            hub,
+            grips,
+            rounds,
+            moment: 0,
+            place: 0,
+        })
+    }
+
+    /// Closes the window.
+    ///
+    /// Refused, and the player is given back, where a run has not ended or a device is out.
+    pub fn close(self) -> Result<(Home<D>, WindowRecord), (Player<D>, NotQuiet)>
+        ensures closed { IfOk result (λ closed. IsClosed D.turns D.probes D.faults self.hub closed.0 closed.1) }
+        ensures quiet { IfOk result (λ closed. not_quiet (configuration_of self.hub) ≡ None) }
+        ensures same { IfErr result (λ refused. refused.0 ≡ self) }
+        ensures refused { IfErr result (λ refused. not_quiet (configuration_of self.hub) ≡ Some refused.1) }
+    {
+        let Player {
+            hub,
+            mut grips,
+            rounds,
+            moment,
+            place,
+        } = self;
+        hub.kept();
+        match hub.close_window() {
+            Ok(closed) => {
+                'hands: while let Some(hand) = grips.pop() {
+                    match hand {
+                        None => {}
+                        Some(_held) => unreachable!(),
+                    }
+                }
+                grips.destroy_empty();
+                Ok(closed)
+            }
+            Err((hub, why)) => Err((
+                Player {
+                    hub,
+                    grips,
+                    rounds,
+                    moment,
+                    place,
+                },
+                why,
+            )),
+        }
+    }
+}
+
+/// Replays a window: plays these turns, goes on by draws from the seed until every actor has ended, and closes it.
+///
+/// In this stage the hub has no probes. Answers `NoMemory` where there is none to be had, and gives the hub back.
+pub fn replay_window<D: Steady>(
+    alloc: Global,
+    hub: Hub<D>,
+    turns: &[u32],
+    seed: u64,
+    rounds: u32,
+) -> Result<(Home<D>, WindowRecord), (Hub<D>, NoMemory)>
+    requires fresh { configuration_of hub ≡ opened hub.setting hub.rounds }
+    requires rounds { (d : ℕ) → d < length hub.setting.first → rounds ≤ (configuration_of hub).probes d }
+    requires stage { hub.rounds ≡ 0 }
+    ensures replayed { IfOk result (λ closed. IsReplayed D.tag D.plan D.turns D.probes D.faults hub turns.now seed rounds closed.0 closed.1) }
+    ensures refused { IfErr result (λ refused. refused.0 ≡ hub) }
+{
+    hub.kept();
+    let mut player = match Player::open(alloc, hub, rounds) {
+        Ok(player) => player,
+        Err(refused) => return Err(refused),
+    };
+    player.play(turns);
+    player.finish(seed);
+    player.kept();
+    match player.close() {
+        Ok(closed) => {
+            closed.0.kept();
+            Ok(closed)
+        }
+        Err((_player, _why)) => unreachable!(),
+    }
+}
