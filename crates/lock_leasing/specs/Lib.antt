@@ -3,3 +3,5 @@ pub mod Words
 pub mod Places
 pub mod Waits
 pub mod Order
+pub mod Tables
+pub mod Standings

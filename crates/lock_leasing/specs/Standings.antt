@@ -1,0 +1,59 @@
+-- What belongs to one window: a lineage table, a line with its touches, a history and a roster.
+use Rattle.command_rules.specs.Rosters.{Run, commands_of, followed_by}
+use Rattle.history_book.specs.Histories.{entries_of}
+use Rattle.history_book.specs.Settings.{is_weak}
+use Rattle.history_book.specs.WellFormed.{IsWellFormed}
+use Rattle.history_book.specs.declared.entries.Kept.{Kept}
+use Rattle.home_types.specs.declared.commands.Command.{Command}
+use Rattle.home_types.specs.declared.items.Item.TheVariants.{Back, Failed, Ran}
+use Rattle.home_types.specs.declared.items.Item.{Item}
+use Rattle.home_types.specs.declared.numbers.RunNo.{RunNo}
+use Rattle.lineage_table.specs.Accesses.{IsDisciplined}
+use Rattle.lineage_table.specs.Lineages.{LineageState, accesses_at}
+use Rattle.lock_leasing.specs.Configurations.{Configuration, Grips, read_of}
+use Rattle.lock_leasing.specs.Order.{OrderStands}
+use Rattle.lock_leasing.specs.Tables.{Represents}
+use Rattle.lock_leasing.specs.Words.{has_touched}
+use Rattle.history_book.specs.Readings.{Reading}
+use Rattle.serial_line.specs.Marks.{Mark}
+use Rattle.serial_line.specs.Ties.{IsLineOf}
+use Rattle.std.specs.Prelude.{Bool, List, Some, [], false, length, slice_get, true, ℕ, ◌<◌, ◌==◌, ◌≡◌, ◌≤◌}
+
+-- the item has touched the device: an event its own, a run those on which it has an answer or the grip of a command
+abbrev pub item_has_touched : Reading → Grips → Item → ℕ → Bool
+item_has_touched n g (Ran r) d = has_touched n g r.0 d
+item_has_touched n g (Failed e k) d = e.0 == d
+item_has_touched n g (Back e k) d = e.0 == d
+
+-- a window of these runs may be opened on a home of so many devices
+pub record IsRosterFor (devices : ℕ) (runs : List Run) : Type 0 where
+  pub few_devices : devices ≤ 256
+  pub few_runs : length runs ≤ 64
+  pub few_commands : (r : ℕ) → length (commands_of runs r) ≤ 64
+  -- each command is on a device of the home
+  pub homed : (r k : ℕ) (c : Command) → slice_get (commands_of runs r) k ≡ Some c → c.device.0 < devices
+  -- a run follows an earlier run, or none
+  pub follows_earlier : (r : ℕ) (f : RunNo) → followed_by runs r ≡ Some f → f.0 < r
+
+-- the parts are those of the configuration, which is not of the weak model
+pub record IsStandingOf (s : Configuration) (table : List LineageState) (line : List Mark) (history : List Kept) (runs : List Run) : Type 0 where
+  pub ordered : is_weak s.setting.mode ≡ false
+  pub well_formed : IsWellFormed s.setting (entries_of s.history)
+  pub order : OrderStands s.setting (read_of s) s.grips
+  pub its_roster : s.setting.runs ≡ runs
+  pub its_history : s.history ≡ history
+  pub its_line : IsLineOf (read_of s).line (item_has_touched (read_of s) s.grips) line
+  pub disciplined : (d : ℕ) → IsDisciplined (accesses_at table d)
+  pub its_table : Represents s.setting (read_of s) s.grips table
+
+-- the parts are those of a configuration of the weak model, whose table has no accesses
+pub record IsWeakStandingOf (s : Configuration) (table : List LineageState) (history : List Kept) (runs : List Run) : Type 0 where
+  pub weak : is_weak s.setting.mode ≡ true
+  pub its_roster : s.setting.runs ≡ runs
+  pub its_history : s.history ≡ history
+  pub none : (d : ℕ) → accesses_at table d ≡ []
+
+-- the four parts belong to one window, of runs that may be opened
+pub data BelongTogether (table : List LineageState) (line : List Mark) (history : List Kept) (runs : List Run) : Type 0 where
+  InOrder : (s : Configuration) (allowed : IsRosterFor (length s.setting.first) runs) (parts : IsStandingOf s table line history runs) → BelongTogether table line history runs
+  Weakly : (s : Configuration) (allowed : IsRosterFor (length s.setting.first) runs) (parts : IsWeakStandingOf s table history runs) → BelongTogether table line history runs
