@@ -12,3 +12,5 @@ pub mod Runs
 pub mod Firsts
 pub mod Goes
 pub mod Steps
+pub mod AccessLists
+pub mod Representing

@@ -1,2 +1,3 @@
 pub mod ReadWindows
 pub mod OrderKept
+pub mod TableKept
