@@ -14,3 +14,5 @@ pub mod Goes
 pub mod Steps
 pub mod AccessLists
 pub mod Representing
+pub mod TableFrames
+pub mod AnsweredTables

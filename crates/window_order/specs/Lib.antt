@@ -1,3 +1,4 @@
 pub mod ReadWindows
 pub mod OrderKept
 pub mod TableKept
+pub mod TableChanges

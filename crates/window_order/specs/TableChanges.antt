@@ -1,0 +1,66 @@
+-- What the steps of a window make of its lineages, where no run is doomed.
+use Rattle.command_rules.specs.Rosters.{command_at, run_no, touches, touches_from}
+use Rattle.history_book.specs.Plans.{planned_end, planned_start, planned_times}
+use Rattle.history_book.specs.Readings.{Planned, Reading, did, is_fine, is_told}
+use Rattle.history_book.specs.Settings.{Setting}
+use Rattle.home_types.specs.Commands.{driven}
+use Rattle.home_types.specs.Kinds.{kind_at}
+use Rattle.home_types.specs.declared.commands.Answer.{Answer}
+use Rattle.home_types.specs.declared.commands.Command.{Command}
+use Rattle.home_types.specs.declared.commands.View.{View}
+use Rattle.lineage_table.specs.Accesses.{written_by}
+use Rattle.lineage_table.specs.Lineages.{LineageState, acquired, lineage_at, released, removed, scheduled, settled, written}
+use Rattle.lineage_table.specs.declared.accesses.Access.{Access}
+use Rattle.lineage_table.specs.declared.accesses.Status.TheVariants.{Scheduled}
+use Rattle.lock_leasing.specs.Tables.{view_when}
+use Rattle.std.specs.Prelude.{Bool, List, None, Option, Some, if◌then◌else◌, is_some, length, not, ℕ, ◌+◌, ◌<◌, ◌==◌, ◌≡◌}
+
+-- the table has the same devices, and each has its lineage changed so
+pub record ChangesEach (change : ℕ → LineageState → LineageState) (old new : List LineageState) : Type 0 where
+  pub devices : length new ≡ length old
+  pub each : (d : ℕ) → d < length old → lineage_at new d ≡ change d (lineage_at old d)
+
+-- A run is placed at the end of the line
+
+-- the access of a run that has not touched the device yet
+abbrev pub waiting_access : ℕ → List Planned → ℕ → Access
+waiting_access r planned d = record { run = run_no r; status = Scheduled; view = None; wrote = None; from = planned_start planned d; to = planned_end planned d }
+
+-- it has an access on each of its devices
+abbrev pub placed_change : Setting → Reading → ℕ → ℕ → ℕ → LineageState → LineageState
+placed_change w n r m d s = if touches w.runs r d then scheduled None (waiting_access r (planned_times w n r n.line m) d) s else s
+
+-- A command is answered
+
+abbrev pub acquired_if : Bool → ℕ → View → LineageState → LineageState
+acquired_if first r view s = if first then acquired r view s else s
+
+abbrev pub written_if : Option ℕ → ℕ → LineageState → LineageState
+written_if None r s = s
+written_if (Some v) r s = written r v s
+
+abbrev pub released_if : Bool → ℕ → LineageState → LineageState
+released_if last r s = if last then released r s else s
+
+-- the value that the answer says was written
+abbrev pub told_write : Setting → Reading → ℕ → Command → Answer → Option ℕ
+told_write w n r c a = if is_fine a then Some (driven (kind_at w.kinds c.device.0) c.job (n.run r).register) else None
+
+-- the device of the command number k is acquired at the first answer there, has the value that was written, and is released at the last answer
+abbrev pub answered_lineage : Setting → Reading → ℕ → ℕ → Answer → LineageState → LineageState
+answered_lineage w n r k a s =
+    released_if (not (touches_from w.runs r (command_at w.runs r k).device.0 (k + 1))) r
+    (written_if (told_write w n r (command_at w.runs r k) a) r
+    (acquired_if (not (did n r (command_at w.runs r k).device.0)) r (view_when (is_told a)) s))
+
+abbrev pub answered_change : Setting → Reading → ℕ → ℕ → Answer → ℕ → LineageState → LineageState
+answered_change w n r k a d s = if d == (command_at w.runs r k).device.0 then answered_lineage w n r k a s else s
+
+-- A run commits
+
+-- the value that it wrote is committed, else its access is gone
+abbrev pub committed_lineage : ℕ → LineageState → LineageState
+committed_lineage r s = if is_some (written_by r s.accesses) then settled r s else removed r s
+
+abbrev pub committed_change : Setting → ℕ → ℕ → LineageState → LineageState
+committed_change w r d s = if touches w.runs r d then committed_lineage r s else s
