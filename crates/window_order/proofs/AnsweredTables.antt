@@ -43,18 +43,18 @@ use Rattle.window_order.specs.TableKept.{LineageIsKept, access_read, accesses_al
 
 -- One access that changes
 
-abbrev acquire_access : Bool → View → Access → Access
+abbrev pub acquire_access : Bool → View → Access → Access
 acquire_access first view x = if first then record x { status = Acquired; view = Some view } else x
 
-abbrev write_access : Option ℕ → Access → Access
+abbrev pub write_access : Option ℕ → Access → Access
 write_access None x = x
 write_access (Some v) x = record x { wrote = Some v }
 
-abbrev release_access : Bool → Access → Access
+abbrev pub release_access : Bool → Access → Access
 release_access last x = if last then record x { status = Released } else x
 
 -- the access after an answer
-abbrev answered_access : Bool → View → Option ℕ → Bool → Access → Access
+abbrev pub answered_access : Bool → View → Option ℕ → Bool → Access → Access
 answered_access first view wrote last x = record {
   run = x.run;
   status = if last then Released else (if first then Acquired else x.status);
@@ -74,12 +74,12 @@ in_turn false view None false x = refl
 in_turn false view (Some v) true x = refl
 in_turn false view (Some v) false x = refl
 
-acquired_list : (r : ℕ) (first : Bool) (view : View) (s : LineageState) (a : List Access) (x : Access) (b : List Access) → has_access r a ≡ false → is_of r x ≡ true → s.accesses ≡ a ++ x ∷ b
+pub acquired_list : (r : ℕ) (first : Bool) (view : View) (s : LineageState) (a : List Access) (x : Access) (b : List Access) → has_access r a ≡ false → is_of r x ≡ true → s.accesses ≡ a ++ x ∷ b
     → (acquired_if first r view s).accesses ≡ a ++ acquire_access first view x ∷ b
 acquired_list r true view s a x b none own at = ap (λ xs. (acquired r view (record s { accesses = xs })).accesses) at ∙ change_at r (λ (y : Access). record y { status = Acquired; view = Some view }) a x b none own
 acquired_list r false view s a x b none own at = at
 
-written_list : (r : ℕ) (wrote : Option ℕ) (s : LineageState) (a : List Access) (x : Access) (b : List Access) → has_access r a ≡ false → is_of r x ≡ true → s.accesses ≡ a ++ x ∷ b → (written_if wrote r s).accesses ≡ a ++ write_access wrote x ∷ b
+pub written_list : (r : ℕ) (wrote : Option ℕ) (s : LineageState) (a : List Access) (x : Access) (b : List Access) → has_access r a ≡ false → is_of r x ≡ true → s.accesses ≡ a ++ x ∷ b → (written_if wrote r s).accesses ≡ a ++ write_access wrote x ∷ b
 written_list r None s a x b none own at = at
 written_list r (Some v) s a x b none own at = ap (λ xs. (written r v (record s { accesses = xs })).accesses) at ∙ change_at r (λ (y : Access). record y { wrote = Some v }) a x b none own
 
@@ -88,11 +88,11 @@ released_list r true s a x b none own at = ap (λ xs. (released r (record s { ac
 released_list r false s a x b none own at = at
 
 -- the run stays
-acquired_own : (r : ℕ) (first : Bool) (view : View) (x : Access) → is_of r x ≡ true → is_of r (acquire_access first view x) ≡ true
+pub acquired_own : (r : ℕ) (first : Bool) (view : View) (x : Access) → is_of r x ≡ true → is_of r (acquire_access first view x) ≡ true
 acquired_own r true view x own = own
 acquired_own r false view x own = own
 
-written_own : (r : ℕ) (wrote : Option ℕ) (x : Access) → is_of r x ≡ true → is_of r (write_access wrote x) ≡ true
+pub written_own : (r : ℕ) (wrote : Option ℕ) (x : Access) → is_of r x ≡ true → is_of r (write_access wrote x) ≡ true
 written_own r None x own = own
 written_own r (Some v) x own = own
 

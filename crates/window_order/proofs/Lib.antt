@@ -16,3 +16,4 @@ pub mod AccessLists
 pub mod Representing
 pub mod TableFrames
 pub mod AnsweredTables
+pub mod TableCalls
