@@ -17,3 +17,4 @@ pub mod Representing
 pub mod TableFrames
 pub mod AnsweredTables
 pub mod TableCalls
+pub mod PlacedTables
