@@ -18,3 +18,4 @@ pub mod TableFrames
 pub mod AnsweredTables
 pub mod TableCalls
 pub mod PlacedTables
+pub mod CommittedTables

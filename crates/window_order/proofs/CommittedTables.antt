@@ -1,0 +1,311 @@
+-- The lineages as a run commits.
+use Rattle.command_rules.specs.Rosters.{commands_of, run_no, touches, touches_from}
+use Rattle.device_order.specs.LineChanges.{Lacks}
+use Rattle.device_order.specs.LineWords.{CutAt}
+use Rattle.history_book.proofs.Shapes.{did_touches, never_passed_by}
+use Rattle.history_book.proofs.Snoc.{put_other, put_same}
+use Rattle.history_book.specs.Histories.{entry}
+use Rattle.history_book.specs.Lines.{of_run}
+use Rattle.history_book.specs.Readings.{OfRun, Reading, has_written, is_committed, is_committing, is_live, put}
+use Rattle.history_book.specs.Settings.{Setting}
+use Rattle.history_book.specs.WellFormed.{may_follow}
+use Rattle.history_book.specs.declared.entries.End.TheVariants.{Committed}
+use Rattle.history_book.specs.declared.entries.Entry.TheVariants.{Ended}
+use Rattle.home_types.specs.HomeStates.{stand_at}
+use Rattle.home_types.specs.declared.items.Item.TheVariants.{Back, Failed, Ran}
+use Rattle.home_types.specs.declared.items.Item.{Item}
+use Rattle.lineage_table.proofs.Splits.{behind_at, without_at, without_none}
+use Rattle.lineage_table.proofs.Steps.{written_at}
+use Rattle.lineage_table.specs.Accesses.{access_of, behind, has_access, is_of, without, written_by}
+use Rattle.lineage_table.specs.Lineages.{LineageState, removed, settled}
+use Rattle.lineage_table.specs.declared.accesses.Access.{Access}
+use Rattle.lock_leasing.specs.Order.{committed_value}
+use Rattle.lock_leasing.specs.Tables.{uses}
+use Rattle.lock_leasing.specs.Words.{committed_write}
+use Rattle.std.proofs.Common.{ap, arith, refl, subst, sym, ◌∙◌}
+use Rattle.std.proofs.lemmas.Grind.{common_steps}
+use Rattle.std.proofs.lemmas.List.Sums.{fold-append}
+use Rattle.std.specs.List.{list_any}
+use Rattle.std.specs.Option.{option_or}
+use Rattle.std.specs.Prelude.{Bool, List, None, Option, Some, [], false, fold, if◌then◌else◌, is_none, is_some, length, not, option_and_then, option_map, true, unwrap_or, ℕ, ◌&&◌, ◌++◌, ◌+◌, ◌-◌, ◌==◌, ◌||◌, ◌∷◌, ◌≡◌, ◌≢◌, ◌≤◌}
+use Rattle.window_order.proofs.AccessLists.{SameBut, along_absent, along_but, along_covered, along_lacks, along_there, any_but, front_accesses, front_but, front_covered, front_lacks}
+use Rattle.window_order.proofs.ReadFacts.{IsRead}
+use Rattle.window_order.proofs.Runs.{cut_live, live_uncommitted}
+use Rattle.window_order.proofs.TableFrames.{SameLineage, access_by, commits_by, lineage_same, put_says, same_unplaced, uses_by, write_by}
+use Rattle.window_order.specs.TableChanges.{committed_change, committed_lineage}
+use Rattle.window_order.specs.TableKept.{LineageIsKept, access_read, accesses_along, accesses_read, commits_write, unplaced_on}
+
+-- The last committed write along a list
+
+abbrev last_write : Reading → ℕ → Option ℕ → List Item → Option ℕ
+last_write n d best is = fold (λ b x. option_or (committed_write n d x) b) best is
+
+-- where some run of it commits a write, what was there before does not count
+write_there : (n : Reading) (d : ℕ) (is : List Item) → list_any (of_run (commits_write n d)) is ≡ true → (a b : Option ℕ) → last_write n d a is ≡ last_write n d b is
+write_there n d [] some a b = absurd (cc)
+write_there n d (Ran q ∷ is) some a b = at_ (λ h x y. write_there n d is h x y) (is_committed n q.0) ((n.run q.0).on d).wrote some
+  where
+    at_ : (list_any (of_run (commits_write n d)) is ≡ true → (x y : Option ℕ) → last_write n d x is ≡ last_write n d y is) → (c : Bool) (o : Option ℕ) → ((c && is_some o) || list_any (of_run (commits_write n d)) is) ≡ true
+        → last_write n d (option_or (if c then o else None) a) is ≡ last_write n d (option_or (if c then o else None) b) is
+    at_ ih true (Some v) h = refl
+    at_ ih true None h = ih h a b
+    at_ ih false o h = ih h a b
+write_there n d (Failed e k ∷ is) some a b = write_there n d is some a b
+write_there n d (Back e k ∷ is) some a b = write_there n d is some a b
+
+-- where none does, it stays
+write_absent : (n : Reading) (d : ℕ) (is : List Item) → list_any (of_run (commits_write n d)) is ≡ false → (a : Option ℕ) → last_write n d a is ≡ a
+write_absent n d [] none a = refl
+write_absent n d (Ran q ∷ is) none a = at_ (λ h x. write_absent n d is h x) (is_committed n q.0) ((n.run q.0).on d).wrote none
+  where
+    at_ : (list_any (of_run (commits_write n d)) is ≡ false → (x : Option ℕ) → last_write n d x is ≡ x) → (c : Bool) (o : Option ℕ) → ((c && is_some o) || list_any (of_run (commits_write n d)) is) ≡ false → last_write n d (option_or (if c then o else None) a) is ≡ a
+    at_ ih true (Some v) h = absurd (cc)
+    at_ ih true None h = ih h a
+    at_ ih false o h = ih h a
+write_absent n d (Failed e k ∷ is) none a = write_absent n d is none a
+write_absent n d (Back e k ∷ is) none a = write_absent n d is none a
+
+-- it is the same where only a run that the list lacks is another
+write_but : (n m : Reading) (d r : ℕ) (is : List Item) → ((q : ℕ) → q ≢ r → write_by d (m.run q) ≡ write_by d (n.run q)) → Lacks r is → (a : Option ℕ) → last_write m d a is ≡ last_write n d a is
+unfolding Lacks
+write_but n m d r [] same lacks a = refl
+write_but n m d r (Ran q ∷ is) same lacks a = ap (λ o. last_write m d (option_or o a) is) (same q.0 lacks.0) ∙ write_but n m d r is same lacks.1 (option_or (committed_write n d (Ran q)) a)
+write_but n m d r (Failed e k ∷ is) same lacks a = write_but n m d r is same lacks a
+write_but n m d r (Back e k ∷ is) same lacks a = write_but n m d r is same lacks a
+
+-- A lineage without an access of the run
+
+none_of : (r : ℕ) (xs : List Access) → has_access r xs ≡ false → access_of r xs ≡ None
+none_of r [] h = refl
+none_of r (x ∷ xs) h = grind (arith, common_steps, none_of r xs)
+
+none_written : (r : ℕ) (xs : List Access) → has_access r xs ≡ false → written_by r xs ≡ None
+none_written r xs h = ap (option_and_then (λ (x : Access). x.wrote)) (none_of r xs h)
+
+-- what a commit makes of it
+record Commits (r : ℕ) (s t : LineageState) : Type 0 where
+  accesses : t.accesses ≡ (if is_some (written_by r s.accesses) then behind r s.accesses else without r s.accesses)
+  committed : t.committed ≡ unwrap_or (written_by r s.accesses) s.committed
+  room : s.room ≤ t.room
+  up : t.up ≡ s.up
+
+commits : (r : ℕ) (s : LineageState) → Commits r s (committed_lineage r s)
+commits r s = at_ (written_by r s.accesses) refl
+  where
+    more : (a b : ℕ) → a ≤ a + b
+    more a b = omega arith
+
+    at_ : (o : Option ℕ) → written_by r s.accesses ≡ o → Commits r s (committed_lineage r s)
+    at_ None e = subst (Commits r s) (λ i. if is_some (sym e i) then settled r s else removed r s) (record {
+      accesses = (λ i. if is_some (sym e i) then behind r s.accesses else without r s.accesses);
+      committed = (λ i. unwrap_or (sym e i) s.committed);
+      room = more s.room (length s.accesses - length (without r s.accesses));
+      up = refl;
+    })
+    at_ (Some v) e = subst (Commits r s) (λ i. if is_some (sym e i) then settled r s else removed r s) (record {
+      accesses = (λ i. if is_some (sym e i) then behind r s.accesses else without r s.accesses);
+      committed = refl;
+      room = more s.room (length s.accesses - length (behind r s.accesses));
+      up = refl;
+    })
+
+-- A run commits
+
+unwritten : (w : Setting) (n : Reading) (r d : ℕ) → IsRead w n → touches w.runs r d ≡ false → ((n.run r).on d).wrote ≡ None
+unwritten w n r d read off = at_ ((n.run r).on d).wrote refl
+  where
+    clash : (b : Bool) → b ≡ true → b ≡ false → ⊥
+    clash b h k = grind (arith, common_steps)
+
+    at_ : (o : Option ℕ) → ((n.run r).on d).wrote ≡ o → ((n.run r).on d).wrote ≡ None
+    at_ None e = e
+    at_ (Some v) e = absurd (clash (touches w.runs r d) (did_touches w n r d read.shaped ((read.shaped r).wrote d (ap is_some e))) off)
+
+-- the record of the run
+abbrev ended_run : Reading → ℕ → OfRun
+ended_run n r = record (n.run r) { ended = Some Committed }
+
+-- on another device nothing changes
+committed_elsewhere : (w : Setting) (n : Reading) (r d : ℕ) → IsRead w n → is_live n r ≡ true → touches w.runs r d ≡ false → SameLineage w n (entry w n (Ended (run_no r) Committed)) d
+committed_elsewhere w n r d read live off = record {
+  line = refl;
+  has_one = put_says (uses_by w d) n.run r (ended_run n r) (none_used (is_some (n.run r).placed && false) (touches w.runs r d) (touches w.runs r d && not (touches_from w.runs r d (length (n.run r).answers)) && not (is_some ((n.run r).on d).view)) off ∙ sym (none_used (is_some (n.run r).placed && is_none (n.run r).ended) (touches w.runs r d) (touches w.runs r d && not (touches_from w.runs r d (length (n.run r).answers)) && not (is_some ((n.run r).on d).view)) off));
+  covering = put_says (λ q. commits_by d) n.run r (ended_run n r) ((λ i. is_some (none i)) ∙ sym (λ i. uncommitted i && is_some ((n.run r).on d).wrote));
+  access = put_says (access_by w d) n.run r (ended_run n r) refl;
+  write = put_says (λ q. write_by d) n.run r (ended_run n r) (none ∙ sym (λ i. if uncommitted i then ((n.run r).on d).wrote else None));
+  unplaced = put_says (λ q o. is_none o.placed) n.run r (ended_run n r) refl;
+  up = refl;
+}
+  where
+    none : ((n.run r).on d).wrote ≡ None
+    none = unwritten w n r d read off
+
+    uncommitted : is_committed n r ≡ false
+    uncommitted = live_uncommitted n r live
+
+    none_used : (a b c : Bool) → b ≡ false → (a && b && not c) ≡ false
+    none_used a b c h = grind (arith, common_steps)
+
+-- on its own devices its value is committed, or its access is gone
+committed_there : (w : Setting) (n : Reading) (r d : ℕ) → IsRead w n → is_live n r ≡ true → touches w.runs r d ≡ true → (s : LineageState) → LineageIsKept w n d s → LineageIsKept w (entry w n (Ended (run_no r) Committed)) d (committed_lineage r s)
+committed_there w n r d read live on s kept = record {
+  committed = done.committed ∙ at_value (list_any (of_run c) cut.back) refl;
+  accesses = done.accesses ∙ at_list (list_any (of_run c) cut.back) refl;
+  room = subst (λ x. x ≤ (committed_lineage r s).room) (sym (same_unplaced n m d 1 w.runs (put_says (λ q o. is_none o.placed) n.run r (ended_run n r) refl))) (at_most (unplaced_on w n d) s.room (committed_lineage r s).room kept.room done.room);
+  up = done.up ∙ kept.up;
+}
+  where
+    m : Reading
+    m = entry w n (Ended (run_no r) Committed)
+
+    own : m.run r ≡ ended_run n r
+    own = put_same n.run r (ended_run n r)
+
+    cut : CutAt r n.line
+    cut = cut_live w n r read live
+
+    done : Commits r s (committed_lineage r s)
+    done = commits r s
+
+    p : ℕ → Bool
+    p = uses w n d
+
+    c : ℕ → Bool
+    c = commits_write n d
+
+    f : ℕ → Access
+    f = access_read w n d
+
+    wrote : Option ℕ
+    wrote = ((n.run r).on d).wrote
+
+    front : List Access
+    front = front_accesses p c f false cut.front
+
+    back : List Access
+    back = accesses_along p c f cut.back
+
+    others : SameBut r p (uses w m d) c (commits_write m d) f (access_read w m d)
+    others = record {
+      has_one = λ x ne. ap (uses_by w d x) (put_other n.run r (ended_run n r) x ne);
+      covering = λ x ne. ap (commits_by d) (put_other n.run r (ended_run n r) x ne);
+      access = λ x ne. ap (access_by w d x) (put_other n.run r (ended_run n r) x ne);
+    }
+
+    at_most : (a b e : ℕ) → a ≤ b → b ≤ e → a ≤ e
+    at_most a b e h k = omega (arith, h, k)
+
+    uncommitted : is_committed n r ≡ false
+    uncommitted = live_uncommitted n r live
+
+    used : p r ≡ true
+    used = λ i. live i && on i && not (never_passed_by w n r d read.shaped i)
+
+    uncovering : c r ≡ false
+    uncovering = λ i. uncommitted i && is_some wrote
+
+    gone : (a b x : Bool) → ((a && false) && b && not x) ≡ false
+    gone a b x = grind (arith, common_steps)
+
+    unused : uses w m d r ≡ false
+    unused = ap (uses_by w d r) own ∙ gone (is_some (n.run r).placed) (touches w.runs r d) (touches w.runs r d && not (touches_from w.runs r d (length (n.run r).answers)) && not (is_some ((n.run r).on d).view))
+
+    covering : commits_write m d r ≡ is_some wrote
+    covering = ap (commits_by d) own
+
+    back_covers : list_any (of_run (commits_write m d)) cut.back ≡ list_any (of_run c) cut.back
+    back_covers = any_but r c (commits_write m d) cut.back others.covering cut.behind
+
+    none_behind : has_access r back ≡ false
+    none_behind = along_lacks p c f r cut.back (λ x. refl) cut.behind
+
+    none_before : has_access r front ≡ false
+    none_before = front_lacks p c f false r cut.front (λ x. refl) cut.before
+
+    own_access : is_of r (f r) ≡ true
+    own_access = same r
+      where
+        same : (x : ℕ) → (x == x) ≡ true
+        same x = grind (arith, common_steps)
+
+    -- a committed run behind it has written the device: it has no access any more
+    covered : list_any (of_run c) cut.back ≡ true → s.accesses ≡ back
+    covered e = kept.accesses ∙ ap (accesses_read w n d) cut.at ∙ along_covered p c f r cut.front cut.back e
+
+    around : list_any (of_run c) cut.back ≡ false → s.accesses ≡ front ++ f r ∷ back
+    around e = kept.accesses ∙ ap (accesses_read w n d) cut.at ∙ along_there p c f r cut.front cut.back used uncovering e
+
+    written : list_any (of_run c) cut.back ≡ false → written_by r s.accesses ≡ wrote
+    written e = ap (written_by r) (around e) ∙ written_at r front (f r) back none_before own_access
+
+    unwritten_there : list_any (of_run c) cut.back ≡ true → written_by r s.accesses ≡ None
+    unwritten_there e = ap (written_by r) (covered e) ∙ none_written r back none_behind
+
+    list_after : (b : Bool) → list_any (of_run c) cut.back ≡ b → accesses_read w m d n.line ≡ front_accesses p c f (is_some wrote || b) cut.front ++ back
+    list_after b e =
+        ap (accesses_read w m d) cut.at
+        ∙ along_absent (uses w m d) (commits_write m d) (access_read w m d) r cut.front cut.back unused
+        ∙ (λ i. front_accesses (uses w m d) (commits_write m d) (access_read w m d) (covering i || (back_covers ∙ e) i) cut.front ++ along_but r p (uses w m d) c (commits_write m d) f (access_read w m d) cut.back others cut.behind i)
+        ∙ ap (λ xs. xs ++ back) (front_but r p (uses w m d) c (commits_write m d) f (access_read w m d) (is_some wrote || b) cut.front others cut.before)
+
+    either : (x : Bool) → (x || true) ≡ true
+    either true = refl
+    either false = refl
+
+    by_write : (o : Option ℕ) → wrote ≡ o → list_any (of_run c) cut.back ≡ false → (if is_some (written_by r s.accesses) then behind r s.accesses else without r s.accesses) ≡ front_accesses p c f (is_some wrote || false) cut.front ++ back
+    by_write (Some v) w e =
+        (λ i. if is_some ((written e ∙ w) i) then behind r s.accesses else without r s.accesses) ∙ ap (behind r) (around e) ∙ behind_at r front (f r) back none_before own_access
+        ∙ sym ((λ i. front_accesses p c f (is_some (w i) || false) cut.front ++ back) ∙ ap (λ xs. xs ++ back) (front_covered p c f cut.front))
+    by_write None w e =
+        (λ i. if is_some ((written e ∙ w) i) then behind r s.accesses else without r s.accesses) ∙ ap (without r) (around e) ∙ without_at r front (f r) back none_before none_behind own_access
+        ∙ sym (λ i. front_accesses p c f (is_some (w i) || false) cut.front ++ back)
+
+    at_list : (b : Bool) → list_any (of_run c) cut.back ≡ b → (if is_some (written_by r s.accesses) then behind r s.accesses else without r s.accesses) ≡ accesses_read w m d m.line
+    at_list true e =
+        (λ i. if is_some (unwritten_there e i) then behind r s.accesses else without r s.accesses) ∙ ap (without r) (covered e) ∙ without_none r back none_behind
+        ∙ sym (list_after true e ∙ (λ i. front_accesses p c f (either (is_some wrote) i) cut.front ++ back) ∙ ap (λ xs. xs ++ back) (front_covered p c f cut.front))
+    at_list false e = by_write wrote refl e ∙ sym (list_after false e)
+
+    first : ℕ
+    first = (stand_at w.first d).value
+
+    -- the last committed write before the run, and then behind it
+    value_before : committed_value w n d ≡ unwrap_or (last_write n d (last_write n d None cut.front) cut.back) first
+    value_before = ap (λ o. unwrap_or o first) (
+        ap (last_write n d None) cut.at ∙ fold-append (λ b x. option_or (committed_write n d x) b) None cut.front (Ran (run_no r) ∷ cut.back)
+        ∙ (λ i. last_write n d (option_or (if uncommitted i then wrote else None) (last_write n d None cut.front)) cut.back)
+        )
+
+    others_write : (q : ℕ) → q ≢ r → write_by d (m.run q) ≡ write_by d (n.run q)
+    others_write q ne = ap (write_by d) (put_other n.run r (ended_run n r) q ne)
+
+    value_after : committed_value w m d ≡ unwrap_or (last_write n d (option_or wrote (last_write n d None cut.front)) cut.back) first
+    value_after = ap (λ o. unwrap_or o first) (
+        ap (last_write m d None) cut.at ∙ fold-append (λ b x. option_or (committed_write m d x) b) None cut.front (Ran (run_no r) ∷ cut.back)
+        ∙ (λ i. last_write m d (option_or (ap (write_by d) own i) (write_but n m d r cut.front others_write cut.before None i)) cut.back)
+        ∙ write_but n m d r cut.back others_write cut.behind (option_or wrote (last_write n d None cut.front))
+        )
+
+    chosen : (o b : Option ℕ) (x : ℕ) → unwrap_or o (unwrap_or b x) ≡ unwrap_or (option_or o b) x
+    chosen None b x = refl
+    chosen (Some v) b x = refl
+
+    at_value : (b : Bool) → list_any (of_run c) cut.back ≡ b → unwrap_or (written_by r s.accesses) s.committed ≡ committed_value w m d
+    at_value true e =
+        (λ i. unwrap_or (unwritten_there e i) s.committed) ∙ kept.committed ∙ value_before
+        ∙ ap (λ o. unwrap_or o first) (write_there n d cut.back e (last_write n d None cut.front) (option_or wrote (last_write n d None cut.front))) ∙ sym value_after
+    at_value false e =
+        (λ i. unwrap_or (written e i) ((kept.committed ∙ value_before ∙ ap (λ o. unwrap_or o first) (write_absent n d cut.back e (last_write n d None cut.front))) i)) ∙ chosen wrote (last_write n d None cut.front) first
+        ∙ sym (value_after ∙ ap (λ o. unwrap_or o first) (write_absent n d cut.back e (option_or wrote (last_write n d None cut.front))))
+
+-- each lineage is kept
+pub committed_kept : (w : Setting) (n : Reading) (r : ℕ) → IsRead w n → may_follow w n (Ended (run_no r) Committed) ≡ true → (d : ℕ) (s : LineageState) → LineageIsKept w n d s
+    → LineageIsKept w (entry w n (Ended (run_no r) Committed)) d (committed_change w r d s)
+committed_kept w n r read may d s kept = at_ (touches w.runs r d) refl
+  where
+    live : is_live n r ≡ true
+    live = grind (arith, common_steps)
+
+    at_ : (b : Bool) → touches w.runs r d ≡ b → LineageIsKept w (entry w n (Ended (run_no r) Committed)) d (committed_change w r d s)
+    at_ true e = subst (LineageIsKept w (entry w n (Ended (run_no r) Committed)) d) (λ i. if sym e i then committed_lineage r s else s) (committed_there w n r d read live e s kept)
+    at_ false e = subst (LineageIsKept w (entry w n (Ended (run_no r) Committed)) d) (λ i. if sym e i then committed_lineage r s else s) (lineage_same w n (entry w n (Ended (run_no r) Committed)) d s (committed_elsewhere w n r d read live e) kept)
