@@ -4,7 +4,7 @@ use Rattle.device_order.specs.LineChanges.{Lacks}
 use Rattle.history_book.specs.Lines.{of_run}
 use Rattle.home_types.specs.declared.items.Item.TheVariants.{Back, Failed, Ran}
 use Rattle.home_types.specs.declared.items.Item.{Item}
-use Rattle.lineage_table.specs.Accesses.{has_access, is_acquired, is_of, is_scheduled, some_acquired, some_scheduled}
+use Rattle.lineage_table.specs.Accesses.{has_access}
 use Rattle.lineage_table.specs.declared.accesses.Access.{Access}
 use Rattle.std.proofs.Common.{ap, arith, refl, ◌∙◌}
 use Rattle.std.proofs.lemmas.Grind.{common_steps}

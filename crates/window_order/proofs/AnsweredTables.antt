@@ -2,12 +2,12 @@
 use Rattle.command_rules.specs.Rosters.{command_at, commands_of, is_on, no_command, run_no, touches, touches_from}
 use Rattle.device_order.proofs.InPlace.{two_places}
 use Rattle.device_order.specs.LineWords.{CutAt}
-use Rattle.history_book.proofs.Shapes.{did_touches, never_passed_by}
+use Rattle.history_book.proofs.Shapes.{never_passed_by}
 use Rattle.history_book.proofs.Snoc.{put_other, put_same}
 use Rattle.history_book.specs.Histories.{answered, entry}
 use Rattle.history_book.specs.Lines.{is_ran, of_run}
 use Rattle.history_book.specs.Plans.{planned_end, planned_start}
-use Rattle.history_book.specs.Readings.{OfRun, OnDevice, Reading, did, is_access, is_committed, is_fine, is_live, is_told, is_committing, next_of, pends, put, view_by, view_of}
+use Rattle.history_book.specs.Readings.{OfRun, OnDevice, Reading, did, is_committed, is_fine, is_live, is_told, is_committing, next_of, pends, put, view_by}
 use Rattle.history_book.specs.Settings.{Setting}
 use Rattle.history_book.specs.declared.entries.Entry.TheVariants.{Did}
 use Rattle.home_types.specs.Commands.{driven, register_after}
@@ -20,21 +20,19 @@ use Rattle.home_types.specs.declared.commands.View.{View}
 use Rattle.home_types.specs.declared.items.Item.TheVariants.{Back, Failed, Ran}
 use Rattle.home_types.specs.declared.items.Item.{Item}
 use Rattle.home_types.specs.declared.kinds.Kind.{Kind}
-use Rattle.lineage_table.proofs.Splits.{access_at, before_at, change_at}
-use Rattle.lineage_table.specs.Accesses.{before, has_access, is_acquired, is_of, is_scheduled, some_acquired, some_scheduled, status_of}
+use Rattle.lineage_table.proofs.Splits.{change_at}
+use Rattle.lineage_table.specs.Accesses.{has_access, is_of}
 use Rattle.lineage_table.specs.Lineages.{LineageState, acquired, released, written}
 use Rattle.lineage_table.specs.declared.accesses.Access.{Access}
 use Rattle.lineage_table.specs.declared.accesses.Status.TheVariants.{Acquired, Released, Scheduled}
-use Rattle.lineage_table.specs.declared.accesses.Status.{Status}
 use Rattle.lock_leasing.specs.Tables.{uses, view_when}
 use Rattle.std.proofs.Common.{ap, arith, length-append, refl, subst, sym, ◌∙◌}
 use Rattle.std.proofs.lemmas.Grind.{common_steps}
-use Rattle.std.proofs.lemmas.List.Folds.{list_any-append}
 use Rattle.std.proofs.lemmas.List.{drop_more}
 use Rattle.std.specs.List.{list_any}
 use Rattle.std.specs.Option.{option_or}
 use Rattle.std.specs.Prelude.{Bool, List, None, Option, Some, [], drop, false, if◌then◌else◌, is_none, is_some, length, not, option_map, suc, true, unwrap_or, zero, ℕ, ◌&&◌, ◌++◌, ◌+◌, ◌<◌, ◌==◌, ◌||◌, ◌∷◌, ◌≡◌, ◌≢◌, ◌≤◌}
-use Rattle.window_order.proofs.AccessLists.{SameBut, any_but, along_but, along_lacks, along_none, along_there, front_accesses, front_but, front_lacks, front_none}
+use Rattle.window_order.proofs.AccessLists.{SameBut, any_but, along_but, along_there, front_accesses, front_but, front_lacks}
 use Rattle.window_order.proofs.ReadFacts.{IsRead}
 use Rattle.window_order.proofs.Runs.{live_uncommitted}
 use Rattle.window_order.proofs.TableFrames.{SameLineage, access_by, commits_by, write_by, lineage_same, put_says, same_committed, same_unplaced, uses_by}

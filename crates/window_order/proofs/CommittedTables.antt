@@ -1,12 +1,12 @@
 -- The lineages as a run commits.
-use Rattle.command_rules.specs.Rosters.{commands_of, run_no, touches, touches_from}
+use Rattle.command_rules.specs.Rosters.{run_no, touches, touches_from}
 use Rattle.device_order.specs.LineChanges.{Lacks}
 use Rattle.device_order.specs.LineWords.{CutAt}
 use Rattle.history_book.proofs.Shapes.{did_touches, never_passed_by}
 use Rattle.history_book.proofs.Snoc.{put_other, put_same}
 use Rattle.history_book.specs.Histories.{entry}
 use Rattle.history_book.specs.Lines.{of_run}
-use Rattle.history_book.specs.Readings.{OfRun, Reading, has_written, is_committed, is_committing, is_live, put}
+use Rattle.history_book.specs.Readings.{OfRun, Reading, is_committed, is_live}
 use Rattle.history_book.specs.Settings.{Setting}
 use Rattle.history_book.specs.WellFormed.{may_follow}
 use Rattle.history_book.specs.declared.entries.End.TheVariants.{Committed}
@@ -27,7 +27,7 @@ use Rattle.std.proofs.lemmas.Grind.{common_steps}
 use Rattle.std.proofs.lemmas.List.Sums.{fold-append}
 use Rattle.std.specs.List.{list_any}
 use Rattle.std.specs.Option.{option_or}
-use Rattle.std.specs.Prelude.{Bool, List, None, Option, Some, [], false, fold, if◌then◌else◌, is_none, is_some, length, not, option_and_then, option_map, true, unwrap_or, ℕ, ◌&&◌, ◌++◌, ◌+◌, ◌-◌, ◌==◌, ◌||◌, ◌∷◌, ◌≡◌, ◌≢◌, ◌≤◌}
+use Rattle.std.specs.Prelude.{Bool, List, None, Option, Some, [], false, fold, if◌then◌else◌, is_none, is_some, length, not, option_and_then, true, unwrap_or, ℕ, ◌&&◌, ◌++◌, ◌+◌, ◌-◌, ◌==◌, ◌||◌, ◌∷◌, ◌≡◌, ◌≢◌, ◌≤◌}
 use Rattle.window_order.proofs.AccessLists.{SameBut, along_absent, along_but, along_covered, along_lacks, along_there, any_but, front_accesses, front_but, front_covered, front_lacks}
 use Rattle.window_order.proofs.ReadFacts.{IsRead}
 use Rattle.window_order.proofs.Runs.{cut_live, live_uncommitted}

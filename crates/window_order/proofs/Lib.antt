@@ -19,3 +19,4 @@ pub mod AnsweredTables
 pub mod TableCalls
 pub mod PlacedTables
 pub mod CommittedTables
+pub mod TableSteps

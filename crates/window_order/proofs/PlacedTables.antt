@@ -1,24 +1,21 @@
 -- The lineages as a window opens, as a run arrives, and as one is placed at the end of the line.
-use Rattle.command_rules.specs.Rosters.{Run, commands_of, is_on, is_run, run_at, run_no, touches, touches_from}
+use Rattle.command_rules.specs.Rosters.{Run, commands_of, is_on, is_run, run_no, touches, touches_from}
 use Rattle.device_order.specs.LineChanges.{Lacks}
 use Rattle.history_book.proofs.Searches.{some_is}
 use Rattle.history_book.proofs.Shapes.{IsShaped}
 use Rattle.history_book.proofs.Snoc.{put_other, put_same}
 use Rattle.history_book.proofs.Standing.{aborted}
 use Rattle.history_book.specs.Histories.{entry}
-use Rattle.history_book.specs.Lines.{is_ran}
 use Rattle.history_book.specs.Plans.{planned_end, planned_start, planned_times, split_of}
-use Rattle.history_book.specs.Readings.{OfRun, PlacedAt, Reading, did, is_committed, is_committing, nothing_read, put, unread}
+use Rattle.history_book.specs.Readings.{OfRun, PlacedAt, Reading, is_committing, nothing_read, put}
 use Rattle.history_book.specs.Settings.{Setting}
 use Rattle.history_book.specs.WellFormed.{may_follow}
-use Rattle.history_book.specs.declared.entries.End.{End}
 use Rattle.history_book.specs.declared.entries.Entry.TheVariants.{Arrived, Placed}
 use Rattle.home_types.specs.HomeStates.{stand_at}
 use Rattle.home_types.specs.declared.items.Item.TheVariants.{Ran}
 use Rattle.home_types.specs.declared.items.Item.{Item}
 use Rattle.lineage_table.specs.Accesses.{has_access}
 use Rattle.lineage_table.specs.Lineages.{IsOpened, LineageState, lineage_at, runs_on, scheduled}
-use Rattle.lineage_table.specs.declared.accesses.Access.{Access}
 use Rattle.lineage_table.specs.declared.accesses.Status.TheVariants.{Acquired, Released, Scheduled}
 use Rattle.lock_leasing.specs.Order.{committed_value}
 use Rattle.lock_leasing.specs.Tables.{uses, view_when}
@@ -29,10 +26,10 @@ use Rattle.std.proofs.lemmas.List.Sums.{fold-append, sum_by-cons}
 use Rattle.std.proofs.lemmas.List.{append-nil}
 use Rattle.std.specs.List.{list_any}
 use Rattle.std.specs.Option.{option_or}
-use Rattle.std.specs.Prelude.{Bool, List, None, Option, Some, [], count_by, drop, false, fold, if◌then◌else◌, is_none, is_some, length, not, option_map, slice_get, suc, take, true, unwrap_or, zero, ℕ, ◌&&◌, ◌++◌, ◌+◌, ◌-◌, ◌<◌, ◌==◌, ◌||◌, ◌∷◌, ◌≡◌, ◌≢◌, ◌≤◌}
-use Rattle.window_order.proofs.AccessLists.{SameBut, along_but, along_end, along_lacks, front_accesses, front_but, front_whole}
+use Rattle.std.specs.Prelude.{Bool, List, None, Option, Some, [], drop, false, fold, if◌then◌else◌, is_none, is_some, length, not, option_map, slice_get, suc, take, true, unwrap_or, zero, ℕ, ◌&&◌, ◌++◌, ◌+◌, ◌<◌, ◌∷◌, ◌≡◌, ◌≢◌, ◌≤◌}
+use Rattle.window_order.proofs.AccessLists.{SameBut, along_end, along_lacks, front_but, front_whole}
 use Rattle.window_order.proofs.ReadFacts.{IsRead, lacks_count}
-use Rattle.window_order.proofs.TableFrames.{SameLineage, access_by, commits_by, lineage_same, put_says, same_committed, same_unplaced, uses_by, write_by}
+use Rattle.window_order.proofs.TableFrames.{SameLineage, access_by, commits_by, lineage_same, put_says, same_committed, uses_by, write_by}
 use Rattle.window_order.specs.TableChanges.{placed_change, waiting_access}
 use Rattle.window_order.specs.TableKept.{LineageIsKept, TableIsKept, access_read, accesses_read, commits_write, unplaced_among, unplaced_on}
 

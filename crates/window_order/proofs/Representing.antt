@@ -15,9 +15,9 @@ use Rattle.lock_leasing.specs.Words.{has_touched, is_undone}
 use Rattle.std.proofs.Common.{ap, arith, refl, subst, sym, ◌∙◌}
 use Rattle.std.proofs.lemmas.Grind.{common_steps}
 use Rattle.std.specs.List.{list_any}
-use Rattle.std.specs.Prelude.{Bool, List, None, Option, Some, [], drop, false, if◌then◌else◌, is_some, map, not, option_map, slice_get, suc, true, unwrap_or, zero, ℕ, ◌&&◌, ◌==◌, ◌||◌, ◌∷◌, ◌≡◌}
+use Rattle.std.specs.Prelude.{Bool, List, None, Option, Some, [], drop, false, if◌then◌else◌, map, not, option_map, slice_get, suc, true, unwrap_or, zero, ℕ, ◌&&◌, ◌==◌, ◌||◌, ◌∷◌, ◌≡◌}
 use Rattle.window_order.proofs.ReadFacts.{IsRead}
-use Rattle.window_order.proofs.Runs.{four, three}
+use Rattle.window_order.proofs.Runs.{three}
 use Rattle.window_order.specs.OrderKept.{GripsFit}
 use Rattle.window_order.specs.TableKept.{TableIsKept, access_read, accesses_read}
 

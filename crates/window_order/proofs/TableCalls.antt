@@ -1,5 +1,5 @@
 -- What the calls of a lineage table ask for, where a command that was out is answered.
-use Rattle.command_rules.specs.Rosters.{command_at, run_no, touches}
+use Rattle.command_rules.specs.Rosters.{run_no, touches}
 use Rattle.device_order.specs.LineWords.{CutAt}
 use Rattle.history_book.proofs.Shapes.{answered_did}
 use Rattle.history_book.specs.Lines.{is_ran, of_run}
@@ -14,7 +14,6 @@ use Rattle.lineage_table.specs.Accesses.{before, is_acquired, is_scheduled, some
 use Rattle.lineage_table.specs.Lineages.{LineageState}
 use Rattle.lineage_table.specs.declared.accesses.Access.{Access}
 use Rattle.lineage_table.specs.declared.accesses.Status.TheVariants.{Acquired, Released, Scheduled}
-use Rattle.lineage_table.specs.declared.accesses.Status.{Status}
 use Rattle.lock_leasing.specs.Configurations.{Commands, Grips, grips_command, is_command}
 use Rattle.lock_leasing.specs.Order.{is_touched, open_runs_are_last, opens}
 use Rattle.lock_leasing.specs.Tables.{uses}
@@ -24,13 +23,13 @@ use Rattle.std.proofs.lemmas.List.Folds.{list_any-append}
 use Rattle.std.specs.List.{list_any}
 use Rattle.std.specs.Prelude.{Bool, List, None, Option, Some, [], false, if◌then◌else◌, not, option_map, true, unwrap_or, ℕ, ◌&&◌, ◌++◌, ◌==◌, ◌||◌, ◌∷◌, ◌≡◌}
 use Rattle.window_order.proofs.AccessLists.{along_none, front_accesses, front_none}
-use Rattle.window_order.proofs.AnsweredTables.{TouchesNow, accesses_around, acquired_list, acquired_own, none_in_front, written_list, written_own}
+use Rattle.window_order.proofs.AnsweredTables.{TouchesNow, accesses_around, acquired_list, none_in_front}
 use Rattle.window_order.proofs.ReadFacts.{IsRead}
 use Rattle.window_order.proofs.Representing.{NoneIsDoomed, gripped_pends}
 use Rattle.window_order.proofs.Runs.{three}
 use Rattle.window_order.specs.OrderKept.{GripsFit}
 use Rattle.window_order.specs.TableChanges.{acquired_if, written_if}
-use Rattle.window_order.specs.TableKept.{LineageIsKept, access_read, accesses_along, accesses_read, commits_write, status_read}
+use Rattle.window_order.specs.TableKept.{LineageIsKept, access_read, accesses_along, commits_write, status_read}
 
 self : (x : ℕ) → (x == x) ≡ true
 self x = grind (arith, common_steps)

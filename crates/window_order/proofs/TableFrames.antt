@@ -9,12 +9,10 @@ use Rattle.home_types.specs.declared.items.Item.{Item}
 use Rattle.lineage_table.specs.Lineages.{LineageState}
 use Rattle.lineage_table.specs.declared.accesses.Access.{Access}
 use Rattle.lineage_table.specs.declared.accesses.Status.TheVariants.{Acquired, Released, Scheduled}
-use Rattle.lock_leasing.specs.Order.{committed_value}
 use Rattle.lock_leasing.specs.Tables.{uses, view_when}
 use Rattle.lock_leasing.specs.Words.{committed_write}
 use Rattle.home_types.specs.HomeStates.{stand_at}
-use Rattle.std.proofs.Common.{ap, arith, refl, subst, sym, ◌∙◌}
-use Rattle.std.proofs.lemmas.Grind.{common_steps}
+use Rattle.std.proofs.Common.{ap, refl, subst, sym, ◌∙◌}
 use Rattle.std.specs.List.{list_any}
 use Rattle.std.specs.Option.{option_or}
 use Rattle.std.specs.Prelude.{Bool, List, None, Option, [], false, fold, if◌then◌else◌, is_none, is_some, length, not, option_map, suc, unwrap_or, ℕ, ◌&&◌, ◌+◌, ◌∷◌, ◌≡◌, ◌≤◌}
