@@ -1,4 +1,5 @@
 -- The lineages as a run commits.
+use Rattle.commit_compaction.specs.Commits.{committed_lineage}
 use Rattle.command_rules.specs.Rosters.{run_no, touches, touches_from}
 use Rattle.device_order.specs.LineChanges.{Lacks}
 use Rattle.device_order.specs.LineWords.{CutAt}
@@ -6,7 +7,7 @@ use Rattle.history_book.proofs.Shapes.{did_touches, never_passed_by}
 use Rattle.history_book.proofs.Snoc.{put_other, put_same}
 use Rattle.history_book.specs.Histories.{entry}
 use Rattle.history_book.specs.Lines.{of_run}
-use Rattle.history_book.specs.Readings.{OfRun, Reading, is_committed, is_live}
+use Rattle.history_book.specs.Readings.{OfRun, Reading, is_committed, is_live, passed_by}
 use Rattle.history_book.specs.Settings.{Setting}
 use Rattle.history_book.specs.WellFormed.{may_follow}
 use Rattle.history_book.specs.declared.entries.End.TheVariants.{Committed}
@@ -24,6 +25,7 @@ use Rattle.lock_leasing.specs.Tables.{uses}
 use Rattle.lock_leasing.specs.Words.{committed_write}
 use Rattle.std.proofs.Common.{ap, arith, refl, subst, sym, ◌∙◌}
 use Rattle.std.proofs.lemmas.Grind.{common_steps}
+use Rattle.std.proofs.lemmas.List.Folds.{list_any-append}
 use Rattle.std.proofs.lemmas.List.Sums.{fold-append}
 use Rattle.std.specs.List.{list_any}
 use Rattle.std.specs.Option.{option_or}
@@ -32,7 +34,6 @@ use Rattle.window_order.proofs.AccessLists.{SameBut, along_absent, along_but, al
 use Rattle.window_order.proofs.ReadFacts.{IsRead}
 use Rattle.window_order.proofs.Runs.{cut_live, live_uncommitted}
 use Rattle.window_order.proofs.TableFrames.{SameLineage, access_by, commits_by, lineage_same, put_says, same_unplaced, uses_by, write_by}
-use Rattle.window_order.specs.TableChanges.{committed_change, committed_lineage}
 use Rattle.window_order.specs.TableKept.{LineageIsKept, access_read, accesses_along, accesses_read, commits_write, unplaced_on}
 
 -- The last committed write along a list
@@ -82,6 +83,18 @@ none_of r (x ∷ xs) h = grind (arith, common_steps, none_of r xs)
 none_written : (r : ℕ) (xs : List Access) → has_access r xs ≡ false → written_by r xs ≡ None
 none_written r xs h = ap (option_and_then (λ (x : Access). x.wrote)) (none_of r xs h)
 
+-- where the run has no access nothing changes
+unchanged : (r : ℕ) (s : LineageState) → access_of r s.accesses ≡ None → committed_lineage r s ≡ s
+unchanged r s e = grind (arith, common_steps, e)
+
+-- its access is gone, ..
+removes : (r : ℕ) (s : LineageState) (x : Access) → access_of r s.accesses ≡ Some x → x.wrote ≡ None → committed_lineage r s ≡ removed r s
+removes r s x e w = grind (arith, common_steps, e, w)
+
+-- .. or settled, where it wrote
+settles : (r v : ℕ) (s : LineageState) (x : Access) → access_of r s.accesses ≡ Some x → x.wrote ≡ Some v → committed_lineage r s ≡ settled r s
+settles r v s x e w = grind (arith, common_steps, e, w)
+
 -- what a commit makes of it
 record Commits (r : ℕ) (s t : LineageState) : Type 0 where
   accesses : t.accesses ≡ (if is_some (written_by r s.accesses) then behind r s.accesses else without r s.accesses)
@@ -90,24 +103,44 @@ record Commits (r : ℕ) (s t : LineageState) : Type 0 where
   up : t.up ≡ s.up
 
 commits : (r : ℕ) (s : LineageState) → Commits r s (committed_lineage r s)
-commits r s = at_ (written_by r s.accesses) refl
+commits r s = at_ (access_of r s.accesses) refl
   where
     more : (a b : ℕ) → a ≤ a + b
     more a b = omega arith
 
-    at_ : (o : Option ℕ) → written_by r s.accesses ≡ o → Commits r s (committed_lineage r s)
-    at_ None e = subst (Commits r s) (λ i. if is_some (sym e i) then settled r s else removed r s) (record {
-      accesses = (λ i. if is_some (sym e i) then behind r s.accesses else without r s.accesses);
-      committed = (λ i. unwrap_or (sym e i) s.committed);
+    absent : (xs : List Access) → access_of r xs ≡ None → has_access r xs ≡ false
+    absent [] h = refl
+    absent (x ∷ xs) h = grind (arith, common_steps, absent xs)
+
+    -- the value that its access has
+    value : (x : Access) (o : Option ℕ) → access_of r s.accesses ≡ Some x → x.wrote ≡ o → written_by r s.accesses ≡ o
+    value x o e w = ap (option_and_then (λ (y : Access). y.wrote)) e ∙ w
+
+    by_value : (x : Access) → access_of r s.accesses ≡ Some x → (o : Option ℕ) → x.wrote ≡ o → Commits r s (committed_lineage r s)
+    by_value x e None w = subst (Commits r s) (sym (removes r s x e w)) (record {
+      accesses = (λ i. if is_some (sym (value x None e w) i) then behind r s.accesses else without r s.accesses);
+      committed = (λ i. unwrap_or (sym (value x None e w) i) s.committed);
       room = more s.room (length s.accesses - length (without r s.accesses));
       up = refl;
     })
-    at_ (Some v) e = subst (Commits r s) (λ i. if is_some (sym e i) then settled r s else removed r s) (record {
-      accesses = (λ i. if is_some (sym e i) then behind r s.accesses else without r s.accesses);
+    by_value x e (Some v) w = subst (Commits r s) (sym (settles r v s x e w)) (record {
+      accesses = (λ i. if is_some (sym (value x (Some v) e w) i) then behind r s.accesses else without r s.accesses);
       committed = refl;
       room = more s.room (length s.accesses - length (behind r s.accesses));
       up = refl;
     })
+
+    at_ : (o : Option Access) → access_of r s.accesses ≡ o → Commits r s (committed_lineage r s)
+    at_ None e = subst (Commits r s) (sym (unchanged r s e)) (record {
+      accesses = sym ((λ i. if is_some (option_and_then (λ (y : Access). y.wrote) (e i)) then behind r s.accesses else without r s.accesses) ∙ without_none r s.accesses (absent s.accesses e));
+      committed = (λ i. unwrap_or (option_and_then (λ (y : Access). y.wrote) (sym e i)) s.committed);
+      room = at_most_itself s.room;
+      up = refl;
+    })
+      where
+        at_most_itself : (a : ℕ) → a ≤ a
+        at_most_itself a = omega arith
+    at_ (Some x) e = by_value x e x.wrote refl
 
 -- A run commits
 
@@ -299,13 +332,27 @@ committed_there w n r d read live on s kept = record {
         ∙ sym (value_after ∙ ap (λ o. unwrap_or o first) (write_absent n d cut.back e (option_or wrote (last_write n d None cut.front))))
 
 -- each lineage is kept
-pub committed_kept : (w : Setting) (n : Reading) (r : ℕ) → IsRead w n → may_follow w n (Ended (run_no r) Committed) ≡ true → (d : ℕ) (s : LineageState) → LineageIsKept w n d s
-    → LineageIsKept w (entry w n (Ended (run_no r) Committed)) d (committed_change w r d s)
+pub committed_kept : (w : Setting) (n : Reading) (r : ℕ) → IsRead w n → may_follow w n (Ended (run_no r) Committed) ≡ true → (d : ℕ) (s : LineageState) → LineageIsKept w n d s → LineageIsKept w (entry w n (Ended (run_no r) Committed)) d (committed_lineage r s)
 committed_kept w n r read may d s kept = at_ (touches w.runs r d) refl
   where
     live : is_live n r ≡ true
     live = grind (arith, common_steps)
 
-    at_ : (b : Bool) → touches w.runs r d ≡ b → LineageIsKept w (entry w n (Ended (run_no r) Committed)) d (committed_change w r d s)
-    at_ true e = subst (LineageIsKept w (entry w n (Ended (run_no r) Committed)) d) (λ i. if sym e i then committed_lineage r s else s) (committed_there w n r d read live e s kept)
-    at_ false e = subst (LineageIsKept w (entry w n (Ended (run_no r) Committed)) d) (λ i. if sym e i then committed_lineage r s else s) (lineage_same w n (entry w n (Ended (run_no r) Committed)) d s (committed_elsewhere w n r d read live e) kept)
+    off_it : (a b c : Bool) → b ≡ false → (a && b && not c) ≡ false
+    off_it a b c h = grind (arith, common_steps)
+
+    -- on a device that it does not touch it has no access
+    no_access : touches w.runs r d ≡ false → access_of r s.accesses ≡ None
+    no_access e =
+        let cut : CutAt r n.line = cut_live w n r read live in
+        ap (access_of r) (kept.accesses ∙ ap (accesses_read w n d) cut.at
+        ∙ along_absent (uses w n d) (commits_write n d) (access_read w n d) r cut.front cut.back (off_it (is_live n r) (touches w.runs r d) (passed_by w n r d) e))
+        ∙ none_of r _ (apart (front_accesses (uses w n d) (commits_write n d) (access_read w n d) _ cut.front) (accesses_along (uses w n d) (commits_write n d) (access_read w n d) cut.back)
+        (front_lacks (uses w n d) (commits_write n d) (access_read w n d) _ r cut.front (λ x. refl) cut.before) (along_lacks (uses w n d) (commits_write n d) (access_read w n d) r cut.back (λ x. refl) cut.behind))
+      where
+        apart : (a b : List Access) → has_access r a ≡ false → has_access r b ≡ false → has_access r (a ++ b) ≡ false
+        apart a b h k = list_any-append (is_of r) a b ∙ (λ i. h i || k i)
+
+    at_ : (b : Bool) → touches w.runs r d ≡ b → LineageIsKept w (entry w n (Ended (run_no r) Committed)) d (committed_lineage r s)
+    at_ true e = committed_there w n r d read live e s kept
+    at_ false e = subst (LineageIsKept w (entry w n (Ended (run_no r) Committed)) d) (sym (unchanged r s (no_access e))) (lineage_same w n (entry w n (Ended (run_no r) Committed)) d s (committed_elsewhere w n r d read live e) kept)

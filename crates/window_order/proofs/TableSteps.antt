@@ -1,4 +1,5 @@
 -- Each step keeps the lineage table of a window, while no run is doomed.
+use Rattle.commit_compaction.specs.Commits.{committed_lineage}
 use Rattle.command_rules.specs.Rosters.{run_no}
 use Rattle.device_order.specs.LineWords.{CutAt}
 use Rattle.history_book.specs.Histories.{entry}
@@ -24,7 +25,7 @@ use Rattle.window_order.proofs.Steps.{IsOut, out_is}
 use Rattle.window_order.proofs.Runs.{cut_live}
 use Rattle.window_order.proofs.TableCalls.{touches_now}
 use Rattle.window_order.specs.OrderKept.{OrderIsKept}
-use Rattle.window_order.specs.TableChanges.{ChangesEach, answered_change, committed_change, placed_change}
+use Rattle.window_order.specs.TableChanges.{ChangesEach, answered_change, placed_change}
 use Rattle.window_order.specs.TableKept.{LineageIsKept, TableIsKept}
 
 -- a table whose lineages change so is kept where each change keeps its lineage
@@ -41,9 +42,9 @@ pub placed_table : (w : Setting) (n : Reading) (r m : ℕ) (old new : List Linea
 placed_table w n r m old new read may changes kept = changed_table w n (entry w n (Placed (run_no r) (length n.line) m)) (placed_change w n r m) old new (placed_kept w n r m read may) changes kept
 
 -- a run commits
-pub committed_table : (w : Setting) (n : Reading) (r : ℕ) (old new : List LineageState) → IsRead w n → may_follow w n (Ended (run_no r) Committed) ≡ true → ChangesEach (committed_change w r) old new → TableIsKept w n old
+pub committed_table : (w : Setting) (n : Reading) (r : ℕ) (old new : List LineageState) → IsRead w n → may_follow w n (Ended (run_no r) Committed) ≡ true → ChangesEach (λ d. committed_lineage r) old new → TableIsKept w n old
     → TableIsKept w (entry w n (Ended (run_no r) Committed)) new
-committed_table w n r old new read may changes kept = changed_table w n (entry w n (Ended (run_no r) Committed)) (committed_change w r) old new (committed_kept w n r read may) changes kept
+committed_table w n r old new read may changes kept = changed_table w n (entry w n (Ended (run_no r) Committed)) (λ d. committed_lineage r) old new (committed_kept w n r read may) changes kept
 
 -- while a command is out on the device, it is its run's turn there
 pub out_touches : (w : Setting) (n : Reading) (g : Grips) (held : ℕ → ℕ) (d r k : ℕ) (cut : CutAt r n.line) → IsRead w n → OrderIsKept w n g held → NoneIsDoomed n → g d ≡ Some (record { maker = r; purpose = Commands k }) → TouchesNow w n d r cut

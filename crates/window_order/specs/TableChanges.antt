@@ -8,12 +8,11 @@ use Rattle.home_types.specs.Kinds.{kind_at}
 use Rattle.home_types.specs.declared.commands.Answer.{Answer}
 use Rattle.home_types.specs.declared.commands.Command.{Command}
 use Rattle.home_types.specs.declared.commands.View.{View}
-use Rattle.lineage_table.specs.Accesses.{written_by}
-use Rattle.lineage_table.specs.Lineages.{LineageState, acquired, lineage_at, released, removed, scheduled, settled, written}
+use Rattle.lineage_table.specs.Lineages.{LineageState, acquired, lineage_at, released, scheduled, written}
 use Rattle.lineage_table.specs.declared.accesses.Access.{Access}
 use Rattle.lineage_table.specs.declared.accesses.Status.TheVariants.{Scheduled}
 use Rattle.lock_leasing.specs.Tables.{view_when}
-use Rattle.std.specs.Prelude.{Bool, List, None, Option, Some, if◌then◌else◌, is_some, length, not, ℕ, ◌+◌, ◌<◌, ◌==◌, ◌≡◌}
+use Rattle.std.specs.Prelude.{Bool, List, None, Option, Some, if◌then◌else◌, length, not, ℕ, ◌+◌, ◌<◌, ◌==◌, ◌≡◌}
 
 -- the table has the same devices, and each has its lineage changed so
 pub record ChangesEach (change : ℕ → LineageState → LineageState) (old new : List LineageState) : Type 0 where
@@ -55,12 +54,3 @@ answered_lineage w n r k a s =
 
 abbrev pub answered_change : Setting → Reading → ℕ → ℕ → Answer → ℕ → LineageState → LineageState
 answered_change w n r k a d s = if d == (command_at w.runs r k).device.0 then answered_lineage w n r k a s else s
-
--- A run commits
-
--- the value that it wrote is committed, else its access is gone
-abbrev pub committed_lineage : ℕ → LineageState → LineageState
-committed_lineage r s = if is_some (written_by r s.accesses) then settled r s else removed r s
-
-abbrev pub committed_change : Setting → ℕ → ℕ → LineageState → LineageState
-committed_change w r d s = if touches w.runs r d then committed_lineage r s else s
