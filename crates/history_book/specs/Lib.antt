@@ -5,3 +5,4 @@ pub mod Plans
 pub mod Histories
 pub mod WellFormed
 pub mod Books
+pub mod BookParts

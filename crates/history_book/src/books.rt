@@ -5,20 +5,29 @@ use crate::entries::{Cause, End, Entry, Kept};
 use home_types::{List, NoMemory, RunNo};
 use std::alloc::Global;
 use std::marker::Model;
+use std::mem;
 
 /// The history of a window. Contracts see its entries, and beside them how many more it takes with no memory.
 #[derive(Drop)]
 pub struct Book {
     kept: List<Kept>,
+    // the entries that end a run once more, and those that doom one, so that a question about them reads no others;
+    // each list has room for as many as `kept` takes
+    ends: List<Kept>,
+    dooms: List<Kept>,
+    alloc: Global,
 }
 
 impl Model for Book {
     ghost use Rattle.home_types.specs.Listed.{Listed};
     ghost use Rattle.history_book.specs.declared.entries.Kept.{Kept};
+    ghost use Rattle.history_book.specs.BookParts.{IsSorted};
 
     ghost Value = { Listed Kept };
 
     ghost view = { λ b. b.kept };
+
+    ghost invariant = { IsSorted };
 }
 
 impl Book {
@@ -26,8 +35,21 @@ impl Book {
     pub fn new(alloc: Global) -> Book
         ensures { result.items ≡ [] }
     {
+        let mut kept = List::new(alloc);
+        let mut ends = List::new(alloc);
+        let mut dooms = List::new(alloc);
+        // a new list does not promise that it has no room, and `kept` is the one with the least
+        if ends.spare() < kept.spare() {
+            mem::swap(&mut kept, &mut ends);
+        }
+        if dooms.spare() < kept.spare() {
+            mem::swap(&mut kept, &mut dooms);
+        }
         Book {
-            kept: List::new(alloc),
+            kept,
+            ends,
+            dooms,
+            alloc,
         }
     }
 
@@ -37,7 +59,17 @@ impl Book {
         ensures room { OnOk result (n ≤ self.new.spare) }
         ensures refused { OnErr result (self.new ≡ self.old) }
     {
-        self.kept.reserve(n)
+        if n <= self.kept.spare() {
+            return Ok(());
+        }
+        // a copy, so that the book is as it was where the other lists find no room
+        let mut kept = List::of(self.alloc, self.kept.as_slice())?;
+        kept.reserve(n)?;
+        let room = kept.spare();
+        self.ends.reserve(room)?;
+        self.dooms.reserve(room)?;
+        self.kept = kept;
+        Ok(())
     }
 
     /// Appends an entry. Takes no memory.
@@ -46,6 +78,12 @@ impl Book {
         ensures items { self.new.items ≡ self.old.items ++ kept ∷ [] }
         ensures spare { self.new.spare + 1 ≡ self.old.spare }
     {
+        let sorted = match kept.entry {
+            Entry::Ended(..) => self.ends.push(kept),
+            Entry::Doomed(..) => self.dooms.push(kept),
+            _ => Ok(()),
+        };
+        sorted.unwrap();
         let pushed = self.kept.push(kept);
         pushed.unwrap();
     }
@@ -75,7 +113,7 @@ impl Book {
     pub fn into_list(self) -> List<Kept>
         ensures { result ≡ self }
     {
-        let Book { kept } = self;
+        let Book { kept, .. } = self;
         kept
     }
 
@@ -83,14 +121,14 @@ impl Book {
     pub fn end_of(&self, r: RunNo) -> Option<End>
         ensures { result ≡ end_of self.now.items r.0 }
     {
-        first_end(self.kept.as_slice(), r)
+        first_end(self.ends.as_slice(), r)
     }
 
     /// The cause of the first `Doomed` entry of the run `r`. `None` where it has none.
     pub fn doom_of(&self, r: RunNo) -> Option<Cause>
         ensures { result ≡ doom_of self.now.items r.0 }
     {
-        first_doom(self.kept.as_slice(), r)
+        first_doom(self.dooms.as_slice(), r)
     }
 }
 
