@@ -28,3 +28,5 @@ pub mod HubOuts
 pub mod HubReturns
 pub mod HubRefusals
 pub mod TestWindows
+pub mod PlannedInTurn
+pub mod NotedAnswers

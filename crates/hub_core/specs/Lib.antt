@@ -19,3 +19,5 @@ pub mod HubsKept
 pub mod Decisions
 pub mod OpeningRooms
 pub mod ClosedHomes
+pub mod PlansInTurn
+pub mod KeptOrders

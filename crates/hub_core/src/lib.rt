@@ -5,6 +5,8 @@ mod changes;
 mod close_calls;
 mod decisions;
 mod give_calls;
+mod kept_orders;
+mod plans;
 pub mod homes;
 pub mod hubs;
 pub mod known;

@@ -1,0 +1,45 @@
+-- The planned times of a run whose commands follow one another, one command after the other.
+use Rattle.command_rules.specs.Rosters.{commands_of}
+use Rattle.history_book.specs.Plans.{Planning, greatest, plan_more, planned_end, planned_start, planned_times}
+use Rattle.history_book.specs.Readings.{Planned, Reading}
+use Rattle.history_book.specs.Settings.{Setting}
+use Rattle.home_types.specs.declared.commands.Command.{Command}
+use Rattle.home_types.specs.declared.items.Item.{Item}
+use Rattle.home_types.specs.declared.modes.Scheduler.TheVariants.{Fcfs, JustInTime, Timeline}
+use Rattle.home_types.specs.declared.modes.Scheduler.{Scheduler}
+use Rattle.home_types.specs.declared.modes.Visibility.TheVariants.{Eventual, Global, Partitioned, Weak}
+use Rattle.home_types.specs.declared.modes.Visibility.{Visibility}
+use Rattle.hub_core.specs.PlansInTurn.{planned_in_turn}
+use Rattle.std.proofs.Common.{ap, append-nil, append_assoc, arith, refl, sym, ◌∙◌}
+use Rattle.std.proofs.lemmas.Grind.{common_steps}
+use Rattle.std.proofs.lemmas.List.{drop_more}
+use Rattle.std.specs.Prelude.{Bool, List, [], drop, false, find, fold, get_or, if◌then◌else◌, length, max, min, option_map, true, unwrap_or, ℕ, ◌++◌, ◌+◌, ◌<◌, ◌==◌, ◌∷◌, ◌≡◌}
+
+-- the planned end on the device behind these, where it is this one before them
+abbrev pub end_from : ℕ → ℕ → List Planned → ℕ
+end_from d end planned = fold (λ t p. if p.device == d then p.to else t) end planned
+
+-- In the planned times of a run
+
+-- planning one command after the other from a clock adds what they have in turn
+planned_from : (clock : ℕ) (planned : List Planned) (cs : List Command) → (fold (plan_more (λ d. 0)) (record { clock = clock; planned = planned }) cs).planned ≡ planned ++ planned_in_turn clock cs
+planned_from clock planned [] = sym (append-nil planned)
+planned_from clock planned (c ∷ cs) =
+    (λ i. (fold (plan_more (λ d. 0)) (record { clock = min (no_wait clock i + c.ms) greatest; planned = planned ++ record { device = c.device.0; from = no_wait clock i; to = min (no_wait clock i + c.ms) greatest } ∷ [] }) cs).planned)
+    ∙ planned_from (min (clock + c.ms) greatest) (planned ++ record { device = c.device.0; from = clock; to = min (clock + c.ms) greatest } ∷ []) cs
+    ∙ append_assoc planned (record { device = c.device.0; from = clock; to = min (clock + c.ms) greatest } ∷ []) (planned_in_turn (min (clock + c.ms) greatest) cs)
+  where
+    no_wait : (k : ℕ) → max k 0 ≡ k
+    no_wait k = grind (arith, common_steps)
+
+-- first come first served a run waits for no device
+pub planned_first_come : (w : Setting) (n : Reading) (r : ℕ) (front : List Item) (m : ℕ) → w.mode.scheduler ≡ Fcfs → planned_times w n r front m ≡ planned_in_turn m (commands_of w.runs r)
+planned_first_come w n r front m first_come = by_mode w.mode.model w.mode.scheduler first_come
+  where
+    by_mode : (model : Visibility) (scheduler : Scheduler) → scheduler ≡ Fcfs → planned_times (record w { mode = record { model = model; scheduler = scheduler } }) n r front m ≡ planned_in_turn m (commands_of w.runs r)
+    by_mode Weak s e = planned_from m [] (commands_of w.runs r)
+    by_mode Global s e = planned_from m [] (commands_of w.runs r)
+    by_mode Partitioned s e = planned_from m [] (commands_of w.runs r)
+    by_mode Eventual Fcfs e = planned_from m [] (commands_of w.runs r)
+    by_mode Eventual JustInTime e = absurd (cc)
+    by_mode Eventual Timeline e = absurd (cc)

@@ -1,0 +1,180 @@
+//! The serialization line of a window and its lineage table.
+ghost use Rattle.std.specs.Prelude.{◌≡◌, ◌+◌, ◌<◌, ◌≤◌, ◌^◌, [], IfOk, IsTrue, Some, false, length, map, true, ℕ};
+ghost use Rattle.commit_compaction.specs.Commits.{committed_lineage};
+ghost use Rattle.command_rules.specs.Rosters.{commands_of, is_run, runs_of, touches};
+ghost use Rattle.home_types.specs.declared.items.Item.TheVariants.{Ran};
+ghost use Rattle.hub_core.specs.KeptOrders.{MayNote, is_first};
+ghost use Rattle.hub_core.specs.PlansInTurn.{planned_in_turn};
+ghost use Rattle.lineage_table.specs.Accesses.{status_of};
+ghost use Rattle.lineage_table.specs.Lineages.{IsOpened, accesses_at, lineage_at, with_lineage};
+ghost use Rattle.serial_line.specs.Marks.{items_of, stands, touching, with_item};
+ghost use Rattle.window_order.proofs.PlacedTables.{IsNewOn};
+ghost use Rattle.window_order.specs.TableChanges.{ChangesEach, acquired_if, noted, scheduled_on, written_if};
+
+use crate::plans::{end_on, start_on};
+use command_rules::Roster;
+use commit_compaction::commit;
+use home_types::{DeviceNo, Item, NoMemory, RunNo, Value, View, World};
+use lineage_table::{Access, Status, Table};
+use serial_line::Line;
+use std::alloc::Global;
+
+/// The line of a window, in which each run has touched the devices whose grip it had for a command, and the lineage
+/// table.
+#[derive(Drop)]
+pub(crate) struct KeptOrder {
+    pub(crate) line: Line,
+    pub(crate) table: Table,
+}
+
+/// What an answer of a run tells of its device.
+#[derive(Clone, Copy, Debug, PartialEq, Eq)]
+pub(crate) struct Noted {
+    /// How the run sees the device, if this is its first answer there.
+    pub(crate) view: View,
+    /// The value that it wrote.
+    pub(crate) wrote: Option<Value>,
+    /// No command of the run on the device is left.
+    pub(crate) is_last: bool,
+}
+
+impl KeptOrder {
+    /// Opens the line and the table of a window of these runs, with room for so many items of the line.
+    ///
+    /// Answers `NoMemory` where there is none to be had.
+    pub(crate) fn open(
+        alloc: Global,
+        world: &World,
+        roster: &Roster,
+        items: u64,
+    ) -> Result<KeptOrder, NoMemory>
+        requires devices { length world.now.devices.items ≤ 2 ^ 16 }
+        requires items { items < 2 ^ 32 }
+        ensures marks { IfOk result (λ order. order.line.marks ≡ []) }
+        ensures room { IfOk result (λ order. items ≤ order.line.spare) }
+        ensures table { IfOk result (λ order. IsOpened (runs_of roster.now) world.now.devices.items order.table) }
+    {
+        let mut line = Line::new(alloc);
+        line.reserve(items)?;
+        let table = Table::open(alloc, world, roster)?;
+        Ok(KeptOrder { line, table })
+    }
+
+    /// The run stands at the end of the line, and has an access on each of its devices, with the times for which it is
+    /// planned at this moment. Takes no memory.
+    pub(crate) fn place(&mut self, roster: &Roster, r: RunNo, moment: u64)
+        requires run { IsTrue (is_run (runs_of roster.now) r.0) }
+        requires room { 0 < self.old.line.spare }
+        requires absent { stands (Ran r) self.old.line.marks ≡ false }
+        requires new { (d : ℕ) → d < length self.old.table → touches (runs_of roster.now) r.0 d ≡ true → IsNewOn r.0 (lineage_at self.old.table d) }
+        ensures marks { self.new.line.marks ≡ with_item (length self.old.line.marks) (Ran r) self.old.line.marks }
+        ensures spare { self.new.line.spare + 1 ≡ self.old.line.spare }
+        ensures table { ChangesEach (scheduled_on (runs_of roster.now) r.0 (planned_in_turn moment (commands_of (runs_of roster.now) r.0))) self.old.table self.new.table }
+    {
+        self.line.insert(self.line.len(), Item::Ran(r));
+        schedule(&mut self.table, roster, r, moment);
+    }
+
+    /// A command of the run goes out on the device.
+    pub(crate) fn touch(&mut self, r: RunNo, d: DeviceNo)
+        requires run { stands (Ran r) self.old.line.marks ≡ true }
+        requires device { d.0 < 256 }
+        ensures marks { self.new.line.marks ≡ touching r.0 d.0 self.old.line.marks }
+        ensures spare { self.new.line.spare ≡ self.old.line.spare }
+        ensures table { self.new.table ≡ self.old.table }
+    {
+        self.line.mark(r, d);
+    }
+
+    /// The run notes an answer on the device.
+    pub(crate) fn note(&mut self, d: DeviceNo, r: RunNo, told: Noted)
+        requires device { d.0 < length self.old.table }
+        requires turn { MayNote r.0 (lineage_at self.old.table d.0) }
+        ensures line { self.new.line ≡ self.old.line }
+        ensures table { self.new.table ≡ with_lineage self.old.table d.0 (noted r.0 (is_first r.0 (lineage_at self.old.table d.0)) told.view told.wrote told.is_last) }
+    {
+        self.acquire_first(d, r, told.view);
+        self.note_write(d, r, told.wrote);
+        if told.is_last {
+            self.table.release(d, r);
+        }
+    }
+
+    /// The run touches the device, and sees it so, where it has not touched it before.
+    fn acquire_first(&mut self, d: DeviceNo, r: RunNo, view: View)
+        requires device { d.0 < length self.old.table }
+        requires turn { MayNote r.0 (lineage_at self.old.table d.0) }
+        ensures line { self.new.line ≡ self.old.line }
+        ensures table { self.new.table ≡ with_lineage self.old.table d.0 (acquired_if (is_first r.0 (lineage_at self.old.table d.0)) r.0 view) }
+        ensures acquired { status_of r.0 (accesses_at self.new.table d.0) ≡ Some Status.Acquired }
+    {
+        if self.is_first(d, r) {
+            self.table.acquire(d, r, view);
+        }
+    }
+
+    /// The run, whose access is acquired, wrote the value, where there is one.
+    fn note_write(&mut self, d: DeviceNo, r: RunNo, wrote: Option<Value>)
+        requires device { d.0 < length self.old.table }
+        requires acquired { status_of r.0 (accesses_at self.old.table d.0) ≡ Some Status.Acquired }
+        ensures line { self.new.line ≡ self.old.line }
+        ensures table { self.new.table ≡ with_lineage self.old.table d.0 (written_if wrote r.0) }
+        ensures acquired { status_of r.0 (accesses_at self.new.table d.0) ≡ Some Status.Acquired }
+    {
+        if let Some(v) = wrote {
+            self.table.note_write(d, r, v);
+        }
+    }
+
+    /// Whether the run has not touched the device, on which it has an access.
+    fn is_first(&self, d: DeviceNo, r: RunNo) -> bool
+        requires { d.0 < length self.now.table }
+        ensures { result ≡ is_first r.0 (lineage_at self.now.table d.0) }
+    {
+        match self.table.access(d, r) {
+            Some(access) => access.status == Status::Scheduled,
+            None => false,
+        }
+    }
+
+    /// The run commits. It stays in the line.
+    pub(crate) fn commit(&mut self, r: RunNo)
+        ensures line { self.new.line ≡ self.old.line }
+        ensures table { ChangesEach (λ d. committed_lineage r.0) self.old.table self.new.table }
+    {
+        commit(&mut self.table, r);
+    }
+}
+
+/// The run, which is placed at this moment, has an access on each of its devices.
+fn schedule(table: &mut Table, roster: &Roster, r: RunNo, moment: u64)
+    requires run { IsTrue (is_run (runs_of roster.now) r.0) }
+    requires new { (d : ℕ) → d < length table.old → touches (runs_of roster.now) r.0 d ≡ true → IsNewOn r.0 (lineage_at table.old d) }
+    ensures { ChangesEach (scheduled_on (runs_of roster.now) r.0 (planned_in_turn moment (commands_of (runs_of roster.now) r.0))) table.old table.new }
+{
+    'devices: for d in 0..table.devices() {
+        schedule_on(table, roster, r, moment, DeviceNo(d as u16));
+    }
+}
+
+/// The run, which is placed at this moment, has an access on the device where it is one of its own.
+fn schedule_on(table: &mut Table, roster: &Roster, r: RunNo, moment: u64, d: DeviceNo)
+    requires run { IsTrue (is_run (runs_of roster.now) r.0) }
+    requires device { d.0 < length table.old }
+    requires new { touches (runs_of roster.now) r.0 d.0 ≡ true → IsNewOn r.0 (lineage_at table.old d.0) }
+    ensures { table.new ≡ with_lineage table.old d.0 (scheduled_on (runs_of roster.now) r.0 (planned_in_turn moment (commands_of (runs_of roster.now) r.0)) d.0) }
+{
+    if !roster.touches(r, d) {
+        return;
+    }
+    let commands = roster.commands(r);
+    let access = Access {
+        run: r,
+        status: Status::Scheduled,
+        view: None,
+        wrote: None,
+        from: start_on(commands, d, moment),
+        to: end_on(commands, d, moment),
+    };
+    table.schedule(d, None, access);
+}
