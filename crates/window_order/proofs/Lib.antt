@@ -20,3 +20,4 @@ pub mod TableCalls
 pub mod PlacedTables
 pub mod CommittedTables
 pub mod TableSteps
+pub mod Disciplined

@@ -36,11 +36,11 @@ self x = grind (arith, common_steps)
 
 -- The order of the runs around a command that is out
 
-record Parts (a b : Bool) : Type 0 where
-  first : a ≡ true
-  second : b ≡ true
+pub record Parts (a b : Bool) : Type 0 where
+  pub first : a ≡ true
+  pub second : b ≡ true
 
-parts : (a b : Bool) → (a && b) ≡ true → Parts a b
+pub parts : (a b : Bool) → (a && b) ≡ true → Parts a b
 parts a b h = record { first = grind (arith, common_steps); second = grind (arith, common_steps) }
 
 -- no run before one that has touched the device is open there
@@ -159,7 +159,7 @@ pub record IsFirst (r : ℕ) (s : LineageState) : Type 0 where
   pub none_acquired : some_acquired s.accesses ≡ false
   pub none_before : some_scheduled (before r s.accesses) ≡ false
 
-used_parts : (w : Setting) (n : Reading) (d x : ℕ) → uses w n d x ≡ true → Parts (is_live n x) (touches w.runs x d)
+pub used_parts : (w : Setting) (n : Reading) (d x : ℕ) → uses w n d x ≡ true → Parts (is_live n x) (touches w.runs x d)
 used_parts w n d x h = at_ (is_live n x) (touches w.runs x d) (touches w.runs x d && not (pends w n x d) && not (did n x d)) h
   where
     at_ : (a b c : Bool) → (a && b && not c) ≡ true → Parts a b
