@@ -200,7 +200,7 @@ none_in_front w n d r cut = front_lacks (uses w n d) (commits_write n d) (access
 -- The answer
 
 -- the record of a run whose command of this number has the answer
-abbrev answered_run : Setting → Reading → ℕ → ℕ → Answer → OfRun
+abbrev pub answered_run : Setting → Reading → ℕ → ℕ → Answer → OfRun
 answered_run w n r k a = record (n.run r) {
   answers = (n.run r).answers ++ a ∷ [];
   register = register_after (command_at w.runs r k).job a (n.run r).register;

@@ -4,7 +4,7 @@ use Rattle.device_order.specs.LineChanges.{Lacks}
 use Rattle.device_order.specs.LineWords.{RunsAreDistinct}
 use Rattle.history_book.proofs.Shapes.{answered_did}
 use Rattle.history_book.specs.Lines.{is_ran, of_run}
-use Rattle.history_book.specs.Readings.{Reading, did, is_doomed, is_live, is_open, pends}
+use Rattle.history_book.specs.Readings.{Reading, did, is_live, is_open, pends}
 use Rattle.history_book.specs.Settings.{Setting}
 use Rattle.home_types.specs.declared.items.Item.TheVariants.{Back, Failed, Ran}
 use Rattle.home_types.specs.declared.items.Item.{Item}

@@ -21,3 +21,4 @@ pub mod PlacedTables
 pub mod CommittedTables
 pub mod TableSteps
 pub mod Disciplined
+pub mod TouchedLines

@@ -105,7 +105,7 @@ arrives_kept w n g held r m read may kept = record {
 
 -- A run is placed
 
-unplaced_holds : (w : Setting) (n : Reading) (g : Grips) (r : ℕ) → is_run w.runs r ≡ true → is_live n r ≡ false → GripsFit w n g → HoldsNone g r
+pub unplaced_holds : (w : Setting) (n : Reading) (g : Grips) (r : ℕ) → is_run w.runs r ≡ true → is_live n r ≡ false → GripsFit w n g → HoldsNone g r
 unplaced_holds w n g r run dead f d (Commands k) at = clash (is_live n r) dead (three (is_live n r) (is_next_on w n r d) (k == next_of n r) (f.runs.commands d r k at)).0
   where
     clash : (b : Bool) → b ≡ false → b ≡ true → ⊥

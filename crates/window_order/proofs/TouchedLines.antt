@@ -1,0 +1,244 @@
+-- The items of a line with what each has touched, step by step.
+use Rattle.command_rules.specs.Rosters.{command_at, is_run, run_no}
+use Rattle.history_book.proofs.Snoc.{put_keeps, put_other, put_same}
+use Rattle.history_book.proofs.Standing.{aborted, is_abort}
+use Rattle.history_book.specs.Histories.{answered, entry}
+use Rattle.history_book.specs.Lines.{is_ran}
+use Rattle.history_book.specs.Plans.{planned_times, split_of}
+use Rattle.history_book.specs.Readings.{OfRun, OnDevice, PlacedAt, Reading, did, is_live, nothing_read, put, view_by}
+use Rattle.history_book.specs.Settings.{Setting}
+use Rattle.history_book.specs.WellFormed.{may_follow}
+use Rattle.history_book.specs.declared.entries.End.{End}
+use Rattle.history_book.specs.declared.entries.End.TheVariants.{Committed}
+use Rattle.history_book.specs.declared.entries.Entry.TheVariants.{Arrived, Did, Ended, Placed}
+use Rattle.home_types.specs.declared.commands.Answer.{Answer}
+use Rattle.home_types.specs.declared.commands.Answer.TheVariants.{Down, Fine, Found}
+use Rattle.home_types.specs.Kinds.{kind_at}
+use Rattle.home_types.specs.declared.commands.Command.{Command}
+use Rattle.home_types.specs.declared.items.Item.TheVariants.{Back, Failed, Ran}
+use Rattle.home_types.specs.declared.items.Item.{Item}
+use Rattle.lock_leasing.specs.Configurations.{Commands, Grip, Grips, grips_command, is_command, no_grips}
+use Rattle.lock_leasing.specs.Standings.{item_has_touched}
+use Rattle.lock_leasing.specs.Words.{has_touched}
+use Rattle.serial_line.proofs.Ties.{line_empty, line_inserted, line_retold, line_touching, run_comes}
+use Rattle.serial_line.specs.Marks.{Mark, stands, touching, with_item}
+use Rattle.serial_line.specs.Ties.{IsLineOf}
+use Rattle.std.proofs.Common.{ap, ap₂, arith, refl, subst, sym, ◌∙◌}
+use Rattle.std.proofs.lemmas.Grind.{common_steps}
+use Rattle.std.proofs.lemmas.List.{length-map}
+use Rattle.std.specs.List.{list_any}
+use Rattle.std.specs.Option.{option_or}
+use Rattle.std.specs.Prelude.{Bool, List, None, Option, Some, [], drop, false, if◌then◌else◌, is_none, is_some, length, not, option_map, take, true, unwrap_or, ℕ, ◌&&◌, ◌++◌, ◌==◌, ◌||◌, ◌∷◌, ◌≡◌, ◌≢◌}
+use Rattle.window_order.proofs.AnsweredTables.{answered_run}
+use Rattle.window_order.proofs.Grips.{HoldsNone}
+use Rattle.window_order.proofs.ReadFacts.{IsRead}
+use Rattle.window_order.proofs.Steps.{IsOut, unplaced_holds}
+use Rattle.window_order.specs.OrderKept.{GripsFit}
+
+-- the marks are those of the line, each with what its item has touched
+abbrev pub MarksAreKept : Reading → Grips → List Mark → Type 0
+MarksAreKept n g marks = IsLineOf n.line (item_has_touched n g) marks
+
+pub marks_begin : (w : Setting) → MarksAreKept (nothing_read w) no_grips []
+marks_begin w = line_empty (item_has_touched (nothing_read w) no_grips)
+
+-- where the line and what each run has touched stay
+pub marks_same : (n m : Reading) (g f : Grips) (marks : List Mark) → m.line ≡ n.line → ((r d : ℕ) → has_touched m f r d ≡ has_touched n g r d) → MarksAreKept n g marks → MarksAreKept m f marks
+marks_same n m g f marks line same kept = subst (λ l. IsLineOf l (item_has_touched m f) marks) (sym line) (line_retold kept (λ i d there. each i d))
+  where
+    each : (i : Item) (d : ℕ) → item_has_touched n g i d ≡ item_has_touched m f i d
+    each (Ran r) d = sym (same r.0 d)
+    each (Failed e k) d = refl
+    each (Back e k) d = refl
+
+-- a run arrives
+pub marks_arrived : (w : Setting) (n : Reading) (g : Grips) (r m : ℕ) (marks : List Mark) → MarksAreKept n g marks → MarksAreKept (entry w n (Arrived (run_no r) m)) g marks
+marks_arrived w n g r m marks kept = marks_same n (entry w n (Arrived (run_no r) m)) g g marks refl (λ q d. ap (λ b. b || grips_command g q d) (put_keeps (λ o. is_some (o.on d).view) n.run r _ refl q)) kept
+
+-- a run commits
+pub marks_committed : (w : Setting) (n : Reading) (g : Grips) (r : ℕ) (marks : List Mark) → MarksAreKept n g marks → MarksAreKept (entry w n (Ended (run_no r) Committed)) g marks
+marks_committed w n g r marks kept = marks_same n (entry w n (Ended (run_no r) Committed)) g g marks refl (λ q d. ap (λ b. b || grips_command g q d) (put_keeps (λ o. is_some (o.on d).view) n.run r _ refl q)) kept
+
+-- a run is placed at the end: it has touched nothing
+pub marks_placed : (w : Setting) (n : Reading) (g : Grips) (r m : ℕ) (marks : List Mark) → IsRead w n → GripsFit w n g → may_follow w n (Placed (run_no r) (length n.line) m) ≡ true → MarksAreKept n g marks
+    → MarksAreKept (entry w n (Placed (run_no r) (length n.line) m)) g (with_item (length marks) (Ran (run_no r)) marks)
+unfolding split_of
+marks_placed w n g r m marks read fit may kept =
+    subst (λ k. IsLineOf (take k n.line ++ Ran (run_no r) ∷ drop k n.line) (item_has_touched next g) (with_item (length marks) (Ran (run_no r)) marks)) size
+    (line_inserted (length marks) (Ran (run_no r)) told (run_comes (item_has_touched next g) (run_no r) untouched))
+  where
+    next : Reading
+    next = entry w n (Placed (run_no r) (length n.line) m)
+
+    new : OfRun
+    new = record (n.run r) { placed = Some (record { place = length n.line; moment = m; stamp = n.size }); planned = planned_times w n r (split_of w n r (length n.line) m).front m }
+
+    size : length marks ≡ length n.line
+    size = sym (length-map marks (λ (x : Mark). x.item)) ∙ ap length kept.items
+
+    same : (q d : ℕ) → has_touched next g q d ≡ has_touched n g q d
+    same q d = ap (λ b. b || grips_command g q d) (put_keeps (λ o. is_some (o.on d).view) n.run r new refl q)
+
+    told : IsLineOf n.line (item_has_touched next g) marks
+    told = line_retold kept (λ i d there. each i d)
+      where
+        each : (i : Item) (d : ℕ) → item_has_touched n g i d ≡ item_has_touched next g i d
+        each (Ran q) d = sym (same q.0 d)
+        each (Failed e k) d = refl
+        each (Back e k) d = refl
+
+    none : is_none (n.run r).placed ≡ true
+    none = grind (arith, common_steps)
+
+    run : is_run w.runs r ≡ true
+    run = grind (arith, common_steps)
+
+    unplaced : (p : Option PlacedAt) (b : Bool) → is_none p ≡ true → (is_some p && b) ≡ false
+    unplaced None b h = refl
+    unplaced (Some x) b h = absurd (cc)
+
+    holds : HoldsNone g r
+    holds = unplaced_holds w n g r run (unplaced (n.run r).placed (is_none (n.run r).ended) none) fit
+
+    ungripped : (d : ℕ) → grips_command g r d ≡ false
+    ungripped d = at_ (g d) refl
+      where
+        equal : (a b : ℕ) → (a == b) ≡ true → a ≡ b
+        equal a b h = grind (arith, common_steps)
+
+        by_maker : (grip : Grip) → g d ≡ Some grip → (b : Bool) → (grip.maker == r) ≡ b → (b && is_command grip.purpose) ≡ false
+        by_maker grip e true own = absurd (holds d grip.purpose (e ∙ (λ i. Some (record { maker = equal grip.maker r own i; purpose = grip.purpose }))))
+        by_maker grip e false own = refl
+
+        at_ : (o : Option Grip) → g d ≡ o → unwrap_or (option_map (λ p. (p.maker == r) && is_command p.purpose) o) false ≡ false
+        at_ None e = refl
+        at_ (Some grip) e = by_maker grip e (grip.maker == r) refl
+
+    untouched : (d : ℕ) → item_has_touched next g (Ran (run_no r)) d ≡ false
+    untouched d = same r d ∙ (λ i. is_some ((read.shaped r).clear none d i).view || ungripped d i)
+
+-- a command of the run goes out on the device: it has touched it from then on
+pub marks_out : (n : Reading) (g : Grips) (r d k : ℕ) (marks : List Mark) → g d ≡ None → MarksAreKept n g marks → MarksAreKept n (put g d (Some (record { maker = r; purpose = Commands k }))) (touching r d marks)
+marks_out n g r d k marks home kept = line_touching r d kept also
+  where
+    after : Grips
+    after = put g d (Some (record { maker = r; purpose = Commands k }))
+
+    equal : (a b : ℕ) → (a == b) ≡ true → a ≡ b
+    equal a b h = grind (arith, common_steps)
+
+    differ : (a b : ℕ) → (a == b) ≡ false → a ≢ b
+    differ a b h = grind (arith, common_steps)
+
+    here : (x q : ℕ) (b : Bool) → (b || ((x == q) && true)) ≡ (((q == x) && true) || (b || false))
+    here x q b = grind (arith, common_steps)
+
+    there : (x y : Bool) → y ≡ ((x && false) || y)
+    there x y = grind (arith, common_steps)
+
+    ran : (q e : ℕ) (b : Bool) → (e == d) ≡ b → (did n q e || unwrap_or (option_map (λ p. (p.maker == q) && is_command p.purpose) (if b then Some (record { maker = r; purpose = Commands k }) else g e)) false) ≡ (((q == r) && b) || has_touched n g q e)
+    ran q e true at = here r q (did n q e) ∙ (λ i. ((q == r) && true) || (did n q e || unwrap_or (option_map (λ p. (p.maker == q) && is_command p.purpose) (sym (ap g (equal e d at) ∙ home) i)) false))
+    ran q e false at = there (q == r) (has_touched n g q e)
+
+    also : (i : Item) (e : ℕ) → item_has_touched n after i e ≡ ((is_ran r i && (e == d)) || item_has_touched n g i e)
+    also (Ran q) e = ran q.0 e (e == d) refl
+    also (Failed x j) e = refl
+    also (Back x j) e = refl
+
+-- a command that was out is answered: its run has touched the device as before
+pub marks_answered : (w : Setting) (n : Reading) (g : Grips) (d r k : ℕ) (a : Answer) (marks : List Mark) → IsOut w n d r k → g d ≡ Some (record { maker = r; purpose = Commands k }) → MarksAreKept n g marks → MarksAreKept (entry w n (Did (run_no r) k a)) (put g d None) marks
+marks_answered w n g d r k a marks out at kept = marks_same n (entry w n (Did (run_no r) k a)) g (put g d None) marks refl same kept
+  where
+    next : Reading
+    next = entry w n (Did (run_no r) k a)
+
+    equal : (x y : ℕ) → (x == y) ≡ true → x ≡ y
+    equal x y h = grind (arith, common_steps)
+
+    differ : (x y : ℕ) → (x == y) ≡ false → x ≢ y
+    differ x y h = grind (arith, common_steps)
+
+    swapped : (x y : ℕ) → (x == y) ≡ false → (y == x) ≡ false
+    swapped x y h = grind (arith, common_steps)
+
+    some_view : (v : Option Bool) (x : Answer) → is_some (option_or v (view_by x)) ≡ true
+    some_view (Some u) x = refl
+    some_view None Fine = refl
+    some_view None (Found x) = refl
+    some_view None Down = refl
+
+    c : Command
+    c = command_at w.runs r k
+
+    new : OfRun
+    new = answered_run w n r k a
+
+    own : next.run r ≡ new
+    own = put_same n.run r new
+
+    on_device : OnDevice
+    on_device = answered (kind_at w.kinds c.device.0) c (is_some (n.run r).doomed) (n.run r).register a ((n.run r).on c.device.0)
+
+    -- on its device the run has an answer
+    has_answered : did next r d ≡ true
+    has_answered = ap (λ (o : OfRun). is_some (o.on d).view) own ∙ ap (λ x. is_some (new.on x).view) out.device ∙ ap (λ (x : OnDevice). is_some x.view) (put_same (n.run r).on c.device.0 on_device) ∙ some_view ((n.run r).on c.device.0).view a
+
+    elsewhere : (e : ℕ) → e ≢ d → did next r e ≡ did n r e
+    elsewhere e ne = ap (λ (o : OfRun). is_some (o.on e).view) own ∙ ap (λ (x : OnDevice). is_some x.view) (put_other (n.run r).on c.device.0 on_device e (λ h. ne (h ∙ sym out.device)))
+
+    true_or : (x y z : Bool) → x ≡ true → z ≡ true → (x || false) ≡ (y || (z && true))
+    true_or x y z h j = grind (arith, common_steps)
+
+    off : (x y : Bool) → y ≡ false → (x || false) ≡ (x || (y && true))
+    off x y h = grind (arith, common_steps)
+
+    self : (x : ℕ) → (x == x) ≡ true
+    self x = grind (arith, common_steps)
+
+    -- what the grip says before and after
+    gripped : (q e : ℕ) (b : Bool) → (e == d) ≡ b → grips_command (put g d None) q e ≡ unwrap_or (option_map (λ p. (p.maker == q) && is_command p.purpose) (if b then None else g e)) false
+    gripped q e b h = ap (λ x. unwrap_or (option_map (λ p. (p.maker == q) && is_command p.purpose) (if x then None else g e)) false) h
+
+    was : (q e : ℕ) → (e == d) ≡ true → grips_command g q e ≡ ((r == q) && true)
+    was q e h = ap (λ o. unwrap_or (option_map (λ p. (p.maker == q) && is_command p.purpose) o) false) (ap g (equal e d h) ∙ at)
+
+    others : (q e : ℕ) → q ≢ r → did next q e ≡ did n q e
+    others q e ne = ap (λ (o : OfRun). is_some (o.on e).view) (put_other n.run r new q ne)
+
+    same : (q e : ℕ) → has_touched next (put g d None) q e ≡ has_touched n g q e
+    same q e = by_run (q == r) refl (e == d) refl
+      where
+        by_run : (x : Bool) → (q == r) ≡ x → (b : Bool) → (e == d) ≡ b → has_touched next (put g d None) q e ≡ has_touched n g q e
+        by_run true mine true here =
+            (λ i. did next q e || gripped q e true here i) ∙ true_or (did next q e) (did n q e) (r == q) (ap₂ (did next) (equal q r mine) (equal e d here) ∙ has_answered) (ap (λ x. r == x) (equal q r mine) ∙ self r)
+            ∙ (λ i. did n q e || sym (was q e here) i)
+        by_run true mine false there = (λ i. (ap (λ x. did next x e) (equal q r mine) ∙ elsewhere e (differ e d there) ∙ ap (λ x. did n x e) (sym (equal q r mine))) i || gripped q e false there i)
+        by_run false other true here =
+            (λ i. others q e (differ q r other) i || gripped q e true here i) ∙ off (did n q e) (r == q) (swapped q r other) ∙ (λ i. did n q e || sym (was q e here) i)
+        by_run false other false there = (λ i. others q e (differ q r other) i || gripped q e false there i)
+
+-- What the line asks for
+
+pub run_stands : (n : Reading) (g : Grips) (r : ℕ) (marks : List Mark) → MarksAreKept n g marks → stands (Ran (run_no r)) marks ≡ list_any (is_ran r) n.line
+run_stands n g r marks kept = ap (list_any (is_ran r)) kept.items
+
+-- a live run stands in it
+pub live_stands : (w : Setting) (n : Reading) (g : Grips) (r : ℕ) (marks : List Mark) → IsRead w n → is_live n r ≡ true → MarksAreKept n g marks → stands (Ran (run_no r)) marks ≡ true
+live_stands w n g r marks read live kept = run_stands n g r marks kept ∙ read.standing.line r ∙ in_line (is_some (n.run r).placed) (is_none (n.run r).ended) (aborted (n.run r)) live (unended (n.run r).ended)
+  where
+    unended : (e : Option End) → is_none e ≡ true → unwrap_or (option_map is_abort e) false ≡ false
+    unended None h = refl
+    unended (Some x) h = absurd (cc)
+
+    in_line : (p e a : Bool) → (p && e) ≡ true → (e ≡ true → a ≡ false) → (p && not a) ≡ true
+    in_line true true a h k = ap (λ x. true && not x) (k refl)
+    in_line true false a h k = absurd (cc)
+    in_line false e a h k = absurd (cc)
+
+-- one that is not placed does not
+pub unplaced_absent : (w : Setting) (n : Reading) (g : Grips) (r : ℕ) (marks : List Mark) → IsRead w n → is_none (n.run r).placed ≡ true → MarksAreKept n g marks → stands (Ran (run_no r)) marks ≡ false
+unplaced_absent w n g r marks read none kept = run_stands n g r marks kept ∙ read.standing.line r ∙ unplaced (n.run r).placed (not (aborted (n.run r))) none
+  where
+    unplaced : (p : Option PlacedAt) (b : Bool) → is_none p ≡ true → (is_some p && b) ≡ false
+    unplaced None b h = refl
+    unplaced (Some x) b h = absurd (cc)
