@@ -10,3 +10,4 @@ pub mod Once
 pub mod Searches
 pub mod Logs
 pub mod FirstTold
+pub mod Told

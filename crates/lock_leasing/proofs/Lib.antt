@@ -1,3 +1,10 @@
 pub mod LastPlaces
 pub mod Places
 pub mod Effects
+pub mod Facts
+pub mod AccessRuns
+pub mod Writers
+pub mod Holding
+pub mod Meetings
+pub mod Floors
+pub mod Bindings

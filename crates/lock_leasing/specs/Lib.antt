@@ -5,3 +5,7 @@ pub mod Waits
 pub mod Order
 pub mod Tables
 pub mod Standings
+pub mod Touches
+pub mod Holders
+pub mod Counts
+pub mod FirstPlaces

@@ -12,9 +12,10 @@ use Rattle.lineage_table.specs.Accesses.{IsDisciplined}
 use Rattle.lineage_table.specs.Lineages.{LineageState, accesses_at}
 use Rattle.lock_leasing.specs.Configurations.{Configuration, Grips, read_of}
 use Rattle.lock_leasing.specs.Order.{OrderStands}
+use Rattle.lock_leasing.specs.Places.{MayBeOut}
 use Rattle.lock_leasing.specs.Tables.{Represents}
 use Rattle.lock_leasing.specs.Words.{has_touched}
-use Rattle.history_book.specs.Readings.{Reading}
+use Rattle.history_book.specs.Readings.{Reading, is_doomed, is_live, next_of}
 use Rattle.serial_line.specs.Marks.{Mark}
 use Rattle.serial_line.specs.Ties.{IsLineOf}
 use Rattle.std.specs.Prelude.{Bool, List, Some, [], false, length, slice_get, true, ℕ, ◌<◌, ◌==◌, ◌≡◌, ◌≤◌}
@@ -35,9 +36,11 @@ pub record IsRosterFor (devices : ℕ) (runs : List Run) : Type 0 where
   -- a run follows an earlier run, or none
   pub follows_earlier : (r : ℕ) (f : RunNo) → followed_by runs r ≡ Some f → f.0 < r
 
--- the parts are those of the configuration, which is not of the weak model
+-- the parts are those of the configuration, which is not of the weak model: its runs may be opened, its history is well formed, its grips may be out, and the four clauses of the order hold
 pub record IsStandingOf (s : Configuration) (table : List LineageState) (line : List Mark) (history : List Kept) (runs : List Run) : Type 0 where
   pub ordered : is_weak s.setting.mode ≡ false
+  pub allowed : IsRosterFor (length s.setting.first) s.setting.runs
+  pub grips : MayBeOut s.setting (read_of s) s.grips
   pub well_formed : IsWellFormed s.setting (entries_of s.history)
   pub order : OrderStands s.setting (read_of s) s.grips
   pub its_roster : s.setting.runs ≡ runs
@@ -49,11 +52,23 @@ pub record IsStandingOf (s : Configuration) (table : List LineageState) (line : 
 -- the parts are those of a configuration of the weak model, whose table has no accesses
 pub record IsWeakStandingOf (s : Configuration) (table : List LineageState) (history : List Kept) (runs : List Run) : Type 0 where
   pub weak : is_weak s.setting.mode ≡ true
+  pub allowed : IsRosterFor (length s.setting.first) s.setting.runs
   pub its_roster : s.setting.runs ≡ runs
   pub its_history : s.history ≡ history
   pub none : (d : ℕ) → accesses_at table d ≡ []
 
--- the four parts belong to one window, of runs that may be opened
+-- the four parts belong to one window
 pub data BelongTogether (table : List LineageState) (line : List Mark) (history : List Kept) (runs : List Run) : Type 0 where
-  InOrder : (s : Configuration) (allowed : IsRosterFor (length s.setting.first) runs) (parts : IsStandingOf s table line history runs) → BelongTogether table line history runs
-  Weakly : (s : Configuration) (allowed : IsRosterFor (length s.setting.first) runs) (parts : IsWeakStandingOf s table history runs) → BelongTogether table line history runs
+  InOrder : (s : Configuration) (parts : IsStandingOf s table line history runs) → BelongTogether table line history runs
+  Weakly : (s : Configuration) (parts : IsWeakStandingOf s table history runs) → BelongTogether table line history runs
+
+-- the run may do its next command, the one of this number: it is live, it is not doomed, and it has such a command
+pub record IsAtCommand (s : Configuration) (r c : ℕ) : Type 0 where
+  pub live : is_live (read_of s) r ≡ true
+  pub sound : is_doomed (read_of s) r ≡ false
+  pub next : next_of (read_of s) r ≡ c
+  pub command : c < length (commands_of s.setting.runs r)
+
+-- the parts belong to one window, which is not of the weak model, and the run may do this command
+pub data MayTouch (table : List LineageState) (line : List Mark) (history : List Kept) (runs : List Run) (r c : ℕ) : Type 0 where
+  Touching : (s : Configuration) (parts : IsStandingOf s table line history runs) (turn : IsAtCommand s r c) → MayTouch table line history runs r c

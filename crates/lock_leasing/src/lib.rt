@@ -1,2 +1,10 @@
 // Who may use a device next: accesses, holding, waits, leases, and the places of the schedulers.
 #![tactic(auto)]
+
+pub mod first_places;
+pub mod standings;
+pub mod touches;
+
+pub use first_places::first_place;
+pub use standings::Standing;
+pub use touches::{Touch, test_touch};

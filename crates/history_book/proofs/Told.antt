@@ -1,0 +1,92 @@
+-- What the book tells of the end and of the doom of a run is what the history says.
+use Rattle.history_book.specs.Books.{doom_in, doom_of, end_in, end_of}
+use Rattle.history_book.specs.Histories.{entries_of, entry, reading}
+use Rattle.history_book.specs.Readings.{OfRun, Reading, nothing_read, put}
+use Rattle.history_book.specs.Settings.{Setting}
+use Rattle.history_book.specs.WellFormed.{IsWellFormed, along, may_follow}
+use Rattle.history_book.specs.declared.entries.Cause.{Cause}
+use Rattle.history_book.specs.declared.entries.End.TheVariants.{Aborted, Committed}
+use Rattle.history_book.specs.declared.entries.Entry.TheVariants.{Arrived, Did, Doomed, Ended, Fell, Placed, Rose, Undid}
+use Rattle.history_book.specs.declared.entries.Entry.{Entry}
+use Rattle.history_book.specs.declared.entries.Kept.{Kept}
+use Rattle.std.proofs.Common.{ap, arith, refl, sym, ◌∙◌}
+use Rattle.std.proofs.lemmas.Grind.{common_steps}
+use Rattle.std.specs.Option.{option_or}
+use Rattle.std.specs.Prelude.{Bool, IsTrue, List, None, Option, Some, [], false, fold, if◌then◌else◌, is_none, is_some, true, ℕ, ◌==◌, ◌∷◌, ◌≡◌}
+
+or_none : {T : Type 0} (o : Option T) → o ≡ option_or o None
+or_none None = refl
+or_none (Some x) = refl
+
+or_or : {T : Type 0} (a b c : Option T) → option_or (option_or a b) c ≡ option_or a (option_or b c)
+or_or None b c = refl
+or_or (Some x) b c = refl
+
+none_is : {T : Type 0} (o : Option T) → is_none o ≡ true → o ≡ None
+none_is None e = refl
+none_is (Some x) e = absurd (cc)
+
+-- an entry that leaves this of its run
+kept_part : {T : Type 0} (part : OfRun → Option T) (f : ℕ → OfRun) (k r : ℕ) (v : OfRun) → part v ≡ part (f k) → part (put f k v r) ≡ option_or (part (f r)) None
+kept_part part f k r v same = at (r == k) refl ∙ or_none (part (f r))
+  where
+    at : (b : Bool) → (r == k) ≡ b → part (if b then v else f r) ≡ part (f r)
+    at true e = let equal : r ≡ k = grind (arith, common_steps) in same ∙ ap (λ x. part (f x)) (sym equal)
+    at false e = refl
+
+-- one that tells it of its run for the first time
+told_part : {T : Type 0} (part : OfRun → Option T) (f : ℕ → OfRun) (k r : ℕ) (v : OfRun) (x : T) → part v ≡ Some x → part (f k) ≡ None → part (put f k v r) ≡ option_or (part (f r)) (if k == r then Some x else None)
+told_part {T} part f k r v x new old = at (r == k) (k == r) refl (grind (arith, common_steps))
+  where
+    at : (b c : Bool) → (r == k) ≡ b → b ≡ c → part (if b then v else f r) ≡ option_or (part (f r)) (if c then Some x else None)
+    at true true e same = let equal : k ≡ r = grind (arith, common_steps) in new ∙ ap (λ o. option_or o (Some x)) (sym old ∙ ap (λ y. part (f y)) equal)
+    at false false e same = or_none (part (f r))
+    at true false e same = absurd (cc)
+    at false true e same = absurd (cc)
+
+end_told : (w : Setting) (n : Reading) (e : Entry) (r : ℕ) → IsTrue (may_follow w n e) → ((entry w n e).run r).ended ≡ option_or (n.run r).ended (end_in r e)
+end_told w n (Arrived q m) r ok = kept_part (λ o. o.ended) n.run q.0 r _ refl
+end_told w n (Placed q at m) r ok = kept_part (λ o. o.ended) n.run q.0 r _ refl
+end_told w n (Did q c a) r ok = kept_part (λ o. o.ended) n.run q.0 r _ refl
+end_told w n (Undid q d drove) r ok = kept_part (λ o. o.ended) n.run q.0 r _ refl
+end_told w n (Fell d) r ok = or_none (n.run r).ended
+end_told w n (Rose d) r ok = or_none (n.run r).ended
+end_told w n (Doomed q cause) r ok = kept_part (λ o. o.ended) n.run q.0 r _ refl
+end_told w n (Ended q Committed) r ok = told_part (λ o. o.ended) n.run q.0 r _ Committed refl (none_is (n.run q.0).ended (grind (arith, common_steps)))
+end_told w n (Ended q (Aborted cause)) r ok = told_part (λ o. o.ended) n.run q.0 r _ (Aborted cause) refl (none_is (n.run q.0).ended (grind (arith, common_steps)))
+
+doom_told : (w : Setting) (n : Reading) (e : Entry) (r : ℕ) → IsTrue (may_follow w n e) → ((entry w n e).run r).doomed ≡ option_or (n.run r).doomed (doom_in r e)
+doom_told w n (Arrived q m) r ok = kept_part (λ o. o.doomed) n.run q.0 r _ refl
+doom_told w n (Placed q at m) r ok = kept_part (λ o. o.doomed) n.run q.0 r _ refl
+doom_told w n (Did q c a) r ok = kept_part (λ o. o.doomed) n.run q.0 r _ refl
+doom_told w n (Undid q d drove) r ok = kept_part (λ o. o.doomed) n.run q.0 r _ refl
+doom_told w n (Fell d) r ok = or_none (n.run r).doomed
+doom_told w n (Rose d) r ok = or_none (n.run r).doomed
+doom_told w n (Doomed q cause) r ok = told_part (λ o. o.doomed) n.run q.0 r _ cause refl (none_is (n.run q.0).doomed (unsome (n.run q.0).doomed (grind (arith, common_steps))))
+  where
+    unsome : (o : Option Cause) → is_some o ≡ false → is_none o ≡ true
+    unsome None e = refl
+    unsome (Some x) e = absurd (cc)
+doom_told w n (Ended q e) r ok = kept_part (λ o. o.doomed) n.run q.0 r _ refl
+
+end_from : (w : Setting) (n : Reading) (h : List Kept) (r : ℕ) → IsTrue (along w (may_follow w) n (entries_of h)) → ((fold (entry w) n (entries_of h)).run r).ended ≡ option_or (n.run r).ended (end_of h r)
+end_from w n [] r ok = or_none (n.run r).ended
+end_from w n (k ∷ h) r ok =
+    end_from w (entry w n k.entry) h r (grind (arith, common_steps))
+    ∙ ap (λ o. option_or o (end_of h r)) (end_told w n k.entry r (grind (arith, common_steps)))
+    ∙ or_or (n.run r).ended (end_in r k.entry) (end_of h r)
+
+doom_from : (w : Setting) (n : Reading) (h : List Kept) (r : ℕ) → IsTrue (along w (may_follow w) n (entries_of h)) → ((fold (entry w) n (entries_of h)).run r).doomed ≡ option_or (n.run r).doomed (doom_of h r)
+doom_from w n [] r ok = or_none (n.run r).doomed
+doom_from w n (k ∷ h) r ok =
+    doom_from w (entry w n k.entry) h r (grind (arith, common_steps))
+    ∙ ap (λ o. option_or o (doom_of h r)) (doom_told w n k.entry r (grind (arith, common_steps)))
+    ∙ or_or (n.run r).doomed (doom_in r k.entry) (doom_of h r)
+
+-- the end of a run, as its history says it
+pub end_is : (w : Setting) (h : List Kept) (r : ℕ) → IsWellFormed w (entries_of h) → end_of h r ≡ ((reading w (entries_of h)).run r).ended
+end_is w h r ok = sym (end_from w (nothing_read w) h r ok)
+
+-- .. and its doom
+pub doom_is : (w : Setting) (h : List Kept) (r : ℕ) → IsWellFormed w (entries_of h) → doom_of h r ≡ ((reading w (entries_of h)).run r).doomed
+doom_is w h r ok = sym (doom_from w (nothing_read w) h r ok)

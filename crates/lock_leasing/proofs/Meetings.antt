@@ -1,0 +1,120 @@
+-- What a run meets at its next command, as parts that belong to one window tell it.
+use Rattle.command_rules.specs.Rosters.{Run, command_at, commands_of, is_on, is_run, no_command}
+use Rattle.history_book.proofs.Told.{doom_is}
+use Rattle.history_book.specs.Lines.{is_ran}
+use Rattle.history_book.specs.Readings.{is_open, next_of}
+use Rattle.history_book.specs.declared.entries.Kept.{Kept}
+use Rattle.home_types.specs.declared.commands.Command.{Command}
+use Rattle.home_types.specs.declared.numbers.RunNo.{RunNo}
+use Rattle.lineage_table.specs.Lineages.{LineageState, accesses_at, lineage_at}
+use Rattle.lock_leasing.proofs.Facts.{facts_of, live_stands, next_is_left}
+use Rattle.lock_leasing.proofs.Holding.{dirty_is, holder_is}
+use Rattle.lock_leasing.specs.Configurations.{Configuration, read_of}
+use Rattle.lock_leasing.specs.Holders.{dirty_writer, holder_before}
+use Rattle.lock_leasing.specs.Standings.{IsAtCommand, IsStandingOf, MayTouch, Touching}
+use Rattle.lock_leasing.specs.Tables.{IsLineageOf}
+use Rattle.lock_leasing.specs.Touches.{IsTouchOf, touch_by, touch_of}
+use Rattle.lock_leasing.specs.declared.touches.Touch.TheVariants.{Behind, Dirty, Free}
+use Rattle.serial_line.specs.Marks.{Mark}
+use Rattle.std.proofs.Common.{ap, ap₂, arith, refl, subst, sym, ◌∙◌}
+use Rattle.std.proofs.lemmas.Grind.{common_steps}
+use Rattle.std.specs.List.{list_any}
+use Rattle.std.specs.Prelude.{IsTrue, List, None, Some, [], false, is_some, length, option_map, slice_get, slice_index_or, suc, true, unwrap_or, zero, ℕ, ◌<◌, ◌==◌, ◌∷◌, ◌≡◌}
+
+-- an item of a list, by its place
+pub item_there : {A : Type 0} (xs : List A) (k : ℕ) (d : A) → k < length xs → slice_get xs k ≡ Some (slice_index_or xs k d)
+item_there [] k d within = absurd (omega (arith, within))
+item_there (x ∷ xs) zero d within = refl
+item_there (x ∷ xs) (suc k) d within = item_there xs k d (omega (arith, within))
+
+-- .. whatever stands for one that is not there
+pub item_same : {A : Type 0} (xs ys : List A) (k : ℕ) (d e : A) → xs ≡ ys → k < length ys → slice_index_or xs k d ≡ slice_index_or ys k e
+item_same {A} xs ys k d e same within = ap (λ l. slice_index_or l k d) same ∙ there ys k within
+  where
+    there : (zs : List A) (j : ℕ) → j < length zs → slice_index_or zs j d ≡ slice_index_or zs j e
+    there [] j inside = absurd (omega (arith, inside))
+    there (z ∷ zs) zero inside = refl
+    there (z ∷ zs) (suc j) inside = there zs j (omega (arith, inside))
+
+own_run : (r : ℕ) → (r == r) ≡ true
+own_run r = grind (arith, common_steps)
+
+module _ (s : Configuration) (table : List LineageState) (line : List Mark) (r c : ℕ) (parts : IsStandingOf s table line s.history s.setting.runs) (turn : IsAtCommand s r c) where
+  -- the command's device is one of the home
+  homed_at : (command_at s.setting.runs r c).device.0 < length s.setting.first
+  homed_at = parts.allowed.homed r c (command_at s.setting.runs r c) (item_there (commands_of s.setting.runs r) c no_command turn.command)
+
+  lineage : IsLineageOf s.setting (read_of s) s.grips (command_at s.setting.runs r c).device.0 (lineage_at table (command_at s.setting.runs r c).device.0)
+  lineage = parts.its_table.each (command_at s.setting.runs r c).device.0 homed_at
+
+  opened : is_open s.setting (read_of s) r (command_at s.setting.runs r c).device.0 ≡ true
+  opened =
+      let on : unwrap_or (option_map (is_on (command_at s.setting.runs r c).device.0) (slice_get (commands_of s.setting.runs r) c)) false ≡ true = ap (λ o. unwrap_or (option_map (is_on (command_at s.setting.runs r c).device.0) o) false) (item_there (commands_of s.setting.runs r) c no_command turn.command) ∙ own_run (command_at s.setting.runs r c).device.0 in
+      let pending = next_is_left (command_at s.setting.runs r c).device.0 (commands_of s.setting.runs r) (next_of (read_of s) r) (ap (λ k. unwrap_or (option_map (is_on (command_at s.setting.runs r c).device.0) (slice_get (commands_of s.setting.runs r) k)) false) turn.next ∙ on) in
+      rw (turn.live, turn.sound, pending) refl
+
+  among : list_any (is_ran r) (read_of s).line ≡ true
+  among = let f = facts_of s table line s.history s.setting.runs parts in f.line.line r ∙ live_stands (read_of s) r turn.live
+
+  met : touch_by (command_at s.setting.runs r c).device (option_map (λ q. q.0) (holder_before s.history r (accesses_at table (command_at s.setting.runs r c).device.0))) (option_map (λ q. q.0) (dirty_writer (command_at s.setting.runs r c) r (accesses_at table (command_at s.setting.runs r c).device.0)))
+      ≡ touch_of s.setting (read_of s) s.grips r (command_at s.setting.runs r c)
+  met =
+      let f = facts_of s table line s.history s.setting.runs parts in
+      ap₂ (touch_by (command_at s.setting.runs r c).device)
+      (holder_is s.setting (read_of s) s.grips f (command_at s.setting.runs r c).device.0 s.history r (accesses_at table (command_at s.setting.runs r c).device.0) (λ q. ap is_some (doom_is s.setting s.history q parts.well_formed)) opened lineage.runs lineage.each)
+      (dirty_is s.setting (read_of s) s.grips f (command_at s.setting.runs r c) r (accesses_at table (command_at s.setting.runs r c).device.0) opened among lineage.runs lineage.each)
+
+-- what the parts tell is what the run meets
+pub touch_is : (table : List LineageState) (line : List Mark) (history : List Kept) (runs : List Run) (r c : ℕ)
+    → IsTouchOf table line history runs r c (touch_by (command_at runs r c).device (option_map (λ q. q.0) (holder_before history r (accesses_at table (command_at runs r c).device.0))) (option_map (λ q. q.0) (dirty_writer (command_at runs r c) r (accesses_at table (command_at runs r c).device.0))))
+touch_is table line history runs r c s parts turn = by_history history parts.its_history parts
+  where
+    by_runs : (rs : List Run) → s.setting.runs ≡ rs → IsStandingOf s table line s.history rs
+        → touch_by (command_at rs r c).device (option_map (λ q. q.0) (holder_before s.history r (accesses_at table (command_at rs r c).device.0))) (option_map (λ q. q.0) (dirty_writer (command_at rs r c) r (accesses_at table (command_at rs r c).device.0))) ≡ touch_of s.setting (read_of s) s.grips r (command_at rs r c)
+    by_runs rs same its =
+        subst (λ xs. IsStandingOf s table line s.history xs → touch_by (command_at xs r c).device (option_map (λ q. q.0) (holder_before s.history r (accesses_at table (command_at xs r c).device.0))) (option_map (λ q. q.0) (dirty_writer (command_at xs r c) r (accesses_at table (command_at xs r c).device.0))) ≡ touch_of s.setting (read_of s) s.grips r (command_at xs r c))
+        same (λ p. met s table line r c p turn) its
+
+    by_history : (hs : List Kept) → s.history ≡ hs → IsStandingOf s table line hs runs
+        → touch_by (command_at runs r c).device (option_map (λ q. q.0) (holder_before hs r (accesses_at table (command_at runs r c).device.0))) (option_map (λ q. q.0) (dirty_writer (command_at runs r c) r (accesses_at table (command_at runs r c).device.0))) ≡ touch_of s.setting (read_of s) s.grips r (command_at runs r c)
+    by_history hs same its =
+        subst (λ xs. IsStandingOf s table line xs runs → touch_by (command_at runs r c).device (option_map (λ q. q.0) (holder_before xs r (accesses_at table (command_at runs r c).device.0))) (option_map (λ q. q.0) (dirty_writer (command_at runs r c) r (accesses_at table (command_at runs r c).device.0))) ≡ touch_of s.setting (read_of s) s.grips r (command_at runs r c))
+        same (λ p. by_runs runs p.its_roster p) its
+
+-- the three answers
+
+pub met_holder : (table : List LineageState) (line : List Mark) (history : List Kept) (runs : List Run) (r c : ℕ) (command : Command) (x : RunNo) → command ≡ command_at runs r c
+    → Some x ≡ holder_before history r (accesses_at table command.device.0) → IsTouchOf table line history runs r c (Behind command.device x)
+met_holder table line history runs r c command x same held s parts turn =
+    subst (λ y. Some x ≡ holder_before history r (accesses_at table y.device.0) → Behind y.device x ≡ touch_of s.setting (read_of s) s.grips r (command_at runs r c)) (sym same)
+    (λ h. ap (λ o. touch_by (command_at runs r c).device (option_map (λ q. q.0) o) (option_map (λ q. q.0) (dirty_writer (command_at runs r c) r (accesses_at table (command_at runs r c).device.0)))) h ∙ touch_is table line history runs r c s parts turn) held
+
+pub met_writer : (table : List LineageState) (line : List Mark) (history : List Kept) (runs : List Run) (r c : ℕ) (command : Command) (x : RunNo) → command ≡ command_at runs r c
+    → None ≡ holder_before history r (accesses_at table command.device.0) → Some x ≡ dirty_writer command r (accesses_at table command.device.0) → IsTouchOf table line history runs r c (Dirty command.device x)
+met_writer table line history runs r c command x same none wrote s parts turn =
+    subst (λ y. None ≡ holder_before history r (accesses_at table y.device.0) → Some x ≡ dirty_writer y r (accesses_at table y.device.0) → Dirty y.device x ≡ touch_of s.setting (read_of s) s.grips r (command_at runs r c)) (sym same)
+    (λ h k. ap₂ (λ o q. touch_by (command_at runs r c).device (option_map (λ z. z.0) o) (option_map (λ z. z.0) q)) h k ∙ touch_is table line history runs r c s parts turn) none wrote
+
+pub met_none : (table : List LineageState) (line : List Mark) (history : List Kept) (runs : List Run) (r c : ℕ) (command : Command) → command ≡ command_at runs r c
+    → None ≡ holder_before history r (accesses_at table command.device.0) → None ≡ dirty_writer command r (accesses_at table command.device.0) → IsTouchOf table line history runs r c Free
+met_none table line history runs r c command same none unwritten s parts turn =
+    subst (λ y. None ≡ holder_before history r (accesses_at table y.device.0) → None ≡ dirty_writer y r (accesses_at table y.device.0) → Free ≡ touch_of s.setting (read_of s) s.grips r (command_at runs r c)) (sym same)
+    (λ h k. ap₂ (λ o q. touch_by (command_at runs r c).device (option_map (λ z. z.0) o) (option_map (λ z. z.0) q)) h k ∙ touch_is table line history runs r c s parts turn) none unwritten
+
+-- A run that may do its command
+
+-- it is one of the roster, it has the command, and the command's device is one of the table
+pub may_run : (table : List LineageState) (line : List Mark) (history : List Kept) (runs : List Run) (r c : ℕ) → MayTouch table line history runs r c → IsTrue (is_run runs r)
+may_run table line history runs r c (Touching s parts turn) = subst (λ xs. IsTrue (is_run xs r)) parts.its_roster known
+  where
+    known : IsTrue (is_run s.setting.runs r)
+    known = let shape = (facts_of s table line history runs parts).shaped r in shape.known (shape.arrived (grind (arith, common_steps, turn.live)))
+
+pub may_command : (table : List LineageState) (line : List Mark) (history : List Kept) (runs : List Run) (r c : ℕ) → MayTouch table line history runs r c → c < length (commands_of runs r)
+may_command table line history runs r c (Touching s parts turn) = subst (λ xs. c < length (commands_of xs r)) parts.its_roster turn.command
+
+pub may_reach : (table : List LineageState) (line : List Mark) (history : List Kept) (runs : List Run) (r c : ℕ) → MayTouch table line history runs r c → (command_at runs r c).device.0 < length table
+may_reach table line history runs r c (Touching s parts turn) =
+    let homed = parts.allowed.homed r c (command_at s.setting.runs r c) (item_there (commands_of s.setting.runs r) c no_command turn.command) in
+    let size = parts.its_table.devices in
+    subst (λ xs. (command_at xs r c).device.0 < length table) parts.its_roster (omega (arith, homed, size))

@@ -1,0 +1,112 @@
+ghost use Rattle.std.specs.Prelude.{◌≡◌, ◌+◌, ◌<◌, IsTrue, is_none, length};
+ghost use Rattle.command_rules.specs.Rosters.{commands_of, followed_by, is_run, runs_of};
+ghost use Rattle.history_book.specs.Books.{end_of};
+ghost use Rattle.history_book.specs.Lines.{of_run};
+ghost use Rattle.lock_leasing.specs.Counts.{before_unended, has_committed, up_to_followed, up_to_run, up_to_touched};
+ghost use Rattle.lock_leasing.specs.FirstPlaces.{IsFirstPlaceOf};
+
+use crate::standings::Standing;
+use command_rules::Roster;
+use history_book::{Book, End};
+use home_types::{Item, RunNo};
+use serial_line::Line;
+
+/// The first place in the line, counted from 0, where `r` may be put: right behind the last item that has touched one
+/// of its devices, the committed run that it follows, and the last item before the first live run, or 0 where there is
+/// none of them.
+///
+/// The four parts belong to one window, whose model is not the weak one, and `r` is in the roster. Takes no memory, and
+/// reads of the history no more than the ends of runs.
+pub fn first_place(s: &Standing, r: RunNo) -> u32
+    requires { IsTrue (is_run (runs_of s.now.roster.now) r.0) }
+    ensures { IsFirstPlaceOf s.now.table.now s.now.line.now.marks s.now.book.now.items (runs_of s.now.roster.now) r.0 result }
+{
+    let touched = count_to_touched(s.line, s.roster, r);
+    let followed = count_to_followed(s, r);
+    touched
+        .max(followed)
+        .max(count_before_unended(s.line, s.book))
+}
+
+/// The number of items up to and with the last one that has touched a device of `r`.
+fn count_to_touched(line: &Line, roster: &Roster, r: RunNo) -> u32
+    requires { IsTrue (is_run (runs_of roster.now) r.0) }
+    ensures { result ≡ up_to_touched (commands_of (runs_of roster.now) r.0) line.now.marks }
+{
+    let mut count = 0;
+    'commands: for command in roster.commands(r) {
+        if let Some(at) = line.last_on(command.device) {
+            count = count.max(count_through(line, at));
+        }
+    }
+    count
+}
+
+/// The number of items up to and with the committed run that `r` follows, 0 where there is none.
+fn count_to_followed(s: &Standing, r: RunNo) -> u32
+    requires { IsTrue (is_run (runs_of s.now.roster.now) r.0) }
+    ensures { result ≡ up_to_followed (runs_of s.now.roster.now) s.now.book.now.items r.0 s.now.line.now.marks }
+{
+    match followed_by(s.roster, r) {
+        Some(f) if has_committed(s.book, f) => count_to_run(s.line, f),
+        _ => 0,
+    }
+}
+
+fn has_committed(book: &Book, r: RunNo) -> bool
+    ensures { result ≡ has_committed book.now.items r.0 }
+{
+    matches!(book.end_of(r), Some(End::Committed))
+}
+
+/// The number of items up to and with the run, 0 where it is not in the line.
+fn count_to_run(line: &Line, r: RunNo) -> u32
+    ensures { result ≡ up_to_run r.0 line.now.marks }
+{
+    match line.place_of(Item::Ran(r)) {
+        Some(at) => count_through(line, at),
+        None => 0,
+    }
+}
+
+/// The number of items up to and with the one at this place.
+fn count_through(line: &Line, at: u32) -> u32
+    requires { at < length line.now.marks }
+    ensures { result ≡ at + 1 }
+{
+    let is_place = at < line.len();
+    prove!(is_place);
+    at + 1
+}
+
+/// The run that `r` follows.
+fn followed_by(roster: &Roster, r: RunNo) -> Option<RunNo>
+    requires { IsTrue (is_run (runs_of roster.now) r.0) }
+    ensures { result ≡ followed_by (runs_of roster.now) r.0 }
+{
+    roster.runs.get(r.0 as u64 - 1).unwrap().follows
+}
+
+/// The number of items before the first run that has not ended: all where each has.
+fn count_before_unended(line: &Line, book: &Book) -> u32
+    ensures { result ≡ before_unended book.now.items line.now.marks }
+{
+    let count = line.len();
+    'items: for at in 0..count {
+        let item = line.get(at).unwrap();
+        if is_unended(book, item) {
+            return at;
+        }
+    }
+    count
+}
+
+/// Whether the item is a run that has not ended.
+fn is_unended(book: &Book, item: Item) -> bool
+    ensures { result ≡ of_run (λ r. is_none (end_of book.now.items r)) item }
+{
+    match item {
+        Item::Ran(r) => book.end_of(r).is_none(),
+        _ => false,
+    }
+}

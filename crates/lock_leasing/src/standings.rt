@@ -1,0 +1,15 @@
+use command_rules::Roster;
+use history_book::Book;
+use lineage_table::Table;
+use serial_line::Line;
+
+/// What the steps of a window are decided by: its lineage table, its line, its history and its roster.
+///
+/// A call that takes one asks that the four belong to one window.
+#[derive(Clone, Copy)]
+pub struct Standing<'a> {
+    pub table: &'a Table,
+    pub line: &'a Line,
+    pub book: &'a Book,
+    pub roster: &'a Roster,
+}
