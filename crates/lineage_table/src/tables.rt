@@ -182,7 +182,8 @@ impl Table {
 
     /// The number of devices.
     pub fn devices(&self) -> u32
-        ensures { result ≡ length self.now }
+        ensures count { result ≡ length self.now }
+        ensures few { result ≤ 2 ^ 16 }
     {
         self.lineages.len() as u32
     }
