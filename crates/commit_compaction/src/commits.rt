@@ -1,0 +1,48 @@
+ghost use Rattle.std.specs.Prelude.{◌≡◌, ◌<◌, ℕ, length};
+ghost use Rattle.commit_compaction.specs.Commits.{committed_lineage};
+ghost use Rattle.lineage_laws.specs.Laws.{stand_of};
+ghost use Rattle.lineage_table.specs.Lineages.{lineage_at, with_lineage};
+
+use home_types::{DeviceNo, RunNo};
+use lineage_table::Table;
+
+/// Commits the run: what it wrote becomes the committed value of each device on which it still has an access.
+///
+/// There its access and those before it leave. On a device that it did not write its access alone leaves. The value
+/// that stands on each device is kept. Takes no memory.
+pub fn commit(table: &mut Table, r: RunNo)
+    ensures devices { length table.new ≡ length table.old }
+    ensures exact { (d : ℕ) → d < length table.old → lineage_at table.new d ≡ committed_lineage r.0 (lineage_at table.old d) }
+    ensures stands { (d : ℕ) → d < length table.old → stand_of (lineage_at table.new d) ≡ stand_of (lineage_at table.old d) }
+{
+    'devices: for d in 0..table.devices() {
+        commit_on(table, DeviceNo(d as u16), r);
+    }
+}
+
+/// Commits the run on one device.
+fn commit_on(table: &mut Table, d: DeviceNo, r: RunNo)
+    requires { d.0 < length table.old }
+    ensures exact { table.new ≡ with_lineage table.old d.0 (committed_lineage r.0) }
+    ensures stands { stand_of (committed_lineage r.0 (lineage_at table.old d.0)) ≡ stand_of (lineage_at table.old d.0) }
+{
+    commit_keeps(table, d, r);
+    match table.access(d, r) {
+        None => {}
+        Some(access) => match access.wrote {
+            Some(_) => table.settle(d, r),
+            None => {
+                table.remove(d, r);
+            }
+        },
+    }
+}
+
+/// A law: the value that stands on a device is kept where a run commits.
+fn commit_keeps(table: &Table, d: DeviceNo, r: RunNo)
+    requires { d.0 < length table.now }
+    ensures { stand_of (committed_lineage r.0 (lineage_at table.now d.0)) ≡ stand_of (lineage_at table.now d.0) }
+{
+    // The type of the table keeps that no run has two accesses on a device.
+    let _ = table.accesses(d);
+}
