@@ -1,0 +1,5 @@
+pub mod Found
+pub mod LineRuns
+pub mod StrictWaits
+pub mod DownDevices
+pub mod OwnModel

@@ -1,0 +1,98 @@
+-- What the parts of one window say of the runs of their line.
+use Rattle.command_rules.specs.Rosters.{Run, is_run}
+use Rattle.history_book.proofs.Shapes.{Shaped, shapes}
+use Rattle.history_book.proofs.Standing.{Standing, is_abort, standing, stands_in}
+use Rattle.history_book.proofs.Told.{end_is}
+use Rattle.history_book.specs.Books.{end_of}
+use Rattle.history_book.specs.Histories.{entries_of}
+use Rattle.history_book.specs.Lines.{is_ran}
+use Rattle.history_book.specs.Readings.{OfRun, Reading, is_live}
+use Rattle.history_book.specs.declared.entries.End.{End}
+use Rattle.history_book.specs.declared.entries.Kept.{Kept}
+use Rattle.home_types.specs.declared.items.Item.TheVariants.{Back, Failed, Ran}
+use Rattle.home_types.specs.declared.items.Item.{Item}
+use Rattle.home_types.specs.declared.modes.Visibility.TheVariants.{Eventual, Global, Partitioned, Weak}
+use Rattle.home_types.specs.declared.modes.Visibility.{Visibility}
+use Rattle.home_types.specs.declared.numbers.RunNo.{RunNo}
+use Rattle.lineage_table.specs.Lineages.{LineageState}
+use Rattle.lock_leasing.specs.Configurations.{Configuration, read_of}
+use Rattle.lock_leasing.specs.Standings.{IsStandingOf}
+use Rattle.serial_line.specs.Marks.{Mark, items_of, stands}
+use Rattle.serial_line.specs.Marks.{is_ran as is_mark_of}
+use Rattle.std.proofs.Common.{ap, arith, refl, subst, sym, ◌∙◌}
+use Rattle.std.proofs.lemmas.Grind.{common_steps}
+use Rattle.std.specs.List.{list_any}
+use Rattle.std.specs.Prelude.{Bool, IsTrue, List, None, Option, Some, [], false, is_none, is_some, not, option_map, slice_get, suc, true, unwrap_or, zero, ℕ, ◌&&◌, ◌==◌, ◌||◌, ◌∷◌, ◌≡◌}
+use Rattle.visibility_models.specs.Models.{InOrder, IsUnderWay, MayAsk, Weakly}
+use Rattle.visibility_models.specs.Searches.{AreRunsOf, IsRunOf, is_strict_model}
+
+-- a run of the line is placed
+placed_in_line : (n : Reading) (x : ℕ) → Standing n → list_any (is_ran x) n.line ≡ true → is_some (n.run x).placed ≡ true
+placed_in_line n x s among = let stood : stands_in (n.run x) ≡ true = sym (s.line x) ∙ among in grind (arith, common_steps)
+
+-- .. and is live where the history tells no end of it
+pub live_in_line : (s : Configuration) (x : ℕ) (table : List LineageState) (line : List Mark) (history : List Kept) (runs : List Run) → IsStandingOf s table line history runs
+    → list_any (is_ran x) (read_of s).line ≡ true → is_live (read_of s) x ≡ is_none (end_of history x)
+live_in_line s x table line history runs is among =
+    let placed = placed_in_line (read_of s) x (standing s.setting (entries_of s.history) is.well_formed) among in
+    let told : end_of history x ≡ ((read_of s).run x).ended = ap (λ h. end_of h x) (sym is.its_history) ∙ end_is s.setting s.history x is.well_formed in
+    rw placed (ap is_none (sym told))
+
+among_at : (items : List Item) (at : ℕ) (x : RunNo) → slice_get items at ≡ Some (Ran x) → list_any (is_ran x.0) items ≡ true
+among_at [] at x e = absurd (cc)
+among_at (i ∷ items) zero x e = let here : i ≡ Ran x = cc in subst (λ j. (is_ran x.0 j || list_any (is_ran x.0) items) ≡ true) (sym here) (grind (arith, common_steps))
+among_at (i ∷ items) (suc at) x e = let rest = among_at items at x e in rw rest (grind (arith, common_steps))
+
+-- each run of the line is one of the window
+pub runs_of_line : (s : Configuration) (table : List LineageState) (line : List Mark) (history : List Kept) (runs : List Run) → IsStandingOf s table line history runs → AreRunsOf runs (items_of line)
+runs_of_line s table line history runs is = λ at i there. each at i there
+  where
+    run_of_line : (x : RunNo) → list_any (is_ran x.0) (items_of line) ≡ true → IsTrue (is_run runs x.0)
+    run_of_line x among =
+        let shaped : Shaped s.setting (read_of s) = shapes s.setting (entries_of s.history) is.well_formed in
+        let placed = placed_in_line (read_of s) x.0 (standing s.setting (entries_of s.history) is.well_formed) (ap (list_any (is_ran x.0)) (sym is.its_line.items) ∙ among) in
+        subst (λ rs. IsTrue (is_run rs x.0)) is.its_roster ((shaped x.0).known ((shaped x.0).arrived placed))
+
+    each : (at : ℕ) (i : Item) → slice_get (items_of line) at ≡ Some i → IsRunOf runs i
+    each at (Ran x) there = run_of_line x (among_at (items_of line) at x there)
+    each at (Failed d k) there = tt
+    each at (Back d k) there = tt
+
+-- a run that is under way stands in the line, and is one of the window
+pub record IsOnItsWay (line : List Mark) (runs : List Run) (r : RunNo) : Type 0 where
+  pub run : IsTrue (is_run runs r.0)
+  pub placed : stands (Ran r) line ≡ true
+  pub others : AreRunsOf runs (items_of line)
+
+same_run : (r : ℕ) (items : List Item) → list_any (is_mark_of r) items ≡ list_any (is_ran r) items
+same_run r [] = refl
+same_run r (Ran x ∷ items) = ap (λ b. (x.0 == r) || b) (same_run r items)
+same_run r (Failed d k ∷ items) = same_run r items
+same_run r (Back d k ∷ items) = same_run r items
+
+in_order : (s : Configuration) (table : List LineageState) (line : List Mark) (history : List Kept) (runs : List Run) (r : RunNo) → IsStandingOf s table line history runs → IsUnderWay (read_of s) r.0 → IsOnItsWay line runs r
+in_order s table line history runs r is turn =
+    let n : Reading = read_of s in
+    let shaped : Shaped s.setting n = shapes s.setting (entries_of s.history) is.well_formed in
+    let placed : is_some (n.run r.0).placed ≡ true = grind (arith, common_steps, turn.live) in
+    let among : list_any (is_ran r.0) n.line ≡ true = (standing s.setting (entries_of s.history) is.well_formed).line r.0 ∙ live_stands (n.run r.0) turn.live in
+    record {
+      run = subst (λ rs. IsTrue (is_run rs r.0)) is.its_roster ((shaped r.0).known ((shaped r.0).arrived placed));
+      placed = same_run r.0 (items_of line) ∙ ap (list_any (is_ran r.0)) is.its_line.items ∙ among;
+      others = runs_of_line s table line history runs is;
+    }
+  where
+    live_stands : (o : OfRun) → (is_some o.placed && is_none o.ended) ≡ true → stands_in o ≡ true
+    live_stands o live = at o.ended live
+      where
+        at : (e : Option End) → (is_some o.placed && is_none e) ≡ true → (is_some o.placed && not (unwrap_or (option_map is_abort e) false)) ≡ true
+        at None live = let placed : is_some o.placed ≡ true = grind (arith, common_steps) in rw placed refl
+        at (Some e) live = absurd (grind (arith, common_steps))
+
+-- where a strict model may be asked about the run
+pub on_its_way : (model : Visibility) (table : List LineageState) (line : List Mark) (history : List Kept) (runs : List Run) (r : RunNo) → MayAsk model table line history runs r.0 → is_strict_model model ≡ true → IsOnItsWay line runs r
+on_its_way model table line history runs r (InOrder s is turn) strict = in_order s table line history runs r is turn
+on_its_way model table line history runs r (Weakly s is turn weak) strict = absurd (two (is_strict_model model) (ap is_strict_model weak) strict)
+  where
+    two : (b : Bool) → b ≡ false → b ≡ true → ⊥
+    two b e f = cc

@@ -1,0 +1,63 @@
+-- The run for which a model lets a run wait is the one that the line, the ends and the roster tell.
+use Rattle.command_rules.specs.Rosters.{Run, is_run, run_no, shares}
+use Rattle.history_book.specs.Books.{end_of}
+use Rattle.history_book.specs.Histories.{entries_of}
+use Rattle.history_book.specs.Lines.{before, is_ran}
+use Rattle.history_book.specs.Readings.{Reading, is_live}
+use Rattle.history_book.specs.Settings.{Setting}
+use Rattle.history_book.specs.declared.entries.Kept.{Kept}
+use Rattle.home_types.specs.declared.items.Item.TheVariants.{Back, Failed, Ran}
+use Rattle.home_types.specs.declared.items.Item.{Item}
+use Rattle.home_types.specs.declared.modes.Visibility.TheVariants.{Eventual, Global, Partitioned, Weak}
+use Rattle.home_types.specs.declared.modes.Visibility.{Visibility}
+use Rattle.home_types.specs.declared.numbers.DeviceNo.{DeviceNo}
+use Rattle.home_types.specs.declared.numbers.RunNo.{RunNo}
+use Rattle.lineage_table.specs.Lineages.{LineageState}
+use Rattle.lock_leasing.specs.Configurations.{Configuration, read_of}
+use Rattle.lock_leasing.specs.Standings.{IsStandingOf}
+use Rattle.lock_leasing.specs.Waits.{strict_wait}
+use Rattle.lock_leasing.specs.Words.{live_runs}
+use Rattle.serial_line.specs.Marks.{Mark, items_of, stands}
+use Rattle.std.proofs.Common.{ap, arith, refl, subst, sym, ◌∙◌}
+use Rattle.std.proofs.lemmas.Grind.{common_steps}
+use Rattle.std.proofs.lemmas.List.Sums.{take_while-cons}
+use Rattle.std.specs.List.{list_any}
+use Rattle.std.specs.Option.{option_or}
+use Rattle.std.specs.Prelude.{Bool, IsTrue, List, None, Option, Some, [], drop, false, find, if◌then◌else◌, is_none, is_some, not, option_map, slice_get, suc, true, unwrap_or, zero, ℕ, ◌&&◌, ◌+◌, ◌==◌, ◌||◌, ◌∷◌, ◌≡◌}
+use Rattle.visibility_models.proofs.LineRuns.{live_in_line}
+use Rattle.visibility_models.specs.Models.{under}
+use Rattle.visibility_models.specs.Searches.{bars, first_unended_before, unended_run}
+
+-- the first live run before r of which the test holds, where live is what the ends tell of the runs of the line
+found_before : (test : ℕ → Bool) (n : Reading) (history : List Kept) (r : ℕ) (items : List Item) → ((x : ℕ) → list_any (is_ran x) items ≡ true → is_live n x ≡ is_none (end_of history x))
+    → first_unended_before test history r items ≡ option_map run_no (find test (live_runs n (before r items)))
+found_before test n history r [] live = refl
+found_before test n history r (Failed d k ∷ items) live = found_before test n history r items live ∙ ap (λ l. option_map run_no (find test (live_runs n l))) (sym (take_while-cons (λ i. not (is_ran r i)) (Failed d k) items))
+found_before test n history r (Back d k ∷ items) live = found_before test n history r items live ∙ ap (λ l. option_map run_no (find test (live_runs n l))) (sym (take_while-cons (λ i. not (is_ran r i)) (Back d k) items))
+found_before test n history r (Ran x ∷ items) live =
+    let rest = found_before test n history r items (λ y among. live y (rw among (grind (arith, common_steps)))) in
+    let here : is_live n x.0 ≡ is_none (end_of history x.0) = live x.0 (grind (arith, common_steps)) in
+    at (x.0 == r) rest here ∙ ap (λ l. option_map run_no (find test (live_runs n l))) (sym (take_while-cons (λ i. not (is_ran r i)) (Ran x) items))
+  where
+    at : (b : Bool) → first_unended_before test history r items ≡ option_map run_no (find test (live_runs n (before r items))) → is_live n x.0 ≡ is_none (end_of history x.0)
+        → (if b then None else option_or (unended_run test history (Ran x)) (first_unended_before test history r items)) ≡ option_map run_no (find test (live_runs n (if not b then Ran x ∷ before r items else [])))
+    at true rest here = refl
+    at false rest here = grind (arith, common_steps)
+
+pub wait_is : (model : Visibility) (s : Configuration) (r : ℕ) (table : List LineageState) (line : List Mark) (history : List Kept) (runs : List Run) → IsStandingOf s table line history runs
+    → first_unended_before (bars model runs r) history r (items_of line) ≡ option_map run_no (strict_wait (under model s.setting) (read_of s) r)
+wait_is model s r table line history runs is =
+    ap (first_unended_before (bars model runs r) history r) is.its_line.items
+    ∙ found_before (bars model runs r) (read_of s) history r (read_of s).line (λ x among. live_in_line s x table line history runs is among)
+    ∙ ap (λ rs. option_map run_no (find (bars model rs r) (live_runs (read_of s) (before r (read_of s).line)))) (sym is.its_roster)
+    ∙ by_model model
+  where
+    none_of : (xs : List ℕ) → find (λ x. false) xs ≡ None
+    none_of [] = refl
+    none_of (x ∷ xs) = none_of xs
+
+    by_model : (m : Visibility) → option_map run_no (find (bars m s.setting.runs r) (live_runs (read_of s) (before r (read_of s).line))) ≡ option_map run_no (strict_wait (under m s.setting) (read_of s) r)
+    by_model Weak = ap (option_map run_no) (none_of (live_runs (read_of s) (before r (read_of s).line)))
+    by_model Global = refl
+    by_model Partitioned = refl
+    by_model Eventual = ap (option_map run_no) (none_of (live_runs (read_of s) (before r (read_of s).line)))

@@ -1,0 +1,14 @@
+use Rattle.command_rules.specs.Rosters.{runs_of}
+use Rattle.std.proofs.Common.{length, ◌-◌, ◌≡◌, ◌≤◌}
+use Rattle.std.specs.List.{range_with_len}
+use Rattle.std.specs.Prelude.{find}
+use Rattle.visibility_models.proofs.ends.find_down.Given as goal
+use Rattle.visibility_models.specs.Searches.{first_down_for, is_down_for}
+
+-- no device so far is down for the run
+abbrev pub invariant-devices : goal.invariant-devices
+invariant-devices l = record {
+  few : l.d-end ≤ 65536;
+  size : l.d-end ≡ length l.s.table.now;
+  left : first_down_for l.s.table.now l.s.line.now.marks (runs_of l.s.roster.now) l.r.0 ≡ find (is_down_for l.s.table.now l.s.line.now.marks (runs_of l.s.roster.now) l.r.0) (range_with_len l.d (l.d-end - l.d));
+}

@@ -1,0 +1,13 @@
+use Rattle.command_rules.specs.Rosters.{runs_of}
+use Rattle.serial_line.specs.Marks.{items_of}
+use Rattle.std.proofs.Common.{drop, length, ◌≡◌}
+use Rattle.visibility_models.proofs.waits.find_unended.Given as goal
+use Rattle.visibility_models.specs.Searches.{bars, first_unended_before}
+
+-- no item so far is the run, nor one for which it waits
+abbrev pub invariant-items : goal.invariant-items
+invariant-items l = record {
+  size : l.at-end ≡ length l.s.line.now.marks;
+  left : first_unended_before (bars l.model (runs_of l.s.roster.now) l.r.0) l.s.book.now.items l.r.0 (items_of l.s.line.now.marks)
+      ≡ first_unended_before (bars l.model (runs_of l.s.roster.now) l.r.0) l.s.book.now.items l.r.0 (drop l.at (items_of l.s.line.now.marks));
+}
