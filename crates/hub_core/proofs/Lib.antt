@@ -31,3 +31,4 @@ pub mod HubRefusals
 pub mod TestWindows
 pub mod PlannedInTurn
 pub mod NotedAnswers
+pub mod OrderSteps

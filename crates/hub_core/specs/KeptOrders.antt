@@ -1,9 +1,17 @@
--- What the line and the table of a window ask for, and what they are.
+-- What the line and the table of a window ask for, and what is kept of them.
+use Rattle.history_book.specs.Readings.{Reading}
+use Rattle.history_book.specs.Settings.{Setting}
+use Rattle.hub_core.specs.HubCalls.{entries_of_a_run}
+use Rattle.hub_core.specs.ReadHistories.{HistoryState, read_in}
 use Rattle.lineage_table.specs.Accesses.{is_scheduled, status_of}
 use Rattle.lineage_table.specs.Lineages.{LineageState}
 use Rattle.lineage_table.specs.declared.accesses.Status.TheVariants.{Acquired, Scheduled}
-use Rattle.std.specs.Prelude.{Bool, Some, false, if◌then◌else◌, option_map, true, unwrap_or, ℕ, ◌≡◌}
-use Rattle.window_order.proofs.TableCalls.{IsFirst}
+use Rattle.lock_leasing.specs.Configurations.{Grips}
+use Rattle.serial_line.specs.Marks.{Marked}
+use Rattle.std.specs.Prelude.{Bool, List, Some, false, if◌then◌else◌, length, option_map, true, unwrap_or, ℕ, ◌*◌, ◌+◌, ◌≡◌, ◌≤◌}
+use Rattle.window_order.proofs.TouchedLines.{MarksAreKept}
+use Rattle.window_order.specs.TableChanges.{IsFirst}
+use Rattle.window_order.specs.TableKept.{TableIsKept}
 
 -- the run has not touched the device: its access is scheduled
 abbrev pub is_first : ℕ → LineageState → Bool
@@ -13,3 +21,14 @@ is_first r s = unwrap_or (option_map is_scheduled (status_of r s.accesses)) fals
 pub record MayNote (r : ℕ) (s : LineageState) : Type 0 where
   pub status : status_of r s.accesses ≡ Some (if is_first r s then Scheduled else Acquired)
   pub first : is_first r s ≡ true → IsFirst r s
+
+-- the table is that of the reading, and the line too, each item with what it has touched; after so many entries the line has no more items, and room for one with each entry to come
+pub record IsOrderOf (w : Setting) (n : Reading) (g : Grips) (entries : ℕ) (line : Marked) (table : List LineageState) : Type 0 where
+  pub table_is : TableIsKept w n table
+  pub line_is : MarksAreKept n g line.marks
+  pub short : length line.marks ≤ entries
+  pub room : entries_of_a_run * length w.runs ≤ line.spare + entries
+
+-- the line and the table of a history
+abbrev pub OrderIsBeside : HistoryState → Grips → Marked → List LineageState → Type 0
+OrderIsBeside h g line table = IsOrderOf h.setting (read_in h) g (length h.history) line table

@@ -8,8 +8,7 @@ ghost use Rattle.hub_core.specs.PlansInTurn.{planned_in_turn};
 ghost use Rattle.lineage_table.specs.Accesses.{status_of};
 ghost use Rattle.lineage_table.specs.Lineages.{IsOpened, accesses_at, lineage_at, with_lineage};
 ghost use Rattle.serial_line.specs.Marks.{items_of, stands, touching, with_item};
-ghost use Rattle.window_order.proofs.PlacedTables.{IsNewOn};
-ghost use Rattle.window_order.specs.TableChanges.{ChangesEach, acquired_if, noted, scheduled_on, written_if};
+ghost use Rattle.window_order.specs.TableChanges.{ChangesEach, IsNewOn, acquired_if, noted, scheduled_on, written_if};
 
 use crate::plans::{end_on, start_on};
 use command_rules::Roster;

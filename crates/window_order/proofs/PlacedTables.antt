@@ -30,7 +30,7 @@ use Rattle.std.specs.Prelude.{Bool, List, None, Option, Some, [], drop, false, f
 use Rattle.window_order.proofs.AccessLists.{SameBut, along_end, along_lacks, front_but, front_whole}
 use Rattle.window_order.proofs.ReadFacts.{IsRead, lacks_count}
 use Rattle.window_order.proofs.TableFrames.{SameLineage, access_by, commits_by, lineage_same, put_says, same_committed, uses_by, write_by}
-use Rattle.window_order.specs.TableChanges.{placed_change, waiting_access}
+use Rattle.window_order.specs.TableChanges.{IsNewOn, placed_change, waiting_access}
 use Rattle.window_order.specs.TableKept.{LineageIsKept, TableIsKept, access_read, accesses_read, commits_write, unplaced_among, unplaced_on}
 
 -- The start
@@ -257,11 +257,7 @@ placed_kept w n r m read may d s kept = at_ (touches w.runs r d) refl
       up = kept.up;
     })
 
--- what the table asks for before it schedules the run's access: the run has none, and there is room
-pub record IsNewOn (r : ℕ) (s : LineageState) : Type 0 where
-  pub none : has_access r s.accesses ≡ false
-  pub room : 0 < s.room
-
+-- a run that is placed is new on each of its devices
 pub new_on : (w : Setting) (n : Reading) (r m : ℕ) → IsRead w n → may_follow w n (Placed (run_no r) (length n.line) m) ≡ true → (d : ℕ) (s : LineageState) → touches w.runs r d ≡ true → LineageIsKept w n d s → IsNewOn r s
 new_on w n r m read may d s used kept = record {
   none = ap (has_access r) kept.accesses ∙ along_lacks (uses w n d) (commits_write n d) (access_read w n d) r n.line (λ x. refl) lacks;

@@ -28,7 +28,7 @@ use Rattle.window_order.proofs.ReadFacts.{IsRead}
 use Rattle.window_order.proofs.Representing.{NoneIsDoomed, gripped_pends}
 use Rattle.window_order.proofs.Runs.{three}
 use Rattle.window_order.specs.OrderKept.{GripsFit}
-use Rattle.window_order.specs.TableChanges.{acquired_if, written_if}
+use Rattle.window_order.specs.TableChanges.{IsFirst, acquired_if, written_if}
 use Rattle.window_order.specs.TableKept.{LineageIsKept, access_read, accesses_along, commits_write, status_read}
 
 self : (x : ℕ) → (x == x) ≡ true
@@ -152,12 +152,6 @@ found n d x (Ran q ∷ is) none there = at_ (found n d x is) (q.0 == x) refl non
     at_ ih false e h k = ih (later (did n q.0 d) (list_any (of_run (λ y. did n y d)) is) h) k
 found n d x (Failed e k ∷ is) none there = found n d x is none there
 found n d x (Back e k ∷ is) none there = found n d x is none there
-
--- what the table asks for before it marks a first answer
-pub record IsFirst (r : ℕ) (s : LineageState) : Type 0 where
-  pub scheduled : status_of r s.accesses ≡ Some Scheduled
-  pub none_acquired : some_acquired s.accesses ≡ false
-  pub none_before : some_scheduled (before r s.accesses) ≡ false
 
 pub used_parts : (w : Setting) (n : Reading) (d x : ℕ) → uses w n d x ≡ true → Parts (is_live n x) (touches w.runs x d)
 used_parts w n d x h = at_ (is_live n x) (touches w.runs x d) (touches w.runs x d && not (pends w n x d) && not (did n x d)) h

@@ -8,11 +8,12 @@ use Rattle.home_types.specs.Kinds.{kind_at}
 use Rattle.home_types.specs.declared.commands.Answer.{Answer}
 use Rattle.home_types.specs.declared.commands.Command.{Command}
 use Rattle.home_types.specs.declared.commands.View.{View}
+use Rattle.lineage_table.specs.Accesses.{before, has_access, some_acquired, some_scheduled, status_of}
 use Rattle.lineage_table.specs.Lineages.{LineageState, acquired, lineage_at, released, scheduled, written}
 use Rattle.lineage_table.specs.declared.accesses.Access.{Access}
 use Rattle.lineage_table.specs.declared.accesses.Status.TheVariants.{Scheduled}
 use Rattle.lock_leasing.specs.Tables.{view_when}
-use Rattle.std.specs.Prelude.{Bool, List, None, Option, Some, if◌then◌else◌, length, not, ℕ, ◌+◌, ◌<◌, ◌==◌, ◌≡◌}
+use Rattle.std.specs.Prelude.{Bool, List, None, Option, Some, false, if◌then◌else◌, length, not, ℕ, ◌+◌, ◌<◌, ◌==◌, ◌≡◌}
 
 -- the table has the same devices, and each has its lineage changed so
 pub record ChangesEach (change : ℕ → LineageState → LineageState) (old new : List LineageState) : Type 0 where
@@ -25,6 +26,11 @@ pub record ChangesEach (change : ℕ → LineageState → LineageState) (old new
 abbrev pub waiting_access : ℕ → List Planned → ℕ → Access
 waiting_access r planned d = record { run = run_no r; status = Scheduled; view = None; wrote = None; from = planned_start planned d; to = planned_end planned d }
 
+-- what the table asks for before it schedules the run's access: the run has none, and there is room
+pub record IsNewOn (r : ℕ) (s : LineageState) : Type 0 where
+  pub none : has_access r s.accesses ≡ false
+  pub room : 0 < s.room
+
 -- it has an access on each of its devices, with these planned times
 abbrev pub scheduled_on : List Run → ℕ → List Planned → ℕ → LineageState → LineageState
 scheduled_on runs r planned d s = if touches runs r d then scheduled None (waiting_access r planned d) s else s
@@ -33,6 +39,12 @@ abbrev pub placed_change : Setting → Reading → ℕ → ℕ → ℕ → Linea
 placed_change w n r m = scheduled_on w.runs r (planned_times w n r n.line m)
 
 -- A command is answered
+
+-- what the table asks for before it marks a first answer
+pub record IsFirst (r : ℕ) (s : LineageState) : Type 0 where
+  pub scheduled : status_of r s.accesses ≡ Some Scheduled
+  pub none_acquired : some_acquired s.accesses ≡ false
+  pub none_before : some_scheduled (before r s.accesses) ≡ false
 
 abbrev pub acquired_if : Bool → ℕ → View → LineageState → LineageState
 acquired_if first r view s = if first then acquired r view s else s

@@ -1,0 +1,226 @@
+-- Each entry of this stage keeps the line and the table of a window.
+use Rattle.command_rules.specs.Rosters.{command_at, commands_of, run_no, runs_of, touches, touches_from}
+use Rattle.commit_compaction.specs.Commits.{committed_lineage}
+use Rattle.device_order.specs.LineWords.{CutAt}
+use Rattle.history_book.proofs.Snoc.{each_at, entries_on, reading_more}
+use Rattle.history_book.specs.Histories.{entries_of, entry, kept_by, reading}
+use Rattle.history_book.specs.Readings.{Reading, did, is_live, next_of, nothing_read, pends, put}
+use Rattle.history_book.specs.Settings.{Setting}
+use Rattle.history_book.specs.WellFormed.{IsWellFormed, may_follow}
+use Rattle.history_book.specs.declared.entries.End.TheVariants.{Committed}
+use Rattle.history_book.specs.declared.entries.Entry.TheVariants.{Arrived, Did, Ended, Placed}
+use Rattle.history_book.specs.declared.entries.Entry.{Entry}
+use Rattle.history_book.specs.declared.entries.Kept.{Kept}
+use Rattle.home_types.specs.declared.commands.Answer.{Answer}
+use Rattle.home_types.specs.declared.commands.View.{View}
+use Rattle.home_types.specs.declared.items.Item.TheVariants.{Ran}
+use Rattle.home_types.specs.declared.modes.Scheduler.TheVariants.{Fcfs}
+use Rattle.hub_core.proofs.PlannedInTurn.{planned_first_come}
+use Rattle.hub_core.specs.HubCalls.{entries_of_a_run}
+use Rattle.hub_core.specs.KeptOrders.{IsOrderOf, MayNote, OrderIsBeside, is_first}
+use Rattle.hub_core.specs.PlansInTurn.{planned_in_turn}
+use Rattle.hub_core.specs.ReadHistories.{HistoryState, read_in, with_entry}
+use Rattle.lineage_table.specs.Accesses.{is_scheduled, status_of}
+use Rattle.lineage_table.specs.Lineages.{IsOpened, LineageState, lineage_at, with_lineage}
+use Rattle.lineage_table.specs.declared.accesses.Status.TheVariants.{Acquired, Released, Scheduled}
+use Rattle.lock_leasing.specs.Configurations.{Commands, Grips, no_grips}
+use Rattle.serial_line.specs.Marks.{Mark, Marked, touching, with_item, with_touch}
+use Rattle.std.proofs.Common.{ap, arith, length-append, refl, subst, sym, ◌∙◌}
+use Rattle.std.proofs.lemmas.Grind.{common_steps}
+use Rattle.std.proofs.lemmas.List.{length-map}
+use Rattle.std.specs.Prelude.{Bool, IsTrue, List, None, Option, Some, [], false, if◌then◌else◌, insert, is_none, length, not, option_map, suc, true, unwrap_or, ℕ, ◌*◌, ◌++◌, ◌+◌, ◌-◌, ◌<◌, ◌==◌, ◌∷◌, ◌≡◌, ◌≤◌}
+use Rattle.window_order.proofs.AnsweredTables.{TouchesNow}
+use Rattle.window_order.proofs.PlacedTables.{arrived_table, new_on, opened_table}
+use Rattle.window_order.proofs.ReadFacts.{IsRead}
+use Rattle.window_order.proofs.Representing.{NoneIsDoomed}
+use Rattle.window_order.proofs.Runs.{cut_live}
+use Rattle.window_order.proofs.Steps.{IsOut, out_is}
+use Rattle.window_order.proofs.TableCalls.{first_answer, status_there}
+use Rattle.window_order.proofs.TableSteps.{answered_table, changes_one, committed_table, out_touches, placed_table}
+use Rattle.window_order.proofs.TouchedLines.{MarksAreKept, marks_answered, marks_arrived, marks_begin, marks_committed, marks_out, marks_placed}
+use Rattle.window_order.specs.OrderKept.{GripsFit, OrderIsKept}
+use Rattle.window_order.specs.TableChanges.{ChangesEach, IsNewOn, answered_change, answered_lineage, noted, scheduled_on, told_write}
+use Rattle.window_order.specs.TableKept.{TableIsKept, status_read}
+use Rattle.lock_leasing.specs.Tables.{view_when}
+use Rattle.history_book.specs.Readings.{is_told}
+
+-- One entry more
+
+read_more : (w : Setting) (h : List Kept) (maker : ℕ) (e : Entry) → reading w (entries_of (h ++ kept_by maker (e ∷ []))) ≡ entry w (reading w (entries_of h)) e
+read_more w h maker e = ap (reading w) (entries_on h maker (e ∷ [])) ∙ reading_more w (entries_of h) e
+
+-- the last entry may stand where it stands
+pub last_follows : (w : Setting) (h : List Kept) (maker : ℕ) (e : Entry) → IsWellFormed w (entries_of (h ++ kept_by maker (e ∷ []))) → IsTrue (may_follow w (reading w (entries_of h)) e)
+last_follows w h maker e formed = each_at w (may_follow w) (nothing_read w) (entries_of h) e [] (subst (IsWellFormed w) (entries_on h maker (e ∷ [])) formed)
+
+-- what is kept after it is kept of the history with it
+entry_kept : (h h₂ : HistoryState) (g : Grips) (maker : ℕ) (e : Entry) (line : Marked) (table : List LineageState) → h₂ ≡ with_entry h maker e → IsOrderOf h.setting (entry h.setting (read_in h) e) g (length h.history + 1) line table → OrderIsBeside h₂ g line table
+entry_kept h h₂ g maker e line table new kept =
+    subst (λ (x : HistoryState). OrderIsBeside x g line table) (sym new)
+    (subst (λ k. IsOrderOf h.setting (read_in (with_entry h maker e)) g k line table) (sym (length-append h.history (kept_by maker (e ∷ []))))
+    (subst (λ n. IsOrderOf h.setting n g (length h.history + 1) line table) (sym (read_more h.setting h.history maker e)) kept))
+
+-- The start
+
+pub order_begins : (w : Setting) (line : Marked) (table : List LineageState) → line.marks ≡ [] → entries_of_a_run * length w.runs ≤ line.spare → IsOpened w.runs w.first table → IsOrderOf w (nothing_read w) no_grips 0 line table
+order_begins w line table none room opened = record {
+  table_is = opened_table w table opened;
+  line_is = subst (MarksAreKept (nothing_read w) no_grips) (sym none) (marks_begin w);
+  short = let size = ap (λ (x : List Mark). length x) none in omega (arith, size);
+  room = omega (arith, room);
+}
+
+-- A run arrives
+
+pub order_arrived : (h h₂ : HistoryState) (g : Grips) (r m : ℕ) (line : Marked) (table : List LineageState) → h₂ ≡ with_entry h r (Arrived (run_no r) m) → OrderIsBeside h g line table → OrderIsBeside h₂ g line table
+order_arrived h h₂ g r m line table new kept = entry_kept h h₂ g r (Arrived (run_no r) m) line table new (record {
+  table_is = arrived_table h.setting (read_in h) r m table kept.table_is;
+  line_is = marks_arrived h.setting (read_in h) g r m line.marks kept.line_is;
+  short = omega (arith, kept.short);
+  room = omega (arith, kept.room);
+})
+
+-- A run is placed
+
+length_with : (marks : List Mark) (r : ℕ) → length (with_item (length marks) (Ran (run_no r)) marks) ≡ length marks + 1
+length_with [] r = refl
+length_with (m ∷ marks) r = ap suc (length_with marks r) ∙ next (length marks)
+  where
+    next : (k : ℕ) → suc (k + 1) ≡ suc k + 1
+    next k = omega arith
+
+pub order_placed : (h h₂ : HistoryState) (g : Grips) (r m : ℕ) (line after : Marked) (table later : List LineageState) → IsRead h.setting (read_in h) → GripsFit h.setting (read_in h) g → h.setting.mode.scheduler ≡ Fcfs
+    → h₂ ≡ with_entry h r (Placed (run_no r) (length (read_in h).line) m) → IsWellFormed h₂.setting (entries_of h₂.history)
+    → after.marks ≡ with_item (length line.marks) (Ran (run_no r)) line.marks → after.spare + 1 ≡ line.spare → ChangesEach (scheduled_on h.setting.runs r (planned_in_turn m (commands_of h.setting.runs r))) table later
+    → OrderIsBeside h g line table → OrderIsBeside h₂ g after later
+order_placed h h₂ g r m line after table later read fit first_come new formed marks spare changes kept = entry_kept h h₂ g r (Placed (run_no r) (length (read_in h).line) m) after later new (record {
+  table_is = placed_table w n r m table later read may (subst (λ planned. ChangesEach (scheduled_on w.runs r planned) table later) (sym (planned_first_come w n r n.line m first_come)) changes) kept.table_is;
+  line_is = subst (MarksAreKept (entry w n (Placed (run_no r) (length n.line) m)) g) (sym marks) (marks_placed w n g r m line.marks read fit may kept.line_is);
+  short = let size = ap (λ (x : List Mark). length x) marks ∙ length_with line.marks r in omega (arith, size, kept.short);
+  room = omega (arith, spare, kept.room);
+})
+  where
+    w : Setting
+    w = h.setting
+
+    n : Reading
+    n = read_in h
+
+    may : may_follow w n (Placed (run_no r) (length n.line) m) ≡ true
+    may = last_follows w h.history r (Placed (run_no r) (length n.line) m) (subst (λ (x : HistoryState). IsWellFormed x.setting (entries_of x.history)) new formed)
+
+-- A run commits
+
+pub order_committed : (h h₂ : HistoryState) (g : Grips) (r : ℕ) (line after : Marked) (table later : List LineageState) → IsRead h.setting (read_in h) → h₂ ≡ with_entry h r (Ended (run_no r) Committed) → IsWellFormed h₂.setting (entries_of h₂.history)
+    → after ≡ line → ChangesEach (λ d. committed_lineage r) table later → OrderIsBeside h g line table → OrderIsBeside h₂ g after later
+order_committed h h₂ g r line after table later read new formed same changes kept = entry_kept h h₂ g r (Ended (run_no r) Committed) after later new (subst (λ (x : Marked). IsOrderOf w (entry w n (Ended (run_no r) Committed)) g (length h.history + 1) x later) (sym same) (record {
+  table_is = committed_table w n r table later read may changes kept.table_is;
+  line_is = marks_committed w n g r line.marks kept.line_is;
+  short = omega (arith, kept.short);
+  room = omega (arith, kept.room);
+}))
+  where
+    w : Setting
+    w = h.setting
+
+    n : Reading
+    n = read_in h
+
+    may : may_follow w n (Ended (run_no r) Committed) ≡ true
+    may = last_follows w h.history r (Ended (run_no r) Committed) (subst (λ (x : HistoryState). IsWellFormed x.setting (entries_of x.history)) new formed)
+
+-- A command goes out
+
+length_touching : (r d : ℕ) (marks : List Mark) → length (touching r d marks) ≡ length marks
+length_touching r d marks = length-map marks (with_touch r d)
+
+pub order_out : (h : HistoryState) (g f : Grips) (r d k : ℕ) (line after : Marked) (table later : List LineageState) → g d ≡ None → f ≡ put g d (Some (record { maker = r; purpose = Commands k })) → after.marks ≡ touching r d line.marks → after.spare ≡ line.spare → later ≡ table
+    → OrderIsBeside h g line table → OrderIsBeside h f after later
+order_out h g f r d k line after table later home out marks spare same kept = record {
+  table_is = subst (TableIsKept h.setting (read_in h)) (sym same) kept.table_is;
+  line_is = subst (λ x. MarksAreKept (read_in h) x after.marks) (sym out) (subst (MarksAreKept (read_in h) (put g d (Some (record { maker = r; purpose = Commands k })))) (sym marks) (marks_out (read_in h) g r d k line.marks home kept.line_is));
+  short = let size = ap (λ (x : List Mark). length x) marks ∙ length_touching r d line.marks in omega (arith, size, kept.short);
+  room = omega (arith, spare, kept.room);
+}
+
+-- A command is answered
+
+-- the run's turn on the device of its command
+pub may_note : (w : Setting) (n : Reading) (g : Grips) (held : ℕ → ℕ) (d r k : ℕ) (table : List LineageState) → IsRead w n → OrderIsKept w n g held → NoneIsDoomed n → g d ≡ Some (record { maker = r; purpose = Commands k }) → d < length w.first → TableIsKept w n table
+    → (is_first r (lineage_at table d) ≡ not (did n r d)) × MayNote r (lineage_at table d)
+may_note w n g held d r k table read order sound at below kept = (first, record { status = status; first = λ h. first_answer w n d r cut (lineage_at table d) read turn (unseen (did n r d) (sym first ∙ h)) (kept.each d below) })
+  where
+    cut : CutAt r n.line
+    cut = cut_live w n r read (out_is w n g d r k order.grips at).live
+
+    turn : TouchesNow w n d r cut
+    turn = out_touches w n g held d r k cut read order sound at
+
+    stands : status_of r (lineage_at table d).accesses ≡ Some (if did n r d then Acquired else Scheduled)
+    stands = status_there w n d r cut (lineage_at table d) read turn (kept.each d below) ∙ (λ i. Some (if did n r d then (if turn.pending i then Acquired else Released) else Scheduled))
+
+    by_did : (b : Bool) → is_scheduled (if b then Acquired else Scheduled) ≡ not b
+    by_did true = refl
+    by_did false = refl
+
+    first : is_first r (lineage_at table d) ≡ not (did n r d)
+    first = ap (λ o. unwrap_or (option_map is_scheduled o) false) stands ∙ by_did (did n r d)
+
+    turned : (b : Bool) → (if b then Acquired else Scheduled) ≡ (if not b then Scheduled else Acquired)
+    turned true = refl
+    turned false = refl
+
+    status : status_of r (lineage_at table d).accesses ≡ Some (if is_first r (lineage_at table d) then Scheduled else Acquired)
+    status = stands ∙ ap (λ s. Some s) (turned (did n r d)) ∙ (λ i. Some (if sym first i then Scheduled else Acquired))
+
+    unseen : (b : Bool) → not b ≡ true → b ≡ false
+    unseen true h = absurd (cc)
+    unseen false h = refl
+
+-- what the answer tells of the device
+pub record ToldOf (w : Setting) (n : Reading) (r k : ℕ) (a : Answer) (view : View) (wrote : Option ℕ) (last : Bool) : Type 0 where
+  pub view_is : view ≡ view_when (is_told a)
+  pub wrote_is : wrote ≡ told_write w n r (command_at w.runs r k) a
+  pub last_is : last ≡ not (touches_from w.runs r (command_at w.runs r k).device.0 (k + 1))
+
+pub order_answered : (h h₂ : HistoryState) (g f : Grips) (held : ℕ → ℕ) (d r k : ℕ) (a : Answer) (view : View) (wrote : Option ℕ) (last : Bool) (line after : Marked) (table later : List LineageState)
+    → IsRead h.setting (read_in h) → OrderIsKept h.setting (read_in h) g held → NoneIsDoomed (read_in h) → g d ≡ Some (record { maker = r; purpose = Commands k }) → d < length h.setting.first
+    → h₂ ≡ with_entry h r (Did (run_no r) k a) → f ≡ put g d None → ToldOf h.setting (read_in h) r k a view wrote last → after ≡ line → later ≡ with_lineage table d (noted r (is_first r (lineage_at table d)) view wrote last)
+    → OrderIsBeside h g line table → OrderIsBeside h₂ f after later
+order_answered h h₂ g f held d r k a view wrote last line after table later read order sound at below new home told same changed kept =
+    entry_kept h h₂ f r (Did (run_no r) k a) after later new (subst (λ (x : Grips). IsOrderOf w m x (length h.history + 1) after later) (sym home) (subst (λ (x : Marked). IsOrderOf w m (put g d None) (length h.history + 1) x later) (sym same) (record {
+      table_is = answered_table w n g held d r k a table later read order sound at changes kept.table_is;
+      line_is = marks_answered w n g d r k a line.marks out at kept.line_is;
+      short = omega (arith, kept.short);
+      room = omega (arith, kept.room);
+    })))
+  where
+    w : Setting
+    w = h.setting
+
+    n : Reading
+    n = read_in h
+
+    m : Reading
+    m = entry w n (Did (run_no r) k a)
+
+    out : IsOut w n d r k
+    out = out_is w n g d r k order.grips at
+
+    first : is_first r (lineage_at table d) ≡ not (did n r (command_at w.runs r k).device.0)
+    first = (may_note w n g held d r k table read order sound at below kept.table_is).0 ∙ ap (λ x. not (did n r x)) out.device
+
+    one : LineageState → LineageState
+    one = noted r (is_first r (lineage_at table d)) view wrote last
+
+    is_answered : (s : LineageState) → one s ≡ answered_lineage w n r k a s
+    is_answered s = λ i. noted r (first i) (told.view_is i) (told.wrote_is i) (told.last_is i) s
+
+    single : ChangesEach (λ e s. if e == d then one s else s) table (with_lineage table d one)
+    single = changes_one table d one (subst (λ x. d < x) (sym kept.table_is.devices) below)
+
+    changes : ChangesEach (answered_change w n r k a) table later
+    changes = subst (ChangesEach (answered_change w n r k a) table) (sym changed) (record {
+      devices = single.devices;
+      each = λ e lt. single.each e lt ∙ (λ i. if e == out.device i then is_answered (lineage_at table e) i else lineage_at table e);
+    })
