@@ -1,0 +1,3 @@
+pub mod SoundScripts
+pub mod Searches
+pub mod NoLaterForms

@@ -1,0 +1,25 @@
+ghost use Rattle.std.specs.Prelude.{◌≡◌};
+ghost use Rattle.later_forms.specs.CommandLines.{is_later as is_later_line, is_later_mode as is_later_with};
+
+use command_words::CommandLine;
+use home_types::{Mode, Scheduler, Visibility};
+
+/// Whether the command, or the mode that it asks for, is not built yet.
+pub fn is_later(line: CommandLine) -> bool
+    ensures { result ≡ is_later_line line }
+{
+    match line {
+        CommandLine::Replay(options) => is_later_mode(options.mode),
+        CommandLine::Run(_) | CommandLine::Check | CommandLine::Trial(_) => true,
+    }
+}
+
+/// Whether the mode is not the global model, first come first served.
+fn is_later_mode(mode: Mode) -> bool
+    ensures { result ≡ is_later_with mode }
+{
+    match (mode.model, mode.scheduler) {
+        (Visibility::Global, Scheduler::Fcfs) => false,
+        (_, _) => true,
+    }
+}
