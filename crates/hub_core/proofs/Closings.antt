@@ -2,7 +2,7 @@
 use Rattle.command_rules.specs.Rosters.{device_no, is_run, run_no}
 use Rattle.history_book.specs.Histories.{entries_of, line_of}
 use Rattle.history_book.specs.Readings.{is_committing}
-use Rattle.history_book.specs.Settings.{device_numbers, is_device, is_weak, run_numbers}
+use Rattle.history_book.specs.Settings.{device_numbers, is_device, run_numbers}
 use Rattle.history_book.specs.WellFormed.{IsWellFormed}
 use Rattle.history_book.specs.declared.entries.End.{End}
 use Rattle.history_book.specs.declared.entries.End.TheVariants.{Aborted, Committed}
@@ -124,7 +124,7 @@ serial_is s rounds opened held last kept quiet at = record { applies = agrees.ap
     plainly = steps_plainly s rounds opened held kept
 
     agrees : AgreesAtEnd s.setting (read_of s) last
-    agrees = agrees_where_home s.setting (read_of s) s.grips held last (read_facts s.setting (entries_of s.history) kept.history.well_formed) kept.order (ap is_weak kept.stage.mode) (none_live s rounds opened held kept quiet) at.size
+    agrees = agrees_where_home s.setting (read_of s) s.grips held last (read_facts s.setting (entries_of s.history) kept.history.well_formed) kept.order kept.stage.strong (none_live s rounds opened held kept quiet) at.size
         (λ d less. none_out s rounds opened held d kept quiet) (λ d less. plainly.read.up d ∙ kept.stage.up d less) at.each
 
 each_ended : (s : Configuration) (a k : ℕ) → ((r : ℕ) → a ≤ r → r < a + k → is_some ((read_of s).run r).ended ≡ true) → IsTrue (list_all (λ r. is_some ((read_of s).run r).ended) (range_with_len a k))
@@ -165,7 +165,7 @@ legal_is s rounds opened held closed kept quiet told =
     of_history P p = subst (λ h. P (entries_of h)) (sym told.history) p
 
 pub legal_window : (s : Configuration) (rounds opened : ℕ) (held : ℕ → ℕ) (closed : WindowRecord) → ConfigurationIsKept s rounds opened held → IsQuiet s → IsRecordOf s held closed → IsLegalWindow s.setting closed
-legal_window s rounds opened held closed kept quiet told = subst under_weak (sym (ap is_weak kept.stage.mode)) (legal_is s rounds opened held closed kept quiet told)
+legal_window s rounds opened held closed kept quiet told = subst under_weak (sym kept.stage.strong) (legal_is s rounds opened held closed kept quiet told)
   where
     under_weak : Bool → Type 0
     under_weak true = IsWeaklyLegal s.setting closed

@@ -65,9 +65,6 @@ holders w n g d (Ran r ∷ items) sound = by_live (is_live n r.0) refl (holders 
 pub behind_is : (w : Setting) (n : Reading) (g : Grips) (r d : ℕ) → StepsPlainly w n → behind_wait w n g r d ≡ find (λ x. pends w n x d) (live_before n r)
 behind_is w n g r d p = holders w n g d (before r n.line) (λ q. (p.read.runs q).sound)
 
-pub strict_is : (w : Setting) (n : Reading) (r : ℕ) → StepsPlainly w n → strict_wait w n r ≡ find (λ x. true) (live_before n r)
-strict_is w n r p = rw p.mode refl
-
 numbered : (x : RunNo) (o : Option ℕ) → Some x.0 ≡ o → o ≡ Some x.0
 numbered x o is = sym is
 
@@ -76,14 +73,14 @@ numbered x o is = sym is
 pub command_behind : (w : Setting) (n : Reading) (g : Grips) (r k : ℕ) (c : Command) (x : RunNo) → StepsPlainly w n → Some x.0 ≡ find (λ y. pends w n y c.device.0) (live_before n r) → Waits (Behind c.device x) ≡ plain_command w n g r k c
 command_behind w n g r k c x p found = sym (rw (behind_is w n g r c.device.0 p, ← found) refl)
 
-pub command_strict : (w : Setting) (n : Reading) (g : Grips) (r k : ℕ) (c : Command) (x : RunNo) → StepsPlainly w n → None ≡ find (λ y. pends w n y c.device.0) (live_before n r) → Some x.0 ≡ find (λ y. true) (live_before n r) → Waits (Strict x) ≡ plain_command w n g r k c
-command_strict w n g r k c x p none found = sym (rw (behind_is w n g r c.device.0 p, ← none, strict_is w n r p, ← found) refl)
+pub command_strict : (w : Setting) (n : Reading) (g : Grips) (r k : ℕ) (c : Command) (x : RunNo) → StepsPlainly w n → None ≡ find (λ y. pends w n y c.device.0) (live_before n r) → Some x.0 ≡ strict_wait w n r → Waits (Strict x) ≡ plain_command w n g r k c
+command_strict w n g r k c x p none found = sym (rw (behind_is w n g r c.device.0 p, ← none, ← found) refl)
 
-pub command_busy : (w : Setting) (n : Reading) (g : Grips) (r k : ℕ) (c : Command) → StepsPlainly w n → None ≡ find (λ y. pends w n y c.device.0) (live_before n r) → None ≡ find (λ y. true) (live_before n r) → is_out g c.device.0 ≡ true → Waits (Busy c.device) ≡ plain_command w n g r k c
-command_busy w n g r k c p none first out = sym (rw (behind_is w n g r c.device.0 p, ← none, strict_is w n r p, ← first, out) refl)
+pub command_busy : (w : Setting) (n : Reading) (g : Grips) (r k : ℕ) (c : Command) → StepsPlainly w n → None ≡ find (λ y. pends w n y c.device.0) (live_before n r) → None ≡ strict_wait w n r → is_out g c.device.0 ≡ true → Waits (Busy c.device) ≡ plain_command w n g r k c
+command_busy w n g r k c p none first out = sym (rw (behind_is w n g r c.device.0 p, ← none, ← first, out) refl)
 
-pub command_goes : (w : Setting) (n : Reading) (g : Grips) (r k : ℕ) (c : Command) → StepsPlainly w n → None ≡ find (λ y. pends w n y c.device.0) (live_before n r) → None ≡ find (λ y. true) (live_before n r) → is_out g c.device.0 ≡ false → HandsOut c.device.0 (Commands k) ≡ plain_command w n g r k c
-command_goes w n g r k c p none first home = sym (rw (behind_is w n g r c.device.0 p, ← none, strict_is w n r p, ← first, home) refl)
+pub command_goes : (w : Setting) (n : Reading) (g : Grips) (r k : ℕ) (c : Command) → StepsPlainly w n → None ≡ find (λ y. pends w n y c.device.0) (live_before n r) → None ≡ strict_wait w n r → is_out g c.device.0 ≡ false → HandsOut c.device.0 (Commands k) ≡ plain_command w n g r k c
+command_goes w n g r k c p none first home = sym (rw (behind_is w n g r c.device.0 p, ← none, ← first, home) refl)
 
 -- The cases of a run
 

@@ -8,7 +8,7 @@ use Rattle.device_gate.specs.declared.slips.Task.{Task}
 use Rattle.history_book.proofs.Shapes.{shapes}
 use Rattle.history_book.specs.Histories.{entries_of}
 use Rattle.history_book.specs.Readings.{next_of}
-use Rattle.history_book.specs.Settings.{device_numbers, is_device, is_weak, run_numbers}
+use Rattle.history_book.specs.Settings.{device_numbers, is_device, run_numbers}
 use Rattle.home_types.specs.declared.numbers.DeviceNo.{DeviceNo}
 use Rattle.home_types.specs.declared.numbers.RunNo.{RunNo}
 use Rattle.hub_core.proofs.Kept.{out_is}
@@ -63,7 +63,7 @@ stands_hub {D = D} stands turns probes faults s k =
       clean = c.history.clean;
       justified = c.history.justified;
       stand = λ d device at up. (k.home d device at).stand up
-          ∙ stands_home s.setting (read_of (configuration_of s)) (configuration_of s).grips (held_in s) d read c.order (ap (λ mode. is_weak mode) c.stage.mode) (device_has s d (Home device) k.places_size at) (ap (λ o. grip_in o (device_at s.devices d).purpose) at) up;
+          ∙ stands_home s.setting (read_of (configuration_of s)) (configuration_of s).grips (held_in s) d read c.order c.stage.strong (device_has s d (Home device) k.places_size at) (ap (λ o. grip_in o (device_at s.devices d).purpose) at) up;
       told = record {
         turns_rose = λ d device at. (k.home d device at).turns_are;
         probes_rose = λ d device at. (k.home d device at).probes_are;

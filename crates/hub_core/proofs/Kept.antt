@@ -95,7 +95,7 @@ gripless w n g r d fit run gone = by_grip (g d) refl
 -- the end of the line is the scheduler's place
 scheduled_at_end : (w : Setting) (n : Reading) (g : Grips) (r m : ℕ) → StepsPlainly w n → MayBeOut w n g → IsScheduled w n (Placed (run_no r) (length n.line) m)
 unfolding split_of
-scheduled_at_end w n g r m p out = (g, out, rw p.mode refl, take_all n.line)
+scheduled_at_end w n g r m p out = (g, out, rw p.scheduler refl, take_all n.line)
 
 -- The step of a run
 

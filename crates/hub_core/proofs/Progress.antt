@@ -1,5 +1,5 @@
 -- Where no device is out and a run has not ended, some run goes on.
-use Rattle.command_rules.specs.Rosters.{device_no, is_run, run_no}
+use Rattle.command_rules.specs.Rosters.{Run, device_no, is_run, run_no, shares}
 use Rattle.history_book.proofs.Searches.{none_is, some_is}
 use Rattle.history_book.proofs.Shapes.{Shaped, shapes}
 use Rattle.history_book.proofs.Standing.{Standing, standing}
@@ -12,6 +12,11 @@ use Rattle.history_book.specs.declared.entries.Entry.TheVariants.{Arrived, Ended
 use Rattle.home_types.specs.declared.commands.Command.{Command}
 use Rattle.home_types.specs.declared.items.Item.{Item}
 use Rattle.home_types.specs.declared.items.Item.TheVariants.{Back, Failed, Ran}
+use Rattle.home_types.specs.declared.kinds.Kind.{Kind}
+use Rattle.home_types.specs.declared.modes.Scheduler.{Scheduler}
+use Rattle.home_types.specs.declared.modes.Visibility.{Visibility}
+use Rattle.home_types.specs.declared.modes.Visibility.TheVariants.{Eventual, Global, Partitioned, Weak}
+use Rattle.home_types.specs.declared.worlds.Stand.{Stand}
 use Rattle.hub_core.proofs.Sizes.{run_there}
 use Rattle.hub_core.proofs.StageChoices.{StepsPlainly, choice_plain, live_stands, steps_plainly}
 use Rattle.hub_core.proofs.Takes.{live_run}
@@ -89,6 +94,14 @@ home_free w g r home = none (device_numbers w)
 unplaced_goes : (w : Setting) (n : Reading) (g : Grips) (r m : ℕ) → is_run w.runs r ≡ true → (n.run r).ended ≡ None → grip_wait w g r ≡ None → is_none (n.run r).placed ≡ true → is_wait (plain_choice w n g r m) ≡ false
 unplaced_goes w n g r m run going free unplaced = rw (run, going, free, unplaced) (elim (is_none (n.run r).arrived) as (λ b. is_wait (unwrap_or (only_if b (Moves (Arrived (run_no r) m ∷ []))) (Moves (Placed (run_no r) (length n.line) m ∷ []))) ≡ false) [ true ↦ refl | false ↦ refl ])
 
+-- a run that stands behind no live run waits for none by its model
+waits_for_none : (runs : List Run) (kinds : List Kind) (first : List Stand) (model : Visibility) (scheduler : Scheduler) (n : Reading) (r : ℕ) → live_before n r ≡ []
+    → strict_wait (record { runs = runs; mode = record { model = model; scheduler = scheduler }; kinds = kinds; first = first }) n r ≡ None
+waits_for_none runs kinds first Weak scheduler n r none = refl
+waits_for_none runs kinds first Global scheduler n r none = ap (λ xs. find (λ x. true) xs) none
+waits_for_none runs kinds first Partitioned scheduler n r none = ap (λ xs. find (λ x. shares runs x r) xs) none
+waits_for_none runs kinds first Eventual scheduler n r none = refl
+
 -- a live run that stands behind no live run goes on, with its devices home
 first_goes : (w : Setting) (n : Reading) (g : Grips) (r m : ℕ) → StepsPlainly w n → is_run w.runs r ≡ true → is_none (n.run r).arrived ≡ false → is_live n r ≡ true → live_before n r ≡ [] → ((d : ℕ) → g d ≡ None) → is_wait (plain_choice w n g r m) ≡ false
 first_goes w n g r m p run came live first home = rw (run, going, home_free w g r home, came, placed) (by_next (next_command w n r))
@@ -104,7 +117,7 @@ first_goes w n g r m p run came live first home = rw (run, going, home_free w g 
         there (Some x) e = refl
 
     alone : strict_wait w n r ≡ None
-    alone = rw (p.mode, first) refl
+    alone = waits_for_none w.runs w.kinds w.first w.mode.model w.mode.scheduler n r first
 
     by_next : (o : Option Command) → is_wait (unwrap_or (option_map (plain_command w n g r (next_of n r)) o) (Over Committed (Ended (run_no r) Committed ∷ []))) ≡ false
     by_next None = refl

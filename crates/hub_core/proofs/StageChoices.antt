@@ -5,7 +5,7 @@ use Rattle.history_book.proofs.Standing.{Standing, is_abort, standing}
 use Rattle.history_book.specs.Histories.{entries_of}
 use Rattle.history_book.specs.Lines.{Split, before, is_ran}
 use Rattle.history_book.specs.Readings.{PlacedAt, Reading, is_live, next_command, next_of, sees_down}
-use Rattle.history_book.specs.Settings.{Setting, devices_of, is_device, is_strict, is_weak}
+use Rattle.history_book.specs.Settings.{Setting, devices_of, is_device, is_strict, is_weak, scheduler_of}
 use Rattle.history_book.specs.declared.entries.Cause.{Cause}
 use Rattle.history_book.specs.declared.entries.Cause.TheVariants.{DownAtEnd, Revoked}
 use Rattle.history_book.specs.declared.entries.End.{End}
@@ -19,7 +19,9 @@ use Rattle.home_types.specs.declared.commands.Job.TheVariants.{Check, Load, Set,
 use Rattle.home_types.specs.declared.items.Item.{Item}
 use Rattle.home_types.specs.declared.items.Item.TheVariants.{Back, Failed, Ran}
 use Rattle.home_types.specs.declared.modes.Scheduler.TheVariants.{Fcfs}
-use Rattle.home_types.specs.declared.modes.Visibility.TheVariants.{Global}
+use Rattle.home_types.specs.declared.modes.Scheduler.{Scheduler}
+use Rattle.home_types.specs.declared.modes.Visibility.{Visibility}
+use Rattle.home_types.specs.declared.modes.Visibility.TheVariants.{Eventual, Global, Partitioned, Weak}
 use Rattle.hub_core.proofs.Choices.{Answered, Commanding, IsNext, decide_is}
 use Rattle.hub_core.proofs.StageFacts.{ReadsPlainly, reads_plainly}
 use Rattle.hub_core.specs.HubKept.{ConfigurationIsKept, is_later, placed_in_order}
@@ -50,7 +52,8 @@ same_map f h (Some y) s t some none = some y refl
 
 -- what makes a step plain
 pub record StepsPlainly (w : Setting) (n : Reading) : Type 0 where
-  pub mode : w.mode ≡ record { model = Global; scheduler = Fcfs }
+  pub strong : is_weak w.mode ≡ false
+  pub scheduler : scheduler_of w.mode ≡ Fcfs
   pub follows_none : (r : ℕ) → followed_by w.runs r ≡ None
   pub writes : (r k : ℕ) (c : Command) → slice_get (commands_of w.runs r) k ≡ Some c → reads c.job ≡ false
   pub homed : (r k : ℕ) (c : Command) → slice_get (commands_of w.runs r) k ≡ Some c → is_device w c.device.0 ≡ true
@@ -120,10 +123,10 @@ never_overdue w n g r d m p live = find_none (is_overdue w n g r d m) (live_befo
 -- The cases
 
 busy_is : (w : Setting) (n : Reading) (g : Grips) (r d : ℕ) → StepsPlainly w n → busy_wait w n g r d ≡ is_out g d
-busy_is w n g r d p = rw (p.mode, never_down w n r d p.read) refl
+busy_is w n g r d p = rw (p.strong, never_down w n r d p.read) refl
 
 answers_up : (w : Setting) (n : Reading) (r d : ℕ) → StepsPlainly w n → is_device w d ≡ true → answers_down w n r d ≡ false
-answers_up w n r d p home = rw (p.mode, never_down w n r d p.read, p.up d home) refl
+answers_up w n r d p home = rw (p.strong, never_down w n r d p.read, p.up d home) refl
 
 -- no device that a run needs up is down at its end
 pub ends_up : (w : Setting) (n : Reading) (g : Grips) (r : ℕ) → StepsPlainly w n → down_at_end w n g r ≡ None
@@ -145,11 +148,11 @@ take_all [] = refl
 take_all (i ∷ is) = ap suc (take_all is)
 
 place_is : (w : Setting) (n : Reading) (g : Grips) (r m : ℕ) → StepsPlainly w n → decide_arrived w n g r m ≡ Moves (Placed (run_no r) (length n.line) m ∷ [])
-place_is w n g r m p = rw (no_leader w n r (p.follows_none r), p.mode) (ap (λ k. Moves (Placed (run_no r) k m ∷ [])) (take_all n.line))
+place_is w n g r m p = rw (no_leader w n r (p.follows_none r), p.scheduler) (ap (λ k. Moves (Placed (run_no r) k m ∷ [])) (take_all n.line))
 
 command_is : (w : Setting) (n : Reading) (g : Grips) (r m k : ℕ) (c : Command) → StepsPlainly w n → is_live n r ≡ true → reads c.job ≡ false → is_device w c.device.0 ≡ true → decide_command w n g r m k c ≡ plain_command w n g r k c
 command_is w n g r m k c p live write home =
-    ap (λ b. first_case (command_cases b w n g r m k c) out) strong
+    ap (λ b. first_case (command_cases b w n g r m k c) out) p.strong
     ∙ ap (λ o. first_case (option_map (λ x. Moves (Doomed (run_no x) (Revoked (run_no r) c.device (lease_deadline w n x c.device.0) m) ∷ [])) o ∷ behind_case w n g r c ∷ dirty_case w n g r c ∷ strict_case w n r ∷ busy_case w n g r c ∷ down_case w n r k c ∷ []) out) (never_overdue w n g r c.device.0 m p live)
     ∙ ap (λ o. first_case (behind_case w n g r c ∷ option_map (λ x. Waits (Dirty c.device (run_no x))) o ∷ strict_case w n r ∷ busy_case w n g r c ∷ down_case w n r k c ∷ []) out) (no_read w n g r c write)
     ∙ ap (λ b. first_case (behind_case w n g r c ∷ strict_case w n r ∷ only_if b (Waits (Busy c.device)) ∷ down_case w n r k c ∷ []) out) (busy_is w n g r c.device.0 p)
@@ -157,9 +160,6 @@ command_is w n g r m k c p live write home =
   where
     out : Choice
     out = HandsOut c.device.0 (Commands k)
-
-    strong : is_weak w.mode ≡ false
-    strong = ap is_weak p.mode
 
 end_is : (w : Setting) (n : Reading) (g : Grips) (r : ℕ) → StepsPlainly w n → decide_answered w n g r ≡ Over Committed (Ended (run_no r) Committed ∷ [])
 end_is w n g r p = ap (λ o. unwrap_or (option_map (λ d. Moves (Doomed (run_no r) (DownAtEnd (device_no d)) ∷ [])) o) (Over Committed (Ended (run_no r) Committed ∷ []))) (ends_up w n g r p)
@@ -195,10 +195,18 @@ live_stands n r standing live = standing.line r ∙ stands (n.run r).placed (n.r
     stands (Some p) None f = refl
     stands (Some p) (Some e) f = absurd (cc)
 
+-- runs are placed first come first served
+first_served : (model : Visibility) (scheduler : Scheduler) → scheduler ≡ Fcfs → scheduler_of (record { model = model; scheduler = scheduler }) ≡ Fcfs
+first_served Weak scheduler e = refl
+first_served Global scheduler e = refl
+first_served Partitioned scheduler e = refl
+first_served Eventual scheduler e = e
+
 pub steps_plainly : (s : Configuration) (rounds opened : ℕ) (held : ℕ → ℕ) → ConfigurationIsKept s rounds opened held → StepsPlainly s.setting (read_of s)
 steps_plainly s rounds opened held kept =
     record {
-      mode = kept.stage.mode;
+      strong = kept.stage.strong;
+      scheduler = first_served s.setting.mode.model s.setting.mode.scheduler kept.stage.scheduler;
       follows_none = kept.stage.follows_none;
       writes = λ r k c at. is_write c.job (kept.stage.sets r k c at);
       homed = λ r k c at. let home : IsTrue (is_device s.setting c.device.0 && names_values_of (kind_at s.setting.kinds c.device.0) c.job) = kept.opens.homed r k c at in grind (arith, common_steps);
@@ -239,7 +247,7 @@ plain_is P w n g r m p each =
       undoes = λ cause d undoing up. absurd (not_doomed cause undoing.doomed);
       revokes = λ c x run strong at. absurd (let both : None ≡ Some x = sym (never_overdue w n g r c.device.0 m p run.act.live) ∙ at in cc);
       downs = λ c run next home down. absurd (let both : false ≡ true = sym (answers_up w n r c.device.0 p (p.homed r (next_of n r) c run.next)) ∙ down in cc);
-      goes = λ c run next home up. each.goes c run (next (ap is_weak p.mode)) (sym (busy_is w n g r c.device.0 p) ∙ home);
+      goes = λ c run next home up. each.goes c run (next p.strong) (sym (busy_is w n g r c.device.0 p) ∙ home);
       fails_at_end = λ d all at. absurd (let both : None ≡ Some d = sym (ends_up w n g r p) ∙ at in cc);
       commits = λ all up. each.commits all;
     })
@@ -252,7 +260,7 @@ plain_is P w n g r m p each =
     front_of (DeniedBy d x) = 0
 
     at_the_end : scheduled_place w n g r m ≡ at_end n
-    at_the_end = rw p.mode refl
+    at_the_end = rw p.scheduler refl
 
     front_is : (s : Split) → scheduled_place w n g r m ≡ At s → length n.line ≡ length s.front
     front_is s place = sym (take_all n.line) ∙ ap front_of (sym at_the_end ∙ place)

@@ -101,7 +101,8 @@ lamp_may = record {
 
 lamp_allows : StageAllows lamp_setting 0
 lamp_allows = record {
-  mode = refl;
+  strong = refl;
+  scheduler = refl;
   sets = each_command (λ c. is_set c.job ≡ true) refl refl;
   follows_none = none_follows;
   up = up;

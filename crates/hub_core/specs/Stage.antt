@@ -1,7 +1,7 @@
--- What this stage of the hub is built for: the global model, on a home with every device up, runs of `set` commands that follow no run, and no probes.
+-- What this stage of the hub is built for: every model but the weak one, with runs placed first come first served, on a home with every device up, runs of `set` commands that follow no run, and no probes.
 use Rattle.command_rules.specs.Rosters.{commands_of, device_no, followed_by, is_run, run_no}
 use Rattle.history_book.specs.Readings.{Reading, next_command, next_of}
-use Rattle.history_book.specs.Settings.{Setting}
+use Rattle.history_book.specs.Settings.{Setting, is_weak}
 use Rattle.history_book.specs.declared.entries.End.TheVariants.{Committed}
 use Rattle.history_book.specs.declared.entries.Entry.TheVariants.{Arrived, Ended, Placed}
 use Rattle.home_types.specs.HomeStates.{stand_at}
@@ -9,7 +9,6 @@ use Rattle.home_types.specs.declared.commands.Command.{Command}
 use Rattle.home_types.specs.declared.commands.Job.{Job}
 use Rattle.home_types.specs.declared.commands.Job.TheVariants.{Check, Load, Set, Store}
 use Rattle.home_types.specs.declared.modes.Scheduler.TheVariants.{Fcfs}
-use Rattle.home_types.specs.declared.modes.Visibility.TheVariants.{Global}
 use Rattle.hub_core.specs.Steps.{Absent, Choice, HandsOut, Moves, Over, Waits, behind_case, first_case, only_if, strict_case}
 use Rattle.hub_core.specs.declared.waits.Why.TheVariants.{Busy}
 use Rattle.lock_leasing.specs.Configurations.{Commands, Grips, is_out}
@@ -24,7 +23,8 @@ is_set Store = false
 
 -- this stage works the window
 pub record StageAllows (w : Setting) (rounds : ℕ) : Type 0 where
-  pub mode : w.mode ≡ record { model = Global; scheduler = Fcfs }
+  pub strong : is_weak w.mode ≡ false
+  pub scheduler : w.mode.scheduler ≡ Fcfs
   pub sets : (r k : ℕ) (c : Command) → slice_get (commands_of w.runs r) k ≡ Some c → is_set c.job ≡ true
   pub follows_none : (r : ℕ) → followed_by w.runs r ≡ None
   pub up : (d : ℕ) → d < length w.first → (stand_at w.first d).up ≡ true
@@ -32,7 +32,7 @@ pub record StageAllows (w : Setting) (rounds : ℕ) : Type 0 where
 
 -- The step of a run in this stage: the cases that are left
 
--- the next command, with the number k: a run before it in the line holds its device, a live run stands before it, its device is out, or it goes out
+-- the next command, with the number k: a run before it in the line holds its device, a live run before it is one that the model waits for, its device is out, or it goes out
 abbrev pub plain_command : Setting → Reading → Grips → ℕ → ℕ → Command → Choice
 plain_command w n g r k c = first_case (behind_case w n g r c ∷ strict_case w n r ∷ only_if (is_out g c.device.0) (Waits (Busy c.device)) ∷ []) (HandsOut c.device.0 (Commands k))
 

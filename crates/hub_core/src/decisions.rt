@@ -63,12 +63,13 @@ impl<D: Device> Hub<D> {
 
     /// What the next command of `r`, with the number `k`, is to do.
     fn decide_command(&self, r: RunNo, k: u32, command: Command) -> Chosen
+        requires run { IsTrue (is_run self.now.setting.runs r.0) }
         ensures { (m : ℕ) → told_choice r.0 m (read_of (configuration_of self.now)) result ≡ plain_command self.now.setting (read_of (configuration_of self.now)) (configuration_of self.now).grips r.0 k command }
     {
         if let Some(x) = self.history.first_pending_before(r, command.device) {
             return Chosen::Waits(Why::Behind(command.device, x));
         }
-        if let Some(x) = self.history.first_before(r) {
+        if let Some(x) = self.history.strict_wait(r) {
             return Chosen::Waits(Why::Strict(x));
         }
         if self.is_out(command.device) {

@@ -1,5 +1,5 @@
 ghost use Rattle.std.specs.Prelude.{◌≡◌, ◌+◌, ◌<◌, ◌≤◌, ◌^◌, [], ◌∷◌, ◌++◌, IsTrue, Some, None, find, is_none, is_some, length, option_map, position, true, ℕ};
-ghost use Rattle.command_rules.specs.Rosters.{command_at, commands_of, is_run, run_no, runs_of};
+ghost use Rattle.command_rules.specs.Rosters.{command_at, commands_of, is_run, run_no, runs_of, shares};
 ghost use Rattle.history_book.specs.Histories.{entries_of, kept_by};
 ghost use Rattle.history_book.specs.Lines.{is_ran};
 ghost use Rattle.history_book.specs.Settings.{run_numbers};
@@ -7,12 +7,13 @@ ghost use Rattle.history_book.specs.Readings.{is_live, next_command, next_of, pe
 ghost use Rattle.home_types.specs.Kinds.{kind_at};
 ghost use Rattle.hub_core.specs.OpenHubs.{progress_of};
 ghost use Rattle.hub_core.specs.ReadHistories.{is_item_of, read_in, with_entry};
+ghost use Rattle.lock_leasing.specs.Waits.{strict_wait};
 ghost use Rattle.lock_leasing.specs.Words.{live_before, live_runs};
 
 use crate::known::RunProgress;
 use command_rules::Roster;
 use history_book::{Book, End, Entry, Kept};
-use home_types::{Answer, Command, DeviceNo, Item, Kind, List, Mode, RunNo, World};
+use home_types::{Answer, Command, DeviceNo, Item, Kind, List, Mode, RunNo, Visibility, World};
 use std::marker::Model;
 
 /// The history of a window, with its line and the progress of each run kept beside it, so that no step reads it anew.
@@ -175,6 +176,35 @@ impl ReadHistory {
         None
     }
 
+    /// The first live run before `r` in the line that shares a device with it.
+    pub(crate) fn first_sharing_before(&self, r: RunNo) -> Option<RunNo>
+        requires run { IsTrue (is_run self.now.setting.runs r.0) }
+        ensures { option_map (λ x. x.0) result ≡ find (λ x. shares self.now.setting.runs x r.0) (live_before (read_in self.now) r.0) }
+    {
+        'items: for item in self.line.as_slice() {
+            if is_ran(*item, r) {
+                return None;
+            }
+            let sharing = self.sharing_run(*item, r);
+            if sharing.is_some() {
+                return sharing;
+            }
+        }
+        None
+    }
+
+    /// The live run before `r` for which the model has it wait.
+    pub(crate) fn strict_wait(&self, r: RunNo) -> Option<RunNo>
+        requires run { IsTrue (is_run self.now.setting.runs r.0) }
+        ensures { option_map (λ x. x.0) result ≡ strict_wait self.now.setting (read_in self.now) r.0 }
+    {
+        match self.mode.model {
+            Visibility::Global => self.first_before(r),
+            Visibility::Partitioned => self.first_sharing_before(r),
+            Visibility::Weak | Visibility::Eventual => None,
+        }
+    }
+
     /// The smallest run that has not ended.
     pub(crate) fn first_unended(&self) -> Option<RunNo>
         requires few { length self.now.setting.runs < 2 ^ 32 }
@@ -195,6 +225,18 @@ impl ReadHistory {
     {
         match item {
             Item::Ran(x) if self.is_live(x) => Some(x),
+            _ => None,
+        }
+    }
+
+    /// The run that the item of the line is, where it is live and shares a device with `r`.
+    fn sharing_run(&self, item: Item, r: RunNo) -> Option<RunNo>
+        requires run { IsTrue (is_item_of self.now.setting item) }
+        requires other { IsTrue (is_run self.now.setting.runs r.0) }
+        ensures { option_map (λ x. x.0) result ≡ find (λ x. shares self.now.setting.runs x r.0) (live_runs (read_in self.now) (item ∷ [])) }
+    {
+        match item {
+            Item::Ran(x) if self.is_live(x) && self.roster.shares(x, r) => Some(x),
             _ => None,
         }
     }

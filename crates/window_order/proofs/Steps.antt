@@ -1,7 +1,7 @@
 -- Each kind of change keeps the order of a window.
 use Rattle.command_rules.specs.Rosters.{command_at, commands_of, is_on, is_run, no_command, run_no, touches}
 use Rattle.device_order.proofs.InPlace.{next_used}
-use Rattle.device_order.proofs.WindowAnswers.{write_answered}
+use Rattle.device_order.proofs.WindowAnswers.{read_answered, write_answered}
 use Rattle.device_order.proofs.WindowGrips.{command_out}
 use Rattle.device_order.proofs.WindowRuns.{run_commits, run_placed, window_begins}
 use Rattle.device_order.specs.LineChanges.{Lacks}
@@ -26,11 +26,11 @@ use Rattle.history_book.specs.WellFormed.{may_follow}
 use Rattle.history_book.specs.declared.entries.Cause.{Cause}
 use Rattle.history_book.specs.declared.entries.End.TheVariants.{Committed}
 use Rattle.history_book.specs.declared.entries.Entry.TheVariants.{Arrived, Did, Ended, Placed}
-use Rattle.home_types.specs.Commands.{driven, reads, register_after}
+use Rattle.home_types.specs.Commands.{driven, fails, reads, register_after}
 use Rattle.home_types.specs.HomeStates.{stand_at}
 use Rattle.home_types.specs.Kinds.{kind_at}
 use Rattle.home_types.specs.declared.commands.Answer.{Answer}
-use Rattle.home_types.specs.declared.commands.Answer.TheVariants.{Fine}
+use Rattle.home_types.specs.declared.commands.Answer.TheVariants.{Fine, Found}
 use Rattle.home_types.specs.declared.commands.Command.{Command}
 use Rattle.home_types.specs.declared.items.Item.{Item}
 use Rattle.lock_leasing.specs.Configurations.{Commands, Grip, Grips, Probes, Purpose, Undoes, is_out, no_grips}
@@ -404,6 +404,44 @@ wrote_kept w n g held d r k read at writes kept =
     let out = out_is w n g d r k kept.grips at in
     subst (λ x. OrderIsKept w (entry w n (Did (run_no r) k Fine)) (put g x None) (put held x (driven (kind_at w.kinds x) (command_at w.runs r k).job (n.run r).register))) (sym out.device)
     (wrote_at w n g held r k read (subst (λ x. g x ≡ Some (record { maker = r; purpose = Commands k })) out.device at) writes (subst (λ x. IsOut w n x r k) out.device out) kept)
+
+found_at : (w : Setting) (n : Reading) (g : Grips) (held : ℕ → ℕ) (r k : ℕ) → IsRead w n → g (command_at w.runs r k).device.0 ≡ Some (record { maker = r; purpose = Commands k }) → reads (command_at w.runs r k).job ≡ true
+    → fails (command_at w.runs r k) (Found (held (command_at w.runs r k).device.0)) ≡ false → IsOut w n (command_at w.runs r k).device.0 r k → OrderIsKept w n g held
+    → OrderIsKept w (entry w n (Did (run_no r) k (Found (held (command_at w.runs r k).device.0)))) (put g (command_at w.runs r k).device.0 None) held
+found_at w n g held r k read at reading passes out kept = record {
+  grips = answered_fits w n g d r k (Found x) (Commands k) (live_run w n r read out.live) at kept.grips;
+  window = read_answered w.kinds (window_of w n g held) (window_of w (entry w n (Did (run_no r) k (Found x))) (put g d None) held) r c (drop (next_of n r + 1) (commands_of w.runs r)) x false (record {
+    place = answered_place w n g held held d r k (Found x) (Commands k) cut at;
+    answer = gets_answer w n g r k (Found x) out.number out.more;
+    live = live_uncommitted n r out.live;
+    out = ap (held_by w r) at ∙ held_own w r (Commands k) ∙ ap (λ b. if b then Reads else Writes) reading;
+    job = reading;
+    refutes = λ fails'. sym passes ∙ fails';
+    found = refl;
+    still = λ e. record { up = refl; held = refl; probe = put_keeps probe_of g d None (sym (ap probe_of at)) e };
+  }) kept.window;
+  history = λ e. did_history w n r k (Found x) cut read (out_newest w n g held d r k cut read kept at out) e (kept.history e);
+}
+  where
+    c : Command
+    c = command_at w.runs r k
+
+    d : ℕ
+    d = c.device.0
+
+    x : ℕ
+    x = held d
+
+    cut : CutAt r n.line
+    cut = cut_live w n r read out.live
+
+-- a read is answered with the value at which its device stands, and does not fail
+pub found_kept : (w : Setting) (n : Reading) (g : Grips) (held : ℕ → ℕ) (d r k : ℕ) → IsRead w n → g d ≡ Some (record { maker = r; purpose = Commands k }) → reads (command_at w.runs r k).job ≡ true → fails (command_at w.runs r k) (Found (held d)) ≡ false → OrderIsKept w n g held
+    → OrderIsKept w (entry w n (Did (run_no r) k (Found (held d)))) (put g d None) held
+found_kept w n g held d r k read at reading passes kept =
+    let out = out_is w n g d r k kept.grips at in
+    subst (λ y. OrderIsKept w (entry w n (Did (run_no r) k (Found (held y)))) (put g y None) held) (sym out.device)
+    (found_at w n g held r k read (subst (λ y. g y ≡ Some (record { maker = r; purpose = Commands k })) out.device at) reading (subst (λ y. fails (command_at w.runs r k) (Found (held y)) ≡ false) out.device passes) (subst (λ y. IsOut w n y r k) out.device out) kept)
 
 -- A command goes out
 
