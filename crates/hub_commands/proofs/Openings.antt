@@ -9,13 +9,18 @@ use Rattle.home_types.specs.declared.commands.Job.{Job}
 use Rattle.home_types.specs.declared.kinds.Kind.{Kind}
 use Rattle.home_types.specs.declared.numbers.RunNo.{RunNo}
 use Rattle.home_types.specs.declared.modes.Mode.{Mode}
+use Rattle.home_types.specs.declared.modes.Scheduler.TheVariants.{Fcfs}
+use Rattle.home_types.specs.declared.modes.Scheduler.{Scheduler}
+use Rattle.home_types.specs.declared.modes.Visibility.TheVariants.{Eventual, Global, Partitioned, Weak}
+use Rattle.home_types.specs.declared.modes.Visibility.{Visibility}
 use Rattle.hub_core.specs.Homes.{HomeIsKept, HomeState, setting_for}
-use Rattle.hub_core.specs.Openings.{MayOpen, names_values_of}
+use Rattle.hub_core.specs.Openings.{MayOpen, is_fcfs, is_mode, names_values_of}
 use Rattle.hub_core.specs.Stage.{StageAllows, is_set}
-use Rattle.hub_commands.specs.Days.{built_mode}
 use Rattle.hub_commands.specs.Played.{setting_on}
+use Rattle.later_forms.proofs.BuiltModes.{goes_fcfs, not_weak}
 use Rattle.later_forms.proofs.NoLaterForms.{no_command, no_follows, no_probes}
 use Rattle.later_forms.proofs.SoundScripts.{routine_is_sound, window_is_sound}
+use Rattle.later_forms.specs.CommandLines.{is_later_mode}
 use Rattle.later_forms.specs.Scripts.{first_later, is_later_command}
 use Rattle.routine_reader.proofs.RosterLemmas.{runs-there}
 use Rattle.routine_reader.specs.Rosters.{kinds_of, routine_at, run_of_text, script_runs}
@@ -31,7 +36,7 @@ use Rattle.std.proofs.lemmas.Grind.{common_steps}
 use Rattle.std.proofs.lemmas.List.Elements.{All-get_or}
 use Rattle.std.proofs.lemmas.List.{length-map}
 use Rattle.std.proofs.lemmas.Option.{get_or_from_slice_get, slice_get_within}
-use Rattle.std.specs.Prelude.{Bool, List, None, Option, Some, [], false, nat_lt, option_and_then, option_map, slice_get, suc, true, unwrap_or, zero, ℕ, ◌&&◌, ◌<◌, ◌∷◌, ◌≡◌, ◌≤◌}
+use Rattle.std.specs.Prelude.{Bool, IsTrue, List, None, Option, Some, [], false, nat_lt, option_and_then, option_map, slice_get, suc, true, unwrap_or, zero, ℕ, ◌&&◌, ◌<◌, ◌∷◌, ◌≡◌, ◌≤◌}
 
 -- a run of the window is one of its text
 pub record IsRunOf (script : Script) (window : WindowText) (run : Run) : Type 0 where
@@ -117,10 +122,17 @@ no_follower script k r window none at = by_run (run_at (map (run_of_text script)
     by_run None empty = refl
     by_run (Some run) some = let is = run_of script window r run some in ap (λ q. q.follows) is.is ∙ no_follows script k is.place window is.text none at is.at
 
-pub may_open : {D : Type 0} (tag : D → ℕ) (stands turns probes faults : D → ℕ) (script : Script) (k : ℕ) (window : WindowText) (home : HomeState D)
-    → IsSound (plain_script script) → first_later script ≡ None → slice_get script.windows.items k ≡ Some window → HomeIsKept tag stands turns probes faults home
-    → home.kinds ≡ kinds_of script → home.opened ≤ 288 → MayOpen (setting_on script built_mode k home) window.probes home.opened
-may_open tag stands turns probes faults script k window home sound none at kept kinds opened =
+-- every model goes first come first served
+is_mode_fcfs : (model : Visibility) (scheduler : Scheduler) → scheduler ≡ Fcfs → IsTrue (is_mode (record { model = model; scheduler = scheduler }))
+is_mode_fcfs Weak scheduler is = ap is_fcfs is
+is_mode_fcfs Global scheduler is = ap is_fcfs is
+is_mode_fcfs Partitioned scheduler is = ap is_fcfs is
+is_mode_fcfs Eventual scheduler is = refl
+
+pub may_open : {D : Type 0} (tag : D → ℕ) (stands turns probes faults : D → ℕ) (script : Script) (mode : Mode) (k : ℕ) (window : WindowText) (home : HomeState D)
+    → IsSound (plain_script script) → first_later script ≡ None → is_later_mode mode ≡ false → slice_get script.windows.items k ≡ Some window → HomeIsKept tag stands turns probes faults home
+    → home.kinds ≡ kinds_of script → home.opened ≤ 288 → MayOpen (setting_on script mode k home) window.probes home.opened
+may_open tag stands turns probes faults script mode k window home sound none built at kept kinds opened =
     rw (sym (runs-there script k window at)) (record {
       few_devices = kept.few;
       few_runs = let n = length-map window.runs.items (run_of_text script) in omega (arith, n, (window_is_sound script k window sound at).few_runs);
@@ -128,7 +140,7 @@ may_open tag stands turns probes faults script k window home sound none at kept 
       homed = λ r j c c_at. let is = command_is_sound script j c sound (command_of script window r j c c_at) in
           both (nat_lt c.device.0 (length home.world)) _ (within c.device.0 is.device) (names_as (kind_at home.kinds c.device.0) c.job (ap (λ ks. suits (kind_at ks c.device.0) c.job) (kinds ∙ sym (same_kinds script.devices.items)) ∙ is.value));
       follows = λ r f is. absurd (follows_not r f is);
-      mode = refl;
+      mode = is_mode_fcfs mode.model mode.scheduler (goes_fcfs mode built);
       few_rounds = (window_is_sound script k window sound at).probes;
       few_windows = omega (arith, opened);
     })
@@ -144,12 +156,13 @@ may_open tag stands turns probes faults script k window home sound none at kept 
     follows_not : (r : ℕ) (f : RunNo) → followed_by (map (run_of_text script) window.runs.items) r ≡ Some f → ⊥
     follows_not r f is = let no = no_follower script k r window none at in cc
 
-pub stage_allows : {D : Type 0} (script : Script) (k : ℕ) (window : WindowText) (home : HomeState D)
-    → first_later script ≡ None → slice_get script.windows.items k ≡ Some window → ((d : ℕ) → d < length home.world → (stand_at home.world d).up ≡ true)
-    → StageAllows (setting_on script built_mode k home) window.probes
-stage_allows script k window home none at up =
+pub stage_allows : {D : Type 0} (script : Script) (mode : Mode) (k : ℕ) (window : WindowText) (home : HomeState D)
+    → first_later script ≡ None → is_later_mode mode ≡ false → slice_get script.windows.items k ≡ Some window → ((d : ℕ) → d < length home.world → (stand_at home.world d).up ≡ true)
+    → StageAllows (setting_on script mode k home) window.probes
+stage_allows script mode k window home none built at up =
     rw (sym (runs-there script k window at)) (record {
-      mode = refl;
+      strong = not_weak mode built;
+      scheduler = goes_fcfs mode built;
       sets = λ r j c c_at. let is = command_of script window r j c c_at in is_set_where c c.job refl (no_command script is.routine j is.text c none is.at is.there);
       follows_none = λ r. no_follower script k r window none at;
       up = up;
@@ -157,8 +170,5 @@ stage_allows script k window home none at up =
     })
 
 -- the window's setting, with the roster of its runs
-pub setting_as : {D : Type 0} (script : Script) (k : ℕ) (home : HomeState D) (roster : Roster) (mode : Mode) → runs_of roster ≡ script_runs script k → mode ≡ built_mode → setting_for home roster mode ≡ setting_on script built_mode k home
-setting_as script k home roster mode runs built = λ i. record { runs = runs i; mode = built i; kinds = home.kinds; first = home.world }
-
-pub mode_back : {D : Type 0} (script : Script) (k : ℕ) (home : HomeState D) (mode : Mode) → mode ≡ built_mode → setting_on script built_mode k home ≡ setting_on script mode k home
-mode_back script k home mode built = ap (λ m. setting_on script m k home) (sym built)
+pub setting_as : {D : Type 0} (script : Script) (k : ℕ) (home : HomeState D) (roster : Roster) (mode : Mode) → runs_of roster ≡ script_runs script k → setting_for home roster mode ≡ setting_on script mode k home
+setting_as script k home roster mode runs = ap (λ rs. record { runs = rs; mode = mode; kinds = home.kinds; first = home.world }) runs

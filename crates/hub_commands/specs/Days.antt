@@ -6,8 +6,6 @@ use Rattle.history_book.specs.declared.entries.End.TheVariants.{Committed}
 use Rattle.history_book.specs.declared.records.WindowRecord.{WindowRecord}
 use Rattle.home_types.specs.HomeStates.{stand_at}
 use Rattle.home_types.specs.declared.modes.Mode.{Mode}
-use Rattle.home_types.specs.declared.modes.Scheduler.TheVariants.{Fcfs}
-use Rattle.home_types.specs.declared.modes.Visibility.TheVariants.{Global}
 use Rattle.hub_core.specs.Homes.{HomeState}
 use Rattle.hub_core.specs.LegalDays.{DevicesAreLeft, RecordsAreLegal, setting_of, state_after}
 use Rattle.hub_core.specs.LegalWindows.{history_of}
@@ -69,10 +67,6 @@ pub record IsPlayedOn {D : Type 0} (tag : D → ℕ) (plan : D → Option (List 
   pub turns_rose : turns after ≡ turns before + called
   pub faults_rose : faults after ≡ faults before + failed
   pub probes_rose : probes after ≡ probes before + probed
-
--- the mode that is built
-abbrev pub built_mode : Mode
-built_mode = record { model = Global; scheduler = Fcfs }
 
 -- Texts
 

@@ -1,7 +1,8 @@
-ghost use Rattle.std.specs.Prelude.{◌≡◌, ◌<◌, ◌≤◌, ◌++◌, ◌∷◌, [], None, IfErr, IfOk, length, true};
+ghost use Rattle.std.specs.Prelude.{◌≡◌, ◌<◌, ◌≤◌, ◌++◌, ◌∷◌, [], None, IfErr, IfOk, false, length, true};
 ghost use Rattle.home_types.specs.HomeStates.{stand_at};
-ghost use Rattle.hub_commands.specs.Days.{IsUnderWay, built_mode};
+ghost use Rattle.hub_commands.specs.Days.{IsUnderWay};
 ghost use Rattle.hub_commands.specs.Played.{HasGoneOn, IsPlayed};
+ghost use Rattle.later_forms.specs.CommandLines.{is_later_mode};
 ghost use Rattle.later_forms.specs.Scripts.{first_later};
 ghost use Rattle.routine_reader.specs.Rosters.{kinds_of};
 ghost use Rattle.routine_reader.specs.Scripts.{plain_script};
@@ -33,7 +34,7 @@ pub fn play_next<Dev: Steady>(
 ) -> Result<DayUnderWay<Dev>, List<WindowRecord>>
     requires sound { IsSound (plain_script script.now) }
     requires built { first_later script.now ≡ None }
-    requires mode { mode ≡ built_mode }
+    requires mode { is_later_mode mode ≡ false }
     requires next { length day.windows.items < length script.now.windows.items }
     requires under_way { IsUnderWay Dev.tag Dev.plan Dev.stands Dev.turns Dev.probes Dev.faults script.now mode day.home day.windows.items }
     ensures played { IfOk result (λ next. HasGoneOn Dev.tag Dev.plan Dev.stands Dev.turns Dev.probes Dev.faults script.now mode day.windows.items next.home next.windows.items) }
@@ -65,7 +66,7 @@ fn play_window<Dev: Steady>(
 ) -> Result<(Home<Dev>, WindowRecord), NoMemory>
     requires sound { IsSound (plain_script script.now) }
     requires built { first_later script.now ≡ None }
-    requires mode { mode ≡ built_mode }
+    requires mode { is_later_mode mode ≡ false }
     requires there { number < length script.now.windows.items }
     requires kinds { home.kinds ≡ kinds_of script.now }
     requires few { home.opened ≤ 288 }

@@ -1,10 +1,10 @@
-ghost use Rattle.std.specs.Prelude.{◌≡◌, ◌<◌, ◌≤◌, ◌++◌, ◌∷◌, [], IfOk, IfSome, None, Some, length, map, string_bytes};
+ghost use Rattle.std.specs.Prelude.{◌≡◌, ◌<◌, ◌≤◌, ◌++◌, ◌∷◌, [], IfOk, IfSome, None, Some, false, length, map, string_bytes};
 ghost use Rattle.command_words.specs.CommandLines.{command_line_of};
 ghost use Rattle.day_report.specs.Days.{window_text as window_lines_of};
-ghost use Rattle.hub_commands.specs.Days.{built_mode};
 ghost use Rattle.hub_commands.specs.Finishes.{CallEnds, ReplayEnds, read_off, shown_by, written};
 ghost use Rattle.hub_commands.specs.Pieces.{StopEnds};
 ghost use Rattle.hub_commands.specs.Statuses.{status_of};
+ghost use Rattle.later_forms.specs.CommandLines.{is_later_mode};
 ghost use Rattle.later_forms.specs.Scripts.{first_later as first_later_of};
 ghost use Rattle.routine_reader.specs.Scripts.{plain_script};
 ghost use Rattle.routine_reader.specs.Sound.{IsSound};
@@ -113,7 +113,7 @@ where
     B::Dev: Steady,
     requires sound { IsSound (plain_script script.now) }
     requires built { first_later_of script.now ≡ None }
-    requires mode { options.mode ≡ built_mode }
+    requires mode { is_later_mode options.mode ≡ false }
     ensures status { result.status ≡ status_of result.fault }
     ensures ends { ReplayEnds (shown_by B.Dev.tag B.Dev.plan B.Dev.stands B.Dev.turns B.Dev.probes B.Dev.faults)
         script.now options

@@ -21,7 +21,7 @@ const LOADS: &str =
 const NO_NAME: &str =
     r#"{"safehome":1,"devices":[{"name":"lamp","states":["off","on"],"start":"off"}],"routines":[{"name":"light","commands":[{"on":"fan","do":"set","to":"on"}]}],"windows":[]}"#;
 
-/// What a call is tried on: its last word, its script, and the call of the source and of the sink that fails, or 0.
+/// What a call is tried on: its model, its script, and the call of the source and of the sink that fails, or 0.
 #[derive(Clone, Copy)]
 struct Tried<'a> {
     model: &'a str,
@@ -77,6 +77,13 @@ fn days_from_bytes_to_bytes(rt: HostRuntime) -> Result<(), Fail> {
     let alloc = rt.alloc();
     let one_light =
         "safehome day\nmodel gsv fcfs\nwindow 1 2021-04-26T07:00:00\nrun 1 light committed .\norder 1\nhome lamp=on\ntotal windows 1 runs 1 committed 1 aborted 0\n";
+    let eventual = Tried {
+        model: "ev",
+        ..on(ONE_LIGHT)
+    };
+    let one_light_eventual =
+        "safehome day\nmodel ev fcfs\nwindow 1 2021-04-26T07:00:00\nrun 1 light committed .\norder 1\nhome lamp=on\ntotal windows 1 runs 1 committed 1 aborted 0\n";
+    assert!(rt; ends_so(alloc, &eventual, 0, "", one_light_eventual)?);
     let empty = "safehome day\nmodel gsv fcfs\ntotal windows 0 runs 0 committed 0 aborted 0\n";
     assert!(rt; ends_so(alloc, &on(ONE_LIGHT), 0, "", one_light)?);
     assert!(rt; ends_so(alloc, &on(EMPTY), 0, "", empty)?);
@@ -102,11 +109,11 @@ fn refusals_by_name(rt: HostRuntime) -> Result<(), Fail> {
             ""
         )?
     );
-    let eventual = Tried {
-        model: "ev",
+    let weak = Tried {
+        model: "wv",
         ..on("[]")
     };
-    assert!(rt; ends_so(alloc, &eventual, 8, "later top", "")?);
+    assert!(rt; ends_so(alloc, &weak, 8, "later top", "")?);
     let other_words = Tried {
         model: "xx",
         ..on(ONE_LIGHT)

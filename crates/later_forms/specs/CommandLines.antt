@@ -8,12 +8,12 @@ use Rattle.home_types.specs.declared.modes.Visibility.TheVariants.{Eventual, Glo
 use Rattle.home_types.specs.declared.modes.Visibility.{Visibility}
 use Rattle.std.specs.Prelude.{Bool, false, true, ◌||◌}
 
--- every model but the global one
+-- the weak model
 abbrev pub is_later_model : Visibility → Bool
 is_later_model Weak = true
 is_later_model Global = false
-is_later_model Partitioned = true
-is_later_model Eventual = true
+is_later_model Partitioned = false
+is_later_model Eventual = false
 
 -- every scheduler but first come first served
 abbrev pub is_later_scheduler : Scheduler → Bool

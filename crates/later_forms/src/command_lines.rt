@@ -14,12 +14,14 @@ pub fn is_later(line: CommandLine) -> bool
     }
 }
 
-/// Whether the mode is not the global model, first come first served.
+/// Whether the mode has the weak model, or another scheduler than first come first served.
 fn is_later_mode(mode: Mode) -> bool
     ensures { result ≡ is_later_with mode }
 {
     match (mode.model, mode.scheduler) {
-        (Visibility::Global, Scheduler::Fcfs) => false,
-        (_, _) => true,
+        (Visibility::Weak, _) | (_, Scheduler::JustInTime | Scheduler::Timeline) => true,
+        (Visibility::Global | Visibility::Partitioned | Visibility::Eventual, Scheduler::Fcfs) => {
+            false
+        }
     }
 }

@@ -98,9 +98,9 @@ fn the_command_lines(rt: HostRuntime) {
     assert!(rt; is_later(CommandLine::Run(options)));
     assert!(rt; is_later(CommandLine::Check));
     assert!(rt; is_later(CommandLine::Trial(2)));
+    assert!(rt; !is_later(replay(Visibility::Partitioned, Scheduler::Fcfs)));
+    assert!(rt; !is_later(replay(Visibility::Eventual, Scheduler::Fcfs)));
     assert!(rt; is_later(replay(Visibility::Weak, Scheduler::Fcfs)));
-    assert!(rt; is_later(replay(Visibility::Partitioned, Scheduler::Fcfs)));
-    assert!(rt; is_later(replay(Visibility::Eventual, Scheduler::Fcfs)));
     assert!(rt; is_later(replay(Visibility::Eventual, Scheduler::JustInTime)));
     assert!(rt; is_later(replay(Visibility::Eventual, Scheduler::Timeline)));
 }
