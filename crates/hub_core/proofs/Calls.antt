@@ -1,9 +1,11 @@
 -- The device calls and the failures that the entries of a step tell of.
 use Rattle.command_rules.specs.Rosters.{Run, command_at, run_no}
-use Rattle.device_gate.specs.declared.slips.Told.TheVariants.{Worked}
+use Rattle.device_gate.specs.Calls.{has_died}
+use Rattle.device_gate.specs.declared.slips.Told.TheVariants.{Died, Sensed, Worked}
+use Rattle.device_gate.specs.declared.slips.Told.{Told}
 use Rattle.history_book.proofs.Once.{count_append}
-use Rattle.history_book.proofs.Snoc.{entries_on}
-use Rattle.history_book.specs.Histories.{entries_of}
+use Rattle.history_book.proofs.Snoc.{entries_on, put_keeps}
+use Rattle.history_book.specs.Histories.{entries_of, entry, kept_by, reading}
 use Rattle.history_book.specs.Readings.{Reading, next_of}
 use Rattle.history_book.specs.Settings.{Setting}
 use Rattle.history_book.specs.declared.entries.Cause.TheVariants.{MustDown}
@@ -11,18 +13,21 @@ use Rattle.history_book.specs.declared.entries.End.TheVariants.{Aborted, Committ
 use Rattle.history_book.specs.declared.entries.Entry.{Entry}
 use Rattle.history_book.specs.declared.entries.Entry.TheVariants.{Arrived, Did, Doomed, Ended, Fell, Placed, Rose, Undid}
 use Rattle.home_types.specs.declared.commands.Answer.TheVariants.{Down, Fine, Found}
+use Rattle.home_types.specs.Commands.{register_after}
 use Rattle.home_types.specs.declared.commands.Command.{Command}
-use Rattle.hub_core.proofs.Afters.{take_history}
+use Rattle.home_types.specs.declared.commands.Job.{Job}
+use Rattle.home_types.specs.declared.commands.Job.TheVariants.{Check, Load, Set, Store}
+use Rattle.hub_core.proofs.Afters.{read_with, take_history}
 use Rattle.hub_core.proofs.Choices.{decide_is}
 use Rattle.hub_core.proofs.Takes.{made_by}
 use Rattle.hub_core.specs.AccountedCalls.{tells_call, told_calls, told_falls}
 use Rattle.hub_core.specs.HubKept.{is_plain}
-use Rattle.hub_core.specs.Steps.{Choice, Moves, after_give, after_take, at_moment, choice_of, decide, down_entries, with_entries}
-use Rattle.lock_leasing.specs.Configurations.{Commands, Configuration, Grips, read_of}
+use Rattle.hub_core.specs.Steps.{Choice, Moves, after_take, answer_told, choice_of, decide, down_entries, with_entries}
+use Rattle.lock_leasing.specs.Configurations.{Configuration, Grips, read_of}
 use Rattle.std.proofs.Common.{ap, arith, refl, ◌∙◌}
 use Rattle.std.proofs.lemmas.Grind.{common_steps}
 use Rattle.std.specs.List.{list_all}
-use Rattle.std.specs.Prelude.{IsTrue, List, [], count_by, false, if◌then◌else◌, max, true, ℕ, ◌+◌, ◌==◌, ◌∷◌, ◌≡◌}
+use Rattle.std.specs.Prelude.{Bool, IsTrue, List, [], count_by, false, fold, if◌then◌else◌, max, true, ℕ, ◌++◌, ◌+◌, ◌==◌, ◌∷◌, ◌≡◌}
 
 -- the calls of a history with the entries of a step more
 pub calls_with : (s : Configuration) (maker : ℕ) (entries : List Entry) (d : ℕ) → told_calls s.setting.runs (entries_of (with_entries s maker entries).history) d ≡ told_calls s.setting.runs (entries_of s.history) d + told_calls s.setting.runs entries d
@@ -65,13 +70,60 @@ take_calls s r m d =
     none_more : (k : ℕ) → k + 0 ≡ k
     none_more k = omega arith
 
--- a write that worked is one call of its device
-pub give_calls : (s : Configuration) (r k d e m : ℕ) → (command_at s.setting.runs r k).device.0 ≡ d
-    → told_calls s.setting.runs (entries_of (after_give (at_moment s m) d (record { maker = r; purpose = Commands k }) Worked).history) e ≡ told_calls s.setting.runs (entries_of s.history) e + (if d == e then 1 else 0)
-give_calls s r k d e m on = calls_with s r (Did (run_no r) k Fine ∷ []) e ∙ ap (λ x. told_calls s.setting.runs (entries_of s.history) e + x) here
+-- a command that worked is one call of its device
+pub give_calls : (s : Configuration) (r k d e : ℕ) (told : Told) → (command_at s.setting.runs r k).device.0 ≡ d → has_died told ≡ false
+    → told_calls s.setting.runs (entries_of (s.history ++ kept_by r (Did (run_no r) k (answer_told told) ∷ []))) e ≡ told_calls s.setting.runs (entries_of s.history) e + (if d == e then 1 else 0)
+give_calls s r k d e told on lives = calls_with s r (Did (run_no r) k (answer_told told) ∷ []) e ∙ ap (λ x. told_calls s.setting.runs (entries_of s.history) e + x) (here told lives)
   where
-    here : told_calls s.setting.runs (Did (run_no r) k Fine ∷ []) e ≡ (if d == e then 1 else 0)
-    here = rw on (grind (arith, common_steps))
+    here : (t : Told) → has_died t ≡ false → told_calls s.setting.runs (Did (run_no r) k (answer_told t) ∷ []) e ≡ (if d == e then 1 else 0)
+    here Worked alive = rw on (grind (arith, common_steps))
+    here (Sensed x) alive = rw on (grind (arith, common_steps))
+    here Died alive = absurd (cc)
+
+-- The step of a run changes no register
+
+register_down : (job : Job) (register : ℕ) → register_after job Down register ≡ register
+register_down (Set v) register = refl
+register_down (Check v) register = refl
+register_down Load register = refl
+register_down Store register = refl
+
+abbrev KeepsRegisters : Setting → Reading → Choice → Type 0
+KeepsRegisters w n c = (q : ℕ) → ((fold (entry w) n (made_by c)).run q).register ≡ (n.run q).register
+
+downs_register : (w : Setting) (n : Reading) (r k : ℕ) (c : Command) → KeepsRegisters w n (Moves (down_entries r k c))
+downs_register w n r k c q = by_must c.must
+  where
+    answered : ((entry w n (Did (run_no r) k Down)).run q).register ≡ (n.run q).register
+    answered = put_keeps (λ o. o.register) n.run r _ (register_down (command_at w.runs r k).job (n.run r).register) q
+
+    by_must : (b : Bool) → ((fold (entry w) (entry w n (Did (run_no r) k Down)) (if b then Doomed (run_no r) (MustDown k) ∷ [] else [])).run q).register ≡ (n.run q).register
+    by_must true = put_keeps (λ o. o.register) (entry w n (Did (run_no r) k Down)).run r _ refl q ∙ answered
+    by_must false = answered
+
+take_keeps_registers : (w : Setting) (n : Reading) (g : Grips) (r m : ℕ) → KeepsRegisters w n (decide w n g r m)
+take_keeps_registers w n g r m =
+    decide_is (KeepsRegisters w n) w n g r m (record {
+      absent = λ none q. refl;
+      over = λ e at q. refl;
+      waits = λ why q. refl;
+      arrives = λ run none q. put_keeps (λ o. o.register) n.run r _ refl q;
+      enters = λ s enters q. put_keeps (λ o. o.register) n.run r _ refl q;
+      aborted = λ cause act doomed over q. put_keeps (λ o. o.register) n.run r _ refl q;
+      drops = λ cause d undoing down q. put_keeps (λ o. o.register) n.run r _ refl q;
+      undoes = λ cause d undoing up q. refl;
+      revokes = λ c x run strong at q. put_keeps (λ o. o.register) n.run x _ refl q;
+      downs = λ c run next home down. downs_register w n r (next_of n r) c;
+      goes = λ c run next home up q. refl;
+      fails_at_end = λ d all at q. put_keeps (λ o. o.register) n.run r _ refl q;
+      commits = λ all up q. put_keeps (λ o. o.register) n.run r _ refl q;
+    })
+
+pub take_registers : (s : Configuration) (r m q : ℕ) → ((reading s.setting (entries_of (after_take s r m).history)).run q).register ≡ ((read_of s).run q).register
+take_registers s r m q =
+    ap (λ h. ((reading s.setting (entries_of h)).run q).register) (take_history s r m (choice_of s r m))
+    ∙ ap (λ n. (n.run q).register) (read_with s r (made_by (choice_of s r m)))
+    ∙ take_keeps_registers s.setting (read_of s) s.grips r (max s.moment m) q
 
 -- a plain history tells of no failure
 pub no_falls : (h : List Entry) (d : ℕ) → IsTrue (list_all is_plain h) → told_falls h d ≡ 0
@@ -79,7 +131,7 @@ no_falls [] d plain = refl
 no_falls (Arrived r m ∷ h) d plain = no_falls h d plain
 no_falls (Placed r at m ∷ h) d plain = no_falls h d plain
 no_falls (Did r c Fine ∷ h) d plain = no_falls h d plain
-no_falls (Did r c (Found x) ∷ h) d plain = absurd (cc)
+no_falls (Did r c (Found x) ∷ h) d plain = no_falls h d plain
 no_falls (Did r c Down ∷ h) d plain = absurd (cc)
 no_falls (Undid r e drove ∷ h) d plain = absurd (cc)
 no_falls (Fell e ∷ h) d plain = absurd (cc)

@@ -18,7 +18,7 @@ use Rattle.home_types.specs.declared.commands.Answer.TheVariants.{Down, Fine, Fo
 use Rattle.home_types.specs.declared.commands.Command.{Command}
 use Rattle.home_types.specs.declared.numbers.DeviceNo.{DeviceNo}
 use Rattle.hub_core.proofs.Takes.{live_run}
-use Rattle.hub_core.specs.Steps.{command_entries, probe_entries, undo_entries}
+use Rattle.hub_core.specs.Steps.{answer_told, command_entries, probe_entries, undo_entries}
 use Rattle.device_gate.specs.declared.slips.Told.{Told}
 use Rattle.device_gate.specs.declared.slips.Told.TheVariants.{Died, Sensed, Worked}
 use Rattle.lock_leasing.proofs.Effects.{live_runs_live}
@@ -28,12 +28,6 @@ use Rattle.std.proofs.Common.{arith, refl, subst, sym, ◌∙◌}
 use Rattle.std.proofs.lemmas.Grind.{common_steps}
 use Rattle.std.proofs.lemmas.Option.{slice_get_within}
 use Rattle.std.specs.Prelude.{Bool, IsTrue, List, None, Option, Some, [], false, find, if◌then◌else◌, is_some, length, nat_lt, not, option_map, option_to_list, slice_get, slice_index_or, suc, true, zero, ℕ, ◌&&◌, ◌<◌, ◌∷◌, ◌≡◌}
-
--- what the answer is to a command that was told this
-abbrev pub answer_told : Told → Answer
-answer_told Worked = Fine
-answer_told (Sensed x) = Found x
-answer_told Died = Down
 
 -- what is known of a run whose command comes back: it is its next one, and the device was counted up
 pub record MayAnswer (w : Setting) (n : Reading) (r : ℕ) (c : Command) (told : Told) : Type 0 where

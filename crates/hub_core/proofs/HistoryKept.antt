@@ -16,7 +16,6 @@ use Rattle.history_book.specs.declared.entries.End.TheVariants.{Committed}
 use Rattle.history_book.specs.declared.entries.Entry.{Entry}
 use Rattle.history_book.specs.declared.entries.Entry.TheVariants.{Arrived, Did, Ended, Placed}
 use Rattle.home_types.specs.declared.commands.Answer.{Answer}
-use Rattle.home_types.specs.declared.commands.Answer.TheVariants.{Fine}
 use Rattle.home_types.specs.declared.items.Item.TheVariants.{Ran}
 use Rattle.hub_core.proofs.Afters.{read_with}
 use Rattle.hub_core.proofs.LineOrder.{LineIsKnown, StampsAreBelow, before_more, end_line, is_alone_by, order_at_end, same_order, stamps_below, strict_fewer_by}
@@ -279,21 +278,21 @@ placing_may s r m follows later scheduled unplaced gripless kept =
     stands : Standing n
     stands = standing s.setting (entries_of s.history) kept.well_formed
 
--- A write is answered
+-- A command is answered
 
-pub answer_may : (s : Configuration) (r k d m : ℕ) → may_follow s.setting (read_of s) (Did (run_no r) k Fine) ≡ true → (read_of s).moment ≤ m → s.grips d ≡ Some (record { maker = r; purpose = Commands k }) → is_live (read_of s) r ≡ true
-    → HistoryIsKept s → MayAdd s (Did (run_no r) k Fine) m (put s.grips d None)
-answer_may s r k d m follows later out live kept =
+pub answer_may : (s : Configuration) (r k d m : ℕ) (a : Answer) → may_follow s.setting (read_of s) (Did (run_no r) k a) ≡ true → is_plain (Did (run_no r) k a) ≡ true → entry_is_clean s.setting (read_of s) (Did (run_no r) k a) ≡ true → (read_of s).moment ≤ m → s.grips d ≡ Some (record { maker = r; purpose = Commands k }) → is_live (read_of s) r ≡ true
+    → HistoryIsKept s → MayAdd s (Did (run_no r) k a) m (put s.grips d None)
+answer_may s r k d m a follows plain clean later out live kept =
     record {
       follows = follows;
-      plain = refl;
-      clean = refl;
+      plain = plain;
+      clean = clean;
       justified = refl;
       scheduled = tt;
       isolated = λ strict. is_alone_by s.setting.runs s.setting.kinds s.setting.first s.setting.mode.model s.setting.mode.scheduler n r known waitless;
       moment = later;
-      in_order = order_kept n (entry s.setting n (Did (run_no r) k Fine)) refl (λ q. put_keeps stamp_in n.run r _ refl q) kept.in_order;
-      in_turn = answer_turn s.setting n s.grips r k d Fine waitless kept.in_turn;
+      in_order = order_kept n (entry s.setting n (Did (run_no r) k a)) refl (λ q. put_keeps stamp_in n.run r _ refl q) kept.in_order;
+      in_turn = answer_turn s.setting n s.grips r k d a waitless kept.in_turn;
     }
   where
     n : Reading

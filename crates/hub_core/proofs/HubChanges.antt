@@ -1,6 +1,6 @@
 -- A step of a run in which no device goes out keeps what the type of a hub keeps, and is the step that it says.
 use Rattle.device_gate.specs.declared.gates.Place.{Place}
-use Rattle.history_book.specs.Histories.{entries_of, kept_by}
+use Rattle.history_book.specs.Histories.{entries_of, kept_by, reading}
 use Rattle.history_book.specs.declared.entries.End.{End}
 use Rattle.history_book.specs.declared.entries.Entry.{Entry}
 use Rattle.history_book.specs.declared.entries.Kept.{Kept}
@@ -10,7 +10,7 @@ use Rattle.home_types.specs.HomeStates.{stand_at}
 use Rattle.home_types.specs.Kinds.{kind_at}
 use Rattle.command_rules.specs.Rosters.{command_at}
 use Rattle.device_gate.specs.declared.slips.Task.TheVariants.{Drive, Sense}
-use Rattle.hub_core.proofs.Calls.{take_calls}
+use Rattle.hub_core.proofs.Calls.{take_calls, take_registers}
 use Rattle.hub_core.proofs.Kept.{kept_at, take_kept}
 use Rattle.hub_core.proofs.Sizes.{history_fits}
 use Rattle.hub_core.proofs.StageFacts.{reads_plainly}
@@ -29,18 +29,14 @@ use Rattle.lock_leasing.specs.Configurations.{Commands, Configuration, Probes, P
 use Rattle.std.proofs.Common.{ap, append-nil, ap₂, arith, length-append, refl, subst, sym, ◌∙◌}
 use Rattle.std.specs.Prelude.{List, [], count_by, if◌then◌else◌, length, max, ℕ, ◌*◌, ◌++◌, ◌+◌, ◌-◌, ◌<◌, ◌∷◌, ◌≡◌, ◌≤◌}
 
--- the registers of two histories of this stage are the same, so what a device is out for does the same
+-- where a register is the same, what a device is out for does the same
 pub task_same : (s c : Configuration) (r : ℕ) (purpose : Purpose) → s.setting ≡ c.setting → ((read_of s).run r).register ≡ ((read_of c).run r).register → task_of s r purpose ≡ task_of c r purpose
 task_same s c r (Commands k) setting same =
     ap₂ (λ w v. if reads (command_at w.runs r k).job then Sense else Drive (driven (kind_at w.kinds (command_at w.runs r k).device.0) (command_at w.runs r k).job v)) setting same
 task_same s c r (Undoes v) setting same = refl
 task_same s c r (Probes v) setting same = refl
 
--- in this stage a register is 0
-pub no_register : (s : Configuration) (rounds opened r : ℕ) (held : ℕ → ℕ) → ConfigurationIsKept s rounds opened held → ((read_of s).run r).register ≡ 0
-no_register s rounds opened r held kept = ((reads_plainly s.setting (entries_of s.history) kept.history.plain).runs r).register
-
--- .. and a device is up where it was at first
+-- in this stage a device is up where it was at first
 pub up_first : (s : Configuration) (rounds opened d : ℕ) (held : ℕ → ℕ) → ConfigurationIsKept s rounds opened held → (read_of s).up d ≡ (stand_at s.setting.first d).up
 up_first s rounds opened d held kept = (reads_plainly s.setting (entries_of s.history) kept.history.plain).up d
 
@@ -49,9 +45,10 @@ up_first s rounds opened d held kept = (reads_plainly s.setting (entries_of s.hi
 still_kept : {D : Type 0} (stands turns probes faults : D → ℕ) (s : OpenHub D) (x : List Kept) (m : ℕ)
     → ConfigurationIsKept (configuration_of (record s { history = x; moment = m })) s.rounds s.opened (held_in s)
     → ((d : ℕ) → told_calls s.setting.runs (entries_of x) d ≡ told_calls s.setting.runs (entries_of s.history) d)
+    → ((q : ℕ) → ((reading s.setting (entries_of x)).run q).register ≡ ((read_of (configuration_of s)).run q).register)
     → length s.history ≤ length x
     → HubIsKept stands turns probes faults s → HubIsKept stands turns probes faults (record s { history = x; moment = m })
-still_kept stands turns probes faults s x m now told more k =
+still_kept stands turns probes faults s x m now told registers more k =
     record {
       configuration = now;
       devices_size = k.devices_size;
@@ -68,7 +65,7 @@ still_kept stands turns probes faults s x m now told more k =
         turns_are = fits.turns_are ∙ ap (λ n. (device_at s.devices d).at_opening.turns + n) (sym (told d));
         probes_are = fits.probes_are;
         faults_are = fits.faults_are;
-        does = fits.does ∙ task_same (configuration_of s) (configuration_of (record s { history = x; moment = m })) slip.maker (purpose_of (device_at s.devices d).purpose) refl (no_register (configuration_of s) s.rounds s.opened slip.maker (held_in s) k.configuration ∙ sym (no_register (configuration_of (record s { history = x; moment = m })) s.rounds s.opened slip.maker (held_in s) now));
+        does = fits.does ∙ task_same (configuration_of s) (configuration_of (record s { history = x; moment = m })) slip.maker (purpose_of (device_at s.devices d).purpose) refl (sym (registers slip.maker));
       };
       low = k.low;
       values = k.values;
@@ -78,7 +75,7 @@ still_kept stands turns probes faults s x m now told more k =
 -- the moment alone
 pub reached : {D : Type 0} (stands turns probes faults : D → ℕ) (s : OpenHub D) (m : ℕ) → HubIsKept stands turns probes faults s → HubIsKept stands turns probes faults (record s { moment = max s.moment m })
 reached stands turns probes faults s m k =
-    still_kept stands turns probes faults s s.history (max s.moment m) (kept_at (configuration_of s) s.rounds s.opened m (held_in s) k.configuration) (λ d. refl) (omega arith) k
+    still_kept stands turns probes faults s s.history (max s.moment m) (kept_at (configuration_of s) s.rounds s.opened m (held_in s) k.configuration) (λ d. refl) (λ q. refl) (omega arith) k
 
 -- a step that makes one entry: the run moves on, or ends
 pub data Making : Type 0 where
@@ -101,6 +98,7 @@ entry_made {D = D} stands turns probes faults s r m e c is k =
     still_kept stands turns probes faults s (s.history ++ kept_by r (e ∷ [])) (max s.moment m)
     (subst (λ x. ConfigurationIsKept x s.rounds s.opened (held_in s)) step (take_kept (configuration_of s) s.rounds s.opened (held_in s) r m k.configuration))
     (λ d. ap (λ (x : Configuration). told_calls s.setting.runs (entries_of x.history) d) (sym step) ∙ take_calls (configuration_of s) r m d)
+    (λ q. ap (λ (x : Configuration). ((reading s.setting (entries_of x.history)).run q).register) (sym step) ∙ take_registers (configuration_of s) r m q)
     (let more : length (s.history ++ kept_by r (e ∷ [])) ≡ length s.history + 1 = length-append s.history (kept_by r (e ∷ [])) in omega (arith, more))
     k
   where

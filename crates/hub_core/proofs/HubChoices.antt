@@ -5,29 +5,33 @@ use Rattle.device_gate.specs.declared.gates.Place.TheVariants.{Home, Out}
 use Rattle.device_gate.specs.declared.gates.Place.{Place}
 use Rattle.device_gate.specs.declared.slips.Slip.{Slip}
 use Rattle.history_book.specs.Lines.{before}
-use Rattle.history_book.specs.Readings.{Reading, is_live, next_command, next_of, pends}
+use Rattle.history_book.specs.Readings.{Reading, has_written, is_live, next_command, next_of, pends, sees_down}
 use Rattle.history_book.specs.Settings.{Setting}
 use Rattle.history_book.specs.declared.entries.End.TheVariants.{Committed}
 use Rattle.history_book.specs.declared.entries.End.{End}
 use Rattle.history_book.specs.declared.entries.Entry.TheVariants.{Arrived, Ended, Placed}
+use Rattle.home_types.specs.Commands.{reads}
 use Rattle.home_types.specs.declared.commands.Command.{Command}
 use Rattle.home_types.specs.declared.items.Item.TheVariants.{Back, Failed, Ran}
 use Rattle.home_types.specs.declared.items.Item.{Item}
 use Rattle.home_types.specs.declared.numbers.DeviceNo.{DeviceNo}
 use Rattle.home_types.specs.declared.numbers.RunNo.{RunNo}
 use Rattle.hub_core.proofs.StageChoices.{StepsPlainly, choice_plain, steps_plainly}
+use Rattle.hub_core.specs.HubKept.{CommandsAreOut}
 use Rattle.hub_core.specs.HubsKept.{HubIsKept}
 use Rattle.hub_core.specs.OpenHubs.{OpenHub, configuration_of, grip_in, held_in, progress_of}
 use Rattle.hub_core.specs.Stage.{plain_choice, plain_command}
 use Rattle.hub_core.specs.Steps.{Absent, Choice, HandsOut, Moves, Over, Waits, choice_of}
 use Rattle.hub_core.specs.declared.known.RunProgress.{RunProgress}
 use Rattle.hub_core.specs.declared.purposes.Purpose.{Purpose as KeptPurpose}
-use Rattle.hub_core.specs.declared.waits.Why.TheVariants.{Behind, Busy, Strict}
-use Rattle.lock_leasing.specs.Configurations.{Commands, Grips, is_out, read_of}
-use Rattle.lock_leasing.specs.Waits.{behind_wait, grip_wait, strict_wait}
-use Rattle.lock_leasing.specs.Words.{holds_device, live_before, live_runs}
-use Rattle.std.proofs.Common.{ap, refl, subst, sym, ◌∙◌}
-use Rattle.std.specs.Prelude.{Bool, List, None, Option, Some, [], false, find, is_none, is_some, length, max, option_map, true, unwrap_or, ℕ, ◌==◌, ◌∷◌, ◌≡◌}
+use Rattle.hub_core.specs.declared.waits.Why.TheVariants.{Behind, Busy, Dirty, Strict}
+use Rattle.lock_leasing.specs.Configurations.{Commands, Grip, Grips, Probes, Purpose, Undoes, grips_undo, is_command, is_out, is_undo, no_grips, read_of}
+use Rattle.lock_leasing.specs.Waits.{behind_wait, dirty_wait, grip_wait, strict_wait}
+use Rattle.lock_leasing.specs.Words.{Write, holds_device, live_before, live_runs, write_of}
+use Rattle.std.proofs.Common.{ap, arith, refl, subst, sym, ◌∙◌}
+use Rattle.std.proofs.lemmas.Grind.{common_steps}
+use Rattle.std.specs.Option.{option_or}
+use Rattle.std.specs.Prelude.{Bool, IsTrue, List, None, Option, Some, [], false, find, fold, if◌then◌else◌, is_none, is_some, length, max, not, option_map, true, unwrap_or, ℕ, ◌&&◌, ◌==◌, ◌||◌, ◌∷◌, ◌≡◌}
 
 -- The grip and the slip of a place
 
@@ -65,6 +69,33 @@ holders w n g d (Ran r ∷ items) sound = by_live (is_live n r.0) refl (holders 
 pub behind_is : (w : Setting) (n : Reading) (g : Grips) (r d : ℕ) → StepsPlainly w n → behind_wait w n g r d ≡ find (λ x. pends w n x d) (live_before n r)
 behind_is w n g r d p = holders w n g d (before r n.line) (λ q. (p.read.runs q).sound)
 
+-- where devices are out for commands alone, no write is being undone
+no_undo : (g : Grips) (q d : ℕ) → CommandsAreOut g → grips_undo g q d ≡ false
+no_undo g q d commands = by_grip (g d) refl
+  where
+    by_purpose : (m : ℕ) (p : Purpose) → IsTrue (is_command p) → ((m == q) && is_undo p) ≡ false
+    by_purpose m (Commands k) e = grind (arith, common_steps)
+    by_purpose m (Undoes v) e = absurd (cc)
+    by_purpose m (Probes v) e = absurd (cc)
+
+    by_grip : (o : Option Grip) → g d ≡ o → unwrap_or (option_map (λ p. (p.maker == q) && is_undo p.purpose) o) false ≡ false
+    by_grip None e = refl
+    by_grip (Some p) e = by_purpose p.maker p.purpose (commands d p e)
+
+-- .. and the effective writes are those with no grips out
+effect_is : (n : Reading) (g : Grips) (d : ℕ) (best : Option Write) (items : List Item) → CommandsAreOut g → fold (λ b i. option_or (write_of n g d i) b) best items ≡ fold (λ b i. option_or (write_of n no_grips d i) b) best items
+effect_is n g d best [] commands = refl
+effect_is n g d best (Ran q ∷ items) commands =
+    ap (λ x. fold (λ b i. option_or (write_of n g d i) b) (option_or (if ((n.run q.0).on d).undid || x then None else option_map (λ v. record { run = q.0; value = v }) ((n.run q.0).on d).wrote) best) items) (no_undo g q.0 d commands)
+    ∙ effect_is n g d (option_or (write_of n no_grips d (Ran q)) best) items commands
+effect_is n g d best (Failed e k ∷ items) commands = effect_is n g d best items commands
+effect_is n g d best (Back e k ∷ items) commands = effect_is n g d best items commands
+
+dirty_is : (w : Setting) (n : Reading) (g : Grips) (r : ℕ) (c : Command) → CommandsAreOut g → dirty_wait w n g r c ≡ dirty_wait w n no_grips r c
+dirty_is w n g r c commands =
+    ap (λ e. if reads c.job && not (sees_down n r c.device.0) && not (has_written n r c.device.0) then find (λ x. unwrap_or (option_map (λ y. y == x) (option_map (λ (o : Write). o.run) e)) false) (live_before n r) else None)
+    (effect_is n g c.device.0 None n.line commands)
+
 numbered : (x : RunNo) (o : Option ℕ) → Some x.0 ≡ o → o ≡ Some x.0
 numbered x o is = sym is
 
@@ -73,14 +104,17 @@ numbered x o is = sym is
 pub command_behind : (w : Setting) (n : Reading) (g : Grips) (r k : ℕ) (c : Command) (x : RunNo) → StepsPlainly w n → Some x.0 ≡ find (λ y. pends w n y c.device.0) (live_before n r) → Waits (Behind c.device x) ≡ plain_command w n g r k c
 command_behind w n g r k c x p found = sym (rw (behind_is w n g r c.device.0 p, ← found) refl)
 
-pub command_strict : (w : Setting) (n : Reading) (g : Grips) (r k : ℕ) (c : Command) (x : RunNo) → StepsPlainly w n → None ≡ find (λ y. pends w n y c.device.0) (live_before n r) → Some x.0 ≡ strict_wait w n r → Waits (Strict x) ≡ plain_command w n g r k c
-command_strict w n g r k c x p none found = sym (rw (behind_is w n g r c.device.0 p, ← none, ← found) refl)
+pub command_dirty : (w : Setting) (n : Reading) (g : Grips) (r k : ℕ) (c : Command) (x : RunNo) → StepsPlainly w n → CommandsAreOut g → None ≡ find (λ y. pends w n y c.device.0) (live_before n r) → Some x.0 ≡ dirty_wait w n no_grips r c → Waits (Dirty c.device x) ≡ plain_command w n g r k c
+command_dirty w n g r k c x p commands none found = sym (rw (behind_is w n g r c.device.0 p, ← none, dirty_is w n g r c commands, ← found) refl)
 
-pub command_busy : (w : Setting) (n : Reading) (g : Grips) (r k : ℕ) (c : Command) → StepsPlainly w n → None ≡ find (λ y. pends w n y c.device.0) (live_before n r) → None ≡ strict_wait w n r → is_out g c.device.0 ≡ true → Waits (Busy c.device) ≡ plain_command w n g r k c
-command_busy w n g r k c p none first out = sym (rw (behind_is w n g r c.device.0 p, ← none, ← first, out) refl)
+pub command_strict : (w : Setting) (n : Reading) (g : Grips) (r k : ℕ) (c : Command) (x : RunNo) → StepsPlainly w n → CommandsAreOut g → None ≡ find (λ y. pends w n y c.device.0) (live_before n r) → None ≡ dirty_wait w n no_grips r c → Some x.0 ≡ strict_wait w n r → Waits (Strict x) ≡ plain_command w n g r k c
+command_strict w n g r k c x p commands none clean found = sym (rw (behind_is w n g r c.device.0 p, ← none, dirty_is w n g r c commands, ← clean, ← found) refl)
 
-pub command_goes : (w : Setting) (n : Reading) (g : Grips) (r k : ℕ) (c : Command) → StepsPlainly w n → None ≡ find (λ y. pends w n y c.device.0) (live_before n r) → None ≡ strict_wait w n r → is_out g c.device.0 ≡ false → HandsOut c.device.0 (Commands k) ≡ plain_command w n g r k c
-command_goes w n g r k c p none first home = sym (rw (behind_is w n g r c.device.0 p, ← none, ← first, home) refl)
+pub command_busy : (w : Setting) (n : Reading) (g : Grips) (r k : ℕ) (c : Command) → StepsPlainly w n → CommandsAreOut g → None ≡ find (λ y. pends w n y c.device.0) (live_before n r) → None ≡ dirty_wait w n no_grips r c → None ≡ strict_wait w n r → is_out g c.device.0 ≡ true → Waits (Busy c.device) ≡ plain_command w n g r k c
+command_busy w n g r k c p commands none clean first out = sym (rw (behind_is w n g r c.device.0 p, ← none, dirty_is w n g r c commands, ← clean, ← first, out) refl)
+
+pub command_goes : (w : Setting) (n : Reading) (g : Grips) (r k : ℕ) (c : Command) → StepsPlainly w n → CommandsAreOut g → None ≡ find (λ y. pends w n y c.device.0) (live_before n r) → None ≡ dirty_wait w n no_grips r c → None ≡ strict_wait w n r → is_out g c.device.0 ≡ false → HandsOut c.device.0 (Commands k) ≡ plain_command w n g r k c
+command_goes w n g r k c p commands none clean first home = sym (rw (behind_is w n g r c.device.0 p, ← none, dirty_is w n g r c commands, ← clean, ← first, home) refl)
 
 -- The cases of a run
 

@@ -14,9 +14,7 @@ use Rattle.history_book.specs.declared.entries.Kept.{Kept}
 use Rattle.home_types.specs.Commands.{register_after}
 use Rattle.home_types.specs.Kinds.{kind_at}
 use Rattle.home_types.specs.Listed.{Listed}
-use Rattle.home_types.specs.declared.commands.Answer.TheVariants.{Fine}
-use Rattle.home_types.specs.declared.commands.Job.TheVariants.{Check, Load, Set, Store}
-use Rattle.home_types.specs.declared.commands.Job.{Job}
+use Rattle.home_types.specs.declared.commands.Answer.{Answer}
 use Rattle.home_types.specs.declared.items.Item.TheVariants.{Ran}
 use Rattle.home_types.specs.declared.items.Item.{Item}
 use Rattle.home_types.specs.declared.numbers.RunNo.{RunNo}
@@ -124,14 +122,14 @@ arrives_beside w h h₂ n n₂ maker m r line progress p k run at more left =
     (λ q other. put_other (reading w (entries_of h)).run r.0 (record o { arrived = Some m }) q other)
     k.line_is k.runs_are (omega (arith, k.short)) (omega (arith, k.room, left))
 
-pub writes_beside : (w : Setting) (h h₂ : List Kept) (n n₂ maker c : ℕ) (r : RunNo) (line : Listed Item) (progress : List RunProgress) (p : RunProgress)
+pub answers_beside : (w : Setting) (h h₂ : List Kept) (n n₂ maker c : ℕ) (a : Answer) (r : RunNo) (line : Listed Item) (progress : List RunProgress) (p : RunProgress)
     → IsReadBeside (record { setting = w; history = h; spare = n }) line progress
     → IsTrue (is_run w.runs r.0) → slice_get progress (r.0 - 1) ≡ Some p
-    → h₂ ≡ h ++ record { maker = maker; entry = Did r c Fine } ∷ [] → n₂ + 1 ≡ n
-    → IsReadBeside (record { setting = w; history = h₂; spare = n₂ }) line (slice_set progress (r.0 - 1) (record p { answered = p.answered + 1 }))
-writes_beside w h h₂ n n₂ maker c r line progress p k run at more left =
-    entry_kept w h h₂ n n₂ maker r.0 (Did r c Fine) line line progress (record p { answered = p.answered + 1 }) k run more
-    (ap (λ (x : RunProgress). record x { answered = x.answered + 1 }) (progress_is _ line progress r.0 p k run at) ∙ written ∙ ap progress_of (sym (put_same (reading w (entries_of h)).run r.0 (o c))))
+    → h₂ ≡ h ++ record { maker = maker; entry = Did r c a } ∷ [] → n₂ + 1 ≡ n
+    → IsReadBeside (record { setting = w; history = h₂; spare = n₂ }) line (slice_set progress (r.0 - 1) (record p { answered = p.answered + 1; register = register_after (command_at w.runs r.0 c).job a p.register }))
+answers_beside w h h₂ n n₂ maker c a r line progress p k run at more left =
+    entry_kept w h h₂ n n₂ maker r.0 (Did r c a) line line progress (record p { answered = p.answered + 1; register = register_after (command_at w.runs r.0 c).job a p.register }) k run more
+    (ap (λ (x : RunProgress). record x { answered = x.answered + 1; register = register_after (command_at w.runs r.0 c).job a x.register }) (progress_is _ line progress r.0 p k run at) ∙ counted ∙ ap progress_of (sym (put_same (reading w (entries_of h)).run r.0 (o c))))
     (λ q other. put_other (reading w (entries_of h)).run r.0 (o c) q other)
     k.line_is k.runs_are (omega (arith, k.short)) (omega (arith, k.room, left))
   where
@@ -140,21 +138,14 @@ writes_beside w h h₂ n n₂ maker c r line progress p k run at more left =
 
     o : ℕ → OfRun
     o c = record before {
-      answers = before.answers ++ Fine ∷ [];
-      register = register_after (command_at w.runs r.0 c).job Fine before.register;
+      answers = before.answers ++ a ∷ [];
+      register = register_after (command_at w.runs r.0 c).job a before.register;
       answered_doomed = before.answered_doomed || is_some before.doomed;
-      on = put before.on (command_at w.runs r.0 c).device.0 (answered (kind_at w.kinds (command_at w.runs r.0 c).device.0) (command_at w.runs r.0 c) (is_some before.doomed) before.register Fine (before.on (command_at w.runs r.0 c).device.0));
+      on = put before.on (command_at w.runs r.0 c).device.0 (answered (kind_at w.kinds (command_at w.runs r.0 c).device.0) (command_at w.runs r.0 c) (is_some before.doomed) before.register a (before.on (command_at w.runs r.0 c).device.0));
     }
 
-    -- a write leaves the register
-    same_register : (job : Job) (x : ℕ) → x ≡ register_after job Fine x
-    same_register (Set v) x = refl
-    same_register (Check v) x = refl
-    same_register Load x = refl
-    same_register Store x = refl
-
-    written : record (progress_of before) { answered = length before.answers + 1 } ≡ progress_of (o c)
-    written = ap₂ (λ a x. record (progress_of before) { answered = a; register = x }) (sym (length-append before.answers (Fine ∷ []))) (same_register (command_at w.runs r.0 c).job before.register)
+    counted : record (progress_of before) { answered = length before.answers + 1; register = register_after (command_at w.runs r.0 c).job a before.register } ≡ progress_of (o c)
+    counted = ap (λ x. record (progress_of before) { answered = x; register = register_after (command_at w.runs r.0 c).job a before.register }) (sym (length-append before.answers (a ∷ [])))
 
 pub commits_beside : (w : Setting) (h h₂ : List Kept) (n n₂ maker : ℕ) (r : RunNo) (line : Listed Item) (progress : List RunProgress) (p : RunProgress)
     → IsReadBeside (record { setting = w; history = h; spare = n }) line progress

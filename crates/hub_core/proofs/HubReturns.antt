@@ -1,5 +1,6 @@
 -- A device that comes home keeps what the type of a hub keeps.
 use Rattle.command_rules.specs.Rosters.{command_at, commands_of, is_run, run_no}
+use Rattle.device_gate.specs.Calls.{answered, failed, has_died, is_counted_up, may_tell, stands_after, turns_of, value_after}
 use Rattle.device_gate.specs.Grips.{Gripped, WasCalled}
 use Rattle.device_gate.specs.Places.{IsKept}
 use Rattle.device_gate.specs.declared.gates.Place.TheVariants.{Home, Out}
@@ -10,38 +11,41 @@ use Rattle.device_gate.specs.declared.slips.Task.TheVariants.{Drive, Sense}
 use Rattle.device_gate.specs.declared.slips.Task.{Task}
 use Rattle.device_gate.specs.declared.slips.Told.TheVariants.{Died, Sensed, Worked}
 use Rattle.device_gate.specs.declared.slips.Told.{Told}
+use Rattle.history_book.proofs.Snoc.{put_other}
 use Rattle.history_book.specs.Histories.{entries_made, entries_of, kept_by}
 use Rattle.history_book.specs.Readings.{Reading, next_of, put}
 use Rattle.history_book.specs.Settings.{Setting, is_device}
 use Rattle.history_book.specs.declared.entries.Entry.TheVariants.{Did}
 use Rattle.history_book.specs.declared.entries.Made.{Made}
 use Rattle.home_types.specs.Commands.{driven, reads}
-use Rattle.home_types.specs.Kinds.{has_value, kind_at}
-use Rattle.home_types.specs.declared.commands.Answer.TheVariants.{Fine}
+use Rattle.home_types.specs.Kinds.{has_value, kind_at, nearest}
 use Rattle.home_types.specs.declared.commands.Command.{Command}
 use Rattle.home_types.specs.declared.commands.Job.TheVariants.{Check, Load, Set, Store}
 use Rattle.home_types.specs.declared.commands.Job.{Job}
 use Rattle.home_types.specs.declared.kinds.Kind.{Kind}
+use Rattle.home_types.specs.declared.kinds.Kind.TheVariants.{Range, States}
+use Rattle.hub_core.proofs.Afters.{read_with}
 use Rattle.hub_core.proofs.Calls.{give_calls}
 use Rattle.hub_core.proofs.Gives.{command_is}
-use Rattle.hub_core.proofs.HubChanges.{InsideIsKept, has_place, hub_of, no_register, up_first}
-use Rattle.hub_core.proofs.HubOuts.{at_index, count_cons, other_home, other_out}
-use Rattle.hub_core.proofs.HubReads.{get_set}
+use Rattle.hub_core.proofs.HistoryKept.{added}
+use Rattle.hub_core.proofs.HubChanges.{InsideIsKept, has_place, hub_of, up_first}
+use Rattle.hub_core.proofs.HubOuts.{at_index, count_cons, device_within, other_home, other_out}
+use Rattle.hub_core.proofs.HubReads.{get_set, run_place}
 use Rattle.hub_core.proofs.HubStates.{carried_set, device_here, device_there, grips_set, kept_is, known_same, known_set, place_here}
-use Rattle.hub_core.proofs.Kept.{IsOut, give_kept, out_is}
+use Rattle.hub_core.proofs.Kept.{Brings, IsOut, give_kept, gives_one, out_is}
 use Rattle.hub_core.proofs.StageChoices.{StepsPlainly, steps_plainly}
 use Rattle.hub_core.proofs.Takes.{live_run}
 use Rattle.hub_core.specs.AccountedCalls.{told_calls}
 use Rattle.hub_core.specs.Homes.{CountsAreLow}
 use Rattle.hub_core.specs.HubCalls.{IsGiven, SameWindow, carried_by}
 use Rattle.hub_core.specs.HubKept.{ConfigurationIsKept}
-use Rattle.hub_core.specs.HubSteps.{Carried, Gave, Given, HubState, Returned, give, give_if, is_kept, task_of}
-use Rattle.hub_core.specs.HubsKept.{FitsAtHome, HasRoomLeft, HubIsKept, is_away}
+use Rattle.hub_core.specs.HubSteps.{Carried, Gave, Given, HubState, Returned, command_task, give, give_if, is_kept, task_of}
+use Rattle.hub_core.specs.HubsKept.{FitsAtHome, FitsOut, HasRoomLeft, HubIsKept, is_away}
 use Rattle.hub_core.specs.Openings.{names_values_of}
 use Rattle.hub_core.specs.OpenHubs.{OpenHub, configuration_of, device_at, grip_in, held_in, purpose_of, state_of}
 use Rattle.hub_core.specs.ReadHistories.{HistoryState, with_entry}
-use Rattle.hub_core.specs.Stage.{is_set}
-use Rattle.hub_core.specs.Steps.{after_give, at_moment, give_entries}
+use Rattle.hub_core.specs.Stage.{is_safe}
+use Rattle.hub_core.specs.Steps.{after_give, answer_told, at_moment, give_entries, with_entries, with_grip}
 use Rattle.hub_core.specs.declared.hubs.ClosingLists.{ClosingLists}
 use Rattle.hub_core.specs.declared.known.DeviceProgress.{DeviceProgress}
 use Rattle.hub_core.specs.declared.purposes.Purpose.TheVariants.{Command as ForCommand, Probe as ForProbe, Undo as ForUndo}
@@ -51,27 +55,49 @@ use Rattle.std.proofs.Common.{ap, ap₂, arith, inl, inr, length-append, refl, s
 use Rattle.std.proofs.lemmas.Grind.{common_steps}
 use Rattle.std.proofs.lemmas.List.{length-set}
 use Rattle.std.proofs.lemmas.Option.{slice_get_within}
-use Rattle.std.specs.Prelude.{IsTrue, List, None, Ok, Option, Some, [], count_by, false, if◌then◌else◌, length, max, nat_lt, slice_get, slice_set, suc, true, zero, ℕ, ⊤, ◌&&◌, ◌*◌, ◌++◌, ◌+◌, ◌-◌, ◌<◌, ◌==◌, ◌∷◌, ◌≡◌, ◌≢◌, ◌≤◌}
+use Rattle.std.specs.Prelude.{Bool, IfSome, IsTrue, List, None, Ok, Option, Some, [], count_by, false, if◌then◌else◌, length, max, nat_lt, slice_get, slice_set, suc, true, zero, ℕ, ⊤, ◌&&◌, ◌*◌, ◌++◌, ◌+◌, ◌-◌, ◌<◌, ◌==◌, ◌∷◌, ◌≡◌, ◌≢◌, ◌≤◌}
 use Rattle.window_order.proofs.ReadFacts.{IsRead, read_facts}
 
 -- Why it was out
 
--- the device is out for the next command of a run, and drives what that sets
+-- the device is out for the next command of a run, does what that is to do, and then stands at a value of its kind
 pub record IsForCommand {D : Type 0} (s : OpenHub D) (slip : Slip) (task : Task) (k : ℕ) : Type 0 where
   pub grip : (configuration_of s).grips slip.device.0 ≡ Some (record { maker = slip.maker; purpose = Commands k })
   pub run : is_run s.setting.runs slip.maker ≡ true
   pub next : k ≡ next_of (read_of (configuration_of s)) slip.maker
   pub few : k < 64
+  pub within : k < length (commands_of s.setting.runs slip.maker)
   pub on : (command_at s.setting.runs slip.maker k).device.0 ≡ slip.device.0
-  pub drives : task ≡ Drive (driven (kind_at s.setting.kinds slip.device.0) (command_at s.setting.runs slip.maker k).job ((read_of (configuration_of s)).run slip.maker).register)
-  pub value : IsTrue (has_value (kind_at s.setting.kinds slip.device.0) (driven (kind_at s.setting.kinds slip.device.0) (command_at s.setting.runs slip.maker k).job ((read_of (configuration_of s)).run slip.maker).register))
+  pub safe : is_safe (command_at s.setting.runs slip.maker k) ≡ true
+  pub does : task ≡ command_task (configuration_of s) slip.maker (command_at s.setting.runs slip.maker k)
+  pub stood : slip.stood ≡ held_in s slip.device.0
+  pub value : IsTrue (has_value (kind_at s.setting.kinds slip.device.0) (value_after task (held_in s slip.device.0)))
 
--- a set drives its value
-set_value : (kind : Kind) (job : Job) (register : ℕ) → IsTrue (is_set job) → IsTrue (names_values_of kind job) → IsTrue (has_value kind (driven kind job register))
-set_value kind (Set v) register set named = named
-set_value kind (Check v) register set named = absurd (cc)
-set_value kind Load register set named = absurd (cc)
-set_value kind Store register set named = absurd (cc)
+-- a kind that has some value has the nearest one to any
+nearest_has : (kind : Kind) (held v : ℕ) → IsTrue (has_value kind held) → IsTrue (has_value kind (nearest kind v))
+nearest_has (States n) held v has = grind (arith, common_steps)
+nearest_has (Range low high) held v has = grind (arith, common_steps)
+
+-- a command of a device that stands at a value of its kind leaves it at one
+task_value : (kind : Kind) (job : Job) (register held : ℕ) → IsTrue (names_values_of kind job) → IsTrue (has_value kind held) → IsTrue (has_value kind (value_after (if reads job then Sense else Drive (driven kind job register)) held))
+task_value kind (Set v) register held named has = named
+task_value kind (Check v) register held named has = has
+task_value kind Load register held named has = has
+task_value kind Store register held named has = nearest_has kind held register has
+
+-- it leaves counted up
+task_up : (kind : Kind) (job : Job) (register : ℕ) → IsTrue (is_counted_up (if reads job then Sense else Drive (driven kind job register)))
+task_up kind (Set v) register = refl
+task_up kind (Check v) register = refl
+task_up kind Load register = refl
+task_up kind Store register = refl
+
+-- .. for one call
+task_calls : (kind : Kind) (job : Job) (register : ℕ) → turns_of (if reads job then Sense else Drive (driven kind job register)) ≡ 1
+task_calls kind (Set v) register = refl
+task_calls kind (Check v) register = refl
+task_calls kind Load register = refl
+task_calls kind Store register = refl
 
 command_of : (p : KeptPurpose) → IsTrue (is_command (purpose_of p)) → (k : ℕ) × (p ≡ ForCommand k)
 command_of (ForCommand k) is = (k, refl)
@@ -92,11 +118,14 @@ for_command stands turns probes faults s slip task known k kept there is for =
       grip = grip;
       run = live_run w n r read.shaped (out.1.live);
       next = out.1.number;
-      few = let within : next_of n r < length (commands_of w.runs r) = slice_get_within (commands_of w.runs r) (next_of n r) out.0 out.1.next in let least : length (commands_of w.runs r) ≤ 64 = kept.configuration.opens.few_commands r in omega (arith, within, least, out.1.number);
+      few = let least : length (commands_of w.runs r) ≤ 64 = kept.configuration.opens.few_commands r in omega (arith, inside, least, out.1.number);
+      within = omega (arith, inside, out.1.number);
       on = on;
-      drives = (kept.out slip.device.0 slip task there).does ∙ ap (λ (p : KeptPurpose). task_of (configuration_of s) r (purpose_of p)) purpose ∙ ap (λ b. if b then Sense else Drive (driven (kind_at w.kinds (command_at w.runs r k).device.0) (command_at w.runs r k).job (n.run r).register)) writes
-          ∙ ap (λ d. Drive (driven (kind_at w.kinds d) (command_at w.runs r k).job (n.run r).register)) on;
-      value = set_value (kind_at w.kinds slip.device.0) (command_at w.runs r k).job (n.run r).register (subst (λ (c : Command). IsTrue (is_set c.job)) (sym same) set) (subst (λ (c : Command). IsTrue (names_values_of (kind_at w.kinds slip.device.0) c.job)) (sym same) named);
+      safe = ap is_safe same ∙ plainly.safe r (next_of n r) out.0 out.1.next;
+      does = does;
+      stood = fits.stand (subst (λ x. IsTrue (is_counted_up x)) (sym does) (task_up (kind_at w.kinds (command_at w.runs r k).device.0) (command_at w.runs r k).job (n.run r).register));
+      value = subst (λ x. IsTrue (has_value (kind_at w.kinds slip.device.0) (value_after x (held_in s slip.device.0)))) (sym (does ∙ ap (λ d. if reads (command_at w.runs r k).job then Sense else Drive (driven (kind_at w.kinds d) (command_at w.runs r k).job (n.run r).register)) on))
+          (task_value (kind_at w.kinds slip.device.0) (command_at w.runs r k).job (n.run r).register (held_in s slip.device.0) (subst (λ (c : Command). IsTrue (names_values_of (kind_at w.kinds slip.device.0) c.job)) (sym same) named) (kept.values slip.device.0 (device_within w slip.device.0 (subst (λ d. is_device w d ≡ true) out.1.on (plainly.homed r (next_of n r) out.0 out.1.next)))));
     }
   where
     w : Setting
@@ -129,11 +158,14 @@ for_command stands turns probes faults s slip task known k kept there is for =
     on : (command_at w.runs r k).device.0 ≡ slip.device.0
     on = ap (λ (c : Command). c.device.0) same ∙ out.1.on
 
-    writes : reads (command_at w.runs r k).job ≡ false
-    writes = ap (λ (c : Command). reads c.job) same ∙ plainly.writes r (next_of n r) out.0 out.1.next
+    inside : next_of n r < length (commands_of w.runs r)
+    inside = slice_get_within (commands_of w.runs r) (next_of n r) out.0 out.1.next
 
-    set : IsTrue (is_set out.0.job)
-    set = kept.configuration.stage.sets r (next_of n r) out.0 out.1.next
+    fits : FitsOut s slip.device.0 slip task
+    fits = kept.out slip.device.0 slip task there
+
+    does : task ≡ command_task (configuration_of s) r (command_at w.runs r k)
+    does = fits.does ∙ ap (λ (p : KeptPurpose). task_of (configuration_of s) r (purpose_of p)) purpose
 
     named : IsTrue (names_values_of (kind_at w.kinds slip.device.0) out.0.job)
     named =
@@ -143,10 +175,46 @@ for_command stands turns probes faults s slip task known k kept there is for =
 
 -- What it told
 
-pub has_worked : (told : Told) (v : ℕ) (slip : Slip) (tag stands turns probes faults : ℕ) → WasCalled told (Drive v) slip tag stands turns probes faults → faults ≡ 0 → told ≡ Worked
-has_worked Worked v slip tag stands turns probes faults called none = refl
-has_worked (Sensed x) v slip tag stands turns probes faults called none = absurd (let fits : false ≡ true = called.fits in cc)
-has_worked Died v slip tag stands turns probes faults called none = absurd (let rose : faults ≡ slip.faults + 1 = called.faults_rose in omega (arith, rose, none))
+-- no call died where the faults did not rise
+pub has_lived : (told : Told) (slip : Slip) (faults : ℕ) → faults ≡ slip.faults + failed told → faults ≡ 0 → has_died told ≡ false
+has_lived Worked slip faults rose none = refl
+has_lived (Sensed x) slip faults rose none = refl
+has_lived Died slip faults rose none = absurd (omega (arith, rose, none))
+
+-- where no call died the device stands where its task leaves it, after so many calls and no fault
+stands_so : (told : Told) (task : Task) (stood stands : ℕ) → has_died told ≡ false → IfSome (stands_after task stood told) (λ v. stands ≡ v) → stands ≡ value_after task stood
+stands_so told task stood stands lives at = subst (λ b. IfSome (if b then None else Some (value_after task stood)) (λ v. stands ≡ v)) lives at
+
+turns_so : (told : Told) (task : Task) (turns now : ℕ) → has_died told ≡ false → turns_of task ≡ 1 → now ≡ turns + answered task told → now ≡ turns + 1
+turns_so told task turns now lives one rose = rose ∙ ap (λ b. turns + (if b then 0 else turns_of task)) lives ∙ ap (λ k. turns + k) one
+
+faults_so : (told : Told) (faults now : ℕ) → has_died told ≡ false → now ≡ faults + failed told → now ≡ faults
+faults_so told faults now lives rose = rose ∙ ap (λ b. faults + (if b then 1 else 0)) lives ∙ plus_none faults
+  where
+    plus_none : (n : ℕ) → n + 0 ≡ n
+    plus_none n = omega arith
+
+-- what it told is what its command brings
+brings_so : (s : Configuration) (held : ℕ → ℕ) (r k d v stood : ℕ) (task : Task) (told : Told) → (command_at s.setting.runs r k).device.0 ≡ d → task ≡ command_task s r (command_at s.setting.runs r k) → IsTrue (may_tell task stood told) → has_died told ≡ false → stood ≡ held d → v ≡ value_after task (held d)
+    → Brings s held r k d v told
+brings_so s held r k d v stood task told on does fits lives at stands = by_reading (reads (command_at s.setting.runs r k).job) refl told (does ∙ ap (λ e. if reads (command_at s.setting.runs r k).job then Sense else Drive (driven (kind_at s.setting.kinds e) (command_at s.setting.runs r k).job ((read_of s).run r).register)) on) fits lives
+  where
+    value : ℕ
+    value = driven (kind_at s.setting.kinds d) (command_at s.setting.runs r k).job ((read_of s).run r).register
+
+    same : (x y : ℕ) → (x == y) ≡ true → x ≡ y
+    same x y e = grind (arith, common_steps)
+
+    by_reading : (b : Bool) → reads (command_at s.setting.runs r k).job ≡ b → (t : Told) → task ≡ (if reads (command_at s.setting.runs r k).job then Sense else Drive value) → IsTrue (may_tell task stood t) → has_died t ≡ false → Brings s held r k d v t
+    by_reading true e Worked is tells alive = absurd (let none : false ≡ true = subst (λ x. IsTrue (may_tell x stood Worked)) (is ∙ ap (λ b. if b then Sense else Drive value) e) tells in cc)
+    by_reading true e (Sensed x) is tells alive =
+        let sense : task ≡ Sense = is ∙ ap (λ b. if b then Sense else Drive value) e in
+        let stays : v ≡ held d = stands ∙ ap (λ y. value_after y (held d)) sense in
+        let found : x ≡ stood = same x stood (subst (λ y. IsTrue (may_tell y stood (Sensed x))) sense tells) in
+        (e, found ∙ at ∙ sym stays, stays)
+    by_reading false e Worked is tells alive = (e, stands ∙ ap (λ y. value_after y (held d)) (is ∙ ap (λ b. if b then Sense else Drive value) e))
+    by_reading false e (Sensed x) is tells alive = absurd (let none : false ≡ true = subst (λ y. IsTrue (may_tell y stood (Sensed x))) (is ∙ ap (λ b. if b then Sense else Drive value) e) tells in cc)
+    by_reading b e Died is tells alive = absurd (cc)
 
 -- how many are away when one is home again
 count_back : {D : Type 0} (places : List (Place D)) (d : ℕ) (device : D) (slip : Slip) (task : Task) → slice_get places d ≡ Some (Out slip task) → count_by is_away (slice_set places d (Home device)) + 1 ≡ count_by is_away places
@@ -164,38 +232,49 @@ count_back (p ∷ places) (suc d) device slip task at =
 
 -- The device is home again
 
-abbrev pub back : {D : Type 0} → OpenHub D → Slip → D → ℕ → ℕ → ℕ → OpenHub D
-back s slip device v k m =
+abbrev pub back : {D : Type 0} → OpenHub D → Slip → Told → D → ℕ → ℕ → ℕ → OpenHub D
+back s slip told device v k m =
     record s {
-      history = s.history ++ kept_by slip.maker (Did (run_no slip.maker) k Fine ∷ []);
+      history = s.history ++ kept_by slip.maker (Did (run_no slip.maker) k (answer_told told) ∷ []);
       moment = m;
       devices = slice_set s.devices slip.device.0 (record (device_at s.devices slip.device.0) { held = v });
       places = slice_set s.places slip.device.0 (Home device);
       tickets = s.tickets;
     }
 
-abbrev pub after_back : {D : Type 0} → OpenHub D → Slip → ℕ → ℕ → Configuration
-after_back s slip k m = after_give (at_moment (configuration_of s) m) slip.device.0 (record { maker = slip.maker; purpose = Commands k }) Worked
+-- the configuration with the answer
+abbrev pub after_back : {D : Type 0} → OpenHub D → Slip → Told → ℕ → ℕ → Configuration
+after_back s slip told k m = added (configuration_of s) slip.maker (max s.moment m) (put (configuration_of s).grips slip.device.0 None) (Did (run_no slip.maker) k (answer_told told))
 
-pub back_configuration : {D : Type 0} (s : OpenHub D) (slip : Slip) (device : D) (v k m : ℕ) → slip.device.0 < length s.places → slip.device.0 < length s.devices → configuration_of (back s slip device v k (max s.moment m)) ≡ after_back s slip k m
-back_configuration s slip device v k m within known =
+pub back_configuration : {D : Type 0} (s : OpenHub D) (slip : Slip) (told : Told) (device : D) (v k m : ℕ) → slip.device.0 < length s.places → slip.device.0 < length s.devices → configuration_of (back s slip told device v k (max s.moment m)) ≡ after_back s slip told k m
+back_configuration s slip told device v k m within known =
     let d = slip.device.0 in
     let known_now = record (device_at s.devices d) { held = v } in
     let probes : ◌≡◌ {A = ℕ → ℕ} (λ e. (device_at (slice_set s.devices d known_now) e).probes_left) (λ e. (device_at s.devices e).probes_left) = λ i e. known_same (λ (p : DeviceProgress). p.probes_left) s.devices d known_now known refl e i in
     let grips : ◌≡◌ {A = ℕ → Option Grip} (λ e. grip_in (slice_get (slice_set s.places d (Home device)) e) (device_at (slice_set s.devices d known_now) e).purpose) (put (configuration_of s).grips d None) = grips_set s.places s.devices d (Home device) known_now within known in
-    λ i. record { setting = s.setting; history = s.history ++ kept_by slip.maker (Did (run_no slip.maker) k Fine ∷ []); moment = max s.moment m; probes = probes i; grips = grips i }
+    λ i. record { setting = s.setting; history = s.history ++ kept_by slip.maker (Did (run_no slip.maker) k (answer_told told) ∷ []); moment = max s.moment m; probes = probes i; grips = grips i }
 
-pub back_state : {D : Type 0} (s : OpenHub D) (slip : Slip) (device : D) (v k m : ℕ) → slip.device.0 < length s.places → slip.device.0 < length s.devices
-    → state_of (back s slip device v k (max s.moment m)) ≡ record { configuration = after_back s slip k m; carried = put (state_of s).carried slip.device.0 None }
-back_state s slip device v k m within known =
-    let configuration = back_configuration s slip device v k m within known in
+pub back_state : {D : Type 0} (s : OpenHub D) (slip : Slip) (told : Told) (device : D) (v k m : ℕ) → slip.device.0 < length s.places → slip.device.0 < length s.devices
+    → state_of (back s slip told device v k (max s.moment m)) ≡ record { configuration = after_back s slip told k m; carried = put (state_of s).carried slip.device.0 None }
+back_state s slip told device v k m within known =
+    let configuration = back_configuration s slip told device v k m within known in
     let carried = carried_set s.places slip.device.0 (Home device) within in
     λ i. record { configuration = configuration i; carried = carried i }
 
-pub back_kept : {D : Type 0} (stands turns probes faults : D → ℕ) (s : OpenHub D) (slip : Slip) (device : D) (v k m tag : ℕ)
-    → IsKept s.places slip (Drive v) → IsForCommand s slip (Drive v) k → WasCalled Worked (Drive v) slip tag (stands device) (turns device) (probes device) (faults device) → slip.device.0 < length s.devices
-    → HubIsKept stands turns probes faults s → HubIsKept stands turns probes faults (back s slip device v k (max s.moment m))
-back_kept {D = D} stands turns probes faults s slip device v k m tag at for called known kept =
+-- another device is not out for the same run
+other_maker : {D : Type 0} (stands turns probes faults : D → ℕ) (s : OpenHub D) (slip : Slip) (task : Task) (k e : ℕ) (other : Slip) (does : Task) → HubIsKept stands turns probes faults s → IsForCommand s slip task k → e ≢ slip.device.0 → slice_get s.places e ≡ Some (Out other does) → other.maker ≢ slip.maker
+other_maker stands turns probes faults s slip task k e other does kept for apart there same =
+    apart (kept.configuration.order.grips.runs.one e slip.device.0 (slip.maker - 1) (purpose_of (device_at s.devices e).purpose) (Commands k)
+    (ap (λ o. grip_in o (device_at s.devices e).purpose) there ∙ ap (λ m. Some (record { maker = m; purpose = purpose_of (device_at s.devices e).purpose })) (same ∙ first))
+    (for.grip ∙ ap (λ m. Some (record { maker = m; purpose = Commands k })) first))
+  where
+    first : slip.maker ≡ suc (slip.maker - 1)
+    first = (run_place s.setting.runs slip.maker for.run).0
+
+pub back_kept : {D : Type 0} (stands turns probes faults : D → ℕ) (s : OpenHub D) (slip : Slip) (task : Task) (told : Told) (device : D) (k m tag : ℕ)
+    → IsKept s.places slip task → IsForCommand s slip task k → WasCalled told task slip tag (stands device) (turns device) (probes device) (faults device) → has_died told ≡ false → slip.device.0 < length s.devices
+    → HubIsKept stands turns probes faults s → HubIsKept stands turns probes faults (back s slip told device (value_after task (held_in s slip.device.0)) k (max s.moment m))
+back_kept {D = D} stands turns probes faults s slip task told device k m tag at for called lives known kept =
     record {
       configuration = now;
       devices_size = length-set s.devices d known_now ∙ kept.devices_size;
@@ -206,32 +285,34 @@ back_kept {D = D} stands turns probes faults s slip device v k m tag at for call
       ];
       out = λ e other does there. elim (get_set s.places d e (Home device) within) [
         | inl p ↦ absurd (let both : Some (Home device) ≡ Some (Out other does) = sym p.1 ∙ there in cc)
-        | inr q ↦ other_out s t.history (max s.moment m) _ _ _ e other does (device_there s.devices d e known_now q.0) (told_other e q.0)
-            (no_register (configuration_of s) s.rounds s.opened other.maker (held_in s) kept.configuration ∙ sym (no_register (configuration_of t) s.rounds s.opened other.maker (held_in t) now)) (kept.out e other does (sym q.1 ∙ there))
+        | inr q ↦ other_out s t.history (max s.moment m) _ _ _ e other does (device_there s.devices d e known_now q.0) (told_other e q.0) (register_same other.maker (other_maker stands turns probes faults s slip task k e other does kept for q.0 (sym q.1 ∙ there))) (kept.out e other does (sym q.1 ∙ there))
       ];
       low = λ e. subst (λ (c : _). CountsAreLow s.opened c.turns c.probes c.faults) (sym (known_same (λ (p : DeviceProgress). p.at_opening) s.devices d known_now known refl e)) (kept.low e);
       values = λ e home. elim (get_set s.places d e (Home device) within) [
-        | inl p ↦ subst (λ x. IsTrue (has_value (kind_at s.setting.kinds x) (held_in t x))) (sym p.0) (subst (λ x. IsTrue (has_value (kind_at s.setting.kinds d) x)) (sym (ap (λ (p : DeviceProgress). p.held) here)) (subst (λ x. IsTrue (has_value (kind_at s.setting.kinds d) x)) (sym drives) for.value))
+        | inl p ↦ subst (λ x. IsTrue (has_value (kind_at s.setting.kinds x) (held_in t x))) (sym p.0) (subst (λ x. IsTrue (has_value (kind_at s.setting.kinds d) x)) (sym (ap (λ (p : DeviceProgress). p.held) here)) for.value)
         | inr q ↦ subst (λ x. IsTrue (has_value (kind_at s.setting.kinds e) x)) (sym (ap (λ (p : DeviceProgress). p.held) (device_there s.devices d e known_now q.0))) (kept.values e home)
       ];
       few_tickets =
           let few : s.tickets ≤ length s.history + count_by is_away s.places = kept.few_tickets in
-          let less = count_back s.places d device slip (Drive v) at in
-          let more : length t.history ≡ length s.history + 1 = length-append s.history (kept_by slip.maker (Did (run_no slip.maker) k Fine ∷ [])) in
+          let less = count_back s.places d device slip task at in
+          let more : length t.history ≡ length s.history + 1 = length-append s.history (kept_by slip.maker (Did (run_no slip.maker) k (answer_told told) ∷ [])) in
           omega (arith, few, less, more);
     }
   where
     d : ℕ
     d = slip.device.0
 
+    v : ℕ
+    v = value_after task (held_in s d)
+
     known_now : DeviceProgress
     known_now = record (device_at s.devices d) { held = v }
 
     t : OpenHub D
-    t = back s slip device v k (max s.moment m)
+    t = back s slip told device v k (max s.moment m)
 
     within : d < length s.places
-    within = slice_get_within s.places d (Out slip (Drive v)) at
+    within = slice_get_within s.places d (Out slip task) at
 
     here : device_at (slice_set s.devices d known_now) d ≡ known_now
     here = device_here s.devices d known_now known
@@ -243,23 +324,18 @@ back_kept {D = D} stands turns probes faults s slip device v k m tag at for call
     IsFitting e (Home x) = FitsAtHome stands turns probes faults t e x
     IsFitting e (Out x y) = ⊤
 
-    same_value : (x y : ℕ) → Drive x ≡ Drive y → x ≡ y
-    same_value x y e = cc
-
-    drives : v ≡ driven (kind_at s.setting.kinds d) (command_at s.setting.runs slip.maker k).job ((read_of (configuration_of s)).run slip.maker).register
-    drives = same_value v _ for.drives
-
-    held : held_in t ≡ put (held_in s) d v
-    held = known_set (λ (p : DeviceProgress). p.held) s.devices d known_now known
-
     now : ConfigurationIsKept (configuration_of t) s.rounds s.opened (held_in t)
     now =
-        let given = give_kept (configuration_of s) s.rounds s.opened (held_in s) slip.maker k d m for.grip kept.configuration in
-        subst (λ (c : Configuration). ConfigurationIsKept c s.rounds s.opened (held_in t)) (sym (back_configuration s slip device v k m within known))
-        (subst (λ h. ConfigurationIsKept (after_back s slip k m) s.rounds s.opened h) (sym held) (subst (λ x. ConfigurationIsKept (after_back s slip k m) s.rounds s.opened (put (held_in s) d x)) (sym drives) given))
+        let brings = brings_so (configuration_of s) (held_in s) slip.maker k d v slip.stood task told for.on for.does called.fits lives for.stood refl in
+        let given = give_kept (configuration_of s) s.rounds s.opened (held_in s) slip.maker k d m v told for.grip brings for.value kept.configuration in
+        subst (λ (c : Configuration). ConfigurationIsKept c s.rounds s.opened (held_in t)) (sym (back_configuration s slip told device v k m within known))
+        (subst (λ h. ConfigurationIsKept (after_back s slip told k m) s.rounds s.opened h) (sym (known_set (λ (p : DeviceProgress). p.held) s.devices d known_now known)) given)
+
+    register_same : (q : ℕ) → q ≢ slip.maker → ((read_of (configuration_of s)).run q).register ≡ ((read_of (configuration_of t)).run q).register
+    register_same q other = sym (ap (λ (n : Reading). (n.run q).register) (read_with (configuration_of s) slip.maker (Did (run_no slip.maker) k (answer_told told) ∷ [])) ∙ ap (λ o. o.register) (put_other (read_of (configuration_of s)).run slip.maker _ q other))
 
     calls : (e : ℕ) → told_calls s.setting.runs (entries_of t.history) e ≡ told_calls s.setting.runs (entries_of s.history) e + (if d == e then 1 else 0)
-    calls e = give_calls (configuration_of s) slip.maker k d e m for.on
+    calls e = give_calls (configuration_of s) slip.maker k d e told for.on lives
 
     told_other : (e : ℕ) → e ≢ d → told_calls s.setting.runs (entries_of t.history) e ≡ told_calls s.setting.runs (entries_of s.history) e
     told_other e other = calls e ∙ ap (λ b. told_calls s.setting.runs (entries_of s.history) e + (if b then 1 else 0)) (apart d e (λ p. other (sym p))) ∙ plus_none (told_calls s.setting.runs (entries_of s.history) e)
@@ -279,21 +355,21 @@ back_kept {D = D} stands turns probes faults s slip device v k m tag at for call
     up_same : (e : ℕ) → (read_of (configuration_of t)).up e ≡ (read_of (configuration_of s)).up e
     up_same e = up_first (configuration_of t) s.rounds s.opened e (held_in t) now ∙ sym (up_first (configuration_of s) s.rounds s.opened e (held_in s) kept.configuration)
 
+    one_call : turns_of task ≡ 1
+    one_call = ap turns_of for.does ∙ task_calls (kind_at s.setting.kinds (command_at s.setting.runs slip.maker k).device.0) (command_at s.setting.runs slip.maker k).job ((read_of (configuration_of s)).run slip.maker).register
+
     comes : FitsAtHome stands turns probes faults t d device
     comes =
-        let fits = kept.out d slip (Drive v) at in
+        let fits = kept.out d slip task at in
         record {
-          stand = λ up. called.stands_there ∙ ap (λ (p : DeviceProgress). p.held) (sym here);
+          stand = λ up. stands_so told task slip.stood (stands device) lives called.stands_there ∙ ap (value_after task) for.stood ∙ ap (λ (p : DeviceProgress). p.held) (sym here);
           turns_are =
-              let rose : turns device ≡ slip.turns + 1 = called.turns_rose in
+              let rose : turns device ≡ slip.turns + 1 = turns_so told task slip.turns (turns device) lives one_call called.turns_rose in
               let had : slip.turns ≡ (device_at s.devices d).at_opening.turns + told_calls s.setting.runs (entries_of s.history) d = fits.turns_are in
               let same : (device_at t.devices d).at_opening.turns ≡ (device_at s.devices d).at_opening.turns = ap (λ (p : DeviceProgress). p.at_opening.turns) here in
               omega (arith, rose, had, same, told_here);
           probes_are = called.probes_rose ∙ fits.probes_are ∙ ap (λ (p : DeviceProgress). p.at_opening.probes + (s.rounds - p.probes_left)) (sym here);
-          faults_are =
-              let rose : faults device ≡ slip.faults + 0 = called.faults_rose in
-              let same : (device_at t.devices d).at_opening.faults ≡ (device_at s.devices d).at_opening.faults = ap (λ (p : DeviceProgress). p.at_opening.faults) here in
-              omega (arith, rose, fits.faults_are, same);
+          faults_are = faults_so told slip.faults (faults device) lives called.faults_rose ∙ fits.faults_are ∙ ap (λ (p : DeviceProgress). p.at_opening.faults) (sym here);
         }
 
 -- The answer
@@ -312,37 +388,44 @@ pub record CameBack {D : Type 0} (stands turns probes faults : D → ℕ) (h₂ 
   pub window : SameWindow s₀ (hub_of h₂ rounds opened now devices₂ places₂ number)
 
 -- what is known of the grip that came back
-pub record IsReturned {D : Type 0} (stands turns probes faults : D → ℕ) (places : List (Place D)) (devices : List DeviceProgress) (known : DeviceProgress) (v k tag : ℕ) (grip : Gripped D Done) : Type 0 where
+pub record IsReturned {D : Type 0} (stands turns probes faults : D → ℕ) (places : List (Place D)) (devices : List DeviceProgress) (known : DeviceProgress) (k tag : ℕ) (grip : Gripped D Done) : Type 0 where
   pub there : IsKept places grip.slip grip.task
   pub maker : 0 < grip.slip.maker
   pub known_is : slice_get devices grip.slip.device.0 ≡ Some known
   pub purpose : known.purpose ≡ ForCommand k
-  pub does : grip.task ≡ Drive v
   pub called : WasCalled grip.stage.told grip.task grip.slip tag (stands grip.device) (turns grip.device) (probes grip.device) (faults grip.device)
   pub calm : faults grip.device ≡ 0
 
--- the history has a place for the answer
-pub back_place : {D : Type 0} (stands turns probes faults : D → ℕ) (h : HistoryState) (rounds opened moment tickets k : ℕ) (devices : List DeviceProgress) (places : List (Place D)) (closing : ClosingLists) (known : DeviceProgress) (slip : Slip) (task : Task)
-    → InsideIsKept stands turns probes faults h rounds opened moment devices places tickets closing → IsKept places slip task → slice_get devices slip.device.0 ≡ Some known → known.purpose ≡ ForCommand k → 0 < h.spare
-back_place {D = D} stands turns probes faults h rounds opened moment tickets k devices places closing known slip task inside there known_is purpose =
-    let s : OpenHub D = hub_of h rounds opened moment devices places tickets in
-    let for = for_command stands turns probes faults s slip task known k inside.0 there known_is purpose in
-    has_place (after_back s slip k 0) h.history (record { maker = slip.maker; entry = Did (run_no slip.maker) k Fine }) rounds opened h.spare _ refl (give_kept (configuration_of s) rounds opened (held_in s) slip.maker k slip.device.0 0 for.grip inside.0.configuration) inside.1.history
+-- the hub with that device home
+abbrev pub returned_hub : {D : Type 0} → OpenHub D → Gripped D Done → ℕ → ℕ → OpenHub D
+returned_hub s grip k m = back s grip.slip grip.stage.told grip.device (value_after grip.task (held_in s grip.slip.device.0)) k (max s.moment m)
 
-pub came_back : {D : Type 0} (stands turns probes faults : D → ℕ) (h h₂ : HistoryState) (rounds opened moment now tickets number m k v tag : ℕ) (devices devices₂ : List DeviceProgress) (places places₂ : List (Place D)) (closing : ClosingLists) (s₀ : OpenHub D) (known : DeviceProgress) (grip : Gripped D Done) (made : Made)
+returned_kept : {D : Type 0} (stands turns probes faults : D → ℕ) (s : OpenHub D) (m k tag : ℕ) (known : DeviceProgress) (grip : Gripped D Done) → HubIsKept stands turns probes faults s → IsReturned stands turns probes faults s.places s.devices known k tag grip → HubIsKept stands turns probes faults (returned_hub s grip k m)
+returned_kept stands turns probes faults s m k tag known grip kept returned =
+    back_kept stands turns probes faults s grip.slip grip.task grip.stage.told grip.device k m tag returned.there (for_command stands turns probes faults s grip.slip grip.task known k kept returned.there returned.known_is returned.purpose) returned.called
+    (has_lived grip.stage.told grip.slip (faults grip.device) returned.called.faults_rose returned.calm) (slice_get_within s.devices grip.slip.device.0 known returned.known_is) kept
+
+-- the history has a place for the answer
+pub back_place : {D : Type 0} (stands turns probes faults : D → ℕ) (h : HistoryState) (rounds opened moment tickets k tag : ℕ) (devices : List DeviceProgress) (places : List (Place D)) (closing : ClosingLists) (known : DeviceProgress) (grip : Gripped D Done)
+    → InsideIsKept stands turns probes faults h rounds opened moment devices places tickets closing → IsReturned stands turns probes faults places devices known k tag grip → 0 < h.spare
+back_place {D = D} stands turns probes faults h rounds opened moment tickets k tag devices places closing known grip inside returned =
+    let s : OpenHub D = hub_of h rounds opened moment devices places tickets in
+    has_place _ h.history (record { maker = grip.slip.maker; entry = Did (run_no grip.slip.maker) k (answer_told grip.stage.told) }) rounds opened h.spare _ refl (returned_kept stands turns probes faults s 0 k tag known grip inside.0 returned).configuration inside.1.history
+
+pub came_back : {D : Type 0} (stands turns probes faults : D → ℕ) (h h₂ : HistoryState) (rounds opened moment now tickets number m k tag : ℕ) (devices devices₂ : List DeviceProgress) (places places₂ : List (Place D)) (closing : ClosingLists) (s₀ : OpenHub D) (known : DeviceProgress) (grip : Gripped D Done) (made : Made)
     → InsideIsKept stands turns probes faults h rounds opened moment devices places tickets closing → hub_of h rounds opened moment devices places tickets ≡ s₀
-    → IsReturned stands turns probes faults places devices known v k tag grip
-    → h₂ ≡ with_entry h grip.slip.maker (Did (run_no grip.slip.maker) k Fine) → now ≡ max moment m → number ≡ tickets → devices₂ ≡ slice_set devices grip.slip.device.0 (record known { held = v }) → places₂ ≡ slice_set places grip.slip.device.0 (Home grip.device)
-    → entries_made made ≡ Did (run_no grip.slip.maker) k Fine ∷ []
+    → IsReturned stands turns probes faults places devices known k tag grip
+    → h₂ ≡ with_entry h grip.slip.maker (Did (run_no grip.slip.maker) k (answer_told grip.stage.told)) → now ≡ max moment m → number ≡ tickets → devices₂ ≡ slice_set devices grip.slip.device.0 (record known { held = value_after grip.task known.held }) → places₂ ≡ slice_set places grip.slip.device.0 (Home grip.device)
+    → entries_made made ≡ Did (run_no grip.slip.maker) k (answer_told grip.stage.told) ∷ []
     → CameBack stands turns probes faults h₂ rounds opened now number devices₂ places₂ closing s₀ grip m made
-came_back {D = D} stands turns probes faults h h₂ rounds opened moment now tickets number m k v tag devices devices₂ places places₂ closing s₀ known grip made inside same returned h_is now_is number_is devices_are places_are made_is =
+came_back {D = D} stands turns probes faults h h₂ rounds opened moment now tickets number m k tag devices devices₂ places places₂ closing s₀ known grip made inside same returned h_is now_is number_is devices_are places_are made_is =
     subst (λ (x : OpenHub D). CameBack stands turns probes faults h₂ rounds opened now number devices₂ places₂ closing x grip m made) same
     (record {
-      inside = (subst (λ (x : OpenHub D). HubIsKept stands turns probes faults x) (sym new) kept, room);
+      inside = (subst (λ (x : OpenHub D). HubIsKept stands turns probes faults x) (sym new) (returned_kept stands turns probes faults s m k tag known grip inside.0 returned), room);
       given = (
         (
           ap (λ x. Returned (Gave x)) made_is ∙ ap (λ (x : Given). Returned x.answer) (sym gives),
-          ap (λ (x : OpenHub D). state_of x) new ∙ back_state s grip.slip grip.device v k m within within_devices ∙ ap (λ (x : Given). x.next) (sym gives),
+          ap (λ (x : OpenHub D). state_of x) new ∙ back_state s grip.slip grip.stage.told grip.device v k m within within_devices ∙ ap (λ (x : Given). x.next) (sym gives),
         ),
         places_are,
       );
@@ -352,14 +435,14 @@ came_back {D = D} stands turns probes faults h h₂ rounds opened moment now tic
     s : OpenHub D
     s = hub_of h rounds opened moment devices places tickets
 
-    t : OpenHub D
-    t = back s grip.slip grip.device v k (max moment m)
+    v : ℕ
+    v = value_after grip.task (held_in s grip.slip.device.0)
 
-    there : IsKept places grip.slip (Drive v)
-    there = returned.there ∙ ap (λ x. Some (Out grip.slip x)) returned.does
+    t : OpenHub D
+    t = returned_hub s grip k m
 
     within : grip.slip.device.0 < length places
-    within = slice_get_within places grip.slip.device.0 (Out grip.slip (Drive v)) there
+    within = slice_get_within places grip.slip.device.0 (Out grip.slip grip.task) returned.there
 
     within_devices : grip.slip.device.0 < length devices
     within_devices = slice_get_within devices grip.slip.device.0 known returned.known_is
@@ -367,29 +450,24 @@ came_back {D = D} stands turns probes faults h h₂ rounds opened moment now tic
     here : device_at devices grip.slip.device.0 ≡ known
     here = at_index devices grip.slip.device.0 known returned.known_is
 
-    called : WasCalled grip.stage.told (Drive v) grip.slip tag (stands grip.device) (turns grip.device) (probes grip.device) (faults grip.device)
-    called = subst (λ x. WasCalled grip.stage.told x grip.slip tag (stands grip.device) (turns grip.device) (probes grip.device) (faults grip.device)) returned.does returned.called
+    for : IsForCommand s grip.slip grip.task k
+    for = for_command stands turns probes faults s grip.slip grip.task known k inside.0 returned.there returned.known_is returned.purpose
 
-    worked : grip.stage.told ≡ Worked
-    worked = has_worked grip.stage.told v grip.slip tag (stands grip.device) (turns grip.device) (probes grip.device) (faults grip.device) called returned.calm
+    lives : has_died grip.stage.told ≡ false
+    lives = has_lived grip.stage.told grip.slip (faults grip.device) returned.called.faults_rose returned.calm
 
-    for : IsForCommand s grip.slip (Drive v) k
-    for = for_command stands turns probes faults s grip.slip (Drive v) known k inside.0 there returned.known_is returned.purpose
-
-    kept : HubIsKept stands turns probes faults t
-    kept = back_kept stands turns probes faults s grip.slip grip.device v k m tag there for (subst (λ x. WasCalled x (Drive v) grip.slip tag (stands grip.device) (turns grip.device) (probes grip.device) (faults grip.device)) worked called) within_devices inside.0
-
-    gives : give (state_of s) (carried_by grip) grip.stage.told m ≡ record { answer = Gave (Did (run_no grip.slip.maker) k Fine ∷ []); next = record { configuration = after_back s grip.slip k m; carried = put (state_of s).carried grip.slip.device.0 None } }
+    gives : give (state_of s) (carried_by grip) grip.stage.told m ≡ record { answer = Gave (Did (run_no grip.slip.maker) k (answer_told grip.stage.told) ∷ []); next = record { configuration = after_back s grip.slip grip.stage.told k m; carried = put (state_of s).carried grip.slip.device.0 None } }
     gives =
-        ap (λ x. give (state_of s) (carried_by grip) x m) worked
-        ∙ taken_in (state_of s) (carried_by grip) (record { maker = grip.slip.maker; purpose = Commands k }) Worked m (kept_is s grip.slip grip.task returned.there) (positive grip.slip.maker returned.maker) for.grip
+        taken_in (state_of s) (carried_by grip) (record { maker = grip.slip.maker; purpose = Commands k }) grip.stage.told m (kept_is s grip.slip grip.task returned.there) (positive grip.slip.maker returned.maker) for.grip
+        ∙ ap (λ es. record { answer = Gave es; next = record { configuration = with_grip (with_entries (at_moment (configuration_of s) m) grip.slip.maker es) grip.slip.device.0 None; carried = put (state_of s).carried grip.slip.device.0 None } })
+        (gives_one s.setting (read_of (configuration_of s)) grip.slip.maker k grip.slip.device.0 grip.stage.told for.safe lives)
       where
         positive : (n : ℕ) → 0 < n → nat_lt 0 n ≡ true
         positive n some = grind (arith, common_steps, some)
 
     new : ◌≡◌ {A = OpenHub D} (hub_of h₂ rounds opened now devices₂ places₂ number) t
     new =
-        let devices_now = devices_are ∙ ap (λ (p : DeviceProgress). slice_set devices grip.slip.device.0 (record p { held = v })) (sym here) in
+        let devices_now = devices_are ∙ ap (λ (p : DeviceProgress). slice_set devices grip.slip.device.0 (record p { held = value_after grip.task p.held })) (sym here) in
         λ i. record {
           setting = (h_is i).setting;
           rounds = rounds;
@@ -402,13 +480,13 @@ came_back {D = D} stands turns probes faults h h₂ rounds opened moment now tic
         }
 
     some : 0 < h.spare
-    some = back_place stands turns probes faults h rounds opened moment tickets k devices places closing known grip.slip grip.task inside returned.there returned.known_is returned.purpose
+    some = back_place stands turns probes faults h rounds opened moment tickets k tag devices places closing known grip inside returned
 
     room : HasRoomLeft (hub_of h₂ rounds opened now devices₂ places₂ number) h₂.spare closing
     room =
         let setting : length h₂.setting.first ≡ length h.setting.first = ap (λ (x : HistoryState). length x.setting.first) h_is in
         let runs : length h₂.setting.runs ≡ length h.setting.runs = ap (λ (x : HistoryState). length x.setting.runs) h_is in
-        let long : length h₂.history ≡ length h.history + 1 = ap (λ (x : HistoryState). length x.history) h_is ∙ length-append h.history (kept_by grip.slip.maker (Did (run_no grip.slip.maker) k Fine ∷ [])) in
+        let long : length h₂.history ≡ length h.history + 1 = ap (λ (x : HistoryState). length x.history) h_is ∙ length-append h.history (kept_by grip.slip.maker (Did (run_no grip.slip.maker) k (answer_told grip.stage.told) ∷ [])) in
         let left : h₂.spare ≡ h.spare - 1 = ap (λ (x : HistoryState). x.spare) h_is in
         let enough : 132 * length h.setting.runs ≤ h.spare + length h.history = inside.1.history in
         record {
@@ -432,18 +510,17 @@ few_answers stands turns probes faults s sl slip task known k same kept there is
     let number : next_of (read_of (configuration_of s)) sl.maker ≡ k = ap (λ (x : Slip). next_of (read_of (configuration_of s)) x.maker) same ∙ sym command.next in
     omega (arith, number, command.few)
 
-pub returned_as : {D : Type 0} (stands turns probes faults : D → ℕ) (places after : List (Place D)) (devices : List DeviceProgress) (known : DeviceProgress) (v k tag : ℕ) (grip : Gripped D Done) (sl : Slip) (task : Task) (told : Told) (x : D)
-    → IsKept places grip.slip grip.task → 0 < grip.slip.maker → sl ≡ grip.slip → task ≡ grip.task → slice_get devices sl.device.0 ≡ Some known → known.purpose ≡ ForCommand k → task ≡ Drive v
+pub returned_as : {D : Type 0} (stands turns probes faults : D → ℕ) (places after : List (Place D)) (devices : List DeviceProgress) (known : DeviceProgress) (k tag : ℕ) (grip : Gripped D Done) (sl : Slip) (told : Told) (x : D)
+    → IsKept places grip.slip grip.task → 0 < grip.slip.maker → sl ≡ grip.slip → slice_get devices sl.device.0 ≡ Some known → known.purpose ≡ ForCommand k
     → after ≡ slice_set places grip.slip.device.0 (Home grip.device) → told ≡ grip.stage.told → WasCalled told grip.task grip.slip tag (stands grip.device) (turns grip.device) (probes grip.device) (faults grip.device)
     → slice_get after sl.device.0 ≡ Some (Home x) → faults x ≡ 0
-    → IsReturned stands turns probes faults places devices known v k tag grip
-returned_as {D = D} stands turns probes faults places after devices known v k tag grip sl task told x there maker slips tasks known_is purpose drives after_is told_is called here calm =
+    → IsReturned stands turns probes faults places devices known k tag grip
+returned_as {D = D} stands turns probes faults places after devices known k tag grip sl told x there maker slips known_is purpose after_is told_is called here calm =
     record {
       there = there;
       maker = maker;
       known_is = ap (λ (y : Slip). slice_get devices y.device.0) (sym slips) ∙ known_is;
       purpose = purpose;
-      does = sym tasks ∙ drives;
       called = subst (λ y. WasCalled y grip.task grip.slip tag (stands grip.device) (turns grip.device) (probes grip.device) (faults grip.device)) told_is called;
       calm = ap faults (same_home grip.device x (sym (home_again places after sl grip.slip grip.task grip.device slips after_is there) ∙ here)) ∙ calm;
     }

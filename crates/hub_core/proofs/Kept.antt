@@ -1,37 +1,47 @@
 -- What is kept of a hub's configuration is so at the start, and stays so with each step of a run and each device that comes home.
 use Rattle.command_rules.specs.Rosters.{command_at, is_on, is_run, run_no}
-use Rattle.device_gate.specs.declared.slips.Told.TheVariants.{Worked}
+use Rattle.device_gate.specs.Calls.{has_died}
+use Rattle.device_gate.specs.declared.slips.Told.TheVariants.{Died, Sensed, Worked}
+use Rattle.device_gate.specs.declared.slips.Told.{Told}
 use Rattle.history_book.proofs.Searches.{some_is}
+use Rattle.history_book.proofs.Snoc.{put_keeps}
 use Rattle.history_book.specs.Histories.{entries_of, entry}
 use Rattle.history_book.specs.Plans.{split_of}
 use Rattle.history_book.specs.Readings.{PlacedAt, Reading, has_written, is_doomed, is_live, is_next_on, next_command, next_of, put}
 use Rattle.history_book.specs.Settings.{Setting, is_device}
-use Rattle.history_book.specs.WellFormed.{along, may_follow}
+use Rattle.history_book.specs.WellFormed.{along, may_follow, suits}
+use Rattle.history_book.specs.declared.entries.Cause.TheVariants.{Refuted}
 use Rattle.history_book.specs.declared.entries.End.TheVariants.{Committed}
 use Rattle.history_book.specs.declared.entries.Entry.{Entry}
-use Rattle.history_book.specs.declared.entries.Entry.TheVariants.{Arrived, Did, Ended, Placed}
-use Rattle.home_types.specs.Commands.{driven, reads}
+use Rattle.history_book.specs.declared.entries.Entry.TheVariants.{Arrived, Did, Doomed, Ended, Placed}
+use Rattle.home_types.specs.Commands.{driven, fails, reads, refutes}
 use Rattle.home_types.specs.HomeStates.{stand_at}
-use Rattle.home_types.specs.Kinds.{kind_at}
-use Rattle.home_types.specs.declared.commands.Answer.TheVariants.{Fine}
+use Rattle.home_types.specs.Kinds.{has_value, kind_at}
+use Rattle.home_types.specs.declared.commands.Answer.TheVariants.{Fine, Found}
 use Rattle.home_types.specs.declared.commands.Command.{Command}
+use Rattle.home_types.specs.declared.commands.Job.{Job}
+use Rattle.home_types.specs.declared.commands.Job.TheVariants.{Check, Load, Set, Store}
 use Rattle.hub_core.proofs.Afters.{read_with}
 use Rattle.hub_core.proofs.Choices.{Commanding, IsNext}
 use Rattle.hub_core.proofs.Gives.{command_back_follows, command_is}
 use Rattle.hub_core.proofs.HistoryKept.{MayAdd, added, answer_may, arrival_may, commit_may, grip_turn, history_added, placing_may}
 use Rattle.hub_core.proofs.StageChoices.{StepsPlainly, never_down, plain_is, steps_plainly, take_all}
 use Rattle.hub_core.proofs.Takes.{Follows, live_run, take_follows}
-use Rattle.hub_core.specs.HubKept.{CommandsAreOut, ConfigurationIsKept}
+use Rattle.hub_core.specs.CleanReads.{answer_is_clean, clean_value, entry_is_clean}
+use Rattle.hub_core.specs.HubKept.{CommandsAreOut, ConfigurationIsKept, is_plain}
 use Rattle.hub_core.specs.Openings.{MayOpen, names_values_of}
-use Rattle.hub_core.specs.Stage.{StageAllows}
-use Rattle.hub_core.specs.Steps.{HandsOut, after_choice, after_give, after_take, at_moment, may_probe, opened}
-use Rattle.lock_leasing.specs.Configurations.{Commands, Configuration, Grip, Grips, Probes, Purpose, Undoes, has_grip, is_command, is_out, read_of}
+use Rattle.hub_core.specs.Stage.{StageAllows, is_check, is_safe}
+use Rattle.hub_core.specs.Steps.{HandsOut, after_choice, after_take, answer_told, at_moment, command_entries, give_entries, may_probe, opened}
+use Rattle.lock_leasing.specs.Configurations.{Commands, Configuration, Grip, Grips, Probes, Purpose, Undoes, has_grip, is_command, is_out, no_grips, read_of}
 use Rattle.lock_leasing.specs.Places.{IsScheduled, MayBeOut}
-use Rattle.std.proofs.Common.{ap, append-nil, arith, refl, subst, sym, ◌∙◌}
+use Rattle.lock_leasing.specs.Words.{has_effect, live_before}
+use Rattle.std.proofs.Common.{ap, append-nil, ap₂, arith, refl, subst, sym, ◌∙◌}
 use Rattle.std.proofs.lemmas.Grind.{common_steps}
+use Rattle.std.specs.List.{list_any}
 use Rattle.std.specs.Prelude.{Bool, IsTrue, None, Option, Some, [], false, if◌then◌else◌, is_none, is_some, length, max, not, option_map, true, unwrap_or, ℕ, ◌&&◌, ◌==◌, ◌∷◌, ◌≡◌, ◌≤◌}
+use Rattle.window_order.proofs.CleanValues.{ReadIsOut, finds_clean, none_dirty}
 use Rattle.window_order.proofs.ReadFacts.{IsRead, read_facts}
-use Rattle.window_order.proofs.Steps.{arrives_kept, commits_kept, goes_kept, placed_kept, starts_kept, wrote_kept}
+use Rattle.window_order.proofs.Steps.{arrives_kept, commits_kept, found_kept, goes_kept, placed_kept, starts_kept, wrote_kept}
 use Rattle.window_order.specs.OrderKept.{GripsFit, OrderIsKept}
 
 -- the moment alone
@@ -192,11 +202,44 @@ out_is w n g r k d may out = by_next (next_command w n r) refl (grind (arith, co
     by_next None e f = absurd (cc)
     by_next (Some c) e f = (c, record { live = grind (arith, common_steps, known); number = grind (arith, common_steps, known); next = e; on = grind (arith, common_steps) })
 
-pub give_kept : (s : Configuration) (rounds opened : ℕ) (held : ℕ → ℕ) (r k d m : ℕ) → s.grips d ≡ Some (record { maker = r; purpose = Commands k }) → ConfigurationIsKept s rounds opened held
-    → ConfigurationIsKept (after_give (at_moment s m) d (record { maker = r; purpose = Commands k }) Worked) rounds opened (put held d (driven (kind_at s.setting.kinds d) (command_at s.setting.runs r k).job ((read_of s).run r).register))
-give_kept s rounds opened held r k d m out kept =
-    let known : (c : Command) × IsOut s.setting (read_of s) r k d c = out_is s.setting (read_of s) s.grips r k d kept.order.grips.runs out in
-    kept_with s rounds opened r now held _ (put s.grips d None) (Did (run_no r) k Fine) (answer_may s r k d now (follows known.0 known.1) later out known.1.live kept.history) commands (wrote_kept w n s.grips held d r k read out (writes known.0 known.1) kept.order) kept
+-- what a command brings whose device comes home: a write has worked, and the device stands where that drove it; or a read found the value at which the device stands
+abbrev pub Brings : Configuration → (ℕ → ℕ) → ℕ → ℕ → ℕ → ℕ → Told → Type 0
+Brings s held r k d v Worked = (reads (command_at s.setting.runs r k).job ≡ false) × (v ≡ driven (kind_at s.setting.kinds d) (command_at s.setting.runs r k).job ((read_of s).run r).register)
+Brings s held r k d v (Sensed x) = (reads (command_at s.setting.runs r k).job ≡ true) × (x ≡ v) × (v ≡ held d)
+Brings s held r k d v Died = ⊥
+
+-- a safe command does not fail by what it finds
+passes : (c : Command) (x : ℕ) → is_safe c ≡ true → fails c (Found x) ≡ false
+passes c x safe = by_job c.must c.job safe
+  where
+    never : (b : Bool) → (b && false) ≡ false
+    never true = refl
+    never false = refl
+
+    by_job : (must : Bool) (job : Job) → not (must && is_check job) ≡ true → (must && refutes job (Found x)) ≡ false
+    by_job true (Check v) e = absurd (cc)
+    by_job false (Check v) e = refl
+    by_job must (Set v) e = never must
+    by_job must Load e = never must
+    by_job must Store e = never must
+
+-- it makes one entry where no call died
+pub gives_one : (w : Setting) (n : Reading) (r k d : ℕ) (told : Told) → is_safe (command_at w.runs r k) ≡ true → has_died told ≡ false → give_entries w n d (record { maker = r; purpose = Commands k }) told ≡ Did (run_no r) k (answer_told told) ∷ []
+gives_one w n r k d Worked safe lives = refl
+gives_one w n r k d (Sensed x) safe lives = ap (λ b. Did (run_no r) k (Found x) ∷ (if b && not (is_doomed n r) then Doomed (run_no r) (Refuted k x) ∷ [] else [])) (passes (command_at w.runs r k) x safe)
+gives_one w n r k d Died safe lives = absurd (cc)
+
+put_own : (f : ℕ → ℕ) (d v : ℕ) → v ≡ f d → put f d v ≡ f
+put_own f d v own = λ i e. put_keeps (λ x. x) f d v own e i
+
+none_out : (grip : Grip) → None ≡ Some grip → ⊥
+none_out grip e = absurd (cc)
+
+pub give_kept : (s : Configuration) (rounds opened : ℕ) (held : ℕ → ℕ) (r k d m v : ℕ) (told : Told) → s.grips d ≡ Some (record { maker = r; purpose = Commands k }) → Brings s held r k d v told → IsTrue (has_value (kind_at s.setting.kinds d) v)
+    → ConfigurationIsKept s rounds opened held → ConfigurationIsKept (added s r (max s.moment m) (put s.grips d None) (Did (run_no r) k (answer_told told))) rounds opened (put held d v)
+give_kept s rounds opened held r k d m v told out brings value kept =
+    let known : (c : Command) × IsOut w n r k d c = out_is w n s.grips r k d kept.order.grips.runs out in
+    kept_with s rounds opened r now held (put held d v) (put s.grips d None) (Did (run_no r) k (answer_told told)) (answer_may s r k d now (answer_told told) (follows known.0 known.1 told brings) (plain told brings) (clean known.0 known.1 told brings) later out known.1.live kept.history) commands (ordered known.0 known.1 told brings) kept
   where
     w : Setting
     w = s.setting
@@ -216,23 +259,65 @@ give_kept s rounds opened held r k d m out kept =
     later : n.moment ≤ now
     later = let before' : (read_of s).moment ≤ s.moment = kept.history.moment in omega (arith, before')
 
-    writes : (c : Command) → IsOut w n r k d c → reads (command_at w.runs r k).job ≡ false
-    writes c known = ap (λ x. reads (command_at w.runs r x).job) known.number ∙ ap (λ x. reads x.job) (command_is w n r c known.next) ∙ plainly.writes r (next_of n r) c known.next
+    device : is_device w d ≡ true
+    device = kept.order.grips.homed d (ap is_some out)
 
-    follows : (c : Command) → IsOut w n r k d c → may_follow w n (Did (run_no r) k Fine) ≡ true
-    follows c known = subst (λ x. may_follow w n (Did (run_no r) x Fine) ≡ true) (sym known.number) (first_follows w n (Did (run_no r) (next_of n r) Fine) (command_back_follows w n r c Worked (record {
+    same : (c : Command) → IsOut w n r k d c → command_at w.runs r k ≡ c
+    same c known = ap (command_at w.runs r) known.number ∙ command_is w n r c known.next
+
+    safe : (c : Command) → IsOut w n r k d c → is_safe (command_at w.runs r k) ≡ true
+    safe c known = ap is_safe (same c known) ∙ plainly.safe r (next_of n r) c known.next
+
+    plain : (t : Told) → Brings s held r k d v t → is_plain (Did (run_no r) k (answer_told t)) ≡ true
+    plain Worked b = refl
+    plain (Sensed x) b = refl
+    plain Died b = absurd b
+
+    suited : (c : Command) → IsOut w n r k d c → (t : Told) → Brings s held r k d v t → suits w c (answer_told t) ≡ true
+    suited c known Worked b = ap not (ap (λ (y : Command). reads y.job) (sym (same c known)) ∙ b.0)
+    suited c known (Sensed x) b = both (reads c.job) (has_value (kind_at w.kinds c.device.0) x) (ap (λ (y : Command). reads y.job) (sym (same c known)) ∙ b.0) (ap₂ (λ e y. has_value (kind_at w.kinds e) y) known.on b.1 ∙ value)
+      where
+        both : (a e : Bool) → a ≡ true → e ≡ true → (a && e) ≡ true
+        both a e h f = grind (arith, common_steps)
+    suited c known Died b = absurd b
+
+    follows : (c : Command) → IsOut w n r k d c → (t : Told) → Brings s held r k d v t → may_follow w n (Did (run_no r) k (answer_told t)) ≡ true
+    follows c known t b = subst (λ x. may_follow w n (Did (run_no r) x (answer_told t)) ≡ true) (sym known.number) (first_answer t b (command_back_follows w n r c t (record {
       run = live_run w n r read.shaped known.live;
       live = known.live;
       next = known.next;
       first = (plainly.read.runs r).early;
-      suited = ap not (plainly.writes r (next_of n r) c known.next);
+      suited = suited c known t b;
       home = plainly.homed r (next_of n r) c known.next;
       up = plainly.up c.device.0 (plainly.homed r (next_of n r) c known.next);
     })))
+      where
+        first_answer : (u : Told) → Brings s held r k d v u → IsTrue (along w (may_follow w) n (command_entries w n r (next_of n r) u)) → may_follow w n (Did (run_no r) (next_of n r) (answer_told u)) ≡ true
+        first_answer Worked brought all = grind (arith, common_steps)
+        first_answer (Sensed x) brought all = grind (arith, common_steps)
+        first_answer Died brought all = absurd brought
+
+    clean : (c : Command) → IsOut w n r k d c → (t : Told) → Brings s held r k d v t → entry_is_clean w n (Did (run_no r) k (answer_told t)) ≡ true
+    clean c known Worked b = refl
+    clean c known (Sensed x) b = subst (λ e. answer_is_clean w n r e (Found x) ≡ true) (sym (ap (λ (y : Command). y.device.0) (same c known) ∙ known.on))
+        (found_so x (clean_value w n r d) (list_any (λ q. has_effect n no_grips q d) (live_before n r)) (b.1 ∙ b.2 ∙ finds_clean w n s.grips held d r k read kept.order device asks) (none_dirty w n s.grips held d r k read kept.order device asks))
+      where
+        asks : ReadIsOut w s.grips d r k
+        asks = record { out = out; reading = b.0 }
+
+        found_so : (y z : ℕ) (dirty : Bool) → y ≡ z → dirty ≡ false → ((y == z) && not dirty) ≡ true
+        found_so y z dirty h e = grind (arith, common_steps)
+    clean c known Died b = absurd b
+
+    ordered : (c : Command) → IsOut w n r k d c → (t : Told) → Brings s held r k d v t → OrderIsKept w (entry w n (Did (run_no r) k (answer_told t))) (put s.grips d None) (put held d v)
+    ordered c known Worked b = subst (λ x. OrderIsKept w (entry w n (Did (run_no r) k Fine)) (put s.grips d None) (put held d x)) (sym b.1) (wrote_kept w n s.grips held d r k read out b.0 kept.order)
+    ordered c known (Sensed x) b = subst (λ h. OrderIsKept w (entry w n (Did (run_no r) k (Found x))) (put s.grips d None) h) (sym (put_own held d v b.2))
+        (subst (λ y. OrderIsKept w (entry w n (Did (run_no r) k (Found y))) (put s.grips d None) held) (sym (b.1 ∙ b.2)) (found_kept w n s.grips held d r k read out b.0 (passes (command_at w.runs r k) (held d) (safe c known)) kept.order))
+    ordered c known Died b = absurd b
 
     commands : CommandsAreOut (put s.grips d None)
     commands e grip = elim (e == d) as (λ b. (if b then None else s.grips e) ≡ Some grip → IsTrue (is_command grip.purpose)) [
-      | true ↦ (λ f. absurd (cc))
+      | true ↦ (λ f. absurd (none_out grip f))
       | false ↦ (λ f. kept.commands e grip f)
     ]
 

@@ -15,6 +15,7 @@ pub mod NewDevices
 pub mod NewHomes
 pub mod HubOpens
 pub mod Searching
+pub mod Written
 pub mod HubStates
 pub mod HubChoices
 pub mod Sizes

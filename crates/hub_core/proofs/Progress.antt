@@ -5,10 +5,11 @@ use Rattle.history_book.proofs.Shapes.{Shaped, shapes}
 use Rattle.history_book.proofs.Standing.{Standing, standing}
 use Rattle.history_book.specs.Histories.{entries_of}
 use Rattle.history_book.specs.Lines.{before, is_ran}
-use Rattle.history_book.specs.Readings.{PlacedAt, Reading, is_live, next_command, next_of}
+use Rattle.history_book.specs.Readings.{PlacedAt, Reading, has_written, is_live, next_command, next_of, sees_down}
 use Rattle.history_book.specs.Settings.{Setting, device_numbers, run_numbers}
 use Rattle.history_book.specs.declared.entries.End.TheVariants.{Committed}
 use Rattle.history_book.specs.declared.entries.Entry.TheVariants.{Arrived, Ended, Placed}
+use Rattle.home_types.specs.Commands.{reads}
 use Rattle.home_types.specs.declared.commands.Command.{Command}
 use Rattle.home_types.specs.declared.items.Item.{Item}
 use Rattle.home_types.specs.declared.items.Item.TheVariants.{Back, Failed, Ran}
@@ -25,8 +26,8 @@ use Rattle.hub_core.specs.Stage.{plain_choice, plain_command}
 use Rattle.hub_core.specs.Steps.{Absent, Choice, HandsOut, Moves, Over, Waits, choice_of, not_quiet, only_if}
 use Rattle.hub_core.specs.declared.refusals.NotQuiet.TheVariants.{StillLive, StillOut}
 use Rattle.lock_leasing.specs.Configurations.{Configuration, Grips, has_grip, is_out, read_of}
-use Rattle.lock_leasing.specs.Waits.{behind_wait, grip_wait, strict_wait}
-use Rattle.lock_leasing.specs.Words.{holds_device, live_before, live_runs}
+use Rattle.lock_leasing.specs.Waits.{behind_wait, dirty_wait, grip_wait, strict_wait}
+use Rattle.lock_leasing.specs.Words.{has_effect, holds_device, live_before, live_runs}
 use Rattle.std.proofs.Common.{ap, arith, cond, inl, inr, refl, subst, sym, ◌∙◌}
 use Rattle.std.proofs.lemmas.Grind.{common_steps}
 use Rattle.std.proofs.lemmas.List.Sums.{take_while-cons}
@@ -123,8 +124,16 @@ first_goes w n g r m p run came live first home = rw (run, going, home_free w g 
     by_next None = refl
     by_next (Some c) =
         let behind' : behind_wait w n g r c.device.0 ≡ None = ap (λ xs. find (λ x. holds_device w n g x c.device.0) xs) first in
+        let clean : dirty_wait w n g r c ≡ None = ap (λ xs. if reads c.job && not (sees_down n r c.device.0) && not (has_written n r c.device.0) then find (λ x. has_effect n g x c.device.0) xs else None) first ∙ either (reads c.job && not (sees_down n r c.device.0) && not (has_written n r c.device.0)) in
         let at_home : is_out g c.device.0 ≡ false = ap (λ o. is_some o) (home c.device.0) in
-        rw (behind', alone, at_home) refl
+        rw (behind', clean, alone, at_home) refl
+      where
+        none_there : Option ℕ
+        none_there = None
+
+        either : (b : Bool) → (if b then none_there else none_there) ≡ None
+        either true = refl
+        either false = refl
 
 -- some run that has not ended is not told to wait
 pub some_run_moves : (s : Configuration) (rounds opened : ℕ) (held : ℕ → ℕ) (r : ℕ) → ConfigurationIsKept s rounds opened held → ((d : ℕ) → s.grips d ≡ None) → is_run s.setting.runs r ≡ true → ((read_of s).run r).ended ≡ None

@@ -38,7 +38,7 @@ before_own r x xs own = rw own refl
 one_item : (n : Reading) (r : ℕ) (p : ℕ → Bool) (x : Item) (xs : List Item) → is_ran r x ≡ false → found n r p (x ∷ xs) ≡ option_or (find p (live_runs n (x ∷ []))) (found n r p xs)
 one_item n r p x xs other = ap (λ items. find p (live_runs n items)) (before_other r x xs other) ∙ first_or _ p (live_runs n (before r xs))
 
-dropped : (items : List Item) (i : ℕ) (x : Item) → i < length items → drop i items ≡ get_or items i x ∷ drop (i + 1) items
+pub dropped : (items : List Item) (i : ℕ) (x : Item) → i < length items → drop i items ≡ get_or items i x ∷ drop (i + 1) items
 dropped items i x within = rw (add-one, drop-cons items i x within) refl
 
 pub next_item : (n : Reading) (r : ℕ) (p : ℕ → Bool) (items : List Item) (i : ℕ) (x : Item) (o : Option ℕ) → i < length items → is_ran r (get_or items i x) ≡ false → o ≡ find p (live_runs n (get_or items i x ∷ []))

@@ -95,7 +95,7 @@ unfolding told_of one_if
 told_step w n (Arrived r m) plain ok told = told_put w n (entry w n (Arrived r m)) r.0 _ refl refl (grind (arith, common_steps)) (let none : one_if (is_some (n.run r.0).arrived) ≡ 0 = none_of (n.run r.0).arrived (grind (arith, common_steps)) in omega (arith, none)) told
 told_step w n (Placed r at m) plain ok told = told_put w n (entry w n (Placed r at m)) r.0 _ refl refl (grind (arith, common_steps)) (let none : one_if (is_some (n.run r.0).placed) ≡ 0 = none_of (n.run r.0).placed (grind (arith, common_steps)) in omega (arith, none)) told
 told_step w n (Did r c Fine) plain ok told = told_put w n (entry w n (Did r c Fine)) r.0 _ refl refl (grind (arith, common_steps)) (omega (arith, length-append (n.run r.0).answers (Fine ∷ []))) told
-told_step w n (Did r c (Found x)) plain ok told = absurd (cc)
+told_step w n (Did r c (Found x)) plain ok told = told_put w n (entry w n (Did r c (Found x))) r.0 _ refl refl (grind (arith, common_steps)) (omega (arith, length-append (n.run r.0).answers (Found x ∷ []))) told
 told_step w n (Did r c Down) plain ok told = absurd (cc)
 told_step w n (Undid r d drove) plain ok told = absurd (cc)
 told_step w n (Fell d) plain ok told = absurd (cc)

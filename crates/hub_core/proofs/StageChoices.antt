@@ -11,11 +11,8 @@ use Rattle.history_book.specs.declared.entries.Cause.TheVariants.{DownAtEnd, Rev
 use Rattle.history_book.specs.declared.entries.End.{End}
 use Rattle.history_book.specs.declared.entries.End.TheVariants.{Committed}
 use Rattle.history_book.specs.declared.entries.Entry.TheVariants.{Arrived, Doomed, Ended, Placed}
-use Rattle.home_types.specs.Commands.{reads}
 use Rattle.home_types.specs.Kinds.{kind_at}
 use Rattle.home_types.specs.declared.commands.Command.{Command}
-use Rattle.home_types.specs.declared.commands.Job.{Job}
-use Rattle.home_types.specs.declared.commands.Job.TheVariants.{Check, Load, Set, Store}
 use Rattle.home_types.specs.declared.items.Item.{Item}
 use Rattle.home_types.specs.declared.items.Item.TheVariants.{Back, Failed, Ran}
 use Rattle.home_types.specs.declared.modes.Scheduler.TheVariants.{Fcfs}
@@ -26,13 +23,13 @@ use Rattle.hub_core.proofs.Choices.{Answered, Commanding, IsNext, decide_is}
 use Rattle.hub_core.proofs.StageFacts.{ReadsPlainly, reads_plainly}
 use Rattle.hub_core.specs.HubKept.{ConfigurationIsKept, is_later, placed_in_order}
 use Rattle.hub_core.specs.Openings.{names_values_of}
-use Rattle.hub_core.specs.Stage.{is_set, plain_choice, plain_command}
+use Rattle.hub_core.specs.Stage.{is_safe, plain_choice, plain_command}
 use Rattle.hub_core.specs.Steps.{Absent, Choice, HandsOut, Moves, Over, Waits, answers_down, behind_case, busy_case, choice_of, command_cases, decide, decide_answered, decide_arrived, decide_command, decide_doomed, dirty_case, down_case, down_entries, first_case, only_if, strict_case}
 use Rattle.hub_core.specs.declared.waits.Why.{Why}
-use Rattle.hub_core.specs.declared.waits.Why.TheVariants.{Busy, Dirty}
+use Rattle.hub_core.specs.declared.waits.Why.TheVariants.{Busy}
 use Rattle.lock_leasing.specs.Configurations.{Commands, Configuration, Grips, is_out, read_of}
 use Rattle.lock_leasing.specs.Places.{At, DeniedBy, Placing, at_end, scheduled_place}
-use Rattle.lock_leasing.specs.Waits.{busy_wait, dirty_wait, down_at_end, follow_wait, grip_wait}
+use Rattle.lock_leasing.specs.Waits.{busy_wait, down_at_end, follow_wait, grip_wait}
 use Rattle.lock_leasing.specs.Words.{has_touched, is_overdue, lease_deadline, live_before, live_runs, overdue_for, stamp_of}
 use Rattle.std.proofs.Common.{ap, arith, cond, refl, subst, sym, ◌∙◌}
 use Rattle.std.proofs.lemmas.Grind.{common_steps}
@@ -55,7 +52,7 @@ pub record StepsPlainly (w : Setting) (n : Reading) : Type 0 where
   pub strong : is_weak w.mode ≡ false
   pub scheduler : scheduler_of w.mode ≡ Fcfs
   pub follows_none : (r : ℕ) → followed_by w.runs r ≡ None
-  pub writes : (r k : ℕ) (c : Command) → slice_get (commands_of w.runs r) k ≡ Some c → reads c.job ≡ false
+  pub safe : (r k : ℕ) (c : Command) → slice_get (commands_of w.runs r) k ≡ Some c → is_safe c ≡ true
   pub homed : (r k : ℕ) (c : Command) → slice_get (commands_of w.runs r) k ≡ Some c → is_device w c.device.0 ≡ true
   pub up : (d : ℕ) → is_device w d ≡ true → n.up d ≡ true
   pub read : ReadsPlainly w n
@@ -73,9 +70,6 @@ never_down w n r d p = up_view ((n.run r).on d).view (((p.runs r).on d).view)
 
 no_leader : (w : Setting) (n : Reading) (r : ℕ) → followed_by w.runs r ≡ None → follow_wait w n r ≡ None
 no_leader w n r none = rw none refl
-
-no_read : (w : Setting) (n : Reading) (g : Grips) (r : ℕ) (c : Command) → reads c.job ≡ false → dirty_wait w n g r c ≡ None
-no_read w n g r c write = rw write refl
 
 -- Leases
 
@@ -150,13 +144,12 @@ take_all (i ∷ is) = ap suc (take_all is)
 place_is : (w : Setting) (n : Reading) (g : Grips) (r m : ℕ) → StepsPlainly w n → decide_arrived w n g r m ≡ Moves (Placed (run_no r) (length n.line) m ∷ [])
 place_is w n g r m p = rw (no_leader w n r (p.follows_none r), p.scheduler) (ap (λ k. Moves (Placed (run_no r) k m ∷ [])) (take_all n.line))
 
-command_is : (w : Setting) (n : Reading) (g : Grips) (r m k : ℕ) (c : Command) → StepsPlainly w n → is_live n r ≡ true → reads c.job ≡ false → is_device w c.device.0 ≡ true → decide_command w n g r m k c ≡ plain_command w n g r k c
-command_is w n g r m k c p live write home =
+command_is : (w : Setting) (n : Reading) (g : Grips) (r m k : ℕ) (c : Command) → StepsPlainly w n → is_live n r ≡ true → is_device w c.device.0 ≡ true → decide_command w n g r m k c ≡ plain_command w n g r k c
+command_is w n g r m k c p live home =
     ap (λ b. first_case (command_cases b w n g r m k c) out) p.strong
     ∙ ap (λ o. first_case (option_map (λ x. Moves (Doomed (run_no x) (Revoked (run_no r) c.device (lease_deadline w n x c.device.0) m) ∷ [])) o ∷ behind_case w n g r c ∷ dirty_case w n g r c ∷ strict_case w n r ∷ busy_case w n g r c ∷ down_case w n r k c ∷ []) out) (never_overdue w n g r c.device.0 m p live)
-    ∙ ap (λ o. first_case (behind_case w n g r c ∷ option_map (λ x. Waits (Dirty c.device (run_no x))) o ∷ strict_case w n r ∷ busy_case w n g r c ∷ down_case w n r k c ∷ []) out) (no_read w n g r c write)
-    ∙ ap (λ b. first_case (behind_case w n g r c ∷ strict_case w n r ∷ only_if b (Waits (Busy c.device)) ∷ down_case w n r k c ∷ []) out) (busy_is w n g r c.device.0 p)
-    ∙ ap (λ b. first_case (behind_case w n g r c ∷ strict_case w n r ∷ only_if (is_out g c.device.0) (Waits (Busy c.device)) ∷ only_if b (Moves (down_entries r k c)) ∷ []) out) (answers_up w n r c.device.0 p home)
+    ∙ ap (λ b. first_case (behind_case w n g r c ∷ dirty_case w n g r c ∷ strict_case w n r ∷ only_if b (Waits (Busy c.device)) ∷ down_case w n r k c ∷ []) out) (busy_is w n g r c.device.0 p)
+    ∙ ap (λ b. first_case (behind_case w n g r c ∷ dirty_case w n g r c ∷ strict_case w n r ∷ only_if (is_out g c.device.0) (Waits (Busy c.device)) ∷ only_if b (Moves (down_entries r k c)) ∷ []) out) (answers_up w n r c.device.0 p home)
   where
     out : Choice
     out = HandsOut c.device.0 (Commands k)
@@ -173,18 +166,12 @@ decide_plain w n g r m p =
     same_test (is_none (n.run r).arrived) (Moves (Arrived (run_no r) m ∷ [])) _ _ (λ came.
     ap (λ c. unwrap_or (only_if (is_none (n.run r).placed) c) (first_case (option_map (decide_doomed w n g r) (n.run r).doomed ∷ option_map (decide_command w n g r m (next_of n r)) (next_command w n r) ∷ []) (decide_answered w n g r))) (place_is w n g r m p) ∙ same_test (is_none (n.run r).placed) (Moves (Placed (run_no r) (length n.line) m ∷ [])) _ _ (λ placed.
     ap (λ o. first_case (option_map (decide_doomed w n g r) o ∷ option_map (decide_command w n g r m (next_of n r)) (next_command w n r) ∷ []) (decide_answered w n g r)) ((p.read.runs r).sound) ∙
-    same_map (decide_command w n g r m (next_of n r)) (plain_command w n g r (next_of n r)) (next_command w n r) _ _ (λ c at. command_is w n g r m (next_of n r) c p (live going placed) (p.writes r (next_of n r) c at) (p.homed r (next_of n r) c at)) (λ none. end_is w n g r p))))))
+    same_map (decide_command w n g r m (next_of n r)) (plain_command w n g r (next_of n r)) (next_command w n r) _ _ (λ c at. command_is w n g r m (next_of n r) c p (live going placed) (p.homed r (next_of n r) c at)) (λ none. end_is w n g r p))))))
   where
     live : (n.run r).ended ≡ None → is_none (n.run r).placed ≡ false → is_live n r ≡ true
     live going placed = grind (arith, common_steps)
 
 -- A configuration that is kept
-
-is_write : (job : Job) → is_set job ≡ true → reads job ≡ false
-is_write (Set v) e = refl
-is_write (Check v) e = absurd (cc)
-is_write Load e = absurd (cc)
-is_write Store e = absurd (cc)
 
 -- a live run stands in the line
 pub live_stands : (n : Reading) (r : ℕ) → Standing n → is_live n r ≡ true → list_any (is_ran r) n.line ≡ true
@@ -208,7 +195,7 @@ steps_plainly s rounds opened held kept =
       strong = kept.stage.strong;
       scheduler = first_served s.setting.mode.model s.setting.mode.scheduler kept.stage.scheduler;
       follows_none = kept.stage.follows_none;
-      writes = λ r k c at. is_write c.job (kept.stage.sets r k c at);
+      safe = kept.stage.safe;
       homed = λ r k c at. let home : IsTrue (is_device s.setting c.device.0 && names_values_of (kind_at s.setting.kinds c.device.0) c.job) = kept.opens.homed r k c at in grind (arith, common_steps);
       up = λ d home. read.up d ∙ kept.stage.up d (let below : nat_lt d (length s.setting.first) ≡ true = home in grind (arith, common_steps));
       read = read;

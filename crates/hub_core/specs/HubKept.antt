@@ -39,12 +39,12 @@ placed_in_order n (Back d k ∷ is) = placed_in_order n is
 abbrev pub ActsInTurn : Setting → Reading → Grips → Type 0
 ActsInTurn w n g = (r d : ℕ) → IsTrue (is_live n r && (has_touched n g r d || has_grip g r d)) → strict_wait w n r ≡ None
 
--- in this stage a history tells of arrivals, placings, writes that worked and commits alone
+-- in this stage a history tells of arrivals, placings, commands that worked and commits alone
 abbrev pub is_plain : Entry → Bool
 is_plain (Arrived r m) = true
 is_plain (Placed r at m) = true
 is_plain (Did r c Fine) = true
-is_plain (Did r c (Found x)) = false
+is_plain (Did r c (Found x)) = true
 is_plain (Did r c Down) = false
 is_plain (Undid r d drove) = false
 is_plain (Fell d) = false

@@ -1,4 +1,4 @@
--- What this stage of the hub is built for: every model but the weak one, with runs placed first come first served, on a home with every device up, runs of `set` commands that follow no run, and no probes.
+-- What this stage of the hub is built for: every model but the weak one, with runs placed first come first served, on a home with every device up, runs that follow no run and have no must `check`, and no probes.
 use Rattle.command_rules.specs.Rosters.{commands_of, device_no, followed_by, is_run, run_no}
 use Rattle.history_book.specs.Readings.{Reading, next_command, next_of}
 use Rattle.history_book.specs.Settings.{Setting, is_weak}
@@ -9,32 +9,36 @@ use Rattle.home_types.specs.declared.commands.Command.{Command}
 use Rattle.home_types.specs.declared.commands.Job.{Job}
 use Rattle.home_types.specs.declared.commands.Job.TheVariants.{Check, Load, Set, Store}
 use Rattle.home_types.specs.declared.modes.Scheduler.TheVariants.{Fcfs}
-use Rattle.hub_core.specs.Steps.{Absent, Choice, HandsOut, Moves, Over, Waits, behind_case, first_case, only_if, strict_case}
+use Rattle.hub_core.specs.Steps.{Absent, Choice, HandsOut, Moves, Over, Waits, behind_case, dirty_case, first_case, only_if, strict_case}
 use Rattle.hub_core.specs.declared.waits.Why.TheVariants.{Busy}
 use Rattle.lock_leasing.specs.Configurations.{Commands, Grips, is_out}
 use Rattle.lock_leasing.specs.Waits.{grip_wait}
-use Rattle.std.specs.Prelude.{Bool, None, Some, [], false, is_none, length, not, option_map, slice_get, true, ℕ, ◌<◌, ◌∷◌, ◌≡◌}
+use Rattle.std.specs.Prelude.{Bool, None, Some, [], false, is_none, length, not, option_map, slice_get, true, ℕ, ◌&&◌, ◌<◌, ◌∷◌, ◌≡◌}
 
-abbrev pub is_set : Job → Bool
-is_set (Set v) = true
-is_set (Check v) = false
-is_set Load = false
-is_set Store = false
+abbrev pub is_check : Job → Bool
+is_check (Set v) = false
+is_check (Check v) = true
+is_check Load = false
+is_check Store = false
+
+-- no value that the command finds can doom its run: it is no must `check`
+abbrev pub is_safe : Command → Bool
+is_safe c = not (c.must && is_check c.job)
 
 -- this stage works the window
 pub record StageAllows (w : Setting) (rounds : ℕ) : Type 0 where
   pub strong : is_weak w.mode ≡ false
   pub scheduler : w.mode.scheduler ≡ Fcfs
-  pub sets : (r k : ℕ) (c : Command) → slice_get (commands_of w.runs r) k ≡ Some c → is_set c.job ≡ true
+  pub safe : (r k : ℕ) (c : Command) → slice_get (commands_of w.runs r) k ≡ Some c → is_safe c ≡ true
   pub follows_none : (r : ℕ) → followed_by w.runs r ≡ None
   pub up : (d : ℕ) → d < length w.first → (stand_at w.first d).up ≡ true
   pub no_probes : rounds ≡ 0
 
 -- The step of a run in this stage: the cases that are left
 
--- the next command, with the number k: a run before it in the line holds its device, a live run before it is one that the model waits for, its device is out, or it goes out
+-- the next command, with the number k: a run before it in the line holds its device, it would read the write of a live run before it, a live run before it is one that the model waits for, its device is out, or it goes out
 abbrev pub plain_command : Setting → Reading → Grips → ℕ → ℕ → Command → Choice
-plain_command w n g r k c = first_case (behind_case w n g r c ∷ strict_case w n r ∷ only_if (is_out g c.device.0) (Waits (Busy c.device)) ∷ []) (HandsOut c.device.0 (Commands k))
+plain_command w n g r k c = first_case (behind_case w n g r c ∷ dirty_case w n g r c ∷ strict_case w n r ∷ only_if (is_out g c.device.0) (Waits (Busy c.device)) ∷ []) (HandsOut c.device.0 (Commands k))
 
 -- the run arrives, is placed at the end of the line, has its next command, and at last commits
 abbrev pub plain_choice : Setting → Reading → Grips → ℕ → ℕ → Choice

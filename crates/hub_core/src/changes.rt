@@ -1,10 +1,11 @@
 ghost use Rattle.std.specs.Prelude.{◌≡◌, ◌<◌, Some, None, [], ◌∷◌, max, slice_get, slice_set, ℕ};
+ghost use Rattle.device_gate.specs.Calls.{value_after};
 ghost use Rattle.device_gate.specs.Places.{IsKept};
 ghost use Rattle.lock_leasing.specs.Configurations.{read_of};
 ghost use Rattle.hub_core.specs.Decisions.{told_choice};
 ghost use Rattle.hub_core.specs.HubCalls.{Answers, GoesOut, IsGiven, SameWindow};
 ghost use Rattle.hub_core.specs.OpenHubs.{configuration_of, purpose_of};
-ghost use Rattle.hub_core.specs.Steps.{Waits, Absent, Moves, Over, HandsOut, choice_of};
+ghost use Rattle.hub_core.specs.Steps.{Waits, Absent, Moves, Over, HandsOut, answer_told, choice_of};
 ghost use Rattle.history_book.specs.Histories.{entries_made};
 ghost use Rattle.history_book.specs.declared.entries.End.TheVariants.{Committed};
 
@@ -12,10 +13,10 @@ use crate::decisions::Chosen;
 use crate::hubs::Hub;
 use crate::known::DeviceProgress;
 use crate::purposes::Purpose;
-use device_gate::{Done, Grip, Ready, Task};
+use device_gate::{Done, Grip, Ready, Task, Told};
 use device_states::Steady;
 use history_book::{Entry, Made};
-use home_types::{Answer, DeviceNo, RunNo};
+use home_types::{Answer, DeviceNo, RunNo, Value};
 
 /// No entries.
 pub(crate) const NONE_MADE: Made = Made {
@@ -32,6 +33,27 @@ fn one_made(entry: Entry) -> Made
         a: Some(entry),
         b: None,
         c: None,
+    }
+}
+
+/// The answer to a command whose device told this.
+fn answer_told(told: Told) -> Answer
+    ensures { result ≡ answer_told told }
+{
+    match told {
+        Told::Worked => Answer::Fine,
+        Told::Sensed(found) => Answer::Found(found),
+        Told::Died => Answer::Down,
+    }
+}
+
+/// Where a device stands that stood at the value `stood`, once the task has worked.
+fn value_after(task: Task, stood: Value) -> Value
+    ensures { result ≡ value_after task stood }
+{
+    match task {
+        Task::Drive(value) | Task::Probe(Some(value)) => value,
+        Task::Sense | Task::Probe(None) => stood,
     }
 }
 
@@ -106,15 +128,13 @@ impl<D: Steady> Hub<D> {
         let Purpose::Command(k) = known.purpose else {
             unreachable!()
         };
-        let Task::Drive(held) = grip.task() else {
-            unreachable!()
-        };
-        self.gate.take_in(grip);
-        // A steady device does not fail, so the call worked.
+        let held = value_after(grip.task(), known.held);
+        let told = self.gate.take_in(grip);
+        // A steady device does not fail, so the call was answered.
         self.gate.device(d).calm();
         self.moment = self.moment.max(moment);
         self.devices
             .set(d.0 as u64, DeviceProgress { held, ..known });
-        one_made(self.history.write(RunNo(slip.maker), k))
+        one_made(self.history.answer(RunNo(slip.maker), k, answer_told(told)))
     }
 }

@@ -34,8 +34,8 @@ pub(crate) enum Chosen {
 impl<D: Device> Hub<D> {
     /// What the step of the run `r` is to do, by the cases of a step in order.
     ///
-    /// In this stage no run is doomed and none follows another, every device is up and every command writes: the cases
-    /// for these are left out.
+    /// In this stage no run is doomed, none follows another, no lease is overdue and every device is up: the cases for
+    /// these are left out.
     pub(crate) fn decide(&self, r: RunNo, moment: u64) -> Chosen
         ensures { told_choice r.0 (max self.now.moment moment) (read_of (configuration_of self.now)) result ≡ choice_of (configuration_of self.now) r.0 moment }
     {
@@ -68,6 +68,9 @@ impl<D: Device> Hub<D> {
     {
         if let Some(x) = self.history.first_pending_before(r, command.device) {
             return Chosen::Waits(Why::Behind(command.device, x));
+        }
+        if let Some(x) = self.history.dirty_wait(r, command) {
+            return Chosen::Waits(Why::Dirty(command.device, x));
         }
         if let Some(x) = self.history.strict_wait(r) {
             return Chosen::Waits(Why::Strict(x));

@@ -1,19 +1,24 @@
-ghost use Rattle.std.specs.Prelude.{◌≡◌, ◌+◌, ◌<◌, ◌≤◌, ◌^◌, [], ◌∷◌, ◌++◌, IsTrue, Some, None, find, is_none, is_some, length, option_map, position, true, ℕ};
-ghost use Rattle.command_rules.specs.Rosters.{command_at, commands_of, is_run, run_no, runs_of, shares};
+ghost use Rattle.std.specs.Prelude.{◌≡◌, ◌+◌, ◌<◌, ◌≤◌, ◌^◌, [], ◌∷◌, ◌++◌, IsTrue, Some, None, ◌&&◌, false, find, is_none, is_some, length, option_map, position, true, ℕ};
+ghost use Rattle.command_rules.specs.Rosters.{command_at, commands_of, is_on, is_run, run_no, runs_of, shares};
 ghost use Rattle.history_book.specs.Histories.{entries_of, kept_by};
 ghost use Rattle.history_book.specs.Lines.{is_ran};
 ghost use Rattle.history_book.specs.Settings.{run_numbers};
-ghost use Rattle.history_book.specs.Readings.{is_live, next_command, next_of, pends};
+ghost use Rattle.history_book.specs.Readings.{has_written, is_live, next_command, next_of, pends, sees_down};
+ghost use Rattle.home_types.specs.Commands.{register_after, writes};
+ghost use Rattle.std.specs.List.{list_any};
 ghost use Rattle.home_types.specs.Kinds.{kind_at};
 ghost use Rattle.hub_core.specs.OpenHubs.{progress_of};
-ghost use Rattle.hub_core.specs.ReadHistories.{is_item_of, read_in, with_entry};
-ghost use Rattle.lock_leasing.specs.Waits.{strict_wait};
-ghost use Rattle.lock_leasing.specs.Words.{live_before, live_runs};
+ghost use Rattle.hub_core.specs.ReadHistories.{WritesWorked, is_item_of, read_in, with_entry, writer_at};
+ghost use Rattle.lock_leasing.specs.Configurations.{no_grips};
+ghost use Rattle.lock_leasing.specs.Waits.{dirty_wait, strict_wait};
+ghost use Rattle.lock_leasing.specs.Words.{effective_writer_of, has_effect, live_before, live_runs};
 
 use crate::known::RunProgress;
-use command_rules::Roster;
+use command_rules::{Roster, reads, writes};
 use history_book::{Book, End, Entry, Kept};
-use home_types::{Answer, Command, DeviceNo, Item, Kind, List, Mode, RunNo, Visibility, World};
+use home_types::{
+    Answer, Command, DeviceNo, Item, Job, Kind, List, Mode, RunNo, Value, Visibility, World,
+};
 use std::marker::Model;
 
 /// The history of a window, with its line and the progress of each run kept beside it, so that no step reads it anew.
@@ -193,6 +198,72 @@ impl ReadHistory {
         None
     }
 
+    /// The live run before `r` whose write its command would read.
+    pub(crate) fn dirty_wait(&self, r: RunNo, command: Command) -> Option<RunNo>
+        requires run { IsTrue (is_run self.now.setting.runs r.0) }
+        requires up { sees_down (read_in self.now) r.0 command.device.0 ≡ false }
+        requires stage { WritesWorked self.now.setting (read_in self.now) }
+        ensures { option_map (λ x. x.0) result ≡ dirty_wait self.now.setting (read_in self.now) no_grips r.0 command }
+    {
+        if !reads(command.job) || self.has_written(r, command.device) {
+            return None;
+        }
+        self.first_effective_before(r, command.device)
+    }
+
+    /// The first live run before `r` in the line that has the effective write on the device.
+    fn first_effective_before(&self, r: RunNo, d: DeviceNo) -> Option<RunNo>
+        requires stage { WritesWorked self.now.setting (read_in self.now) }
+        ensures { option_map (λ x. x.0) result ≡ find (λ x. has_effect (read_in self.now) no_grips x d.0) (live_before (read_in self.now) r.0) }
+    {
+        let writer = self.effective_writer(d);
+        'items: for item in self.line.as_slice() {
+            if is_ran(*item, r) {
+                return None;
+            }
+            let effective = self.effective_run(*item, d, writer);
+            if effective.is_some() {
+                return effective;
+            }
+        }
+        None
+    }
+
+    /// The run with the effective write on the device: the last one of the line that has written it.
+    fn effective_writer(&self, d: DeviceNo) -> Option<RunNo>
+        requires stage { WritesWorked self.now.setting (read_in self.now) }
+        ensures { option_map (λ x. x.0) result ≡ effective_writer_of (read_in self.now) no_grips d.0 }
+    {
+        let mut writer = None;
+        'items: for item in self.line.as_slice() {
+            writer = self.writer_at(*item, d).or(writer);
+        }
+        writer
+    }
+
+    /// The run that the item of the line is, where it has written the device.
+    fn writer_at(&self, item: Item, d: DeviceNo) -> Option<RunNo>
+        requires run { IsTrue (is_item_of self.now.setting item) }
+        requires stage { WritesWorked self.now.setting (read_in self.now) }
+        ensures { option_map (λ x. x.0) result ≡ writer_at (read_in self.now) d.0 item }
+    {
+        match item {
+            Item::Ran(x) if self.has_written(x, d) => Some(x),
+            _ => None,
+        }
+    }
+
+    /// Whether the run has written the device.
+    fn has_written(&self, r: RunNo, d: DeviceNo) -> bool
+        requires run { IsTrue (is_run self.now.setting.runs r.0) }
+        requires stage { WritesWorked self.now.setting (read_in self.now) }
+        ensures { result ≡ has_written (read_in self.now) r.0 d.0 }
+    {
+        let commands = self.roster.commands(r);
+        let answered = commands.len().min(self.progress(r).answered as usize);
+        has_write_on(&commands[..answered], d)
+    }
+
     /// The live run before `r` for which the model has it wait.
     pub(crate) fn strict_wait(&self, r: RunNo) -> Option<RunNo>
         requires run { IsTrue (is_run self.now.setting.runs r.0) }
@@ -225,6 +296,18 @@ impl ReadHistory {
     {
         match item {
             Item::Ran(x) if self.is_live(x) => Some(x),
+            _ => None,
+        }
+    }
+
+    /// The run that the item of the line is, where it is live and the one with the effective write on the device.
+    fn effective_run(&self, item: Item, d: DeviceNo, writer: Option<RunNo>) -> Option<RunNo>
+        requires run { IsTrue (is_item_of self.now.setting item) }
+        requires writer { option_map (λ x. x.0) writer ≡ effective_writer_of (read_in self.now) no_grips d.0 }
+        ensures { option_map (λ x. x.0) result ≡ find (λ x. has_effect (read_in self.now) no_grips x d.0) (live_runs (read_in self.now) (item ∷ [])) }
+    {
+        match (item, writer) {
+            (Item::Ran(x), Some(effective)) if self.is_live(x) && effective == x => Some(x),
             _ => None,
         }
     }
@@ -296,21 +379,24 @@ impl ReadHistory {
         entry
     }
 
-    /// The run's write with the number `k` has worked.
-    pub(crate) fn write(&mut self, r: RunNo, k: u32) -> Entry
+    /// The run's command with the number `k` is answered so.
+    pub(crate) fn answer(&mut self, r: RunNo, k: u32, answer: Answer) -> Entry
         requires run { IsTrue (is_run self.old.setting.runs r.0) }
+        requires there { k < length (commands_of self.old.setting.runs r.0) }
         requires room { 0 < self.old.spare }
         requires few { next_of (read_in self.old) r.0 < 2 ^ 31 }
-        ensures entry { result ≡ Entry.Did r k Answer.Fine }
+        ensures entry { result ≡ Entry.Did r k answer }
         ensures new { self.new ≡ with_entry self.old r.0 result }
     {
-        let entry = Entry::Did(r, k, Answer::Fine);
+        let entry = Entry::Did(r, k, answer);
+        let job = self.command(r, k).job;
         let at = r.0 as u64 - 1;
         let progress = *self.progress.get(at).unwrap();
         self.progress.set(
             at,
             RunProgress {
                 answered: progress.answered + 1,
+                register: register_after(job, answer, progress.register),
                 ..progress
             },
         );
@@ -337,6 +423,25 @@ impl ReadHistory {
         );
         self.book.push(Kept { maker: r.0, entry });
         entry
+    }
+}
+
+/// Whether some of the commands writes the device.
+fn has_write_on(commands: &[Command], d: DeviceNo) -> bool
+    ensures { result ≡ list_any (λ c. is_on d.0 c && writes c.job) commands.now }
+{
+    commands
+        .iter()
+        .any(|command| command.device == d && writes(command.job))
+}
+
+/// What the answer to a job leaves in the register.
+fn register_after(job: Job, answer: Answer, register: Value) -> Value
+    ensures { result ≡ register_after job answer register }
+{
+    match (job, answer) {
+        (Job::Load, Answer::Found(found)) => found,
+        _ => register,
     }
 }
 
