@@ -15,13 +15,13 @@ use Rattle.home_types.specs.declared.modes.Visibility.TheVariants.{Eventual, Glo
 use Rattle.home_types.specs.declared.modes.Visibility.{Visibility}
 use Rattle.hub_core.specs.Homes.{HomeIsKept, HomeState, setting_for}
 use Rattle.hub_core.specs.Openings.{MayOpen, is_fcfs, is_mode, names_values_of}
-use Rattle.hub_core.specs.Stage.{StageAllows, is_set}
+use Rattle.hub_core.specs.Stage.{StageAllows, is_check, is_safe}
 use Rattle.hub_commands.specs.Played.{setting_on}
 use Rattle.later_forms.proofs.BuiltModes.{goes_fcfs, not_weak}
 use Rattle.later_forms.proofs.NoLaterForms.{no_command, no_follows, no_probes}
 use Rattle.later_forms.proofs.SoundScripts.{routine_is_sound, window_is_sound}
 use Rattle.later_forms.specs.CommandLines.{is_later_mode}
-use Rattle.later_forms.specs.Scripts.{first_later, is_later_command}
+use Rattle.later_forms.specs.Scripts.{first_later, is_check as is_check_text, is_later_command}
 use Rattle.routine_reader.proofs.RosterLemmas.{runs-there}
 use Rattle.routine_reader.specs.Rosters.{kinds_of, routine_at, run_of_text, script_runs}
 use Rattle.routine_reader.specs.Scripts.{plain_device, plain_script}
@@ -36,7 +36,7 @@ use Rattle.std.proofs.lemmas.Grind.{common_steps}
 use Rattle.std.proofs.lemmas.List.Elements.{All-get_or}
 use Rattle.std.proofs.lemmas.List.{length-map}
 use Rattle.std.proofs.lemmas.Option.{get_or_from_slice_get, slice_get_within}
-use Rattle.std.specs.Prelude.{Bool, IsTrue, List, None, Option, Some, [], false, nat_lt, option_and_then, option_map, slice_get, suc, true, unwrap_or, zero, ℕ, ◌&&◌, ◌<◌, ◌∷◌, ◌≡◌, ◌≤◌}
+use Rattle.std.specs.Prelude.{Bool, IsTrue, List, None, Option, Some, [], false, nat_lt, not, option_and_then, option_map, slice_get, suc, true, unwrap_or, zero, ℕ, ◌&&◌, ◌<◌, ◌∷◌, ◌≡◌, ◌≤◌}
 
 -- a run of the window is one of its text
 pub record IsRunOf (script : Script) (window : WindowText) (run : Run) : Type 0 where
@@ -105,11 +105,14 @@ names_as kind (Check v) is = is
 names_as kind Load is = is
 names_as kind Store is = is
 
-is_set_where : (c : Command) (job : Job) → c.job ≡ job → is_later_command c ≡ false → is_set c.job ≡ true
-is_set_where c (Set v) is not_later = ap is_set is
-is_set_where c (Check v) is not_later = absurd (grind (arith, common_steps))
-is_set_where c Load is not_later = absurd (grind (arith, common_steps))
-is_set_where c Store is not_later = absurd (grind (arith, common_steps))
+same_check : (job : Job) → is_check job ≡ is_check_text job
+same_check (Set v) = refl
+same_check (Check v) = refl
+same_check Load = refl
+same_check Store = refl
+
+is_safe_where : (c : Command) → is_later_command c ≡ false → is_safe c ≡ true
+is_safe_where c built = ap (λ b. not (c.must && b)) (same_check c.job) ∙ ap (λ b. not b) built
 
 both : (a b : Bool) → a ≡ true → b ≡ true → (a && b) ≡ true
 both true b left right = right
@@ -163,7 +166,7 @@ stage_allows script mode k window home none built at up =
     rw (sym (runs-there script k window at)) (record {
       strong = not_weak mode built;
       scheduler = goes_fcfs mode built;
-      sets = λ r j c c_at. let is = command_of script window r j c c_at in is_set_where c c.job refl (no_command script is.routine j is.text c none is.at is.there);
+      safe = λ r j c c_at. let is = command_of script window r j c c_at in is_safe_where c (no_command script is.routine j is.text c none is.at is.there);
       follows_none = λ r. no_follower script k r window none at;
       up = up;
       no_probes = no_probes script k window none at;

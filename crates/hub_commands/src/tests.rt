@@ -15,8 +15,11 @@ const EMPTY: &str = r#"{"safehome":1,"devices":[],"routines":[],"windows":[]}"#;
 const TWO_WINDOWS: &str =
     r#"{"safehome":1,"devices":[],"routines":[],"windows":[{"at":"2021-04-26T07:00:00","runs":[]},{"at":"2021-04-26T08:00:00","runs":[]}]}"#;
 
-const LOADS: &str =
-    r#"{"safehome":1,"devices":[{"name":"lamp","states":["off","on"],"start":"off"}],"routines":[{"name":"light","commands":[{"on":"lamp","do":"load"}]}],"windows":[]}"#;
+const READS: &str =
+    r#"{"safehome":1,"devices":[{"name":"oven","states":["off","on"],"start":"off"},{"name":"heat","low":10,"high":30,"start":18}],"routines":[{"name":"a","commands":[{"on":"heat","do":"store"},{"on":"heat","do":"load"},{"on":"oven","do":"store"}]}],"windows":[{"at":"2021-04-26T07:00:00","runs":[{"routine":"a"}]}]}"#;
+
+const MUST_CHECK: &str =
+    r#"{"safehome":1,"devices":[{"name":"lamp","states":["off","on"],"start":"off"}],"routines":[{"name":"light","commands":[{"on":"lamp","do":"check","to":"on"}]}],"windows":[]}"#;
 
 const NO_NAME: &str =
     r#"{"safehome":1,"devices":[{"name":"lamp","states":["off","on"],"start":"off"}],"routines":[{"name":"light","commands":[{"on":"fan","do":"set","to":"on"}]}],"windows":[]}"#;
@@ -84,6 +87,13 @@ fn days_from_bytes_to_bytes(rt: HostRuntime) -> Result<(), Fail> {
     let one_light_eventual =
         "safehome day\nmodel ev fcfs\nwindow 1 2021-04-26T07:00:00\nrun 1 light committed .\norder 1\nhome lamp=on\ntotal windows 1 runs 1 committed 1 aborted 0\n";
     assert!(rt; ends_so(alloc, &eventual, 0, "", one_light_eventual)?);
+    let partitioned = Tried {
+        model: "psv",
+        ..on(READS)
+    };
+    let reads =
+        "safehome day\nmodel psv fcfs\nwindow 1 2021-04-26T07:00:00\nrun 1 a committed . 10 .\norder 1\nhome oven=on heat=10\ntotal windows 1 runs 1 committed 1 aborted 0\n";
+    assert!(rt; ends_so(alloc, &partitioned, 0, "", reads)?);
     let empty = "safehome day\nmodel gsv fcfs\ntotal windows 0 runs 0 committed 0 aborted 0\n";
     assert!(rt; ends_so(alloc, &on(ONE_LIGHT), 0, "", one_light)?);
     assert!(rt; ends_so(alloc, &on(EMPTY), 0, "", empty)?);
@@ -99,7 +109,7 @@ fn refusals_by_name(rt: HostRuntime) -> Result<(), Fail> {
     let cut = on(r#"{"safehome":1,"dev"#);
     assert!(rt; ends_so(alloc, &cut, 1, "script: not json", "")?);
     assert!(rt; ends_so(alloc, &on("[]"), 1, "script: shape top", "")?);
-    assert!(rt; ends_so(alloc, &on(LOADS), 8, "later command 1.1", "")?);
+    assert!(rt; ends_so(alloc, &on(MUST_CHECK), 8, "later command 1.1", "")?);
     assert!(rt;
         ends_so(
             alloc,

@@ -21,7 +21,7 @@ neither : {X : Type 0} (a b : Option X) → option_or a b ≡ None → (a ≡ No
 neither None b none = (refl, none)
 neither (Some x) b none = absurd (cc)
 
--- no command reads
+-- no command is a must `check`
 pub no_command : (script : Script) (i c : ℕ) (text : RoutineText) (command : Command) → first_later script ≡ None
     → slice_get script.routines.items i ≡ Some text → slice_get text.routine.commands.items c ≡ Some command → is_later_command command ≡ false
 no_command script i c text command none routine_at at =

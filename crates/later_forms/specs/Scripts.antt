@@ -12,7 +12,7 @@ use Rattle.routine_reader.specs.declared.scripts.Script.{Script}
 use Rattle.routine_reader.specs.declared.scripts.WindowText.{WindowText}
 use Rattle.std.specs.List.{list_any}
 use Rattle.std.specs.Option.{option_or}
-use Rattle.std.specs.Prelude.{Bool, List, Option, Some, false, if◌then◌else◌, is_some, length, nat_lt, option_and_then, option_map, position, slice_get, true, ℕ, ◌+◌, ◌||◌}
+use Rattle.std.specs.Prelude.{Bool, List, Option, Some, false, if◌then◌else◌, is_some, length, nat_lt, option_and_then, option_map, position, slice_get, true, ℕ, ◌&&◌, ◌+◌, ◌||◌}
 
 -- the device has a plan of failures
 abbrev pub has_downs : DeviceText → Bool
@@ -22,20 +22,20 @@ has_downs device = nat_lt 0 (length device.downs.items)
 abbrev pub down_spot : List DeviceText → Option Spot
 down_spot devices = option_map (λ d. at Device (d + 1)) (position has_downs devices)
 
--- a job that reads
-abbrev pub is_later_job : Job → Bool
-is_later_job (Set v) = false
-is_later_job (Check v) = true
-is_later_job Load = true
-is_later_job Store = true
+abbrev pub is_check : Job → Bool
+is_check (Set v) = false
+is_check (Check v) = true
+is_check Load = false
+is_check Store = false
 
+-- a must `check`: what it finds may doom its run
 abbrev pub is_later_command : Command → Bool
-is_later_command command = is_later_job command.job
+is_later_command command = command.must && is_check command.job
 
 abbrev pub has_later_command : RoutineText → Bool
 has_later_command text = list_any is_later_command text.routine.commands.items
 
--- the first command of the routine with this number, from 0, that reads
+-- the first must `check` of the routine with this number, from 0
 abbrev pub within_routine : ℕ → RoutineText → Option Spot
 within_routine r text = option_map (λ c. inside OfCommand (r + 1) (c + 1)) (position is_later_command text.routine.commands.items)
 

@@ -8,7 +8,7 @@ use home_types::{Command, Job};
 use routine_reader::{DeviceText, Part, RoutineText, RunText, Script, Spot, WindowText};
 
 /// The first form of the script that is not built yet, in the order of the script: a device with a plan of failures, a
-/// command that reads, a window with probes, or a run that follows another.
+/// must `check`, a window with probes, or a run that follows another.
 pub fn first_later(script: &Script) -> Option<Spot>
     requires sound { IsSound (plain_script script.now) }
     ensures { result ≡ first_later_of script.now }
@@ -41,7 +41,7 @@ fn has_downs(device: &DeviceText) -> bool
     device.downs.len() > 0
 }
 
-/// The first command that reads.
+/// The first must `check`.
 fn later_command(routines: &[RoutineText]) -> Option<Spot>
     requires few { length routines.now ≤ 1024 }
     requires few_commands { All (λ text. length text.routine.commands.items ≤ 64) routines.now }
@@ -72,12 +72,12 @@ fn is_later_command(command: Command) -> bool
     ensures { result ≡ is_later_one command }
 {
     match command.job {
-        Job::Set(_) => false,
-        Job::Check(_) | Job::Load | Job::Store => true,
+        Job::Check(_) => command.must,
+        Job::Set(_) | Job::Load | Job::Store => false,
     }
 }
 
-/// The first command that reads, in the routine with this number, from 0.
+/// The first must `check` of the routine with this number, from 0.
 fn command_in(number: u32, text: &RoutineText) -> Option<Spot>
     requires routine { number < 1024 }
     requires few { length text.now.routine.commands.items ≤ 64 }

@@ -57,12 +57,12 @@ fn the_first_form(rt: HostRuntime) -> Result<(), Fail> {
         job: r#""load""#,
         ..PLAIN
     };
-    let check = Parts {
+    let best_effort = Parts {
         job: r#""check","to":"on","must":false"#,
         ..PLAIN
     };
-    let store = Parts {
-        job: r#""store""#,
+    let check = Parts {
+        job: r#""check","to":"on""#,
         window: r#","probes":1"#,
         ..PLAIN
     };
@@ -77,9 +77,9 @@ fn the_first_form(rt: HostRuntime) -> Result<(), Fail> {
     };
     assert!(rt; found_in(alloc, &PLAIN)? == Some(None));
     assert!(rt; found_in(alloc, &down)? == Some(Some(Part::Device.at(1))));
-    assert!(rt; found_in(alloc, &load)? == Some(Some(Part::Command.inside(1, 2))));
+    assert!(rt; found_in(alloc, &load)? == Some(None));
+    assert!(rt; found_in(alloc, &best_effort)? == Some(None));
     assert!(rt; found_in(alloc, &check)? == Some(Some(Part::Command.inside(1, 2))));
-    assert!(rt; found_in(alloc, &store)? == Some(Some(Part::Command.inside(1, 2))));
     assert!(rt; found_in(alloc, &probes)? == Some(Some(Part::Window.at(1))));
     assert!(rt; found_in(alloc, &follows)? == Some(Some(Part::Run.inside(1, 2))));
     Ok(())
