@@ -1,6 +1,0 @@
-mod LegalDays
-mod LegalWindows
-mod NewDevices
-mod RecordTexts
-mod SmallScripts
-mod Zeros

@@ -1,6 +1,0 @@
-pub mod Stage
-pub mod Homes
-pub mod Played
-pub mod Statuses
-pub mod Words
-pub mod Finishes

@@ -1,24 +1,11 @@
 // A day of a smart home: reads its script, plays its windows, and prints the record.
 #![tactic(auto)]
 
-mod faults;
-mod finishes;
-mod homes;
-mod inputs;
-mod plays;
-mod stages;
-mod stills;
-#[cfg(test)]
-mod tests;
-mod texts;
-mod windows;
-mod words;
-
 use day_clock::{StdSink, StdSource};
 use device_states::CalmBench;
+use hub_commands::still_command;
 use std::process::ExitCode;
 use std::{env, io};
-use stills::still_command;
 
 /// The status where the words cannot be had for want of memory.
 const MEMORY: u8 = 5;

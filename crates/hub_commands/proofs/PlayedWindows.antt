@@ -1,0 +1,60 @@
+-- A window that was opened on a home and replayed is played.
+use Rattle.device_gate.specs.Places.{AreNumbered}
+use Rattle.device_gate.specs.declared.gates.Place.TheVariants.{Home}
+use Rattle.device_gate.specs.declared.gates.Place.{Place}
+use Rattle.history_book.specs.Settings.{Setting}
+use Rattle.history_book.specs.Histories.{reading}
+use Rattle.history_book.specs.declared.entries.End.TheVariants.{Committed}
+use Rattle.history_book.specs.declared.records.WindowRecord.{WindowRecord}
+use Rattle.command_rules.specs.Rosters.{is_run}
+use Rattle.home_types.specs.declared.modes.Mode.{Mode}
+use Rattle.hub_core.specs.Homes.{HomeState}
+use Rattle.hub_core.specs.HubCalls.{IsOpened}
+use Rattle.hub_core.specs.LegalWindows.{IsLegalWindow, history_of}
+use Rattle.hub_core.specs.OpenHubs.{OpenHub, device_at}
+use Rattle.hub_commands.specs.Played.{IsPlayed, setting_on}
+use Rattle.routine_reader.specs.declared.scripts.Script.{Script}
+use Rattle.routine_reader.specs.declared.scripts.WindowText.{WindowText}
+use Rattle.run_replay.specs.Replays.{IsReplay}
+use Rattle.run_replay.specs.ReplayedWindows.{IsReplayed}
+use Rattle.std.proofs.Common.{ap, subst, sym, ◌∙◌}
+use Rattle.std.proofs.lemmas.List.{length-map}
+use Rattle.std.proofs.lemmas.Option.{slice_get-map}
+use Rattle.std.specs.Prelude.{List, Option, Some, length, option_map, slice_get, slice_index_or, ℕ, ◌+◌, ◌-◌, ◌≡◌}
+
+-- the turns, the seed and the rounds are those of the window
+pub as_played : {D : Type 0} (tag : D → ℕ) (plan : D → Option (List (ℕ × ℕ))) (turns probes faults : D → ℕ) (script : Script) (mode : Mode) (k : ℕ) (window : WindowText) (w : Setting) (home after : HomeState D) (hub : OpenHub D) (picks : List ℕ) (closed : WindowRecord)
+    → slice_get script.windows.items k ≡ Some window → picks ≡ window.turns.items → w ≡ setting_on script mode k home
+    → IsOpened turns probes faults w window.probes home hub → AreNumbered tag home.devices → IsReplayed tag plan turns probes faults hub picks window.seed window.probes after closed
+    → IsPlayed tag plan turns probes faults script mode k home after closed
+as_played {D = D} tag plan turns probes faults script mode k window w home after hub picks closed at same setting opened numbered is = record {
+  window = window;
+  at = at;
+  play = is.play;
+  legal = subst (λ v. IsLegalWindow v closed) here is.legal;
+  replay = subst (λ ts. IsReplay (setting_on script mode k home) window.probes window.probes ts window.seed is.play) same
+      (subst (λ v. IsReplay v window.probes window.probes picks window.seed is.play) here (subst (λ n. IsReplay hub.setting n window.probes picks window.seed is.play) opened.rounds_are is.is_replay));
+  history = is.history;
+  commits = λ r run. subst (λ v. ((reading v (history_of closed)).run r).ended ≡ Some Committed) here (is.commits r (ap (λ v. is_run v.runs r) here ∙ run));
+  kinds = is.kinds ∙ ap (λ v. v.kinds) here;
+  last = is.last;
+  opened = is.opened ∙ ap (λ n. n + 1) opened.windows;
+  up = is.up;
+  size = is.size ∙ ap (λ ps. length ps) opened.places ∙ length-map home.devices (λ device. Home device);
+  devices = λ d x y x_at y_at. let out = placed d x x_at in record {
+    same_tag = is.numbered d y y_at ∙ sym (numbered d x x_at);
+    same_plan = is.plans d x y out y_at;
+    turns_rose = is.turns_rose d y y_at ∙ ap (λ n. n + slice_index_or closed.turns.items d 0) (opened.turns_then d x x_at);
+    faults_rose = is.faults_rose d y y_at ∙ ap (λ n. n + slice_index_or closed.faults.items d 0) (opened.faults_then d x x_at);
+    probes_rose = is.probes_rose d y y_at ∙ ap (λ n. (device_at hub.devices d).at_opening.probes + (n - is.play.configuration.probes d)) opened.rounds_are ∙ ap (λ n. n + (window.probes - is.play.configuration.probes d)) (opened.probes_then d x x_at);
+  };
+}
+  where
+    here : hub.setting ≡ setting_on script mode k home
+    here = ap (λ c. c.setting) opened.configuration ∙ setting
+
+    home_at : D → Place D
+    home_at device = Home device
+
+    placed : (d : ℕ) (x : D) → slice_get home.devices d ≡ Some x → slice_get hub.places d ≡ Some (Home x)
+    placed d x x_at = ap (λ ps. slice_get ps d) opened.places ∙ slice_get-map home_at home.devices d ∙ ap (λ o. option_map home_at o) x_at

@@ -1,0 +1,39 @@
+-- Lists with one item more.
+use Rattle.std.proofs.Common.{ap, arith, inl, inr, refl}
+use Rattle.std.specs.Prelude.{List, Some, [], fold, length, slice_get, suc, sum_by, zero, ℕ, ◌+◌, ◌++◌, ◌<◌, ◌∷◌, ◌≡◌, ◌⊎◌}
+
+-- a place of a list with one item more is a place of the list, or the new one
+pub snoc_get : {X : Type 0} (xs : List X) (x y : X) (k : ℕ) → slice_get (xs ++ x ∷ []) k ≡ Some y → (slice_get xs k ≡ Some y) ⊎ ((k ≡ length xs) × (x ≡ y))
+snoc_get [] x y zero h = inr (refl, cc)
+snoc_get [] x y (suc k) h = absurd (cc)
+snoc_get (z ∷ xs) x y zero h = inl h
+snoc_get (z ∷ xs) x y (suc k) h = elim (snoc_get xs x y k h) [
+  | inl e ↦ inl e
+  | inr p ↦ inr (ap (λ n. suc n) p.0, p.1)
+]
+
+pub get_before : {X : Type 0} (xs : List X) (x : X) (k : ℕ) → k < length xs → slice_get (xs ++ x ∷ []) k ≡ slice_get xs k
+get_before [] x k within = absurd (omega (arith, within))
+get_before (y ∷ xs) x zero within = refl
+get_before (y ∷ xs) x (suc k) within = get_before xs x k (omega (arith, within))
+
+pub get_last : {X : Type 0} (xs : List X) (x : X) → slice_get (xs ++ x ∷ []) (length xs) ≡ Some x
+get_last [] x = refl
+get_last (y ∷ xs) x = get_last xs x
+
+fold_more : {A X : Type 0} (f : A → X → A) (a : A) (xs : List X) (x : X) → fold f a (xs ++ x ∷ []) ≡ f (fold f a xs) x
+fold_more f a [] x = refl
+fold_more f a (y ∷ xs) x = fold_more f (f a y) xs x
+
+pub sum_more : {X : Type 0} (f : X → ℕ) (xs : List X) (x : X) → sum_by f (xs ++ x ∷ []) ≡ sum_by f xs + f x
+sum_more f xs x = fold_more (λ a y. a + f y) 0 xs x
+
+pub length_more : {X : Type 0} (xs : List X) (x : X) → length (xs ++ x ∷ []) ≡ suc (length xs)
+length_more [] x = refl
+length_more (y ∷ xs) x = ap (λ n. suc n) (length_more xs x)
+
+-- within a list there is an item
+pub given : {X : Type 0} (xs : List X) (k : ℕ) → k < length xs → (x : X) × (slice_get xs k ≡ Some x)
+given [] k within = absurd (omega (arith, within))
+given (x ∷ xs) zero within = (x, refl)
+given (x ∷ xs) (suc k) within = given xs k (omega (arith, within))

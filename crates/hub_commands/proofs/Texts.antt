@@ -1,0 +1,93 @@
+-- The text of a day, piece after piece, and what the sink got of it.
+use Rattle.day_clock.specs.Sinks.{AppendsPart}
+use Rattle.day_report.proofs.Growing.{enumerate_from-append}
+use Rattle.day_report.specs.Days.{day_text, head_text, total_text, window_text, window_texts}
+use Rattle.history_book.specs.declared.records.WindowRecord.{WindowRecord}
+use Rattle.home_types.specs.declared.modes.Mode.{Mode}
+use Rattle.hub_commands.specs.Days.{text_due, text_so_far}
+use Rattle.hub_commands.specs.Finishes.{AppendsFirst}
+use Rattle.routine_reader.specs.declared.scripts.Script.{Script}
+use Rattle.std.proofs.Common.{ap, append-nil, append_assoc, arith, refl, subst, sym, ◌∙◌}
+use Rattle.std.proofs.lemmas.Grind.{common_steps}
+use Rattle.std.proofs.lemmas.List.{flat_map_more, length-append}
+use Rattle.std.specs.Io.KnownBytes.{Appends, Keeps}
+use Rattle.std.specs.List.{enumerate_from, flat_map}
+use Rattle.std.specs.Prelude.{Bool, List, None, Option, Some, [], if◌then◌else◌, length, suc, take, true, zero, ℕ, ◌+◌, ◌++◌, ◌<◌, ◌==◌, ◌∷◌, ◌≡◌}
+
+take_first : {X : Type 0} (xs ys : List X) → take (length xs) (xs ++ ys) ≡ xs
+take_first [] ys = refl
+take_first (x ∷ xs) ys = ap (λ zs. x ∷ zs) (take_first xs ys)
+
+take_behind : {X : Type 0} (xs ys : List X) (n : ℕ) → take (length xs + n) (xs ++ ys) ≡ xs ++ take n ys
+take_behind [] ys n = let none : 0 + n ≡ n = omega (arith) in ap (λ k. take k ys) none
+take_behind (x ∷ xs) ys n =
+    let one : suc (length xs) + n ≡ suc (length xs + n) = omega (arith) in
+    ap (λ k. take k (x ∷ (xs ++ ys))) one ∙ ap (λ zs. x ∷ zs) (take_behind xs ys n)
+
+take_within : {X : Type 0} (xs ys : List X) (n : ℕ) → n < length xs → take n (xs ++ ys) ≡ take n xs
+take_within [] ys n within = absurd (omega (arith, within))
+take_within (x ∷ xs) ys zero within = refl
+take_within (x ∷ xs) ys (suc n) within = ap (λ zs. x ∷ zs) (take_within xs ys n (omega (arith, within)))
+
+-- one piece behind another
+pub appends_more : (a b c : Option (List ℕ)) (xs ys : List ℕ) → Appends a b xs → Appends b c ys → Appends a c (xs ++ ys)
+appends_more None b c xs ys first next = tt
+appends_more (Some held) None c xs ys first next = absurd first
+appends_more (Some held) (Some mid) None xs ys first next = absurd next
+appends_more (Some held) (Some mid) (Some all) xs ys first next = next ∙ ap (λ zs. zs ++ ys) first ∙ append_assoc held xs ys
+
+-- nothing behind a piece
+pub appends_keeps : (a b c : Option (List ℕ)) (xs : List ℕ) → Appends a b xs → Keeps b c → Appends a c xs
+appends_keeps None b c xs first keeps = tt
+appends_keeps (Some held) None c xs first keeps = absurd first
+appends_keeps (Some held) (Some mid) None xs first keeps = absurd keeps
+appends_keeps (Some held) (Some mid) (Some all) xs first keeps = keeps ∙ first
+
+pub keeps_appends : (a b : Option (List ℕ)) → Keeps a b → Appends a b []
+keeps_appends None b keeps = tt
+keeps_appends (Some held) None keeps = absurd keeps
+keeps_appends (Some held) (Some all) keeps = keeps ∙ sym (append-nil held)
+
+-- a first part behind a piece
+pub part_more : (a b c : Option (List ℕ)) (xs ys : List ℕ) → Appends a b xs → AppendsPart b c ys → AppendsPart a c (xs ++ ys)
+part_more a b c xs ys first part =
+    let n = length-append xs ys in
+    (length xs + part.0, omega (arith, n, part.1), subst (λ zs. Appends a c zs) (sym (take_behind xs ys part.0)) (appends_more a b c xs (take part.0 ys) first part.2))
+
+-- a first part of a longer text
+pub part_wider : (a b : Option (List ℕ)) (xs ys : List ℕ) → AppendsPart a b xs → AppendsPart a b (xs ++ ys)
+part_wider a b xs ys part =
+    let n = length-append xs ys in
+    (part.0, omega (arith, n, part.1), subst (λ zs. Appends a b zs) (sym (take_within xs ys part.0 part.1)) part.2)
+
+pub whole_first : (a b : Option (List ℕ)) (xs ys : List ℕ) → Appends a b xs → AppendsFirst a b (xs ++ ys)
+whole_first a b xs ys all = (length xs, subst (λ zs. Appends a b zs) (sym (take_first xs ys)) all)
+
+-- the text with one window more
+pub text_more : (script : Script) (mode : Mode) (trace : Bool) (records : List WindowRecord) (closed : WindowRecord)
+    → text_so_far script mode trace (records ++ closed ∷ []) ≡ text_so_far script mode trace records ++ window_text script (length records) closed mode trace
+unfolding window_texts
+text_more script mode trace records closed =
+    ap (λ ks. head_text mode ++ flat_map (λ (k, c). window_text script k c mode trace) ks) (enumerate_from-append 0 records closed)
+    ∙ ap (λ k. head_text mode ++ flat_map (λ (k, c). window_text script k c mode trace) (enumerate_from 0 records ++ (k, closed) ∷ [])) none_before
+    ∙ sym (flat_map_more (λ (k, c). window_text script k c mode trace) (head_text mode) (enumerate_from 0 records) (length records, closed))
+  where
+    none_before : 0 + length records ≡ length records
+    none_before = omega (arith)
+
+-- before the first window it is the head
+pub text_starts : (script : Script) (mode : Mode) (trace : Bool) → text_so_far script mode trace [] ≡ head_text mode
+unfolding window_texts
+text_starts script mode trace = append-nil (head_text mode)
+
+-- with the total it is the text of the day
+pub text_whole : (script : Script) (mode : Mode) (trace : Bool) (records : List WindowRecord) → text_so_far script mode trace records ++ total_text records ≡ day_text script records mode trace
+unfolding day_text
+text_whole script mode trace records = refl
+
+-- where all windows are there the text due has the total
+pub due_whole : (script : Script) (mode : Mode) (trace : Bool) (records : List WindowRecord) → length records ≡ length script.windows.items
+    → text_due script mode trace records ≡ text_so_far script mode trace records ++ total_text records
+due_whole script mode trace records all =
+    let same : (length records == length script.windows.items) ≡ true = grind (arith, common_steps) in
+    ap (λ b. text_so_far script mode trace records ++ (if b then total_text records else [])) same

@@ -1,0 +1,196 @@
+-- How the top call ends: by its fault, what was read, played and written.
+use Rattle.command_words.specs.declared.command_lines.CommandLine.TheVariants.{Replay}
+use Rattle.command_words.specs.declared.command_lines.CommandLine.{CommandLine}
+use Rattle.command_words.specs.declared.command_lines.Options.{Options}
+use Rattle.day_clock.specs.Sinks.{AppendsPart}
+use Rattle.day_report.specs.Days.{day_text}
+use Rattle.home_types.specs.Listed.{Listed}
+use Rattle.hub_core.specs.LegalDays.{IsLegalCutDay, IsLegalDay}
+use Rattle.hub_commands.specs.Days.{DevicesAreProbed, WindowsArePlayed, text_due}
+use Rattle.hub_commands.specs.declared.faults.Fault.TheVariants.{Check, Later, Memory, Read, Script as Refuses, Words, Write}
+use Rattle.hub_commands.specs.declared.faults.Fault.{Fault}
+use Rattle.hub_commands.specs.declared.finishes.Day.{Day}
+use Rattle.later_forms.specs.CommandLines.{is_later}
+use Rattle.later_forms.specs.Scripts.{first_later}
+use Rattle.routine_reader.specs.Readings.{script_reading}
+use Rattle.routine_reader.specs.Scripts.{plain_script}
+use Rattle.routine_reader.specs.Spots.{is_memory, top}
+use Rattle.routine_reader.specs.declared.faults.ReadFault.{ReadFault}
+use Rattle.routine_reader.specs.declared.faults.Spot.{Spot}
+use Rattle.routine_reader.specs.declared.scripts.Script.{Script}
+use Rattle.run_replay.specs.Replays.{Play}
+use Rattle.std.specs.Io.KnownBytes.{Appends, IsAtEnd, Keeps}
+use Rattle.std.specs.Prelude.{Err, IfSome, List, None, Ok, Option, Result, Some, [], false, take, true, ℕ, ◌<◌, ◌≡◌, ◌⊎◌}
+
+-- what the call does to its source: the bytes to come before and after it, where the source tells them, and its faults
+pub record Reads : Type 0 where
+  pub left : Option (List ℕ)
+  pub rest : Option (List ℕ)
+  pub faults : ℕ
+  pub faults_after : ℕ
+
+abbrev pub read_off : Option (List ℕ) → Option (List ℕ) → ℕ → ℕ → Reads
+read_off left rest faults faults_after = record { left = left; rest = rest; faults = faults; faults_after = faults_after }
+
+-- what it does to its sink: the bytes held before and after it, where the sink tells them, and its faults
+pub record Writes : Type 0 where
+  pub held : Option (List ℕ)
+  pub holds : Option (List ℕ)
+  pub faults : ℕ
+  pub faults_after : ℕ
+
+abbrev pub written : Option (List ℕ) → Option (List ℕ) → ℕ → ℕ → Writes
+written held holds faults faults_after = record { held = held; holds = holds; faults = faults; faults_after = faults_after }
+
+-- the source gave all of its bytes without a fault, and the script is their reading
+pub record IsRead (source : Reads) (script : Script) : Type 0 where
+  pub ended : IsAtEnd source.rest
+  pub reading : IfSome source.left (λ bytes. script_reading bytes ≡ Ok (plain_script script))
+  pub calm : source.faults_after ≡ source.faults
+
+-- the source gave its bytes without a fault, to its end or to one byte more than a script may have, and their reading is this refusal
+pub record IsRefused (source : Reads) (fault : ReadFault) : Type 0 where
+  pub named : is_memory fault ≡ false
+  pub reading : IfSome source.left (λ bytes. script_reading bytes ≡ Err fault)
+  pub calm : source.faults_after ≡ source.faults
+
+-- nothing was read
+abbrev pub IsUnread : Reads → Type 0
+IsUnread source = (source.rest ≡ source.left) × (source.faults_after ≡ source.faults)
+
+-- what came of the input
+abbrev pub InputIsRead : Reads → Result Script Fault → Type 0
+InputIsRead source (Ok script) = IsRead source script
+InputIsRead source (Err (Refuses fault)) = IsRefused source fault
+InputIsRead source (Err Words) = ⊥
+InputIsRead source (Err Read) = source.faults < source.faults_after
+InputIsRead source (Err Write) = ⊥
+InputIsRead source (Err Memory) = source.faults_after ≡ source.faults
+InputIsRead source (Err (Later spot)) = ⊥
+InputIsRead source (Err (Check window place name)) = ⊥
+
+-- the sink holds what it held
+abbrev pub IsUnwritten : Writes → Type 0
+IsUnwritten sink = Keeps sink.held sink.holds × (sink.faults_after ≡ sink.faults)
+
+-- the sink got a first part of these bytes, or all
+abbrev pub AppendsFirst : Option (List ℕ) → Option (List ℕ) → List ℕ → Type 0
+AppendsFirst held holds bytes = (n : ℕ) × Appends held holds (take n bytes)
+
+-- the devices of a day, and what they show: whose they are, what they tell, where they stand and how often they were called
+pub record Shown (D : Type 0) : Type 0 where
+  pub tag : D → ℕ
+  pub plan : D → Option (List (ℕ × ℕ))
+  pub stands : D → ℕ
+  pub turns : D → ℕ
+  pub probes : D → ℕ
+  pub faults : D → ℕ
+
+abbrev pub shown_by : {D : Type 0} → (D → ℕ) → (D → Option (List (ℕ × ℕ))) → (D → ℕ) → (D → ℕ) → (D → ℕ) → (D → ℕ) → Shown D
+shown_by tag plan stands turns probes faults = record { tag = tag; plan = plan; stands = stands; turns = turns; probes = probes; faults = faults }
+
+-- the day that is handed back is whole and legal in the mode of the words, each of its windows is the replay of its turns and its seed, every run is committed, and the sink got its text;
+-- no mode that is built has the weak model, so in each window the printed order holds each committed run once, the answers and the last state are those of its serial execution, and the devices stand so
+pub record IsWhole {D : Type 0} (shown : Shown D) (script : Script) (options : Options) (sink : Writes) (o : Option (Day D)) : Type 0 where
+  pub day : Day D
+  pub given : o ≡ Some day
+  pub devices : Listed D
+  pub there : day.devices ≡ Some devices
+  pub legal : IsLegalDay shown.tag shown.plan shown.stands shown.turns shown.faults script options.mode day.windows.items devices.items
+  pub plays : List Play
+  pub played : WindowsArePlayed script options.mode day.windows.items plays
+  pub probed : DevicesAreProbed shown.probes script plays devices.items
+  pub text : Appends sink.held sink.holds (day_text script day.windows.items options.mode options.trace)
+  pub calm : sink.faults_after ≡ sink.faults
+
+-- the day was cut short where the sink failed: it is legal up to there, and the sink got a first part of its text, and not all
+pub record IsCut {D : Type 0} (shown : Shown D) (script : Script) (options : Options) (sink : Writes) (o : Option (Day D)) : Type 0 where
+  pub day : Day D
+  pub given : o ≡ Some day
+  pub devices : Listed D
+  pub there : day.devices ≡ Some devices
+  pub legal : IsLegalCutDay shown.tag shown.plan shown.stands shown.turns shown.faults script options.mode day.windows.items devices.items
+  pub plays : List Play
+  pub played : WindowsArePlayed script options.mode day.windows.items plays
+  pub probed : DevicesAreProbed shown.probes script plays devices.items
+  pub text : AppendsPart sink.held sink.holds (text_due script options.mode options.trace day.windows.items)
+  pub failed : sink.faults < sink.faults_after
+
+-- the day was cut short for want of memory: its windows are legal up to there, no device is handed back, and the sink got a first part of its text
+pub record IsStarved {D : Type 0} (script : Script) (options : Options) (sink : Writes) (o : Option (Day D)) : Type 0 where
+  pub day : Day D
+  pub given : o ≡ Some day
+  pub no_devices : day.devices ≡ None
+  pub plays : List Play
+  pub played : WindowsArePlayed script options.mode day.windows.items plays
+  pub text : AppendsFirst sink.held sink.holds (text_due script options.mode options.trace day.windows.items)
+  pub calm : sink.faults_after ≡ sink.faults
+
+-- the script was read, and no window of it was played
+pub record IsUnplayed {D : Type 0} (sink : Writes) (o : Option (Day D)) : Type 0 where
+  pub day : Day D
+  pub given : o ≡ Some day
+  pub no_windows : day.windows.items ≡ []
+  pub no_devices : day.devices ≡ None
+  pub keeps : IsUnwritten sink
+
+-- how the replay of a script ends
+abbrev pub ReplayEnds : {D : Type 0} → Shown D → Script → Options → Writes → Option (Day D) → Option Fault → Type 0
+ReplayEnds shown script options sink day None = IsWhole shown script options sink day
+ReplayEnds shown script options sink day (Some (Refuses fault)) = ⊥
+ReplayEnds shown script options sink day (Some Words) = ⊥
+ReplayEnds shown script options sink day (Some Read) = ⊥
+ReplayEnds shown script options sink day (Some Write) = IsCut shown script options sink day
+ReplayEnds shown script options sink day (Some Memory) = IsStarved script options sink day
+ReplayEnds shown script options sink day (Some (Later spot)) = ⊥
+ReplayEnds shown script options sink day (Some (Check window place name)) = ⊥
+
+-- the words ask for a replay in a mode that is built
+abbrev pub AsksFor : Option CommandLine → Options → Type 0
+AsksFor line options = (line ≡ Some (Replay options)) × (is_later (Replay options) ≡ false)
+
+-- the script that was read is replayed: it has no form that is not built
+pub record IsReplayed {D : Type 0} (shown : Shown D) (line : Option CommandLine) (source : Reads) (sink : Writes) (day : Option (Day D)) (fault : Option Fault) : Type 0 where
+  pub options : Options
+  pub asked : AsksFor line options
+  pub script : Script
+  pub read : IsRead source script
+  pub built : first_later script ≡ None
+  pub ends : ReplayEnds shown script options sink day fault
+
+-- the command or its mode is not built, and nothing was read
+pub record CommandIsLater {D : Type 0} (line : Option CommandLine) (spot : Spot) (source : Reads) (sink : Writes) (day : Option (Day D)) : Type 0 where
+  pub command : CommandLine
+  pub given : line ≡ Some command
+  pub later : is_later command ≡ true
+  pub at_top : spot ≡ top
+  pub unread : IsUnread source
+  pub no_day : day ≡ None
+  pub unwritten : IsUnwritten sink
+
+-- the script has a form that is not built, and this is the first
+pub record ScriptIsLater {D : Type 0} (line : Option CommandLine) (spot : Spot) (source : Reads) (sink : Writes) (day : Option (Day D)) : Type 0 where
+  pub options : Options
+  pub asked : AsksFor line options
+  pub script : Script
+  pub read : IsRead source script
+  pub first : first_later script ≡ Some spot
+  pub unplayed : IsUnplayed sink day
+
+-- the call ended before the script was read
+pub record EndsBefore {D : Type 0} (line : Option CommandLine) (sink : Writes) (day : Option (Day D)) : Type 0 where
+  pub options : Options
+  pub asked : AsksFor line options
+  pub no_day : day ≡ None
+  pub unwritten : IsUnwritten sink
+
+-- how the call ends, by its fault, for the command line that the words are, if any
+abbrev pub CallEnds : {D : Type 0} → Shown D → Option CommandLine → Reads → Writes → Option (Day D) → Option Fault → Type 0
+CallEnds shown line source sink day None = IsReplayed shown line source sink day None
+CallEnds shown line source sink day (Some (Refuses fault)) = EndsBefore line sink day × IsRefused source fault
+CallEnds shown line source sink day (Some Words) = (line ≡ None) × IsUnread source × (day ≡ None) × IsUnwritten sink
+CallEnds shown line source sink day (Some Read) = EndsBefore line sink day × (source.faults < source.faults_after)
+CallEnds shown line source sink day (Some Write) = IsReplayed shown line source sink day (Some Write)
+CallEnds shown line source sink day (Some Memory) = ((day ≡ None) × IsUnwritten sink × (source.faults_after ≡ source.faults)) ⊎ IsReplayed shown line source sink day (Some Memory)
+CallEnds shown line source sink day (Some (Later spot)) = CommandIsLater line spot source sink day ⊎ ScriptIsLater line spot source sink day
+CallEnds shown line source sink day (Some (Check window place name)) = ⊥

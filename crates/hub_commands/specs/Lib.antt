@@ -1,0 +1,5 @@
+pub mod Days
+pub mod Played
+pub mod Statuses
+pub mod Finishes
+pub mod Pieces

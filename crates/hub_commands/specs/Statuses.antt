@@ -1,0 +1,18 @@
+-- The status with which the program ends.
+use Rattle.hub_commands.specs.declared.faults.Fault.TheVariants.{Check, Later, Memory, Read, Script, Words, Write}
+use Rattle.hub_commands.specs.declared.faults.Fault.{Fault}
+use Rattle.std.specs.Prelude.{None, Option, Some, ℕ}
+
+abbrev pub fault_status : Fault → ℕ
+fault_status (Script fault) = 1
+fault_status Words = 2
+fault_status Read = 3
+fault_status Write = 4
+fault_status Memory = 5
+fault_status (Later spot) = 8
+fault_status (Check window place name) = 7
+
+-- 0 where there is no fault
+abbrev pub status_of : Option Fault → ℕ
+status_of None = 0
+status_of (Some fault) = fault_status fault

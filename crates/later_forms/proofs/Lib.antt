@@ -1,0 +1,4 @@
+pub mod SoundScripts
+pub mod Searches
+pub mod NoLaterForms
+pub mod BuiltModes

@@ -1,0 +1,10 @@
+// What of a command line and of a script is not built yet.
+#![tactic(auto)]
+
+pub mod command_lines;
+pub mod scripts;
+#[cfg(test)]
+mod tests;
+
+pub use command_lines::is_later;
+pub use scripts::first_later;

@@ -1,0 +1,146 @@
+ghost use Rattle.std.specs.Prelude.{◌≡◌, ◌<◌, ◌≤◌, ◌-◌, All, IfSome, length, option_map, position};
+ghost use Rattle.std.specs.List.{list_any};
+ghost use Rattle.later_forms.specs.Scripts.{command_spot, down_spot, first_later as first_later_of, follows_another as follows_it, follows_some as some_follows, has_downs as is_down, has_later_command as has_command, has_later_form as has_form, is_later_command as is_later_one, window_spot, within_routine as spot_of_routine, within_window as spot_of_window};
+ghost use Rattle.routine_reader.specs.Scripts.{plain_script};
+ghost use Rattle.routine_reader.specs.Sound.{IsSound};
+
+use home_types::{Command, Job};
+use routine_reader::{DeviceText, Part, RoutineText, RunText, Script, Spot, WindowText};
+
+/// The first form of the script that is not built yet, in the order of the script: a device with a plan of failures, a
+/// must `check`, a window with probes, or a run that follows another.
+pub fn first_later(script: &Script) -> Option<Spot>
+    requires sound { IsSound (plain_script script.now) }
+    ensures { result ≡ first_later_of script.now }
+{
+    let device = down_device(script.devices.as_slice());
+    let command = later_command(script.routines.as_slice());
+    let window = later_window(script.windows.as_slice());
+    device.or(command).or(window)
+}
+
+/// The first device with a plan of failures.
+fn down_device(devices: &[DeviceText]) -> Option<Spot>
+    requires { length devices.now ≤ 256 }
+    ensures { result ≡ down_spot devices.now }
+{
+    let place = first_down(devices)?;
+    Some(Part::Device.at(place as u32 + 1))
+}
+
+fn first_down(devices: &[DeviceText]) -> Option<usize>
+    ensures place { result ≡ position is_down devices.now }
+    ensures within { IfSome result (λ place. place < length devices.now) }
+{
+    devices.iter().position(|device| has_downs(device))
+}
+
+fn has_downs(device: &DeviceText) -> bool
+    ensures { result ≡ is_down device.now }
+{
+    device.downs.len() > 0
+}
+
+/// The first must `check`.
+fn later_command(routines: &[RoutineText]) -> Option<Spot>
+    requires few { length routines.now ≤ 1024 }
+    requires few_commands { All (λ text. length text.routine.commands.items ≤ 64) routines.now }
+    ensures { result ≡ command_spot routines.now }
+{
+    let place = first_later_routine(routines)?;
+    command_in(place as u32, &routines[place])
+}
+
+fn first_later_routine(routines: &[RoutineText]) -> Option<usize>
+    ensures place { result ≡ position has_command routines.now }
+    ensures within { IfSome result (λ place. place < length routines.now) }
+{
+    routines.iter().position(|text| has_later_command(text))
+}
+
+fn has_later_command(text: &RoutineText) -> bool
+    ensures { result ≡ has_command text.now }
+{
+    text.routine
+        .commands
+        .as_slice()
+        .iter()
+        .any(|command| is_later_command(*command))
+}
+
+fn is_later_command(command: Command) -> bool
+    ensures { result ≡ is_later_one command }
+{
+    match command.job {
+        Job::Check(_) => command.must,
+        Job::Set(_) | Job::Load | Job::Store => false,
+    }
+}
+
+/// The first must `check` of the routine with this number, from 0.
+fn command_in(number: u32, text: &RoutineText) -> Option<Spot>
+    requires routine { number < 1024 }
+    requires few { length text.now.routine.commands.items ≤ 64 }
+    ensures { result ≡ spot_of_routine number text.now }
+{
+    let place = first_later_command(text.routine.commands.as_slice())?;
+    Some(Part::Command.inside(number + 1, place as u32 + 1))
+}
+
+fn first_later_command(commands: &[Command]) -> Option<usize>
+    ensures place { result ≡ position is_later_one commands.now }
+    ensures within { IfSome result (λ place. place < length commands.now) }
+{
+    commands
+        .iter()
+        .position(|command| is_later_command(*command))
+}
+
+/// The first window with probes, or with a run that follows another.
+fn later_window(windows: &[WindowText]) -> Option<Spot>
+    requires few { length windows.now ≤ 288 }
+    requires few_runs { All (λ window. length window.runs.items ≤ 64) windows.now }
+    ensures { result ≡ window_spot windows.now }
+{
+    let place = first_later_window(windows)?;
+    form_in(place as u32, &windows[place])
+}
+
+fn first_later_window(windows: &[WindowText]) -> Option<usize>
+    ensures place { result ≡ position has_form windows.now }
+    ensures within { IfSome result (λ place. place < length windows.now) }
+{
+    windows.iter().position(|window| has_later_form(window))
+}
+
+fn has_later_form(window: &WindowText) -> bool
+    ensures { result ≡ has_form window.now }
+{
+    window.probes > 0 || some_run_follows(window.runs.as_slice())
+}
+
+fn some_run_follows(runs: &[RunText]) -> bool
+    ensures { result ≡ some_follows runs.now }
+{
+    runs.iter().any(|run| run.follows.is_some())
+}
+
+/// The window with this number, from 0, where it has probes; else its first run that follows another.
+fn form_in(number: u32, window: &WindowText) -> Option<Spot>
+    requires window { number < 288 }
+    requires few { length window.now.runs.items ≤ 64 }
+    ensures { result ≡ spot_of_window number window.now }
+{
+    if window.probes > 0 {
+        return Some(Part::Window.at(number + 1));
+    }
+    let place = first_follower(window.runs.as_slice())?;
+    Some(Part::Run.inside(number + 1, place as u32 + 1))
+}
+
+fn first_follower(runs: &[RunText]) -> Option<usize>
+    ensures place { result ≡ position follows_it runs.now }
+    ensures within { IfSome result (λ place. place < length runs.now) }
+{
+    runs.iter().position(|run| run.follows.is_some())
+}
