@@ -1,0 +1,109 @@
+use std::alloc::{AllocError, Global};
+
+/// Why a line of the table was not added to its case.
+#[derive(Clone, Copy, Debug, PartialEq, Eq)]
+pub enum Unread {
+    /// It is no line of a case.
+    Line,
+    NoMemory,
+}
+
+impl From<AllocError> for Unread {
+    fn from(_: AllocError) -> Unread {
+        Unread::NoMemory
+    }
+}
+
+/// Which call of a source or a sink fails, 0 for none, and how many bytes a call moves at most.
+#[derive(Clone, Copy, Debug, PartialEq, Eq)]
+pub struct Behaviour {
+    pub fails: u64,
+    pub most: u64,
+}
+
+const CALM: Behaviour = Behaviour {
+    fails: 0,
+    most: 65_536,
+};
+
+/// How many bytes a sink holds, where a case does not say.
+const ROOM: u64 = 1 << 20;
+
+/// A call: its words, its input, and how its source and its sink behave.
+#[derive(Drop)]
+pub struct Case {
+    pub name: String,
+    pub words: Vec<String>,
+    pub input: Vec<u8>,
+    pub source: Behaviour,
+    pub sink: Behaviour,
+    pub room: u64,
+}
+
+impl Case {
+    pub fn new(alloc: Global) -> Case {
+        Case {
+            name: String::new(alloc),
+            words: Vec::new(alloc),
+            input: Vec::new(alloc),
+            source: CALM,
+            sink: CALM,
+            room: ROOM,
+        }
+    }
+
+    /// Adds what a line of the table says: a verb, and behind the first blank what it is about.
+    pub fn add(&mut self, alloc: Global, line: &str) -> Result<(), Unread> {
+        let (verb, rest) = line.split_once(" ").unwrap_or((line, ""));
+        match verb {
+            "case" => self.name.push_str(rest)?,
+            "word" => self.add_word(alloc, rest)?,
+            "text" => self.input.extend_from_slice(rest.as_bytes())?,
+            "line" => self.add_line(rest)?,
+            "byte" => self.add_byte(rest.parse().map_err(|_| Unread::Line)?)?,
+            "times" => self.add_times(rest)?,
+            "source" => self.source = behaviour_of(rest)?,
+            "sink" => self.sink = behaviour_of(rest)?,
+            "room" => self.room = number_of(rest)?,
+            _ => return Err(Unread::Line),
+        }
+        Ok(())
+    }
+
+    fn add_word(&mut self, alloc: Global, word: &str) -> Result<(), AllocError> {
+        self.words.push(String::from_str(alloc, word)?)?;
+        Ok(())
+    }
+
+    fn add_byte(&mut self, byte: u8) -> Result<(), AllocError> {
+        self.input.push(byte)?;
+        Ok(())
+    }
+
+    fn add_line(&mut self, text: &str) -> Result<(), AllocError> {
+        self.input.extend_from_slice(text.as_bytes())?;
+        self.add_byte(b'\n')
+    }
+
+    /// Adds a text a number of times: the number, a blank and the text.
+    fn add_times(&mut self, rest: &str) -> Result<(), Unread> {
+        let (count, text) = rest.split_once(" ").ok_or(Unread::Line)?;
+        for _ in 0..number_of(count)? {
+            self.input.extend_from_slice(text.as_bytes())?;
+        }
+        Ok(())
+    }
+}
+
+/// Reads the call that fails and the bytes of a call.
+fn behaviour_of(text: &str) -> Result<Behaviour, Unread> {
+    let (fails, most) = text.split_once(" ").ok_or(Unread::Line)?;
+    Ok(Behaviour {
+        fails: number_of(fails)?,
+        most: number_of(most)?,
+    })
+}
+
+fn number_of(text: &str) -> Result<u64, Unread> {
+    text.parse().map_err(|_| Unread::Line)
+}

@@ -1,0 +1,71 @@
+use crate::cases::{Behaviour, Case};
+use day_clock::{BytesSink, BytesSource, Source};
+use device_states::{CalmBench, Device};
+use home_types::{Bytes, List, NoMemory};
+use hub_commands::{Finish, still_command};
+use std::alloc::{AllocError, Global};
+use std::fmt::Write as _;
+use std::io::{self, Write};
+
+/// Makes the call of a case, and writes its end: the status, the fault's text, how many bytes of the input were left, how
+/// many windows and devices came back, and what the sink holds.
+pub fn write_outcome<W: Write>(alloc: Global, case: &Case, out: &mut W) -> io::Result<()> {
+    let Ok((mut source, mut sink)) = ends_of(alloc, case) else {
+        return Err(io::Error::from(io::ErrorKind::OutOfMemory));
+    };
+    let words = case.words.as_slice();
+    let finish = still_command(alloc, words, &mut source, &mut sink, &mut CalmBench);
+    let left = left_of(&mut source);
+    let mut text = format!(in alloc; "case {}\n", case.name)?;
+    push_end(&mut text, &finish)?;
+    write!(text, "left {left}\nrecord {}\n", sink.held().len())?;
+    out.write_all(text.as_bytes())?;
+    out.write_all(sink.held())?;
+    out.write_all(b"\n")
+}
+
+/// The source and the sink of a case.
+fn ends_of(alloc: Global, case: &Case) -> Result<(BytesSource, BytesSink), NoMemory> {
+    let input = Bytes::of(alloc, case.input.as_slice())?;
+    let source = BytesSource::new(input, failing(alloc, case.source)?, case.source.most.max(1));
+    let sink = BytesSink::new(
+        alloc,
+        case.room,
+        failing(alloc, case.sink)?,
+        case.sink.most.max(1),
+    )?;
+    Ok((source, sink))
+}
+
+fn failing(alloc: Global, behaviour: Behaviour) -> Result<List<u64>, NoMemory> {
+    List::of(alloc, &[behaviour.fails])
+}
+
+/// How many bytes the source still has. A call that fails takes none.
+fn left_of(source: &mut BytesSource) -> u64 {
+    let mut piece = [0u8; 4096];
+    let mut left = 0u64;
+    for _ in 0..u64::MAX {
+        match source.read(&mut piece) {
+            Ok(0) => break,
+            Ok(count) => left = left.saturating_add(count as u64),
+            Err(_) => {}
+        }
+    }
+    left
+}
+
+fn push_end<Dev: Device>(text: &mut String, finish: &Finish<Dev>) -> Result<(), AllocError> {
+    writeln!(text, "status {}", finish.status)?;
+    if let Some(fault) = &finish.fault {
+        writeln!(text, "fault {fault}")?;
+    }
+    let Some(day) = &finish.day else {
+        return writeln!(text, "no day");
+    };
+    let windows = day.windows.len();
+    match &day.devices {
+        Some(devices) => writeln!(text, "day windows {windows} devices {}", devices.len()),
+        None => writeln!(text, "day windows {windows} no devices"),
+    }
+}
