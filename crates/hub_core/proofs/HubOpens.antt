@@ -227,9 +227,10 @@ first_kept {D = D} tag stands turns probes faults home roster mode rounds known 
 
 -- .. and has its room
 pub first_room : {D : Type 0} (home : HomeState D) (roster : Roster) (mode : Mode) (rounds spare : ℕ) (known : List DeviceProgress) (closing : ClosingLists)
-    → length home.devices ≡ length home.world → entries_of_a_run * length roster.runs.items ≤ spare → IsClosingRoom (length home.devices) closing → HasRoomLeft (first_hub home roster mode rounds known) spare closing
+    → length home.devices ≡ length home.world → entries_of_a_run * length roster.runs.items ≤ spare → IsClosingRoom (length home.devices) (length roster.runs.items) closing → HasRoomLeft (first_hub home roster mode rounds known) spare closing
 first_room home roster mode rounds spare known closing size enough room = record {
   history = let same : length (runs_of roster) ≡ length roster.runs.items = length-map roster.runs.items plain_run in rw same (omega (arith, enough));
+  order = let same : length (runs_of roster) ≡ length roster.runs.items = length-map roster.runs.items plain_run in rw same room.order;
   last = rw (← size) room.last;
   world = rw (← size) room.world;
   turns = rw (← size) room.turns;

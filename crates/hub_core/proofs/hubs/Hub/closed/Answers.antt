@@ -13,32 +13,32 @@ use Rattle.std.proofs.Common.{None, ap, subst, sym, ◌+◌, ◌≡◌, ◌∙�
 pub close-devices-requires : goal.close-devices-requires
 close-devices-requires g c =
     let quiet = subst (λ (t : OpenHub g.row.D.Denot). not_quiet (configuration_of t) ≡ None) (sym c.self.view_is) c.requires.quiet in
-    record { home = all_are_home g.D.Device.stands g.D.Device.turns g.D.Device.probes g.D.Device.faults _ c.self.invariant.0 quiet }
+    record { home = all_are_home g.D.Device.stands g.D.Device.turns g.D.Device.probes g.D.Device.faults _ c.self.invariant.0.0 quiet }
 
 pub turns_in-requires-clause-fell : goal.turns_in-requires-clause-fell
 turns_in-requires-clause-fell g c =
     let quiet = subst (λ (t : OpenHub g.row.D.Denot). not_quiet (configuration_of t) ≡ None) (sym c.self.view_is) c.requires.quiet in
-    let closes : Closes g.D.Device.tag g.D.Device.stands g.D.Device.turns g.D.Device.probes g.D.Device.faults (record { setting = c.self.inside.history.setting; rounds = c.self.inside.rounds; opened = c.self.inside.opened; history = c.self.inside.history.history; moment = c.self.inside.moment; devices = c.self.inside.devices.items; places = c.self.inside.gate.places; tickets = c.self.inside.gate.tickets }) c.close-devices.result.items = record { kept = c.self.invariant.0; quiet = quiet; places = c.close-devices.ensures.devices; numbered = c.close-devices.ensures.numbers } in
+    let closes : Closes g.D.Device.tag g.D.Device.stands g.D.Device.turns g.D.Device.probes g.D.Device.faults (record { setting = c.self.inside.history.setting; rounds = c.self.inside.rounds; opened = c.self.inside.opened; history = c.self.inside.history.history; moment = c.self.inside.moment; devices = c.self.inside.devices.items; places = c.self.inside.gate.places; tickets = c.self.inside.gate.tickets }) c.close-devices.result.items = record { kept = c.self.invariant.0.0; quiet = quiet; places = c.close-devices.ensures.devices; numbered = c.close-devices.ensures.numbers } in
     turns_fell _ _ _ _ _ _ _ closes
 
 pub faults_in-requires-clause-fell : goal.faults_in-requires-clause-fell
 faults_in-requires-clause-fell g c =
     let quiet = subst (λ (t : OpenHub g.row.D.Denot). not_quiet (configuration_of t) ≡ None) (sym c.self.view_is) c.requires.quiet in
-    let closes : Closes g.D.Device.tag g.D.Device.stands g.D.Device.turns g.D.Device.probes g.D.Device.faults (record { setting = c.self.inside.history.setting; rounds = c.self.inside.rounds; opened = c.self.inside.opened; history = c.self.inside.history.history; moment = c.self.inside.moment; devices = c.self.inside.devices.items; places = c.self.inside.gate.places; tickets = c.self.inside.gate.tickets }) c.close-devices.result.items = record { kept = c.self.invariant.0; quiet = quiet; places = c.close-devices.ensures.devices; numbered = c.close-devices.ensures.numbers } in
+    let closes : Closes g.D.Device.tag g.D.Device.stands g.D.Device.turns g.D.Device.probes g.D.Device.faults (record { setting = c.self.inside.history.setting; rounds = c.self.inside.rounds; opened = c.self.inside.opened; history = c.self.inside.history.history; moment = c.self.inside.moment; devices = c.self.inside.devices.items; places = c.self.inside.gate.places; tickets = c.self.inside.gate.tickets }) c.close-devices.result.items = record { kept = c.self.invariant.0.0; quiet = quiet; places = c.close-devices.ensures.devices; numbered = c.close-devices.ensures.numbers } in
     faults_fell _ _ _ _ _ _ _ closes
 
 -- the home that is left
 pub invariant_of-home : goal.invariant_of-home
 invariant_of-home g c =
     let quiet = subst (λ (t : OpenHub g.row.D.Denot). not_quiet (configuration_of t) ≡ None) (sym c.self.view_is) c.requires.quiet in
-    let closes : Closes g.D.Device.tag g.D.Device.stands g.D.Device.turns g.D.Device.probes g.D.Device.faults (record { setting = c.self.inside.history.setting; rounds = c.self.inside.rounds; opened = c.self.inside.opened; history = c.self.inside.history.history; moment = c.self.inside.moment; devices = c.self.inside.devices.items; places = c.self.inside.gate.places; tickets = c.self.inside.gate.tickets }) c.close-devices.result.items = record { kept = c.self.invariant.0; quiet = quiet; places = c.close-devices.ensures.devices; numbered = c.close-devices.ensures.numbers } in
+    let closes : Closes g.D.Device.tag g.D.Device.stands g.D.Device.turns g.D.Device.probes g.D.Device.faults (record { setting = c.self.inside.history.setting; rounds = c.self.inside.rounds; opened = c.self.inside.opened; history = c.self.inside.history.history; moment = c.self.inside.moment; devices = c.self.inside.devices.items; places = c.self.inside.gate.places; tickets = c.self.inside.gate.tickets }) c.close-devices.result.items = record { kept = c.self.invariant.0.0; quiet = quiet; places = c.close-devices.ensures.devices; numbered = c.close-devices.ensures.numbers } in
     home_left _ _ _ _ _ _ _ c.history.inside.kinds.items c.stands_in-2.result.items closes (ap (λ (h : HistoryState). h.setting.kinds) c.history.view_is) c.stands_in-2.ensures
 
 -- and the record
 pub returns : goal.returns
 returns g c =
     let quiet = subst (λ (t : OpenHub g.row.D.Denot). not_quiet (configuration_of t) ≡ None) (sym c.self.view_is) c.requires.quiet in
-    let closes : Closes g.D.Device.tag g.D.Device.stands g.D.Device.turns g.D.Device.probes g.D.Device.faults (record { setting = c.self.inside.history.setting; rounds = c.self.inside.rounds; opened = c.self.inside.opened; history = c.self.inside.history.history; moment = c.self.inside.moment; devices = c.self.inside.devices.items; places = c.self.inside.gate.places; tickets = c.self.inside.gate.tickets }) c.close-devices.result.items = record { kept = c.self.invariant.0; quiet = quiet; places = c.close-devices.ensures.devices; numbered = c.close-devices.ensures.numbers } in
+    let closes : Closes g.D.Device.tag g.D.Device.stands g.D.Device.turns g.D.Device.probes g.D.Device.faults (record { setting = c.self.inside.history.setting; rounds = c.self.inside.rounds; opened = c.self.inside.opened; history = c.self.inside.history.history; moment = c.self.inside.moment; devices = c.self.inside.devices.items; places = c.self.inside.gate.places; tickets = c.self.inside.gate.tickets }) c.close-devices.result.items = record { kept = c.self.invariant.0.0; quiet = quiet; places = c.close-devices.ensures.devices; numbered = c.close-devices.ensures.numbers } in
     let closed : WindowRecord = record { mode = c.history.inside.mode; first = c.history.inside.first; history = c.into_list.result; order = c.history.inside.line; last = record { devices = c.stands_in.result }; turns = c.turns_in.result; faults = c.faults_in.result } in
     let tells : Tells g.D.Device.turns g.D.Device.faults (record { setting = c.self.inside.history.setting; rounds = c.self.inside.rounds; opened = c.self.inside.opened; history = c.self.inside.history.history; moment = c.self.inside.moment; devices = c.self.inside.devices.items; places = c.self.inside.gate.places; tickets = c.self.inside.gate.tickets }) c.close-devices.result.items closed = record {
       mode = ap (λ (h : HistoryState). h.setting.mode) c.history.view_is;

@@ -13,7 +13,7 @@ pub unreachable-requires : goal.unreachable-requires
 unreachable-requires g c =
     let there = (ap (λ s. slice_get s.places c.args.grip.slip.device.0) c.self.view_is ∙ c.requires.kept) in
     let known_is = (ap (λ s. slice_get c.self.inside.devices.items s.device.0) (sym c.slip-slip.ensures) ∙ sym c.get.ensures ∙ ap option_copied c.unwrap-known.ensures) in
-    let for = out_for_command _ _ _ _ _ c.args.grip.slip c.args.grip.task _ c.self.invariant.0 there known_is in
+    let for = out_for_command _ _ _ _ _ c.args.grip.slip c.args.grip.task _ c.self.invariant.0.0 there known_is in
     c.in_default.not-Command for.0 for.1
 
 pub device-requires : goal.device-requires
@@ -23,41 +23,41 @@ pub answer-requires-clause-run : goal.answer-requires-clause-run
 answer-requires-clause-run g c =
     let there = (ap (λ s. slice_get s.places c.args.grip.slip.device.0) c.self.view_is ∙ c.requires.kept) in
     let known_is = (ap (λ s. slice_get c.self.inside.devices.items s.device.0) (sym c.slip-slip.ensures) ∙ sym c.get.ensures ∙ ap option_copied c.unwrap-known.ensures) in
-    ap (λ s. is_run c.self.inside.history.setting.runs s.maker) c.slip-slip.ensures ∙ (for_command _ _ _ _ _ c.args.grip.slip c.args.grip.task _ c.in-Command.k c.self.invariant.0 there known_is c.in-Command.is).run
+    ap (λ s. is_run c.self.inside.history.setting.runs s.maker) c.slip-slip.ensures ∙ (for_command _ _ _ _ _ c.args.grip.slip c.args.grip.task _ c.in-Command.k c.self.invariant.0.0 there known_is c.in-Command.is).run
 
 pub answer-requires-clause-there : goal.answer-requires-clause-there
 answer-requires-clause-there g c =
     let there = (ap (λ s. slice_get s.places c.args.grip.slip.device.0) c.self.view_is ∙ c.requires.kept) in
     let known_is = (ap (λ s. slice_get c.self.inside.devices.items s.device.0) (sym c.slip-slip.ensures) ∙ sym c.get.ensures ∙ ap option_copied c.unwrap-known.ensures) in
-    rw c.slip-slip.ensures ((for_command _ _ _ _ _ c.args.grip.slip c.args.grip.task _ c.in-Command.k c.self.invariant.0 there known_is c.in-Command.is).within)
+    rw c.slip-slip.ensures ((for_command _ _ _ _ _ c.args.grip.slip c.args.grip.task _ c.in-Command.k c.self.invariant.0.0 there known_is c.in-Command.is).within)
 
 pub answer-requires-clause-room : goal.answer-requires-clause-room
 answer-requires-clause-room g c =
-    back_place _ _ _ _ c.self.inside.history _ _ _ _ c.in-Command.k _ _ _ _ _ c.args.grip c.self.invariant
+    back_place _ _ _ _ c.self.inside.history _ _ _ _ c.in-Command.k _ _ _ _ _ c.args.grip c.self.invariant.0
     (returned_as _ _ _ _ _ _ _ _ _ _ c.args.grip c.slip-slip.result c.take_in-told.result _ (ap (λ s. slice_get s.places c.args.grip.slip.device.0) c.self.view_is ∙ c.requires.kept) c.requires.maker c.slip-slip.ensures (sym c.get.ensures ∙ ap option_copied c.unwrap-known.ensures) c.in-Command.is c.take_in-told.ensures.places c.take_in-told.ensures.told c.take_in-told.ensures.called c.device.ensures c.calm.ensures)
 
 pub answer-requires-clause-few : goal.answer-requires-clause-few
 answer-requires-clause-few g c =
     let there = (ap (λ s. slice_get s.places c.args.grip.slip.device.0) c.self.view_is ∙ c.requires.kept) in
     let known_is = (ap (λ s. slice_get c.self.inside.devices.items s.device.0) (sym c.slip-slip.ensures) ∙ sym c.get.ensures ∙ ap option_copied c.unwrap-known.ensures) in
-    few_answers _ _ _ _ _ c.slip-slip.result c.args.grip.slip c.args.grip.task _ c.in-Command.k c.slip-slip.ensures c.self.invariant.0 there known_is c.in-Command.is
+    few_answers _ _ _ _ _ c.slip-slip.result c.args.grip.slip c.args.grip.task _ c.in-Command.k c.slip-slip.ensures c.self.invariant.0.0 there known_is c.in-Command.is
 
 pub invariant_of-self : goal.invariant_of-self
-invariant_of-self g c = (came_back _ _ _ _ c.self.inside.history c.answer.new.self _ _ c.self.inside.moment _ _ _ c.args.moment c.in-Command.k _ _ _ _ _ _ c.args.self.now _ c.args.grip c.one_made.result c.self.invariant c.self.view_is
+invariant_of-self g c = (came_back _ _ _ _ c.self.inside.history c.answer.new.self _ _ c.self.inside.moment _ _ _ c.args.moment c.in-Command.k _ _ _ _ _ _ c.args.self.now _ c.args.grip c.one_made.result c.self.invariant.0 c.self.view_is
     (returned_as _ _ _ _ _ _ _ _ _ _ c.args.grip c.slip-slip.result c.take_in-told.result _ (ap (λ s. slice_get s.places c.args.grip.slip.device.0) c.self.view_is ∙ c.requires.kept) c.requires.maker c.slip-slip.ensures (sym c.get.ensures ∙ ap option_copied c.unwrap-known.ensures) c.in-Command.is c.take_in-told.ensures.places c.take_in-told.ensures.told c.take_in-told.ensures.called c.device.ensures c.calm.ensures)
     (c.answer.ensures.new ∙ ap (with_entry c.self.inside.history c.slip-slip.result.maker) c.answer.ensures.entry ∙ ap₂ (λ s a. with_entry c.self.inside.history s.maker (Did (run_no s.maker) c.in-Command.k a)) c.slip-slip.ensures (c.answer_told.ensures ∙ ap answer_told c.take_in-told.ensures.told))
     c.max-self-inside.ensures c.take_in-told.ensures.tickets (c.set.ensures.items ∙ ap₂ (λ s v. slice_set c.self.inside.devices.items s.device.0 (record c.unwrap-known.result.now { held = v })) c.slip-slip.ensures (c.value_after-held.ensures ∙ ap (λ t. value_after t c.unwrap-known.result.now.held) c.task.ensures)) c.take_in-told.ensures.places
     (c.one_made.ensures ∙ ap (λ e. e ∷ []) (c.answer.ensures.entry ∙ ap₂ (λ s a. Did (run_no s.maker) c.in-Command.k a) c.slip-slip.ensures (c.answer_told.ensures ∙ ap answer_told c.take_in-told.ensures.told)))).inside
 
 pub returns-clause-given : goal.returns-clause-given
-returns-clause-given g c = (came_back _ _ _ _ c.self.inside.history c.answer.new.self _ _ c.self.inside.moment _ _ _ c.args.moment c.in-Command.k _ _ _ _ _ _ c.args.self.now _ c.args.grip c.one_made.result c.self.invariant c.self.view_is
+returns-clause-given g c = (came_back _ _ _ _ c.self.inside.history c.answer.new.self _ _ c.self.inside.moment _ _ _ c.args.moment c.in-Command.k _ _ _ _ _ _ c.args.self.now _ c.args.grip c.one_made.result c.self.invariant.0 c.self.view_is
     (returned_as _ _ _ _ _ _ _ _ _ _ c.args.grip c.slip-slip.result c.take_in-told.result _ (ap (λ s. slice_get s.places c.args.grip.slip.device.0) c.self.view_is ∙ c.requires.kept) c.requires.maker c.slip-slip.ensures (sym c.get.ensures ∙ ap option_copied c.unwrap-known.ensures) c.in-Command.is c.take_in-told.ensures.places c.take_in-told.ensures.told c.take_in-told.ensures.called c.device.ensures c.calm.ensures)
     (c.answer.ensures.new ∙ ap (with_entry c.self.inside.history c.slip-slip.result.maker) c.answer.ensures.entry ∙ ap₂ (λ s a. with_entry c.self.inside.history s.maker (Did (run_no s.maker) c.in-Command.k a)) c.slip-slip.ensures (c.answer_told.ensures ∙ ap answer_told c.take_in-told.ensures.told))
     c.max-self-inside.ensures c.take_in-told.ensures.tickets (c.set.ensures.items ∙ ap₂ (λ s v. slice_set c.self.inside.devices.items s.device.0 (record c.unwrap-known.result.now { held = v })) c.slip-slip.ensures (c.value_after-held.ensures ∙ ap (λ t. value_after t c.unwrap-known.result.now.held) c.task.ensures)) c.take_in-told.ensures.places
     (c.one_made.ensures ∙ ap (λ e. e ∷ []) (c.answer.ensures.entry ∙ ap₂ (λ s a. Did (run_no s.maker) c.in-Command.k a) c.slip-slip.ensures (c.answer_told.ensures ∙ ap answer_told c.take_in-told.ensures.told)))).given
 
 pub returns-clause-window : goal.returns-clause-window
-returns-clause-window g c = (came_back _ _ _ _ c.self.inside.history c.answer.new.self _ _ c.self.inside.moment _ _ _ c.args.moment c.in-Command.k _ _ _ _ _ _ c.args.self.now _ c.args.grip c.one_made.result c.self.invariant c.self.view_is
+returns-clause-window g c = (came_back _ _ _ _ c.self.inside.history c.answer.new.self _ _ c.self.inside.moment _ _ _ c.args.moment c.in-Command.k _ _ _ _ _ _ c.args.self.now _ c.args.grip c.one_made.result c.self.invariant.0 c.self.view_is
     (returned_as _ _ _ _ _ _ _ _ _ _ c.args.grip c.slip-slip.result c.take_in-told.result _ (ap (λ s. slice_get s.places c.args.grip.slip.device.0) c.self.view_is ∙ c.requires.kept) c.requires.maker c.slip-slip.ensures (sym c.get.ensures ∙ ap option_copied c.unwrap-known.ensures) c.in-Command.is c.take_in-told.ensures.places c.take_in-told.ensures.told c.take_in-told.ensures.called c.device.ensures c.calm.ensures)
     (c.answer.ensures.new ∙ ap (with_entry c.self.inside.history c.slip-slip.result.maker) c.answer.ensures.entry ∙ ap₂ (λ s a. with_entry c.self.inside.history s.maker (Did (run_no s.maker) c.in-Command.k a)) c.slip-slip.ensures (c.answer_told.ensures ∙ ap answer_told c.take_in-told.ensures.told))
     c.max-self-inside.ensures c.take_in-told.ensures.tickets (c.set.ensures.items ∙ ap₂ (λ s v. slice_set c.self.inside.devices.items s.device.0 (record c.unwrap-known.result.now { held = v })) c.slip-slip.ensures (c.value_after-held.ensures ∙ ap (λ t. value_after t c.unwrap-known.result.now.held) c.task.ensures)) c.take_in-told.ensures.places

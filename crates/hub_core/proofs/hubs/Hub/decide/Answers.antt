@@ -2,7 +2,7 @@ use Rattle.hub_core.proofs.HubChoices.{hub_commands, hub_commits}
 use Rattle.hub_core.proofs.hubs.Hub.decide.Goals as goal
 
 pub returns-in-None : goal.returns-in-None
-returns-in-None g c = hub_commits g.D.Device.stands g.D.Device.turns g.D.Device.probes g.D.Device.faults _ _ c.args.r.0 c.args.moment c.progress-progress.result c.self.view_is c.self.invariant.0 c.if-not-has_run.ensures c.progress-progress.ensures c.in_default.is c.in_default-grip_of.ensures c.if-is_none.ensures c.if-not-progress.false c.in-None.ensures
+returns-in-None g c = hub_commits g.D.Device.stands g.D.Device.turns g.D.Device.probes g.D.Device.faults _ _ c.args.r.0 c.args.moment c.progress-progress.result c.self.view_is c.self.invariant.0.0 c.if-not-has_run.ensures c.progress-progress.ensures c.in_default.is c.in_default-grip_of.ensures c.if-is_none.ensures c.if-not-progress.false c.in-None.ensures
 
 pub returns-in-Some-next_command : goal.returns-in-Some-next_command
-returns-in-Some-next_command g c = hub_commands g.D.Device.stands g.D.Device.turns g.D.Device.probes g.D.Device.faults _ _ c.args.r.0 c.args.moment c.progress-progress.result c.in-Some-next_command.command _ c.self.view_is c.self.invariant.0 c.if-not-has_run.ensures c.progress-progress.ensures c.in_default.is c.in_default-grip_of.ensures c.if-is_none.ensures c.if-not-progress.false c.in-Some-next_command.ensures (c.decide_command.ensures _)
+returns-in-Some-next_command g c = hub_commands g.D.Device.stands g.D.Device.turns g.D.Device.probes g.D.Device.faults _ _ c.args.r.0 c.args.moment c.progress-progress.result c.in-Some-next_command.command _ c.self.view_is c.self.invariant.0.0 c.if-not-has_run.ensures c.progress-progress.ensures c.in_default.is c.in_default-grip_of.ensures c.if-is_none.ensures c.if-not-progress.false c.in-Some-next_command.ensures (c.decide_command.ensures _)
