@@ -1,9 +1,12 @@
 -- The line and the table of a hub, in its steps.
 use Rattle.command_rules.specs.Rosters.{Run, command_at, commands_of, follows, followed_by, is_run, run_no, runs_of, touches}
 use Rattle.commit_compaction.specs.Commits.{committed_lineage}
+use Rattle.device_gate.specs.declared.gates.Place.TheVariants.{Home, Out}
 use Rattle.device_gate.specs.declared.gates.Place.{Place}
+use Rattle.device_gate.specs.declared.slips.Slip.{Slip}
+use Rattle.device_gate.specs.declared.slips.Task.{Task}
 use Rattle.history_book.specs.Histories.{entries_of, kept_by, reading}
-use Rattle.history_book.specs.Readings.{Reading, is_live, put}
+use Rattle.history_book.specs.Readings.{Reading, is_live, next_of, put}
 use Rattle.history_book.specs.Settings.{Setting, is_device}
 use Rattle.history_book.specs.WellFormed.{IsWellFormed, may_follow}
 use Rattle.history_book.specs.declared.entries.End.TheVariants.{Committed}
@@ -14,29 +17,32 @@ use Rattle.home_types.specs.declared.items.Item.TheVariants.{Ran}
 use Rattle.home_types.specs.declared.commands.Command.{Command}
 use Rattle.home_types.specs.declared.numbers.RunNo.{RunNo}
 use Rattle.hub_core.proofs.HubChanges.{Going, InsideIsKept, Making, entry_made, hub_of, making}
+use Rattle.hub_core.proofs.HubOuts.{IsHandedOut, device_within, handed_out}
+use Rattle.hub_core.proofs.HubStates.{grips_set}
 use Rattle.hub_core.proofs.Sizes.{history_fits}
-use Rattle.hub_core.proofs.OrderSteps.{last_follows, order_arrived, order_committed, order_placed}
+use Rattle.hub_core.proofs.OrderSteps.{last_follows, order_out}
 use Rattle.hub_core.proofs.StageFacts.{reads_plainly}
 use Rattle.hub_core.specs.HubKept.{ConfigurationIsKept}
 use Rattle.hub_core.specs.HubsKept.{HubIsKept}
 use Rattle.hub_core.specs.KeptOrders.{OrderIsBeside}
-use Rattle.hub_core.specs.OpenHubs.{OpenHub, configuration_of, held_in}
+use Rattle.hub_core.specs.OpenHubs.{OpenHub, configuration_of, device_at, grip_in, held_in, purpose_of}
 use Rattle.hub_core.specs.Openings.{MayOpen, names_values_of}
-use Rattle.hub_core.specs.Steps.{Moves, choice_of}
+use Rattle.hub_core.specs.Steps.{HandsOut, Moves, choice_of}
 use Rattle.hub_core.specs.declared.hubs.ClosingLists.{ClosingLists}
 use Rattle.hub_core.specs.declared.known.DeviceProgress.{DeviceProgress}
+use Rattle.hub_core.specs.declared.purposes.Purpose.{Purpose as KeptPurpose}
 use Rattle.hub_core.specs.ReadHistories.{HistoryState, read_in, with_entry}
 use Rattle.home_types.specs.Kinds.{kind_at}
 use Rattle.lineage_table.specs.Accesses.{IsDisciplined}
 use Rattle.lineage_table.specs.Lineages.{LineageState, accesses_at, lineage_at, no_lineage}
-use Rattle.lock_leasing.specs.Configurations.{Configuration, Grips, read_of}
+use Rattle.lock_leasing.specs.Configurations.{Commands, Configuration, Grip, Grips, Purpose, is_command, read_of}
 use Rattle.lock_leasing.specs.Standings.{IsRosterFor, IsStandingOf}
 use Rattle.lock_leasing.specs.Tables.{Represents}
-use Rattle.serial_line.specs.Marks.{Mark, Marked, stands}
+use Rattle.serial_line.specs.Marks.{Mark, Marked, stands, touching}
 use Rattle.std.proofs.Common.{ap, arith, inl, inr, length-append, refl, subst, sym, ◌∙◌}
 use Rattle.std.proofs.lemmas.Grind.{common_steps}
 use Rattle.std.proofs.lemmas.List.{length-map}
-use Rattle.std.specs.Prelude.{Bool, IsTrue, List, None, Some, [], false, is_none, is_some, length, max, nat_lt, slice_get, slice_index_or, suc, true, zero, ℕ, ◌&&◌, ◌*◌, ◌++◌, ◌+◌, ◌<◌, ◌∷◌, ◌≡◌, ◌≤◌, ◌⊎◌}
+use Rattle.std.specs.Prelude.{Bool, IsTrue, List, None, Option, Some, [], false, if◌then◌else◌, is_none, is_some, length, max, nat_lt, slice_get, slice_index_or, slice_set, suc, true, zero, ℕ, ◌&&◌, ◌*◌, ◌++◌, ◌+◌, ◌<◌, ◌∷◌, ◌≡◌, ◌≤◌, ◌⊎◌}
 use Rattle.window_order.proofs.Disciplined.{disciplined}
 use Rattle.window_order.proofs.PlacedTables.{new_on}
 use Rattle.window_order.proofs.PromisedClauses.{open_runs_last}
@@ -168,3 +174,48 @@ hub_joins {D = D} stands turns probes faults h rounds opened moment r m devices 
 -- the line of a window has as many items as its marks
 pub standing_size : (s : Configuration) (table : List LineageState) (line : List Mark) (history : List Kept) (runs : List Run) → IsStandingOf s table line history runs → length line ≡ length (read_of s).line
 standing_size s table line history runs parts = sym (length-map line (λ (x : Mark). x.item)) ∙ ap length parts.its_line.items
+
+-- A device goes out
+
+-- the line's run that is handed the device out, one of the 256 that a home may have
+pub record MayMark (r d : ℕ) (marks : List Mark) : Type 0 where
+  pub stands : stands (Ran (run_no r)) marks ≡ true
+  pub device : d < 256
+
+pub may_mark : (s : Configuration) (rounds opened : ℕ) (held : ℕ → ℕ) (r m d : ℕ) (purpose : Purpose) (marks : List Mark) → ConfigurationIsKept s rounds opened held → choice_of s r m ≡ HandsOut d purpose → MarksAreKept (read_of s) s.grips marks → MayMark r d marks
+may_mark s rounds opened held r m d purpose marks k chose line_is = record {
+  stands = live_stands s.setting (read_of s) s.grips r marks (read_hub s rounds opened held k) out.live line_is;
+  device = let within : d < length s.setting.first = device_within s.setting d out.device in let few : length s.setting.first ≤ 256 = k.opens.few_devices in omega (arith, within, few);
+}
+  where
+    out : IsHandedOut s r d purpose
+    out = handed_out s rounds opened held r m d purpose k chose
+
+-- line and table when the device has gone out
+pub order_went : {D : Type 0} (h : HistoryState) (rounds opened moment r m d tickets : ℕ) (devices devices₂ : List DeviceProgress) (places places₂ : List (Place D)) (purpose : KeptPurpose) (slip : Slip) (task : Task) (known : DeviceProgress) (line after : Marked) (table later : List LineageState)
+    → ConfigurationIsKept (configuration_of (hub_of h rounds opened moment devices places tickets)) rounds opened (held_in (hub_of h rounds opened moment devices places tickets))
+    → choice_of (configuration_of (hub_of h rounds opened moment devices places tickets)) r m ≡ HandsOut d (purpose_of purpose)
+    → places₂ ≡ slice_set places d (Out slip task) → devices₂ ≡ slice_set devices d (record known { purpose = purpose }) → slip.maker ≡ r → d < length places → d < length devices
+    → after.marks ≡ (if is_command (purpose_of purpose) then touching r d line.marks else line.marks) → after.spare ≡ line.spare → later ≡ table
+    → OrderIsBeside h (λ e. grip_in (slice_get places e) (device_at devices e).purpose) line table → OrderIsBeside h (λ e. grip_in (slice_get places₂ e) (device_at devices₂ e).purpose) after later
+order_went {D = D} h rounds opened moment r m d tickets devices devices₂ places places₂ purpose slip task known line after table later k chose sent set_is maker within within_devices marks spare same order =
+    order_out h g (λ e. grip_in (slice_get places₂ e) (device_at devices₂ e).purpose) r d (next_of (read_in h) r) line after table later (unheld (g d) out.home) gone (marks ∙ ap (λ p. if is_command p then touching r d line.marks else line.marks) out.is) spare same order
+  where
+    s : Configuration
+    s = configuration_of (hub_of h rounds opened moment devices places tickets)
+
+    g : Grips
+    g e = grip_in (slice_get places e) (device_at devices e).purpose
+
+    out : IsHandedOut s r d (purpose_of purpose)
+    out = handed_out s rounds opened (held_in (hub_of h rounds opened moment devices places tickets)) r m d (purpose_of purpose) k chose
+
+    unheld : (o : Option Grip) → is_some o ≡ false → o ≡ None
+    unheld None e = refl
+    unheld (Some x) e = absurd (cc)
+
+    gone : ◌≡◌ {A = Grips} (λ e. grip_in (slice_get places₂ e) (device_at devices₂ e).purpose) (put g d (Some (record { maker = r; purpose = Commands (next_of (read_in h) r) })))
+    gone =
+        (λ i e. grip_in (slice_get (sent i) e) (device_at (set_is i) e).purpose)
+        ∙ grips_set places devices d (Out slip task) (record known { purpose = purpose }) within within_devices
+        ∙ (λ i. put g d (Some (record { maker = maker i; purpose = out.is i })))
