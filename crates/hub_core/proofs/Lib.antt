@@ -32,3 +32,4 @@ pub mod PlannedInTurn
 pub mod NotedAnswers
 pub mod OrderSteps
 pub mod HubOrders
+pub mod ReturnedOrders

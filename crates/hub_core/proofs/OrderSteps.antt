@@ -46,7 +46,7 @@ use Rattle.history_book.specs.Readings.{is_told}
 
 -- One entry more
 
-read_more : (w : Setting) (h : List Kept) (maker : ℕ) (e : Entry) → reading w (entries_of (h ++ kept_by maker (e ∷ []))) ≡ entry w (reading w (entries_of h)) e
+pub read_more : (w : Setting) (h : List Kept) (maker : ℕ) (e : Entry) → reading w (entries_of (h ++ kept_by maker (e ∷ []))) ≡ entry w (reading w (entries_of h)) e
 read_more w h maker e = ap (reading w) (entries_on h maker (e ∷ [])) ∙ reading_more w (entries_of h) e
 
 -- the last entry may stand where it stands
