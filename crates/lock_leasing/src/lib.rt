@@ -3,6 +3,8 @@
 
 pub mod first_places;
 pub mod standings;
+#[cfg(test)]
+mod tests;
 pub mod touches;
 
 pub use first_places::first_place;
