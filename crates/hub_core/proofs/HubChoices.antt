@@ -31,7 +31,7 @@ use Rattle.lock_leasing.specs.declared.touches.Touch.TheVariants.{Behind as Touc
 use Rattle.lock_leasing.specs.declared.touches.Touch.{Touch}
 use Rattle.serial_line.specs.Marks.{Mark}
 use Rattle.std.proofs.Common.{ap, refl, subst, sym, ◌∙◌}
-use Rattle.std.specs.Prelude.{Bool, List, None, Option, Some, [], false, is_none, is_some, length, max, option_map, true, unwrap_or, ℕ, ◌&&◌, ◌<◌, ◌==◌, ◌∷◌, ◌≡◌}
+use Rattle.std.specs.Prelude.{List, None, Option, Some, [], false, is_none, is_some, length, max, option_map, true, unwrap_or, ℕ, ◌&&◌, ◌<◌, ◌==◌, ◌∷◌, ◌≡◌}
 use Rattle.visibility_models.specs.Models.{IsStrictWaitOf, under}
 use Rattle.window_order.proofs.Steps.{next_is}
 
@@ -209,12 +209,15 @@ hub_commands {D = D} stands turns probes faults s t r m p c x same k run known g
 pub hub_at_command : {D : Type 0} (stands turns probes faults : D → ℕ) (s t : OpenHub D) (r : ℕ) (p : RunProgress) (c : Command) → s ≡ t → HubIsKept stands turns probes faults s → p ≡ progress_of ((read_of (configuration_of s)).run r) → p.ended ≡ None → p.placed ≡ true → Some c ≡ next_command s.setting (read_of (configuration_of s)) r
     → IsAtCommand (configuration_of t) r p.answered × (command_at t.setting.runs r p.answered ≡ c)
 hub_at_command {D = D} stands turns probes faults s t r p c same k known going placed next =
-    subst (λ (x : OpenHub D). IsAtCommand (configuration_of x) r p.answered × (command_at x.setting.runs r p.answered ≡ c)) same (record {
-      live = λ i. (ap (λ (x : RunProgress). x.placed) (sym known) ∙ placed) i && is_none ((ap (λ (x : RunProgress). x.ended) (sym known) ∙ going) i);
-      sound = ap is_some ((steps_plainly (configuration_of s) s.rounds s.opened (held_in s) k.configuration).read.runs r).sound;
-      next = sym (ap (λ (x : RunProgress). x.answered) known);
-      command = subst (λ y. y < length (commands_of s.setting.runs r)) (sym (ap (λ (x : RunProgress). x.answered) known)) there.0;
-    }, ap (λ (x : RunProgress). command_at s.setting.runs r x.answered) known ∙ there.1)
+    subst (λ (x : OpenHub D). IsAtCommand (configuration_of x) r p.answered × (command_at x.setting.runs r p.answered ≡ c)) same (
+      record {
+        live = λ i. (ap (λ (x : RunProgress). x.placed) (sym known) ∙ placed) i && is_none ((ap (λ (x : RunProgress). x.ended) (sym known) ∙ going) i);
+        sound = ap is_some ((steps_plainly (configuration_of s) s.rounds s.opened (held_in s) k.configuration).read.runs r).sound;
+        next = sym (ap (λ (x : RunProgress). x.answered) known);
+        command = subst (λ y. y < length (commands_of s.setting.runs r)) (sym (ap (λ (x : RunProgress). x.answered) known)) there.0;
+      },
+      ap (λ (x : RunProgress). command_at s.setting.runs r x.answered) known ∙ there.1,
+    )
   where
     there : (next_of (read_of (configuration_of s)) r < length (commands_of s.setting.runs r)) × (command_at s.setting.runs r (next_of (read_of (configuration_of s)) r) ≡ c)
     there = next_is (commands_of s.setting.runs r) (next_of (read_of (configuration_of s)) r) c (sym next)

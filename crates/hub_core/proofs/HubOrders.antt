@@ -1,21 +1,17 @@
 -- The line and the table of a hub, in its steps.
-use Rattle.command_rules.specs.Rosters.{Run, command_at, commands_of, follows, followed_by, is_run, run_no, runs_of, touches}
-use Rattle.commit_compaction.specs.Commits.{committed_lineage}
-use Rattle.device_gate.specs.declared.gates.Place.TheVariants.{Home, Out}
+use Rattle.command_rules.specs.Rosters.{Run, run_no, touches}
+use Rattle.device_gate.specs.declared.gates.Place.TheVariants.{Out}
 use Rattle.device_gate.specs.declared.gates.Place.{Place}
 use Rattle.device_gate.specs.declared.slips.Slip.{Slip}
 use Rattle.device_gate.specs.declared.slips.Task.{Task}
-use Rattle.history_book.specs.Histories.{entries_of, kept_by, reading}
-use Rattle.history_book.specs.Readings.{Reading, is_live, next_of, put}
-use Rattle.history_book.specs.Settings.{Setting, is_device}
-use Rattle.history_book.specs.WellFormed.{IsWellFormed, may_follow}
-use Rattle.history_book.specs.declared.entries.End.TheVariants.{Committed}
-use Rattle.history_book.specs.declared.entries.Entry.TheVariants.{Arrived, Did, Ended, Placed}
+use Rattle.history_book.specs.Histories.{entries_of, kept_by}
+use Rattle.history_book.specs.Readings.{Reading, next_of, put}
+use Rattle.history_book.specs.Settings.{Setting}
+use Rattle.history_book.specs.WellFormed.{may_follow}
+use Rattle.history_book.specs.declared.entries.Entry.TheVariants.{Placed}
 use Rattle.history_book.specs.declared.entries.Entry.{Entry}
 use Rattle.history_book.specs.declared.entries.Kept.{Kept}
 use Rattle.home_types.specs.declared.items.Item.TheVariants.{Ran}
-use Rattle.home_types.specs.declared.commands.Command.{Command}
-use Rattle.home_types.specs.declared.numbers.RunNo.{RunNo}
 use Rattle.hub_core.proofs.HubChanges.{Going, InsideIsKept, Making, entry_made, hub_of, making}
 use Rattle.hub_core.proofs.HubOuts.{IsHandedOut, device_within, handed_out}
 use Rattle.hub_core.proofs.HubStates.{grips_set}
@@ -31,18 +27,17 @@ use Rattle.hub_core.specs.Steps.{HandsOut, Moves, choice_of}
 use Rattle.hub_core.specs.declared.hubs.ClosingLists.{ClosingLists}
 use Rattle.hub_core.specs.declared.known.DeviceProgress.{DeviceProgress}
 use Rattle.hub_core.specs.declared.purposes.Purpose.{Purpose as KeptPurpose}
-use Rattle.hub_core.specs.ReadHistories.{HistoryState, read_in, with_entry}
+use Rattle.hub_core.specs.ReadHistories.{HistoryState, read_in}
 use Rattle.home_types.specs.Kinds.{kind_at}
 use Rattle.lineage_table.specs.Accesses.{IsDisciplined}
 use Rattle.lineage_table.specs.Lineages.{LineageState, accesses_at, lineage_at, no_lineage}
 use Rattle.lock_leasing.specs.Configurations.{Commands, Configuration, Grip, Grips, Purpose, is_command, read_of}
 use Rattle.lock_leasing.specs.Standings.{IsRosterFor, IsStandingOf}
-use Rattle.lock_leasing.specs.Tables.{Represents}
 use Rattle.serial_line.specs.Marks.{Mark, Marked, stands, touching}
 use Rattle.std.proofs.Common.{ap, arith, inl, inr, length-append, refl, subst, sym, ◌∙◌}
 use Rattle.std.proofs.lemmas.Grind.{common_steps}
 use Rattle.std.proofs.lemmas.List.{length-map}
-use Rattle.std.specs.Prelude.{Bool, IsTrue, List, None, Option, Some, [], false, if◌then◌else◌, is_none, is_some, length, max, nat_lt, slice_get, slice_index_or, slice_set, suc, true, zero, ℕ, ◌&&◌, ◌*◌, ◌++◌, ◌+◌, ◌<◌, ◌∷◌, ◌≡◌, ◌≤◌, ◌⊎◌}
+use Rattle.std.specs.Prelude.{Bool, List, None, Option, Some, [], false, if◌then◌else◌, is_none, is_some, length, max, nat_lt, slice_get, slice_set, suc, true, zero, ℕ, ◌&&◌, ◌*◌, ◌++◌, ◌+◌, ◌<◌, ◌∷◌, ◌≡◌, ◌≤◌, ◌⊎◌}
 use Rattle.window_order.proofs.Disciplined.{disciplined}
 use Rattle.window_order.proofs.PlacedTables.{new_on}
 use Rattle.window_order.proofs.PromisedClauses.{open_runs_last}

@@ -1,8 +1,7 @@
 -- A history with one entry more, and what is kept beside it.
-use Rattle.command_rules.specs.Rosters.{Run, command_at, is_run, run_no}
+use Rattle.command_rules.specs.Rosters.{Run, command_at, is_run}
 use Rattle.history_book.proofs.Snoc.{entries_on, put_other, put_same, reading_more}
 use Rattle.history_book.specs.Histories.{answered, entries_of, entry, reading}
-use Rattle.history_book.specs.Lines.{with_run_in}
 use Rattle.history_book.specs.Plans.{planned_times, split_of}
 use Rattle.history_book.specs.Readings.{OfRun, Reading, put}
 use Rattle.history_book.specs.Settings.{Setting}
@@ -13,19 +12,14 @@ use Rattle.history_book.specs.declared.entries.Entry.{Entry}
 use Rattle.history_book.specs.declared.entries.Kept.{Kept}
 use Rattle.home_types.specs.Commands.{register_after}
 use Rattle.home_types.specs.Kinds.{kind_at}
-use Rattle.home_types.specs.Listed.{Listed}
 use Rattle.home_types.specs.declared.commands.Answer.{Answer}
-use Rattle.home_types.specs.declared.items.Item.TheVariants.{Ran}
-use Rattle.home_types.specs.declared.items.Item.{Item}
 use Rattle.home_types.specs.declared.numbers.RunNo.{RunNo}
 use Rattle.hub_core.specs.OpenHubs.{progress_of}
 use Rattle.hub_core.specs.ReadHistories.{HistoryState, IsReadBeside, read_in}
 use Rattle.hub_core.specs.declared.known.RunProgress.{RunProgress}
-use Rattle.std.proofs.Common.{ap, ap₂, arith, inl, inr, refl, sym, ◌∙◌, ◌⊎◌}
-use Rattle.std.proofs.lemmas.List.{drop_all, length-append, length-set, take_all}
-use Rattle.std.proofs.lemmas.List.Folds.{list_all-append}
+use Rattle.std.proofs.Common.{ap, arith, inl, inr, refl, sym, ◌∙◌, ◌⊎◌}
+use Rattle.std.proofs.lemmas.List.{length-append, length-set}
 use Rattle.std.proofs.lemmas.Option.{slice_get_within}
-use Rattle.std.specs.List.{list_all}
 use Rattle.std.specs.Prelude.{Bool, IsTrue, List, None, Option, Some, [], is_none, is_some, length, not, slice_get, slice_set, suc, true, zero, ℕ, ◌++◌, ◌+◌, ◌-◌, ◌<◌, ◌∷◌, ◌≡◌, ◌≢◌, ◌≤◌, ◌||◌}
 
 -- the place that was written, or another

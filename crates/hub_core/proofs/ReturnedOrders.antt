@@ -9,7 +9,7 @@ use Rattle.device_gate.specs.declared.slips.Slip.{Slip}
 use Rattle.device_gate.specs.declared.slips.Task.TheVariants.{Drive, Sense}
 use Rattle.device_gate.specs.declared.slips.Task.{Task}
 use Rattle.history_book.proofs.Snoc.{put_same}
-use Rattle.history_book.specs.Histories.{entries_of, entry, kept_by, reading}
+use Rattle.history_book.specs.Histories.{entries_of, entry}
 use Rattle.history_book.specs.Readings.{OfRun, Reading, is_fine, is_told, next_of, pends, put}
 use Rattle.history_book.specs.Settings.{Setting}
 use Rattle.history_book.specs.WellFormed.{IsWellFormed, may_act, may_follow, suits}
@@ -26,7 +26,7 @@ use Rattle.hub_core.proofs.HubChanges.{InsideIsKept, hub_of}
 use Rattle.hub_core.proofs.HubOrders.{read_hub, sound_hub}
 use Rattle.hub_core.proofs.HubReturns.{IsForCommand, IsReturned, for_command}
 use Rattle.hub_core.proofs.HubStates.{grips_set}
-use Rattle.hub_core.proofs.OrderSteps.{ToldOf, last_follows, may_note, order_answered, read_more}
+use Rattle.hub_core.proofs.OrderSteps.{last_follows, may_note, order_answered, read_more}
 use Rattle.hub_core.specs.KeptOrders.{MayNote, OrderIsBeside, is_first}
 use Rattle.hub_core.specs.OpenHubs.{OpenHub, configuration_of, device_at, grip_in, held_in}
 use Rattle.hub_core.specs.ReadHistories.{HistoryState, read_in, with_entry}
@@ -34,13 +34,13 @@ use Rattle.hub_core.specs.Steps.{answer_told}
 use Rattle.hub_core.specs.declared.hubs.ClosingLists.{ClosingLists}
 use Rattle.hub_core.specs.declared.known.DeviceProgress.{DeviceProgress}
 use Rattle.lineage_table.specs.Lineages.{LineageState, lineage_at, with_lineage}
-use Rattle.lock_leasing.specs.Configurations.{Commands, Grip, Grips}
+use Rattle.lock_leasing.specs.Configurations.{Grips}
 use Rattle.lock_leasing.specs.Tables.{view_when}
 use Rattle.serial_line.specs.Marks.{Marked}
 use Rattle.std.proofs.Common.{ap, arith, refl, subst, sym, ◌∙◌}
 use Rattle.std.proofs.lemmas.Grind.{common_steps}
 use Rattle.std.proofs.lemmas.Option.{slice_get_within}
-use Rattle.std.specs.Prelude.{Bool, IsTrue, List, None, Option, Some, [], false, if◌then◌else◌, length, nat_lt, not, slice_get, slice_set, true, ℕ, ◌&&◌, ◌++◌, ◌+◌, ◌<◌, ◌==◌, ◌∷◌, ◌≡◌}
+use Rattle.std.specs.Prelude.{Bool, List, None, Option, Some, if◌then◌else◌, length, nat_lt, not, slice_get, slice_set, true, ℕ, ◌&&◌, ◌+◌, ◌<◌, ◌==◌, ◌≡◌}
 use Rattle.window_order.proofs.AnsweredTables.{answered_run, left_after}
 use Rattle.window_order.specs.TableChanges.{noted, told_write}
 

@@ -1,7 +1,7 @@
 use Rattle.hub_core.proofs.HubCloses.{took_next}
 use Rattle.hub_core.proofs.close_calls.items_in.Goals as goal
 use Rattle.serial_line.specs.Marks.{items_of}
-use Rattle.std.proofs.Common.{ap, arith, length, sym, ◌+◌, ◌<◌, ◌≤◌, ◌∷◌, ◌++◌, [], ◌∙◌}
+use Rattle.std.proofs.Common.{ap, arith, length, sym, ◌<◌, ◌∷◌, ◌++◌, [], ◌∙◌}
 
 pub items-preserved : goal.items-preserved
 items-preserved c =

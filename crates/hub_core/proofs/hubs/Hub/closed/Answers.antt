@@ -5,7 +5,7 @@ use Rattle.hub_core.proofs.HubCloses.{Closes, Tells, all_are_home, faults_fell, 
 use Rattle.hub_core.proofs.hubs.Hub.closed.Goals as goal
 use Rattle.hub_core.specs.HubCalls.{IsClosed}
 use Rattle.hub_core.specs.OpenHubs.{OpenHub, configuration_of}
-use Rattle.hub_core.specs.ReadHistories.{HistoryState, read_in}
+use Rattle.hub_core.specs.ReadHistories.{HistoryState}
 use Rattle.hub_core.specs.Steps.{not_quiet}
 use Rattle.std.proofs.Common.{None, ap, refl, subst, sym, ◌+◌, ◌≡◌, ◌∙◌}
 

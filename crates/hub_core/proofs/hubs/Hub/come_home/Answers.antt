@@ -51,8 +51,8 @@ invariant_of-self g c =
     let value = c.value_after-held.ensures ∙ ap (λ t. value_after t c.unwrap-known.result.now.held) c.task.ensures in
     let set_is = c.set.ensures.items ∙ ap₂ (λ s v. slice_set c.self.inside.devices.items s.device.0 (record c.unwrap-known.result.now { held = v })) c.slip-slip.ensures value in
     let inside = (came_back _ _ _ _ c.self.inside.history c.answer-entry.new.self _ _ c.self.inside.moment _ _ _ c.args.moment c.in-Command.k _ _ _ _ _ _ c.args.self.now _ c.args.grip c.one_made.result c.self.invariant.0 c.self.view_is
-        returned new c.max-self-inside.ensures c.take_in-told.ensures.tickets set_is c.take_in-told.ensures.places
-        (c.one_made.ensures ∙ ap (λ e. e ∷ []) (c.answer-entry.ensures.entry ∙ ap₂ (λ s a. Did (run_no s.maker) c.in-Command.k a) c.slip-slip.ensures told))).inside in (
+    returned new c.max-self-inside.ensures c.take_in-told.ensures.tickets set_is c.take_in-told.ensures.places
+    (c.one_made.ensures ∙ ap (λ e. e ∷ []) (c.answer-entry.ensures.entry ∙ ap₂ (λ s a. Did (run_no s.maker) c.in-Command.k a) c.slip-slip.ensures told))).inside in (
       inside,
       order_came _ _ _ _ c.self.inside.history c.answer-entry.new.self _ _ c.self.inside.moment c.self.inside.gate.tickets c.in-Command.k _ c.value_after-held.result _ _ _ _ c.self.inside.closing c.unwrap-known.result.now _ c.args.grip c.slip-slip.result c.answer_told-answer.result _ _ _ c.pends-is_last.result _ _ _ _ c.self.invariant.0 returned c.slip-slip.ensures told new inside.0.configuration.history.well_formed set_is c.take_in-told.ensures.places c.noted.ensures.view c.noted.ensures.wrote value c.noted.ensures.last c.pends-is_last.ensures c.note.ensures.line c.note.ensures.table c.self.invariant.1,
     )

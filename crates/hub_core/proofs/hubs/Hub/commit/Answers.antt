@@ -1,5 +1,5 @@
 use Rattle.history_book.specs.declared.entries.End.TheVariants.{Committed}
-use Rattle.hub_core.proofs.HubChanges.{Ending, InsideIsKept, entry_inside, place_inside}
+use Rattle.hub_core.proofs.HubChanges.{Ending, entry_inside, place_inside}
 use Rattle.hub_core.proofs.HubOrders.{read_hub}
 use Rattle.hub_core.proofs.OrderSteps.{order_committed}
 use Rattle.hub_core.proofs.hubs.Hub.commit.Goals as goal

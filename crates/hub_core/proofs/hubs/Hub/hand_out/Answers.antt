@@ -38,11 +38,14 @@ invariant_of-self g c =
     let within : c.args.d.0 < length c.self.inside.history.setting.first = (out_home _ _ _ _ _ c.args.r.0 c.args.moment c.args.d.0 _ c.self.invariant.0.0 chosen).0 in
     let places_size : length c.self.inside.gate.places ≡ length c.self.inside.history.setting.first = c.self.invariant.0.0.places_size in
     let devices_size : length c.self.inside.devices.items ≡ length c.self.inside.history.setting.first = c.self.invariant.0.0.devices_size in
-    let went = order_went c.self.inside.history _ _ c.self.inside.moment c.args.r.0 c.args.moment c.args.d.0 c.self.inside.gate.tickets _ _ _ _ c.args.purpose _ _ c.unwrap-known.result.now _ _ _ _ c.self.invariant.0.0.configuration chosen e.places c.set.ensures.items e.maker (omega (arith, within, places_size)) (omega (arith, within, devices_size)) c.touch.ensures.marks c.touch.ensures.spare c.touch.ensures.table c.self.invariant.1 in ((
-      (went_out _ _ _ _ _ c.args.self.now c.args.r.0 c.args.moment c.args.d.0 _ _ c.args.purpose c.task-task.result _ c.hand_out.result _ _ c.self.invariant.0.0 c.self.view_is c.requires c.task-task.ensures (sym c.get.ensures ∙ ap option_copied c.unwrap-known.ensures) c.max-self-inside.ensures c.set.ensures.items
-          (record { at = e.device; after_is = e.places; number_is = e.tickets; does = e.task; device = ap (λ x. x.0) e.number; maker = e.maker; stood = e.stood; had_turns = e.turns; had_probes = e.probes; had_faults = e.faults })).kept,
-      record { history = c.self.invariant.0.1.history; order = c.self.invariant.0.1.order; last = c.self.invariant.0.1.last; world = c.self.invariant.0.1.world; turns = c.self.invariant.0.1.turns; faults = c.self.invariant.0.1.faults },
-    ), went)
+    let went = order_went c.self.inside.history _ _ c.self.inside.moment c.args.r.0 c.args.moment c.args.d.0 c.self.inside.gate.tickets _ _ _ _ c.args.purpose _ _ c.unwrap-known.result.now _ _ _ _ c.self.invariant.0.0.configuration chosen e.places c.set.ensures.items e.maker (omega (arith, within, places_size)) (omega (arith, within, devices_size)) c.touch.ensures.marks c.touch.ensures.spare c.touch.ensures.table c.self.invariant.1 in (
+      (
+        (went_out _ _ _ _ _ c.args.self.now c.args.r.0 c.args.moment c.args.d.0 _ _ c.args.purpose c.task-task.result _ c.hand_out.result _ _ c.self.invariant.0.0 c.self.view_is c.requires c.task-task.ensures (sym c.get.ensures ∙ ap option_copied c.unwrap-known.ensures) c.max-self-inside.ensures c.set.ensures.items
+            (record { at = e.device; after_is = e.places; number_is = e.tickets; does = e.task; device = ap (λ x. x.0) e.number; maker = e.maker; stood = e.stood; had_turns = e.turns; had_probes = e.probes; had_faults = e.faults })).kept,
+        record { history = c.self.invariant.0.1.history; order = c.self.invariant.0.1.order; last = c.self.invariant.0.1.last; world = c.self.invariant.0.1.world; turns = c.self.invariant.0.1.turns; faults = c.self.invariant.0.1.faults },
+      ),
+      went,
+    )
 
 pub returns-clause-out : goal.returns-clause-out
 returns-clause-out g c =

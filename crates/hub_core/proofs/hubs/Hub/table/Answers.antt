@@ -3,7 +3,7 @@ use Rattle.hub_core.proofs.hubs.Hub.table.Goals as goal
 use Rattle.hub_core.specs.OpenHubs.{OpenHub, configuration_of}
 use Rattle.lock_leasing.specs.Configurations.{read_of}
 use Rattle.lock_leasing.specs.Tables.{Represents}
-use Rattle.std.proofs.Common.{ap, subst}
+use Rattle.std.proofs.Common.{subst}
 
 pub returns-clause-represents : goal.returns-clause-represents
 returns-clause-represents g c =
