@@ -116,6 +116,7 @@ pub room_made : {D : Type 0} (s : OpenHub D) (x : List Kept) (k : Kept) (m spare
 room_made s x k m spare closing more some room =
     record {
       history = let long : length x ≡ length s.history + 1 = ap (λ y. length y) more ∙ length-append s.history (k ∷ []) in let enough : 132 * length s.setting.runs ≤ spare + length s.history = room.history in omega (arith, long, enough, some);
+      order = room.order;
       last = room.last;
       world = room.world;
       turns = room.turns;
@@ -134,7 +135,7 @@ InsideIsKept stands turns probes faults h rounds opened moment devices places ti
 pub reached_inside : {D : Type 0} (stands turns probes faults : D → ℕ) (h : HistoryState) (rounds opened moment m : ℕ) (devices : List DeviceProgress) (places : List (Place D)) (tickets : ℕ) (closing : ClosingLists)
     → InsideIsKept stands turns probes faults h rounds opened moment devices places tickets closing → InsideIsKept stands turns probes faults h rounds opened (max moment m) devices places tickets closing
 reached_inside stands turns probes faults h rounds opened moment m devices places tickets closing k =
-    (reached stands turns probes faults (hub_of h rounds opened moment devices places tickets) m k.0, record { history = k.1.history; last = k.1.last; world = k.1.world; turns = k.1.turns; faults = k.1.faults })
+    (reached stands turns probes faults (hub_of h rounds opened moment devices places tickets) m k.0, record { history = k.1.history; order = k.1.order; last = k.1.last; world = k.1.world; turns = k.1.turns; faults = k.1.faults })
 
 -- the history has a place for the entry that a step makes
 pub place_inside : {D : Type 0} (stands turns probes faults : D → ℕ) (h : HistoryState) (rounds opened moment r m : ℕ) (devices : List DeviceProgress) (places : List (Place D)) (tickets : ℕ) (closing : ClosingLists) (s : OpenHub D) (e : Entry) (c : Making)

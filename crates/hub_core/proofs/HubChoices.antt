@@ -1,23 +1,20 @@
 -- What the code finds in each case of a step is the choice of the step.
-use Rattle.command_rules.specs.Rosters.{is_run, run_no}
+use Rattle.command_rules.specs.Rosters.{Run, command_at, commands_of, is_run, run_no}
 use Rattle.device_gate.specs.Places.{slip_of}
 use Rattle.device_gate.specs.declared.gates.Place.TheVariants.{Home, Out}
 use Rattle.device_gate.specs.declared.gates.Place.{Place}
 use Rattle.device_gate.specs.declared.slips.Slip.{Slip}
-use Rattle.history_book.specs.Lines.{before}
-use Rattle.history_book.specs.Readings.{Reading, has_written, is_live, next_command, next_of, pends, sees_down}
+use Rattle.history_book.specs.Readings.{Reading, next_command, next_of}
 use Rattle.history_book.specs.Settings.{Setting}
 use Rattle.history_book.specs.declared.entries.End.TheVariants.{Committed}
 use Rattle.history_book.specs.declared.entries.End.{End}
 use Rattle.history_book.specs.declared.entries.Entry.TheVariants.{Arrived, Ended, Placed}
-use Rattle.home_types.specs.Commands.{reads}
+use Rattle.history_book.specs.declared.entries.Kept.{Kept}
 use Rattle.home_types.specs.declared.commands.Command.{Command}
-use Rattle.home_types.specs.declared.items.Item.TheVariants.{Back, Failed, Ran}
-use Rattle.home_types.specs.declared.items.Item.{Item}
+use Rattle.home_types.specs.declared.modes.Visibility.{Visibility}
 use Rattle.home_types.specs.declared.numbers.DeviceNo.{DeviceNo}
 use Rattle.home_types.specs.declared.numbers.RunNo.{RunNo}
 use Rattle.hub_core.proofs.StageChoices.{StepsPlainly, choice_plain, steps_plainly}
-use Rattle.hub_core.specs.HubKept.{CommandsAreOut}
 use Rattle.hub_core.specs.HubsKept.{HubIsKept}
 use Rattle.hub_core.specs.OpenHubs.{OpenHub, configuration_of, grip_in, held_in, progress_of}
 use Rattle.hub_core.specs.Stage.{plain_choice, plain_command}
@@ -25,13 +22,18 @@ use Rattle.hub_core.specs.Steps.{Absent, Choice, HandsOut, Moves, Over, Waits, c
 use Rattle.hub_core.specs.declared.known.RunProgress.{RunProgress}
 use Rattle.hub_core.specs.declared.purposes.Purpose.{Purpose as KeptPurpose}
 use Rattle.hub_core.specs.declared.waits.Why.TheVariants.{Behind, Busy, Dirty, Strict}
-use Rattle.lock_leasing.specs.Configurations.{Commands, Grip, Grips, Probes, Purpose, Undoes, grips_undo, is_command, is_out, is_undo, no_grips, read_of}
+use Rattle.lineage_table.specs.Lineages.{LineageState}
+use Rattle.lock_leasing.specs.Configurations.{Commands, Configuration, Grips, is_out, read_of}
+use Rattle.lock_leasing.specs.Standings.{IsAtCommand, IsStandingOf}
+use Rattle.lock_leasing.specs.Touches.{IsTouchOf, touch_of}
 use Rattle.lock_leasing.specs.Waits.{behind_wait, dirty_wait, grip_wait, strict_wait}
-use Rattle.lock_leasing.specs.Words.{Write, holds_device, live_before, live_runs, write_of}
-use Rattle.std.proofs.Common.{ap, arith, refl, subst, sym, ◌∙◌}
-use Rattle.std.proofs.lemmas.Grind.{common_steps}
-use Rattle.std.specs.Option.{option_or}
-use Rattle.std.specs.Prelude.{Bool, IsTrue, List, None, Option, Some, [], false, find, fold, if◌then◌else◌, is_none, is_some, length, max, not, option_map, true, unwrap_or, ℕ, ◌&&◌, ◌==◌, ◌||◌, ◌∷◌, ◌≡◌}
+use Rattle.lock_leasing.specs.declared.touches.Touch.TheVariants.{Behind as TouchBehind, Dirty as TouchDirty, Free}
+use Rattle.lock_leasing.specs.declared.touches.Touch.{Touch}
+use Rattle.serial_line.specs.Marks.{Mark}
+use Rattle.std.proofs.Common.{ap, refl, subst, sym, ◌∙◌}
+use Rattle.std.specs.Prelude.{List, None, Option, Some, [], false, is_none, is_some, length, max, option_map, true, unwrap_or, ℕ, ◌&&◌, ◌<◌, ◌==◌, ◌∷◌, ◌≡◌}
+use Rattle.visibility_models.specs.Models.{IsStrictWaitOf, under}
+use Rattle.window_order.proofs.Steps.{next_is}
 
 -- The grip and the slip of a place
 
@@ -46,75 +48,84 @@ out_by_slip None purpose x is = rw is refl
 out_by_slip (Some (Home device)) purpose x is = rw is refl
 out_by_slip (Some (Out slip task)) purpose x is = rw is refl
 
--- The run that is waited for
-
--- among live runs of which none is doomed, one that holds the device is one with a command there that has no answer
-holders : (w : Setting) (n : Reading) (g : Grips) (d : ℕ) (items : List Item) → ((r : ℕ) → (n.run r).doomed ≡ None)
-    → find (λ x. holds_device w n g x d) (live_runs n items) ≡ find (λ x. pends w n x d) (live_runs n items)
-holders w n g d [] sound = refl
-holders w n g d (Failed e k ∷ items) sound = holders w n g d items sound
-holders w n g d (Back e k ∷ items) sound = holders w n g d items sound
-holders w n g d (Ran r ∷ items) sound = by_live (is_live n r.0) refl (holders w n g d items sound)
-  where
-    by_pending : (b : Bool) → is_live n r.0 ≡ true → pends w n r.0 d ≡ b → find (λ x. holds_device w n g x d) (live_runs n items) ≡ find (λ x. pends w n x d) (live_runs n items)
-        → find (λ x. holds_device w n g x d) (r.0 ∷ live_runs n items) ≡ find (λ x. pends w n x d) (r.0 ∷ live_runs n items)
-    by_pending true live pending rest = rw (live, sound r.0, pending) refl
-    by_pending false live pending rest = rw (live, sound r.0, pending) rest
-
-    by_live : (b : Bool) → is_live n r.0 ≡ b → find (λ x. holds_device w n g x d) (live_runs n items) ≡ find (λ x. pends w n x d) (live_runs n items)
-        → find (λ x. holds_device w n g x d) (live_runs n (Ran r ∷ items)) ≡ find (λ x. pends w n x d) (live_runs n (Ran r ∷ items))
-    by_live true live rest = rw live (by_pending (pends w n r.0 d) live refl rest)
-    by_live false live rest = rw live rest
-
-pub behind_is : (w : Setting) (n : Reading) (g : Grips) (r d : ℕ) → StepsPlainly w n → behind_wait w n g r d ≡ find (λ x. pends w n x d) (live_before n r)
-behind_is w n g r d p = holders w n g d (before r n.line) (λ q. (p.read.runs q).sound)
-
--- where devices are out for commands alone, no write is being undone
-no_undo : (g : Grips) (q d : ℕ) → CommandsAreOut g → grips_undo g q d ≡ false
-no_undo g q d commands = by_grip (g d) refl
-  where
-    by_purpose : (m : ℕ) (p : Purpose) → IsTrue (is_command p) → ((m == q) && is_undo p) ≡ false
-    by_purpose m (Commands k) e = grind (arith, common_steps)
-    by_purpose m (Undoes v) e = absurd (cc)
-    by_purpose m (Probes v) e = absurd (cc)
-
-    by_grip : (o : Option Grip) → g d ≡ o → unwrap_or (option_map (λ p. (p.maker == q) && is_undo p.purpose) o) false ≡ false
-    by_grip None e = refl
-    by_grip (Some p) e = by_purpose p.maker p.purpose (commands d p e)
-
--- .. and the effective writes are those with no grips out
-effect_is : (n : Reading) (g : Grips) (d : ℕ) (best : Option Write) (items : List Item) → CommandsAreOut g → fold (λ b i. option_or (write_of n g d i) b) best items ≡ fold (λ b i. option_or (write_of n no_grips d i) b) best items
-effect_is n g d best [] commands = refl
-effect_is n g d best (Ran q ∷ items) commands =
-    ap (λ x. fold (λ b i. option_or (write_of n g d i) b) (option_or (if ((n.run q.0).on d).undid || x then None else option_map (λ v. record { run = q.0; value = v }) ((n.run q.0).on d).wrote) best) items) (no_undo g q.0 d commands)
-    ∙ effect_is n g d (option_or (write_of n no_grips d (Ran q)) best) items commands
-effect_is n g d best (Failed e k ∷ items) commands = effect_is n g d best items commands
-effect_is n g d best (Back e k ∷ items) commands = effect_is n g d best items commands
-
-dirty_is : (w : Setting) (n : Reading) (g : Grips) (r : ℕ) (c : Command) → CommandsAreOut g → dirty_wait w n g r c ≡ dirty_wait w n no_grips r c
-dirty_is w n g r c commands =
-    ap (λ e. if reads c.job && not (sees_down n r c.device.0) && not (has_written n r c.device.0) then find (λ x. unwrap_or (option_map (λ y. y == x) (option_map (λ (o : Write). o.run) e)) false) (live_before n r) else None)
-    (effect_is n g c.device.0 None n.line commands)
-
-numbered : (x : RunNo) (o : Option ℕ) → Some x.0 ≡ o → o ≡ Some x.0
-numbered x o is = sym is
-
 -- The cases of the next command
 
-pub command_behind : (w : Setting) (n : Reading) (g : Grips) (r k : ℕ) (c : Command) (x : RunNo) → StepsPlainly w n → Some x.0 ≡ find (λ y. pends w n y c.device.0) (live_before n r) → Waits (Behind c.device x) ≡ plain_command w n g r k c
-command_behind w n g r k c x p found = sym (rw (behind_is w n g r c.device.0 p, ← found) refl)
+-- what the run meets at its device, by the two reasons
+abbrev touch_from : Command → Option ℕ → Option ℕ → Touch
+touch_from c (Some x) dirty = TouchBehind c.device (run_no x)
+touch_from c None (Some x) = TouchDirty c.device (run_no x)
+touch_from c None None = Free
 
-pub command_dirty : (w : Setting) (n : Reading) (g : Grips) (r k : ℕ) (c : Command) (x : RunNo) → StepsPlainly w n → CommandsAreOut g → None ≡ find (λ y. pends w n y c.device.0) (live_before n r) → Some x.0 ≡ dirty_wait w n no_grips r c → Waits (Dirty c.device x) ≡ plain_command w n g r k c
-command_dirty w n g r k c x p commands none found = sym (rw (behind_is w n g r c.device.0 p, ← none, dirty_is w n g r c commands, ← found) refl)
+touch_is : (w : Setting) (n : Reading) (g : Grips) (r : ℕ) (c : Command) (o p : Option ℕ) → behind_wait w n g r c.device.0 ≡ o → dirty_wait w n g r c ≡ p → touch_of w n g r c ≡ touch_from c o p
+touch_is w n g r c (Some x) p behind dirty = rw behind refl
+touch_is w n g r c None (Some x) behind dirty = rw (behind, dirty) refl
+touch_is w n g r c None None behind dirty = rw (behind, dirty) refl
 
-pub command_strict : (w : Setting) (n : Reading) (g : Grips) (r k : ℕ) (c : Command) (x : RunNo) → StepsPlainly w n → CommandsAreOut g → None ≡ find (λ y. pends w n y c.device.0) (live_before n r) → None ≡ dirty_wait w n no_grips r c → Some x.0 ≡ strict_wait w n r → Waits (Strict x) ≡ plain_command w n g r k c
-command_strict w n g r k c x p commands none clean found = sym (rw (behind_is w n g r c.device.0 p, ← none, dirty_is w n g r c commands, ← clean, ← found) refl)
+-- a run that is met is waited for
+abbrev waits_for : Touch → Choice
+waits_for (TouchBehind d x) = Waits (Behind d x)
+waits_for (TouchDirty d x) = Waits (Dirty d x)
+waits_for Free = Absent
 
-pub command_busy : (w : Setting) (n : Reading) (g : Grips) (r k : ℕ) (c : Command) → StepsPlainly w n → CommandsAreOut g → None ≡ find (λ y. pends w n y c.device.0) (live_before n r) → None ≡ dirty_wait w n no_grips r c → None ≡ strict_wait w n r → is_out g c.device.0 ≡ true → Waits (Busy c.device) ≡ plain_command w n g r k c
-command_busy w n g r k c p commands none clean first out = sym (rw (behind_is w n g r c.device.0 p, ← none, dirty_is w n g r c commands, ← clean, ← first, out) refl)
+pub command_behind : (w : Setting) (n : Reading) (g : Grips) (r k : ℕ) (c : Command) (d : DeviceNo) (x : RunNo) → TouchBehind d x ≡ touch_of w n g r c → Waits (Behind d x) ≡ plain_command w n g r k c
+command_behind w n g r k c d x touch = at_ (behind_wait w n g r c.device.0) (dirty_wait w n g r c) refl refl
+  where
+    at_ : (o p : Option ℕ) → behind_wait w n g r c.device.0 ≡ o → dirty_wait w n g r c ≡ p → Waits (Behind d x) ≡ plain_command w n g r k c
+    at_ (Some y) p behind dirty = ap waits_for (touch ∙ touch_is w n g r c (Some y) p behind dirty) ∙ sym (rw behind refl)
+    at_ None (Some y) behind dirty = absurd (let both : TouchBehind d x ≡ TouchDirty c.device (run_no y) = touch ∙ touch_is w n g r c None (Some y) behind dirty in cc)
+    at_ None None behind dirty = absurd (let both : TouchBehind d x ≡ Free = touch ∙ touch_is w n g r c None None behind dirty in cc)
 
-pub command_goes : (w : Setting) (n : Reading) (g : Grips) (r k : ℕ) (c : Command) → StepsPlainly w n → CommandsAreOut g → None ≡ find (λ y. pends w n y c.device.0) (live_before n r) → None ≡ dirty_wait w n no_grips r c → None ≡ strict_wait w n r → is_out g c.device.0 ≡ false → HandsOut c.device.0 (Commands k) ≡ plain_command w n g r k c
-command_goes w n g r k c p commands none clean first home = sym (rw (behind_is w n g r c.device.0 p, ← none, dirty_is w n g r c commands, ← clean, ← first, home) refl)
+pub command_dirty : (w : Setting) (n : Reading) (g : Grips) (r k : ℕ) (c : Command) (d : DeviceNo) (x : RunNo) → TouchDirty d x ≡ touch_of w n g r c → Waits (Dirty d x) ≡ plain_command w n g r k c
+command_dirty w n g r k c d x touch = at_ (behind_wait w n g r c.device.0) (dirty_wait w n g r c) refl refl
+  where
+    at_ : (o p : Option ℕ) → behind_wait w n g r c.device.0 ≡ o → dirty_wait w n g r c ≡ p → Waits (Dirty d x) ≡ plain_command w n g r k c
+    at_ (Some y) p behind dirty = absurd (let both : TouchDirty d x ≡ TouchBehind c.device (run_no y) = touch ∙ touch_is w n g r c (Some y) p behind dirty in cc)
+    at_ None (Some y) behind dirty = ap waits_for (touch ∙ touch_is w n g r c None (Some y) behind dirty) ∙ sym (rw (behind, dirty) refl)
+    at_ None None behind dirty = absurd (let both : TouchDirty d x ≡ Free = touch ∙ touch_is w n g r c None None behind dirty in cc)
+
+-- a run that meets none
+record IsFree (w : Setting) (n : Reading) (g : Grips) (r : ℕ) (c : Command) : Type 0 where
+  behind : behind_wait w n g r c.device.0 ≡ None
+  dirty : dirty_wait w n g r c ≡ None
+
+free_is : (w : Setting) (n : Reading) (g : Grips) (r : ℕ) (c : Command) → Free ≡ touch_of w n g r c → IsFree w n g r c
+free_is w n g r c touch = at_ (behind_wait w n g r c.device.0) (dirty_wait w n g r c) refl refl
+  where
+    at_ : (o p : Option ℕ) → behind_wait w n g r c.device.0 ≡ o → dirty_wait w n g r c ≡ p → IsFree w n g r c
+    at_ (Some y) p behind dirty = absurd (let both : Free ≡ TouchBehind c.device (run_no y) = touch ∙ touch_is w n g r c (Some y) p behind dirty in cc)
+    at_ None (Some y) behind dirty = absurd (let both : Free ≡ TouchDirty c.device (run_no y) = touch ∙ touch_is w n g r c None (Some y) behind dirty in cc)
+    at_ None None behind dirty = record { behind = behind; dirty = dirty }
+
+pub command_strict : (w : Setting) (n : Reading) (g : Grips) (r k : ℕ) (c : Command) (x : RunNo) → Free ≡ touch_of w n g r c → Some x ≡ option_map run_no (strict_wait w n r) → Waits (Strict x) ≡ plain_command w n g r k c
+command_strict w n g r k c x touch found = at_ (strict_wait w n r) refl
+  where
+    at_ : (o : Option ℕ) → strict_wait w n r ≡ o → Waits (Strict x) ≡ plain_command w n g r k c
+    at_ None e = absurd (let both : Some x ≡ None = found ∙ ap (option_map run_no) e in cc)
+    at_ (Some y) e = let free = free_is w n g r c touch in ap (λ o. unwrap_or (option_map (λ z. Waits (Strict z)) o) Absent) (found ∙ ap (option_map run_no) e) ∙ sym (rw (free.behind, free.dirty, e) refl)
+
+-- .. and waits for none by its model
+not_strict : (w : Setting) (n : Reading) (r : ℕ) → None ≡ option_map run_no (strict_wait w n r) → strict_wait w n r ≡ None
+not_strict w n r none = at_ (strict_wait w n r) refl
+  where
+    at_ : (o : Option ℕ) → strict_wait w n r ≡ o → strict_wait w n r ≡ None
+    at_ None e = e
+    at_ (Some y) e = absurd (let both : None ≡ Some (run_no y) = none ∙ ap (option_map run_no) e in cc)
+
+pub command_busy : (w : Setting) (n : Reading) (g : Grips) (r k : ℕ) (c : Command) → Free ≡ touch_of w n g r c → None ≡ option_map run_no (strict_wait w n r) → is_out g c.device.0 ≡ true → Waits (Busy c.device) ≡ plain_command w n g r k c
+command_busy w n g r k c touch none out = let free = free_is w n g r c touch in sym (rw (free.behind, free.dirty, not_strict w n r none, out) refl)
+
+pub command_goes : (w : Setting) (n : Reading) (g : Grips) (r k : ℕ) (c : Command) → Free ≡ touch_of w n g r c → None ≡ option_map run_no (strict_wait w n r) → is_out g c.device.0 ≡ false → HandsOut c.device.0 (Commands k) ≡ plain_command w n g r k c
+command_goes w n g r k c touch none home = let free = free_is w n g r c touch in sym (rw (free.behind, free.dirty, not_strict w n r none, home) refl)
+
+-- what was told of the hub's own parts
+
+pub touch_said : (s : Configuration) (table : List LineageState) (line : List Mark) (history : List Kept) (runs : List Run) (r k : ℕ) (c : Command) (touch : Touch) → IsStandingOf s table line history runs → IsAtCommand s r k → command_at s.setting.runs r k ≡ c → IsTouchOf table line history runs r k touch
+    → touch ≡ touch_of s.setting (read_of s) s.grips r c
+touch_said s table line history runs r k c touch parts turn command told = told s parts turn ∙ ap (touch_of s.setting (read_of s) s.grips r) (ap (λ x. command_at x r k) (sym parts.its_roster) ∙ command)
+
+pub strict_said : (s : Configuration) (table : List LineageState) (line : List Mark) (history : List Kept) (runs : List Run) (r : ℕ) (model : Visibility) (run : Option RunNo) → IsStandingOf s table line history runs → model ≡ s.setting.mode.model → IsStrictWaitOf model table line history runs r run
+    → run ≡ option_map run_no (strict_wait s.setting (read_of s) r)
+strict_said s table line history runs r model run parts same told = told s parts ∙ ap (λ m. option_map run_no (strict_wait (under m s.setting) (read_of s) r)) same
 
 -- The cases of a run
 
@@ -193,3 +204,20 @@ hub_commands {D = D} stands turns probes faults s t r m p c x same k run known g
     absent : {A : Type 0} (o : Option A) → is_some o ≡ true → is_none o ≡ false
     absent None e = absurd (cc)
     absent (Some y) e = refl
+
+-- the run is at its next command
+pub hub_at_command : {D : Type 0} (stands turns probes faults : D → ℕ) (s t : OpenHub D) (r : ℕ) (p : RunProgress) (c : Command) → s ≡ t → HubIsKept stands turns probes faults s → p ≡ progress_of ((read_of (configuration_of s)).run r) → p.ended ≡ None → p.placed ≡ true → Some c ≡ next_command s.setting (read_of (configuration_of s)) r
+    → IsAtCommand (configuration_of t) r p.answered × (command_at t.setting.runs r p.answered ≡ c)
+hub_at_command {D = D} stands turns probes faults s t r p c same k known going placed next =
+    subst (λ (x : OpenHub D). IsAtCommand (configuration_of x) r p.answered × (command_at x.setting.runs r p.answered ≡ c)) same (
+      record {
+        live = λ i. (ap (λ (x : RunProgress). x.placed) (sym known) ∙ placed) i && is_none ((ap (λ (x : RunProgress). x.ended) (sym known) ∙ going) i);
+        sound = ap is_some ((steps_plainly (configuration_of s) s.rounds s.opened (held_in s) k.configuration).read.runs r).sound;
+        next = sym (ap (λ (x : RunProgress). x.answered) known);
+        command = subst (λ y. y < length (commands_of s.setting.runs r)) (sym (ap (λ (x : RunProgress). x.answered) known)) there.0;
+      },
+      ap (λ (x : RunProgress). command_at s.setting.runs r x.answered) known ∙ there.1,
+    )
+  where
+    there : (next_of (read_of (configuration_of s)) r < length (commands_of s.setting.runs r)) × (command_at s.setting.runs r (next_of (read_of (configuration_of s)) r) ≡ c)
+    there = next_is (commands_of s.setting.runs r) (next_of (read_of (configuration_of s)) r) c (sym next)

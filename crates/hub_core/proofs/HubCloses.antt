@@ -17,15 +17,20 @@ use Rattle.hub_core.specs.Agreement.{UpDevicesStand}
 use Rattle.hub_core.specs.ClosedHomes.{HaveRisen, NoneFell, known_stand}
 use Rattle.hub_core.specs.Homes.{CountsAreLow, HomeIsKept}
 use Rattle.hub_core.specs.HubCalls.{IsClosed}
-use Rattle.hub_core.specs.HubsKept.{FitsAtHome, HubIsKept}
+use Rattle.hub_core.specs.HubsKept.{FitsAtHome, HasRoomLeft, HubIsKept, IsEmptyFor}
+use Rattle.hub_core.specs.KeptOrders.{OrderIsBeside}
 use Rattle.hub_core.specs.OpenHubs.{OpenHub, configuration_of, device_at, grip_in, held_in, no_device}
+use Rattle.hub_core.specs.ReadHistories.{HistoryState}
 use Rattle.hub_core.specs.Steps.{not_quiet}
-use Rattle.lock_leasing.specs.Configurations.{read_of}
+use Rattle.hub_core.specs.declared.hubs.ClosingLists.{ClosingLists}
+use Rattle.lineage_table.specs.Lineages.{LineageState}
+use Rattle.lock_leasing.specs.Configurations.{Grips, read_of}
+use Rattle.serial_line.specs.Marks.{Marked}
 use Rattle.std.proofs.Common.{ap, arith, inl, inr, refl, sym, ◌∙◌}
 use Rattle.std.proofs.lemmas.List.{get_or-map, length-map}
 use Rattle.std.proofs.lemmas.List.Sums.{count_by-le-length}
 use Rattle.std.proofs.lemmas.Option.{slice_get-map, slice_get_cases, slice_get_within}
-use Rattle.std.specs.Prelude.{IsTrue, List, None, Some, length, map, option_map, slice_get, slice_index_or, true, ℕ, ◌*◌, ◌+◌, ◌<◌, ◌^◌, ◌≡◌, ◌≤◌}
+use Rattle.std.specs.Prelude.{IsTrue, List, None, Some, [], length, map, option_map, slice_get, slice_index_or, suc, take, true, zero, ℕ, ◌*◌, ◌++◌, ◌+◌, ◌<◌, ◌^◌, ◌∷◌, ◌≡◌, ◌≤◌}
 
 -- what is within a list is at its place
 at_place : {X : Type 0} (xs : List X) (i : ℕ) → i < length xs → (x : X) × (slice_get xs i ≡ Some x)
@@ -193,3 +198,19 @@ window_closed {D = D} tag stands turns probes faults s devices kinds world close
 
     known : (d : ℕ) (device : D) → slice_get devices d ≡ Some device → d < length s.devices
     known d device at = (let there = slice_get_within devices d device at in let same = sizes tag stands turns probes faults s devices c in let all = c.kept.devices_size in omega (arith, there, same, all))
+
+-- one item more of a list
+pub took_next : {A : Type 0} (xs : List A) (i : ℕ) (x : A) → slice_get xs i ≡ Some x → take (i + 1) xs ≡ take i xs ++ x ∷ []
+took_next [] i x at = absurd (cc)
+took_next (y ∷ xs) zero x at = let same : y ≡ x = cc in ap (λ z. z ∷ []) same
+took_next (y ∷ xs) (suc i) x at = let more : suc i + 1 ≡ suc (i + 1) = omega arith in ap (λ k. take k (y ∷ xs)) more ∙ ap (λ zs. y ∷ zs) (took_next xs i x at)
+
+-- the line of a window that closes has a place in the record's list for each item
+pub items_fit : {D : Type 0} (stands turns probes faults : D → ℕ) (s : OpenHub D) (h : HistoryState) (g : Grips) (line : Marked) (table : List LineageState) (spare : ℕ) (closing : ClosingLists) → HubIsKept stands turns probes faults s → HasRoomLeft s spare closing → h.history ≡ s.history → OrderIsBeside h g line table
+    → IsEmptyFor closing.order (length line.marks)
+items_fit stands turns probes faults s h g line table spare closing k room same order =
+    let fits : length s.history ≤ 132 * length s.setting.runs = history_fits (configuration_of s) s.rounds s.opened (held_in s) k.configuration in
+    let short : length line.marks ≤ length h.history = order.short in
+    let size : length h.history ≡ length s.history = ap length same in
+    let had : 132 * length s.setting.runs ≤ closing.order.spare = room.order.1 in
+    (room.order.0, omega (arith, fits, short, size, had))

@@ -21,11 +21,16 @@ use Rattle.hub_core.specs.Stage.{StageAllows}
 use Rattle.hub_core.specs.Steps.{opened}
 use Rattle.hub_core.specs.declared.purposes.Purpose.{Purpose}
 use Rattle.hub_core.specs.Homes.{CountsAreLow, HomeIsKept, HomeState, setting_for}
-use Rattle.hub_core.specs.OpeningRooms.{AreKnown, IsClosingRoom, known_first}
+use Rattle.hub_core.specs.OpeningRooms.{AreKnown, IsClosingRoom, IsOrderRoom, known_first}
 use Rattle.home_types.specs.declared.worlds.Stand.{Stand}
 use Rattle.hub_core.specs.declared.hubs.ClosingLists.{ClosingLists}
 use Rattle.hub_core.specs.declared.known.DeviceProgress.{DeviceProgress}
 use Rattle.home_types.specs.HomeStates.{nowhere, stand_at}
+use Rattle.hub_core.proofs.OrderSteps.{order_begins}
+use Rattle.hub_core.specs.KeptOrders.{OrderIsBeside}
+use Rattle.lineage_table.specs.Lineages.{LineageState}
+use Rattle.lock_leasing.specs.Configurations.{Configuration, Grips}
+use Rattle.serial_line.specs.Marks.{Marked}
 use Rattle.std.proofs.Common.{ap, arith, inl, inr, refl, subst, sym, ◌∙◌}
 use Rattle.std.proofs.lemmas.Grind.{common_steps}
 use Rattle.std.proofs.lemmas.List.{length-append, length-map, replicate-append-replicate}
@@ -227,9 +232,10 @@ first_kept {D = D} tag stands turns probes faults home roster mode rounds known 
 
 -- .. and has its room
 pub first_room : {D : Type 0} (home : HomeState D) (roster : Roster) (mode : Mode) (rounds spare : ℕ) (known : List DeviceProgress) (closing : ClosingLists)
-    → length home.devices ≡ length home.world → entries_of_a_run * length roster.runs.items ≤ spare → IsClosingRoom (length home.devices) closing → HasRoomLeft (first_hub home roster mode rounds known) spare closing
+    → length home.devices ≡ length home.world → entries_of_a_run * length roster.runs.items ≤ spare → IsClosingRoom (length home.devices) (length roster.runs.items) closing → HasRoomLeft (first_hub home roster mode rounds known) spare closing
 first_room home roster mode rounds spare known closing size enough room = record {
   history = let same : length (runs_of roster) ≡ length roster.runs.items = length-map roster.runs.items plain_run in rw same (omega (arith, enough));
+  order = let same : length (runs_of roster) ≡ length roster.runs.items = length-map roster.runs.items plain_run in rw same room.order;
   last = rw (← size) room.last;
   world = rw (← size) room.world;
   turns = rw (← size) room.turns;
@@ -271,3 +277,10 @@ is_first_hub {D = D} home roster mode rounds known kinds world devices opened' s
 
     all_places : places ≡ all_home home.devices
     all_places = at_home ∙ ap (λ (h : HomeState D). all_home h.devices) seen
+
+-- the line and the table of a window that opens
+pub first_order : {D : Type 0} (tag stands turns probes faults : D → ℕ) (home : HomeState D) (roster : Roster) (mode : Mode) (rounds spare : ℕ) (known : List DeviceProgress) (line : Marked) (table : List LineageState)
+    → Opens tag stands turns probes faults home roster mode rounds known → IsOrderRoom (runs_of roster) home.world line table → OrderIsBeside (record { setting = setting_for home roster mode; history = []; spare = spare }) (configuration_of (first_hub home roster mode rounds known)).grips line table
+first_order tag stands turns probes faults home roster mode rounds spare known line table opens room =
+    subst (λ (g : Grips). OrderIsBeside (record { setting = setting_for home roster mode; history = []; spare = spare }) g line table) (sym (ap (λ (c : Configuration). c.grips) (first_configuration tag stands turns probes faults home roster mode rounds known opens)))
+    (order_begins (setting_for home roster mode) line table room.no_item room.enough room.opened)

@@ -15,7 +15,7 @@ use Rattle.device_states.specs.Devices.{HasRoom}
 use Rattle.std.proofs.lemmas.List.Sums.{sum_by-cons}
 use Rattle.std.specs.Borrow.{Bor}
 use Rattle.history_book.specs.Histories.{entries_of}
-use Rattle.history_book.specs.Readings.{next_command, next_of, put}
+use Rattle.history_book.specs.Readings.{is_live, next_command, next_of, put}
 use Rattle.history_book.specs.Settings.{Setting, is_device}
 use Rattle.history_book.specs.declared.entries.Kept.{Kept}
 use Rattle.home_types.specs.declared.commands.Command.{Command}
@@ -49,6 +49,7 @@ use Rattle.std.specs.Prelude.{Bool, IsTrue, List, None, Option, Some, [], count_
 pub record IsHandedOut (s : Configuration) (r d : ℕ) (purpose : Purpose) : Type 0 where
   pub command : Command
   pub run : is_run s.setting.runs r ≡ true
+  pub live : is_live (read_of s) r ≡ true
   pub next : next_command s.setting (read_of s) r ≡ Some command
   pub is : purpose ≡ Commands (next_of (read_of s) r)
   pub home : is_out s.grips d ≡ false
@@ -72,6 +73,7 @@ handed_out s rounds opened held r m d purpose kept =
       goes = λ c run next home is. record {
         command = c;
         run = run.act.run;
+        live = run.act.live;
         next = run.next;
         is = sym (same_purpose c.device.0 d (Commands (next_of (read_of s) r)) purpose is);
         home = subst (λ e. is_out s.grips e ≡ false) (same_device c.device.0 d (Commands (next_of (read_of s) r)) purpose is) home;

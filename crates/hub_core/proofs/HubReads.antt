@@ -1,8 +1,7 @@
 -- A history with one entry more, and what is kept beside it.
-use Rattle.command_rules.specs.Rosters.{Run, command_at, is_run, run_no}
+use Rattle.command_rules.specs.Rosters.{Run, command_at, is_run}
 use Rattle.history_book.proofs.Snoc.{entries_on, put_other, put_same, reading_more}
 use Rattle.history_book.specs.Histories.{answered, entries_of, entry, reading}
-use Rattle.history_book.specs.Lines.{with_run_in}
 use Rattle.history_book.specs.Plans.{planned_times, split_of}
 use Rattle.history_book.specs.Readings.{OfRun, Reading, put}
 use Rattle.history_book.specs.Settings.{Setting}
@@ -13,19 +12,14 @@ use Rattle.history_book.specs.declared.entries.Entry.{Entry}
 use Rattle.history_book.specs.declared.entries.Kept.{Kept}
 use Rattle.home_types.specs.Commands.{register_after}
 use Rattle.home_types.specs.Kinds.{kind_at}
-use Rattle.home_types.specs.Listed.{Listed}
 use Rattle.home_types.specs.declared.commands.Answer.{Answer}
-use Rattle.home_types.specs.declared.items.Item.TheVariants.{Ran}
-use Rattle.home_types.specs.declared.items.Item.{Item}
 use Rattle.home_types.specs.declared.numbers.RunNo.{RunNo}
 use Rattle.hub_core.specs.OpenHubs.{progress_of}
-use Rattle.hub_core.specs.ReadHistories.{HistoryState, IsReadBeside, is_item_of, read_in}
+use Rattle.hub_core.specs.ReadHistories.{HistoryState, IsReadBeside, read_in}
 use Rattle.hub_core.specs.declared.known.RunProgress.{RunProgress}
-use Rattle.std.proofs.Common.{ap, ap₂, arith, inl, inr, refl, sym, ◌∙◌, ◌⊎◌}
-use Rattle.std.proofs.lemmas.List.{drop_all, length-append, length-set, take_all}
-use Rattle.std.proofs.lemmas.List.Folds.{list_all-append}
+use Rattle.std.proofs.Common.{ap, arith, inl, inr, refl, sym, ◌∙◌, ◌⊎◌}
+use Rattle.std.proofs.lemmas.List.{length-append, length-set}
 use Rattle.std.proofs.lemmas.Option.{slice_get_within}
-use Rattle.std.specs.List.{list_all}
 use Rattle.std.specs.Prelude.{Bool, IsTrue, List, None, Option, Some, [], is_none, is_some, length, not, slice_get, slice_set, suc, true, zero, ℕ, ◌++◌, ◌+◌, ◌-◌, ◌<◌, ◌∷◌, ◌≡◌, ◌≢◌, ◌≤◌, ◌||◌}
 
 -- the place that was written, or another
@@ -59,48 +53,40 @@ run_of_place (x ∷ xs) (suc zero) some few = refl
 run_of_place (x ∷ xs) (suc (suc i)) some few = run_of_place xs (suc i) (omega arith) (omega arith)
 
 -- what is kept of a run is what the history says of it
-pub progress_is : (s : HistoryState) (line : Listed Item) (progress : List RunProgress) (r : ℕ) (p : RunProgress)
-    → IsReadBeside s line progress → IsTrue (is_run s.setting.runs r) → slice_get progress (r - 1) ≡ Some p → p ≡ progress_of ((read_in s).run r)
-progress_is s line progress r p k run at =
+pub progress_is : (s : HistoryState) (progress : List RunProgress) (r : ℕ) (p : RunProgress)
+    → IsReadBeside s progress → IsTrue (is_run s.setting.runs r) → slice_get progress (r - 1) ≡ Some p → p ≡ progress_of ((read_in s).run r)
+progress_is s progress r p k run at =
     let place = run_place s.setting.runs r run in
     some_is p (progress_of ((read_in s).run r)) (sym at ∙ k.progress_is (r - 1) place.1 ∙ ap (λ q. Some (progress_of ((read_in s).run q))) (sym place.0))
 
 -- .. at the place of a run
-pub known_at : (s : HistoryState) (line : Listed Item) (progress : List RunProgress) (i : ℕ) (p : RunProgress)
-    → IsReadBeside s line progress → i < length progress → slice_get progress i ≡ Some p → p ≡ progress_of ((read_in s).run (1 + i))
-known_at s line progress i p k within at =
+pub known_at : (s : HistoryState) (progress : List RunProgress) (i : ℕ) (p : RunProgress)
+    → IsReadBeside s progress → i < length progress → slice_get progress i ≡ Some p → p ≡ progress_of ((read_in s).run (1 + i))
+known_at s progress i p k within at =
     let next : suc i ≡ 1 + i = omega arith in
     some_is p (progress_of ((read_in s).run (1 + i))) (sym at ∙ k.progress_is i (omega (arith, within, k.size)) ∙ ap (λ q. Some (progress_of ((read_in s).run q))) next)
 
 -- .. whether it has ended
-pub ended_at : (s : HistoryState) (line : Listed Item) (progress : List RunProgress) (i : ℕ) (p : RunProgress) (b : Bool)
-    → IsReadBeside s line progress → i < length progress → slice_get progress i ≡ Some p → is_some p.ended ≡ b → is_none ((read_in s).run (1 + i)).ended ≡ not b
-ended_at s line progress i p b k within at is = ap (λ (q : RunProgress). is_none q.ended) (sym (known_at s line progress i p k within at)) ∙ by_end p.ended is
+pub ended_at : (s : HistoryState) (progress : List RunProgress) (i : ℕ) (p : RunProgress) (b : Bool)
+    → IsReadBeside s progress → i < length progress → slice_get progress i ≡ Some p → is_some p.ended ≡ b → is_none ((read_in s).run (1 + i)).ended ≡ not b
+ended_at s progress i p b k within at is = ap (λ (q : RunProgress). is_none q.ended) (sym (known_at s progress i p k within at)) ∙ by_end p.ended is
   where
     by_end : (o : Option End) → is_some o ≡ b → is_none o ≡ not b
     by_end None e = ap not e
     by_end (Some x) e = ap not e
 
-pub entry_kept : (w : Setting) (h h₂ : List Kept) (n n₂ maker r : ℕ) (e : Entry) (line after : Listed Item) (progress : List RunProgress) (now : RunProgress)
-    → IsReadBeside (record { setting = w; history = h; spare = n }) line progress
+pub entry_kept : (w : Setting) (h h₂ : List Kept) (n n₂ maker r : ℕ) (e : Entry) (progress : List RunProgress) (now : RunProgress)
+    → IsReadBeside (record { setting = w; history = h; spare = n }) progress
     → IsTrue (is_run w.runs r)
     → h₂ ≡ h ++ record { maker = maker; entry = e } ∷ []
     → now ≡ progress_of ((entry w (reading w (entries_of h)) e).run r)
     → ((q : ℕ) → q ≢ r → (entry w (reading w (entries_of h)) e).run q ≡ (reading w (entries_of h)).run q)
-    → after.items ≡ (entry w (reading w (entries_of h)) e).line
-    → IsTrue (list_all (is_item_of w) after.items)
-    → length after.items ≤ length h + 1 → n₂ ≤ after.spare
-    → IsReadBeside (record { setting = w; history = h₂; spare = n₂ }) after (slice_set progress (r - 1) now)
-entry_kept w h h₂ n n₂ maker r e line after progress now k run more is others line_now items short spare =
+    → IsReadBeside (record { setting = w; history = h₂; spare = n₂ }) (slice_set progress (r - 1) now)
+entry_kept w h h₂ n n₂ maker r e progress now k run more is others =
     let read : reading w (entries_of h₂) ≡ entry w (reading w (entries_of h)) e = ap (λ x. reading w (entries_of x)) more ∙ ap (reading w) (entries_on h maker (e ∷ [])) ∙ reading_more w (entries_of h) e in
     let place = run_place w.runs r run in
     let inside : r - 1 < length progress = omega (arith, place.1, k.size) in
-    let count : length h₂ ≡ length h + 1 = ap (λ x. length x) more ∙ length-append h (record { maker = maker; entry = e } ∷ []) in
     record {
-      line_is = line_now ∙ ap (λ x. x.line) (sym read);
-      runs_are = items;
-      short = omega (arith, short, count);
-      room = spare;
       size = length-set progress (r - 1) now ∙ k.size;
       progress_is = λ j within. elim (get_set progress (r - 1) j now inside) [
         | inl p ↦ p.1 ∙ ap (λ x. Some x) (is ∙ ap (λ q. progress_of ((entry w (reading w (entries_of h)) e).run q)) (place.0 ∙ ap (λ n. suc n) (sym p.0))) ∙ ap (λ x. Some (progress_of (x.run (suc j)))) (sym read)
@@ -110,28 +96,26 @@ entry_kept w h h₂ n n₂ maker r e line after progress now k run more is other
 
 -- The changes of this stage
 
-pub arrives_beside : (w : Setting) (h h₂ : List Kept) (n n₂ maker m : ℕ) (r : RunNo) (line : Listed Item) (progress : List RunProgress) (p : RunProgress)
-    → IsReadBeside (record { setting = w; history = h; spare = n }) line progress
+pub arrives_beside : (w : Setting) (h h₂ : List Kept) (n n₂ maker m : ℕ) (r : RunNo) (progress : List RunProgress) (p : RunProgress)
+    → IsReadBeside (record { setting = w; history = h; spare = n }) progress
     → IsTrue (is_run w.runs r.0) → slice_get progress (r.0 - 1) ≡ Some p
     → h₂ ≡ h ++ record { maker = maker; entry = Arrived r m } ∷ [] → n₂ + 1 ≡ n
-    → IsReadBeside (record { setting = w; history = h₂; spare = n₂ }) line (slice_set progress (r.0 - 1) (record p { arrived = Some m }))
-arrives_beside w h h₂ n n₂ maker m r line progress p k run at more left =
+    → IsReadBeside (record { setting = w; history = h₂; spare = n₂ }) (slice_set progress (r.0 - 1) (record p { arrived = Some m }))
+arrives_beside w h h₂ n n₂ maker m r progress p k run at more left =
     let o = (reading w (entries_of h)).run r.0 in
-    entry_kept w h h₂ n n₂ maker r.0 (Arrived r m) line line progress (record p { arrived = Some m }) k run more
-    (ap (λ (x : RunProgress). record x { arrived = Some m }) (progress_is _ line progress r.0 p k run at) ∙ ap progress_of (sym (put_same (reading w (entries_of h)).run r.0 (record o { arrived = Some m }))))
+    entry_kept w h h₂ n n₂ maker r.0 (Arrived r m) progress (record p { arrived = Some m }) k run more
+    (ap (λ (x : RunProgress). record x { arrived = Some m }) (progress_is _ progress r.0 p k run at) ∙ ap progress_of (sym (put_same (reading w (entries_of h)).run r.0 (record o { arrived = Some m }))))
     (λ q other. put_other (reading w (entries_of h)).run r.0 (record o { arrived = Some m }) q other)
-    k.line_is k.runs_are (omega (arith, k.short)) (omega (arith, k.room, left))
 
-pub answers_beside : (w : Setting) (h h₂ : List Kept) (n n₂ maker c : ℕ) (a : Answer) (r : RunNo) (line : Listed Item) (progress : List RunProgress) (p : RunProgress)
-    → IsReadBeside (record { setting = w; history = h; spare = n }) line progress
+pub answers_beside : (w : Setting) (h h₂ : List Kept) (n n₂ maker c : ℕ) (a : Answer) (r : RunNo) (progress : List RunProgress) (p : RunProgress)
+    → IsReadBeside (record { setting = w; history = h; spare = n }) progress
     → IsTrue (is_run w.runs r.0) → slice_get progress (r.0 - 1) ≡ Some p
     → h₂ ≡ h ++ record { maker = maker; entry = Did r c a } ∷ [] → n₂ + 1 ≡ n
-    → IsReadBeside (record { setting = w; history = h₂; spare = n₂ }) line (slice_set progress (r.0 - 1) (record p { answered = p.answered + 1; register = register_after (command_at w.runs r.0 c).job a p.register }))
-answers_beside w h h₂ n n₂ maker c a r line progress p k run at more left =
-    entry_kept w h h₂ n n₂ maker r.0 (Did r c a) line line progress (record p { answered = p.answered + 1; register = register_after (command_at w.runs r.0 c).job a p.register }) k run more
-    (ap (λ (x : RunProgress). record x { answered = x.answered + 1; register = register_after (command_at w.runs r.0 c).job a x.register }) (progress_is _ line progress r.0 p k run at) ∙ counted ∙ ap progress_of (sym (put_same (reading w (entries_of h)).run r.0 (o c))))
+    → IsReadBeside (record { setting = w; history = h₂; spare = n₂ }) (slice_set progress (r.0 - 1) (record p { answered = p.answered + 1; register = register_after (command_at w.runs r.0 c).job a p.register }))
+answers_beside w h h₂ n n₂ maker c a r progress p k run at more left =
+    entry_kept w h h₂ n n₂ maker r.0 (Did r c a) progress (record p { answered = p.answered + 1; register = register_after (command_at w.runs r.0 c).job a p.register }) k run more
+    (ap (λ (x : RunProgress). record x { answered = x.answered + 1; register = register_after (command_at w.runs r.0 c).job a x.register }) (progress_is _ progress r.0 p k run at) ∙ counted ∙ ap progress_of (sym (put_same (reading w (entries_of h)).run r.0 (o c))))
     (λ q other. put_other (reading w (entries_of h)).run r.0 (o c) q other)
-    k.line_is k.runs_are (omega (arith, k.short)) (omega (arith, k.room, left))
   where
     before : OfRun
     before = (reading w (entries_of h)).run r.0
@@ -147,38 +131,26 @@ answers_beside w h h₂ n n₂ maker c a r line progress p k run at more left =
     counted : record (progress_of before) { answered = length before.answers + 1; register = register_after (command_at w.runs r.0 c).job a before.register } ≡ progress_of (o c)
     counted = ap (λ x. record (progress_of before) { answered = x; register = register_after (command_at w.runs r.0 c).job a before.register }) (sym (length-append before.answers (a ∷ [])))
 
-pub commits_beside : (w : Setting) (h h₂ : List Kept) (n n₂ maker : ℕ) (r : RunNo) (line : Listed Item) (progress : List RunProgress) (p : RunProgress)
-    → IsReadBeside (record { setting = w; history = h; spare = n }) line progress
+pub commits_beside : (w : Setting) (h h₂ : List Kept) (n n₂ maker : ℕ) (r : RunNo) (progress : List RunProgress) (p : RunProgress)
+    → IsReadBeside (record { setting = w; history = h; spare = n }) progress
     → IsTrue (is_run w.runs r.0) → slice_get progress (r.0 - 1) ≡ Some p
     → h₂ ≡ h ++ record { maker = maker; entry = Ended r Committed } ∷ [] → n₂ + 1 ≡ n
-    → IsReadBeside (record { setting = w; history = h₂; spare = n₂ }) line (slice_set progress (r.0 - 1) (record p { ended = Some Committed }))
-commits_beside w h h₂ n n₂ maker r line progress p k run at more left =
+    → IsReadBeside (record { setting = w; history = h₂; spare = n₂ }) (slice_set progress (r.0 - 1) (record p { ended = Some Committed }))
+commits_beside w h h₂ n n₂ maker r progress p k run at more left =
     let o = (reading w (entries_of h)).run r.0 in
-    entry_kept w h h₂ n n₂ maker r.0 (Ended r Committed) line line progress (record p { ended = Some Committed }) k run more
-    (ap (λ (x : RunProgress). record x { ended = Some Committed }) (progress_is _ line progress r.0 p k run at) ∙ ap progress_of (sym (put_same (reading w (entries_of h)).run r.0 (record o { ended = Some Committed }))))
+    entry_kept w h h₂ n n₂ maker r.0 (Ended r Committed) progress (record p { ended = Some Committed }) k run more
+    (ap (λ (x : RunProgress). record x { ended = Some Committed }) (progress_is _ progress r.0 p k run at) ∙ ap progress_of (sym (put_same (reading w (entries_of h)).run r.0 (record o { ended = Some Committed }))))
     (λ q other. put_other (reading w (entries_of h)).run r.0 (record o { ended = Some Committed }) q other)
-    k.line_is k.runs_are (omega (arith, k.short)) (omega (arith, k.room, left))
 
--- a run that is placed at the end stands behind all items
-pub at_the_end : (w : Setting) (n : Reading) (r m : ℕ) → with_run_in (split_of w n r (length n.line) m) (run_no r) ≡ n.line ++ Ran (run_no r) ∷ []
-unfolding split_of
-at_the_end w n r m = ap₂ (λ a b. a ++ Ran (run_no r) ∷ b) (take_all (length n.line) n.line (omega arith)) (drop_all (length n.line) n.line (omega arith))
-
-pub places_beside : (w : Setting) (h h₂ : List Kept) (n n₂ maker at m : ℕ) (r : RunNo) (line after : Listed Item) (progress : List RunProgress) (p : RunProgress)
-    → IsReadBeside (record { setting = w; history = h; spare = n }) line progress
+pub places_beside : (w : Setting) (h h₂ : List Kept) (n n₂ maker at m : ℕ) (r : RunNo) (progress : List RunProgress) (p : RunProgress)
+    → IsReadBeside (record { setting = w; history = h; spare = n }) progress
     → IsTrue (is_run w.runs r.0) → slice_get progress (r.0 - 1) ≡ Some p
-    → at ≡ length line.items
     → h₂ ≡ h ++ record { maker = maker; entry = Placed r at m } ∷ [] → n₂ + 1 ≡ n
-    → after.items ≡ line.items ++ Ran r ∷ [] → after.spare + 1 ≡ line.spare
-    → IsReadBeside (record { setting = w; history = h₂; spare = n₂ }) after (slice_set progress (r.0 - 1) (record p { placed = true }))
-places_beside w h h₂ n n₂ maker at m r line after progress p k run here last more left appended room =
-    entry_kept w h h₂ n n₂ maker r.0 (Placed r at m) line after progress (record p { placed = true }) k run more
-    (ap (λ (x : RunProgress). record x { placed = true }) (progress_is _ line progress r.0 p k run here) ∙ ap progress_of (sym (put_same read.run r.0 placed_run)))
+    → IsReadBeside (record { setting = w; history = h₂; spare = n₂ }) (slice_set progress (r.0 - 1) (record p { placed = true }))
+places_beside w h h₂ n n₂ maker at m r progress p k run here more left =
+    entry_kept w h h₂ n n₂ maker r.0 (Placed r at m) progress (record p { placed = true }) k run more
+    (ap (λ (x : RunProgress). record x { placed = true }) (progress_is _ progress r.0 p k run here) ∙ ap progress_of (sym (put_same read.run r.0 placed_run)))
     (λ q other. put_other read.run r.0 placed_run q other)
-    (appended ∙ ap (λ l. l ++ Ran r ∷ []) k.line_is ∙ sym (at_the_end w read r.0 m) ∙ ap (λ a. with_run_in (split_of w read r.0 a m) r) (ap (λ l. length l) (sym k.line_is) ∙ sym last))
-    (rw (appended, list_all-append (is_item_of w) line.items (Ran r ∷ [])) (rw (k.runs_are, run) refl))
-    (omega (arith, k.short, ap (λ l. length l) appended, length-append line.items (Ran r ∷ [])))
-    (omega (arith, k.room, left, room))
   where
     read : Reading
     read = reading w (entries_of h)

@@ -491,6 +491,7 @@ came_back {D = D} stands turns probes faults h h₂ rounds opened moment now tic
         let enough : 132 * length h.setting.runs ≤ h.spare + length h.history = inside.1.history in
         record {
           history = omega (arith, runs, long, left, enough, some);
+          order = let had : 132 * length h.setting.runs ≤ closing.order.spare = inside.1.order.1 in (inside.1.order.0, omega (arith, had, runs));
           last = (inside.1.last.0, omega (arith, inside.1.last.1, setting));
           world = (inside.1.world.0, omega (arith, inside.1.world.1, setting));
           turns = (inside.1.turns.0, omega (arith, inside.1.turns.1, setting));

@@ -15,7 +15,6 @@ pub mod NewDevices
 pub mod NewHomes
 pub mod HubOpens
 pub mod Searching
-pub mod Written
 pub mod HubStates
 pub mod HubChoices
 pub mod Sizes
@@ -32,3 +31,5 @@ pub mod TestWindows
 pub mod PlannedInTurn
 pub mod NotedAnswers
 pub mod OrderSteps
+pub mod HubOrders
+pub mod ReturnedOrders

@@ -1,15 +1,14 @@
 -- How the calls of a lineage table that note an answer are one change.
-use Rattle.hub_core.specs.KeptOrders.{MayNote, is_first}
 use Rattle.home_types.specs.declared.commands.View.{View}
 use Rattle.lineage_table.specs.Accesses.{status_of, with_change}
-use Rattle.lineage_table.specs.Lineages.{LineageState, accesses_at, acquired, lineage_at, no_lineage, with_lineage, written}
+use Rattle.lineage_table.specs.Lineages.{LineageState, acquired, lineage_at, no_lineage, with_lineage, written}
 use Rattle.lineage_table.specs.declared.accesses.Access.{Access}
 use Rattle.lineage_table.specs.declared.accesses.Status.TheVariants.{Acquired, Scheduled}
 use Rattle.lineage_table.specs.declared.accesses.Status.{Status}
-use Rattle.std.proofs.Common.{ap, arith, refl, subst, sym, ◌∙◌}
+use Rattle.std.proofs.Common.{ap, arith, refl, ◌∙◌}
 use Rattle.std.proofs.lemmas.Grind.{common_steps}
 use Rattle.std.proofs.lemmas.List.{get_or-set_same, length-set, set-get_or}
-use Rattle.std.specs.Prelude.{Bool, List, None, Option, Some, [], false, if◌then◌else◌, length, true, ℕ, ◌<◌, ◌∷◌, ◌≡◌}
+use Rattle.std.specs.Prelude.{Bool, List, Option, Some, [], length, ℕ, ◌<◌, ◌∷◌, ◌≡◌}
 use Rattle.window_order.proofs.TableSteps.{with_both}
 use Rattle.window_order.specs.TableChanges.{acquired_if, noted, released_if, written_if}
 

@@ -1,10 +1,10 @@
 -- Each entry of this stage keeps the line and the table of a window.
-use Rattle.command_rules.specs.Rosters.{command_at, commands_of, run_no, runs_of, touches, touches_from}
+use Rattle.command_rules.specs.Rosters.{command_at, commands_of, run_no, touches_from}
 use Rattle.commit_compaction.specs.Commits.{committed_lineage}
 use Rattle.device_order.specs.LineWords.{CutAt}
 use Rattle.history_book.proofs.Snoc.{each_at, entries_on, reading_more}
 use Rattle.history_book.specs.Histories.{entries_of, entry, kept_by, reading}
-use Rattle.history_book.specs.Readings.{Reading, did, is_live, next_of, nothing_read, pends, put}
+use Rattle.history_book.specs.Readings.{Reading, did, nothing_read, put}
 use Rattle.history_book.specs.Settings.{Setting}
 use Rattle.history_book.specs.WellFormed.{IsWellFormed, may_follow}
 use Rattle.history_book.specs.declared.entries.End.TheVariants.{Committed}
@@ -26,11 +26,10 @@ use Rattle.lineage_table.specs.declared.accesses.Status.TheVariants.{Acquired, R
 use Rattle.lock_leasing.specs.Configurations.{Commands, Grips, no_grips}
 use Rattle.serial_line.specs.Marks.{Mark, Marked, touching, with_item, with_touch}
 use Rattle.std.proofs.Common.{ap, arith, length-append, refl, subst, sym, ◌∙◌}
-use Rattle.std.proofs.lemmas.Grind.{common_steps}
 use Rattle.std.proofs.lemmas.List.{length-map}
-use Rattle.std.specs.Prelude.{Bool, IsTrue, List, None, Option, Some, [], false, if◌then◌else◌, insert, is_none, length, not, option_map, suc, true, unwrap_or, ℕ, ◌*◌, ◌++◌, ◌+◌, ◌-◌, ◌<◌, ◌==◌, ◌∷◌, ◌≡◌, ◌≤◌}
+use Rattle.std.specs.Prelude.{Bool, IsTrue, List, None, Option, Some, [], false, if◌then◌else◌, length, not, option_map, suc, true, unwrap_or, ℕ, ◌*◌, ◌++◌, ◌+◌, ◌<◌, ◌==◌, ◌∷◌, ◌≡◌, ◌≤◌}
 use Rattle.window_order.proofs.AnsweredTables.{TouchesNow}
-use Rattle.window_order.proofs.PlacedTables.{arrived_table, new_on, opened_table}
+use Rattle.window_order.proofs.PlacedTables.{arrived_table, opened_table}
 use Rattle.window_order.proofs.ReadFacts.{IsRead}
 use Rattle.window_order.proofs.Representing.{NoneIsDoomed}
 use Rattle.window_order.proofs.Runs.{cut_live}
@@ -39,14 +38,14 @@ use Rattle.window_order.proofs.TableCalls.{first_answer, status_there}
 use Rattle.window_order.proofs.TableSteps.{answered_table, changes_one, committed_table, out_touches, placed_table}
 use Rattle.window_order.proofs.TouchedLines.{MarksAreKept, marks_answered, marks_arrived, marks_begin, marks_committed, marks_out, marks_placed}
 use Rattle.window_order.specs.OrderKept.{GripsFit, OrderIsKept}
-use Rattle.window_order.specs.TableChanges.{ChangesEach, IsNewOn, answered_change, answered_lineage, noted, scheduled_on, told_write}
-use Rattle.window_order.specs.TableKept.{TableIsKept, status_read}
+use Rattle.window_order.specs.TableChanges.{ChangesEach, answered_change, answered_lineage, noted, scheduled_on, told_write}
+use Rattle.window_order.specs.TableKept.{TableIsKept}
 use Rattle.lock_leasing.specs.Tables.{view_when}
 use Rattle.history_book.specs.Readings.{is_told}
 
 -- One entry more
 
-read_more : (w : Setting) (h : List Kept) (maker : ℕ) (e : Entry) → reading w (entries_of (h ++ kept_by maker (e ∷ []))) ≡ entry w (reading w (entries_of h)) e
+pub read_more : (w : Setting) (h : List Kept) (maker : ℕ) (e : Entry) → reading w (entries_of (h ++ kept_by maker (e ∷ []))) ≡ entry w (reading w (entries_of h)) e
 read_more w h maker e = ap (reading w) (entries_on h maker (e ∷ [])) ∙ reading_more w (entries_of h) e
 
 -- the last entry may stand where it stands

@@ -1,6 +1,6 @@
 -- The planned times of a run whose commands follow one another, one command after the other.
 use Rattle.command_rules.specs.Rosters.{commands_of}
-use Rattle.history_book.specs.Plans.{Planning, greatest, plan_more, planned_end, planned_start, planned_times}
+use Rattle.history_book.specs.Plans.{greatest, plan_more, planned_times}
 use Rattle.history_book.specs.Readings.{Planned, Reading}
 use Rattle.history_book.specs.Settings.{Setting}
 use Rattle.home_types.specs.declared.commands.Command.{Command}
@@ -10,10 +10,9 @@ use Rattle.home_types.specs.declared.modes.Scheduler.{Scheduler}
 use Rattle.home_types.specs.declared.modes.Visibility.TheVariants.{Eventual, Global, Partitioned, Weak}
 use Rattle.home_types.specs.declared.modes.Visibility.{Visibility}
 use Rattle.hub_core.specs.PlansInTurn.{planned_in_turn}
-use Rattle.std.proofs.Common.{ap, append-nil, append_assoc, arith, refl, sym, ◌∙◌}
+use Rattle.std.proofs.Common.{append-nil, append_assoc, arith, sym, ◌∙◌}
 use Rattle.std.proofs.lemmas.Grind.{common_steps}
-use Rattle.std.proofs.lemmas.List.{drop_more}
-use Rattle.std.specs.Prelude.{Bool, List, [], drop, false, find, fold, get_or, if◌then◌else◌, length, max, min, option_map, true, unwrap_or, ℕ, ◌++◌, ◌+◌, ◌<◌, ◌==◌, ◌∷◌, ◌≡◌}
+use Rattle.std.specs.Prelude.{List, [], fold, if◌then◌else◌, max, min, ℕ, ◌++◌, ◌+◌, ◌==◌, ◌∷◌, ◌≡◌}
 
 -- the planned end on the device behind these, where it is this one before them
 abbrev pub end_from : ℕ → ℕ → List Planned → ℕ

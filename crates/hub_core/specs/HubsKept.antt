@@ -64,9 +64,10 @@ pub record HubIsKept {D : Type 0} (stands turns probes faults : D → ℕ) (s : 
 abbrev pub IsEmptyFor : {T : Type 0} → Listed T → ℕ → Type 0
 IsEmptyFor list n = (list.items ≡ []) × (n ≤ list.spare)
 
--- a hub has room for every entry of its history, and for every device in the lists that its closing fills
+-- a hub has room for every entry of its history, and for every item and every device in the lists that its closing fills
 pub record HasRoomLeft {D : Type 0} (s : OpenHub D) (spare : ℕ) (closing : ClosingLists) : Type 0 where
   pub history : entries_of_a_run * length s.setting.runs ≤ spare + length s.history
+  pub order : IsEmptyFor closing.order (entries_of_a_run * length s.setting.runs)
   pub last : IsEmptyFor closing.last (length s.setting.first)
   pub world : IsEmptyFor closing.world (length s.setting.first)
   pub turns : IsEmptyFor closing.turns (length s.setting.first)

@@ -1,7 +1,8 @@
 -- The memory of a window, and what the hub knows as it opens.
+use Rattle.command_rules.specs.Rosters.{Run}
 use Rattle.home_types.specs.HomeStates.{stand_at}
 use Rattle.home_types.specs.Listed.{Listed}
-use Rattle.home_types.specs.declared.items.Item.{Item}
+use Rattle.home_types.specs.declared.worlds.Stand.{Stand}
 use Rattle.history_book.specs.declared.entries.Kept.{Kept}
 use Rattle.hub_core.specs.Homes.{HomeState}
 use Rattle.hub_core.specs.HubCalls.{entries_of_a_run}
@@ -10,22 +11,29 @@ use Rattle.hub_core.specs.declared.hubs.ClosingLists.{ClosingLists}
 use Rattle.hub_core.specs.declared.known.DeviceProgress.{DeviceProgress}
 use Rattle.hub_core.specs.declared.known.RunProgress.{RunProgress}
 use Rattle.hub_core.specs.declared.purposes.Purpose.TheVariants.{Command}
+use Rattle.lineage_table.specs.Lineages.{IsOpened, LineageState}
+use Rattle.serial_line.specs.Marks.{Marked}
 use Rattle.std.specs.Prelude.{List, None, Some, [], false, length, replicate, slice_get, ℕ, ◌*◌, ◌<◌, ◌≡◌, ◌≤◌}
 
 -- nothing has happened to a run
 abbrev pub no_progress : RunProgress
 no_progress = record { arrived = None; placed = false; answered = 0; register = 0; doomed = None; ended = None }
 
--- no entry, no item and no progress of so many runs, with room for all entries of the runs, and an item for each
-pub record IsHistoryRoom (runs : ℕ) (book : Listed Kept) (line : Listed Item) (progress : List RunProgress) : Type 0 where
+-- no entry and no progress of so many runs, with room for all entries of the runs
+pub record IsHistoryRoom (runs : ℕ) (book : Listed Kept) (progress : List RunProgress) : Type 0 where
   pub no_entry : book.items ≡ []
-  pub no_item : line.items ≡ []
   pub enough : entries_of_a_run * runs ≤ book.spare
-  pub as_many : book.spare ≤ line.spare
   pub nothing_done : progress ≡ replicate runs no_progress
 
--- four empty lists with room for so many devices
-pub record IsClosingRoom (devices : ℕ) (closing : ClosingLists) : Type 0 where
+-- an empty line with room for an item for each entry of the runs, and the table of a window that opens
+pub record IsOrderRoom (runs : List Run) (first : List Stand) (line : Marked) (table : List LineageState) : Type 0 where
+  pub no_item : line.marks ≡ []
+  pub enough : entries_of_a_run * length runs ≤ line.spare
+  pub opened : IsOpened runs first table
+
+-- empty lists with room for the items of so many runs, and for so many devices
+pub record IsClosingRoom (devices runs : ℕ) (closing : ClosingLists) : Type 0 where
+  pub order : IsEmptyFor closing.order (entries_of_a_run * runs)
   pub last : IsEmptyFor closing.last devices
   pub world : IsEmptyFor closing.world devices
   pub turns : IsEmptyFor closing.turns devices

@@ -1,7 +1,9 @@
-ghost use Rattle.std.specs.Prelude.{◌≡◌, ◌<◌, Some, None, [], ◌∷◌, max, slice_get, slice_set, ℕ};
+ghost use Rattle.std.specs.Prelude.{◌≡◌, ◌<◌, Some, None, [], if◌then◌else◌, ◌∷◌, max, slice_get, slice_set, ℕ};
 ghost use Rattle.device_gate.specs.Calls.{value_after};
 ghost use Rattle.device_gate.specs.Places.{IsKept};
+ghost use Rattle.history_book.specs.Readings.{is_fine, is_told};
 ghost use Rattle.lock_leasing.specs.Configurations.{read_of};
+ghost use Rattle.lock_leasing.specs.Tables.{view_when};
 ghost use Rattle.hub_core.specs.Decisions.{told_choice};
 ghost use Rattle.hub_core.specs.HubCalls.{Answers, GoesOut, IsGiven, SameWindow};
 ghost use Rattle.hub_core.specs.OpenHubs.{configuration_of, purpose_of};
@@ -11,12 +13,14 @@ ghost use Rattle.history_book.specs.declared.entries.End.TheVariants.{Committed}
 
 use crate::decisions::Chosen;
 use crate::hubs::Hub;
+use crate::kept_orders::Noted;
 use crate::known::DeviceProgress;
 use crate::purposes::Purpose;
 use device_gate::{Done, Grip, Ready, Task, Told};
 use device_states::Steady;
+use fcfs_scheduler::place;
 use history_book::{Entry, Made};
-use home_types::{Answer, DeviceNo, RunNo, Value};
+use home_types::{Answer, DeviceNo, RunNo, Value, View};
 
 /// No entries.
 pub(crate) const NONE_MADE: Made = Made {
@@ -57,6 +61,31 @@ fn value_after(task: Task, stood: Value) -> Value
     }
 }
 
+/// What the answer tells of its device, which stands at this value then.
+fn noted(answer: Answer, held: Value, is_last: bool) -> Noted
+    ensures view { result.view ≡ view_when (is_told answer) }
+    ensures wrote { result.wrote ≡ (if is_fine answer then Some held else None) }
+    ensures last { result.is_last ≡ is_last }
+{
+    match answer {
+        Answer::Fine => Noted {
+            view: View::Up,
+            wrote: Some(held),
+            is_last,
+        },
+        Answer::Found(_) => Noted {
+            view: View::Up,
+            wrote: None,
+            is_last,
+        },
+        Answer::Down => Noted {
+            view: View::Down,
+            wrote: None,
+            is_last,
+        },
+    }
+}
+
 impl<D: Steady> Hub<D> {
     /// The last moment is this one, or the one before where that is later.
     pub(crate) fn reach(&mut self, moment: u64)
@@ -81,8 +110,10 @@ impl<D: Steady> Hub<D> {
         ensures answer { Answers self.old r.0 moment (Moves (entries_made result)) self.new }
         ensures window { SameWindow self.old self.new }
     {
+        let items = place(&self.standing(), r);
         self.moment = self.moment.max(moment);
-        one_made(self.history.place(r, self.moment))
+        self.order.join(self.history.roster(), r, self.moment);
+        one_made(self.history.place(r, items, self.moment))
     }
 
     /// The run commits.
@@ -92,6 +123,7 @@ impl<D: Steady> Hub<D> {
         ensures window { SameWindow self.old self.new }
     {
         self.moment = self.moment.max(moment);
+        self.order.settle(r);
         one_made(self.history.commit(r))
     }
 
@@ -112,6 +144,7 @@ impl<D: Steady> Hub<D> {
         self.moment = self.moment.max(moment);
         self.devices
             .set(d.0 as u64, DeviceProgress { purpose, ..known });
+        self.order.touch(r, d, purpose);
         self.gate.hand_out(d, r.0, known.held, task)
     }
 
@@ -135,6 +168,11 @@ impl<D: Steady> Hub<D> {
         self.moment = self.moment.max(moment);
         self.devices
             .set(d.0 as u64, DeviceProgress { held, ..known });
-        one_made(self.history.answer(RunNo(slip.maker), k, answer_told(told)))
+        let r = RunNo(slip.maker);
+        let answer = answer_told(told);
+        let entry = self.history.answer(r, k, answer);
+        let is_last = !self.history.pends(r, d);
+        self.order.note(d, r, noted(answer, held, is_last));
+        one_made(entry)
     }
 }

@@ -4,6 +4,7 @@ ghost use Rattle.hub_core.specs.HubCalls.{IsClosed};
 ghost use Rattle.hub_core.specs.HubsKept.{IsEmptyFor};
 ghost use Rattle.hub_core.specs.OpenHubs.{configuration_of};
 ghost use Rattle.hub_core.specs.Steps.{not_quiet};
+ghost use Rattle.serial_line.specs.Marks.{items_of};
 
 use crate::homes::Home;
 use crate::hubs::{ClosingLists, Hub};
@@ -12,7 +13,8 @@ use crate::read_histories::ReadHistory;
 use crate::refusals::NotQuiet;
 use device_states::{Device, Steady};
 use history_book::WindowRecord;
-use home_types::{List, Stand, World};
+use home_types::{Item, List, Stand, World};
+use serial_line::Line;
 
 impl<D: Steady> Hub<D> {
     /// Closes the window, and gives the home and the window's record.
@@ -37,6 +39,7 @@ impl<D: Steady> Hub<D> {
     {
         let Hub {
             history,
+            order,
             rounds: _,
             opened,
             moment: _,
@@ -50,10 +53,10 @@ impl<D: Steady> Hub<D> {
             kinds,
             first,
             book,
-            line,
             progress: _,
         } = history;
         let ClosingLists {
+            order: items,
             last,
             world,
             turns,
@@ -64,7 +67,7 @@ impl<D: Steady> Hub<D> {
             mode,
             first,
             history: book.into_list(),
-            order: line,
+            order: items_in(items, &order.line),
             last: World {
                 devices: stands_in(last, &known),
             },
@@ -81,6 +84,19 @@ impl<D: Steady> Hub<D> {
         };
         (home, record)
     }
+}
+
+/// The items of the line, in a list that has room for them.
+fn items_in(empty: List<Item>, line: &Line) -> List<Item>
+    requires room { IsEmptyFor empty (length line.now.marks) }
+    ensures { result.items ≡ items_of line.now.marks }
+{
+    let mut items = empty;
+    'items: for at in 0..line.len() {
+        let pushed = items.push(line.get(at).unwrap());
+        pushed.unwrap();
+    }
+    items
 }
 
 /// Where the devices stand, all of them up, in a list that has room for them.

@@ -6,6 +6,7 @@ ghost use Rattle.hub_core.specs.OpenHubs.{configuration_of, purpose_of};
 ghost use Rattle.hub_core.specs.Stage.{plain_command};
 ghost use Rattle.hub_core.specs.Steps.{choice_of};
 ghost use Rattle.lock_leasing.specs.Configurations.{Commands, has_grip, is_out, read_of};
+ghost use Rattle.lock_leasing.specs.Standings.{IsAtCommand};
 ghost use Rattle.lock_leasing.specs.Waits.{behind_wait, grip_wait, strict_wait};
 
 use crate::hubs::Hub;
@@ -15,6 +16,8 @@ use device_gate::Task;
 use device_states::Device;
 use history_book::End;
 use home_types::{Command, DeviceNo, Job, RunNo};
+use lock_leasing::{Touch, test_touch};
+use visibility_models::may_go;
 
 /// What the step of a run is to do.
 #[derive(Clone, Copy, Debug, PartialEq, Eq)]
@@ -63,16 +66,17 @@ impl<D: Device> Hub<D> {
 
     /// What the next command of `r`, with the number `k`, is to do.
     fn decide_command(&self, r: RunNo, k: u32, command: Command) -> Chosen
-        requires run { IsTrue (is_run self.now.setting.runs r.0) }
+        requires turn { IsAtCommand (configuration_of self.now) r.0 k }
+        requires command { command_at self.now.setting.runs r.0 k ≡ command }
         ensures { (m : ℕ) → told_choice r.0 m (read_of (configuration_of self.now)) result ≡ plain_command self.now.setting (read_of (configuration_of self.now)) (configuration_of self.now).grips r.0 k command }
     {
-        if let Some(x) = self.history.first_pending_before(r, command.device) {
-            return Chosen::Waits(Why::Behind(command.device, x));
+        let standing = self.standing();
+        match test_touch(&standing, r, k) {
+            Touch::Behind(d, x) => return Chosen::Waits(Why::Behind(d, x)),
+            Touch::Dirty(d, x) => return Chosen::Waits(Why::Dirty(d, x)),
+            Touch::Free => {}
         }
-        if let Some(x) = self.history.dirty_wait(r, command) {
-            return Chosen::Waits(Why::Dirty(command.device, x));
-        }
-        if let Some(x) = self.history.strict_wait(r) {
+        if let Some(x) = may_go(self.history.model(), &standing, r) {
             return Chosen::Waits(Why::Strict(x));
         }
         if self.is_out(command.device) {

@@ -1,15 +1,24 @@
 ghost use Rattle.std.specs.Prelude.{◌≡◌, ◌+◌, ◌-◌, ◌<◌, ◌≤◌, ◌↔◌, IsTrue, None, [], length, true, ℕ};
+ghost use Rattle.command_rules.specs.Rosters.{runs_of};
 ghost use Rattle.hub_core.specs.HubCalls.{HistoryIsBounded, HubStands, SomeRunMoves, grip_takes, is_past};
 ghost use Rattle.hub_core.specs.OpenHubs.{configuration_of, device_at};
 ghost use Rattle.hub_core.specs.Steps.{not_quiet, opened};
+ghost use Rattle.lineage_table.specs.Accesses.{IsDisciplined};
+ghost use Rattle.lineage_table.specs.Lineages.{accesses_at};
+ghost use Rattle.lock_leasing.specs.Configurations.{read_of};
+ghost use Rattle.lock_leasing.specs.Standings.{IsStandingOf};
+ghost use Rattle.lock_leasing.specs.Tables.{Represents};
 
+use crate::kept_orders::KeptOrder;
 use crate::known::{Counts, DeviceProgress};
 use crate::purposes::Purpose;
 use crate::read_histories::ReadHistory;
 use crate::refusals::NotQuiet;
 use device_gate::Gate;
 use device_states::{Device, Steady};
-use home_types::{DeviceNo, List, RunNo, Stand};
+use home_types::{DeviceNo, Item, List, RunNo, Stand};
+use lineage_table::Table;
+use lock_leasing::Standing;
 use std::marker::Model;
 
 /// What is known of no device.
@@ -24,9 +33,11 @@ const NOT_KNOWN: DeviceProgress = DeviceProgress {
     },
 };
 
-/// The lists that closing a window fills: empty, each with room for every device.
+/// The lists that closing a window fills: empty, each with room for every device, but for the order.
 #[derive(Drop)]
 pub(crate) struct ClosingLists {
+    /// For the order of the record, with room for an item for each entry that the window may have.
+    pub(crate) order: List<Item>,
     /// For the state of the record.
     pub(crate) last: List<Stand>,
     /// For the state of the home.
@@ -42,6 +53,7 @@ pub(crate) struct ClosingLists {
 #[derive(Drop)]
 pub struct Hub<D: Device> {
     pub(crate) history: ReadHistory,
+    pub(crate) order: KeptOrder,
     pub(crate) rounds: u32,
     pub(crate) opened: u32,
     pub(crate) moment: u64,
@@ -53,7 +65,8 @@ pub struct Hub<D: Device> {
 impl<D: Device> Model for Hub<D> {
     ghost use Rattle.std.specs.Prelude.{◌≡◌, []};
     ghost use Rattle.hub_core.specs.HubsKept.{HasRoomLeft, HubIsKept};
-    ghost use Rattle.hub_core.specs.OpenHubs.{OpenHub};
+    ghost use Rattle.hub_core.specs.KeptOrders.{OrderIsBeside};
+    ghost use Rattle.hub_core.specs.OpenHubs.{OpenHub, configuration_of};
 
     ghost Value = { OpenHub D };
 
@@ -69,7 +82,7 @@ impl<D: Device> Model for Hub<D> {
     } };
 
     ghost invariant = { λ h.
-        HubIsKept D.stands D.turns D.probes D.faults (record {
+        (HubIsKept D.stands D.turns D.probes D.faults (record {
           setting = h.history.setting;
           rounds = h.rounds;
           opened = h.opened;
@@ -88,7 +101,17 @@ impl<D: Device> Model for Hub<D> {
           devices = h.devices.items;
           places = h.gate.places;
           tickets = h.gate.tickets;
-        }) h.history.spare h.closing };
+        }) h.history.spare h.closing)
+        × OrderIsBeside h.history (configuration_of (record {
+          setting = h.history.setting;
+          rounds = h.rounds;
+          opened = h.opened;
+          history = h.history.history;
+          moment = h.moment;
+          devices = h.devices.items;
+          places = h.gate.places;
+          tickets = h.gate.tickets;
+        })).grips h.order.line h.order.table };
 }
 
 impl<D: Device> Hub<D> {
@@ -111,6 +134,26 @@ impl<D: Device> Hub<D> {
         ensures { HistoryIsBounded self.now }
     {
         let _ = &self.moment;
+    }
+
+    /// The lineage table of the window, which represents the configuration.
+    pub fn table(&self) -> &Table
+        ensures represents { Represents self.now.setting (read_of (configuration_of self.now)) (configuration_of self.now).grips result.now }
+        ensures disciplined { (d : ℕ) → IsDisciplined (accesses_at result.now d) }
+    {
+        &self.order.table
+    }
+
+    /// Table, line, history and roster of the window.
+    pub(crate) fn standing(&self) -> Standing<'_>
+        ensures { IsStandingOf (configuration_of self.now) result.table.now result.line.now.marks result.book.now.items (runs_of result.roster.now) }
+    {
+        Standing {
+            table: &self.order.table,
+            line: &self.order.line,
+            book: self.history.book(),
+            roster: self.history.roster(),
+        }
     }
 
     /// Whether nothing was done in the window: no entry, the last moment 0, no device out and no probe taken.

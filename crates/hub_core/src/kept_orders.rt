@@ -1,16 +1,19 @@
 //! The serialization line of a window and its lineage table.
-ghost use Rattle.std.specs.Prelude.{◌≡◌, ◌+◌, ◌<◌, ◌≤◌, ◌^◌, [], IfOk, IsTrue, Some, false, length, map, true, ℕ};
+ghost use Rattle.std.specs.Prelude.{◌≡◌, ◌+◌, ◌<◌, ◌≤◌, ◌^◌, [], IfOk, IsTrue, Some, false, if◌then◌else◌, length, true, ℕ};
 ghost use Rattle.commit_compaction.specs.Commits.{committed_lineage};
 ghost use Rattle.command_rules.specs.Rosters.{commands_of, is_run, runs_of, touches};
 ghost use Rattle.home_types.specs.declared.items.Item.TheVariants.{Ran};
 ghost use Rattle.hub_core.specs.KeptOrders.{MayNote, is_first};
+ghost use Rattle.hub_core.specs.OpenHubs.{purpose_of};
 ghost use Rattle.hub_core.specs.PlansInTurn.{planned_in_turn};
 ghost use Rattle.lineage_table.specs.Accesses.{status_of};
 ghost use Rattle.lineage_table.specs.Lineages.{IsOpened, accesses_at, lineage_at, with_lineage};
-ghost use Rattle.serial_line.specs.Marks.{items_of, stands, touching, with_item};
+ghost use Rattle.lock_leasing.specs.Configurations.{is_command};
+ghost use Rattle.serial_line.specs.Marks.{stands, touching, with_item};
 ghost use Rattle.window_order.specs.TableChanges.{ChangesEach, IsNewOn, acquired_if, noted, scheduled_on, written_if};
 
 use crate::plans::{end_on, start_on};
+use crate::purposes::Purpose;
 use command_rules::Roster;
 use commit_compaction::commit;
 use home_types::{DeviceNo, Item, NoMemory, RunNo, Value, View, World};
@@ -61,7 +64,7 @@ impl KeptOrder {
 
     /// The run stands at the end of the line, and has an access on each of its devices, with the times for which it is
     /// planned at this moment. Takes no memory.
-    pub(crate) fn place(&mut self, roster: &Roster, r: RunNo, moment: u64)
+    pub(crate) fn join(&mut self, roster: &Roster, r: RunNo, moment: u64)
         requires run { IsTrue (is_run (runs_of roster.now) r.0) }
         requires room { 0 < self.old.line.spare }
         requires absent { stands (Ran r) self.old.line.marks ≡ false }
@@ -74,15 +77,18 @@ impl KeptOrder {
         schedule(&mut self.table, roster, r, moment);
     }
 
-    /// A command of the run goes out on the device.
-    pub(crate) fn touch(&mut self, r: RunNo, d: DeviceNo)
+    /// The device goes out to the run for this purpose: it has touched it where that is a command.
+    pub(crate) fn touch(&mut self, r: RunNo, d: DeviceNo, purpose: Purpose)
         requires run { stands (Ran r) self.old.line.marks ≡ true }
         requires device { d.0 < 256 }
-        ensures marks { self.new.line.marks ≡ touching r.0 d.0 self.old.line.marks }
+        ensures marks { self.new.line.marks ≡ (if is_command (purpose_of purpose) then touching r.0 d.0 self.old.line.marks else self.old.line.marks) }
         ensures spare { self.new.line.spare ≡ self.old.line.spare }
         ensures table { self.new.table ≡ self.old.table }
     {
-        self.line.mark(r, d);
+        match purpose {
+            Purpose::Command(_) => self.line.mark(r, d),
+            Purpose::Undo(_) | Purpose::Probe(_) => {}
+        }
     }
 
     /// The run notes an answer on the device.
@@ -137,7 +143,7 @@ impl KeptOrder {
     }
 
     /// The run commits. It stays in the line.
-    pub(crate) fn commit(&mut self, r: RunNo)
+    pub(crate) fn settle(&mut self, r: RunNo)
         ensures line { self.new.line ≡ self.old.line }
         ensures table { ChangesEach (λ d. committed_lineage r.0) self.old.table self.new.table }
     {

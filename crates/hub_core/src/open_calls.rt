@@ -4,12 +4,13 @@ ghost use Rattle.home_types.specs.HomeStates.{stand_at};
 ghost use Rattle.hub_core.specs.HubCalls.{IsOpened};
 ghost use Rattle.hub_core.specs.Homes.{setting_for};
 ghost use Rattle.hub_core.specs.HubsKept.{IsEmptyFor};
-ghost use Rattle.hub_core.specs.OpeningRooms.{AreKnown, IsClosingRoom, IsHistoryRoom, known_first, no_progress};
+ghost use Rattle.hub_core.specs.OpeningRooms.{AreKnown, IsClosingRoom, IsHistoryRoom, IsOrderRoom, known_first, no_progress};
 ghost use Rattle.hub_core.specs.Openings.{MayOpen};
 ghost use Rattle.hub_core.specs.Stage.{StageAllows};
 
 use crate::homes::Home;
 use crate::hubs::{ClosingLists, Hub};
+use crate::kept_orders::KeptOrder;
 use crate::known::{Counts, DeviceProgress, RunProgress};
 use crate::purposes::Purpose;
 use crate::read_histories::ReadHistory;
@@ -17,14 +18,13 @@ use command_rules::Roster;
 use device_gate::Gate;
 use device_states::Device;
 use history_book::Book;
-use home_types::{Item, Kind, List, Mode, NoMemory, World};
+use home_types::{Kind, List, Mode, NoMemory, World};
 use std::alloc::Global;
 
 /// The memory of a window's history.
 #[derive(Drop)]
 struct HistoryRoom {
     book: Book,
-    line: List<Item>,
     progress: List<RunProgress>,
 }
 
@@ -32,6 +32,7 @@ struct HistoryRoom {
 #[derive(Drop)]
 struct Room {
     history: HistoryRoom,
+    order: KeptOrder,
     devices: List<DeviceProgress>,
     closing: ClosingLists,
 }
@@ -56,7 +57,7 @@ impl<D: Device> Home<D> {
         ensures opened { IfOk result (λ hub. IsOpened D.turns D.probes D.faults (setting_for self roster mode) rounds self hub) }
         ensures refused { IfErr result (λ refused. refused.0 ≡ self) }
     {
-        let Ok(room) = self.room(alloc, roster.runs.len(), rounds) else {
+        let Ok(room) = self.room(alloc, &roster, rounds) else {
             return Err((self, NoMemory));
         };
         let Home {
@@ -68,6 +69,7 @@ impl<D: Device> Home<D> {
         match Gate::open(alloc, devices) {
             Ok(gate) => Ok(Hub {
                 history: empty_history(roster, mode, kinds, world, room.history),
+                order: room.order,
                 rounds,
                 opened,
                 moment: 0,
@@ -87,17 +89,21 @@ impl<D: Device> Home<D> {
         }
     }
 
-    /// Takes the memory of a window of so many runs.
-    fn room(&self, alloc: Global, runs: u64, rounds: u32) -> Result<Room, NoMemory>
-        requires few { runs ≤ 64 }
-        ensures history { IfOk result (λ room. IsHistoryRoom runs room.history.book room.history.line room.history.progress.items) }
+    /// Takes the memory of a window of these runs.
+    fn room(&self, alloc: Global, roster: &Roster, rounds: u32) -> Result<Room, NoMemory>
+        requires few { length roster.now.runs.items ≤ 64 }
+        requires devices { length self.now.world ≤ 256 }
+        ensures history { IfOk result (λ room. IsHistoryRoom (length roster.now.runs.items) room.history.book room.history.progress.items) }
+        ensures order { IfOk result (λ room. IsOrderRoom (runs_of roster.now) self.now.world room.order.line room.order.table) }
         ensures devices { IfOk result (λ room. AreKnown D.turns D.probes D.faults self.now rounds (length self.now.devices) room.devices.items) }
-        ensures closing { IfOk result (λ room. IsClosingRoom (length self.now.devices) room.closing) }
+        ensures closing { IfOk result (λ room. IsClosingRoom (length self.now.devices) (length roster.now.runs.items) room.closing) }
     {
+        let runs = roster.runs.len();
         Ok(Room {
             history: history_room(alloc, runs)?,
+            order: KeptOrder::open(alloc, &self.world, roster, ENTRIES_OF_A_RUN * runs)?,
             devices: self.known_devices(alloc, rounds)?,
-            closing: closing_lists(alloc, self.devices.len())?,
+            closing: closing_lists(alloc, self.devices.len(), runs)?,
         })
     }
 
@@ -140,23 +146,18 @@ fn empty_history(
     first: World,
     room: HistoryRoom,
 ) -> ReadHistory
-    requires room { IsHistoryRoom (length roster.runs.items) room.book room.line room.progress.items }
+    requires room { IsHistoryRoom (length roster.runs.items) room.book room.progress.items }
     ensures setting { result.setting ≡ record { runs = runs_of roster; mode = mode; kinds = kinds.items; first = first.devices.items } }
     ensures history { result.history ≡ [] }
     ensures spare { result.spare ≡ room.book.spare }
 {
-    let HistoryRoom {
-        book,
-        line,
-        progress,
-    } = room;
+    let HistoryRoom { book, progress } = room;
     ReadHistory {
         roster,
         mode,
         kinds,
         first,
         book,
-        line,
         progress,
     }
 }
@@ -164,17 +165,12 @@ fn empty_history(
 /// Takes the memory of a history of so many runs.
 fn history_room(alloc: Global, runs: u64) -> Result<HistoryRoom, NoMemory>
     requires few { runs ≤ 64 }
-    ensures { IfOk result (λ room. IsHistoryRoom runs room.book room.line room.progress.items) }
+    ensures { IfOk result (λ room. IsHistoryRoom runs room.book room.progress.items) }
 {
     let mut book = Book::new(alloc);
     book.reserve(ENTRIES_OF_A_RUN * runs)?;
-    let line = roomy_list(alloc, book.spare())?;
     let progress = no_progress(alloc, runs)?;
-    Ok(HistoryRoom {
-        book,
-        line,
-        progress,
-    })
+    Ok(HistoryRoom { book, progress })
 }
 
 /// Nothing has happened to so many runs.
@@ -195,11 +191,13 @@ fn no_progress(alloc: Global, runs: u64) -> Result<List<RunProgress>, NoMemory>
     Ok(progress)
 }
 
-/// The lists that closing fills, with room for so many devices.
-fn closing_lists(alloc: Global, devices: u64) -> Result<ClosingLists, NoMemory>
-    ensures { IfOk result (λ closing. IsClosingRoom devices closing) }
+/// The lists that closing fills, with room for so many devices and for the items of so many runs.
+fn closing_lists(alloc: Global, devices: u64, runs: u64) -> Result<ClosingLists, NoMemory>
+    requires few { runs ≤ 64 }
+    ensures { IfOk result (λ closing. IsClosingRoom devices runs closing) }
 {
     Ok(ClosingLists {
+        order: roomy_list(alloc, ENTRIES_OF_A_RUN * runs)?,
         last: roomy_list(alloc, devices)?,
         world: roomy_list(alloc, devices)?,
         turns: roomy_list(alloc, devices)?,

@@ -212,7 +212,7 @@ answered_run w n r k a = record (n.run r) {
 left_now : (w : Setting) (n : Reading) (r k : ℕ) → k ≡ next_of n r → next_of n r < length (commands_of w.runs r) → drop (next_of n r) (commands_of w.runs r) ≡ command_at w.runs r k ∷ drop (k + 1) (commands_of w.runs r)
 left_now w n r k number more = drop_more (commands_of w.runs r) (next_of n r) no_command more ∙ (λ i. command_at w.runs r (sym number i) ∷ drop (sym number i + 1) (commands_of w.runs r))
 
-left_after : (w : Setting) (n : Reading) (r k : ℕ) (a : Answer) (e : ℕ) → k ≡ next_of n r → touches_from w.runs r e (length (answered_run w n r k a).answers) ≡ touches_from w.runs r e (k + 1)
+pub left_after : (w : Setting) (n : Reading) (r k : ℕ) (a : Answer) (e : ℕ) → k ≡ next_of n r → touches_from w.runs r e (length (answered_run w n r k a).answers) ≡ touches_from w.runs r e (k + 1)
 left_after w n r k a e number = ap (touches_from w.runs r e) (length-append (n.run r).answers (a ∷ []) ∙ ap (λ x. x + 1) (sym number))
 
 -- on another device nothing changes

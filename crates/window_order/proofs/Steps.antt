@@ -445,7 +445,7 @@ found_kept w n g held d r k read at reading passes kept =
 
 -- A command goes out
 
-next_is : (cs : List Command) (k : ℕ) (c : Command) → slice_get cs k ≡ Some c → (k < length cs) × (slice_index_or cs k no_command ≡ c)
+pub next_is : (cs : List Command) (k : ℕ) (c : Command) → slice_get cs k ≡ Some c → (k < length cs) × (slice_index_or cs k no_command ≡ c)
 next_is [] k c at = absurd (cc)
 next_is (x ∷ cs) zero c at = (omega arith, some_is x c at)
 next_is (x ∷ cs) (suc k) c at = let rest = next_is cs k c at in (omega (arith, rest.0), rest.1)

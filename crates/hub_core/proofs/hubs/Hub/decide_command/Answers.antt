@@ -1,32 +1,31 @@
-use Rattle.hub_core.proofs.HubChoices.{command_behind, command_busy, command_dirty, command_goes, command_strict}
-use Rattle.history_book.specs.Histories.{entries_of}
-use Rattle.hub_core.proofs.StageChoices.{never_down, steps_plainly}
-use Rattle.hub_core.proofs.Written.{writes_worked}
+use Rattle.hub_core.proofs.HubChoices.{command_behind, command_busy, command_dirty, command_goes, command_strict, strict_said, touch_said}
 use Rattle.hub_core.proofs.hubs.Hub.decide_command.Goals as goal
-use Rattle.hub_core.specs.OpenHubs.{configuration_of, device_at, grip_in}
-use Rattle.hub_core.specs.ReadHistories.{read_in}
-use Rattle.hub_core.specs.Stage.{plain_command}
-use Rattle.lock_leasing.specs.Configurations.{is_out, read_of}
+use Rattle.hub_core.specs.OpenHubs.{configuration_of}
+use Rattle.lock_leasing.specs.Configurations.{read_of}
+use Rattle.lock_leasing.specs.Standings.{Touching}
 use Rattle.std.proofs.Common.{ap, sym, ◌∙◌}
-use Rattle.std.specs.Prelude.{slice_get}
+use Rattle.visibility_models.specs.Models.{InOrder}
+
+pub test_touch-requires : goal.test_touch-requires
+test_touch-requires g c = Touching (configuration_of c.args.self.now) c.standing-standing.ensures c.requires.turn
+
+pub returns-in-Behind : goal.returns-in-Behind
+returns-in-Behind g c = λ m. command_behind c.args.self.now.setting (read_of (configuration_of c.args.self.now)) (configuration_of c.args.self.now).grips c.args.r.0 c.args.k c.args.command c.in-Behind.d c.in-Behind.x (touch_said (configuration_of c.args.self.now) _ _ _ _ c.args.r.0 c.args.k c.args.command _ c.standing-standing.ensures c.requires.turn c.requires.command c.in-Behind.ensures)
+
+pub returns-in-Dirty : goal.returns-in-Dirty
+returns-in-Dirty g c = λ m. command_dirty c.args.self.now.setting (read_of (configuration_of c.args.self.now)) (configuration_of c.args.self.now).grips c.args.r.0 c.args.k c.args.command c.in-Dirty.d c.in-Dirty.x (touch_said (configuration_of c.args.self.now) _ _ _ _ c.args.r.0 c.args.k c.args.command _ c.standing-standing.ensures c.requires.turn c.requires.command c.in-Dirty.ensures)
+
+pub may_go-requires : goal.may_go-requires
+may_go-requires g c = InOrder (configuration_of c.args.self.now) c.standing-standing.ensures (record { live = c.requires.turn.live; sound = c.requires.turn.sound })
 
 pub returns-in-Some : goal.returns-in-Some
-returns-in-Some g c = λ m. command_behind _ _ (λ d. grip_in (slice_get c.self.inside.gate.places d) (device_at c.self.inside.devices.items d).purpose) c.args.r.0 c.args.k c.args.command c.in-Some.x (steps_plainly _ _ _ _ c.self.invariant.0.configuration) c.in-Some.ensures ∙ ap (λ s. plain_command s.setting (read_of (configuration_of s)) (configuration_of s).grips c.args.r.0 c.args.k c.args.command) c.self.view_is
-
-pub dirty_wait-requires-clause-up : goal.dirty_wait-requires-clause-up
-dirty_wait-requires-clause-up g c = never_down c.self.inside.history.setting (read_in c.self.inside.history) c.args.r.0 c.args.command.device.0 (steps_plainly _ _ _ _ c.self.invariant.0.configuration).read
-
-pub dirty_wait-requires-clause-stage : goal.dirty_wait-requires-clause-stage
-dirty_wait-requires-clause-stage g c = writes_worked c.self.inside.history.setting (entries_of c.self.inside.history.history) c.self.invariant.0.configuration.history.well_formed c.self.invariant.0.configuration.history.plain
-
-pub returns-in-Some-dirty_wait : goal.returns-in-Some-dirty_wait
-returns-in-Some-dirty_wait g c = λ m. command_dirty _ _ (λ d. grip_in (slice_get c.self.inside.gate.places d) (device_at c.self.inside.devices.items d).purpose) c.args.r.0 c.args.k c.args.command c.in-Some-dirty_wait.x (steps_plainly _ _ _ _ c.self.invariant.0.configuration) c.self.invariant.0.configuration.commands c.in_default.ensures c.in-Some-dirty_wait.ensures ∙ ap (λ s. plain_command s.setting (read_of (configuration_of s)) (configuration_of s).grips c.args.r.0 c.args.k c.args.command) c.self.view_is
-
-pub returns-in-Some-strict_wait : goal.returns-in-Some-strict_wait
-returns-in-Some-strict_wait g c = λ m. command_strict _ _ (λ d. grip_in (slice_get c.self.inside.gate.places d) (device_at c.self.inside.devices.items d).purpose) c.args.r.0 c.args.k c.args.command c.in-Some-strict_wait.x (steps_plainly _ _ _ _ c.self.invariant.0.configuration) c.self.invariant.0.configuration.commands c.in_default.ensures c.in_default-dirty_wait.ensures c.in-Some-strict_wait.ensures ∙ ap (λ s. plain_command s.setting (read_of (configuration_of s)) (configuration_of s).grips c.args.r.0 c.args.k c.args.command) c.self.view_is
+returns-in-Some g c = λ m. command_strict c.args.self.now.setting (read_of (configuration_of c.args.self.now)) (configuration_of c.args.self.now).grips c.args.r.0 c.args.k c.args.command c.in-Some.x (touch_said (configuration_of c.args.self.now) _ _ _ _ c.args.r.0 c.args.k c.args.command _ c.standing-standing.ensures c.requires.turn c.requires.command c.in-Free.ensures)
+    (strict_said (configuration_of c.args.self.now) _ _ _ _ c.args.r.0 _ _ c.standing-standing.ensures (c.model.ensures ∙ ap (λ s. s.setting.mode.model) c.self.view_is) c.in-Some.ensures.wait)
 
 pub returns-then-is_out : goal.returns-then-is_out
-returns-then-is_out g c = λ m. command_busy _ _ (λ d. grip_in (slice_get c.self.inside.gate.places d) (device_at c.self.inside.devices.items d).purpose) c.args.r.0 c.args.k c.args.command (steps_plainly _ _ _ _ c.self.invariant.0.configuration) c.self.invariant.0.configuration.commands c.in_default.ensures c.in_default-dirty_wait.ensures c.in_default-strict_wait.ensures (ap (λ s. is_out (configuration_of s).grips c.args.command.device.0) c.self.view_is ∙ sym c.if-is_out.ensures) ∙ ap (λ s. plain_command s.setting (read_of (configuration_of s)) (configuration_of s).grips c.args.r.0 c.args.k c.args.command) c.self.view_is
+returns-then-is_out g c = λ m. command_busy c.args.self.now.setting (read_of (configuration_of c.args.self.now)) (configuration_of c.args.self.now).grips c.args.r.0 c.args.k c.args.command (touch_said (configuration_of c.args.self.now) _ _ _ _ c.args.r.0 c.args.k c.args.command _ c.standing-standing.ensures c.requires.turn c.requires.command c.in-Free.ensures)
+    (strict_said (configuration_of c.args.self.now) _ _ _ _ c.args.r.0 _ _ c.standing-standing.ensures (c.model.ensures ∙ ap (λ s. s.setting.mode.model) c.self.view_is) c.in_default.ensures.wait) (sym c.if-is_out.ensures)
 
 pub returns : goal.returns
-returns g c = λ m. command_goes _ _ (λ d. grip_in (slice_get c.self.inside.gate.places d) (device_at c.self.inside.devices.items d).purpose) c.args.r.0 c.args.k c.args.command (steps_plainly _ _ _ _ c.self.invariant.0.configuration) c.self.invariant.0.configuration.commands c.in_default.ensures c.in_default-dirty_wait.ensures c.in_default-strict_wait.ensures (ap (λ s. is_out (configuration_of s).grips c.args.command.device.0) c.self.view_is ∙ sym c.if-is_out.ensures) ∙ ap (λ s. plain_command s.setting (read_of (configuration_of s)) (configuration_of s).grips c.args.r.0 c.args.k c.args.command) c.self.view_is
+returns g c = λ m. command_goes c.args.self.now.setting (read_of (configuration_of c.args.self.now)) (configuration_of c.args.self.now).grips c.args.r.0 c.args.k c.args.command (touch_said (configuration_of c.args.self.now) _ _ _ _ c.args.r.0 c.args.k c.args.command _ c.standing-standing.ensures c.requires.turn c.requires.command c.in-Free.ensures)
+    (strict_said (configuration_of c.args.self.now) _ _ _ _ c.args.r.0 _ _ c.standing-standing.ensures (c.model.ensures ∙ ap (λ s. s.setting.mode.model) c.self.view_is) c.in_default.ensures.wait) (sym c.if-is_out.ensures)

@@ -1,7 +1,7 @@
 use Rattle.hub_core.proofs.NotedAnswers.{noted_all, with_same}
 use Rattle.hub_core.proofs.kept_orders.KeptOrder.note.Goals as goal
-use Rattle.lineage_table.specs.Lineages.{LineageState, with_lineage}
-use Rattle.std.proofs.Common.{ap, sym, ◌<◌, ◌≡◌, ◌∙◌}
+use Rattle.lineage_table.specs.Lineages.{with_lineage}
+use Rattle.std.proofs.Common.{ap, sym, ◌∙◌}
 use Rattle.window_order.specs.TableChanges.{released_if}
 
 pub returns-then-told-clause-table : goal.returns-then-told-clause-table

@@ -11,7 +11,7 @@ runs-preserved c =
     let count = ap (λ s. length s.setting.runs) c.self.view_is in
     let here : c.runs.at < length c.self.inside.progress.items = omega (arith, c.runs-test.true, c.len-at-end.ensures) in
     let within : c.runs.at < length c.args.self.now.setting.runs = omega (arith, here, c.self.invariant.size, count) in
-    let ended = ended_at _ _ _ c.runs.at _ true c.self.invariant here (sym c.get.ensures ∙ ap option_copied c.unwrap.ensures) c.if-is_none.ensures in
+    let ended = ended_at _ _ c.runs.at _ true c.self.invariant here (sym c.get.ensures ∙ ap option_copied c.unwrap.ensures) c.if-is_none.ensures in
     past_number (λ r. is_none ((read_in c.args.self.now).run r).ended) 1 _ c.runs.at within (ap (λ s. is_none ((read_in s).run (1 + c.runs.at)).ended) (sym c.self.view_is) ∙ ended) c.runs.invariant
 
 pub returns-then-is_none : goal.returns-then-is_none
@@ -19,7 +19,7 @@ returns-then-is_none c =
     let count = ap (λ s. length s.setting.runs) c.self.view_is in
     let here : c.runs.at < length c.self.inside.progress.items = omega (arith, c.runs-test.true, c.len-at-end.ensures) in
     let within : c.runs.at < length c.args.self.now.setting.runs = omega (arith, here, c.self.invariant.size, count) in
-    let going = ended_at _ _ _ c.runs.at _ false c.self.invariant here (sym c.get.ensures ∙ ap option_copied c.unwrap.ensures) c.if-is_none.ensures in
+    let going = ended_at _ _ c.runs.at _ false c.self.invariant here (sym c.get.ensures ∙ ap option_copied c.unwrap.ensures) c.if-is_none.ensures in
     let number : c.runs.at + 1 ≡ 1 + c.runs.at = omega arith in
     ap (λ (k : ℕ). Some k) number ∙ here_number (λ r. is_none ((read_in c.args.self.now).run r).ended) 1 _ c.runs.at within (ap (λ s. is_none ((read_in s).run (1 + c.runs.at)).ended) (sym c.self.view_is) ∙ going) c.runs.invariant
 

@@ -1,8 +1,0 @@
-use Rattle.hub_core.proofs.Searching.{found}
-use Rattle.hub_core.proofs.read_histories.ReadHistory.first_before.Given as goal
-use Rattle.hub_core.specs.ReadHistories.{read_in}
-use Rattle.std.specs.Prelude.{drop, true, ◌≡◌}
-
--- no run is found up to here
-abbrev pub invariant-items : goal.invariant-items
-invariant-items l = found (read_in l.self) l.r.0 (λ x. true) (drop l.item-index (read_in l.self).line) ≡ found (read_in l.self) l.r.0 (λ x. true) (read_in l.self).line
