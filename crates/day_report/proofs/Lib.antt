@@ -1,5 +1,4 @@
 pub mod Counts
-pub mod Ends
 pub mod Growing
 pub mod Homes
 pub mod Parts

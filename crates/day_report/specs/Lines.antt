@@ -1,6 +1,7 @@
 -- The lines of a window. Each ends with a line feed.
 use Rattle.day_clock.specs.declared.times.When.{When}
 use Rattle.day_report.specs.Words.{answer_text, cause_text, device_name, states_of, routine_name, value_text}
+use Rattle.history_book.specs.Books.{end_of}
 use Rattle.history_book.specs.declared.entries.End.TheVariants.{Aborted, Committed}
 use Rattle.history_book.specs.declared.entries.End.{End}
 use Rattle.history_book.specs.declared.entries.Entry.TheVariants.{Arrived, Did, Doomed, Ended, Fell, Placed, Rose, Undid}
@@ -17,7 +18,6 @@ use Rattle.routine_reader.specs.declared.scripts.Script.{Script}
 use Rattle.routine_reader.specs.declared.scripts.WindowText.{WindowText}
 use Rattle.std.specs.Fmt.{decimal}
 use Rattle.std.specs.List.{enumerate_from, flat_map}
-use Rattle.std.specs.Option.{option_or}
 use Rattle.std.specs.Prelude.{List, None, Option, Some, [], codes, if◌then◌else◌, nat_lt, ℕ, ◌+◌, ◌++◌, ◌==◌, ◌∷◌}
 
 -- a zero where the number is below this power of ten
@@ -64,16 +64,6 @@ trace_line script window kept = codes "# " ++ entry_text script window kept.entr
 unfoldable pub trace_lines : Script → WindowText → List Kept → List ℕ
 trace_lines script window history = flat_map (trace_line script window) history
 
--- how the run ended, where the entry says so
-abbrev pub end_in : ℕ → Entry → Option End
-end_in r (Ended q end) = (if q.0 == r then Some end else None)
-end_in r _ = None
-
--- how the run ended: its first entry that says so
-unfoldable pub end_of : ℕ → List Kept → Option End
-end_of r [] = None
-end_of r (kept ∷ history) = option_or (end_in r kept.entry) (end_of r history)
-
 -- the answer of an entry, where it is one of the run
 unfoldable pub answer_word : Script → WindowText → ℕ → Entry → List ℕ
 answer_word script window r (Did q c answer) = (if q.0 == r then codes " " ++ answer_text (states_of script window r c) answer else [])
@@ -92,7 +82,7 @@ end_text script window history r (Some (Aborted cause)) = codes " aborted " ++ c
 -- the line of a run: its number, its routine, its end
 unfoldable pub run_line : Script → WindowText → List Kept → ℕ → ℕ → List ℕ
 run_line script window history r routine =
-    codes "run " ++ decimal r ++ codes " " ++ routine_name script routine ++ end_text script window history r (end_of r history) ++ codes "\n"
+    codes "run " ++ decimal r ++ codes " " ++ routine_name script routine ++ end_text script window history r (end_of history r) ++ codes "\n"
 
 -- a line for each run of the window
 unfoldable pub run_lines : Script → WindowText → List Kept → List ℕ

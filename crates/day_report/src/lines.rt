@@ -1,6 +1,7 @@
 //! The lines of a window.
 ghost use Rattle.std.specs.Prelude.{◌≡◌, ◌++◌, OnOk, string_bytes};
 ghost use Rattle.home_types.specs.HomeStates.{stand_at as stand_in};
+ghost use Rattle.history_book.specs.Books.{end_in, end_of};
 ghost use Rattle.day_report.specs.Lines as said;
 
 use crate::lookups::{device_name, routine_name, states_of};
@@ -97,7 +98,7 @@ pub fn push_trace(
 
 /// How the run ended, where the entry says so.
 fn end_in(run: u64, entry: Entry) -> Option<End>
-    ensures { result ≡ said.end_in run entry }
+    ensures { result ≡ end_in run entry }
 {
     match entry {
         Entry::Ended(ended, end) if ended.0 as u64 == run => Some(end),
@@ -106,16 +107,10 @@ fn end_in(run: u64, entry: Entry) -> Option<End>
 }
 
 /// How the run ended: its first entry that says so.
-#[tactic(auto, using(crate::proofs::Ends::end_found, crate::proofs::Ends::end_passed, crate::proofs::Ends::end_missing))]
 fn end_of(run: u64, history: &[Kept]) -> Option<End>
-    ensures { result ≡ said.end_of run history.now }
+    ensures { result ≡ end_of history.now run }
 {
-    'entries: for kept in history {
-        if let Some(end) = end_in(run, kept.entry) {
-            return Some(end);
-        }
-    }
-    None
+    history.iter().find_map(|kept| end_in(run, kept.entry))
 }
 
 /// Appends the answer of an entry, where it is one of the run.
@@ -164,7 +159,7 @@ fn push_end(
     history: &[Kept],
     run: u64,
 ) -> Result<(), AllocError>
-    ensures { OnOk result (string_bytes text.new ≡ string_bytes text.old ++ said.end_text script.now window.now history.now run (said.end_of run history.now)) }
+    ensures { OnOk result (string_bytes text.new ≡ string_bytes text.old ++ said.end_text script.now window.now history.now run (end_of history.now run)) }
 {
     match end_of(run, history) {
         Some(End::Committed) => {

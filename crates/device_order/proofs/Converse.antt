@@ -1,8 +1,8 @@
 -- The answers of an execution that is not refused fit one another.
 use Rattle.device_order.proofs.Runs.{effect_of, stand_at_set, then_here, then_there}
-use Rattle.device_order.specs.Summaries.{Answered, AnswerFits, AnswersFit, AreHomed, DeviceSummary, FitsExecution, Meets, MeetsHome, NoneFails, Summary, answer_of, blank, command_of, device_summary_then, overwritten, summary, summary_then, written}
+use Rattle.device_order.specs.Summaries.{Answered, AnswerFits, AnswersFit, AreHomed, DeviceSummary, FitsExecution, Meets, MeetsHome, NoneFails, Summary, answer_of, blank, command_of, device_summary_then, overwritten, summary, summary_then}
 use Rattle.device_order.specs.Usages.{is_down, is_up}
-use Rattle.home_types.specs.Commands.{Effect, Execution, command_effect, execute, fails, reads, routine_execution, up_effect, with_effect}
+use Rattle.home_types.specs.Commands.{Effect, Execution, command_effect, driven, execute, fails, reads, routine_execution, up_effect, with_effect}
 use Rattle.home_types.specs.HomeStates.{stand_at}
 use Rattle.home_types.specs.Kinds.{kind_at}
 use Rattle.home_types.specs.declared.commands.Answer.TheVariants.{Down}
@@ -20,7 +20,7 @@ use Rattle.std.specs.Prelude.{if◌then◌else◌, is_some, ◌==◌, ◌||◌}
 -- the effect of a job at a device that meets the summary: its answer fits, and with it the device meets the summary
 record Matches (kind : Kind) (job : Job) (register : ℕ) (t : DeviceSummary) (s : Stand) (e : Effect) : Type 0 where
   fits : AnswerFits (reads job) t e.answer
-  meets : Meets s (device_summary_then t (written kind job register) e.answer)
+  meets : Meets s (device_summary_then t (driven kind job register) e.answer)
   effect : e ≡ effect_of kind job register t s e.answer
 
 same_effect : (kind : Kind) (job : Job) (register : ℕ) (t : DeviceSummary) (s : Stand)
@@ -63,7 +63,7 @@ matches kind job register t s m = record {
     answer Load true h = (refl, up h, own t.wrote, same)
     answer Store true h = (refl, up h)
 
-    met : (job : Job) → Meets s (device_summary_then t (written kind job register) (command_effect kind job register (overwritten s t.wrote)).answer)
+    met : (job : Job) → Meets s (device_summary_then t (driven kind job register) (command_effect kind job register (overwritten s t.wrote)).answer)
     met job = grind (arith, common_steps)
 
 -- from the middle
@@ -126,7 +126,7 @@ coheres kinds w from s (c ∷ cs) er ez es m ho e =
         second : (a b : Bool) → (a || b) ≡ false → b ≡ false
         second a b h = grind (arith, common_steps)
 
-    wrote_here : (summary_then kinds s p).on d ≡ device_summary_then (s.on d) (written k c.job s.register) x.answer
+    wrote_here : (summary_then kinds s p).on d ≡ device_summary_then (s.on d) (driven k c.job s.register) x.answer
     wrote_here = then_here kinds s p d refl
 
     stands : (q : ℕ) → q < length w → stand_at n.home q ≡ overwritten (stand_at w q) ((summary_then kinds s p).on q).wrote

@@ -2,13 +2,13 @@
 use Rattle.device_order.proofs.Runs.{fit_more, none_more, summary_more, then_here, then_there}
 use Rattle.device_order.specs.LineEntries.{stage_of, usage}
 use Rattle.device_order.specs.RunStates.{RunState, answered, device_summary, paired, remaining, rest, summary_of, uses}
-use Rattle.device_order.specs.Summaries.{AnswersFit, AreHomed, DeviceSummary, FitsSummary, NoneFails, Summary, blank, device_summary_then, summary, summary_then, written}
+use Rattle.device_order.specs.Summaries.{AnswersFit, AreHomed, DeviceSummary, FitsSummary, NoneFails, Summary, blank, device_summary_then, summary, summary_then}
 use Rattle.device_order.specs.Usages.{doomed_stage}
 use Rattle.device_order.specs.WindowSteps.{GetsAnswer}
 use Rattle.device_order.specs.Windows.{RunInvariant}
 use Rattle.device_order.specs.declared.records.Grip.TheVariants.{Free}
 use Rattle.device_order.specs.declared.records.Stage.{Stage}
-use Rattle.home_types.specs.Commands.{fails}
+use Rattle.home_types.specs.Commands.{driven, fails}
 use Rattle.home_types.specs.Kinds.{kind_at}
 use Rattle.home_types.specs.declared.commands.Answer.{Answer}
 use Rattle.home_types.specs.declared.commands.Command.{Command}
@@ -64,11 +64,11 @@ gave_reading kinds l l' c ds a k g = ap (summary kinds blank) (gave_answered l l
 
 -- the run at the device of the answer, ..
 pub gave_here : (kinds : List Kind) (l l' : RunState) (c : Command) (ds : List Command) (a : Answer) (k : Bool) (d : ℕ) → GetsAnswer l l' c ds a k → d ≡ c.device.0
-    → device_summary kinds l' d ≡ device_summary_then (device_summary kinds l d) (written (kind_at kinds c.device.0) c.job (summary_of kinds l).register) a
+    → device_summary kinds l' d ≡ device_summary_then (device_summary kinds l d) (driven (kind_at kinds c.device.0) c.job (summary_of kinds l).register) a
 gave_here kinds l l' c ds a k d g e = ap (λ (s : Summary). s.on d) (gave_reading kinds l l' c ds a k g) ∙ then_here kinds (summary_of kinds l) (record { command = c; answer = a }) d e
 
 pub gave_usage : (kinds : List Kind) (l l' : RunState) (c : Command) (ds : List Command) (a : Answer) (k : Bool) → GetsAnswer l l' c ds a k
-    → usage kinds l' c.device.0 ≡ (let t : DeviceSummary = device_summary_then (device_summary kinds l c.device.0) (written (kind_at kinds c.device.0) c.job (summary_of kinds l).register) a in
+    → usage kinds l' c.device.0 ≡ (let t : DeviceSummary = device_summary_then (device_summary kinds l c.device.0) (driven (kind_at kinds c.device.0) c.job (summary_of kinds l).register) a in
     record { stage = stage_of l.committed (l.doomed || k) (uses c.device.0 ds); view = t.view; read = t.read; wrote = t.wrote; undid = l.undid c.device.0; grip = Free })
 gave_usage kinds l l' c ds a k g = λ i. record {
   stage = stage_of (g.committed i) (g.doomed i) (uses c.device.0 (gave_rest l l' c ds a k g i));

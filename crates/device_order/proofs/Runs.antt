@@ -1,7 +1,7 @@
 -- A run whose answers fit one another is executed serially with them.
-use Rattle.device_order.specs.Summaries.{Answered, AnswerFits, AnswersFit, AreHomed, DeviceSummary, FitsSummary, GivesAnswers, Meets, MeetsHome, NoneFails, Summary, answer_of, blank, command_of, device_summary_then, first_view, loaded, overwritten, summary, summary_then, written}
+use Rattle.device_order.specs.Summaries.{Answered, AnswerFits, AnswersFit, AreHomed, DeviceSummary, FitsSummary, GivesAnswers, Meets, MeetsHome, NoneFails, Summary, answer_of, blank, command_of, device_summary_then, first_view, overwritten, summary, summary_then}
 use Rattle.device_order.specs.Usages.{is_down, is_up}
-use Rattle.home_types.specs.Commands.{Effect, Execution, command_effect, execute, fails, reads, routine_execution, with_effect}
+use Rattle.home_types.specs.Commands.{Effect, Execution, command_effect, driven, execute, fails, reads, register_after, routine_execution, with_effect}
 use Rattle.home_types.specs.HomeStates.{stand_at}
 use Rattle.home_types.specs.Kinds.{kind_at}
 use Rattle.home_types.specs.declared.commands.Answer.TheVariants.{Down, Fine, Found}
@@ -17,7 +17,7 @@ use Rattle.std.specs.Prelude.{if◌then◌else◌, is_some, slice_set, ◌==◌,
 
 -- the effect of a job with this answer, where the device is as the run's answers say
 abbrev pub effect_of : Kind → Job → ℕ → DeviceSummary → Stand → Answer → Effect
-effect_of kind job register t s a = record { answer = a; register = loaded job register a; stand = overwritten s (device_summary_then t (written kind job register) a).wrote }
+effect_of kind job register t s a = record { answer = a; register = register_after job a register; stand = overwritten s (device_summary_then t (driven kind job register) a).wrote }
 
 stands_up : (o : Option View) (u : Bool) → (is_some (first_view o Up) ≡ true → is_up (first_view o Up) ≡ u) → is_down o ≡ false → u ≡ true
 stands_up None u h g = sym (h refl)
@@ -30,7 +30,7 @@ stands_down (Some Up) u h g = grind (arith, common_steps)
 stands_down (Some ViewDown) u h g = sym (h refl)
 
 -- an answer that fits is the one that the command's effect gives
-effect_fits : (kind : Kind) (job : Job) (register : ℕ) (t : DeviceSummary) (s : Stand) (a : Answer) → AnswerFits (reads job) t a → Meets s (device_summary_then t (written kind job register) a)
+effect_fits : (kind : Kind) (job : Job) (register : ℕ) (t : DeviceSummary) (s : Stand) (a : Answer) → AnswerFits (reads job) t a → Meets s (device_summary_then t (driven kind job register) a)
     → command_effect kind job register (overwritten s t.wrote) ≡ effect_of kind job register t s a
 effect_fits kind job register t s Down f m = let u = stands_down t.view s.up m.view f in grind (arith, common_steps)
 effect_fits kind job register t s Fine f m = let u = stands_up t.view s.up m.view f.1 in grind (arith, common_steps)
@@ -57,8 +57,8 @@ meets_before s t v (Found x) m = record { view = λ h. seen t.view s.up Up m.vie
 then_meets : (kinds : List Kind) (s : Summary) (p : Answered) (d : ℕ) (x : Stand) → Meets x ((summary_then kinds s p).on d) → Meets x (s.on d)
 then_meets kinds s p d x m = at_ (d == p.command.device.0) m
   where
-    at_ : (b : Bool) → Meets x (if b then device_summary_then (s.on d) (written (kind_at kinds p.command.device.0) p.command.job s.register) p.answer else s.on d) → Meets x (s.on d)
-    at_ true m = meets_before x (s.on d) (written (kind_at kinds p.command.device.0) p.command.job s.register) p.answer m
+    at_ : (b : Bool) → Meets x (if b then device_summary_then (s.on d) (driven (kind_at kinds p.command.device.0) p.command.job s.register) p.answer else s.on d) → Meets x (s.on d)
+    at_ true m = meets_before x (s.on d) (driven (kind_at kinds p.command.device.0) p.command.job s.register) p.answer m
     at_ false m = m
 
 summary_meets : (kinds : List Kind) (s : Summary) (ps : List Answered) (d : ℕ) (x : Stand) → Meets x ((summary kinds s ps).on d) → Meets x (s.on d)
@@ -67,7 +67,7 @@ summary_meets kinds s [] d x m = m
 summary_meets kinds s (p ∷ ps) d x m = then_meets kinds s p d x (summary_meets kinds (summary_then kinds s p) ps d x m)
 
 -- one more answer changes the summary of its device, ..
-pub then_here : (kinds : List Kind) (s : Summary) (p : Answered) (d : ℕ) → d ≡ p.command.device.0 → (summary_then kinds s p).on d ≡ device_summary_then (s.on d) (written (kind_at kinds p.command.device.0) p.command.job s.register) p.answer
+pub then_here : (kinds : List Kind) (s : Summary) (p : Answered) (d : ℕ) → d ≡ p.command.device.0 → (summary_then kinds s p).on d ≡ device_summary_then (s.on d) (driven (kind_at kinds p.command.device.0) p.command.job s.register) p.answer
 then_here kinds s p d e = grind (arith, common_steps)
 
 -- .. and of no other
@@ -94,7 +94,7 @@ step_fits kinds w from s p er eb es f ok m =
     ∙ effect_fits k p.command.job s.register (s.on d) (stand_at w d) p.answer f (subst (Meets (stand_at w d)) here m) in
     let no : (from.refused || fails p.command p.answer) ≡ false = neither from.refused (fails p.command p.answer) eb ok in
     ap (with_effect from p.command) e
-    ∙ (λ i. record { home = slice_set from.home d (overwritten (stand_at w d) (sym here i).wrote); register = loaded p.command.job s.register p.answer; answers = from.answers ++ p.answer ∷ []; refused = no i })
+    ∙ (λ i. record { home = slice_set from.home d (overwritten (stand_at w d) (sym here i).wrote); register = register_after p.command.job p.answer s.register; answers = from.answers ++ p.answer ∷ []; refused = no i })
   where
     neither : (x y : Bool) → x ≡ false → y ≡ false → (x || y) ≡ false
     neither x y h g = grind (arith, common_steps)

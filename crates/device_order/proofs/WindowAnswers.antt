@@ -15,7 +15,7 @@ use Rattle.device_order.specs.LineOrders.{EventsAreHomed}
 use Rattle.device_order.specs.LineWords.{any_run, at_device}
 use Rattle.device_order.specs.Records.{IsHome, walk_start}
 use Rattle.device_order.specs.RunStates.{RunState, rest, summary_of, uses}
-use Rattle.device_order.specs.Summaries.{first_view, written}
+use Rattle.device_order.specs.Summaries.{first_view}
 use Rattle.device_order.specs.Usages.{counts_serially, has_grip, has_pending, is_command, is_committed, is_doomed, is_down, is_open, is_up}
 use Rattle.device_order.specs.Walks.{GripFits, UsageFits, WalkState, walk_end, with_event}
 use Rattle.device_order.specs.WindowSteps.{AccessDies, ChangesInPlace, DownIsAnswered, IsHomeAt, ReadIsAnswered, WriteIsAnswered, with_event_in}
@@ -27,7 +27,7 @@ use Rattle.device_order.specs.declared.records.OrderEntry.TheVariants.{Occurred,
 use Rattle.device_order.specs.declared.records.Stage.{Stage}
 use Rattle.device_order.specs.declared.records.Stage.TheVariants.{Pending}
 use Rattle.device_order.specs.declared.records.Usage.{Usage}
-use Rattle.home_types.specs.Commands.{fails}
+use Rattle.home_types.specs.Commands.{driven, fails}
 use Rattle.home_types.specs.HomeStates.{stand_at}
 use Rattle.home_types.specs.Kinds.{kind_at}
 use Rattle.home_types.specs.declared.commands.Answer.TheVariants.{Down, Fine, Found}
@@ -121,7 +121,7 @@ write_answered kinds s s' r c ds k w o =
     down = out_view z u (run_fits kinds s r d m.front m.back (o.devices d lt) m.at used) (ap is_command w.out)
 
     x : ℕ
-    x = written (kind_at kinds d) c.job (summary_of kinds l).register
+    x = driven (kind_at kinds d) c.job (summary_of kinds l).register
 
     st : Stage
     st = stage_of l.committed (l.doomed || k) (uses d ds)

@@ -1,13 +1,11 @@
 -- What the answers of a run say, read from the first to the last, and when they are those of a serial execution.
 use Rattle.device_order.specs.Usages.{is_down, is_up}
-use Rattle.home_types.specs.Commands.{Execution, fails, reads}
+use Rattle.home_types.specs.Commands.{Execution, driven, fails, reads, register_after}
 use Rattle.home_types.specs.HomeStates.{stand_at}
-use Rattle.home_types.specs.Kinds.{kind_at, nearest}
+use Rattle.home_types.specs.Kinds.{kind_at}
 use Rattle.home_types.specs.declared.commands.Answer.TheVariants.{Down, Fine, Found}
 use Rattle.home_types.specs.declared.commands.Answer.{Answer}
 use Rattle.home_types.specs.declared.commands.Command.{Command}
-use Rattle.home_types.specs.declared.commands.Job.TheVariants.{Check, Load, Set, Store}
-use Rattle.home_types.specs.declared.commands.Job.{Job}
 use Rattle.home_types.specs.declared.commands.View.TheVariants.{Down as ViewDown, Up}
 use Rattle.home_types.specs.declared.commands.View.{View}
 use Rattle.home_types.specs.declared.kinds.Kind.{Kind}
@@ -51,33 +49,17 @@ abbrev pub first_view : Option View → View → Option View
 first_view None view = Some view
 first_view (Some seen) view = Some seen
 
--- the value that a write drives, with this register
-abbrev pub written : Kind → Job → ℕ → ℕ
-written kind (Set v) register = v
-written kind (Check v) register = 0
-written kind Load register = 0
-written kind Store register = nearest kind register
-
 -- one more answer on the device, of a command that drives v if it writes
 abbrev pub device_summary_then : DeviceSummary → ℕ → Answer → DeviceSummary
 device_summary_then t v Fine = record t { view = first_view t.view Up; wrote = Some v }
 device_summary_then t v (Found x) = record t { view = first_view t.view Up; read = if is_some t.read || is_some t.wrote then t.read else Some x }
 device_summary_then t v Down = record t { view = first_view t.view ViewDown }
 
--- the register after an answer
-abbrev pub loaded : Job → ℕ → Answer → ℕ
-loaded Load register (Found x) = x
-loaded Load register Fine = register
-loaded Load register Down = register
-loaded (Set v) register a = register
-loaded (Check v) register a = register
-loaded Store register a = register
-
 -- one more answer
 abbrev pub summary_then : List Kind → Summary → Answered → Summary
 summary_then kinds s p = record {
-  register = loaded p.command.job s.register p.answer;
-  on = λ d. if d == p.command.device.0 then device_summary_then (s.on d) (written (kind_at kinds p.command.device.0) p.command.job s.register) p.answer else s.on d;
+  register = register_after p.command.job p.answer s.register;
+  on = λ d. if d == p.command.device.0 then device_summary_then (s.on d) (driven (kind_at kinds p.command.device.0) p.command.job s.register) p.answer else s.on d;
 }
 
 -- the summary s with these answers after it

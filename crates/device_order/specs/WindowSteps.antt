@@ -5,12 +5,12 @@ use Rattle.device_order.specs.LineChanges.{IsFront, Lacks, SameBut, line_with_ev
 use Rattle.device_order.specs.LineEntries.{command_grip}
 use Rattle.device_order.specs.LineWords.{any_run, at_device, effective_writer, is_calm_line, standing_value_on}
 use Rattle.device_order.specs.RunStates.{RunState, device_summary, rest, summary_of, uses}
-use Rattle.device_order.specs.Summaries.{AreHomed, written}
+use Rattle.device_order.specs.Summaries.{AreHomed}
 use Rattle.device_order.specs.Usages.{has_grip, has_pending, is_command, is_down, spans_up}
 use Rattle.device_order.specs.Windows.{WindowRecord}
 use Rattle.device_order.specs.declared.records.Grip.TheVariants.{Free, Reads, Undoes, Writes}
 use Rattle.device_order.specs.declared.records.Probe.TheVariants.{Asks, Restores, Unprobed}
-use Rattle.home_types.specs.Commands.{fails, reads}
+use Rattle.home_types.specs.Commands.{driven, fails, reads}
 use Rattle.home_types.specs.HomeStates.{stand_at}
 use Rattle.home_types.specs.Kinds.{kind_at}
 use Rattle.home_types.specs.declared.commands.Answer.{Answer}
@@ -141,7 +141,7 @@ pub record WriteIsAnswered (kinds : List Kind) (s s' : WindowRecord) (r : ℕ) (
   pub out : (s.states r).grip c.device.0 ≡ Writes
   pub job : reads c.job ≡ false
   pub up : s'.up c.device.0 ≡ s.up c.device.0
-  pub held : s'.held c.device.0 ≡ written (kind_at kinds c.device.0) c.job (summary_of kinds (s.states r)).register
+  pub held : s'.held c.device.0 ≡ driven (kind_at kinds c.device.0) c.job (summary_of kinds (s.states r)).register
   pub probe : s'.probe c.device.0 ≡ s.probe c.device.0
   pub still : (d : ℕ) → d ≢ c.device.0 → IsStill s s' d
 

@@ -5,7 +5,7 @@ use Rattle.device_order.proofs.Runs.{summary_more}
 use Rattle.device_order.specs.LineChanges.{Lacks}
 use Rattle.device_order.specs.LineWords.{RunsAreDistinct}
 use Rattle.device_order.specs.RunStates.{paired, remaining}
-use Rattle.device_order.specs.Summaries.{DeviceSummary, Summary, blank, device_summary_then, first_view, loaded, summary, summary_then, written}
+use Rattle.device_order.specs.Summaries.{DeviceSummary, Summary, blank, device_summary_then, first_view, summary, summary_then}
 use Rattle.history_book.proofs.Logs.{Logged, logged}
 use Rattle.history_book.proofs.Once.{StandsOnce, stands_once}
 use Rattle.history_book.proofs.Shapes.{Shaped, put_all, shapes}
@@ -23,8 +23,6 @@ use Rattle.home_types.specs.Kinds.{kind_at}
 use Rattle.home_types.specs.declared.commands.Answer.TheVariants.{Down, Fine, Found}
 use Rattle.home_types.specs.declared.commands.Answer.{Answer}
 use Rattle.home_types.specs.declared.commands.Command.{Command}
-use Rattle.home_types.specs.declared.commands.Job.TheVariants.{Check, Load, Set, Store}
-use Rattle.home_types.specs.declared.commands.Job.{Job}
 use Rattle.home_types.specs.declared.commands.View.TheVariants.{Down as SeenDown, Up}
 use Rattle.home_types.specs.declared.commands.View.{View}
 use Rattle.home_types.specs.declared.items.Item.TheVariants.{Back, Failed, Ran}
@@ -86,20 +84,6 @@ record Agrees (t : DeviceSummary) (o : OnDevice) : Type 0 where
 summed_at : (w : Setting) (r : ℕ) (o : OfRun) (d : ℕ) → IsSummed w r o → Agrees ((summed w r o).on d) (o.on d)
 summed_at w r o d s = record { view = s.view d; read = s.read d; wrote = s.wrote d }
 
-register_is : (job : Job) (a : Answer) (register : ℕ) → loaded job register a ≡ register_after job a register
-register_is Load Fine register = refl
-register_is Load (Found x) register = refl
-register_is Load Down register = refl
-register_is (Set v) a register = refl
-register_is (Check v) a register = refl
-register_is Store a register = refl
-
-pub drives_same : (kind : Kind) (job : Job) (register : ℕ) → written kind job register ≡ driven kind job register
-drives_same kind (Set v) register = refl
-drives_same kind (Check v) register = refl
-drives_same kind Load register = refl
-drives_same kind Store register = refl
-
 first_is : (o : Option Bool) (b : Bool) → first_view (option_map view_from o) (view_from b) ≡ option_map view_from (option_or o (Some b))
 first_is None b = refl
 first_is (Some x) b = refl
@@ -127,7 +111,7 @@ did_summed : (w : Setting) (r : ℕ) (o : OfRun) (a : Answer) (late : Bool) → 
 unfolding summary
 did_summed w r o a late more s =
     record {
-      register = ap (λ (t : Summary). t.register) then_is ∙ register_is c.job a (summed w r o).register ∙ ap (register_after c.job a) s.register;
+      register = ap (λ (t : Summary). t.register) then_is ∙ ap (register_after c.job a) s.register;
       view = λ d. (on_is d).view;
       read = λ d. (on_is d).read;
       wrote = λ d. (on_is d).wrote;
@@ -147,10 +131,10 @@ did_summed w r o a late more s =
         ap (summary w.kinds blank) (pair_more (commands_of w.runs r) o.answers c (drop (length o.answers + 1) (commands_of w.runs r)) a (rest_next (commands_of w.runs r) o.answers more))
         ∙ summary_more w.kinds blank (paired (commands_of w.runs r) o.answers) (record { command = c; answer = a } ∷ [])
 
-    drove : written kind c.job (summed w r o).register ≡ driven kind c.job o.register
-    drove = drives_same kind c.job (summed w r o).register ∙ ap (driven kind c.job) s.register
+    drove : driven kind c.job (summed w r o).register ≡ driven kind c.job o.register
+    drove = ap (driven kind c.job) s.register
 
-    at_ : (d : ℕ) (b : Bool) → (d == c.device.0) ≡ b → Agrees (if b then device_summary_then ((summed w r o).on d) (written kind c.job (summed w r o).register) a else (summed w r o).on d) (if b then answered kind c (is_some o.doomed) o.register a (o.on c.device.0) else o.on d)
+    at_ : (d : ℕ) (b : Bool) → (d == c.device.0) ≡ b → Agrees (if b then device_summary_then ((summed w r o).on d) (driven kind c.job (summed w r o).register) a else (summed w r o).on d) (if b then answered kind c (is_some o.doomed) o.register a (o.on c.device.0) else o.on d)
     at_ d true e = subst (λ x. Agrees (device_summary_then ((summed w r o).on d) x a) (answered kind c (is_some o.doomed) o.register a (o.on c.device.0))) (sym drove)
         (subst (λ x. Agrees (device_summary_then ((summed w r o).on d) (driven kind c.job o.register) a) (answered kind c (is_some o.doomed) o.register a (o.on x))) (same e) (agrees_more kind c (is_some o.doomed) o.register a ((summed w r o).on d) (o.on d) (summed_at w r o d s)))
       where

@@ -7,7 +7,7 @@ use Rattle.device_order.proofs.WindowRuns.{run_commits, run_placed, window_begin
 use Rattle.device_order.specs.LineChanges.{Lacks}
 use Rattle.device_order.specs.LineEntries.{command_grip, stage_of, usage}
 use Rattle.device_order.specs.LineWords.{CutAt, is_calm_line}
-use Rattle.device_order.specs.RunStates.{device_summary, rest, summary_of, uses}
+use Rattle.device_order.specs.RunStates.{device_summary, rest, uses}
 use Rattle.device_order.specs.Summaries.{AreHomed}
 use Rattle.device_order.specs.Usages.{awaits_first, is_command, is_down, is_open}
 use Rattle.device_order.specs.WindowSteps.{ChangesInPlace, GetsAnswer}
@@ -44,7 +44,7 @@ use Rattle.window_order.proofs.Firsts.{IsNewest, calm_behind, did_history, seen_
 use Rattle.window_order.proofs.Goes.{clean_before, none_before, none_hold, open_behind, view_up}
 use Rattle.window_order.proofs.Grips.{HoldsNone, fits_other, fits_same, fits_with, fits_without, held_none, held_other, held_own, holds_none, in_place, may_command, may_undo, none_left}
 use Rattle.window_order.proofs.HistoryOrder.{placed_history, same_history}
-use Rattle.window_order.proofs.ReadFacts.{IsRead, drives_same, rest_drop, rest_next}
+use Rattle.window_order.proofs.ReadFacts.{IsRead, rest_drop, rest_next}
 use Rattle.window_order.proofs.Runs.{cut_live, four, lacks_parts, live_run, live_uncommitted, run_positive, state_by, three}
 use Rattle.window_order.specs.OrderKept.{GripsFit, OrderIsKept}
 use Rattle.window_order.specs.ReadWindows.{held_by, probe_of, run_state, window_of}
@@ -379,7 +379,7 @@ wrote_at w n g held r k read at writes out kept = record {
     out = ap (held_by w r) at ∙ held_own w r (Commands k) ∙ ap (λ b. if b then Reads else Writes) writes;
     job = writes;
     up = refl;
-    held = put_same held d v ∙ sym (drives_same (kind_at w.kinds d) c.job (summary_of w.kinds (run_state w n g r)).register ∙ ap (driven (kind_at w.kinds d) c.job) (read.summarized r).register);
+    held = put_same held d v ∙ sym (ap (driven (kind_at w.kinds d) c.job) (read.summarized r).register);
     probe = ap probe_of (put_same g d None) ∙ sym (ap probe_of at);
     still = λ e ne. record { up = refl; held = put_other held d v e ne; probe = ap probe_of (put_other g d None e ne) };
   }) kept.window;

@@ -1,0 +1,7 @@
+use Rattle.day_report.proofs.lines.end_of.Goals as goal
+use Rattle.history_book.proofs.FirstTold.{first_told-places}
+use Rattle.history_book.specs.Books.{end_in}
+use Rattle.std.proofs.Common.{rules}
+
+pub returns : goal.returns
+returns c = first_told-places (end_in c.args.run) c.args.history.now c.find_map.result (search rules) (search rules)
