@@ -61,6 +61,7 @@ stands_hub {D = D} stands turns probes faults s k =
       grips = c.order.grips;
       order = order_stands s.setting (read_of (configuration_of s)) (configuration_of s).grips (held_in s) read c.order;
       clean = c.history.clean;
+      places = c.history.places;
       justified = c.history.justified;
       stand = λ d device at up. (k.home d device at).stand up
           ∙ stands_home s.setting (read_of (configuration_of s)) (configuration_of s).grips (held_in s) d read c.order c.stage.strong (device_has s d (Home device) k.places_size at) (ap (λ o. grip_in o (device_at s.devices d).purpose) at) up;

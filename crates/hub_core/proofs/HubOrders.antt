@@ -44,7 +44,8 @@ use Rattle.window_order.proofs.PromisedClauses.{open_runs_last}
 use Rattle.window_order.proofs.Promises.{order_stands}
 use Rattle.window_order.proofs.ReadFacts.{IsRead, read_facts}
 use Rattle.window_order.proofs.Representing.{NoneIsDoomed, represents}
-use Rattle.window_order.proofs.TouchedLines.{MarksAreKept, live_stands, unplaced_absent}
+use Rattle.window_order.specs.MarksKept.{MarksAreKept}
+use Rattle.window_order.proofs.TouchedLines.{live_stands, unplaced_absent}
 use Rattle.window_order.specs.OrderKept.{OrderIsKept}
 use Rattle.window_order.specs.TableChanges.{IsNewOn}
 use Rattle.window_order.specs.TableKept.{TableIsKept}

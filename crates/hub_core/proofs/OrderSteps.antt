@@ -36,7 +36,8 @@ use Rattle.window_order.proofs.Runs.{cut_live}
 use Rattle.window_order.proofs.Steps.{IsOut, out_is}
 use Rattle.window_order.proofs.TableCalls.{first_answer, status_there}
 use Rattle.window_order.proofs.TableSteps.{answered_table, changes_one, committed_table, out_touches, placed_table}
-use Rattle.window_order.proofs.TouchedLines.{MarksAreKept, marks_answered, marks_arrived, marks_begin, marks_committed, marks_out, marks_placed}
+use Rattle.window_order.specs.MarksKept.{MarksAreKept}
+use Rattle.window_order.proofs.TouchedLines.{marks_answered, marks_arrived, marks_begin, marks_committed, marks_out, marks_placed}
 use Rattle.window_order.specs.OrderKept.{GripsFit, OrderIsKept}
 use Rattle.window_order.specs.TableChanges.{ChangesEach, answered_change, answered_lineage, noted, scheduled_on, told_write}
 use Rattle.window_order.specs.TableKept.{TableIsKept}

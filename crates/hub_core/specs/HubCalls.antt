@@ -25,6 +25,7 @@ use Rattle.hub_core.specs.declared.turns.Turn.{Turn}
 use Rattle.hub_core.specs.declared.waits.Why.{Why}
 use Rattle.lock_leasing.specs.Configurations.{Commands, Configuration, Grip, Probes, Purpose, Undoes, read_of}
 use Rattle.lock_leasing.specs.Order.{OrderStands}
+use Rattle.lock_leasing.specs.Places.{PlacesAreScheduled}
 use Rattle.lock_leasing.specs.Words.{standing_value}
 use Rattle.command_rules.specs.Rosters.{command_at, is_run}
 use Rattle.window_order.specs.OrderKept.{GripsFit}
@@ -142,13 +143,14 @@ pub record CallsAreTold {D : Type 0} (turns probes : D → ℕ) (s : OpenHub D) 
   pub turns_rose : (d : ℕ) (device : D) → slice_get s.places d ≡ Some (Home device) → turns device ≡ (device_at s.devices d).at_opening.turns + told_calls s.setting.runs (entries_of s.history) d
   pub probes_rose : (d : ℕ) (device : D) → slice_get s.places d ≡ Some (Home device) → probes device ≡ (device_at s.devices d).at_opening.probes + (s.rounds - (device_at s.devices d).probes_left)
 
--- in every hub each device has a place, the grips that are out fit the history, the four clauses of the order hold, reads are clean, aborts are justified, devices stand where they should, and their calls are told
+-- in every hub each device has a place, the grips that are out fit the history, the four clauses of the order hold, reads are clean, places are the scheduler's, aborts are justified, devices stand where they should, and their calls are told
 pub record HubStands {D : Type 0} (stands turns probes : D → ℕ) (s : OpenHub D) : Type 0 where
   pub size : length s.places ≡ length s.setting.first
   pub few_runs : length s.setting.runs ≤ 64
   pub grips : GripsFit s.setting (read_of (configuration_of s)) (configuration_of s).grips
   pub order : OrderStands s.setting (read_of (configuration_of s)) (configuration_of s).grips
   pub clean : ReadsAreClean s.setting (entries_of s.history)
+  pub places : PlacesAreScheduled s.setting (entries_of s.history)
   pub justified : IsJustified s.setting (entries_of s.history)
   pub stand : DevicesStand stands s
   pub told : CallsAreTold turns probes s

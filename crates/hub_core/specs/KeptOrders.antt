@@ -9,7 +9,7 @@ use Rattle.lineage_table.specs.declared.accesses.Status.TheVariants.{Acquired, S
 use Rattle.lock_leasing.specs.Configurations.{Grips}
 use Rattle.serial_line.specs.Marks.{Marked}
 use Rattle.std.specs.Prelude.{Bool, List, Some, false, if◌then◌else◌, length, option_map, true, unwrap_or, ℕ, ◌*◌, ◌+◌, ◌≡◌, ◌≤◌}
-use Rattle.window_order.proofs.TouchedLines.{MarksAreKept}
+use Rattle.window_order.specs.MarksKept.{MarksAreKept}
 use Rattle.window_order.specs.TableChanges.{IsFirst}
 use Rattle.window_order.specs.TableKept.{TableIsKept}
 

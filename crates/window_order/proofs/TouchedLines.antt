@@ -33,11 +33,8 @@ use Rattle.window_order.proofs.AnsweredTables.{answered_run}
 use Rattle.window_order.proofs.Grips.{HoldsNone}
 use Rattle.window_order.proofs.ReadFacts.{IsRead}
 use Rattle.window_order.proofs.Steps.{IsOut, unplaced_holds}
+use Rattle.window_order.specs.MarksKept.{MarksAreKept}
 use Rattle.window_order.specs.OrderKept.{GripsFit}
-
--- the marks are those of the line, each with what its item has touched
-abbrev pub MarksAreKept : Reading → Grips → List Mark → Type 0
-MarksAreKept n g marks = IsLineOf n.line (item_has_touched n g) marks
 
 pub marks_begin : (w : Setting) → MarksAreKept (nothing_read w) no_grips []
 marks_begin w = line_empty (item_has_touched (nothing_read w) no_grips)

@@ -2,3 +2,4 @@ pub mod ReadWindows
 pub mod OrderKept
 pub mod TableKept
 pub mod TableChanges
+pub mod MarksKept
