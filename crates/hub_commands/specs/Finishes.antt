@@ -3,6 +3,7 @@ use Rattle.command_words.specs.declared.command_lines.CommandLine.TheVariants.{R
 use Rattle.command_words.specs.declared.command_lines.CommandLine.{CommandLine}
 use Rattle.command_words.specs.declared.command_lines.Options.{Options}
 use Rattle.day_clock.specs.Sinks.{AppendsPart}
+use Rattle.day_clock.specs.Sources.{TakesCount}
 use Rattle.day_report.specs.Days.{day_text}
 use Rattle.home_types.specs.Listed.{Listed}
 use Rattle.hub_core.specs.LegalDays.{IsLegalCutDay, IsLegalDay}
@@ -12,6 +13,7 @@ use Rattle.hub_commands.specs.declared.faults.Fault.{Fault}
 use Rattle.hub_commands.specs.declared.finishes.Day.{Day}
 use Rattle.later_forms.specs.CommandLines.{is_later}
 use Rattle.later_forms.specs.Scripts.{first_later}
+use Rattle.routine_reader.specs.Limits.{most_bytes}
 use Rattle.routine_reader.specs.Readings.{script_reading}
 use Rattle.routine_reader.specs.Scripts.{plain_script}
 use Rattle.routine_reader.specs.Spots.{is_memory, top}
@@ -20,7 +22,7 @@ use Rattle.routine_reader.specs.declared.faults.Spot.{Spot}
 use Rattle.routine_reader.specs.declared.scripts.Script.{Script}
 use Rattle.run_replay.specs.Replays.{Play}
 use Rattle.std.specs.Io.KnownBytes.{Appends, IsAtEnd, Keeps}
-use Rattle.std.specs.Prelude.{Err, IfSome, List, None, Ok, Option, Result, Some, [], false, take, true, ℕ, ◌<◌, ◌≡◌, ◌⊎◌}
+use Rattle.std.specs.Prelude.{Err, IfSome, List, None, Ok, Option, Result, Some, [], false, take, true, ℕ, ◌+◌, ◌<◌, ◌≡◌, ◌⊎◌}
 
 -- what the call does to its source: the bytes to come before and after it, where the source tells them, and its faults
 pub record Reads : Type 0 where
@@ -48,9 +50,14 @@ pub record IsRead (source : Reads) (script : Script) : Type 0 where
   pub reading : IfSome source.left (λ bytes. script_reading bytes ≡ Ok (plain_script script))
   pub calm : source.faults_after ≡ source.faults
 
+-- all of it was read, or one byte more than a script may have
+abbrev pub IsTaken : Reads → Type 0
+IsTaken source = IsAtEnd source.rest ⊎ TakesCount source.left source.rest (most_bytes + 1)
+
 -- the source gave its bytes without a fault, to its end or to one byte more than a script may have, and their reading is this refusal
 pub record IsRefused (source : Reads) (fault : ReadFault) : Type 0 where
   pub named : is_memory fault ≡ false
+  pub taken : IsTaken source
   pub reading : IfSome source.left (λ bytes. script_reading bytes ≡ Err fault)
   pub calm : source.faults_after ≡ source.faults
 
