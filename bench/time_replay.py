@@ -1,15 +1,17 @@
 #!/usr/bin/env python3
-"""Times a replay of a dense day of must `set` commands under the global model.
+"""Times a replay of a dense day of must `set` commands under each model that is built.
 
     time_replay.py [PROGRAM]
 
-PROGRAM is crates/hub_main/out/hub_main by default, which `rt run` builds. Three scripts are played:
+PROGRAM is crates/hub_main/out/hub_main by default, which `rt run` builds. Three scripts are played, the first one
+under each model:
 
 - dense: 288 windows of 64 runs of 64 commands on 256 devices;
 - refused: the same, with a last run that names no routine, so that it is read to its end and no more;
 - empty: the same without runs, so that it is read, and its windows are opened, closed and printed.
 
-Where callgrind is installed, it counts the instructions of a day of four such windows, and of its parts.
+Where callgrind is installed, it counts the instructions of a day of four such windows, and of its parts, under each
+model.
 """
 import os
 import re
@@ -22,7 +24,7 @@ import time
 
 HERE = os.path.dirname(os.path.abspath(__file__))
 PROGRAM = os.path.join(HERE, "..", "crates", "hub_main", "out", "hub_main")
-WORDS = ["replay", "--model", "gsv"]
+MODELS = ["gsv", "psv", "ev"]
 CALLS = {
     "whole": r"hub_main::run\b",
     "day": r"hub_commands::stills::replay\b",
@@ -44,19 +46,23 @@ def refused(script):
     return re.sub(rb'"r\d+"\}\]\}\]\}\n$', b'"none"}]}]}\n', script)
 
 
-def played(program, name, script):
+def words(model):
+    return ["replay", "--model", model]
+
+
+def played(program, name, model, script):
     before, begun = resource.getrusage(resource.RUSAGE_CHILDREN), time.monotonic()
-    done = subprocess.run([program, *WORDS], input=script, stdout=subprocess.PIPE, stderr=subprocess.PIPE)
+    done = subprocess.run([program, *words(model)], input=script, stdout=subprocess.PIPE, stderr=subprocess.PIPE)
     spent, after = time.monotonic() - begun, resource.getrusage(resource.RUSAGE_CHILDREN)
     cpu = after.ru_utime + after.ru_stime - before.ru_utime - before.ru_stime
-    print(f"{name}: status {done.returncode}, {cpu:.2f} s of processor time, {spent:.2f} s in all,"
+    print(f"{name}, {model}: status {done.returncode}, {cpu:.2f} s of processor time, {spent:.2f} s in all,"
           f" {len(script)} bytes of script, {len(done.stdout)} bytes of record", flush=True)
 
 
-def counted(program, script):
+def counted(program, model, script):
     with tempfile.TemporaryDirectory() as room:
         out = os.path.join(room, "callgrind")
-        subprocess.run(["valgrind", "--tool=callgrind", f"--callgrind-out-file={out}", program, *WORDS],
+        subprocess.run(["valgrind", "--tool=callgrind", f"--callgrind-out-file={out}", program, *words(model)],
                        input=script, stdout=subprocess.DEVNULL, stderr=subprocess.DEVNULL, check=True)
         lines = subprocess.run(["callgrind_annotate", "--inclusive=yes", "--threshold=100", out],
                                stdout=subprocess.PIPE, check=True).stdout.decode().splitlines()
@@ -70,17 +76,20 @@ def counted(program, script):
         ("home, record and printing", day - windows),
         ("replaying", windows),
     ]:
-        print(f"{part}: {count:,} instructions", flush=True)
+        print(f"{part}, {model}: {count:,} instructions", flush=True)
 
 
 def main():
     program = sys.argv[1] if len(sys.argv) > 1 else PROGRAM
     print("load", *(f"{load:.1f}" for load in os.getloadavg()), flush=True)
     dense = dense_day()
-    for name, script in [("dense", dense), ("refused", refused(dense)), ("empty", dense_day(288, 0))]:
-        played(program, name, script)
+    for model in MODELS:
+        played(program, "dense", model, dense)
+    for name, script in [("refused", refused(dense)), ("empty", dense_day(288, 0))]:
+        played(program, name, "gsv", script)
     if shutil.which("callgrind_annotate"):
-        counted(program, dense_day(4))
+        for model in MODELS:
+            counted(program, model, dense_day(4))
     else:
         print("callgrind is not installed: no instructions were counted")
 

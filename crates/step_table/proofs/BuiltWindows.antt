@@ -1,0 +1,215 @@
+-- A window of a sound script without later forms may be opened, and the first one on a new home.
+use Rattle.command_rules.specs.Rosters.{Run, commands_of, followed_by, run_at, runs_of}
+use Rattle.command_rules.specs.declared.rosters.Roster.{Roster}
+use Rattle.home_types.specs.HomeStates.{stand_at}
+use Rattle.home_types.specs.Kinds.{kind_at}
+use Rattle.home_types.specs.declared.commands.Command.{Command}
+use Rattle.home_types.specs.declared.commands.Job.TheVariants.{Check, Load, Set, Store}
+use Rattle.home_types.specs.declared.commands.Job.{Job}
+use Rattle.home_types.specs.declared.kinds.Kind.{Kind}
+use Rattle.home_types.specs.declared.numbers.RunNo.{RunNo}
+use Rattle.home_types.specs.declared.modes.Mode.{Mode}
+use Rattle.home_types.specs.declared.modes.Scheduler.TheVariants.{Fcfs}
+use Rattle.home_types.specs.declared.modes.Scheduler.{Scheduler}
+use Rattle.home_types.specs.declared.modes.Visibility.TheVariants.{Eventual, Global, Partitioned, Weak}
+use Rattle.home_types.specs.declared.modes.Visibility.{Visibility}
+use Rattle.hub_core.specs.Homes.{HomeIsKept, HomeState, setting_for}
+use Rattle.hub_core.specs.Openings.{MayOpen, is_fcfs, is_mode, names_values_of}
+use Rattle.hub_core.specs.Stage.{StageAllows, is_check, is_safe}
+use Rattle.history_book.specs.Settings.{Setting}
+use Rattle.hub_core.specs.HubCalls.{IsOpened}
+use Rattle.hub_core.specs.OpenHubs.{OpenHub}
+use Rattle.later_forms.proofs.BuiltModes.{goes_fcfs, not_weak}
+use Rattle.later_forms.proofs.NoLaterForms.{no_command, no_follows, no_probes}
+use Rattle.later_forms.proofs.SoundScripts.{routine_is_sound, window_is_sound}
+use Rattle.later_forms.specs.CommandLines.{is_later_mode}
+use Rattle.later_forms.specs.Scripts.{first_later, is_check as is_check_text, is_later_command}
+use Rattle.routine_reader.proofs.RosterLemmas.{runs-there}
+use Rattle.routine_reader.specs.Rosters.{kinds_of, routine_at, run_of_text, script_runs, start_home, start_stand}
+use Rattle.routine_reader.specs.Scripts.{plain_device, plain_script}
+use Rattle.routine_reader.specs.Sound.{IsSound, IsSoundCommand, device_kinds, suits}
+use Rattle.routine_reader.specs.declared.scripts.DeviceText.{DeviceText}
+use Rattle.routine_reader.specs.declared.scripts.RoutineText.{RoutineText}
+use Rattle.routine_reader.specs.declared.scripts.RunText.{RunText}
+use Rattle.routine_reader.specs.declared.scripts.Script.{Script}
+use Rattle.routine_reader.specs.declared.scripts.WindowText.{WindowText}
+use Rattle.run_replay.proofs.Opening.{fresh_where, stage_where}
+use Rattle.step_table.specs.Built.{IsFresh, is_built}
+use Rattle.std.proofs.Common.{ap, arith, length, map, refl, subst, sym, ◌∙◌}
+use Rattle.std.proofs.lemmas.Grind.{common_steps}
+use Rattle.std.proofs.lemmas.List.Elements.{All-get_or}
+use Rattle.std.proofs.lemmas.List.{length-map}
+use Rattle.std.proofs.lemmas.Option.{get_or_from_slice_get, slice_get_within}
+use Rattle.std.specs.Prelude.{Bool, IsTrue, List, None, Option, Some, [], false, is_none, nat_lt, not, option_and_then, option_map, slice_get, suc, true, unwrap_or, zero, ℕ, ◌&&◌, ◌<◌, ◌∷◌, ◌≡◌, ◌≤◌}
+
+-- the setting of the script's window of this number, on the home as it is
+abbrev pub setting_on : {D : Type 0} → Script → Mode → ℕ → HomeState D → Setting
+setting_on script mode k home = record { runs = script_runs script k; mode = mode; kinds = home.kinds; first = home.world }
+
+-- a run of the window is one of its text
+pub record IsRunOf (script : Script) (window : WindowText) (run : Run) : Type 0 where
+  pub place : ℕ
+  pub text : RunText
+  pub at : slice_get window.runs.items place ≡ Some text
+  pub is : run ≡ run_of_text script text
+
+mapped_at : {X Y : Type 0} (f : X → Y) (xs : List X) (k : ℕ) (y : Y) → slice_get (map f xs) k ≡ Some y → (x : X) × (slice_get xs k ≡ Some x) × (y ≡ f x)
+mapped_at f [] k y at = absurd (cc)
+mapped_at f (x ∷ xs) zero y at = (x, refl, cc)
+mapped_at f (x ∷ xs) (suc k) y at = mapped_at f xs k y at
+
+run_of : (script : Script) (window : WindowText) (r : ℕ) (run : Run) → run_at (map (run_of_text script) window.runs.items) r ≡ Some run → IsRunOf script window run
+run_of script window zero run at = absurd (cc)
+run_of script window (suc i) run at = let there = mapped_at (run_of_text script) window.runs.items i run at in record { place = i; text = there.0; at = there.1; is = there.2 }
+
+-- a command of a run is one of a routine of the script
+pub record IsCommandOf (script : Script) (k : ℕ) (c : Command) : Type 0 where
+  pub routine : ℕ
+  pub text : RoutineText
+  pub at : slice_get script.routines.items routine ≡ Some text
+  pub there : slice_get text.routine.commands.items k ≡ Some c
+
+command_of_routine : (script : Script) (i k : ℕ) (c : Command) → slice_get (routine_at script i) k ≡ Some c → IsCommandOf script k c
+command_of_routine script i k c at = by_text (slice_get script.routines.items i) refl
+  where
+    by_text : (o : Option RoutineText) → slice_get script.routines.items i ≡ o → IsCommandOf script k c
+    by_text None none = let empty : slice_get [] k ≡ Some c = ap (λ o. slice_get (unwrap_or (option_map (λ t. t.routine.commands.items) o) []) k) (sym none) ∙ at in absurd (cc)
+    by_text (Some text) some = record { routine = i; text = text; at = some; there = ap (λ o. slice_get (unwrap_or (option_map (λ t. t.routine.commands.items) o) []) k) (sym some) ∙ at }
+
+command_of : (script : Script) (window : WindowText) (r k : ℕ) (c : Command) → slice_get (commands_of (map (run_of_text script) window.runs.items) r) k ≡ Some c → IsCommandOf script k c
+command_of script window r k c at = by_run (run_at (map (run_of_text script) window.runs.items) r) refl
+  where
+    by_run : (o : Option Run) → run_at (map (run_of_text script) window.runs.items) r ≡ o → IsCommandOf script k c
+    by_run None none = let empty : slice_get [] k ≡ Some c = ap (λ o. slice_get (unwrap_or (option_map (λ run. run.commands) o) []) k) (sym none) ∙ at in absurd (cc)
+    by_run (Some run) some =
+        let is = run_of script window r run some in
+        command_of_routine script is.text.routine k c (ap (λ q. slice_get q.commands k) (sym is.is) ∙ ap (λ o. slice_get (unwrap_or (option_map (λ q. q.commands) o) []) k) (sym some) ∙ at)
+
+command_is_sound : (script : Script) (k : ℕ) (c : Command) → IsSound (plain_script script) → IsCommandOf script k c → IsSoundCommand (map plain_device script.devices.items) c
+command_is_sound script k c sound is =
+    let routine = routine_is_sound script is.routine is.text sound is.at in
+    subst (IsSoundCommand (map plain_device script.devices.items)) (get_or_from_slice_get is.text.routine.commands.items k c c is.there)
+    (All-get_or (IsSoundCommand (map plain_device script.devices.items)) is.text.routine.commands.items k c (slice_get_within is.text.routine.commands.items k c is.there) routine.commands)
+
+few_commands_of : (script : Script) (window : WindowText) (r : ℕ) → IsSound (plain_script script) → length (commands_of (map (run_of_text script) window.runs.items) r) ≤ 64
+few_commands_of script window r sound = by_run (run_at (map (run_of_text script) window.runs.items) r) refl
+  where
+    by_text : (i : ℕ) (o : Option RoutineText) → slice_get script.routines.items i ≡ o → length (unwrap_or (option_map (λ t. t.routine.commands.items) o) []) ≤ 64
+    by_text i None none = omega (arith)
+    by_text i (Some text) some = (routine_is_sound script i text sound some).few_commands
+
+    by_run : (o : Option Run) → run_at (map (run_of_text script) window.runs.items) r ≡ o → length (unwrap_or (option_map (λ run. run.commands) o) []) ≤ 64
+    by_run None none = omega (arith)
+    by_run (Some run) some = let is = run_of script window r run some in
+        subst (λ q. length q.commands ≤ 64) (sym is.is) (by_text is.text.routine (slice_get script.routines.items is.text.routine) refl)
+
+same_kinds : (devices : List DeviceText) → device_kinds (map plain_device devices) ≡ map (λ d. d.kind) devices
+same_kinds [] = refl
+same_kinds (d ∷ devices) = ap (λ ks. d.kind ∷ ks) (same_kinds devices)
+
+names_as : (kind : Kind) (job : Job) → suits kind job ≡ true → names_values_of kind job ≡ true
+names_as kind (Set v) is = is
+names_as kind (Check v) is = is
+names_as kind Load is = is
+names_as kind Store is = is
+
+same_check : (job : Job) → is_check job ≡ is_check_text job
+same_check (Set v) = refl
+same_check (Check v) = refl
+same_check Load = refl
+same_check Store = refl
+
+is_safe_where : (c : Command) → is_later_command c ≡ false → is_safe c ≡ true
+is_safe_where c built = ap (λ b. not (c.must && b)) (same_check c.job) ∙ ap (λ b. not b) built
+
+both : (a b : Bool) → a ≡ true → b ≡ true → (a && b) ≡ true
+both true b left right = right
+both false b left right = absurd (cc)
+
+no_follower : (script : Script) (k r : ℕ) (window : WindowText) → first_later script ≡ None → slice_get script.windows.items k ≡ Some window → followed_by (map (run_of_text script) window.runs.items) r ≡ None
+no_follower script k r window none at = by_run (run_at (map (run_of_text script) window.runs.items) r) refl
+  where
+    by_run : (o : Option Run) → run_at (map (run_of_text script) window.runs.items) r ≡ o → option_and_then (λ run. run.follows) o ≡ None
+    by_run None empty = refl
+    by_run (Some run) some = let is = run_of script window r run some in ap (λ q. q.follows) is.is ∙ no_follows script k is.place window is.text none at is.at
+
+-- every model goes first come first served
+is_mode_fcfs : (model : Visibility) (scheduler : Scheduler) → scheduler ≡ Fcfs → IsTrue (is_mode (record { model = model; scheduler = scheduler }))
+is_mode_fcfs Weak scheduler is = ap is_fcfs is
+is_mode_fcfs Global scheduler is = ap is_fcfs is
+is_mode_fcfs Partitioned scheduler is = ap is_fcfs is
+is_mode_fcfs Eventual scheduler is = refl
+
+pub may_open : {D : Type 0} (tag : D → ℕ) (stands turns probes faults : D → ℕ) (script : Script) (mode : Mode) (k : ℕ) (window : WindowText) (home : HomeState D)
+    → IsSound (plain_script script) → first_later script ≡ None → is_later_mode mode ≡ false → slice_get script.windows.items k ≡ Some window → HomeIsKept tag stands turns probes faults home
+    → home.kinds ≡ kinds_of script → home.opened ≤ 288 → MayOpen (setting_on script mode k home) window.probes home.opened
+may_open tag stands turns probes faults script mode k window home sound none built at kept kinds opened =
+    rw (sym (runs-there script k window at)) (record {
+      few_devices = kept.few;
+      few_runs = let n = length-map window.runs.items (run_of_text script) in omega (arith, n, (window_is_sound script k window sound at).few_runs);
+      few_commands = λ r. few_commands_of script window r sound;
+      homed = λ r j c c_at. let is = command_is_sound script j c sound (command_of script window r j c c_at) in
+          both (nat_lt c.device.0 (length home.world)) _ (within c.device.0 is.device) (names_as (kind_at home.kinds c.device.0) c.job (ap (λ ks. suits (kind_at ks c.device.0) c.job) (kinds ∙ sym (same_kinds script.devices.items)) ∙ is.value));
+      follows = λ r f is. absurd (follows_not r f is);
+      mode = is_mode_fcfs mode.model mode.scheduler (goes_fcfs mode built);
+      few_rounds = (window_is_sound script k window sound at).probes;
+      few_windows = omega (arith, opened);
+    })
+  where
+    within : (d : ℕ) → d < length (map plain_device script.devices.items) → nat_lt d (length home.world) ≡ true
+    within d inside =
+        let a = length-map script.devices.items plain_device in
+        let b = ap (λ ks. length ks) kinds in
+        let e = length-map script.devices.items (λ d. d.kind) in
+        let f : d < length home.world = omega (arith, inside, a, b, e, kept.kinds) in
+        grind (arith, common_steps)
+
+    follows_not : (r : ℕ) (f : RunNo) → followed_by (map (run_of_text script) window.runs.items) r ≡ Some f → ⊥
+    follows_not r f is = let no = no_follower script k r window none at in cc
+
+pub stage_allows : {D : Type 0} (script : Script) (mode : Mode) (k : ℕ) (window : WindowText) (home : HomeState D)
+    → first_later script ≡ None → is_later_mode mode ≡ false → slice_get script.windows.items k ≡ Some window → ((d : ℕ) → d < length home.world → (stand_at home.world d).up ≡ true)
+    → StageAllows (setting_on script mode k home) window.probes
+stage_allows script mode k window home none built at up =
+    rw (sym (runs-there script k window at)) (record {
+      strong = not_weak mode built;
+      scheduler = goes_fcfs mode built;
+      safe = λ r j c c_at. let is = command_of script window r j c c_at in is_safe_where c (no_command script is.routine j is.text c none is.at is.there);
+      follows_none = λ r. no_follower script k r window none at;
+      up = up;
+      no_probes = no_probes script k window none at;
+    })
+
+-- the window's setting, with the roster of its runs
+pub setting_as : {D : Type 0} (script : Script) (k : ℕ) (home : HomeState D) (roster : Roster) (mode : Mode) → runs_of roster ≡ script_runs script k → setting_for home roster mode ≡ setting_on script mode k home
+setting_as script k home roster mode runs = ap (λ rs. record { runs = rs; mode = mode; kinds = home.kinds; first = home.world }) runs
+
+left_of : (a b : Bool) → (not a && b) ≡ true → a ≡ false
+left_of true b both = absurd (cc)
+left_of false b both = refl
+
+right_of : (a b : Bool) → (not a && b) ≡ true → b ≡ true
+right_of true b both = absurd (cc)
+right_of false b both = both
+
+none_of : {X : Type 0} (o : Option X) → is_none o ≡ true → o ≡ None
+none_of None is = refl
+none_of (Some x) is = absurd (cc)
+
+pub mode_of : (script : Script) (mode : Mode) → is_built script mode ≡ true → is_later_mode mode ≡ false
+mode_of script mode is = left_of (is_later_mode mode) (is_none (first_later script)) is
+
+pub forms_of : (script : Script) (mode : Mode) → is_built script mode ≡ true → first_later script ≡ None
+forms_of script mode is = none_of (first_later script) (right_of (is_later_mode mode) (is_none (first_later script)) is)
+
+starts_up : (devices : List DeviceText) (d : ℕ) → d < length (map start_stand devices) → (stand_at (map start_stand devices) d).up ≡ true
+starts_up [] d low = absurd (omega (arith, low))
+starts_up (text ∷ devices) zero low = refl
+starts_up (text ∷ devices) (suc d) low = starts_up devices d (omega (arith, low))
+
+-- each device of a new home is up
+pub is_up : {D : Type 0} (script : Script) (home : HomeState D) → home.world ≡ start_home script → (d : ℕ) → d < length home.world → (stand_at home.world d).up ≡ true
+is_up script home world d low = subst (λ w. d < length w → (stand_at w d).up ≡ true) (sym world) (starts_up script.devices.items d) low
+
+pub is_fresh : {D : Type 0} (turns probes faults : D → ℕ) (w : Setting) (rounds : ℕ) (home : HomeState D) (hub : OpenHub D) → IsOpened turns probes faults w rounds home hub → rounds ≡ 0 → IsFresh hub
+is_fresh turns probes faults w rounds home hub is none = record { fresh = fresh_where turns probes faults w rounds home hub is; no_probes = stage_where turns probes faults w rounds home hub is none }

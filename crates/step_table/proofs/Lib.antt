@@ -1,0 +1,2 @@
+pub mod BuiltWindows
+pub mod FittingOrders
