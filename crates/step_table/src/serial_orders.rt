@@ -126,15 +126,18 @@ fn is_redone(runs: &[RunAnswers], kept: Kept) -> bool {
 
 /// Whether the run has these answers in the history, and no others.
 fn has_answers(history: &[Kept], r: RunNo, answers: &[Answer]) -> bool {
-    let has_each = answers.iter().enumerate().all(|(k, answer)| has_entry(
-        history,
-        Entry::Did(r, k as u32, *answer),
-    ));
+    let has_each = answers
+        .iter()
+        .enumerate()
+        .all(|(k, answer)| has_answer(history, r, k, *answer));
     has_each && history.iter().all(|kept| is_within(*kept, r, answers))
 }
 
-fn has_entry(history: &[Kept], entry: Entry) -> bool {
-    history.iter().any(|kept| kept.entry == entry)
+fn has_answer(history: &[Kept], r: RunNo, k: usize, answer: Answer) -> bool {
+    history.iter().any(|kept| match kept.entry {
+        Entry::Did(maker, place, told) => maker == r && place as usize == k && told == answer,
+        _ => false,
+    })
 }
 
 /// Whether the entry is none of the run's answers, or one of these.

@@ -1,10 +1,9 @@
 use Rattle.hub_core.specs.Openings.{MayOpen}
 use Rattle.hub_core.specs.Stage.{StageAllows}
-use Rattle.later_forms.proofs.NoLaterForms.{no_probes}
 use Rattle.routine_reader.proofs.RosterLemmas.{window-there}
 use Rattle.std.proofs.Common.{arith, subst, sym}
 use Rattle.std.specs.Prelude.{◌≤◌}
-use Rattle.step_table.proofs.BuiltWindows.{forms_of, is_fresh, is_up, may_open, mode_of, setting_as, stage_allows}
+use Rattle.step_table.proofs.BuiltWindows.{forms_of, is_up, may_open, mode_of, setting_as, stage_allows}
 use Rattle.step_table.proofs.openings.open_window.Goals as goal
 
 pub open_window-requires-clause-may : goal.open_window-requires-clause-may
