@@ -101,7 +101,7 @@ put_place None i xs y h = ap (λ k. insert xs k y) (sym (same_place (length xs) 
 put_place (Some r) i xs y h = put_insert r.0 i xs y y h
 
 -- no access of the run stands behind it
-none_behind : (r : ℕ) (x : Access) (b : List Access) → is_of r x ≡ true → AllByRecursion (AreOfTwoRuns x) b → has_access r b ≡ false
+pub none_behind : (r : ℕ) (x : Access) (b : List Access) → is_of r x ≡ true → AllByRecursion (AreOfTwoRuns x) b → has_access r b ≡ false
 none_behind r x [] o h = refl
 none_behind r x (y ∷ b) o h = step r x y (has_access r b) o h.0 (none_behind r x b o h.1)
   where
@@ -327,6 +327,15 @@ unfolding with_accesses
 changed_state s now r i x f e h is =
     ap (λ (l : List Access). with_accesses s l s.room) (ap (λ z. slice_set s.accesses i (f z)) is ∙ change_set r i s.accesses x f (ap (λ (t : LineageState). position (is_of r) t.accesses) e ∙ h))
     ∙ ap (λ (t : LineageState). with_accesses t (with_change r f t.accesses) t.room) e
+
+change_none : (r : ℕ) (f : Access → Access) (xs : List Access) → has_access r xs ≡ false → with_change r f xs ≡ xs
+change_none r f [] h = refl
+change_none r f (x ∷ xs) h = grind (arith, common_steps, change_none r f xs)
+
+-- where the run has no access nothing changes
+pub nothing_changed : (s : LineageState) (r : ℕ) (f : Access → Access) → position (is_of r) s.accesses ≡ None → s ≡ record s { accesses = with_change r f s.accesses }
+unfolding with_accesses
+nothing_changed s r f h = ap (λ (l : List Access). with_accesses s l s.room) (sym (change_none r f s.accesses (has_place r s.accesses ∙ ap is_some h)))
 
 left_state : (s : LineageState) (items l : List Access) (m n : ℕ) → items ≡ l → m ≡ n → with_accesses s items m ≡ with_accesses s l n
 left_state s items l m n e left = ap₂ (with_accesses s) e left

@@ -3,3 +3,5 @@ pub mod Splits
 pub mod Keeping
 pub mod Standing
 pub mod Steps
+pub mod Undoing
+pub mod KeptTables

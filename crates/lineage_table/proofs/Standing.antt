@@ -14,6 +14,18 @@ pub standing-append : (c : ℕ) (a b : List Access) → standing_value c (a ++ b
 standing-append c [] b = refl
 standing-append c (x ∷ a) b = standing-append (unwrap_or x.wrote c) a b
 
+-- where the run's access is passed over
+pub passing_stands : (r c : ℕ) (xs : List Access) → fold (λ value x. if is_of r x then value else unwrap_or x.wrote value) c xs ≡ standing_value c (without r xs)
+passing_stands r c [] = refl
+passing_stands r c (x ∷ xs) = at (is_of r x) (λ v. passing_stands r v xs)
+  where
+    passed : ℕ → ℕ
+    passed v = fold (λ value y. if is_of r y then value else unwrap_or y.wrote value) v xs
+
+    at : (b : Bool) → ((v : ℕ) → passed v ≡ standing_value v (without r xs)) → passed (if b then c else unwrap_or x.wrote c) ≡ standing_value c (if not b then (x ∷ without r xs) else without r xs)
+    at true h = h c
+    at false h = h (unwrap_or x.wrote c)
+
 -- a change that keeps the written value keeps the value that stands
 pub change_stands : (r : ℕ) (f : Access → Access) → ((x : Access) → (f x).wrote ≡ x.wrote) → (c : ℕ) (xs : List Access) → standing_value c (with_change r f xs) ≡ standing_value c xs
 change_stands r f same c [] = refl
@@ -125,7 +137,8 @@ writer_earlier w (x ∷ xs) e = at x.wrote (writer_earlier w xs) (some_wrote x.r
     at None f g e = f e
     at (Some k) f g e = absurd (g e)
 
-has_written : (q : RunNo) (xs : List Access) → effective_writer xs ≡ Some q → has_access q.0 xs ≡ true
+-- the effective writer has an access
+pub has_written : (q : RunNo) (xs : List Access) → effective_writer xs ≡ Some q → has_access q.0 xs ≡ true
 has_written q [] e = absurd (cc)
 has_written q (x ∷ xs) e = at (effective_writer xs) refl (has_written q xs)
   where

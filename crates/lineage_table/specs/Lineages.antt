@@ -4,11 +4,11 @@ use Rattle.home_types.specs.HomeStates.{stand_at}
 use Rattle.home_types.specs.declared.commands.View.{View}
 use Rattle.home_types.specs.declared.numbers.RunNo.{RunNo}
 use Rattle.home_types.specs.declared.worlds.Stand.{Stand}
-use Rattle.lineage_table.specs.Accesses.{behind, put_before, with_change, without, written_by}
+use Rattle.lineage_table.specs.Accesses.{IsDisciplined, behind, put_before, with_change, without, written_by}
 use Rattle.lineage_table.specs.declared.accesses.Access.{Access}
 use Rattle.lineage_table.specs.declared.accesses.Status.TheVariants.{Acquired, Released}
 use Rattle.std.specs.List.{list_any}
-use Rattle.std.specs.Prelude.{Bool, List, Option, Some, [], count_by, false, length, slice_index_or, slice_set, unwrap_or, ℕ, ◌+◌, ◌-◌, ◌<◌, ◌≡◌, ◌≤◌}
+use Rattle.std.specs.Prelude.{Bool, List, None, Option, Some, [], count_by, false, length, slice_index_or, slice_set, unwrap_or, ℕ, ◌+◌, ◌-◌, ◌<◌, ◌^◌, ◌≡◌, ◌≤◌}
 
 -- a device's committed value, its accesses in line order, how many more it takes, and whether it is counted up
 pub record LineageState : Type 0 where
@@ -34,6 +34,10 @@ written r v s = record s { accesses = with_change r (λ x. record x { wrote = So
 -- the run is done with the device
 abbrev pub released : ℕ → LineageState → LineageState
 released r s = record s { accesses = with_change r (λ x. record x { status = Released }) s.accesses }
+
+-- what the run wrote is undone
+abbrev pub undone : ℕ → LineageState → LineageState
+undone r s = record s { accesses = with_change r (λ x. record x { wrote = None }) s.accesses }
 
 -- only these of its accesses are left; each of the others leaves its room
 abbrev pub with_left : List Access → LineageState → LineageState
@@ -65,6 +69,11 @@ lineage_at table d = slice_index_or table d no_lineage
 -- the accesses to the device
 abbrev pub accesses_at : List LineageState → ℕ → List Access
 accesses_at table d = (lineage_at table d).accesses
+
+-- what is true of the lineages of every table: a device has a number, and the accesses to each are in turn
+pub record IsTable (table : List LineageState) : Type 0 where
+  pub few : length table ≤ 2 ^ 16
+  pub turns : (d : ℕ) → IsDisciplined (accesses_at table d)
 
 -- the table with this change to the lineage of the device
 abbrev pub with_lineage : List LineageState → ℕ → (LineageState → LineageState) → List LineageState

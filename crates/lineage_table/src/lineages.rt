@@ -1,7 +1,7 @@
 ghost use Rattle.std.specs.Prelude.{◌≡◌, ◌<◌, ◌≤◌, [], false, IfOk, IsSome, IsTrue, None, Some, not, option_map, position};
 ghost use Rattle.std.specs.Option.{ForSome};
-ghost use Rattle.lineage_table.specs.Accesses.{IsDisciplined, access_of, before, effective_writer, has_access, is_of, place_before, some_acquired, some_scheduled, standing_value, status_of, written_by};
-ghost use Rattle.lineage_table.specs.Lineages.{IsNew, acquired, counted_up, released, removed, scheduled, settled, with_committed, written};
+ghost use Rattle.lineage_table.specs.Accesses.{IsDisciplined, access_of, before, effective_writer, has_access, is_of, place_before, some_acquired, some_scheduled, standing_value, status_of, without, written_by};
+ghost use Rattle.lineage_table.specs.Lineages.{IsNew, acquired, counted_up, released, removed, scheduled, settled, undone, with_committed, written};
 
 use crate::accesses::{Access, Status};
 use home_types::{NoMemory, RunNo, Stand, Value, View};
@@ -99,6 +99,18 @@ impl Lineage {
         };
     }
 
+    /// What the run wrote is undone. Nothing changes where it has no access, or wrote nothing.
+    pub fn undone(&mut self, r: RunNo)
+        ensures { self.new ≡ undone r.0 self.old }
+    {
+        if let Some(at) = self.place_of(r) {
+            self.accesses[at] = Access {
+                wrote: None,
+                ..self.accesses[at]
+            };
+        }
+    }
+
     /// Takes the access of the run out. Answers false where it has none.
     pub fn remove(&mut self, r: RunNo) -> bool
         ensures found { result ≡ has_access r.0 self.old.accesses }
@@ -160,6 +172,14 @@ impl Lineage {
         self.accesses.as_slice()
     }
 
+    /// Does nothing. Its contract is what the accesses of every lineage keep: the released ones stand before the acquired
+    /// one, and that before the scheduled ones, and no run has two.
+    pub fn kept(&self)
+        ensures { IsDisciplined self.now.accesses }
+    {
+        let _ = &self.up;
+    }
+
     /// The access of the run, where it has one.
     pub fn access(&self, r: RunNo) -> Option<Access>
         ensures { result ≡ access_of r.0 self.now.accesses }
@@ -176,6 +196,19 @@ impl Lineage {
             self.committed,
             |value, access| access.wrote.unwrap_or(value),
         )
+    }
+
+    /// The value that stands without the run's access: the last one that another run wrote, else the committed one.
+    pub fn stand_without(&self, r: RunNo) -> Value
+        ensures { result ≡ standing_value self.now.committed (without r.0 self.now.accesses) }
+    {
+        self.accesses.iter().fold(self.committed, |value, access| {
+            if access.run == r {
+                value
+            } else {
+                access.wrote.unwrap_or(value)
+            }
+        })
     }
 
     /// The run of the last access that has a written value.

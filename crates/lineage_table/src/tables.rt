@@ -1,8 +1,8 @@
-ghost use Rattle.std.specs.Prelude.{◌≡◌, ◌<◌, ◌≤◌, ◌^◌, [], false, IfOk, IsSome, Some, length};
+ghost use Rattle.std.specs.Prelude.{◌≡◌, ◌<◌, ◌≤◌, ◌^◌, [], false, IfOk, IsSome, Some, length, ℕ};
 ghost use Rattle.std.specs.Option.{ForSome};
 ghost use Rattle.command_rules.specs.Rosters.{is_on, runs_of};
-ghost use Rattle.lineage_table.specs.Accesses.{IsDisciplined, access_of, before, effective_writer, has_access, some_acquired, some_scheduled, standing_value, status_of, written_by};
-ghost use Rattle.lineage_table.specs.Lineages.{IsOpened, accesses_at, acquired, counted_up, lineage_at, released, removed, runs_on, scheduled, settled, with_committed, with_lineage, written};
+ghost use Rattle.lineage_table.specs.Accesses.{IsDisciplined, access_of, before, effective_writer, has_access, some_acquired, some_scheduled, standing_value, status_of, without, written_by};
+ghost use Rattle.lineage_table.specs.Lineages.{IsOpened, accesses_at, acquired, counted_up, lineage_at, released, removed, runs_on, scheduled, settled, undone, with_committed, with_lineage, written};
 
 use crate::accesses::{Access, Status};
 use crate::lineages::Lineage;
@@ -22,14 +22,14 @@ pub struct Table {
 }
 
 impl Model for Table {
-    ghost use Rattle.std.specs.Prelude.{◌≤◌, ◌^◌, List, length};
-    ghost use Rattle.lineage_table.specs.Lineages.{LineageState};
+    ghost use Rattle.std.specs.Prelude.{List};
+    ghost use Rattle.lineage_table.specs.Lineages.{IsTable, LineageState};
 
     ghost Value = { List LineageState };
 
     ghost view = { λ t. t.lineages.items };
 
-    ghost invariant = { λ t. length t.lineages.items ≤ 2 ^ 16 };
+    ghost invariant = { λ t. IsTable t.lineages.items };
 }
 
 impl Table {
@@ -63,6 +63,7 @@ impl Table {
         ensures { self.new ≡ with_lineage self.old d.0 (scheduled before access) }
     {
         self.lineages[d.0 as usize].schedule(before, access);
+        self.lineages[d.0 as usize].kept();
     }
 
     /// Marks that the run touches the device, and sees it so.
@@ -76,6 +77,7 @@ impl Table {
         ensures { self.new ≡ with_lineage self.old d.0 (acquired r.0 view) }
     {
         self.lineages[d.0 as usize].acquire(r, view);
+        self.lineages[d.0 as usize].kept();
     }
 
     /// Marks that the run, whose access is acquired, wrote the value.
@@ -85,6 +87,7 @@ impl Table {
         ensures { self.new ≡ with_lineage self.old d.0 (written r.0 v) }
     {
         self.lineages[d.0 as usize].note_write(r, v);
+        self.lineages[d.0 as usize].kept();
     }
 
     /// Marks that the run, whose access is acquired, is done with the device.
@@ -94,6 +97,16 @@ impl Table {
         ensures { self.new ≡ with_lineage self.old d.0 (released r.0) }
     {
         self.lineages[d.0 as usize].release(r);
+        self.lineages[d.0 as usize].kept();
+    }
+
+    /// Marks that what the run wrote is undone. Nothing changes where it has no access, or wrote nothing.
+    pub fn undone(&mut self, d: DeviceNo, r: RunNo)
+        requires { d.0 < length self.old }
+        ensures { self.new ≡ with_lineage self.old d.0 (undone r.0) }
+    {
+        self.lineages[d.0 as usize].undone(r);
+        self.lineages[d.0 as usize].kept();
     }
 
     /// Takes the access of the run out. Answers false where it has none.
@@ -102,7 +115,9 @@ impl Table {
         ensures found { result ≡ has_access r.0 (accesses_at self.old d.0) }
         ensures left { self.new ≡ with_lineage self.old d.0 (removed r.0) }
     {
-        self.lineages[d.0 as usize].remove(r)
+        let found = self.lineages[d.0 as usize].remove(r);
+        self.lineages[d.0 as usize].kept();
+        found
     }
 
     /// The access of the run, where it has one.
@@ -122,6 +137,14 @@ impl Table {
         self.lineages[d.0 as usize].accesses()
     }
 
+    /// Does nothing. Its contract is what the accesses to each device keep: the released ones stand before the acquired
+    /// one, and that before the scheduled ones, and no run has two.
+    pub fn kept(&self)
+        ensures { (d : ℕ) → IsDisciplined (accesses_at self.now d) }
+    {
+        let _ = &self.lineages;
+    }
+
     /// How many more accesses the device takes.
     pub fn room(&self, d: DeviceNo) -> u64
         requires { d.0 < length self.now }
@@ -138,6 +161,14 @@ impl Table {
         self.lineages[d.0 as usize].stand()
     }
 
+    /// The value that would stand on the device without the run's access: what an undo of the run drives.
+    pub fn stand_without(&self, d: DeviceNo, r: RunNo) -> Value
+        requires { d.0 < length self.now }
+        ensures { result ≡ standing_value (lineage_at self.now d.0).committed (without r.0 (accesses_at self.now d.0)) }
+    {
+        self.lineages[d.0 as usize].stand_without(r)
+    }
+
     /// The live run that wrote the value that stands. `None` where no access has a written value.
     pub fn effective_writer(&self, d: DeviceNo) -> Option<RunNo>
         requires { d.0 < length self.now }
@@ -152,6 +183,7 @@ impl Table {
         ensures { self.new ≡ with_lineage self.old d.0 (counted_up up) }
     {
         self.lineages[d.0 as usize].set_up(up);
+        self.lineages[d.0 as usize].kept();
     }
 
     /// Whether the device is counted up.
@@ -169,6 +201,7 @@ impl Table {
         ensures { self.new ≡ with_lineage self.old d.0 (settled r.0) }
     {
         self.lineages[d.0 as usize].settle(r);
+        self.lineages[d.0 as usize].kept();
     }
 
     /// Sets the committed value of a device that has no accesses, as under the weak model.
@@ -178,6 +211,7 @@ impl Table {
         ensures { self.new ≡ with_lineage self.old d.0 (with_committed v) }
     {
         self.lineages[d.0 as usize].set_committed(v);
+        self.lineages[d.0 as usize].kept();
     }
 
     /// The number of devices.

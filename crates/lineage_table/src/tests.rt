@@ -20,6 +20,7 @@ pub enum Change {
     Acquire(u32, View),
     Write(u32, Value),
     Release(u32),
+    Undo(u32),
     Remove(u32),
     /// The run has no access that could be removed.
     Absent(u32),
@@ -27,11 +28,12 @@ pub enum Change {
     Up(bool),
 }
 
-/// A change on the device of this number, or what the device shows then.
+/// A change on the device of this number, what the device shows then, or the value that stands there without a run.
 #[derive(Clone, Copy, Debug)]
 pub enum Row {
     Call(u16, Change),
     Shows(u16, &'static str),
+    StandsWithout(u16, u32, Value),
 }
 
 /// Makes the call where what it asks holds. Answers false where it does not.
@@ -56,6 +58,10 @@ fn make(table: &mut Table, d: DeviceNo, change: Change) -> bool {
                 table.release(d, RunNo(r));
             }
             may
+        }
+        Change::Undo(r) => {
+            table.undone(d, RunNo(r));
+            true
         }
         Change::Remove(r) => table.remove(d, RunNo(r)),
         Change::Absent(r) => !table.remove(d, RunNo(r)),
@@ -254,6 +260,11 @@ fn keeps_the_lineages_of_worked_windows(rt: HostRuntime) {
                     assert!(rt; (*d as u32) < table.devices());
                     let shown = shown(alloc, &table, DeviceNo(*d)).expect(&rt, "memory");
                     assert!(rt; shown.as_str() == *text, "{name}: {shown}");
+                }
+                Row::StandsWithout(d, r, value) => {
+                    assert!(rt; (*d as u32) < table.devices());
+                    let stand = table.stand_without(DeviceNo(*d), RunNo(*r));
+                    assert!(rt; stand == *value, "{name}: {stand} without {r}");
                 }
             }
         }

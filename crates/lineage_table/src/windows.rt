@@ -1,7 +1,9 @@
 //! Worked windows: the calls that their steps make, and what the rules say that the devices show after each step.
 use crate::View;
-use crate::tests::Change::{Absent, Acquire, Before, Last, Release, Remove, Settle, Up, Write};
-use crate::tests::Row::{self, Call, Shows};
+use crate::tests::Change::{
+    Absent, Acquire, Before, Last, Release, Remove, Settle, Undo, Up, Write,
+};
+use crate::tests::Row::{self, Call, Shows, StandsWithout};
 
 const LAMP: u16 = 0;
 
@@ -18,7 +20,7 @@ pub struct Window {
     pub rows: &'static [Row],
 }
 
-pub const WINDOWS: [Window; 10] = [
+pub const WINDOWS: [Window; 12] = [
     Window {
         name: "released lamp overwritten",
         runs: &[&[LAMP, FAN], &[LAMP]],
@@ -68,6 +70,16 @@ pub const WINDOWS: [Window; 10] = [
         name: "timeline gap fits",
         runs: &[&[LAMP, OVEN], &[OVEN]],
         rows: &TIMELINE_GAP_FITS,
+    },
+    Window {
+        name: "undo drives live writer",
+        runs: &[&[LAMP, HEAT], &[FAN, HEAT]],
+        rows: &UNDO_DRIVES_LIVE_WRITER,
+    },
+    Window {
+        name: "no dirty read",
+        runs: &[&[FAN, HEAT], &[HEAT]],
+        rows: &NO_DIRTY_READ,
     },
 ];
 
@@ -359,4 +371,72 @@ const TIMELINE_GAP_FITS: [Row; 24] = [
     Call(OVEN, Settle(1)),
     Shows(LAMP, "stands 1"),
     Shows(OVEN, "stands 1"),
+];
+
+const UNDO_DRIVES_LIVE_WRITER: [Row; 36] = [
+    Call(LAMP, Last(1)),
+    Call(HEAT, Last(1)),
+    Shows(LAMP, "1 scheduled, stands 0"),
+    Shows(HEAT, "1 scheduled, stands 18"),
+    Call(FAN, Last(2)),
+    Call(HEAT, Last(2)),
+    Shows(FAN, "2 scheduled, stands 0"),
+    Shows(HEAT, "1 scheduled, 2 scheduled, stands 18"),
+    Call(HEAT, Acquire(1, View::Up)),
+    Call(HEAT, Write(1, 20)),
+    Call(HEAT, Release(1)),
+    Shows(HEAT, "1 released up 20, 2 scheduled, stands 20 by 1"),
+    Call(HEAT, Acquire(2, View::Up)),
+    Call(HEAT, Write(2, 25)),
+    Call(HEAT, Release(2)),
+    Shows(HEAT, "1 released up 20, 2 released up 25, stands 25 by 2"),
+    Call(FAN, Acquire(2, View::Up)),
+    Call(FAN, Release(2)),
+    Shows(FAN, "2 released up, stands 0"),
+    StandsWithout(FAN, 2, 0),
+    StandsWithout(HEAT, 2, 20),
+    Call(HEAT, Undo(2)),
+    Shows(HEAT, "1 released up 20, 2 released up, stands 20 by 1"),
+    StandsWithout(HEAT, 2, 20),
+    Call(FAN, Remove(2)),
+    Call(HEAT, Remove(2)),
+    Shows(FAN, "stands 0"),
+    Shows(HEAT, "1 released up 20, stands 20 by 1"),
+    Call(LAMP, Acquire(1, View::Up)),
+    Call(LAMP, Write(1, 1)),
+    Call(LAMP, Release(1)),
+    Shows(LAMP, "1 released up 1, stands 1 by 1"),
+    Call(LAMP, Settle(1)),
+    Call(HEAT, Settle(1)),
+    Shows(LAMP, "stands 1"),
+    Shows(HEAT, "stands 20"),
+];
+
+const NO_DIRTY_READ: [Row; 26] = [
+    Call(FAN, Last(1)),
+    Call(HEAT, Last(1)),
+    Shows(FAN, "1 scheduled, stands 0"),
+    Shows(HEAT, "1 scheduled, stands 18"),
+    Call(HEAT, Last(2)),
+    Shows(HEAT, "1 scheduled, 2 scheduled, stands 18"),
+    Call(HEAT, Acquire(1, View::Up)),
+    Call(HEAT, Write(1, 20)),
+    Call(HEAT, Release(1)),
+    Shows(HEAT, "1 released up 20, 2 scheduled, stands 20 by 1"),
+    Call(FAN, Acquire(1, View::Up)),
+    Call(FAN, Release(1)),
+    Shows(FAN, "1 released up, stands 0"),
+    StandsWithout(FAN, 1, 0),
+    StandsWithout(HEAT, 1, 18),
+    Call(HEAT, Undo(1)),
+    Shows(HEAT, "1 released up, 2 scheduled, stands 18"),
+    Call(HEAT, Acquire(2, View::Up)),
+    Call(HEAT, Release(2)),
+    Shows(HEAT, "1 released up, 2 released up, stands 18"),
+    Call(FAN, Remove(1)),
+    Call(HEAT, Remove(1)),
+    Shows(FAN, "stands 0"),
+    Shows(HEAT, "2 released up, stands 18"),
+    Call(HEAT, Remove(2)),
+    Shows(HEAT, "stands 18"),
 ];

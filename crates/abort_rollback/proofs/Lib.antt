@@ -1,0 +1,2 @@
+pub mod NextUndos
+pub mod WorkedUndos

@@ -1,0 +1,10 @@
+use Rattle.lineage_table.proofs.Keeping.{changed_state, nothing_changed}
+use Rattle.lineage_table.proofs.lineages.Lineage.undone.Goals as goal
+use Rattle.lineage_table.specs.declared.accesses.Access.{Access}
+use Rattle.std.proofs.Common.{None, sym, ◌∙◌}
+
+pub returns-in-Some : goal.returns-in-Some
+returns-in-Some c = changed_state _ c.args.self.now c.args.r.0 c.in-Some.at c.index.result.now (λ (x : Access). record x { wrote = None }) c.self.view_is (sym c.place_of.ensures ∙ c.in-Some.is) c.index.ensures
+
+pub returns-in_default : goal.returns-in_default
+returns-in_default c = nothing_changed c.args.self.now c.args.r.0 (λ (x : Access). record x { wrote = None }) (sym c.place_of.ensures ∙ c.in_default.is)
