@@ -2,6 +2,7 @@
 use Rattle.command_rules.specs.Rosters.{command_at, commands_of, is_on, touches_from}
 use Rattle.history_book.proofs.Snoc.{put_keeps, put_other, put_same}
 use Rattle.history_book.specs.Histories.{entry, more_if, reading, with_turn}
+use Rattle.history_book.specs.Lines.{is_ran}
 use Rattle.history_book.specs.Readings.{Event, First, Last, Mark, OfRun, Reading, is_access, is_first, is_last, next_of, nothing_read, pends, put, span_of, view_by}
 use Rattle.history_book.specs.Settings.{Setting}
 use Rattle.history_book.specs.WellFormed.{IsWellFormed, along, may_follow}
@@ -28,10 +29,20 @@ LogsFirsts n = (r d : ℕ) → list_any (is_first r) (n.log d) ≡ is_some ((n.r
 abbrev pub LogsLasts : Setting → Reading → Type 0
 LogsLasts w n = (r d : ℕ) → pends w n r d ≡ true → list_any (is_last r) (n.log d) ≡ false
 
--- a run's first answer on a device stands in the device's log, and the answer to its last command there does not while one is pending
+-- the mark is of an event, and the run stands for the event
+abbrev pub is_event_of : ℕ → Mark → Bool
+is_event_of r (First q) = false
+is_event_of r (Event i) = is_ran r i
+is_event_of r (Last q) = false
+
+abbrev pub LogsEvents : Reading → Type 0
+LogsEvents n = (r d : ℕ) → list_any (is_event_of r) (n.log d) ≡ false
+
+-- a run's first answer on a device stands in the device's log, and the answer to its last command there does not while one is pending; no run is an event there
 pub record Logged (w : Setting) (n : Reading) : Type 0 where
   pub firsts : LogsFirsts n
   pub lasts : LogsLasts w n
+  pub events : LogsEvents n
 
 any_more : {A : Type 0} (p : A → Bool) (b : Bool) (x : A) (xs : List A) → list_any p (more_if b x xs) ≡ (list_any p xs || (b && p x))
 any_more p true x xs = list_any-append p xs (x ∷ []) ∙ ap (λ c. list_any p xs || c) (or_none (p x))
@@ -73,6 +84,17 @@ last_after w n r k q a =
     no_first false true = refl
     no_first false false = refl
 
+event_after : (w : Setting) (n : Reading) (r k q : ℕ) (a : Answer) → list_any (is_event_of q) (log_after w n r k a) ≡ list_any (is_event_of q) (n.log (command_at w.runs r k).device.0)
+event_after w n r k q a =
+    any_more (is_event_of q) (not (touches_from w.runs r (command_at w.runs r k).device.0 (k + 1))) (Last r) _ ∙ unmoved (list_any (is_event_of q) (more_if (is_access a && is_none ((n.run r).on (command_at w.runs r k).device.0).view) (First r) (n.log (command_at w.runs r k).device.0))) (not (touches_from w.runs r (command_at w.runs r k).device.0 (k + 1)))
+    ∙ any_more (is_event_of q) (is_access a && is_none ((n.run r).on (command_at w.runs r k).device.0).view) (First r) (n.log (command_at w.runs r k).device.0)
+    ∙ unmoved (list_any (is_event_of q) (n.log (command_at w.runs r k).device.0)) (is_access a && is_none ((n.run r).on (command_at w.runs r k).device.0).view)
+  where
+    unmoved : (b c : Bool) → (b || (c && false)) ≡ b
+    unmoved true c = refl
+    unmoved false true = refl
+    unmoved false false = refl
+
 any_drop_less : {A : Type 0} (p : A → Bool) (xs : List A) (k : ℕ) → list_any p (drop (suc k) xs) ≡ true → list_any p (drop k xs) ≡ true
 any_drop_less p [] k e = absurd (cc)
 any_drop_less p (x ∷ xs) zero e = grind (arith, common_steps)
@@ -87,20 +109,22 @@ same_logs w n m r o log run answers views s =
     record {
       firsts = λ q d. ap (λ l. list_any (is_first q) (l d)) log ∙ s.firsts q d ∙ sym (ap (λ f. is_some ((f q).on d).view) run ∙ ap is_some (put_keeps (λ x. (x.on d).view) n.run r o (views d) q));
       lasts = λ q d e. ap (λ l. list_any (is_last q) (l d)) log ∙ s.lasts q d (sym (ap (λ f. touches_from w.runs q d (length (f q).answers)) run ∙ ap (λ a. touches_from w.runs q d (length a)) (put_keeps (λ x. x.answers) n.run r o answers q)) ∙ e);
+      events = λ q d. ap (λ l. list_any (is_event_of q) (l d)) log ∙ s.events q d;
     }
 
-turn_logged : (w : Setting) (n : Reading) (d : DeviceNo) (x : Item) (up : Bool) → Logged w n → Logged w (with_turn w n d x up)
-turn_logged w n d x up s =
+turn_logged : (w : Setting) (n : Reading) (d : DeviceNo) (x : Item) (up : Bool) → ((r : ℕ) → is_ran r x ≡ false) → Logged w n → Logged w (with_turn w n d x up)
+turn_logged w n d x up never s =
     record {
       firsts = λ r e. put_keeps (list_any (is_first r)) n.log d.0 (n.log d.0 ++ Event x ∷ []) (no_more (is_first r) (n.log d.0) refl) e ∙ s.firsts r e;
       lasts = λ r e p. put_keeps (list_any (is_last r)) n.log d.0 (n.log d.0 ++ Event x ∷ []) (no_more (is_last r) (n.log d.0) refl) e ∙ s.lasts r e p;
+      events = λ r e. put_keeps (list_any (is_event_of r)) n.log d.0 (n.log d.0 ++ Event x ∷ []) (no_more (is_event_of r) (n.log d.0) (never r)) e ∙ s.events r e;
     }
   where
     no_more : (p : Mark → Bool) (marks : List Mark) → p (Event x) ≡ false → list_any p (marks ++ Event x ∷ []) ≡ list_any p marks
     no_more p marks none = list_any-append p marks (Event x ∷ []) ∙ grind (arith, common_steps)
 
 did_logged : (w : Setting) (n : Reading) (r : RunNo) (k : ℕ) (a : Answer) → k ≡ next_of n r.0 → Logged w n → Logged w (entry w n (Did r k a))
-did_logged w n r k a number s = record { firsts = firsts'; lasts = lasts' }
+did_logged w n r k a number s = record { firsts = firsts'; lasts = lasts'; events = λ q d. put_keeps (list_any (is_event_of q)) n.log c.device.0 (log_after w n r.0 k a) (event_after w n r.0 k q a) d ∙ s.events q d }
   where
     c : Command
     c = command_at w.runs r.0 k
@@ -177,8 +201,8 @@ logged_step w n (Arrived r m) ok s = same_logs w n (entry w n (Arrived r m)) r.0
 logged_step w n (Placed r at m) ok s = same_logs w n (entry w n (Placed r at m)) r.0 _ refl refl refl (λ d. refl) s
 logged_step w n (Did r c a) ok s = did_logged w n r c a (grind (arith, common_steps)) s
 logged_step w n (Undid r d drove) ok s = same_logs w n (entry w n (Undid r d drove)) r.0 _ refl refl refl (λ e. put_keeps (λ o. o.view) (n.run r.0).on d.0 _ refl e) s
-logged_step w n (Fell d) ok s = let turn = turn_logged w n d (Failed d (n.fell d.0 + 1)) false s in record { firsts = turn.firsts; lasts = turn.lasts }
-logged_step w n (Rose d) ok s = let turn = turn_logged w n d (Back d (n.rose d.0 + 1)) true s in record { firsts = turn.firsts; lasts = turn.lasts }
+logged_step w n (Fell d) ok s = let turn = turn_logged w n d (Failed d (n.fell d.0 + 1)) false (λ r. refl) s in record { firsts = turn.firsts; lasts = turn.lasts; events = turn.events }
+logged_step w n (Rose d) ok s = let turn = turn_logged w n d (Back d (n.rose d.0 + 1)) true (λ r. refl) s in record { firsts = turn.firsts; lasts = turn.lasts; events = turn.events }
 logged_step w n (Doomed r k) ok s = same_logs w n (entry w n (Doomed r k)) r.0 _ refl refl refl (λ d. refl) s
 logged_step w n (Ended r e) ok s = same_logs w n (entry w n (Ended r e)) r.0 _ refl refl refl (λ d. refl) s
 
@@ -187,7 +211,7 @@ logged_from w n [] s ok = s
 logged_from w n (e ∷ h) s ok = logged_from w (entry w n e) h (logged_step w n e (grind (arith, common_steps)) s) (grind (arith, common_steps))
 
 pub logged : (w : Setting) (h : List Entry) → IsWellFormed w h → Logged w (reading w h)
-logged w h ok = logged_from w (nothing_read w) h (record { firsts = λ r d. refl; lasts = λ r d e. refl }) ok
+logged w h ok = logged_from w (nothing_read w) h (record { firsts = λ r d. refl; lasts = λ r d e. refl; events = λ r d. refl }) ok
 
 -- Spans
 

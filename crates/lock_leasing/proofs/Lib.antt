@@ -4,6 +4,7 @@ pub mod Effects
 pub mod Facts
 pub mod AccessRuns
 pub mod Writers
+pub mod Undoing
 pub mod Holding
 pub mod Meetings
 pub mod Floors

@@ -20,7 +20,7 @@ use Rattle.std.specs.List.{list_any}
 use Rattle.std.specs.Option.{option_or}
 use Rattle.std.specs.Prelude.{Bool, List, None, Option, Some, [], false, fold, if◌then◌else◌, is_some, map, not, option_map, true, unwrap_or, ℕ, ◌&&◌, ◌==◌, ◌||◌, ◌∷◌, ◌≡◌}
 
-abbrev write_by : ℕ → ℕ → Write
+abbrev pub write_by : ℕ → ℕ → Write
 write_by r v = record { run = r; value = v }
 
 module _ (w : Setting) (n : Reading) (g : Grips) (f : Facts w n g) (d : ℕ) where
@@ -36,18 +36,18 @@ module _ (w : Setting) (n : Reading) (g : Grips) (f : Facts w n g) (d : ℕ) whe
   writer_from best xs = fold (λ writer x. if is_some x.wrote then Some x.run else writer) best xs
 
   -- a run of the line is live or committed
-  abbrev Stays : Item → List Item → Type 0
+  abbrev pub Stays : Item → List Item → Type 0
   Stays i is = (r : ℕ) → is_ran r i ≡ true → (is_live n r || is_committed n r) ≡ true
 
   stays_from : (is : List Item) → ((r : ℕ) → list_any (is_ran r) is ≡ true → (is_live n r || is_committed n r) ≡ true) → EachTail Stays is
   stays_from [] all = tt
   stays_from (i ∷ is) all = (λ r own. all r (rw own refl), stays_from is (λ r among. all r (rw among (grind (arith, common_steps)))))
 
-  all_stay : EachTail Stays n.line
+  pub all_stay : EachTail Stays n.line
   all_stay = stays_from n.line (λ r among. stands_or_committed (n.run r) (sym (f.line.line r) ∙ among))
 
   -- a run that has no access, and is not a committed one that wrote, has no write
-  no_write : (r : RunNo) → (is_live n r.0 || is_committed n r.0) ≡ true → covers n d (Ran r) ≡ false → uses w n d r.0 ≡ false → write_of n g d (Ran r) ≡ None
+  pub no_write : (r : RunNo) → (is_live n r.0 || is_committed n r.0) ≡ true → covers n d (Ran r) ≡ false → uses w n d r.0 ≡ false → write_of n g d (Ran r) ≡ None
   no_write r stays other unused = at (has_written n r.0 d) refl
     where
       none_of : (o : Option ℕ) → is_some o ≡ false → (b : Bool) → (if b then None else option_map (write_by r.0) o) ≡ None

@@ -1,16 +1,17 @@
 -- The accesses along a line, by three plain functions: which runs have one, which runs cover those before them, and what the access is.
 use Rattle.command_rules.specs.Rosters.{run_no}
 use Rattle.device_order.specs.LineChanges.{Lacks}
-use Rattle.history_book.specs.Lines.{of_run}
+use Rattle.device_order.specs.LineWords.{RunsAreDistinct}
+use Rattle.history_book.specs.Lines.{is_ran, of_run, without as line_without}
 use Rattle.home_types.specs.declared.items.Item.TheVariants.{Back, Failed, Ran}
 use Rattle.home_types.specs.declared.items.Item.{Item}
-use Rattle.lineage_table.specs.Accesses.{has_access}
+use Rattle.lineage_table.specs.Accesses.{has_access, with_change, without}
 use Rattle.lineage_table.specs.declared.accesses.Access.{Access}
-use Rattle.std.proofs.Common.{ap, arith, refl, ◌∙◌}
+use Rattle.std.proofs.Common.{ap, arith, refl, subst, sym, ◌∙◌}
 use Rattle.std.proofs.lemmas.Grind.{common_steps}
 use Rattle.std.proofs.lemmas.List.Folds.{list_any-append}
 use Rattle.std.specs.List.{list_any}
-use Rattle.std.specs.Prelude.{Bool, List, [], false, if◌then◌else◌, not, true, ℕ, ◌&&◌, ◌++◌, ◌==◌, ◌||◌, ◌∷◌, ◌≡◌, ◌≢◌}
+use Rattle.std.specs.Prelude.{Bool, List, [], false, if◌then◌else◌, map, not, true, ℕ, ◌&&◌, ◌++◌, ◌==◌, ◌||◌, ◌∷◌, ◌≡◌, ◌≢◌}
 use Rattle.window_order.specs.TableKept.{accesses_along}
 
 -- the accesses of the front of a line, whose back covers it or not
@@ -200,3 +201,160 @@ front_whole p c f (Ran q ∷ is) = λ i. if p q.0 && not (no_more (list_any (of_
     no_more false = refl
 front_whole p c f (Failed d k ∷ is) = front_whole p c f is
 front_whole p c f (Back d k ∷ is) = front_whole p c f is
+
+-- The access of one run is changed
+
+-- in a line where each run stands once
+pub change_along : (p c : ℕ → Bool) (f h : ℕ → Access) (r : ℕ) (change : Access → Access) (is : List Item) → RunsAreDistinct is → ((x : ℕ) → (f x).run.0 ≡ x) → h r ≡ change (f r) → ((x : ℕ) → x ≢ r → h x ≡ f x)
+    → with_change r change (accesses_along p c f is) ≡ accesses_along p c h is
+unfolding RunsAreDistinct
+change_along p c f h r change [] distinct own changed others = refl
+change_along p c f h r change (Ran q ∷ is) distinct own changed others = at_ (p q.0 && not (list_any (of_run c) is)) (change_along p c f h r change is distinct.1 own changed others)
+  where
+    same : (x y : ℕ) → (x == y) ≡ true → x ≡ y
+    same x y e = grind (arith, common_steps)
+
+    other : (x y : ℕ) → (x == y) ≡ false → x ≢ y
+    other x y e k = grind (arith, common_steps)
+
+    here : with_change r change (accesses_along p c f is) ≡ accesses_along p c h is → (b : Bool) → (q.0 == r) ≡ b → with_change r change (f q.0 ∷ accesses_along p c f is) ≡ h q.0 ∷ accesses_along p c h is
+    here rest true e =
+        (λ i. if (ap (λ x. x == r) (own q.0) ∙ e) i then (change (f q.0) ∷ accesses_along p c f is) else (f q.0 ∷ with_change r change (accesses_along p c f is)))
+        ∙ (λ i. sym (ap h (same q.0 r e) ∙ changed ∙ sym (ap (λ x. change (f x)) (same q.0 r e))) i ∷ sym (along_but r p p c c f h is (record { has_one = λ x ne. refl; covering = λ x ne. refl; access = others }) (lacking e)) i)
+      where
+        lacking : (q.0 == r) ≡ true → Lacks r is
+        lacking e = subst (λ x. Lacks x is) (same q.0 r e) distinct.0
+    here rest false e =
+        (λ i. if (ap (λ x. x == r) (own q.0) ∙ e) i then (change (f q.0) ∷ accesses_along p c f is) else (f q.0 ∷ with_change r change (accesses_along p c f is)))
+        ∙ (λ i. sym (others q.0 (other q.0 r e)) i ∷ rest i)
+
+    at_ : (b : Bool) → with_change r change (accesses_along p c f is) ≡ accesses_along p c h is
+        → with_change r change (if b then (f q.0 ∷ accesses_along p c f is) else accesses_along p c f is) ≡ (if b then (h q.0 ∷ accesses_along p c h is) else accesses_along p c h is)
+    at_ true rest = here rest (q.0 == r) refl
+    at_ false rest = rest
+change_along p c f h r change (Failed d k ∷ is) distinct own changed others = change_along p c f h r change is distinct own changed others
+change_along p c f h r change (Back d k ∷ is) distinct own changed others = change_along p c f h r change is distinct own changed others
+
+-- the accesses of a front are changed, each of a run that has one
+pub front_each : (p c : ℕ → Bool) (f h : ℕ → Access) (b : Bool) (change : Access → Access) (is : List Item) → ((x : ℕ) → list_any (is_ran x) is ≡ true → p x ≡ true → h x ≡ change (f x)) → map change (front_accesses p c f b is) ≡ front_accesses p c h b is
+front_each p c f h b change [] each = refl
+front_each p c f h b change (Ran q ∷ is) each = at_ (p q.0) refl (not (list_any (of_run c) is || b)) (front_each p c f h b change is (λ x there. each x (either (q.0 == x) (list_any (is_ran x) is) there)))
+  where
+    self : (x : ℕ) (y : Bool) → ((x == x) || y) ≡ true
+    self x y = grind (arith, common_steps)
+
+    either : (x y : Bool) → y ≡ true → (x || y) ≡ true
+    either x y e = grind (arith, common_steps)
+
+    at_ : (u : Bool) → p q.0 ≡ u → (v : Bool) → map change (front_accesses p c f b is) ≡ front_accesses p c h b is
+        → map change (if u && v then (f q.0 ∷ front_accesses p c f b is) else front_accesses p c f b is) ≡ (if u && v then (h q.0 ∷ front_accesses p c h b is) else front_accesses p c h b is)
+    at_ true e true rest = λ i. sym (each q.0 (self q.0 (list_any (is_ran q.0) is)) e) i ∷ rest i
+    at_ true e false rest = rest
+    at_ false e v rest = rest
+front_each p c f h b change (Failed d k ∷ is) each = front_each p c f h b change is each
+front_each p c f h b change (Back d k ∷ is) each = front_each p c f h b change is each
+
+-- the same accesses, each of a run of the line
+pub along_each : (p c : ℕ → Bool) (f h : ℕ → Access) (is : List Item) → ((x : ℕ) → list_any (is_ran x) is ≡ true → h x ≡ f x) → accesses_along p c h is ≡ accesses_along p c f is
+along_each p c f h [] each = refl
+along_each p c f h (Ran q ∷ is) each =
+    λ i. if p q.0 && not (list_any (of_run c) is) then (each q.0 (self q.0 (list_any (is_ran q.0) is)) i ∷ along_each p c f h is (λ x there. each x (either (q.0 == x) (list_any (is_ran x) is) there)) i)
+    else along_each p c f h is (λ x there. each x (either (q.0 == x) (list_any (is_ran x) is) there)) i
+  where
+    self : (x : ℕ) (y : Bool) → ((x == x) || y) ≡ true
+    self x y = grind (arith, common_steps)
+
+    either : (x y : Bool) → y ≡ true → (x || y) ≡ true
+    either x y e = grind (arith, common_steps)
+along_each p c f h (Failed d k ∷ is) each = along_each p c f h is each
+along_each p c f h (Back d k ∷ is) each = along_each p c f h is each
+
+-- A run that covers nothing leaves the line: its access is gone
+
+covers_without : (c e : ℕ → Bool) (r : ℕ) (is : List Item) → c r ≡ false → ((x : ℕ) → x ≢ r → e x ≡ c x) → list_any (of_run e) (line_without r is) ≡ list_any (of_run c) is
+covers_without c e r [] none others = refl
+covers_without c e r (Ran q ∷ is) none others = at_ (q.0 == r) refl (covers_without c e r is none others)
+  where
+    same : (x y : ℕ) → (x == y) ≡ true → x ≡ y
+    same x y k = grind (arith, common_steps)
+
+    other : (x y : ℕ) → (x == y) ≡ false → x ≢ y
+    other x y k h = grind (arith, common_steps)
+
+    at_ : (b : Bool) → (q.0 == r) ≡ b → list_any (of_run e) (line_without r is) ≡ list_any (of_run c) is → list_any (of_run e) (if not b then (Ran q ∷ line_without r is) else line_without r is) ≡ (c q.0 || list_any (of_run c) is)
+    at_ true k rest = rest ∙ (λ i. sym (ap c (same q.0 r k) ∙ none) i || list_any (of_run c) is)
+    at_ false k rest = λ i. others q.0 (other q.0 r k) i || rest i
+covers_without c e r (Failed d k ∷ is) none others = covers_without c e r is none others
+covers_without c e r (Back d k ∷ is) none others = covers_without c e r is none others
+
+pub without_along : (p q c e : ℕ → Bool) (f h : ℕ → Access) (r : ℕ) (is : List Item) → ((x : ℕ) → (f x).run.0 ≡ x) → c r ≡ false → SameBut r p q c e f h → without r (accesses_along p c f is) ≡ accesses_along q e h (line_without r is)
+without_along p q c e f h r [] own none others = refl
+without_along p q c e f h r (Ran x ∷ is) own none others = at_ (x.0 == r) refl (without_along p q c e f h r is own none others)
+  where
+    other : (x y : ℕ) → (x == y) ≡ false → x ≢ y
+    other x y k e = grind (arith, common_steps)
+
+    gone : (b : Bool) → (x.0 == r) ≡ true → without r (if b then (f x.0 ∷ accesses_along p c f is) else accesses_along p c f is) ≡ without r (accesses_along p c f is)
+    gone true k = λ i. if not ((ap (λ y. y == r) (own x.0) ∙ k) i) then (f x.0 ∷ without r (accesses_along p c f is)) else without r (accesses_along p c f is)
+    gone false k = refl
+
+    kept : (b : Bool) → (x.0 == r) ≡ false → without r (accesses_along p c f is) ≡ accesses_along q e h (line_without r is)
+        → without r (if b then (f x.0 ∷ accesses_along p c f is) else accesses_along p c f is) ≡ (if b then (h x.0 ∷ accesses_along q e h (line_without r is)) else accesses_along q e h (line_without r is))
+    kept true k rest =
+        (λ i. if not ((ap (λ y. y == r) (own x.0) ∙ k) i) then (f x.0 ∷ without r (accesses_along p c f is)) else without r (accesses_along p c f is))
+        ∙ (λ i. sym (others.access x.0 (other x.0 r k)) i ∷ rest i)
+    kept false k rest = rest
+
+    at_ : (b : Bool) → (x.0 == r) ≡ b → without r (accesses_along p c f is) ≡ accesses_along q e h (line_without r is)
+        → without r (if p x.0 && not (list_any (of_run c) is) then (f x.0 ∷ accesses_along p c f is) else accesses_along p c f is) ≡ accesses_along q e h (if not b then (Ran x ∷ line_without r is) else line_without r is)
+    at_ true k rest = gone (p x.0 && not (list_any (of_run c) is)) k ∙ rest
+    at_ false k rest =
+        kept (p x.0 && not (list_any (of_run c) is)) k rest
+        ∙ (λ i. if sym (others.has_one x.0 (other x.0 r k)) i && not (sym (covers_without c e r is none others.covering) i) then (h x.0 ∷ accesses_along q e h (line_without r is)) else accesses_along q e h (line_without r is))
+without_along p q c e f h r (Failed d k ∷ is) own none others = without_along p q c e f h r is own none others
+without_along p q c e f h r (Back d k ∷ is) own none others = without_along p q c e f h r is own none others
+
+-- Which runs stand in a part of the line
+
+-- no run of a line is one that it lacks
+pub lacks_none : (r : ℕ) (is : List Item) → Lacks r is → (x : ℕ) → list_any (is_ran x) is ≡ true → r ≢ x
+unfolding Lacks
+lacks_none r [] lacks x there = absurd (cc)
+lacks_none r (Ran q ∷ is) lacks x there = at_ (lacks_none r is lacks.1 x) (q.0 == x) refl there
+  where
+    same : (a b : ℕ) → (a == b) ≡ true → a ≡ b
+    same a b h = grind (arith, common_steps)
+
+    at_ : (list_any (is_ran x) is ≡ true → r ≢ x) → (b : Bool) → (q.0 == x) ≡ b → (b || list_any (is_ran x) is) ≡ true → r ≢ x
+    at_ ih true e h = λ equal. lacks.0 (same q.0 x e ∙ sym equal)
+    at_ ih false e h = ih h
+lacks_none r (Failed d k ∷ is) lacks x there = lacks_none r is lacks x there
+lacks_none r (Back d k ∷ is) lacks x there = lacks_none r is lacks x there
+
+pub lacks_ran : (r : ℕ) (is : List Item) → Lacks r is → list_any (is_ran r) is ≡ false
+lacks_ran r is lacks = at_ (list_any (is_ran r) is) refl
+  where
+    at_ : (b : Bool) → list_any (is_ran r) is ≡ b → b ≡ false
+    at_ true e = absurd (lacks_none r is lacks r e refl)
+    at_ false e = refl
+
+-- a run behind another does not stand before it
+pub apart : (r : ℕ) (a b : List Item) → RunsAreDistinct (a ++ Ran (run_no r) ∷ b) → (x : ℕ) → list_any (is_ran x) b ≡ true → list_any (is_ran x) a ≡ false
+unfolding RunsAreDistinct
+apart r [] b distinct x there = refl
+apart r (Ran q ∷ a) b distinct x there = λ i. differ (q.0 == x) refl i || apart r a b distinct.1 x there i
+  where
+    same : (u v : ℕ) → (u == v) ≡ true → u ≡ v
+    same u v h = grind (arith, common_steps)
+
+    last : (u v w : Bool) → w ≡ true → (u || (v || w)) ≡ true
+    last u v w h = grind (arith, common_steps)
+
+    in_whole : list_any (is_ran x) (a ++ Ran (run_no r) ∷ b) ≡ true
+    in_whole = list_any-append (is_ran x) a (Ran (run_no r) ∷ b) ∙ last (list_any (is_ran x) a) (r == x) (list_any (is_ran x) b) there
+
+    differ : (u : Bool) → (q.0 == x) ≡ u → u ≡ false
+    differ true e = absurd (lacks_none q.0 (a ++ Ran (run_no r) ∷ b) distinct.0 x in_whole (same q.0 x e))
+    differ false e = refl
+apart r (Failed d k ∷ a) b distinct x there = apart r a b distinct x there
+apart r (Back d k ∷ a) b distinct x there = apart r a b distinct x there

@@ -1,43 +1,44 @@
 -- An answer keeps the lineages, with the access of its run changed on the command's device alone.
 use Rattle.command_rules.specs.Rosters.{command_at, commands_of, is_on, no_command, run_no, touches, touches_from}
-use Rattle.device_order.proofs.InPlace.{two_places}
 use Rattle.device_order.specs.LineWords.{CutAt}
-use Rattle.history_book.proofs.Shapes.{never_passed_by}
+use Rattle.history_book.proofs.Shapes.{never_passed_by, put_all}
 use Rattle.history_book.proofs.Snoc.{put_other, put_same}
 use Rattle.history_book.specs.Histories.{answered, entry}
 use Rattle.history_book.specs.Lines.{is_ran, of_run}
 use Rattle.history_book.specs.Plans.{planned_end, planned_start}
-use Rattle.history_book.specs.Readings.{OfRun, OnDevice, Reading, did, is_committed, is_fine, is_live, is_told, is_committing, next_of, pends, put, view_by}
+use Rattle.history_book.specs.Readings.{OfRun, OnDevice, Reading, did, is_committed, is_doomed, is_fine, is_live, is_told, is_committing, next_of, pends, put, view_by}
 use Rattle.history_book.specs.Settings.{Setting}
 use Rattle.history_book.specs.declared.entries.Entry.TheVariants.{Did}
 use Rattle.home_types.specs.Commands.{driven, register_after}
-use Rattle.home_types.specs.HomeStates.{stand_at}
 use Rattle.home_types.specs.Kinds.{kind_at}
-use Rattle.home_types.specs.declared.commands.Answer.TheVariants.{Down, Fine, Found}
+use Rattle.home_types.specs.declared.commands.Answer.TheVariants.{Down as IsDown, Fine, Found}
 use Rattle.home_types.specs.declared.commands.Answer.{Answer}
 use Rattle.home_types.specs.declared.commands.Command.{Command}
+use Rattle.home_types.specs.declared.commands.View.TheVariants.{Down}
 use Rattle.home_types.specs.declared.commands.View.{View}
 use Rattle.home_types.specs.declared.items.Item.TheVariants.{Back, Failed, Ran}
 use Rattle.home_types.specs.declared.items.Item.{Item}
 use Rattle.home_types.specs.declared.kinds.Kind.{Kind}
-use Rattle.lineage_table.proofs.Splits.{change_at}
-use Rattle.lineage_table.specs.Accesses.{has_access, is_of}
-use Rattle.lineage_table.specs.Lineages.{LineageState, acquired, released, written}
+use Rattle.home_types.specs.declared.numbers.RunNo.{RunNo}
+use Rattle.lineage_table.specs.Accesses.{has_access, is_of, with_change}
+use Rattle.lineage_table.specs.Lineages.{LineageState}
 use Rattle.lineage_table.specs.declared.accesses.Access.{Access}
 use Rattle.lineage_table.specs.declared.accesses.Status.TheVariants.{Acquired, Released, Scheduled}
-use Rattle.lock_leasing.specs.Tables.{uses, view_when}
+use Rattle.lock_leasing.specs.Configurations.{Commands, Grips, grips_command, grips_undo}
+use Rattle.lock_leasing.specs.Tables.{may_be_passed, uses, view_when}
 use Rattle.std.proofs.Common.{ap, arith, length-append, refl, subst, sym, ◌∙◌}
 use Rattle.std.proofs.lemmas.Grind.{common_steps}
 use Rattle.std.proofs.lemmas.List.{drop_more}
 use Rattle.std.specs.List.{list_any}
 use Rattle.std.specs.Option.{option_or}
-use Rattle.std.specs.Prelude.{Bool, List, None, Option, Some, [], drop, false, if◌then◌else◌, is_none, is_some, length, not, option_map, suc, true, unwrap_or, zero, ℕ, ◌&&◌, ◌++◌, ◌+◌, ◌<◌, ◌==◌, ◌||◌, ◌∷◌, ◌≡◌, ◌≢◌, ◌≤◌}
-use Rattle.window_order.proofs.AccessLists.{SameBut, any_but, along_but, along_there, front_accesses, front_but, front_lacks}
-use Rattle.window_order.proofs.ReadFacts.{IsRead}
+use Rattle.std.specs.Prelude.{Bool, List, None, Option, Some, [], drop, false, if◌then◌else◌, is_none, is_some, length, not, option_map, suc, true, unwrap_or, zero, ℕ, ◌&&◌, ◌++◌, ◌+◌, ◌<◌, ◌==◌, ◌||◌, ◌∷◌, ◌≡◌, ◌≢◌}
+use Rattle.window_order.proofs.AccessLists.{along_there, front_accesses, front_lacks}
+use Rattle.window_order.proofs.GripWords.{SameGrip, grip_elsewhere, grip_home, home_command, home_undo, own_command, own_undo}
+use Rattle.window_order.proofs.ReadFacts.{IsRead, runs_distinct}
 use Rattle.window_order.proofs.Runs.{live_uncommitted}
-use Rattle.window_order.proofs.TableFrames.{SameLineage, access_by, commits_by, write_by, lineage_same, put_says, same_committed, same_unplaced, uses_by}
-use Rattle.window_order.specs.TableChanges.{acquired_if, answered_change, answered_lineage, released_if, told_write, written_if}
-use Rattle.window_order.specs.TableKept.{LineageIsKept, access_read, accesses_along, accesses_read, commits_write, unplaced_on}
+use Rattle.window_order.proofs.TableFrames.{SameUses, access_by, access_gripped, commits_by, lineage_changed, lineage_same, may_by, may_gripped, put_says, uses_by, write_by}
+use Rattle.window_order.specs.TableChanges.{acquired_if, is_done_there, noted, released_if, told_write, written_if}
+use Rattle.window_order.specs.TableKept.{LineageIsKept, access_read, accesses_along, accesses_read, commits_write}
 
 -- One access that changes
 
@@ -62,6 +63,42 @@ answered_access first view wrote last x = record {
   to = x.to;
 }
 
+pub with_none : (r : ℕ) (xs : List Access) → with_change r (λ x. x) xs ≡ xs
+with_none r [] = refl
+with_none r (x ∷ xs) = at_ (is_of r x) (with_none r xs)
+  where
+    at_ : (b : Bool) → with_change r (λ y. y) xs ≡ xs → (if b then (x ∷ xs) else (x ∷ with_change r (λ y. y) xs)) ≡ x ∷ xs
+    at_ true rest = refl
+    at_ false rest = ap (λ ys. x ∷ ys) rest
+
+pub with_twice : (r : ℕ) (f h : Access → Access) (xs : List Access) → ((x : Access) → (f x).run ≡ x.run) → with_change r h (with_change r f xs) ≡ with_change r (λ x. h (f x)) xs
+with_twice r f h [] own = refl
+with_twice r f h (x ∷ xs) own = at_ (is_of r x) refl (with_twice r f h xs own)
+  where
+    at_ : (b : Bool) → is_of r x ≡ b → with_change r h (with_change r f xs) ≡ with_change r (λ y. h (f y)) xs → with_change r h (if b then (f x ∷ xs) else (x ∷ with_change r f xs)) ≡ (if b then (h (f x) ∷ xs) else (x ∷ with_change r (λ y. h (f y)) xs))
+    at_ true e rest = λ i. if (ap (λ (y : RunNo). y.0 == r) (own x) ∙ e) i then (h (f x) ∷ xs) else (f x ∷ with_change r h xs)
+    at_ false e rest = (λ i. if e i then (h x ∷ with_change r f xs) else (x ∷ with_change r h (with_change r f xs))) ∙ ap (λ ys. x ∷ ys) rest
+
+pub with_like : (r : ℕ) (f h : Access → Access) (xs : List Access) → ((x : Access) → f x ≡ h x) → with_change r f xs ≡ with_change r h xs
+with_like r f h [] like = refl
+with_like r f h (x ∷ xs) like = λ i. if is_of r x then (like x i ∷ xs) else (x ∷ with_like r f h xs like i)
+
+-- the lineage with the access of the run changed
+abbrev pub lineage_with : ℕ → (Access → Access) → LineageState → LineageState
+lineage_with r change s = record s { accesses = with_change r change s.accesses }
+
+acquired_is : (r : ℕ) (first : Bool) (view : View) (s : LineageState) → acquired_if first r view s ≡ lineage_with r (acquire_access first view) s
+acquired_is r true view s = refl
+acquired_is r false view s = λ i. record s { accesses = sym (with_none r s.accesses) i }
+
+written_is : (r : ℕ) (wrote : Option ℕ) (s : LineageState) → written_if wrote r s ≡ lineage_with r (write_access wrote) s
+written_is r None s = λ i. record s { accesses = sym (with_none r s.accesses) i }
+written_is r (Some v) s = refl
+
+pub released_is : (r : ℕ) (last : Bool) (s : LineageState) → released_if last r s ≡ lineage_with r (release_access last) s
+released_is r true s = refl
+released_is r false s = λ i. record s { accesses = sym (with_none r s.accesses) i }
+
 in_turn : (first : Bool) (view : View) (wrote : Option ℕ) (last : Bool) (x : Access) → release_access last (write_access wrote (acquire_access first view x)) ≡ answered_access first view wrote last x
 in_turn true view None true x = refl
 in_turn true view None false x = refl
@@ -72,57 +109,33 @@ in_turn false view None false x = refl
 in_turn false view (Some v) true x = refl
 in_turn false view (Some v) false x = refl
 
-pub acquired_list : (r : ℕ) (first : Bool) (view : View) (s : LineageState) (a : List Access) (x : Access) (b : List Access) → has_access r a ≡ false → is_of r x ≡ true → s.accesses ≡ a ++ x ∷ b
-    → (acquired_if first r view s).accesses ≡ a ++ acquire_access first view x ∷ b
-acquired_list r true view s a x b none own at = ap (λ xs. (acquired r view (record s { accesses = xs })).accesses) at ∙ change_at r (λ (y : Access). record y { status = Acquired; view = Some view }) a x b none own
-acquired_list r false view s a x b none own at = at
+acquired_own : (first : Bool) (view : View) (x : Access) → (acquire_access first view x).run ≡ x.run
+acquired_own true view x = refl
+acquired_own false view x = refl
 
-pub written_list : (r : ℕ) (wrote : Option ℕ) (s : LineageState) (a : List Access) (x : Access) (b : List Access) → has_access r a ≡ false → is_of r x ≡ true → s.accesses ≡ a ++ x ∷ b → (written_if wrote r s).accesses ≡ a ++ write_access wrote x ∷ b
-written_list r None s a x b none own at = at
-written_list r (Some v) s a x b none own at = ap (λ xs. (written r v (record s { accesses = xs })).accesses) at ∙ change_at r (λ (y : Access). record y { wrote = Some v }) a x b none own
+written_own : (wrote : Option ℕ) (x : Access) → (write_access wrote x).run ≡ x.run
+written_own None x = refl
+written_own (Some v) x = refl
 
-released_list : (r : ℕ) (last : Bool) (s : LineageState) (a : List Access) (x : Access) (b : List Access) → has_access r a ≡ false → is_of r x ≡ true → s.accesses ≡ a ++ x ∷ b → (released_if last r s).accesses ≡ a ++ release_access last x ∷ b
-released_list r true s a x b none own at = ap (λ xs. (released r (record s { accesses = xs })).accesses) at ∙ change_at r (λ (y : Access). record y { status = Released }) a x b none own
-released_list r false s a x b none own at = at
-
--- the run stays
-pub acquired_own : (r : ℕ) (first : Bool) (view : View) (x : Access) → is_of r x ≡ true → is_of r (acquire_access first view x) ≡ true
-acquired_own r true view x own = own
-acquired_own r false view x own = own
-
-pub written_own : (r : ℕ) (wrote : Option ℕ) (x : Access) → is_of r x ≡ true → is_of r (write_access wrote x) ≡ true
-written_own r None x own = own
-written_own r (Some v) x own = own
-
-answered_list : (r : ℕ) (first : Bool) (view : View) (wrote : Option ℕ) (last : Bool) (s : LineageState) (a : List Access) (x : Access) (b : List Access) → has_access r a ≡ false → is_of r x ≡ true → s.accesses ≡ a ++ x ∷ b
-    → (released_if last r (written_if wrote r (acquired_if first r view s))).accesses ≡ a ++ answered_access first view wrote last x ∷ b
-answered_list r first view wrote last s a x b none own at =
-    released_list r last (written_if wrote r (acquired_if first r view s)) a (write_access wrote (acquire_access first view x)) b none (written_own r wrote (acquire_access first view x) (acquired_own r first view x own))
-    (written_list r wrote (acquired_if first r view s) a (acquire_access first view x) b none (acquired_own r first view x own) (acquired_list r first view s a x b none own at))
-    ∙ ap (λ y. a ++ y ∷ b) (in_turn first view wrote last x)
-
--- the rest of the lineage stays
-record RestStays (s t : LineageState) : Type 0 where
-  committed : t.committed ≡ s.committed
-  room : t.room ≡ s.room
-  up : t.up ≡ s.up
-
-rest_stays : (r : ℕ) (first : Bool) (view : View) (wrote : Option ℕ) (last : Bool) (s : LineageState) → RestStays s (released_if last r (written_if wrote r (acquired_if first r view s)))
-rest_stays r true view None true s = record { committed = refl; room = refl; up = refl }
-rest_stays r true view None false s = record { committed = refl; room = refl; up = refl }
-rest_stays r true view (Some v) true s = record { committed = refl; room = refl; up = refl }
-rest_stays r true view (Some v) false s = record { committed = refl; room = refl; up = refl }
-rest_stays r false view None true s = record { committed = refl; room = refl; up = refl }
-rest_stays r false view None false s = record { committed = refl; room = refl; up = refl }
-rest_stays r false view (Some v) true s = record { committed = refl; room = refl; up = refl }
-rest_stays r false view (Some v) false s = record { committed = refl; room = refl; up = refl }
+-- what an answer notes is one change of the run's access
+noted_is : (r : ℕ) (first : Bool) (view : View) (wrote : Option ℕ) (last : Bool) (s : LineageState) → noted r first view wrote last s ≡ lineage_with r (answered_access first view wrote last) s
+noted_is r first view wrote last s =
+    released_is r last (written_if wrote r (acquired_if first r view s))
+    ∙ ap (lineage_with r (release_access last)) (written_is r wrote (acquired_if first r view s) ∙ ap (lineage_with r (write_access wrote)) (acquired_is r first view s))
+    ∙ (λ i. record s { accesses = whole i })
+  where
+    whole : with_change r (release_access last) (with_change r (write_access wrote) (with_change r (acquire_access first view) s.accesses)) ≡ with_change r (answered_access first view wrote last) s.accesses
+    whole =
+        ap (with_change r (release_access last)) (with_twice r (acquire_access first view) (write_access wrote) s.accesses (acquired_own first view))
+        ∙ with_twice r (λ x. write_access wrote (acquire_access first view x)) (release_access last) s.accesses (λ x. written_own wrote (acquire_access first view x) ∙ acquired_own first view x)
+        ∙ with_like r (λ x. release_access last (write_access wrote (acquire_access first view x))) (answered_access first view wrote last) s.accesses (in_turn first view wrote last)
 
 -- What the answer says of the device
 
 told_view : (a : Answer) → view_by a ≡ Some (is_told a)
 told_view Fine = refl
 told_view (Found x) = refl
-told_view Down = refl
+told_view IsDown = refl
 
 view_then : (v : Option Bool) (u : Bool) → option_map view_when (option_or v (Some u)) ≡ (if not (is_some v) then Some (view_when u) else option_map view_when v)
 view_then None u = refl
@@ -131,20 +144,23 @@ view_then (Some x) u = refl
 wrote_then : (kind : Kind) (c : Command) (doomed : Bool) (register : ℕ) (a : Answer) (o : OnDevice) → (answered kind c doomed register a o).wrote ≡ option_or (if is_fine a then Some (driven kind c.job register) else None) o.wrote
 wrote_then kind c doomed register Fine o = refl
 wrote_then kind c doomed register (Found x) o = refl
-wrote_then kind c doomed register Down o = refl
+wrote_then kind c doomed register IsDown o = refl
 
 some_view : (v : Option Bool) (u : Bool) → is_some (option_or v (Some u)) ≡ true
 some_view None u = refl
 some_view (Some x) u = refl
 
--- What has to be so before it: the run is live, a command of it pends, no live run before it has one left, and no run behind it has touched the device
-pub record TouchesNow (w : Setting) (n : Reading) (d r : ℕ) (cut : CutAt r n.line) : Type 0 where
+-- What has to be so before it: a command of the live run is out on the device, where it is not undone; no run before it that is not doomed has a command left there, and no run behind it has touched the device
+pub record TouchesNow (w : Setting) (n : Reading) (g : Grips) (d r : ℕ) (cut : CutAt r n.line) : Type 0 where
+  pub number : ℕ
+  pub out : g d ≡ Some (record { maker = r; purpose = Commands number })
   pub live : is_live n r ≡ true
   pub pending : pends w n r d ≡ true
-  pub front : (x : ℕ) → list_any (is_ran x) cut.front ≡ true → is_live n x ≡ true → pends w n x d ≡ false
+  pub kept : ((n.run r).on d).undid ≡ false
+  pub front : (x : ℕ) → list_any (is_ran x) cut.front ≡ true → is_live n x ≡ true → is_doomed n x ≡ false → pends w n x d ≡ false
   pub back : list_any (of_run (λ q. did n q d)) cut.back ≡ false
 
-pending_touches : (d : ℕ) (cs : List Command) (k : ℕ) → list_any (is_on d) (drop k cs) ≡ true → list_any (is_on d) cs ≡ true
+pub pending_touches : (d : ℕ) (cs : List Command) (k : ℕ) → list_any (is_on d) (drop k cs) ≡ true → list_any (is_on d) cs ≡ true
 pending_touches d [] zero h = h
 pending_touches d [] (suc k) h = h
 pending_touches d (c ∷ cs) zero h = h
@@ -181,21 +197,29 @@ none_commits w n d (Ran q ∷ is) read none = let parts = neither (did n q.0 d) 
 none_commits w n d (Failed e k ∷ is) read none = none_commits w n d is read none
 none_commits w n d (Back e k ∷ is) read none = none_commits w n d is read none
 
-self : (x : ℕ) → (x == x) ≡ true
-self x = grind (arith, common_steps)
-
 live_covers_none : (w : Setting) (n : Reading) (d r : ℕ) → is_live n r ≡ true → commits_write n d r ≡ false
 live_covers_none w n d r live = λ i. live_uncommitted n r live i && is_some ((n.run r).on d).wrote
 
 -- the accesses stand around that of the run
-pub accesses_around : (w : Setting) (n : Reading) (d r : ℕ) (cut : CutAt r n.line) → IsRead w n → TouchesNow w n d r cut
-    → accesses_read w n d n.line ≡ front_accesses (uses w n d) (commits_write n d) (access_read w n d) false cut.front ++ access_read w n d r ∷ accesses_along (uses w n d) (commits_write n d) (access_read w n d) cut.back
-accesses_around w n d r cut read now =
-    ap (accesses_read w n d) cut.at
-    ∙ along_there (uses w n d) (commits_write n d) (access_read w n d) r cut.front cut.back (uses_now w n d r read now.live now.pending) (live_covers_none w n d r now.live) (none_commits w n d cut.back read now.back)
+pub accesses_around : (w : Setting) (n : Reading) (g : Grips) (passed : ℕ → Bool) (d r : ℕ) (cut : CutAt r n.line) → IsRead w n → TouchesNow w n g d r cut
+    → accesses_read w n g passed d n.line ≡ front_accesses (uses w n d) (commits_write n d) (access_read w n g passed d) false cut.front ++ access_read w n g passed d r ∷ accesses_along (uses w n d) (commits_write n d) (access_read w n g passed d) cut.back
+accesses_around w n g passed d r cut read now =
+    ap (accesses_read w n g passed d) cut.at
+    ∙ along_there (uses w n d) (commits_write n d) (access_read w n g passed d) r cut.front cut.back (uses_now w n d r read now.live now.pending) (live_covers_none w n d r now.live) (none_commits w n d cut.back read now.back)
 
-pub none_in_front : (w : Setting) (n : Reading) (d r : ℕ) (cut : CutAt r n.line) → has_access r (front_accesses (uses w n d) (commits_write n d) (access_read w n d) false cut.front) ≡ false
-none_in_front w n d r cut = front_lacks (uses w n d) (commits_write n d) (access_read w n d) false r cut.front (λ x. refl) cut.before
+pub none_in_front : (w : Setting) (n : Reading) (g : Grips) (passed : ℕ → Bool) (d r : ℕ) (cut : CutAt r n.line) → has_access r (front_accesses (uses w n d) (commits_write n d) (access_read w n g passed d) false cut.front) ≡ false
+none_in_front w n g passed d r cut = front_lacks (uses w n d) (commits_write n d) (access_read w n g passed d) false r cut.front (λ x. refl) cut.before
+
+-- a run that has touched the device was not passed there
+pub never_passed : (n : Reading) (g : Grips) (d r : ℕ) (passed : ℕ → Bool) → ((q : ℕ) → passed q ≡ true → may_be_passed n g q d ≡ true) → grips_command g r d ≡ true → passed r ≡ false
+never_passed n g d r passed may gripped = at_ (passed r) refl
+  where
+    clash : (a b c : Bool) → c ≡ true → (a && not (b || c)) ≡ true → ⊥
+    clash a b c h k = grind (arith, common_steps)
+
+    at_ : (b : Bool) → passed r ≡ b → passed r ≡ false
+    at_ true e = absurd (clash (is_doomed n r) (did n r d) (grips_command g r d) gripped (may r e))
+    at_ false e = e
 
 -- The answer
 
@@ -216,29 +240,39 @@ pub left_after : (w : Setting) (n : Reading) (r k : ℕ) (a : Answer) (e : ℕ) 
 left_after w n r k a e number = ap (touches_from w.runs r e) (length-append (n.run r).answers (a ∷ []) ∙ ap (λ x. x + 1) (sym number))
 
 -- on another device nothing changes
-answered_elsewhere : (w : Setting) (n : Reading) (r k : ℕ) (a : Answer) (e : ℕ) → IsRead w n → k ≡ next_of n r → next_of n r < length (commands_of w.runs r) → is_live n r ≡ true → e ≢ (command_at w.runs r k).device.0 → SameLineage w n (entry w n (Did (run_no r) k a)) e
-answered_elsewhere w n r k a e read number more live ne = record {
+pub answered_elsewhere : (w : Setting) (n : Reading) (g : Grips) (r k : ℕ) (a : Answer) (e : ℕ) (s : LineageState) → k ≡ next_of n r → next_of n r < length (commands_of w.runs r) → e ≢ (command_at w.runs r k).device.0 → LineageIsKept w n g e s
+    → LineageIsKept w (entry w n (Did (run_no r) k a)) (put g (command_at w.runs r k).device.0 None) e s
+answered_elsewhere w n g r k a e s number more ne kept = lineage_same w n m g h e s (record {
   line = refl;
   has_one = put_says (uses_by w e) n.run r new (λ i. (is_some old.placed && is_none old.ended) && touches w.runs r e && not (touches w.runs r e && not (pend i) && not (is_some (there i).view)));
   covering = put_says (λ q. commits_by e) n.run r new (λ i. unwrap_or (option_map is_committing old.ended) false && is_some (there i).wrote);
-  access = put_says (access_by w e) n.run r new (λ i. record {
-    run = run_no r;
-    status = if is_some (there i).view then (if pend i then Acquired else Released) else Scheduled;
-    view = option_map view_when (there i).view;
-    wrote = (there i).wrote;
-    from = planned_start old.planned e;
-    to = planned_end old.planned e;
-  });
   write = put_says (λ q. write_by e) n.run r new (λ i. if unwrap_or (option_map is_committing old.ended) false then (there i).wrote else None);
   unplaced = put_says (λ q o. is_none o.placed) n.run r new refl;
   up = refl;
-}
+  may = λ q may. may_gripped g h e q (m.run q) (home q).command ∙ put_says (may_by g e) n.run r new (λ i. is_some old.doomed && not (is_some (there i).view || grips_command g r e)) q ∙ may;
+}) kept (λ q. access_gripped w g h kept.passed e q (m.run q) (home q) ∙ put_says (access_by w g kept.passed e) n.run r new (λ i. record {
+  run = run_no r;
+  status = if kept.passed r then Released else (if is_some (there i).view then (if (not (is_some old.doomed) && pend i) || grips_command g r e then Acquired else Released) else Scheduled);
+  view = if kept.passed r then Some Down else option_map view_when (there i).view;
+  wrote = if (there i).undid || grips_undo g r e then None else (there i).wrote;
+  from = planned_start old.planned e;
+  to = planned_end old.planned e;
+}) q)
   where
+    m : Reading
+    m = entry w n (Did (run_no r) k a)
+
+    h : Grips
+    h = put g (command_at w.runs r k).device.0 None
+
     old : OfRun
     old = n.run r
 
     new : OfRun
     new = answered_run w n r k a
+
+    home : (q : ℕ) → SameGrip g h e q
+    home q = grip_elsewhere g (command_at w.runs r k).device.0 e q None ne
 
     there : new.on e ≡ old.on e
     there = put_other old.on (command_at w.runs r k).device.0 _ e ne
@@ -250,18 +284,11 @@ answered_elsewhere w n r k a e read number more live ne = record {
     pend = left_after w n r k a e number ∙ sym (ap (list_any (is_on e)) (left_now w n r k number more) ∙ differ (command_at w.runs r k).device.0 e (list_any (is_on e) (drop (k + 1) (commands_of w.runs r))) ne)
 
 -- on its own device the access of the run changes
-answered_there : (w : Setting) (n : Reading) (r k : ℕ) (a : Answer) (cut : CutAt r n.line) → IsRead w n → k ≡ next_of n r → TouchesNow w n (command_at w.runs r k).device.0 r cut → (s : LineageState) → LineageIsKept w n (command_at w.runs r k).device.0 s
-    → LineageIsKept w (entry w n (Did (run_no r) k a)) (command_at w.runs r k).device.0 (answered_lineage w n r k a s)
-answered_there w n r k a cut read number now s kept = record {
-  committed = stays.committed ∙ kept.committed ∙ sym (ap (λ o. unwrap_or o (stand_at w.first d).value) (same_committed n m d None n.line (put_says (λ q. write_by d) n.run r new ((λ i. if uncommitted i then (new.on d).wrote else None) ∙ sym (λ i. if uncommitted i then (old.on d).wrote else None)))));
-  accesses =
-      answered_list r first view wrote last s front (access_read w n d r) back (none_in_front w n d r cut) (self r) (kept.accesses ∙ accesses_around w n d r cut read now)
-      ∙ sym (ap (accesses_read w m d) cut.at
-      ∙ along_there (uses w m d) (commits_write m d) (access_read w m d) r cut.front cut.back used uncovered (any_but r (commits_write n d) (commits_write m d) cut.back others.covering cut.behind ∙ none_commits w n d cut.back read now.back)
-      ∙ (λ i. front_but r (uses w n d) (uses w m d) (commits_write n d) (commits_write m d) (access_read w n d) (access_read w m d) false cut.front others cut.before i ++ changed i ∷ along_but r (uses w n d) (uses w m d) (commits_write n d) (commits_write m d) (access_read w n d) (access_read w m d) cut.back others cut.behind i));
-  room = subst (λ x. x ≤ (answered_lineage w n r k a s).room) (sym (same_unplaced n m d 1 w.runs (put_says (λ q o. is_none o.placed) n.run r new refl))) (subst (λ x. unplaced_on w n d ≤ x) (sym stays.room) kept.room);
-  up = stays.up ∙ kept.up;
-}
+pub answered_there : (w : Setting) (n : Reading) (g : Grips) (r k : ℕ) (a : Answer) (cut : CutAt r n.line) → IsRead w n → k ≡ next_of n r → TouchesNow w n g (command_at w.runs r k).device.0 r cut → (s : LineageState) → LineageIsKept w n g (command_at w.runs r k).device.0 s
+    → LineageIsKept w (entry w n (Did (run_no r) k a)) (put g (command_at w.runs r k).device.0 None) (command_at w.runs r k).device.0
+    (noted r (not (did n r (command_at w.runs r k).device.0)) (view_when (is_told a)) (told_write w n r (command_at w.runs r k) a) (is_done_there w n r k) s)
+answered_there w n g r k a cut read number now s kept = subst (LineageIsKept w m h d) (sym (noted_is r first view wrote last s)) (lineage_changed w n m g h d r (answered_access first view wrote last) s (runs_distinct n read.once) same kept changed
+    (λ q ne. access_gripped w g h kept.passed d q (m.run q) (grip_home g d r q (Commands now.number) now.out ne) ∙ ap (access_by w g kept.passed d q) (put_other n.run r new q ne)))
   where
     c : Command
     c = command_at w.runs r k
@@ -271,6 +298,9 @@ answered_there w n r k a cut read number now s kept = record {
 
     m : Reading
     m = entry w n (Did (run_no r) k a)
+
+    h : Grips
+    h = put g d None
 
     old : OfRun
     old = n.run r
@@ -291,16 +321,7 @@ answered_there w n r k a cut read number now s kept = record {
     wrote = told_write w n r c a
 
     last : Bool
-    last = not (touches_from w.runs r d (k + 1))
-
-    front : List Access
-    front = front_accesses (uses w n d) (commits_write n d) (access_read w n d) false cut.front
-
-    back : List Access
-    back = accesses_along (uses w n d) (commits_write n d) (access_read w n d) cut.back
-
-    stays : RestStays s (answered_lineage w n r k a s)
-    stays = rest_stays r first view wrote last s
+    last = is_done_there w n r k
 
     own : m.run r ≡ new
     own = put_same n.run r new
@@ -314,12 +335,17 @@ answered_there w n r k a cut read number now s kept = record {
     uncommitted : is_committed n r ≡ false
     uncommitted = live_uncommitted n r now.live
 
-    others : SameBut r (uses w n d) (uses w m d) (commits_write n d) (commits_write m d) (access_read w n d) (access_read w m d)
-    others = record {
-      has_one = λ x ne. ap (uses_by w d x) (put_other n.run r new x ne);
-      covering = λ x ne. ap (commits_by d) (put_other n.run r new x ne);
-      access = λ x ne. ap (access_by w d x) (put_other n.run r new x ne);
-    }
+    gripped : grips_command g r d ≡ true
+    gripped = own_command g d r (Commands now.number) now.out
+
+    none_undone : grips_undo g r d ≡ false
+    none_undone = own_undo g d r (Commands now.number) now.out
+
+    home : h d ≡ None
+    home = put_same g d None
+
+    unpassed : kept.passed r ≡ false
+    unpassed = never_passed n g d r kept.passed kept.may_pass gripped
 
     seen : is_some (new.on d).view ≡ true
     seen = ap is_some viewed ∙ some_view (old.on d).view (is_told a)
@@ -327,46 +353,59 @@ answered_there w n r k a cut read number now s kept = record {
     on_it : (x y t p v : Bool) → x ≡ true → y ≡ true → v ≡ true → (x && y && not (t && not p && not v)) ≡ true
     on_it x y t p v h e f = grind (arith, common_steps)
 
-    used : uses w m d r ≡ true
-    used =
-        ap (uses_by w d r) own
-        ∙ on_it (is_some old.placed && is_none old.ended) (touches w.runs r d) (touches w.runs r d) (touches_from w.runs r d (length new.answers)) (is_some (new.on d).view) now.live (pending_touches d (commands_of w.runs r) (next_of n r) now.pending) seen
+    used : uses_by w d r new ≡ true
+    used = on_it (is_some old.placed && is_none old.ended) (touches w.runs r d) (touches w.runs r d) (touches_from w.runs r d (length new.answers)) (is_some (new.on d).view) now.live (pending_touches d (commands_of w.runs r) (next_of n r) now.pending) seen
 
-    uncovered : commits_write m d r ≡ false
-    uncovered = ap (commits_by d) own ∙ (λ i. uncommitted i && is_some (new.on d).wrote)
+    untouched : (x : Bool) → (x && not (did n r d || grips_command g r d)) ≡ false
+    untouched x = none x (did n r d) (grips_command g r d) gripped
+      where
+        none : (x y z : Bool) → z ≡ true → (x && not (y || z)) ≡ false
+        none x y z h = grind (arith, common_steps)
 
-    status_is : (p x : Bool) → (if p then Acquired else Released) ≡ (if not p then Released else (if not x then Acquired else (if x then Acquired else Scheduled)))
-    status_is true true = refl
-    status_is true false = refl
-    status_is false true = refl
-    status_is false false = refl
+    still_may : (x y z v : Bool) → v ≡ false → (x && not (y || z)) ≡ true → (x && not (y || v)) ≡ true
+    still_may x y z v h k = grind (arith, common_steps)
 
-    status : (access_by w d r new).status ≡ (if last then Released else (if first then Acquired else (access_read w n d r).status))
+    clash : (x : Bool) → x ≡ true → x ≡ false → ⊥
+    clash x h k = grind (arith, common_steps)
+
+    same : SameUses w n m g h d
+    same = record {
+      line = refl;
+      has_one = put_says (uses_by w d) n.run r new (used ∙ sym (uses_now w n d r read now.live now.pending));
+      covering = put_says (λ q. commits_by d) n.run r new ((λ i. uncommitted i && is_some (new.on d).wrote) ∙ sym (λ i. uncommitted i && is_some (old.on d).wrote));
+      write = put_says (λ q. write_by d) n.run r new ((λ i. if uncommitted i then (new.on d).wrote else None) ∙ sym (λ i. if uncommitted i then (old.on d).wrote else None));
+      unplaced = put_says (λ q o. is_none o.placed) n.run r new refl;
+      up = refl;
+      may = put_all (λ q o. may_be_passed n g q d ≡ true → may_by h d q o ≡ true) n.run r new (λ q may. still_may (is_doomed n q) (did n q d) (grips_command g q d) (grips_command h q d) (home_command h d q home) may) (λ may. absurd (clash (may_be_passed n g r d) may (untouched (is_doomed n r))));
+    }
+
+    status_is : (x t y z : Bool) → (if (not x && t) || false then Acquired else Released) ≡ (if x || not t then Released else (if not y then Acquired else (if y then (if z || true then Acquired else Released) else Scheduled)))
+    status_is true t y z = refl
+    status_is false false y z = refl
+    status_is false true false z = refl
+    status_is false true true true = refl
+    status_is false true true false = refl
+
+    status : (access_by w h kept.passed d r new).status ≡ (if last then Released else (if first then Acquired else (access_by w g kept.passed d r old).status))
     status =
-        (λ i. if seen i then (if left_after w n r k a d number i then Acquired else Released) else Scheduled)
-        ∙ status_is (touches_from w.runs r d (k + 1)) (did n r d)
-        ∙ (λ i. if last then Released else (if first then Acquired else (if did n r d then (if sym now.pending i then Acquired else Released) else Scheduled)))
+        (λ i. if unpassed i then Released else (if seen i then (if (not (is_doomed n r) && left_after w n r k a d number i) || home_command h d r home i then Acquired else Released) else Scheduled))
+        ∙ status_is (is_doomed n r) (touches_from w.runs r d (k + 1)) (did n r d) (not (is_doomed n r) && pends w n r d)
+        ∙ (λ i. if last then Released else (if first then Acquired else (if sym unpassed i then Released else (if did n r d then (if (not (is_doomed n r) && pends w n r d) || sym gripped i then Acquired else Released) else Scheduled))))
 
-    changed : access_read w m d r ≡ answered_access first view wrote last (access_read w n d r)
-    changed = ap (access_by w d r) own ∙ (λ i. record {
-      run = run_no r;
-      status = status i;
-      view = (ap (option_map view_when) viewed ∙ view_then (old.on d).view (is_told a)) i;
-      wrote = (ap (λ x. x.wrote) here ∙ wrote_then (kind_at w.kinds d) c (is_some old.doomed) old.register a (old.on d)) i;
-      from = planned_start old.planned d;
-      to = planned_end old.planned d;
-    })
+    views : (access_by w h kept.passed d r new).view ≡ (if first then Some view else (access_by w g kept.passed d r old).view)
+    views =
+        (λ i. if unpassed i then Some Down else option_map view_when (viewed i))
+        ∙ view_then (old.on d).view (is_told a)
+        ∙ (λ i. if first then Some view else (if sym unpassed i then Some Down else option_map view_when (old.on d).view))
 
--- each lineage is kept
-pub answered_kept : (w : Setting) (n : Reading) (r k : ℕ) (a : Answer) (cut : CutAt r n.line) → IsRead w n → k ≡ next_of n r → next_of n r < length (commands_of w.runs r) → TouchesNow w n (command_at w.runs r k).device.0 r cut → (e : ℕ) (s : LineageState) → LineageIsKept w n e s
-    → LineageIsKept w (entry w n (Did (run_no r) k a)) e (answered_change w n r k a e s)
-answered_kept w n r k a cut read number more now e = two_places (λ x. (s : LineageState) → LineageIsKept w n x s → LineageIsKept w (entry w n (Did (run_no r) k a)) x (answered_change w n r k a x s)) e (command_at w.runs r k).device.0 at_device elsewhere
-  where
-    differ : (x y : ℕ) → x ≢ y → (x == y) ≡ false
-    differ x y h = grind (arith, common_steps)
+    undid : (new.on d).undid ≡ false
+    undid = ap (λ x. x.undid) here ∙ now.kept
 
-    at_device : (s : LineageState) → LineageIsKept w n (command_at w.runs r k).device.0 s → LineageIsKept w (entry w n (Did (run_no r) k a)) (command_at w.runs r k).device.0 (answered_change w n r k a (command_at w.runs r k).device.0 s)
-    at_device s kept = subst (LineageIsKept w (entry w n (Did (run_no r) k a)) (command_at w.runs r k).device.0) (λ i. if sym (self (command_at w.runs r k).device.0) i then answered_lineage w n r k a s else s) (answered_there w n r k a cut read number now s kept)
+    writes : (access_by w h kept.passed d r new).wrote ≡ option_or wrote (access_by w g kept.passed d r old).wrote
+    writes =
+        (λ i. if undid i || home_undo h d r home i then None else (new.on d).wrote)
+        ∙ ap (λ x. x.wrote) here ∙ wrote_then (kind_at w.kinds d) c (is_some old.doomed) old.register a (old.on d)
+        ∙ (λ i. option_or wrote (if sym now.kept i || sym none_undone i then None else (old.on d).wrote))
 
-    elsewhere : e ≢ (command_at w.runs r k).device.0 → (s : LineageState) → LineageIsKept w n e s → LineageIsKept w (entry w n (Did (run_no r) k a)) e (answered_change w n r k a e s)
-    elsewhere ne s kept = subst (LineageIsKept w (entry w n (Did (run_no r) k a)) e) (λ i. if sym (differ e (command_at w.runs r k).device.0 ne) i then answered_lineage w n r k a s else s) (lineage_same w n (entry w n (Did (run_no r) k a)) e s (answered_elsewhere w n r k a e read number more now.live ne) kept)
+    changed : access_by w h kept.passed d r (m.run r) ≡ answered_access first view wrote last (access_by w g kept.passed d r old)
+    changed = ap (access_by w h kept.passed d r) own ∙ (λ i. record { run = run_no r; status = status i; view = views i; wrote = writes i; from = planned_start old.planned d; to = planned_end old.planned d })

@@ -7,7 +7,7 @@ use Rattle.history_book.proofs.Shapes.{did_touches, never_passed_by}
 use Rattle.history_book.proofs.Snoc.{put_other, put_same}
 use Rattle.history_book.specs.Histories.{entry}
 use Rattle.history_book.specs.Lines.{of_run}
-use Rattle.history_book.specs.Readings.{OfRun, Reading, is_committed, is_live, passed_by}
+use Rattle.history_book.specs.Readings.{OfRun, Reading, has_written, is_committed, is_doomed, is_live, passed_by}
 use Rattle.history_book.specs.Settings.{Setting}
 use Rattle.history_book.specs.WellFormed.{may_follow}
 use Rattle.history_book.specs.declared.entries.End.TheVariants.{Committed}
@@ -20,20 +20,23 @@ use Rattle.lineage_table.proofs.Steps.{written_at}
 use Rattle.lineage_table.specs.Accesses.{access_of, behind, has_access, is_of, without, written_by}
 use Rattle.lineage_table.specs.Lineages.{LineageState, removed, settled}
 use Rattle.lineage_table.specs.declared.accesses.Access.{Access}
+use Rattle.lock_leasing.specs.Configurations.{Commands, Grip, Grips, Probes, Purpose, Undoes, grips_undo, is_undo}
 use Rattle.lock_leasing.specs.Order.{committed_value}
 use Rattle.lock_leasing.specs.Tables.{uses}
-use Rattle.lock_leasing.specs.Words.{committed_write}
+use Rattle.lock_leasing.specs.Words.{committed_write, is_undone}
 use Rattle.std.proofs.Common.{ap, arith, refl, subst, sym, ◌∙◌}
 use Rattle.std.proofs.lemmas.Grind.{common_steps}
 use Rattle.std.proofs.lemmas.List.Folds.{list_any-append}
 use Rattle.std.proofs.lemmas.List.Sums.{fold-append}
 use Rattle.std.specs.List.{list_any}
 use Rattle.std.specs.Option.{option_or}
-use Rattle.std.specs.Prelude.{Bool, List, None, Option, Some, [], false, fold, if◌then◌else◌, is_none, is_some, length, not, option_and_then, true, unwrap_or, ℕ, ◌&&◌, ◌++◌, ◌+◌, ◌-◌, ◌==◌, ◌||◌, ◌∷◌, ◌≡◌, ◌≢◌, ◌≤◌}
+use Rattle.std.specs.Prelude.{Bool, List, None, Option, Some, [], false, fold, if◌then◌else◌, is_none, is_some, length, not, option_and_then, option_map, true, unwrap_or, ℕ, ◌&&◌, ◌++◌, ◌+◌, ◌-◌, ◌==◌, ◌||◌, ◌∷◌, ◌≡◌, ◌≢◌, ◌≤◌}
 use Rattle.window_order.proofs.AccessLists.{SameBut, along_absent, along_but, along_covered, along_lacks, along_there, any_but, front_accesses, front_but, front_covered, front_lacks}
 use Rattle.window_order.proofs.ReadFacts.{IsRead}
-use Rattle.window_order.proofs.Runs.{cut_live, live_uncommitted}
-use Rattle.window_order.proofs.TableFrames.{SameLineage, access_by, commits_by, lineage_same, put_says, same_unplaced, uses_by, write_by}
+use Rattle.window_order.proofs.Representing.{held_as}
+use Rattle.window_order.proofs.Runs.{both, cut_live, live_uncommitted}
+use Rattle.window_order.proofs.TableFrames.{access_by, commits_by, lineage_same, may_by, put_says, same_unplaced, uses_by, write_by}
+use Rattle.window_order.specs.OrderKept.{GripsFit}
 use Rattle.window_order.specs.TableKept.{LineageIsKept, access_read, accesses_along, accesses_read, commits_write, unplaced_on}
 
 -- The last committed write along a list
@@ -159,16 +162,16 @@ abbrev ended_run : Reading → ℕ → OfRun
 ended_run n r = record (n.run r) { ended = Some Committed }
 
 -- on another device nothing changes
-committed_elsewhere : (w : Setting) (n : Reading) (r d : ℕ) → IsRead w n → is_live n r ≡ true → touches w.runs r d ≡ false → SameLineage w n (entry w n (Ended (run_no r) Committed)) d
-committed_elsewhere w n r d read live off = record {
+committed_elsewhere : (w : Setting) (n : Reading) (g : Grips) (r d : ℕ) (s : LineageState) → IsRead w n → is_live n r ≡ true → touches w.runs r d ≡ false → LineageIsKept w n g d s → LineageIsKept w (entry w n (Ended (run_no r) Committed)) g d s
+committed_elsewhere w n g r d s read live off kept = lineage_same w n (entry w n (Ended (run_no r) Committed)) g g d s (record {
   line = refl;
   has_one = put_says (uses_by w d) n.run r (ended_run n r) (none_used (is_some (n.run r).placed && false) (touches w.runs r d) (touches w.runs r d && not (touches_from w.runs r d (length (n.run r).answers)) && not (is_some ((n.run r).on d).view)) off ∙ sym (none_used (is_some (n.run r).placed && is_none (n.run r).ended) (touches w.runs r d) (touches w.runs r d && not (touches_from w.runs r d (length (n.run r).answers)) && not (is_some ((n.run r).on d).view)) off));
   covering = put_says (λ q. commits_by d) n.run r (ended_run n r) ((λ i. is_some (none i)) ∙ sym (λ i. uncommitted i && is_some ((n.run r).on d).wrote));
-  access = put_says (access_by w d) n.run r (ended_run n r) refl;
   write = put_says (λ q. write_by d) n.run r (ended_run n r) (none ∙ sym (λ i. if uncommitted i then ((n.run r).on d).wrote else None));
   unplaced = put_says (λ q o. is_none o.placed) n.run r (ended_run n r) refl;
   up = refl;
-}
+  may = λ q may. put_says (may_by g d) n.run r (ended_run n r) refl q ∙ may;
+}) kept (put_says (access_by w g kept.passed d) n.run r (ended_run n r) refl)
   where
     none : ((n.run r).on d).wrote ≡ None
     none = unwritten w n r d read off
@@ -180,8 +183,10 @@ committed_elsewhere w n r d read live off = record {
     none_used a b c h = grind (arith, common_steps)
 
 -- on its own devices its value is committed, or its access is gone
-committed_there : (w : Setting) (n : Reading) (r d : ℕ) → IsRead w n → is_live n r ≡ true → touches w.runs r d ≡ true → (s : LineageState) → LineageIsKept w n d s → LineageIsKept w (entry w n (Ended (run_no r) Committed)) d (committed_lineage r s)
-committed_there w n r d read live on s kept = record {
+committed_there : (w : Setting) (n : Reading) (g : Grips) (r d : ℕ) → IsRead w n → is_live n r ≡ true → touches w.runs r d ≡ true → is_undone n g r d ≡ false → (s : LineageState) → LineageIsKept w n g d s → LineageIsKept w (entry w n (Ended (run_no r) Committed)) g d (committed_lineage r s)
+committed_there w n g r d read live on sound s kept = record {
+  passed = kept.passed;
+  may_pass = λ q passed. put_says (may_by g d) n.run r (ended_run n r) refl q ∙ kept.may_pass q passed;
   committed = done.committed ∙ at_value (list_any (of_run c) cut.back) refl;
   accesses = done.accesses ∙ at_list (list_any (of_run c) cut.back) refl;
   room = subst (λ x. x ≤ (committed_lineage r s).room) (sym (same_unplaced n m d 1 w.runs (put_says (λ q o. is_none o.placed) n.run r (ended_run n r) refl))) (at_most (unplaced_on w n d) s.room (committed_lineage r s).room kept.room done.room);
@@ -207,7 +212,10 @@ committed_there w n r d read live on s kept = record {
     c = commits_write n d
 
     f : ℕ → Access
-    f = access_read w n d
+    f = access_read w n g kept.passed d
+
+    h : ℕ → Access
+    h = access_read w m g kept.passed d
 
     wrote : Option ℕ
     wrote = ((n.run r).on d).wrote
@@ -218,11 +226,11 @@ committed_there w n r d read live on s kept = record {
     back : List Access
     back = accesses_along p c f cut.back
 
-    others : SameBut r p (uses w m d) c (commits_write m d) f (access_read w m d)
+    others : SameBut r p (uses w m d) c (commits_write m d) f h
     others = record {
       has_one = λ x ne. ap (uses_by w d x) (put_other n.run r (ended_run n r) x ne);
       covering = λ x ne. ap (commits_by d) (put_other n.run r (ended_run n r) x ne);
-      access = λ x ne. ap (access_by w d x) (put_other n.run r (ended_run n r) x ne);
+      access = λ x ne. ap (access_by w g kept.passed d x) (put_other n.run r (ended_run n r) x ne);
     }
 
     at_most : (a b e : ℕ) → a ≤ b → b ≤ e → a ≤ e
@@ -263,23 +271,23 @@ committed_there w n r d read live on s kept = record {
 
     -- a committed run behind it has written the device: it has no access any more
     covered : list_any (of_run c) cut.back ≡ true → s.accesses ≡ back
-    covered e = kept.accesses ∙ ap (accesses_read w n d) cut.at ∙ along_covered p c f r cut.front cut.back e
+    covered e = kept.accesses ∙ ap (accesses_read w n g kept.passed d) cut.at ∙ along_covered p c f r cut.front cut.back e
 
     around : list_any (of_run c) cut.back ≡ false → s.accesses ≡ front ++ f r ∷ back
-    around e = kept.accesses ∙ ap (accesses_read w n d) cut.at ∙ along_there p c f r cut.front cut.back used uncovering e
+    around e = kept.accesses ∙ ap (accesses_read w n g kept.passed d) cut.at ∙ along_there p c f r cut.front cut.back used uncovering e
 
     written : list_any (of_run c) cut.back ≡ false → written_by r s.accesses ≡ wrote
-    written e = ap (written_by r) (around e) ∙ written_at r front (f r) back none_before own_access
+    written e = ap (written_by r) (around e) ∙ written_at r front (f r) back none_before own_access ∙ (λ i. if sound i then None else wrote)
 
     unwritten_there : list_any (of_run c) cut.back ≡ true → written_by r s.accesses ≡ None
     unwritten_there e = ap (written_by r) (covered e) ∙ none_written r back none_behind
 
-    list_after : (b : Bool) → list_any (of_run c) cut.back ≡ b → accesses_read w m d n.line ≡ front_accesses p c f (is_some wrote || b) cut.front ++ back
+    list_after : (b : Bool) → list_any (of_run c) cut.back ≡ b → accesses_read w m g kept.passed d n.line ≡ front_accesses p c f (is_some wrote || b) cut.front ++ back
     list_after b e =
-        ap (accesses_read w m d) cut.at
-        ∙ along_absent (uses w m d) (commits_write m d) (access_read w m d) r cut.front cut.back unused
-        ∙ (λ i. front_accesses (uses w m d) (commits_write m d) (access_read w m d) (covering i || (back_covers ∙ e) i) cut.front ++ along_but r p (uses w m d) c (commits_write m d) f (access_read w m d) cut.back others cut.behind i)
-        ∙ ap (λ xs. xs ++ back) (front_but r p (uses w m d) c (commits_write m d) f (access_read w m d) (is_some wrote || b) cut.front others cut.before)
+        ap (accesses_read w m g kept.passed d) cut.at
+        ∙ along_absent (uses w m d) (commits_write m d) h r cut.front cut.back unused
+        ∙ (λ i. front_accesses (uses w m d) (commits_write m d) h (covering i || (back_covers ∙ e) i) cut.front ++ along_but r p (uses w m d) c (commits_write m d) f h cut.back others cut.behind i)
+        ∙ ap (λ xs. xs ++ back) (front_but r p (uses w m d) c (commits_write m d) f h (is_some wrote || b) cut.front others cut.before)
 
     either : (x : Bool) → (x || true) ≡ true
     either true = refl
@@ -293,7 +301,7 @@ committed_there w n r d read live on s kept = record {
         (λ i. if is_some ((written e ∙ w) i) then behind r s.accesses else without r s.accesses) ∙ ap (without r) (around e) ∙ without_at r front (f r) back none_before none_behind own_access
         ∙ sym (λ i. front_accesses p c f (is_some (w i) || false) cut.front ++ back)
 
-    at_list : (b : Bool) → list_any (of_run c) cut.back ≡ b → (if is_some (written_by r s.accesses) then behind r s.accesses else without r s.accesses) ≡ accesses_read w m d m.line
+    at_list : (b : Bool) → list_any (of_run c) cut.back ≡ b → (if is_some (written_by r s.accesses) then behind r s.accesses else without r s.accesses) ≡ accesses_read w m g kept.passed d m.line
     at_list true e =
         (λ i. if is_some (unwritten_there e i) then behind r s.accesses else without r s.accesses) ∙ ap (without r) (covered e) ∙ without_none r back none_behind
         ∙ sym (list_after true e ∙ (λ i. front_accesses p c f (either (is_some wrote) i) cut.front ++ back) ∙ ap (λ xs. xs ++ back) (front_covered p c f cut.front))
@@ -331,28 +339,64 @@ committed_there w n r d read live on s kept = record {
         (λ i. unwrap_or (written e i) ((kept.committed ∙ value_before ∙ ap (λ o. unwrap_or o first) (write_absent n d cut.back e (last_write n d None cut.front))) i)) ∙ chosen wrote (last_write n d None cut.front) first
         ∙ sym (value_after ∙ ap (λ o. unwrap_or o first) (write_absent n d cut.back e (option_or wrote (last_write n d None cut.front))))
 
+-- a run that is not doomed is not undone
+never_undone : (w : Setting) (n : Reading) (g : Grips) (r d : ℕ) → IsRead w n → GripsFit w n g → is_doomed n r ≡ false → is_undone n g r d ≡ false
+never_undone w n g r d read fit sound = λ i. undid (((n.run r).on d).undid) refl i || none (grips_undo g r d) refl i
+  where
+    clash : is_doomed n r ≡ true → ⊥
+    clash h = two (is_doomed n r) h sound
+      where
+        two : (a : Bool) → a ≡ true → a ≡ false → ⊥
+        two a h k = grind (arith, common_steps)
+
+    undid : (b : Bool) → ((n.run r).on d).undid ≡ b → ((n.run r).on d).undid ≡ false
+    undid true e = absurd (clash ((read.shaped r).undone d e))
+    undid false e = e
+
+    by_purpose : (grip : Grip) → g d ≡ Some grip → (grip.maker == r) ≡ true → (p : Purpose) → grip.purpose ≡ p → is_undo p ≡ true → ⊥
+    by_purpose grip e own (Commands k) purpose h = absurd (cc)
+    by_purpose grip e own (Undoes v) purpose h = clash (second (is_live n r) (is_doomed n r) (has_written n r d) (not ((n.run r).on d).undid) (fit.runs.undos d r v (held_as g r d grip (Undoes v) e own purpose)))
+      where
+        second : (a b c x : Bool) → (a && b && c && x) ≡ true → b ≡ true
+        second a b c x h = grind (arith, common_steps)
+    by_purpose grip e own (Probes v) purpose h = absurd (cc)
+
+    at_ : (o : Option Grip) → g d ≡ o → unwrap_or (option_map (λ p. (p.maker == r) && is_undo p.purpose) o) false ≡ true → ⊥
+    at_ None e h = absurd (cc)
+    at_ (Some grip) e h = let of = both (grip.maker == r) (is_undo grip.purpose) h in by_purpose grip e of.0 grip.purpose refl of.1
+
+    none : (b : Bool) → grips_undo g r d ≡ b → grips_undo g r d ≡ false
+    none true e = absurd (at_ (g d) refl e)
+    none false e = e
+
 -- each lineage is kept
-pub committed_kept : (w : Setting) (n : Reading) (r : ℕ) → IsRead w n → may_follow w n (Ended (run_no r) Committed) ≡ true → (d : ℕ) (s : LineageState) → LineageIsKept w n d s → LineageIsKept w (entry w n (Ended (run_no r) Committed)) d (committed_lineage r s)
-committed_kept w n r read may d s kept = at_ (touches w.runs r d) refl
+pub committed_kept : (w : Setting) (n : Reading) (g : Grips) (r : ℕ) → IsRead w n → GripsFit w n g → may_follow w n (Ended (run_no r) Committed) ≡ true → (d : ℕ) (s : LineageState) → LineageIsKept w n g d s → LineageIsKept w (entry w n (Ended (run_no r) Committed)) g d (committed_lineage r s)
+committed_kept w n g r read fit may d s kept = at_ (touches w.runs r d) refl
   where
     live : is_live n r ≡ true
     live = grind (arith, common_steps)
 
+    sound : is_doomed n r ≡ false
+    sound = grind (arith, common_steps)
+
     off_it : (a b c : Bool) → b ≡ false → (a && b && not c) ≡ false
     off_it a b c h = grind (arith, common_steps)
+
+    f : ℕ → Access
+    f = access_read w n g kept.passed d
 
     -- on a device that it does not touch it has no access
     no_access : touches w.runs r d ≡ false → access_of r s.accesses ≡ None
     no_access e =
         let cut : CutAt r n.line = cut_live w n r read live in
-        ap (access_of r) (kept.accesses ∙ ap (accesses_read w n d) cut.at
-        ∙ along_absent (uses w n d) (commits_write n d) (access_read w n d) r cut.front cut.back (off_it (is_live n r) (touches w.runs r d) (passed_by w n r d) e))
-        ∙ none_of r _ (apart (front_accesses (uses w n d) (commits_write n d) (access_read w n d) _ cut.front) (accesses_along (uses w n d) (commits_write n d) (access_read w n d) cut.back)
-        (front_lacks (uses w n d) (commits_write n d) (access_read w n d) _ r cut.front (λ x. refl) cut.before) (along_lacks (uses w n d) (commits_write n d) (access_read w n d) r cut.back (λ x. refl) cut.behind))
+        ap (access_of r) (kept.accesses ∙ ap (accesses_read w n g kept.passed d) cut.at
+        ∙ along_absent (uses w n d) (commits_write n d) f r cut.front cut.back (off_it (is_live n r) (touches w.runs r d) (passed_by w n r d) e))
+        ∙ none_of r _ (apart (front_accesses (uses w n d) (commits_write n d) f _ cut.front) (accesses_along (uses w n d) (commits_write n d) f cut.back)
+        (front_lacks (uses w n d) (commits_write n d) f _ r cut.front (λ x. refl) cut.before) (along_lacks (uses w n d) (commits_write n d) f r cut.back (λ x. refl) cut.behind))
       where
         apart : (a b : List Access) → has_access r a ≡ false → has_access r b ≡ false → has_access r (a ++ b) ≡ false
         apart a b h k = list_any-append (is_of r) a b ∙ (λ i. h i || k i)
 
-    at_ : (b : Bool) → touches w.runs r d ≡ b → LineageIsKept w (entry w n (Ended (run_no r) Committed)) d (committed_lineage r s)
-    at_ true e = committed_there w n r d read live e s kept
-    at_ false e = subst (LineageIsKept w (entry w n (Ended (run_no r) Committed)) d) (sym (unchanged r s (no_access e))) (lineage_same w n (entry w n (Ended (run_no r) Committed)) d s (committed_elsewhere w n r d read live e) kept)
+    at_ : (b : Bool) → touches w.runs r d ≡ b → LineageIsKept w (entry w n (Ended (run_no r) Committed)) g d (committed_lineage r s)
+    at_ true e = committed_there w n g r d read live e (never_undone w n g r d read fit sound) s kept
+    at_ false e = subst (LineageIsKept w (entry w n (Ended (run_no r) Committed)) g d) (sym (unchanged r s (no_access e))) (committed_elsewhere w n g r d s read live e kept)

@@ -86,7 +86,7 @@ none_marked w n g held d (Back e k ∷ is) read calm = let parts = split (e.0 ==
     split : (a b : Bool) → (not a && b) ≡ true → (a ≡ false) × (b ≡ true)
     split a b h = (grind (arith, common_steps), grind (arith, common_steps))
 
-device_order_at : (w : Setting) (n : Reading) (g : Grips) (held : ℕ → ℕ) (d r : ℕ) (cut : CutAt r n.line) → touches w.runs r d ≡ true
+pub device_order_at : (w : Setting) (n : Reading) (g : Grips) (held : ℕ → ℕ) (d r : ℕ) (cut : CutAt r n.line) → touches w.runs r d ≡ true
     → (device_of w.kinds (window_of w n g held) d).order ≡ entries w.kinds (window_of w n g held).states d cut.front ++ Used (usage w.kinds (run_state w n g r) d) ∷ entries w.kinds (window_of w n g held).states d cut.back
 device_order_at w n g held d r cut used = ap (entries w.kinds (window_of w n g held).states d) cut.at ∙ used_at w.kinds (window_of w n g held).states d r cut.front cut.back used
 

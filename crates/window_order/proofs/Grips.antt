@@ -131,7 +131,7 @@ fits_with w n g d r p device may none f = fits_from w n (put g d (Some new)) (λ
 
 -- Waiting for a grip
 
-none_in : (p : ℕ → Bool) (a k d : ℕ) → find p (range_with_len a k) ≡ None → a ≤ d → d < a + k → p d ≡ false
+pub none_in : (p : ℕ → Bool) (a k d : ℕ) → find p (range_with_len a k) ≡ None → a ≤ d → d < a + k → p d ≡ false
 none_in p a zero d none low high = absurd (clash a d low high)
   where
     clash : (a d : ℕ) → a ≤ d → d < a + 0 → ⊥

@@ -2,8 +2,9 @@
 use Rattle.command_rules.specs.Rosters.{run_no}
 use Rattle.device_order.specs.LineChanges.{Lacks}
 use Rattle.device_order.specs.LineWords.{CutAt}
-use Rattle.history_book.proofs.Lines.{any_insert}
-use Rattle.history_book.specs.Lines.{is_event_on, is_ran, of_run}
+use Rattle.history_book.proofs.Lines.{any_insert, any_other, any_without}
+use Rattle.history_book.proofs.Logs.{is_event_of}
+use Rattle.history_book.specs.Lines.{is_event_on, is_ran, of_run, without}
 use Rattle.history_book.specs.Readings.{Event, First, Last, Mark, Reading, did, is_doomed, is_event, is_first, is_last, sees_up, span_of, view_of}
 use Rattle.home_types.specs.declared.items.Item.TheVariants.{Back, Failed, Ran}
 use Rattle.home_types.specs.declared.items.Item.{Item}
@@ -400,3 +401,154 @@ placed_history n m d r front back s h = record {
 
         before : IsTrue (is_in_line n q && not (is_doomed n q) && sees_up n q d)
         before = all_three (is_in_line n q) (not (is_doomed n q)) (sees_up n q d) (sym (in_line q (differ q r e)) ∙ parts.0) (sound (is_doomed m q) (is_doomed n q) (s.doomed q) parts.1) (ap (λ v. unwrap_or v false) (sym (s.view q)) ∙ parts.2)
+
+-- A run leaves the line
+
+-- what a test gives of the items that are left is what is left of what it gives of all
+left_items : {B : Type 0} (f : Item → Option B) (p : Item → Bool) (k : B → Bool) (xs : List Item) → ((r : RunNo) (y : B) → f (Ran r) ≡ Some y → k y ≡ p (Ran r)) → ((e : DeviceNo) (j : ℕ) (y : B) → f (Failed e j) ≡ Some y → k y ≡ p (Failed e j)) → ((e : DeviceNo) (j : ℕ) (y : B) → f (Back e j) ≡ Some y → k y ≡ p (Back e j))
+    → filter_map f (filter p xs) ≡ filter k (filter_map f xs)
+left_items f p k [] runs failures backs = refl
+left_items {B = B} f p k (x ∷ xs) runs failures backs = at_ (left_items f p k xs runs failures backs) (p x) (f x) refl refl
+  where
+    alike : (i : Item) (y : B) → f i ≡ Some y → k y ≡ p i
+    alike (Ran r) y h = runs r y h
+    alike (Failed e j) y h = failures e j y h
+    alike (Back e j) y h = backs e j y h
+
+    rest : List B
+    rest = filter k (filter_map f xs)
+
+    at_ : filter_map f (filter p xs) ≡ rest → (b : Bool) (o : Option B) → p x ≡ b → f x ≡ o → filter_map f (cond b (x ∷ filter p xs) (filter p xs)) ≡ filter k (cons_option o (filter_map f xs))
+    at_ ih true None e h = ap (λ o. cons_option o (filter_map f (filter p xs))) h ∙ ih
+    at_ ih false None e h = ih
+    at_ ih true (Some y) e h = ap (λ o. cons_option o (filter_map f (filter p xs))) h ∙ ap (λ ys. y ∷ ys) ih ∙ ap (λ b. cond b (y ∷ rest) rest) (sym (alike x y h ∙ e))
+    at_ ih false (Some y) e h = ih ∙ ap (λ b. cond b (y ∷ rest) rest) (sym (alike x y h ∙ e))
+
+-- what is there and passes the test
+abbrev pub passing : {B : Type 0} → (B → Bool) → Option B → Option B
+passing k None = None
+passing k (Some y) = if k y then Some y else None
+
+-- .. and so it is with marks, in a log in which the run is no event
+left_marks : {B : Type 0} (f l : Mark → Option B) (k : B → Bool) (r : ℕ) (xs : List Mark) → list_any (is_event_of r) xs ≡ false → ((q : ℕ) → l (First q) ≡ passing k (f (First q))) → ((i : Item) → is_ran r i ≡ false → l (Event i) ≡ passing k (f (Event i)))
+    → ((q : ℕ) → l (Last q) ≡ passing k (f (Last q))) → filter_map l xs ≡ filter k (filter_map f xs)
+left_marks f l k r [] none firsts events lasts = refl
+left_marks {B = B} f l k r (x ∷ xs) none firsts events lasts = (λ i. cons_option (alike x (neither (is_event_of r x) (list_any (is_event_of r) xs) none).0 i) (left_marks f l k r xs (neither (is_event_of r x) (list_any (is_event_of r) xs) none).1 firsts events lasts i)) ∙ at_ (f x)
+  where
+    alike : (y : Mark) → is_event_of r y ≡ false → l y ≡ passing k (f y)
+    alike (First q) h = firsts q
+    alike (Event i) h = events i h
+    alike (Last q) h = lasts q
+
+    rest : List B
+    rest = filter_map f xs
+
+    by : (y : B) (b : Bool) → cons_option (if b then Some y else None) (filter k rest) ≡ cond b (y ∷ filter k rest) (filter k rest)
+    by y true = refl
+    by y false = refl
+
+    at_ : (o : Option B) → cons_option (passing k o) (filter k rest) ≡ filter k (cons_option o rest)
+    at_ None = refl
+    at_ (Some y) = by y (k y)
+
+-- the run is gone, and all else is as it was
+pub record HasLeft (n m : Reading) (d r : ℕ) : Type 0 where
+  pub line : m.line ≡ without r n.line
+  pub log : m.log d ≡ n.log d
+  pub view : (q : ℕ) → view_of m q d ≡ view_of n q d
+  pub late : (q : ℕ) → is_late m q d ≡ is_late n q d
+  pub doomed : (q : ℕ) → is_doomed m q ≡ false → is_doomed n q ≡ false
+  pub no_event : list_any (is_event_of r) (n.log d) ≡ false
+
+pub left_history : (n m : Reading) (d r : ℕ) → HasLeft n m d r → InHistoryOrder n d → InHistoryOrder m d
+left_history n m d r s h = record {
+  runs = line_runs ∙ ap (filter other) h.runs ∙ sym log_runs;
+  events = line_marks ∙ ap (filter stays) h.events ∙ sym log_marks;
+  spans = λ q facts. ap (λ l. list_any is_event (span_of q l)) s.log ∙ h.spans q (before q facts);
+}
+  where
+    other : ℕ → Bool
+    other q = not (q == r)
+
+    stays : Item → Bool
+    stays i = not (is_ran r i)
+
+    given : (b : Bool) (x y : ℕ) → (if b then Some x else None) ≡ Some y → not (y == r) ≡ not (x == r)
+    given true x y e = ap (λ z. not (z == r)) (sym (the x y e))
+      where
+        the : (x y : ℕ) → Some x ≡ Some y → x ≡ y
+        the x y e = ap (λ o. unwrap_or o x) e
+    given false x y e = absurd (cc)
+
+    line_runs : firsts_of_line m d ≡ filter other (firsts_of_line n d)
+    line_runs =
+        ap (filter_map _) s.line ∙ same_items _ _ (without r n.line) (λ q. ap (λ v. if is_some v then Some q.0 else None) (s.view q.0)) (λ e j. refl) (λ e j. refl)
+        ∙ left_items _ stays other n.line (λ q y e. given (did n q.0 d) q.0 y e) (λ e j y x. absurd (cc)) (λ e j y x. absurd (cc))
+
+    kept : (q : ℕ) → Bool → Option Item
+    kept q b = if false || b then Some (Ran (run_no q)) else None
+
+    same : (b : Bool) (x y : Item) → (if b then Some x else None) ≡ Some y → not (is_ran r y) ≡ not (is_ran r x)
+    same true x y e = ap (λ z. not (is_ran r z)) (sym (ap (λ o. unwrap_or o x) e))
+    same false x y e = absurd (cc)
+
+    line_marks : marks_of_line m d ≡ filter stays (marks_of_line n d)
+    line_marks =
+        ap (filter (is_marked m d)) s.line ∙ kept_items (is_marked m d) (without r n.line)
+        ∙ same_items (if_kept (is_marked m d)) (if_kept (is_marked n d)) (without r n.line) (λ q i. kept q.0 (is_some (s.view q.0 i) && not (s.late q.0 i))) (λ e j. refl) (λ e j. refl)
+        ∙ left_items (if_kept (is_marked n d)) stays stays n.line (λ q y e. same (is_marked n d (Ran q)) (Ran q) y e) (λ e j y x. same (is_marked n d (Failed e j)) (Failed e j) y x) (λ e j y x. same (is_marked n d (Back e j)) (Back e j) y x)
+        ∙ ap (filter stays) (sym (kept_items (is_marked n d) n.line))
+
+    in_line : (q : ℕ) → is_in_line m q ≡ (is_in_line n q && not (q == r))
+    in_line q = ap (list_any (is_ran q)) s.line ∙ at_ (q == r) refl
+      where
+        equal : (x y : ℕ) → (x == y) ≡ true → x ≡ y
+        equal x y e = grind (arith, common_steps)
+
+        differ : (x y : ℕ) → (x == y) ≡ false → x ≢ y
+        differ x y e k = grind (arith, common_steps)
+
+        and_true : (b : Bool) → b ≡ (b && true)
+        and_true true = refl
+        and_true false = refl
+
+        and_false : (b : Bool) → false ≡ (b && false)
+        and_false true = refl
+        and_false false = refl
+
+        at_ : (b : Bool) → (q == r) ≡ b → list_any (is_ran q) (without r n.line) ≡ (is_in_line n q && not b)
+        at_ true e = ap (λ x. list_any (is_ran x) (without r n.line)) (equal q r e) ∙ any_without r n.line ∙ and_false (is_in_line n q)
+        at_ false e = any_other q r n.line (differ q r e) ∙ and_true (is_in_line n q)
+
+    log_runs : firsts_of_log m d ≡ filter other (firsts_of_log n d)
+    log_runs = ap (filter_map _) s.log ∙ left_marks _ _ other r (n.log d) s.no_event (λ q. ap (λ b. if b then Some q else None) (in_line q) ∙ by q (is_in_line n q)) (λ i e. refl) (λ q. refl)
+      where
+        by : (q : ℕ) (a : Bool) → (if (a && not (q == r)) then Some q else None) ≡ passing other (if a then Some q else None)
+        by q true = refl
+        by q false = refl
+
+    log_marks : marks_of_log m d ≡ filter stays (marks_of_log n d)
+    log_marks =
+        ap (filter_map _) s.log
+        ∙ left_marks _ _ stays r (n.log d) s.no_event (λ q. (λ i. if in_line q i && not (s.late q i) then Some (Ran (run_no q)) else None) ∙ by q (is_in_line n q) (not (is_late n q d))) (λ i e. ap (λ b. if not b then Some i else None) (sym e)) (λ q. refl)
+      where
+        and_true : (b : Bool) → (b && true) ≡ b
+        and_true true = refl
+        and_true false = refl
+
+        and_false : (b : Bool) → (b && false) ≡ false
+        and_false true = refl
+        and_false false = refl
+
+        by : (q : ℕ) (a l : Bool) → (if ((a && not (q == r)) && l) then Some (Ran (run_no q)) else None) ≡ passing stays (if (a && l) then Some (Ran (run_no q)) else None)
+        by q true true = ap (λ b. if b then Some (Ran (run_no q)) else None) (and_true (not (q == r)))
+        by q true false = ap (λ b. if b then Some (Ran (run_no q)) else None) (and_false (not (q == r)))
+        by q false l = refl
+
+    before : (q : ℕ) → IsTrue (is_in_line m q && not (is_doomed m q) && sees_up m q d) → IsTrue (is_in_line n q && not (is_doomed n q) && sees_up n q d)
+    before q facts =
+        let parts = three (is_in_line m q) (not (is_doomed m q)) (sees_up m q d) facts in
+        all_three (is_in_line n q) (not (is_doomed n q)) (sees_up n q d) (left (is_in_line n q) (not (q == r)) (sym (in_line q) ∙ parts.0)) (sound (is_doomed m q) (is_doomed n q) (s.doomed q) parts.1) (ap (λ v. unwrap_or v false) (sym (s.view q)) ∙ parts.2)
+      where
+        left : (a b : Bool) → (a && b) ≡ true → a ≡ true
+        left a b e = grind (arith, common_steps)

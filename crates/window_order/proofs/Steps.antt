@@ -39,7 +39,7 @@ use Rattle.lock_leasing.specs.Words.{has_effect, live_before}
 use Rattle.std.proofs.Common.{ap, arith, cond, refl, subst, sym, ◌∙◌}
 use Rattle.std.proofs.lemmas.Grind.{common_steps}
 use Rattle.std.proofs.lemmas.List.{take-append-drop}
-use Rattle.std.specs.Prelude.{Bool, List, None, Option, Some, [], count_by, drop, false, find, if◌then◌else◌, is_none, is_some, length, nat_lt, not, option_map, slice_get, slice_index_or, suc, take, true, unwrap_or, zero, ℕ, ◌&&◌, ◌++◌, ◌+◌, ◌<◌, ◌==◌, ◌||◌, ◌∷◌, ◌≡◌}
+use Rattle.std.specs.Prelude.{Bool, List, None, Option, Some, [], count_by, drop, false, find, if◌then◌else◌, is_none, is_some, length, nat_lt, not, option_map, slice_get, slice_index_or, suc, take, true, unwrap_or, zero, ℕ, ◌&&◌, ◌++◌, ◌+◌, ◌<◌, ◌==◌, ◌||◌, ◌∷◌, ◌≡◌, ◌≢◌}
 use Rattle.window_order.proofs.Firsts.{IsNewest, calm_behind, did_history, seen_view, unseen_behind}
 use Rattle.window_order.proofs.Goes.{clean_before, none_before, none_hold, open_behind, view_up}
 use Rattle.window_order.proofs.Grips.{HoldsNone, fits_other, fits_same, fits_with, fits_without, held_none, held_other, held_own, holds_none, in_place, may_command, may_undo, none_left}
@@ -286,15 +286,15 @@ out_is w n g d r k f at = record { live = parts.0; number = number; more = next.
 next_rest : (w : Setting) (n : Reading) (g : Grips) (r k : ℕ) → k ≡ next_of n r → length (n.run r).answers < length (commands_of w.runs r) → rest (run_state w n g r) ≡ command_at w.runs r k ∷ drop (next_of n r + 1) (commands_of w.runs r)
 next_rest w n g r k number more = rest_next (commands_of w.runs r) (n.run r).answers more ∙ ap (λ x. command_at w.runs r x ∷ drop (next_of n r + 1) (commands_of w.runs r)) (sym number)
 
--- the run gets an answer and its grip comes home
+-- the run gets an answer and its grip comes home: it is doomed where it was
 pub gets_answer : (w : Setting) (n : Reading) (g : Grips) (r k : ℕ) (a : Answer) → k ≡ next_of n r → length (n.run r).answers < length (commands_of w.runs r)
-    → GetsAnswer (run_state w n g r) (run_state w (entry w n (Did (run_no r) k a)) (put g (command_at w.runs r k).device.0 None) r) (command_at w.runs r k) (drop (next_of n r + 1) (commands_of w.runs r)) a false
+    → GetsAnswer (run_state w n g r) (run_state w (entry w n (Did (run_no r) k a)) (put g (command_at w.runs r k).device.0 None) r) (command_at w.runs r k) (drop (next_of n r + 1) (commands_of w.runs r)) a (is_doomed n r)
 gets_answer w n g r k a number more = record {
   next = next_rest w n g r k number more;
   commands = refl;
   answers = ap (λ o. o.answers) own;
   committed = ap (λ o. unwrap_or (option_map is_committing o.ended) false) own;
-  doomed = ap (λ o. is_some o.doomed) own ∙ or_false (is_some old.doomed);
+  doomed = ap (λ o. is_some o.doomed) own ∙ or_self (is_some old.doomed);
   undid = λ e. ap (λ o. (o.on e).undid) own ∙ put_keeps (λ x. x.undid) old.on d on_device refl e;
   grip = λ e ne. ap (held_by w r) (put_other g d None e ne);
   free = ap (held_by w r) (put_same g d None);
@@ -318,17 +318,18 @@ gets_answer w n g r k a number more = record {
     own : (entry w n (Did (run_no r) k a)).run r ≡ new
     own = put_same n.run r new
 
-    or_false : (b : Bool) → b ≡ (b || false)
-    or_false true = refl
-    or_false false = refl
+    or_self : (b : Bool) → b ≡ (b || b)
+    or_self true = refl
+    or_self false = refl
 
 -- .. in its place
 pub answered_place : (w : Setting) (n : Reading) (g : Grips) (held after : ℕ → ℕ) (d r k : ℕ) (a : Answer) (p : Purpose) → CutAt r n.line → g d ≡ Some (record { maker = r; purpose = p }) → ChangesInPlace (window_of w n g held) (window_of w (entry w n (Did (run_no r) k a)) (put g d None) after) r
 answered_place w n g held after d r k a p cut at =
     in_place w n (entry w n (Did (run_no r) k a)) g (put g d None) held after r cut refl (λ q ne. put_other n.run r _ q ne) (λ q e ne. put_keeps (held_by w q) g d None (sym (ap (held_by w q) at ∙ held_other w r q p ne)) e)
 
-pub answered_fits : (w : Setting) (n : Reading) (g : Grips) (d r k : ℕ) (a : Answer) (p : Purpose) → is_run w.runs r ≡ true → g d ≡ Some (record { maker = r; purpose = p }) → GripsFit w n g → GripsFit w (entry w n (Did (run_no r) k a)) (put g d None)
-answered_fits w n g d r k a p run at f = fits_other w n (entry w n (Did (run_no r) k a)) (put g d None) r (λ q ne. put_other n.run r _ q ne) none (fits_without w n g d f)
+-- a grip of a run comes home, and no other run changes
+pub home_fits : (w : Setting) (n m : Reading) (g : Grips) (d r : ℕ) (p : Purpose) → ((q : ℕ) → q ≢ r → m.run q ≡ n.run q) → is_run w.runs r ≡ true → g d ≡ Some (record { maker = r; purpose = p }) → GripsFit w n g → GripsFit w m (put g d None)
+home_fits w n m g d r p others run at f = fits_other w n m (put g d None) r others none (fits_without w n g d f)
   where
     none : HoldsNone (put g d None) r
     none = let is = run_positive w r run in subst (HoldsNone (put g d None)) (sym is.1) (none_left w n g d is.0 p (at ∙ ap (λ x. Some (record { maker = x; purpose = p })) is.1) f)
@@ -371,8 +372,8 @@ out_newest w n g held d r k cut read kept at out = record { unseen = λ none. un
 wrote_at : (w : Setting) (n : Reading) (g : Grips) (held : ℕ → ℕ) (r k : ℕ) → IsRead w n → g (command_at w.runs r k).device.0 ≡ Some (record { maker = r; purpose = Commands k }) → reads (command_at w.runs r k).job ≡ false → IsOut w n (command_at w.runs r k).device.0 r k → OrderIsKept w n g held
     → OrderIsKept w (entry w n (Did (run_no r) k Fine)) (put g (command_at w.runs r k).device.0 None) (put held (command_at w.runs r k).device.0 (driven (kind_at w.kinds (command_at w.runs r k).device.0) (command_at w.runs r k).job (n.run r).register))
 wrote_at w n g held r k read at writes out kept = record {
-  grips = answered_fits w n g d r k Fine (Commands k) (live_run w n r read out.live) at kept.grips;
-  window = write_answered w.kinds (window_of w n g held) (window_of w (entry w n (Did (run_no r) k Fine)) (put g d None) (put held d v)) r c (drop (next_of n r + 1) (commands_of w.runs r)) false (record {
+  grips = home_fits w n (entry w n (Did (run_no r) k Fine)) g d r (Commands k) (λ q ne. put_other n.run r _ q ne) (live_run w n r read out.live) at kept.grips;
+  window = write_answered w.kinds (window_of w n g held) (window_of w (entry w n (Did (run_no r) k Fine)) (put g d None) (put held d v)) r c (drop (next_of n r + 1) (commands_of w.runs r)) (is_doomed n r) (record {
     place = answered_place w n g held (put held d v) d r k Fine (Commands k) cut at;
     answer = gets_answer w n g r k Fine out.number out.more;
     live = live_uncommitted n r out.live;
@@ -406,17 +407,17 @@ wrote_kept w n g held d r k read at writes kept =
     (wrote_at w n g held r k read (subst (λ x. g x ≡ Some (record { maker = r; purpose = Commands k })) out.device at) writes (subst (λ x. IsOut w n x r k) out.device out) kept)
 
 found_at : (w : Setting) (n : Reading) (g : Grips) (held : ℕ → ℕ) (r k : ℕ) → IsRead w n → g (command_at w.runs r k).device.0 ≡ Some (record { maker = r; purpose = Commands k }) → reads (command_at w.runs r k).job ≡ true
-    → fails (command_at w.runs r k) (Found (held (command_at w.runs r k).device.0)) ≡ false → IsOut w n (command_at w.runs r k).device.0 r k → OrderIsKept w n g held
+    → (fails (command_at w.runs r k) (Found (held (command_at w.runs r k).device.0)) ≡ true → is_doomed n r ≡ true) → IsOut w n (command_at w.runs r k).device.0 r k → OrderIsKept w n g held
     → OrderIsKept w (entry w n (Did (run_no r) k (Found (held (command_at w.runs r k).device.0)))) (put g (command_at w.runs r k).device.0 None) held
 found_at w n g held r k read at reading passes out kept = record {
-  grips = answered_fits w n g d r k (Found x) (Commands k) (live_run w n r read out.live) at kept.grips;
-  window = read_answered w.kinds (window_of w n g held) (window_of w (entry w n (Did (run_no r) k (Found x))) (put g d None) held) r c (drop (next_of n r + 1) (commands_of w.runs r)) x false (record {
+  grips = home_fits w n (entry w n (Did (run_no r) k (Found x))) g d r (Commands k) (λ q ne. put_other n.run r _ q ne) (live_run w n r read out.live) at kept.grips;
+  window = read_answered w.kinds (window_of w n g held) (window_of w (entry w n (Did (run_no r) k (Found x))) (put g d None) held) r c (drop (next_of n r + 1) (commands_of w.runs r)) x (is_doomed n r) (record {
     place = answered_place w n g held held d r k (Found x) (Commands k) cut at;
     answer = gets_answer w n g r k (Found x) out.number out.more;
     live = live_uncommitted n r out.live;
     out = ap (held_by w r) at ∙ held_own w r (Commands k) ∙ ap (λ b. if b then Reads else Writes) reading;
     job = reading;
-    refutes = λ fails'. sym passes ∙ fails';
+    refutes = passes;
     found = refl;
     still = λ e. record { up = refl; held = refl; probe = put_keeps probe_of g d None (sym (ap probe_of at)) e };
   }) kept.window;
@@ -435,13 +436,13 @@ found_at w n g held r k read at reading passes out kept = record {
     cut : CutAt r n.line
     cut = cut_live w n r read out.live
 
--- a read is answered with the value at which its device stands, and does not fail
-pub found_kept : (w : Setting) (n : Reading) (g : Grips) (held : ℕ → ℕ) (d r k : ℕ) → IsRead w n → g d ≡ Some (record { maker = r; purpose = Commands k }) → reads (command_at w.runs r k).job ≡ true → fails (command_at w.runs r k) (Found (held d)) ≡ false → OrderIsKept w n g held
+-- a read is answered with the value at which its device stands, and where it fails its run is doomed already
+pub found_kept : (w : Setting) (n : Reading) (g : Grips) (held : ℕ → ℕ) (d r k : ℕ) → IsRead w n → g d ≡ Some (record { maker = r; purpose = Commands k }) → reads (command_at w.runs r k).job ≡ true → (fails (command_at w.runs r k) (Found (held d)) ≡ true → is_doomed n r ≡ true) → OrderIsKept w n g held
     → OrderIsKept w (entry w n (Did (run_no r) k (Found (held d)))) (put g d None) held
 found_kept w n g held d r k read at reading passes kept =
     let out = out_is w n g d r k kept.grips at in
     subst (λ y. OrderIsKept w (entry w n (Did (run_no r) k (Found (held y)))) (put g y None) held) (sym out.device)
-    (found_at w n g held r k read (subst (λ y. g y ≡ Some (record { maker = r; purpose = Commands k })) out.device at) reading (subst (λ y. fails (command_at w.runs r k) (Found (held y)) ≡ false) out.device passes) (subst (λ y. IsOut w n y r k) out.device out) kept)
+    (found_at w n g held r k read (subst (λ y. g y ≡ Some (record { maker = r; purpose = Commands k })) out.device at) reading (subst (λ y. fails (command_at w.runs r k) (Found (held y)) ≡ true → is_doomed n r ≡ true) out.device passes) (subst (λ y. IsOut w n y r k) out.device out) kept)
 
 -- A command goes out
 

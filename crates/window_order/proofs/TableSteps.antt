@@ -1,63 +1,128 @@
--- Each step keeps the lineage table of a window, while no run is doomed.
+-- Each step keeps the lineage table of a window.
 use Rattle.commit_compaction.specs.Commits.{committed_lineage}
-use Rattle.command_rules.specs.Rosters.{run_no}
+use Rattle.command_rules.specs.Rosters.{command_at, device_no, run_no}
+use Rattle.device_order.proofs.InPlace.{two_places}
 use Rattle.device_order.specs.LineWords.{CutAt}
 use Rattle.history_book.specs.Histories.{entry}
-use Rattle.history_book.specs.Readings.{Reading}
+use Rattle.history_book.specs.Readings.{Reading, did, is_doomed, pends, put}
 use Rattle.history_book.specs.Settings.{Setting}
 use Rattle.history_book.specs.WellFormed.{may_follow}
-use Rattle.history_book.specs.declared.entries.End.TheVariants.{Committed}
-use Rattle.history_book.specs.declared.entries.Entry.TheVariants.{Did, Ended, Placed}
+use Rattle.history_book.specs.declared.entries.Cause.{Cause}
+use Rattle.history_book.specs.declared.entries.End.TheVariants.{Aborted, Committed}
+use Rattle.history_book.specs.declared.entries.Entry.TheVariants.{Did, Doomed, Ended, Placed, Undid}
 use Rattle.home_types.specs.declared.commands.Answer.{Answer}
-use Rattle.lineage_table.specs.Lineages.{LineageState, lineage_at, no_lineage, with_lineage}
-use Rattle.lock_leasing.specs.Configurations.{Commands, Grips}
+use Rattle.lineage_table.specs.Lineages.{LineageState, lineage_at, no_lineage, removed, with_lineage}
+use Rattle.lock_leasing.specs.Configurations.{Commands, Grips, Undoes, grips_command}
 use Rattle.std.proofs.Common.{ap, arith, refl, set, subst, sym, ◌∙◌}
 use Rattle.std.proofs.lemmas.Grind.{common_steps}
 use Rattle.std.proofs.lemmas.List.{get_or-set_other, get_or-set_same, length-set, set-set}
-use Rattle.std.specs.Prelude.{Bool, List, Some, false, if◌then◌else◌, length, true, ℕ, ◌<◌, ◌==◌, ◌≡◌, ◌≢◌}
-use Rattle.window_order.proofs.AnsweredTables.{TouchesNow, answered_kept}
+use Rattle.std.specs.Prelude.{Bool, List, None, Some, false, if◌then◌else◌, length, not, true, ℕ, ◌<◌, ◌==◌, ◌≡◌, ◌≢◌}
+use Rattle.window_order.proofs.AbortedTables.{aborted_kept}
+use Rattle.window_order.proofs.AnsweredTables.{TouchesNow, answered_elsewhere, answered_there}
 use Rattle.window_order.proofs.CommittedTables.{committed_kept}
+use Rattle.window_order.proofs.GrippedTables.{command_out_kept, doomed_kept, undid_kept, undo_dropped_kept, undo_out_kept}
+use Rattle.window_order.proofs.PassedTables.{passed_kept}
 use Rattle.window_order.proofs.PlacedTables.{placed_kept}
-use Rattle.window_order.proofs.PromisedClauses.{open_runs_last}
 use Rattle.window_order.proofs.ReadFacts.{IsRead}
-use Rattle.window_order.proofs.Representing.{NoneIsDoomed}
-use Rattle.window_order.proofs.Steps.{IsOut, out_is}
+use Rattle.window_order.proofs.Representing.{gripped_pends}
 use Rattle.window_order.proofs.Runs.{cut_live}
+use Rattle.window_order.proofs.Steps.{IsOut, out_is}
 use Rattle.window_order.proofs.TableCalls.{touches_now}
-use Rattle.window_order.specs.OrderKept.{OrderIsKept}
-use Rattle.window_order.specs.TableChanges.{ChangesEach, answered_change, placed_change}
+use Rattle.window_order.specs.OrderKept.{GripsFit, OrderIsKept}
+use Rattle.window_order.specs.TableChanges.{ChangesEach, answered_change, answered_lineage, doomed_change, doomed_lineage, passed_if, placed_change, undone_change}
 use Rattle.window_order.specs.TableKept.{LineageIsKept, TableIsKept}
 
 -- a table whose lineages change so is kept where each change keeps its lineage
-pub changed_table : (w : Setting) (n m : Reading) (change : ℕ → LineageState → LineageState) (old new : List LineageState) → ((d : ℕ) (s : LineageState) → LineageIsKept w n d s → LineageIsKept w m d (change d s)) → ChangesEach change old new → TableIsKept w n old
-    → TableIsKept w m new
-changed_table w n m change old new each changes kept = record {
+pub changed_table : (w : Setting) (n m : Reading) (g h : Grips) (change : ℕ → LineageState → LineageState) (old new : List LineageState) → ((d : ℕ) (s : LineageState) → LineageIsKept w n g d s → LineageIsKept w m h d (change d s)) → ChangesEach change old new → TableIsKept w n g old
+    → TableIsKept w m h new
+changed_table w n m g h change old new each changes kept = record {
   devices = changes.devices ∙ kept.devices;
-  each = λ d below. subst (LineageIsKept w m d) (sym (changes.each d (subst (λ x. d < x) (sym kept.devices) below))) (each d (lineage_at old d) (kept.each d below));
+  each = λ d below. subst (LineageIsKept w m h d) (sym (changes.each d (subst (λ x. d < x) (sym kept.devices) below))) (each d (lineage_at old d) (kept.each d below));
 }
 
+-- .. and one that stays where each lineage is still kept
+pub same_table : (w : Setting) (n m : Reading) (g h : Grips) (table : List LineageState) → ((d : ℕ) (s : LineageState) → LineageIsKept w n g d s → LineageIsKept w m h d s) → TableIsKept w n g table → TableIsKept w m h table
+same_table w n m g h table each kept = changed_table w n m g h (λ d s. s) table table each (record { devices = refl; each = λ d below. refl }) kept
+
 -- a run is placed at the end of the line
-pub placed_table : (w : Setting) (n : Reading) (r m : ℕ) (old new : List LineageState) → IsRead w n → may_follow w n (Placed (run_no r) (length n.line) m) ≡ true → ChangesEach (placed_change w n r m) old new → TableIsKept w n old
-    → TableIsKept w (entry w n (Placed (run_no r) (length n.line) m)) new
-placed_table w n r m old new read may changes kept = changed_table w n (entry w n (Placed (run_no r) (length n.line) m)) (placed_change w n r m) old new (placed_kept w n r m read may) changes kept
+pub placed_table : (w : Setting) (n : Reading) (g : Grips) (r m : ℕ) (old new : List LineageState) → IsRead w n → may_follow w n (Placed (run_no r) (length n.line) m) ≡ true → ChangesEach (placed_change w n r m) old new → TableIsKept w n g old
+    → TableIsKept w (entry w n (Placed (run_no r) (length n.line) m)) g new
+placed_table w n g r m old new read may changes kept = changed_table w n (entry w n (Placed (run_no r) (length n.line) m)) g g (placed_change w n r m) old new (placed_kept w n g r m read may) changes kept
 
 -- a run commits
-pub committed_table : (w : Setting) (n : Reading) (r : ℕ) (old new : List LineageState) → IsRead w n → may_follow w n (Ended (run_no r) Committed) ≡ true → ChangesEach (λ d. committed_lineage r) old new → TableIsKept w n old
-    → TableIsKept w (entry w n (Ended (run_no r) Committed)) new
-committed_table w n r old new read may changes kept = changed_table w n (entry w n (Ended (run_no r) Committed)) (λ d. committed_lineage r) old new (committed_kept w n r read may) changes kept
+pub committed_table : (w : Setting) (n : Reading) (g : Grips) (r : ℕ) (old new : List LineageState) → IsRead w n → GripsFit w n g → may_follow w n (Ended (run_no r) Committed) ≡ true → ChangesEach (λ d. committed_lineage r) old new → TableIsKept w n g old
+    → TableIsKept w (entry w n (Ended (run_no r) Committed)) g new
+committed_table w n g r old new read fit may changes kept = changed_table w n (entry w n (Ended (run_no r) Committed)) g g (λ d. committed_lineage r) old new (committed_kept w n g r read fit may) changes kept
 
--- while a command is out on the device, it is its run's turn there
-pub out_touches : (w : Setting) (n : Reading) (g : Grips) (held : ℕ → ℕ) (d r k : ℕ) (cut : CutAt r n.line) → IsRead w n → OrderIsKept w n g held → NoneIsDoomed n → g d ≡ Some (record { maker = r; purpose = Commands k }) → TouchesNow w n d r cut
-out_touches w n g held d r k cut read order sound at = touches_now w n g d r k cut order.grips sound (open_runs_last w n g held d read order) at
+-- a run ends aborted
+pub aborted_table : (w : Setting) (n : Reading) (g : Grips) (r : ℕ) (cause : Cause) (old new : List LineageState) → IsRead w n → may_follow w n (Ended (run_no r) (Aborted cause)) ≡ true → ChangesEach (λ d. removed r) old new → TableIsKept w n g old
+    → TableIsKept w (entry w n (Ended (run_no r) (Aborted cause))) g new
+aborted_table w n g r cause old new read may changes kept = changed_table w n (entry w n (Ended (run_no r) (Aborted cause))) g g (λ d. removed r) old new (aborted_kept w n g r cause read may) changes kept
+
+-- a command goes out
+pub command_out_table : (w : Setting) (n : Reading) (g : Grips) (d r k : ℕ) (table : List LineageState) → g d ≡ None → is_doomed n r ≡ false → pends w n r d ≡ true → TableIsKept w n g table → TableIsKept w n (put g d (Some (record { maker = r; purpose = Commands k }))) table
+command_out_table w n g d r k table at sound pending kept = same_table w n n g (put g d (Some (record { maker = r; purpose = Commands k }))) table (command_out_kept w n g d r k at sound pending) kept
+
+-- each lineage is kept as a command that was out is answered
+answered_kept : (w : Setting) (n : Reading) (g : Grips) (r k : ℕ) (a : Answer) (cut : CutAt r n.line) → IsRead w n → IsOut w n (command_at w.runs r k).device.0 r k → TouchesNow w n g (command_at w.runs r k).device.0 r cut → (e : ℕ) (s : LineageState) → LineageIsKept w n g e s
+    → LineageIsKept w (entry w n (Did (run_no r) k a)) (put g (command_at w.runs r k).device.0 None) e (answered_change w n r k a e s)
+answered_kept w n g r k a cut read out now e s = two_places (λ x. LineageIsKept w n g x s → LineageIsKept w m h x (answered_change w n r k a x s)) e d at_device elsewhere
+  where
+    d : ℕ
+    d = (command_at w.runs r k).device.0
+
+    m : Reading
+    m = entry w n (Did (run_no r) k a)
+
+    h : Grips
+    h = put g d None
+
+    self : (x : ℕ) → (x == x) ≡ true
+    self x = grind (arith, common_steps)
+
+    differ : (x y : ℕ) → x ≢ y → (x == y) ≡ false
+    differ x y h = grind (arith, common_steps)
+
+    pass : (b : Bool) → LineageIsKept w n g d s → LineageIsKept w n g d (passed_if b r s)
+    pass true kept = passed_kept w n g d r cut s read now kept
+    pass false kept = kept
+
+    at_device : LineageIsKept w n g d s → LineageIsKept w m h d (answered_change w n r k a d s)
+    at_device kept = subst (LineageIsKept w m h d) (λ i. if sym (self d) i then answered_lineage w n r k a s else s) (answered_there w n g r k a cut read out.number now (passed_if (not (did n r d)) r s) (pass (not (did n r d)) kept))
+
+    elsewhere : e ≢ d → LineageIsKept w n g e s → LineageIsKept w m h e (answered_change w n r k a e s)
+    elsewhere ne kept = subst (LineageIsKept w m h e) (λ i. if sym (differ e d ne) i then answered_lineage w n r k a s else s) (answered_elsewhere w n g r k a e s out.number out.more ne kept)
 
 -- a command that was out is answered
-pub answered_table : (w : Setting) (n : Reading) (g : Grips) (held : ℕ → ℕ) (d r k : ℕ) (a : Answer) (old new : List LineageState) → IsRead w n → OrderIsKept w n g held → NoneIsDoomed n → g d ≡ Some (record { maker = r; purpose = Commands k })
-    → ChangesEach (answered_change w n r k a) old new → TableIsKept w n old → TableIsKept w (entry w n (Did (run_no r) k a)) new
-answered_table w n g held d r k a old new read order sound at changes kept =
+pub answered_table : (w : Setting) (n : Reading) (g : Grips) (held : ℕ → ℕ) (d r k : ℕ) (a : Answer) (old new : List LineageState) → IsRead w n → OrderIsKept w n g held → g d ≡ Some (record { maker = r; purpose = Commands k })
+    → ChangesEach (answered_change w n r k a) old new → TableIsKept w n g old → TableIsKept w (entry w n (Did (run_no r) k a)) (put g d None) new
+answered_table w n g held d r k a old new read order at changes kept =
     let out : IsOut w n d r k = out_is w n g d r k order.grips at in
     let cut : CutAt r n.line = cut_live w n r read out.live in
-    changed_table w n (entry w n (Did (run_no r) k a)) (answered_change w n r k a) old new
-    (answered_kept w n r k a cut read out.number out.more (subst (λ x. TouchesNow w n x r cut) out.device (out_touches w n g held d r k cut read order sound at))) changes kept
+    let there : IsOut w n (command_at w.runs r k).device.0 r k = subst (λ x. IsOut w n x r k) out.device out in
+    let now : TouchesNow w n g (command_at w.runs r k).device.0 r cut = subst (λ x. TouchesNow w n g x r cut) out.device (touches_now w n g held d r k cut read order at) in
+    subst (λ x. TableIsKept w (entry w n (Did (run_no r) k a)) (put g x None) new) (sym out.device)
+    (changed_table w n (entry w n (Did (run_no r) k a)) g (put g (command_at w.runs r k).device.0 None) (answered_change w n r k a) old new (answered_kept w n g r k a cut read there now) changes kept)
+
+-- a run is doomed
+pub doomed_table : (w : Setting) (n : Reading) (g : Grips) (r : ℕ) (cause : Cause) (old new : List LineageState) → IsRead w n → GripsFit w n g → is_doomed n r ≡ false → ChangesEach (doomed_change g r) old new → TableIsKept w n g old → TableIsKept w (entry w n (Doomed (run_no r) cause)) g new
+doomed_table w n g r cause old new read fit sound changes kept = changed_table w n (entry w n (Doomed (run_no r) cause)) g g (doomed_change g r) old new (doomed_kept w n g r cause read sound (λ d out. gripped_pends w n g r d fit out)) changes kept
+
+-- .. that has no command out
+pub doomed_each : (g : Grips) (r : ℕ) (old new : List LineageState) → ((d : ℕ) → grips_command g r d ≡ false) → ChangesEach (λ d. doomed_lineage r) old new → ChangesEach (doomed_change g r) old new
+doomed_each g r old new none changes = record { devices = changes.devices; each = λ d below. changes.each d below ∙ (λ i. if sym (none d) i then lineage_at old d else doomed_lineage r (lineage_at old d)) }
+
+-- an undo goes out
+pub undo_out_table : (w : Setting) (n : Reading) (g : Grips) (d r v : ℕ) (old new : List LineageState) → IsRead w n → g d ≡ None → ChangesEach (undone_change r d) old new → TableIsKept w n g old → TableIsKept w n (put g d (Some (record { maker = r; purpose = Undoes v }))) new
+undo_out_table w n g d r v old new read at changes kept = changed_table w n n g (put g d (Some (record { maker = r; purpose = Undoes v }))) (undone_change r d) old new (undo_out_kept w n g d r v read at) changes kept
+
+-- an undo that was out comes home
+pub undid_table : (w : Setting) (n : Reading) (g : Grips) (d r v : ℕ) (table : List LineageState) → g d ≡ Some (record { maker = r; purpose = Undoes v }) → TableIsKept w n g table → TableIsKept w (entry w n (Undid (run_no r) (device_no d) true)) (put g d None) table
+undid_table w n g d r v table at kept = same_table w n (entry w n (Undid (run_no r) (device_no d) true)) g (put g d None) table (undid_kept w n g d r v at) kept
+
+-- an undo is left out
+pub undo_dropped_table : (w : Setting) (n : Reading) (g : Grips) (d r : ℕ) (drove : Bool) (old new : List LineageState) → IsRead w n → ChangesEach (undone_change r d) old new → TableIsKept w n g old → TableIsKept w (entry w n (Undid (run_no r) (device_no d) drove)) g new
+undo_dropped_table w n g d r drove old new read changes kept = changed_table w n (entry w n (Undid (run_no r) (device_no d) drove)) g g (undone_change r d) old new (undo_dropped_kept w n g d r drove read) changes kept
 
 -- The lineage of one device is changed
 

@@ -1,5 +1,5 @@
 -- The items of a line with what each has touched, step by step.
-use Rattle.command_rules.specs.Rosters.{command_at, is_run, run_no}
+use Rattle.command_rules.specs.Rosters.{command_at, device_no, is_run, run_no}
 use Rattle.history_book.proofs.Snoc.{put_keeps, put_other, put_same}
 use Rattle.history_book.proofs.Standing.{aborted, is_abort}
 use Rattle.history_book.specs.Histories.{answered, entry}
@@ -8,20 +8,21 @@ use Rattle.history_book.specs.Plans.{planned_times, split_of}
 use Rattle.history_book.specs.Readings.{OfRun, OnDevice, PlacedAt, Reading, did, is_live, nothing_read, put, view_by}
 use Rattle.history_book.specs.Settings.{Setting}
 use Rattle.history_book.specs.WellFormed.{may_follow}
+use Rattle.history_book.specs.declared.entries.Cause.{Cause}
 use Rattle.history_book.specs.declared.entries.End.{End}
-use Rattle.history_book.specs.declared.entries.End.TheVariants.{Committed}
-use Rattle.history_book.specs.declared.entries.Entry.TheVariants.{Arrived, Did, Ended, Placed}
+use Rattle.history_book.specs.declared.entries.End.TheVariants.{Aborted, Committed}
+use Rattle.history_book.specs.declared.entries.Entry.TheVariants.{Arrived, Did, Doomed, Ended, Placed, Undid}
 use Rattle.home_types.specs.declared.commands.Answer.{Answer}
 use Rattle.home_types.specs.declared.commands.Answer.TheVariants.{Down, Fine, Found}
 use Rattle.home_types.specs.Kinds.{kind_at}
 use Rattle.home_types.specs.declared.commands.Command.{Command}
 use Rattle.home_types.specs.declared.items.Item.TheVariants.{Back, Failed, Ran}
 use Rattle.home_types.specs.declared.items.Item.{Item}
-use Rattle.lock_leasing.specs.Configurations.{Commands, Grip, Grips, grips_command, is_command, no_grips}
+use Rattle.lock_leasing.specs.Configurations.{Commands, Grip, Grips, Undoes, grips_command, is_command, no_grips}
 use Rattle.lock_leasing.specs.Standings.{item_has_touched}
 use Rattle.lock_leasing.specs.Words.{has_touched}
-use Rattle.serial_line.proofs.Ties.{line_empty, line_inserted, line_retold, line_touching, run_comes}
-use Rattle.serial_line.specs.Marks.{Mark, stands, touching, with_item}
+use Rattle.serial_line.proofs.Ties.{line_empty, line_inserted, line_removed, line_retold, line_touching, run_comes}
+use Rattle.serial_line.specs.Marks.{Mark, stands, touching, with_item, without}
 use Rattle.serial_line.specs.Ties.{IsLineOf}
 use Rattle.std.proofs.Common.{ap, ap₂, arith, refl, subst, sym, ◌∙◌}
 use Rattle.std.proofs.lemmas.Grind.{common_steps}
@@ -213,6 +214,46 @@ marks_answered w n g d r k a marks out at kept = marks_same n (entry w n (Did (r
         by_run false other true here =
             (λ i. others q e (differ q r other) i || gripped q e true here i) ∙ off (did n q e) (r == q) (swapped q r other) ∙ (λ i. did n q e || sym (was q e here) i)
         by_run false other false there = (λ i. others q e (differ q r other) i || gripped q e false there i)
+
+-- A doomed run
+
+-- a run is doomed
+pub marks_doomed : (w : Setting) (n : Reading) (g : Grips) (r : ℕ) (cause : Cause) (marks : List Mark) → MarksAreKept n g marks → MarksAreKept (entry w n (Doomed (run_no r) cause)) g marks
+marks_doomed w n g r cause marks kept = marks_same n (entry w n (Doomed (run_no r) cause)) g g marks refl (λ q d. ap (λ b. b || grips_command g q d) (put_keeps (λ o. is_some (o.on d).view) n.run r _ refl q)) kept
+
+-- a device goes out for an undo, which is no touch, or comes home from one
+pub marks_undo_out : (n : Reading) (g : Grips) (r d v : ℕ) (marks : List Mark) → g d ≡ None → MarksAreKept n g marks → MarksAreKept n (put g d (Some (record { maker = r; purpose = Undoes v }))) marks
+marks_undo_out n g r d v marks home kept = marks_same n n g (put g d (Some (record { maker = r; purpose = Undoes v }))) marks refl (λ q e. ap (λ b. did n q e || b) (put_keeps (λ o. unwrap_or (option_map (λ p. (p.maker == q) && is_command p.purpose) o) false) g d _ (none q ∙ sym (ap (λ o. unwrap_or (option_map (λ p. (p.maker == q) && is_command p.purpose) o) false) home)) e)) kept
+  where
+    off : (b : Bool) → (b && false) ≡ false
+    off true = refl
+    off false = refl
+
+    none : (q : ℕ) → ((r == q) && false) ≡ false
+    none q = off (r == q)
+
+pub marks_undo_home : (n : Reading) (g : Grips) (r d v : ℕ) (marks : List Mark) → g d ≡ Some (record { maker = r; purpose = Undoes v }) → MarksAreKept n g marks → MarksAreKept n (put g d None) marks
+marks_undo_home n g r d v marks out kept = marks_same n n g (put g d None) marks refl (λ q e. ap (λ b. did n q e || b) (put_keeps (λ o. unwrap_or (option_map (λ p. (p.maker == q) && is_command p.purpose) o) false) g d None (sym (ap (λ o. unwrap_or (option_map (λ p. (p.maker == q) && is_command p.purpose) o) false) out ∙ off (r == q))) e)) kept
+  where
+    off : (b : Bool) → (b && false) ≡ false
+    off true = refl
+    off false = refl
+
+-- a run is undone on a device
+pub marks_undone : (w : Setting) (n : Reading) (g : Grips) (r d : ℕ) (drove : Bool) (marks : List Mark) → MarksAreKept n g marks → MarksAreKept (entry w n (Undid (run_no r) (device_no d) drove)) g marks
+marks_undone w n g r d drove marks kept = marks_same n (entry w n (Undid (run_no r) (device_no d) drove)) g g marks refl (λ q e. ap (λ b. b || grips_command g q e) (put_keeps (λ o. is_some (o.on e).view) n.run r _ (put_keeps (λ x. is_some x.view) (n.run r).on d _ refl e) q)) kept
+
+-- a run is aborted: its mark leaves
+pub marks_aborted : (w : Setting) (n : Reading) (g : Grips) (r : ℕ) (cause : Cause) (marks : List Mark) → MarksAreKept n g marks → MarksAreKept (entry w n (Ended (run_no r) (Aborted cause))) g (without r marks)
+marks_aborted w n g r cause marks kept = line_retold (line_removed r kept) (λ i d there. each i d)
+  where
+    next : Reading
+    next = entry w n (Ended (run_no r) (Aborted cause))
+
+    each : (i : Item) (d : ℕ) → item_has_touched n g i d ≡ item_has_touched next g i d
+    each (Ran q) d = sym (ap (λ b. b || grips_command g q.0 d) (put_keeps (λ o. is_some (o.on d).view) n.run r _ refl q.0))
+    each (Failed e k) d = refl
+    each (Back e k) d = refl
 
 -- What the line asks for
 

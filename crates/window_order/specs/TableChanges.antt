@@ -1,19 +1,21 @@
--- What the steps of a window make of its lineages, where no run is doomed.
+-- What the steps of a window make of its lineages.
 use Rattle.command_rules.specs.Rosters.{Run, command_at, run_no, touches, touches_from}
 use Rattle.history_book.specs.Plans.{planned_end, planned_start, planned_times}
-use Rattle.history_book.specs.Readings.{Planned, Reading, did, is_fine, is_told}
+use Rattle.history_book.specs.Readings.{Planned, Reading, did, is_doomed, is_fine, is_told}
 use Rattle.history_book.specs.Settings.{Setting}
 use Rattle.home_types.specs.Commands.{driven}
 use Rattle.home_types.specs.Kinds.{kind_at}
 use Rattle.home_types.specs.declared.commands.Answer.{Answer}
 use Rattle.home_types.specs.declared.commands.Command.{Command}
+use Rattle.home_types.specs.declared.commands.View.TheVariants.{Down}
 use Rattle.home_types.specs.declared.commands.View.{View}
-use Rattle.lineage_table.specs.Accesses.{before, has_access, some_acquired, some_scheduled, status_of}
-use Rattle.lineage_table.specs.Lineages.{LineageState, acquired, lineage_at, released, scheduled, written}
+use Rattle.lineage_table.specs.Accesses.{before, has_access, is_acquired, is_of, is_scheduled, some_acquired, some_scheduled, status_of}
+use Rattle.lineage_table.specs.Lineages.{LineageState, acquired, lineage_at, released, scheduled, undone, written}
 use Rattle.lineage_table.specs.declared.accesses.Access.{Access}
-use Rattle.lineage_table.specs.declared.accesses.Status.TheVariants.{Scheduled}
+use Rattle.lineage_table.specs.declared.accesses.Status.TheVariants.{Released, Scheduled}
+use Rattle.lock_leasing.specs.Configurations.{Grips, grips_command}
 use Rattle.lock_leasing.specs.Tables.{view_when}
-use Rattle.std.specs.Prelude.{Bool, List, None, Option, Some, false, if◌then◌else◌, length, not, ℕ, ◌+◌, ◌<◌, ◌==◌, ◌≡◌}
+use Rattle.std.specs.Prelude.{Bool, List, None, Option, Some, [], false, if◌then◌else◌, length, not, option_map, unwrap_or, ℕ, ◌+◌, ◌<◌, ◌==◌, ◌||◌, ◌∷◌, ◌≡◌}
 
 -- the table has the same devices, and each has its lineage changed so
 pub record ChangesEach (change : ℕ → LineageState → LineageState) (old new : List LineageState) : Type 0 where
@@ -46,6 +48,27 @@ pub record IsFirst (r : ℕ) (s : LineageState) : Type 0 where
   pub none_acquired : some_acquired s.accesses ≡ false
   pub none_before : some_scheduled (before r s.accesses) ≡ false
 
+-- the access is passed where it is scheduled: acquired by a run that sees the device down, and released
+abbrev pub pass_access : Access → Access
+pass_access x = if is_scheduled x.status then record x { status = Released; view = Some Down } else x
+
+-- the accesses with each of those before that of the run passed
+abbrev pub with_passed : ℕ → List Access → List Access
+with_passed r [] = []
+with_passed r (x ∷ xs) = if is_of r x then (x ∷ xs) else (pass_access x ∷ with_passed r xs)
+
+-- the scheduled accesses before that of the run are passed, before its own is acquired
+abbrev pub passed : ℕ → LineageState → LineageState
+passed r s = record s { accesses = with_passed r s.accesses }
+
+abbrev pub passed_if : Bool → ℕ → LineageState → LineageState
+passed_if first r s = if first then passed r s else s
+
+-- what the table asks for before those are passed: the run's access is scheduled, and none is acquired
+pub record IsWaiting (r : ℕ) (s : LineageState) : Type 0 where
+  pub scheduled : status_of r s.accesses ≡ Some Scheduled
+  pub none_acquired : some_acquired s.accesses ≡ false
+
 abbrev pub acquired_if : Bool → ℕ → View → LineageState → LineageState
 acquired_if first r view s = if first then acquired r view s else s
 
@@ -64,10 +87,33 @@ noted r first view wrote last s = released_if last r (written_if wrote r (acquir
 abbrev pub told_write : Setting → Reading → ℕ → Command → Answer → Option ℕ
 told_write w n r c a = if is_fine a then Some (driven (kind_at w.kinds c.device.0) c.job (n.run r).register) else None
 
--- the device of the command number k is acquired at the first answer there, has the value that was written, and is released at the last answer
+-- the run is done with the device of its command of this number: it is doomed, or no later command is on the device
+abbrev pub is_done_there : Setting → Reading → ℕ → ℕ → Bool
+is_done_there w n r k = is_doomed n r || not (touches_from w.runs r (command_at w.runs r k).device.0 (k + 1))
+
+-- the device of the command number k is acquired at the first answer there, where the scheduled accesses before it are passed, has the value that was written, and is released when the run is done there
 abbrev pub answered_lineage : Setting → Reading → ℕ → ℕ → Answer → LineageState → LineageState
-answered_lineage w n r k a =
-    noted r (not (did n r (command_at w.runs r k).device.0)) (view_when (is_told a)) (told_write w n r (command_at w.runs r k) a) (not (touches_from w.runs r (command_at w.runs r k).device.0 (k + 1)))
+answered_lineage w n r k a s =
+    noted r (not (did n r (command_at w.runs r k).device.0)) (view_when (is_told a)) (told_write w n r (command_at w.runs r k) a) (is_done_there w n r k) (passed_if (not (did n r (command_at w.runs r k).device.0)) r s)
 
 abbrev pub answered_change : Setting → Reading → ℕ → ℕ → Answer → ℕ → LineageState → LineageState
 answered_change w n r k a d s = if d == (command_at w.runs r k).device.0 then answered_lineage w n r k a s else s
+
+-- A run is doomed
+
+abbrev pub has_acquired : ℕ → LineageState → Bool
+has_acquired r s = unwrap_or (option_map is_acquired (status_of r s.accesses)) false
+
+-- it is done with the device that it has acquired, ..
+abbrev pub doomed_lineage : ℕ → LineageState → LineageState
+doomed_lineage r s = released_if (has_acquired r s) r s
+
+-- .. but not with the one that is out for its command
+abbrev pub doomed_change : Grips → ℕ → ℕ → LineageState → LineageState
+doomed_change g r d s = if grips_command g r d then s else doomed_lineage r s
+
+-- A write is undone
+
+-- the run is undone on the device
+abbrev pub undone_change : ℕ → ℕ → ℕ → LineageState → LineageState
+undone_change r d e s = if e == d then undone r s else s

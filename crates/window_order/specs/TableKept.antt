@@ -1,33 +1,31 @@
--- What is kept of the lineage table of a window in which no run is doomed: it is what the reading of the history makes it.
+-- What is kept of the lineage table of a window: it is what the reading of the history and the grips that are out make it, but for the accesses of doomed runs that never touched the device, of which some were passed.
 use Rattle.command_rules.specs.Rosters.{Run, is_on, run_no}
 use Rattle.history_book.specs.Lines.{of_run}
 use Rattle.history_book.specs.Plans.{planned_end, planned_start}
-use Rattle.history_book.specs.Readings.{Reading, did, has_written, is_committed, pends, view_of}
+use Rattle.history_book.specs.Readings.{Reading, has_written, is_committed, view_of}
 use Rattle.history_book.specs.Settings.{Setting}
+use Rattle.home_types.specs.declared.commands.View.TheVariants.{Down}
 use Rattle.home_types.specs.declared.items.Item.TheVariants.{Back, Failed, Ran}
 use Rattle.home_types.specs.declared.items.Item.{Item}
 use Rattle.lineage_table.specs.Lineages.{LineageState, lineage_at}
 use Rattle.lineage_table.specs.declared.accesses.Access.{Access}
-use Rattle.lineage_table.specs.declared.accesses.Status.TheVariants.{Acquired, Released, Scheduled}
-use Rattle.lineage_table.specs.declared.accesses.Status.{Status}
+use Rattle.lineage_table.specs.declared.accesses.Status.TheVariants.{Released}
+use Rattle.lock_leasing.specs.Configurations.{Grips}
 use Rattle.lock_leasing.specs.Order.{committed_value}
-use Rattle.lock_leasing.specs.Tables.{uses, view_when}
+use Rattle.lock_leasing.specs.Tables.{may_be_passed, status_by_answers, uses, view_when}
+use Rattle.lock_leasing.specs.Words.{is_undone}
 use Rattle.std.specs.List.{list_any}
-use Rattle.std.specs.Prelude.{Bool, List, [], if◌then◌else◌, is_none, length, not, option_map, suc, ℕ, ◌&&◌, ◌+◌, ◌<◌, ◌∷◌, ◌≡◌, ◌≤◌}
+use Rattle.std.specs.Prelude.{Bool, List, None, Some, [], if◌then◌else◌, is_none, length, not, option_map, suc, true, ℕ, ◌&&◌, ◌+◌, ◌<◌, ◌∷◌, ◌≡◌, ◌≤◌}
 
 -- The accesses
 
--- scheduled until the first answer, acquired while a command on the device pends, and then released
-abbrev pub status_read : Setting → Reading → ℕ → ℕ → Status
-status_read w n d r = if did n r d then (if pends w n r d then Acquired else Released) else Scheduled
-
--- the access of the run
-abbrev pub access_read : Setting → Reading → ℕ → ℕ → Access
-access_read w n d r = record {
+-- the access of the run: where it was passed, released by a run that sees the device down
+abbrev pub access_read : Setting → Reading → Grips → (ℕ → Bool) → ℕ → ℕ → Access
+access_read w n g passed d r = record {
   run = run_no r;
-  status = status_read w n d r;
-  view = option_map view_when (view_of n r d);
-  wrote = ((n.run r).on d).wrote;
+  status = if passed r then Released else status_by_answers w n g r d;
+  view = if passed r then Some Down else option_map view_when (view_of n r d);
+  wrote = if is_undone n g r d then None else ((n.run r).on d).wrote;
   from = planned_start (n.run r).planned d;
   to = planned_end (n.run r).planned d;
 }
@@ -46,8 +44,8 @@ abbrev pub commits_write : Reading → ℕ → ℕ → Bool
 commits_write n d r = is_committed n r && has_written n r d
 
 -- the accesses to the device: of the live runs that use it, but for those before a committed run that wrote it
-abbrev pub accesses_read : Setting → Reading → ℕ → List Item → List Access
-accesses_read w n d line = accesses_along (uses w n d) (commits_write n d) (access_read w n d) line
+abbrev pub accesses_read : Setting → Reading → Grips → (ℕ → Bool) → ℕ → List Item → List Access
+accesses_read w n g passed d line = accesses_along (uses w n d) (commits_write n d) (access_read w n g passed d) line
 
 -- Room
 
@@ -62,12 +60,15 @@ unplaced_on w n d = unplaced_among n d 1 w.runs
 -- The table
 
 -- the lineage is the device's, with room for the runs that are not placed
-pub record LineageIsKept (w : Setting) (n : Reading) (d : ℕ) (s : LineageState) : Type 0 where
+pub record LineageIsKept (w : Setting) (n : Reading) (g : Grips) (d : ℕ) (s : LineageState) : Type 0 where
+  -- the runs whose access was passed, each of which may be
+  pub passed : ℕ → Bool
+  pub may_pass : (r : ℕ) → passed r ≡ true → may_be_passed n g r d ≡ true
   pub committed : s.committed ≡ committed_value w n d
-  pub accesses : s.accesses ≡ accesses_read w n d n.line
+  pub accesses : s.accesses ≡ accesses_read w n g passed d n.line
   pub room : unplaced_on w n d ≤ s.room
   pub up : s.up ≡ n.up d
 
-pub record TableIsKept (w : Setting) (n : Reading) (table : List LineageState) : Type 0 where
+pub record TableIsKept (w : Setting) (n : Reading) (g : Grips) (table : List LineageState) : Type 0 where
   pub devices : length table ≡ length w.first
-  pub each : (d : ℕ) → d < length w.first → LineageIsKept w n d (lineage_at table d)
+  pub each : (d : ℕ) → d < length w.first → LineageIsKept w n g d (lineage_at table d)
