@@ -1,15 +1,13 @@
 -- A day under way, and one window more.
-use Rattle.command_rules.specs.Rosters.{is_run}
-use Rattle.history_book.specs.Histories.{reading}
 use Rattle.history_book.specs.Settings.{Setting}
-use Rattle.history_book.specs.declared.entries.End.TheVariants.{Committed}
 use Rattle.history_book.specs.declared.records.WindowRecord.{WindowRecord}
 use Rattle.home_types.specs.HomeStates.{stand_at}
 use Rattle.home_types.specs.declared.modes.Mode.{Mode}
 use Rattle.hub_core.specs.Agreement.{UpDevicesStand}
 use Rattle.hub_core.specs.Homes.{AreNew, HomeIsKept, HomeState}
 use Rattle.hub_core.specs.LegalDays.{IsLegalCutDay, IsLegalDay, setting_of, state_after}
-use Rattle.hub_core.specs.LegalWindows.{IsLegalWindow, history_of}
+use Rattle.hub_core.specs.LegalWindows.{IsLegalWindow}
+use Rattle.hub_commands.proofs.Openings.{starts_up}
 use Rattle.hub_commands.proofs.Snocs.{get_before, get_last, given, length_more, snoc_get, sum_more}
 use Rattle.hub_commands.specs.Days.{IsReplayOf, IsUnderWay, WindowsArePlayed, probes_taken}
 use Rattle.hub_commands.specs.Played.{HasGoneOn, IsPlayed, setting_on}
@@ -17,10 +15,11 @@ use Rattle.routine_reader.specs.Rosters.{kinds_of, script_runs, start_home, star
 use Rattle.routine_reader.specs.declared.scripts.DeviceText.{DeviceText}
 use Rattle.routine_reader.specs.declared.scripts.Script.{Script}
 use Rattle.routine_reader.specs.declared.scripts.WindowText.{WindowText}
+use Rattle.run_replay.specs.ReplayedWindows.{RunsHaveEnded}
 use Rattle.run_replay.specs.Replays.{IsReplay, Play}
 use Rattle.std.proofs.Common.{ap, arith, inl, inr, refl, subst, sym, ◌∙◌}
 use Rattle.std.proofs.lemmas.Option.{slice_get_within}
-use Rattle.std.specs.Prelude.{List, Option, Some, [], length, map, option_map, slice_get, slice_index_or, suc, true, unwrap_or, zero, ℕ, ◌+◌, ◌++◌, ◌-◌, ◌<◌, ◌∷◌, ◌≡◌, ◌≤◌}
+use Rattle.std.specs.Prelude.{List, Option, Some, [], length, map, option_map, slice_get, slice_index_or, suc, unwrap_or, zero, ℕ, ◌+◌, ◌++◌, ◌-◌, ◌<◌, ◌∷◌, ◌≡◌, ◌≤◌}
 
 -- a window more leaves the states before it
 state_before : (script : Script) (records : List WindowRecord) (closed : WindowRecord) (k : ℕ) → k ≤ length records → state_after script (records ++ closed ∷ []) k ≡ state_after script records k
@@ -84,8 +83,7 @@ windows_more tag plan turns probes faults script mode records plays before after
     count = omega (arith, length_more records closed, length_more plays is.play, played.replays.count);
     each = λ k window c p window_at at play_at. each_replay k window c p window_at at play_at;
   };
-  commit = λ k r c at. each_more (λ w j x. is_run (script_runs script j) r ≡ true → ((reading w (history_of x)).run r).ended ≡ Some Committed) script mode records closed
-      (λ j x x_at. played.commit j r x x_at) (subst (λ w. is_run (script_runs script (length records)) r ≡ true → ((reading w (history_of closed)).run r).ended ≡ Some Committed) here (is.commits r)) k c at;
+  ends = each_more (λ w k c. RunsHaveEnded w c) script mode records closed played.ends (subst (λ w. RunsHaveEnded w closed) here is.ends);
 }
   where
     each_replay : (k : ℕ) (window : WindowText) (c : WindowRecord) (p : Play) → slice_get script.windows.items k ≡ Some window → slice_get (records ++ closed ∷ []) k ≡ Some c → slice_get (plays ++ is.play ∷ []) k ≡ Some p
@@ -137,17 +135,15 @@ goes_on {D = D} tag plan stands turns probes faults script mode before after rec
     device_before : (d : ℕ) (y : D) → slice_get after.devices d ≡ Some y → (x : D) × (slice_get before.devices d ≡ Some x)
     device_before d y at = given before.devices d (let within = slice_get_within after.devices d y at in omega (arith, within, is.size))
 
+-- no window is played yet
+pub no_window : (script : Script) (mode : Mode) → WindowsArePlayed script mode [] []
+no_window script mode = record { count = omega (arith); legal = λ k c at. absurd (cc); replays = record { count = refl; each = λ k w c p w_at at p_at. absurd (cc) }; ends = λ k c at. absurd (cc) }
+
 -- where a device starts
 start_at : (texts : List DeviceText) (d : ℕ) (text : DeviceText) → slice_get texts d ≡ Some text → stand_at (map start_stand texts) d ≡ start_stand text
 start_at [] d text at = absurd (cc)
 start_at (t ∷ texts) zero text at = let same : t ≡ text = cc in ap start_stand same
 start_at (t ∷ texts) (suc d) text at = start_at texts d text at
-
--- every device is up at its start
-starts_up : (texts : List DeviceText) (d : ℕ) → d < length (map start_stand texts) → (stand_at (map start_stand texts) d).up ≡ true
-starts_up [] d within = absurd (omega (arith, within))
-starts_up (t ∷ texts) zero within = refl
-starts_up (t ∷ texts) (suc d) within = starts_up texts d (omega (arith, within))
 
 -- a home of new devices has played no window
 pub starts : {D : Type 0} (tag : D → ℕ) (plan : D → Option (List (ℕ × ℕ))) (stands turns probes faults : D → ℕ) (script : Script) (mode : Mode) (home : HomeState D)
@@ -155,7 +151,7 @@ pub starts : {D : Type 0} (tag : D → ℕ) (plan : D → Option (List (ℕ × �
     → IsUnderWay tag plan stands turns probes faults script mode home []
 starts {D = D} tag plan stands turns probes faults script mode home are kinds world opened = record {
   plays = [];
-  played = record { count = omega (arith); legal = λ k c at. absurd (cc); replays = record { count = refl; each = λ k w c p w_at at p_at. absurd (cc) }; commit = λ k r c at is. absurd (cc) };
+  played = no_window script mode;
   left = record {
     size = are.size;
     own = λ d device text at text_at. (are.each d device text at text_at).own;
@@ -167,7 +163,7 @@ starts {D = D} tag plan stands turns probes faults script mode home are kinds wo
   kinds = kinds;
   world = world;
   opened = opened;
-  up = rw (world) (starts_up script.devices.items);
+  up = starts_up script home world;
 }
   where
     text_of : (d : ℕ) (device : D) → slice_get home.devices d ≡ Some device → (text : DeviceText) × (slice_get script.devices.items d ≡ Some text)

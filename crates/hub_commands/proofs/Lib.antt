@@ -1,6 +1,6 @@
 mod Snocs
 mod DaysUnderWay
-mod Openings
+pub mod Openings
 mod PlayedWindows
 mod OverLimit
 mod Texts

@@ -1,4 +1,4 @@
--- A window of a sound script without later forms may be opened.
+-- A window of a sound script without later forms may be opened, and the first one on a new home.
 use Rattle.command_rules.specs.Rosters.{Run, commands_of, followed_by, run_at, runs_of}
 use Rattle.command_rules.specs.declared.rosters.Roster.{Roster}
 use Rattle.home_types.specs.HomeStates.{stand_at}
@@ -15,15 +15,15 @@ use Rattle.home_types.specs.declared.modes.Visibility.TheVariants.{Eventual, Glo
 use Rattle.home_types.specs.declared.modes.Visibility.{Visibility}
 use Rattle.hub_core.specs.Homes.{HomeIsKept, HomeState, setting_for}
 use Rattle.hub_core.specs.Openings.{MayOpen, is_fcfs, is_mode, names_values_of}
-use Rattle.hub_core.specs.Stage.{StageAllows, is_check, is_safe}
+use Rattle.hub_core.specs.Stage.{StageAllows}
 use Rattle.hub_commands.specs.Played.{setting_on}
 use Rattle.later_forms.proofs.BuiltModes.{goes_fcfs, not_weak}
-use Rattle.later_forms.proofs.NoLaterForms.{no_command, no_follows, no_probes}
+use Rattle.later_forms.proofs.NoLaterForms.{no_follows, no_probes}
 use Rattle.later_forms.proofs.SoundScripts.{routine_is_sound, window_is_sound}
 use Rattle.later_forms.specs.CommandLines.{is_later_mode}
-use Rattle.later_forms.specs.Scripts.{first_later, is_check as is_check_text, is_later_command}
+use Rattle.later_forms.specs.Scripts.{first_later}
 use Rattle.routine_reader.proofs.RosterLemmas.{runs-there}
-use Rattle.routine_reader.specs.Rosters.{kinds_of, routine_at, run_of_text, script_runs}
+use Rattle.routine_reader.specs.Rosters.{kinds_of, routine_at, run_of_text, script_runs, start_home, start_stand}
 use Rattle.routine_reader.specs.Scripts.{plain_device, plain_script}
 use Rattle.routine_reader.specs.Sound.{IsSound, IsSoundCommand, device_kinds, suits}
 use Rattle.routine_reader.specs.declared.scripts.DeviceText.{DeviceText}
@@ -36,7 +36,7 @@ use Rattle.std.proofs.lemmas.Grind.{common_steps}
 use Rattle.std.proofs.lemmas.List.Elements.{All-get_or}
 use Rattle.std.proofs.lemmas.List.{length-map}
 use Rattle.std.proofs.lemmas.Option.{get_or_from_slice_get, slice_get_within}
-use Rattle.std.specs.Prelude.{Bool, IsTrue, List, None, Option, Some, [], false, nat_lt, not, option_and_then, option_map, slice_get, suc, true, unwrap_or, zero, ℕ, ◌&&◌, ◌<◌, ◌∷◌, ◌≡◌, ◌≤◌}
+use Rattle.std.specs.Prelude.{Bool, IsTrue, List, None, Option, Some, [], false, nat_lt, option_and_then, option_map, slice_get, suc, true, unwrap_or, zero, ℕ, ◌&&◌, ◌<◌, ◌∷◌, ◌≡◌, ◌≤◌}
 
 -- a run of the window is one of its text
 pub record IsRunOf (script : Script) (window : WindowText) (run : Run) : Type 0 where
@@ -105,15 +105,6 @@ names_as kind (Check v) is = is
 names_as kind Load is = is
 names_as kind Store is = is
 
-same_check : (job : Job) → is_check job ≡ is_check_text job
-same_check (Set v) = refl
-same_check (Check v) = refl
-same_check Load = refl
-same_check Store = refl
-
-is_safe_where : (c : Command) → is_later_command c ≡ false → is_safe c ≡ true
-is_safe_where c built = ap (λ b. not (c.must && b)) (same_check c.job) ∙ ap (λ b. not b) built
-
 both : (a b : Bool) → a ≡ true → b ≡ true → (a && b) ≡ true
 both true b left right = right
 both false b left right = absurd (cc)
@@ -166,11 +157,19 @@ stage_allows script mode k window home none built at up =
     rw (sym (runs-there script k window at)) (record {
       strong = not_weak mode built;
       scheduler = goes_fcfs mode built;
-      safe = λ r j c c_at. let is = command_of script window r j c c_at in is_safe_where c (no_command script is.routine j is.text c none is.at is.there);
       follows_none = λ r. no_follower script k r window none at;
       up = up;
       no_probes = no_probes script k window none at;
     })
+
+start_is_up : (devices : List DeviceText) (d : ℕ) → d < length (map start_stand devices) → (stand_at (map start_stand devices) d).up ≡ true
+start_is_up [] d low = absurd (omega (arith, low))
+start_is_up (text ∷ devices) zero low = refl
+start_is_up (text ∷ devices) (suc d) low = start_is_up devices d (omega (arith, low))
+
+-- every device is up at its start
+pub starts_up : {D : Type 0} (script : Script) (home : HomeState D) → home.world ≡ start_home script → (d : ℕ) → d < length home.world → (stand_at home.world d).up ≡ true
+starts_up script home world d low = subst (λ w. d < length w → (stand_at w d).up ≡ true) (sym world) (start_is_up script.devices.items d) low
 
 -- the window's setting, with the roster of its runs
 pub setting_as : {D : Type 0} (script : Script) (k : ℕ) (home : HomeState D) (roster : Roster) (mode : Mode) → runs_of roster ≡ script_runs script k → setting_for home roster mode ≡ setting_on script mode k home

@@ -3,20 +3,17 @@ use Rattle.device_gate.specs.Places.{AreNumbered}
 use Rattle.device_gate.specs.declared.gates.Place.TheVariants.{Home}
 use Rattle.device_gate.specs.declared.gates.Place.{Place}
 use Rattle.history_book.specs.Settings.{Setting}
-use Rattle.history_book.specs.Histories.{reading}
-use Rattle.history_book.specs.declared.entries.End.TheVariants.{Committed}
 use Rattle.history_book.specs.declared.records.WindowRecord.{WindowRecord}
-use Rattle.command_rules.specs.Rosters.{is_run}
 use Rattle.home_types.specs.declared.modes.Mode.{Mode}
 use Rattle.hub_core.specs.Homes.{HomeState}
 use Rattle.hub_core.specs.HubCalls.{IsOpened}
-use Rattle.hub_core.specs.LegalWindows.{IsLegalWindow, history_of}
+use Rattle.hub_core.specs.LegalWindows.{IsLegalWindow}
 use Rattle.hub_core.specs.OpenHubs.{OpenHub, device_at}
 use Rattle.hub_commands.specs.Played.{IsPlayed, setting_on}
 use Rattle.routine_reader.specs.declared.scripts.Script.{Script}
 use Rattle.routine_reader.specs.declared.scripts.WindowText.{WindowText}
 use Rattle.run_replay.specs.Replays.{IsReplay}
-use Rattle.run_replay.specs.ReplayedWindows.{IsReplayed}
+use Rattle.run_replay.specs.ReplayedWindows.{IsReplayed, RunsHaveEnded}
 use Rattle.std.proofs.Common.{ap, subst, sym, ◌∙◌}
 use Rattle.std.proofs.lemmas.List.{length-map}
 use Rattle.std.proofs.lemmas.Option.{slice_get-map}
@@ -35,7 +32,7 @@ as_played {D = D} tag plan turns probes faults script mode k window w home after
   replay = subst (λ ts. IsReplay (setting_on script mode k home) window.probes window.probes ts window.seed is.play) same
       (subst (λ v. IsReplay v window.probes window.probes picks window.seed is.play) here (subst (λ n. IsReplay hub.setting n window.probes picks window.seed is.play) opened.rounds_are is.is_replay));
   history = is.history;
-  commits = λ r run. subst (λ v. ((reading v (history_of closed)).run r).ended ≡ Some Committed) here (is.commits r (ap (λ v. is_run v.runs r) here ∙ run));
+  ends = subst (λ v. RunsHaveEnded v closed) here is.ends;
   kinds = is.kinds ∙ ap (λ v. v.kinds) here;
   last = is.last;
   opened = is.opened ∙ ap (λ n. n + 1) opened.windows;

@@ -7,7 +7,7 @@ use Rattle.home_types.specs.Listed.{Listed}
 use Rattle.home_types.specs.declared.modes.Mode.{Mode}
 use Rattle.hub_core.specs.Homes.{AreNew, HomeState}
 use Rattle.hub_core.specs.LegalDays.{IsLegalCutDay, IsLegalDay}
-use Rattle.hub_commands.proofs.DaysUnderWay.{cut_is_legal, day_is_legal, starts}
+use Rattle.hub_commands.proofs.DaysUnderWay.{cut_is_legal, day_is_legal, no_window, starts}
 use Rattle.hub_commands.proofs.Texts.{appends_keeps, appends_more, due_whole, keeps_appends, part_more, part_wider, text_more, text_starts, text_whole, whole_first}
 use Rattle.hub_commands.specs.Days.{DevicesAreProbed, IsUnderWay, WindowsArePlayed, text_due, text_so_far}
 use Rattle.hub_commands.specs.Finishes.{AppendsFirst, IsCut, IsStarved, IsWhole, ReplayEnds, Shown, Writes, written}
@@ -213,9 +213,6 @@ starved shown script options held holds f f_after home records windows day why u
       calm = under.calm;
     } in
     subst (λ (w : Option Fault). ReplayEnds shown script options (written held holds f f_after) day w) (sym because) ends
-
-no_window : (script : Script) (mode : Mode) → WindowsArePlayed script mode [] []
-no_window script mode = record { count = omega (arith); legal = λ k c at. absurd (cc); replays = record { count = refl; each = λ k w c p w_at at p_at. absurd (cc) }; commit = λ k r c at is. absurd (cc) }
 
 -- no memory for the home
 pub unbuilt : {D : Type 0} (shown : Shown D) (script : Script) (options : Options) (held : Option (List ℕ)) (f : ℕ) (windows : Listed WindowRecord) (day : Option (Day D)) (why : Option Fault)

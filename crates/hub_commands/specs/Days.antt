@@ -1,17 +1,14 @@
 -- A day under way: what was played and written of it.
-use Rattle.command_rules.specs.Rosters.{is_run}
 use Rattle.day_report.specs.Days.{head_text, total_text, window_texts}
-use Rattle.history_book.specs.Histories.{reading}
-use Rattle.history_book.specs.declared.entries.End.TheVariants.{Committed}
 use Rattle.history_book.specs.declared.records.WindowRecord.{WindowRecord}
 use Rattle.home_types.specs.HomeStates.{stand_at}
 use Rattle.home_types.specs.declared.modes.Mode.{Mode}
 use Rattle.hub_core.specs.Homes.{HomeState}
 use Rattle.hub_core.specs.LegalDays.{DevicesAreLeft, RecordsAreLegal, setting_of, state_after}
-use Rattle.hub_core.specs.LegalWindows.{history_of}
-use Rattle.routine_reader.specs.Rosters.{kinds_of, script_runs}
+use Rattle.routine_reader.specs.Rosters.{kinds_of}
 use Rattle.routine_reader.specs.declared.scripts.Script.{Script}
 use Rattle.routine_reader.specs.declared.scripts.WindowText.{WindowText}
+use Rattle.run_replay.specs.ReplayedWindows.{RunsHaveEnded}
 use Rattle.run_replay.specs.Replays.{IsReplay, Play}
 use Rattle.std.specs.Prelude.{Bool, List, Option, Some, [], if◌then◌else◌, length, slice_get, true, ℕ, ◌+◌, ◌++◌, ◌-◌, ◌<◌, ◌==◌, ◌∷◌, ◌≡◌, ◌≤◌}
 
@@ -32,17 +29,16 @@ probes_taken [] plays d = 0
 probes_taken (window ∷ windows) [] d = 0
 probes_taken (window ∷ windows) (p ∷ plays) d = (window.probes - p.configuration.probes d) + probes_taken windows plays d
 
--- every run of the windows is committed
-abbrev pub AllCommit : Script → Mode → List WindowRecord → Type 0
-AllCommit script mode records = (k r : ℕ) (closed : WindowRecord) → slice_get records k ≡ Some closed → is_run (script_runs script k) r ≡ true
-    → ((reading (setting_of script mode records k) (history_of closed)).run r).ended ≡ Some Committed
+-- in each window every run has ended, and each that has no must `check` has committed
+abbrev pub AllHaveEnded : Script → Mode → List WindowRecord → Type 0
+AllHaveEnded script mode records = (k : ℕ) (closed : WindowRecord) → slice_get records k ≡ Some closed → RunsHaveEnded (setting_of script mode records k) closed
 
--- the windows so far are legal, each the replay of its turns and its seed, and every run is committed
+-- the windows so far are legal, each the replay of its turns and its seed, and every run has ended
 pub record WindowsArePlayed (script : Script) (mode : Mode) (records : List WindowRecord) (plays : List Play) : Type 0 where
   pub count : length records ≤ length script.windows.items
   pub legal : RecordsAreLegal script mode records
   pub replays : AreReplays script mode records plays
-  pub commit : AllCommit script mode records
+  pub ends : AllHaveEnded script mode records
 
 -- the devices were probed as often as the replays took probes of them
 abbrev pub DevicesAreProbed : {D : Type 0} → (D → ℕ) → Script → List Play → List D → Type 0
@@ -57,7 +53,7 @@ pub record IsUnderWay {D : Type 0} (tag : D → ℕ) (plan : D → Option (List 
   pub kinds : home.kinds ≡ kinds_of script
   pub world : home.world ≡ state_after script records (length records)
   pub opened : home.opened ≡ length records
-  -- in this stage no device fails
+  -- in this stage each device is up when a window has ended
   pub up : (d : ℕ) → d < length home.world → (stand_at home.world d).up ≡ true
 
 -- the device after a window: the same one, whose calls rose as the record says, and its probes by those that the replay took

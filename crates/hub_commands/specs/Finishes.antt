@@ -96,8 +96,8 @@ pub record Shown (D : Type 0) : Type 0 where
 abbrev pub shown_by : {D : Type 0} → (D → ℕ) → (D → Option (List (ℕ × ℕ))) → (D → ℕ) → (D → ℕ) → (D → ℕ) → (D → ℕ) → Shown D
 shown_by tag plan stands turns probes faults = record { tag = tag; plan = plan; stands = stands; turns = turns; probes = probes; faults = faults }
 
--- the day that is handed back is whole and legal in the mode of the words, each of its windows is the replay of its turns and its seed, every run is committed, and the sink got its text;
--- no mode that is built has the weak model, so in each window the printed order holds each committed run once, the answers and the last state are those of its serial execution, and the devices stand so
+-- the day that is handed back is whole and legal in the mode of the words, each of its windows is the replay of its turns and its seed, in each every run has ended and each that has no must `check` has committed, and the sink got its text;
+-- no mode that is built has the weak model, so in each window the printed order holds each committed run once, and the answers and the last state are those of its serial execution; at the day's end each device that is up stands so
 pub record IsWhole {D : Type 0} (shown : Shown D) (script : Script) (options : Options) (sink : Writes) (o : Option (Day D)) : Type 0 where
   pub day : Day D
   pub given : o ≡ Some day

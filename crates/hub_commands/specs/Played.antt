@@ -1,17 +1,15 @@
 -- What playing a window leaves.
-use Rattle.command_rules.specs.Rosters.{is_run}
-use Rattle.history_book.specs.Histories.{reading}
 use Rattle.history_book.specs.Settings.{Setting}
-use Rattle.history_book.specs.declared.entries.End.TheVariants.{Committed}
 use Rattle.history_book.specs.declared.records.WindowRecord.{WindowRecord}
 use Rattle.home_types.specs.HomeStates.{stand_at}
 use Rattle.home_types.specs.declared.modes.Mode.{Mode}
 use Rattle.hub_core.specs.Homes.{HomeState}
-use Rattle.hub_core.specs.LegalWindows.{IsLegalWindow, history_of}
+use Rattle.hub_core.specs.LegalWindows.{IsLegalWindow}
 use Rattle.hub_commands.specs.Days.{IsPlayedOn, IsUnderWay}
 use Rattle.routine_reader.specs.Rosters.{script_runs}
 use Rattle.routine_reader.specs.declared.scripts.Script.{Script}
 use Rattle.routine_reader.specs.declared.scripts.WindowText.{WindowText}
+use Rattle.run_replay.specs.ReplayedWindows.{RunsHaveEnded}
 use Rattle.run_replay.specs.Replays.{IsReplay, Play}
 use Rattle.std.specs.Prelude.{List, Option, Some, length, slice_get, slice_index_or, true, ℕ, [], ◌+◌, ◌++◌, ◌∷◌, ◌-◌, ◌<◌, ◌≡◌}
 
@@ -27,7 +25,7 @@ pub record IsPlayed {D : Type 0} (tag : D → ℕ) (plan : D → Option (List (�
   pub legal : IsLegalWindow (setting_on script mode k before) closed
   pub replay : IsReplay (setting_on script mode k before) window.probes window.probes window.turns.items window.seed play
   pub history : closed.history.items ≡ play.configuration.history
-  pub commits : (r : ℕ) → is_run (script_runs script k) r ≡ true → ((reading (setting_on script mode k before) (history_of closed)).run r).ended ≡ Some Committed
+  pub ends : RunsHaveEnded (setting_on script mode k before) closed
   pub kinds : after.kinds ≡ before.kinds
   pub last : after.world ≡ closed.last.devices.items
   pub opened : after.opened ≡ before.opened + 1

@@ -18,8 +18,8 @@ const TWO_WINDOWS: &str =
 const READS: &str =
     r#"{"safehome":1,"devices":[{"name":"oven","states":["off","on"],"start":"off"},{"name":"heat","low":10,"high":30,"start":18}],"routines":[{"name":"a","commands":[{"on":"heat","do":"store"},{"on":"heat","do":"load"},{"on":"oven","do":"store"}]}],"windows":[{"at":"2021-04-26T07:00:00","runs":[{"routine":"a"}]}]}"#;
 
-const MUST_CHECK: &str =
-    r#"{"safehome":1,"devices":[{"name":"lamp","states":["off","on"],"start":"off"}],"routines":[{"name":"light","commands":[{"on":"lamp","do":"check","to":"on"}]}],"windows":[]}"#;
+const FAILING_LAMP: &str =
+    r#"{"safehome":1,"devices":[{"name":"lamp","states":["off","on"],"start":"off","down":[[1,2]]}],"routines":[],"windows":[]}"#;
 
 const NO_NAME: &str =
     r#"{"safehome":1,"devices":[{"name":"lamp","states":["off","on"],"start":"off"}],"routines":[{"name":"light","commands":[{"on":"fan","do":"set","to":"on"}]}],"windows":[]}"#;
@@ -109,7 +109,7 @@ fn refusals_by_name(rt: HostRuntime) -> Result<(), Fail> {
     let cut = on(r#"{"safehome":1,"dev"#);
     assert!(rt; ends_so(alloc, &cut, 1, "script: not json", "")?);
     assert!(rt; ends_so(alloc, &on("[]"), 1, "script: shape top", "")?);
-    assert!(rt; ends_so(alloc, &on(MUST_CHECK), 8, "later command 1.1", "")?);
+    assert!(rt; ends_so(alloc, &on(FAILING_LAMP), 8, "later device 1", "")?);
     assert!(rt;
         ends_so(
             alloc,

@@ -4,16 +4,15 @@ use Rattle.device_gate.specs.Calls.{has_died}
 use Rattle.device_gate.specs.declared.slips.Told.TheVariants.{Died, Sensed, Worked}
 use Rattle.device_gate.specs.declared.slips.Told.{Told}
 use Rattle.history_book.proofs.Once.{count_append}
-use Rattle.history_book.proofs.Snoc.{entries_on, put_keeps}
-use Rattle.history_book.specs.Histories.{entries_of, entry, kept_by, reading}
-use Rattle.history_book.specs.Readings.{Reading, next_of}
+use Rattle.history_book.proofs.Snoc.{entries_on, put_keeps, put_other}
+use Rattle.history_book.specs.Histories.{entries_of, entry, reading}
+use Rattle.history_book.specs.Readings.{Reading, is_doomed, next_of}
 use Rattle.history_book.specs.Settings.{Setting}
-use Rattle.history_book.specs.declared.entries.Cause.TheVariants.{MustDown}
-use Rattle.history_book.specs.declared.entries.End.TheVariants.{Aborted, Committed}
+use Rattle.history_book.specs.declared.entries.Cause.TheVariants.{MustDown, Refuted}
 use Rattle.history_book.specs.declared.entries.Entry.{Entry}
 use Rattle.history_book.specs.declared.entries.Entry.TheVariants.{Arrived, Did, Doomed, Ended, Fell, Placed, Rose, Undid}
 use Rattle.home_types.specs.declared.commands.Answer.TheVariants.{Down, Fine, Found}
-use Rattle.home_types.specs.Commands.{register_after}
+use Rattle.home_types.specs.Commands.{fails, register_after}
 use Rattle.home_types.specs.declared.commands.Command.{Command}
 use Rattle.home_types.specs.declared.commands.Job.{Job}
 use Rattle.home_types.specs.declared.commands.Job.TheVariants.{Check, Load, Set, Store}
@@ -21,13 +20,13 @@ use Rattle.hub_core.proofs.Afters.{read_with, take_history}
 use Rattle.hub_core.proofs.Choices.{decide_is}
 use Rattle.hub_core.proofs.Takes.{made_by}
 use Rattle.hub_core.specs.AccountedCalls.{tells_call, told_calls, told_falls}
-use Rattle.hub_core.specs.HubKept.{is_plain}
-use Rattle.hub_core.specs.Steps.{Choice, Moves, after_take, answer_told, choice_of, decide, down_entries, with_entries}
-use Rattle.lock_leasing.specs.Configurations.{Configuration, Grips, read_of}
+use Rattle.hub_core.specs.HubKept.{is_of_run, is_plain}
+use Rattle.hub_core.specs.Steps.{Choice, Moves, after_give, after_take, choice_of, decide, down_entries, give_entries, with_entries}
+use Rattle.lock_leasing.specs.Configurations.{Commands, Configuration, Grip, Grips, Probes, Purpose, Undoes, read_of}
 use Rattle.std.proofs.Common.{ap, arith, refl, ◌∙◌}
 use Rattle.std.proofs.lemmas.Grind.{common_steps}
 use Rattle.std.specs.List.{list_all}
-use Rattle.std.specs.Prelude.{Bool, IsTrue, List, [], count_by, false, fold, if◌then◌else◌, max, true, ℕ, ◌++◌, ◌+◌, ◌==◌, ◌∷◌, ◌≡◌}
+use Rattle.std.specs.Prelude.{Bool, IsTrue, List, [], count_by, false, fold, if◌then◌else◌, max, not, true, ℕ, ⊤, ◌&&◌, ◌+◌, ◌==◌, ◌∷◌, ◌≡◌, ◌≢◌}
 
 -- the calls of a history with the entries of a step more
 pub calls_with : (s : Configuration) (maker : ℕ) (entries : List Entry) (d : ℕ) → told_calls s.setting.runs (entries_of (with_entries s maker entries).history) d ≡ told_calls s.setting.runs (entries_of s.history) d + told_calls s.setting.runs entries d
@@ -70,15 +69,65 @@ take_calls s r m d =
     none_more : (k : ℕ) → k + 0 ≡ k
     none_more k = omega arith
 
--- a command that worked is one call of its device
-pub give_calls : (s : Configuration) (r k d e : ℕ) (told : Told) → (command_at s.setting.runs r k).device.0 ≡ d → has_died told ≡ false
-    → told_calls s.setting.runs (entries_of (s.history ++ kept_by r (Did (run_no r) k (answer_told told) ∷ []))) e ≡ told_calls s.setting.runs (entries_of s.history) e + (if d == e then 1 else 0)
-give_calls s r k d e told on lives = calls_with s r (Did (run_no r) k (answer_told told) ∷ []) e ∙ ap (λ x. told_calls s.setting.runs (entries_of s.history) e + x) (here told lives)
+-- A device that comes home
+
+-- the device of a command is the one that is out for it
+abbrev pub IsOutFor : Configuration → ℕ → Grip → Type 0
+IsOutFor s d grip = by_purpose grip.purpose
   where
-    here : (t : Told) → has_died t ≡ false → told_calls s.setting.runs (Did (run_no r) k (answer_told t) ∷ []) e ≡ (if d == e then 1 else 0)
-    here Worked alive = rw on (grind (arith, common_steps))
-    here (Sensed x) alive = rw on (grind (arith, common_steps))
-    here Died alive = absurd (cc)
+    by_purpose : Purpose → Type 0
+    by_purpose (Commands k) = (command_at s.setting.runs grip.maker k).device.0 ≡ d
+    by_purpose (Undoes v) = ⊤
+    by_purpose (Probes value) = ⊤
+
+-- a command or an undo that worked is one call of its device
+pub give_calls : (s : Configuration) (d e : ℕ) (grip : Grip) (told : Told) → is_of_run grip.purpose ≡ true → IsOutFor s d grip → has_died told ≡ false
+    → told_calls s.setting.runs (entries_of (after_give s d grip told).history) e ≡ told_calls s.setting.runs (entries_of s.history) e + (if d == e then 1 else 0)
+give_calls s d e grip told of_run on lives = calls_with s grip.maker (give_entries s.setting (read_of s) d grip told) e ∙ ap (λ x. told_calls s.setting.runs (entries_of s.history) e + x) (by_purpose grip.purpose told of_run on lives)
+  where
+    r : ℕ
+    r = grip.maker
+
+    runs : List Run
+    runs = s.setting.runs
+
+    by_purpose : (p : Purpose) (t : Told) → is_of_run p ≡ true → IsOutFor s d (record { maker = r; purpose = p }) → has_died t ≡ false → told_calls runs (give_entries s.setting (read_of s) d (record { maker = r; purpose = p }) t) e ≡ (if d == e then 1 else 0)
+    by_purpose (Commands k) Worked run at alive = rw at (grind (arith, common_steps))
+    by_purpose (Commands k) (Sensed x) run at alive = elim (fails (command_at runs r k) (Found x) && not (is_doomed (read_of s) r)) as (λ b. told_calls runs (Did (run_no r) k (Found x) ∷ (if b then Doomed (run_no r) (Refuted k x) ∷ [] else [])) e ≡ (if d == e then 1 else 0)) [
+      | true ↦ rw at (grind (arith, common_steps))
+      | false ↦ rw at (grind (arith, common_steps))
+    ]
+    by_purpose (Commands k) Died run at alive = absurd (cc)
+    by_purpose (Undoes v) Worked run at alive = grind (arith, common_steps)
+    by_purpose (Undoes v) (Sensed x) run at alive = grind (arith, common_steps)
+    by_purpose (Undoes v) Died run at alive = absurd (cc)
+    by_purpose (Probes value) t run at alive = absurd (cc)
+
+-- its entries tell of its run alone
+pub give_others : (s : Configuration) (d q : ℕ) (grip : Grip) (told : Told) → is_of_run grip.purpose ≡ true → has_died told ≡ false → q ≢ grip.maker
+    → (reading s.setting (entries_of (after_give s d grip told).history)).run q ≡ (read_of s).run q
+give_others s d q grip told of_run lives other = ap (λ (n : Reading). n.run q) (read_with s r (give_entries w n d grip told)) ∙ by_purpose grip.purpose told of_run lives
+  where
+    w : Setting
+    w = s.setting
+
+    n : Reading
+    n = read_of s
+
+    r : ℕ
+    r = grip.maker
+
+    by_purpose : (p : Purpose) (t : Told) → is_of_run p ≡ true → has_died t ≡ false → (fold (entry w) n (give_entries w n d (record { maker = r; purpose = p }) t)).run q ≡ n.run q
+    by_purpose (Commands k) Worked run alive = put_other n.run r _ q other
+    by_purpose (Commands k) (Sensed x) run alive = elim (fails (command_at w.runs r k) (Found x) && not (is_doomed n r)) as (λ b. (fold (entry w) n (Did (run_no r) k (Found x) ∷ (if b then Doomed (run_no r) (Refuted k x) ∷ [] else []))).run q ≡ n.run q) [
+      | true ↦ put_other (entry w n (Did (run_no r) k (Found x))).run r _ q other ∙ put_other n.run r _ q other
+      | false ↦ put_other n.run r _ q other
+    ]
+    by_purpose (Commands k) Died run alive = absurd (cc)
+    by_purpose (Undoes v) Worked run alive = put_other n.run r _ q other
+    by_purpose (Undoes v) (Sensed x) run alive = put_other n.run r _ q other
+    by_purpose (Undoes v) Died run alive = absurd (cc)
+    by_purpose (Probes value) t run alive = absurd (cc)
 
 -- The step of a run changes no register
 
@@ -133,9 +182,8 @@ no_falls (Placed r at m ∷ h) d plain = no_falls h d plain
 no_falls (Did r c Fine ∷ h) d plain = no_falls h d plain
 no_falls (Did r c (Found x) ∷ h) d plain = no_falls h d plain
 no_falls (Did r c Down ∷ h) d plain = absurd (cc)
-no_falls (Undid r e drove ∷ h) d plain = absurd (cc)
+no_falls (Undid r e drove ∷ h) d plain = no_falls h d (grind (arith, common_steps))
 no_falls (Fell e ∷ h) d plain = absurd (cc)
 no_falls (Rose e ∷ h) d plain = absurd (cc)
-no_falls (Doomed r cause ∷ h) d plain = absurd (cc)
-no_falls (Ended r Committed ∷ h) d plain = no_falls h d plain
-no_falls (Ended r (Aborted cause) ∷ h) d plain = absurd (cc)
+no_falls (Doomed r cause ∷ h) d plain = no_falls h d (grind (arith, common_steps))
+no_falls (Ended r end ∷ h) d plain = no_falls h d plain

@@ -66,6 +66,7 @@ pub record Undoing (w : Setting) (n : Reading) (g : Grips) (r d : ℕ) (cause : 
   pub device : is_device w d ≡ true
   pub effect : has_effect n g r d ≡ true
   pub home : is_out g d ≡ false
+  pub next : next_undo_of w n g r ≡ Some d
 
 -- of a run with a next command
 pub record Commanding (w : Setting) (n : Reading) (g : Grips) (r : ℕ) (c : Command) : Type 0 where
@@ -135,7 +136,7 @@ doomed_is P w n g r m each cause act doomed = elim (is_weak w.mode) as (λ b. is
       where
         undoing : Undoing w n g r d cause
         undoing = let found = each_found (λ x. (is_device w x ≡ true) × (touches w.runs r x ≡ true)) (has_effect n g r) (devices_of w r) d (own_devices w r) at in
-            record { act = act; doomed = doomed; strong = strong; device = found.0.0; effect = found.1; home = undo_home w n g r d none at }
+            record { act = act; doomed = doomed; strong = strong; device = found.0.0; effect = found.1; home = undo_home w n g r d none at; next = at }
 
 command_is_next : (P : Choice → Type 0) (w : Setting) (n : Reading) (g : Grips) (r m : ℕ) → HoldsOfEach P w n g r m → (c : Command) → Commanding w n g r c → P (decide_command w n g r m (next_of n r) c)
 command_is_next P w n g r m each c run = elim (is_weak w.mode) as (λ b. is_weak w.mode ≡ b → P (first_case (command_cases b w n g r m (next_of n r) c) (HandsOut c.device.0 (Commands (next_of n r))))) [

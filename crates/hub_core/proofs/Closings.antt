@@ -1,17 +1,26 @@
 -- What a window has to be that is closed in this stage.
-use Rattle.command_rules.specs.Rosters.{device_no, is_run, run_no}
+use Rattle.command_rules.specs.Rosters.{command_at, commands_of, device_no, is_run, no_command, run_no}
+use Rattle.history_book.proofs.Shapes.{shapes}
+use Rattle.history_book.proofs.Standing.{is_abort}
 use Rattle.history_book.specs.Histories.{entries_of, line_of}
-use Rattle.history_book.specs.Readings.{is_committing}
-use Rattle.history_book.specs.Settings.{device_numbers, is_device, run_numbers}
+use Rattle.history_book.specs.Settings.{Setting, device_numbers, is_device, run_numbers}
 use Rattle.history_book.specs.WellFormed.{IsWellFormed}
+use Rattle.history_book.specs.declared.entries.Cause.TheVariants.{DownAtEnd, Lost, MustDown, Refuted, Revoked}
+use Rattle.history_book.specs.declared.entries.Cause.{Cause}
 use Rattle.history_book.specs.declared.entries.End.{End}
 use Rattle.history_book.specs.declared.entries.End.TheVariants.{Aborted, Committed}
 use Rattle.history_book.specs.declared.entries.Entry.{Entry}
 use Rattle.history_book.specs.declared.records.WindowRecord.{WindowRecord}
+use Rattle.home_types.specs.Commands.{fails, refutes}
 use Rattle.home_types.specs.HomeStates.{stand_at}
+use Rattle.home_types.specs.declared.commands.Answer.TheVariants.{Found}
+use Rattle.home_types.specs.declared.commands.Command.{Command}
+use Rattle.home_types.specs.declared.commands.Job.TheVariants.{Check, Load, Set, Store}
+use Rattle.home_types.specs.declared.commands.Job.{Job}
 use Rattle.home_types.specs.declared.worlds.Stand.{Stand}
 use Rattle.hub_core.proofs.Sizes.{run_there, run_within}
 use Rattle.hub_core.proofs.StageChoices.{StepsPlainly, steps_plainly}
+use Rattle.hub_core.proofs.StageFacts.{dooms_are_refuted, is_refuted}
 use Rattle.hub_core.specs.AccountedCalls.{CallsAreAccounted}
 use Rattle.hub_core.specs.Agreement.{AgreesWithSerial}
 use Rattle.hub_core.specs.CleanReads.{ReadsAreClean}
@@ -20,15 +29,16 @@ use Rattle.hub_core.specs.Isolation.{IsStrict}
 use Rattle.hub_core.specs.JustifiedAborts.{IsJustified}
 use Rattle.hub_core.specs.LegalWindows.{IsLegalWindow, IsSeriallyLegal, IsWeaklyLegal, all_ended, history_of}
 use Rattle.hub_core.specs.Orders.{IsOrderFor}
+use Rattle.hub_core.specs.Stage.{has_must_check, is_check, is_must_check}
 use Rattle.hub_core.specs.Steps.{not_quiet}
 use Rattle.hub_core.specs.declared.refusals.NotQuiet.TheVariants.{StillLive, StillOut}
 use Rattle.lock_leasing.specs.Configurations.{Configuration, Grip, is_out, read_of}
 use Rattle.lock_leasing.specs.Places.{PlacesAreScheduled}
 use Rattle.std.proofs.Common.{ap, arith, cond, refl, subst, sym, ◌∙◌}
 use Rattle.std.proofs.lemmas.Grind.{common_steps}
-use Rattle.std.specs.List.{list_all, range_with_len}
+use Rattle.std.specs.List.{list_all, list_any, range_with_len}
 use Rattle.std.specs.Option.{option_or}
-use Rattle.std.specs.Prelude.{Bool, IsTrue, List, None, Option, Some, false, find, is_none, is_some, length, nat_lt, option_map, suc, true, unwrap_or, zero, ℕ, ◌+◌, ◌<◌, ◌==◌, ◌≡◌, ◌≢◌, ◌≤◌}
+use Rattle.std.specs.Prelude.{Bool, IsTrue, List, None, Option, Some, [], false, find, is_none, is_some, length, nat_lt, option_map, slice_index_or, suc, true, unwrap_or, zero, ℕ, ◌&&◌, ◌+◌, ◌<◌, ◌==◌, ◌||◌, ◌∷◌, ◌≡◌, ◌≢◌, ◌≤◌}
 use Rattle.window_order.proofs.ReadFacts.{read_facts}
 use Rattle.window_order.proofs.WindowEnds.{AgreesAtEnd, NoneIsLive, agrees_where_home, logs_own_events, none_is_live, order_events, order_following_none, order_runs}
 
@@ -78,14 +88,51 @@ quiet_is s quiet =
     below : (d : ℕ) → is_device s.setting d ≡ true → d < 0 + length s.setting.first
     below d device = let less : nat_lt d (length s.setting.first) ≡ true = device in grind (arith, common_steps)
 
--- a run has ended committed
-pub ended_committed : (s : Configuration) (rounds opened : ℕ) (held : ℕ → ℕ) (r : ℕ) → ConfigurationIsKept s rounds opened held → IsQuiet s → is_run s.setting.runs r ≡ true → ((read_of s).run r).ended ≡ Some Committed
-ended_committed s rounds opened held r kept quiet run = committed ((read_of s).run r).ended (quiet.ended r run) (((steps_plainly s rounds opened held kept).read.runs r).ended)
+-- a command that fails by what it found is a must `check`
+fails_is : (c : Command) (x : ℕ) → fails c (Found x) ≡ true → is_must_check c ≡ true
+fails_is c x e = by_job c.must c.job e
   where
-    committed : (o : Option End) → is_some o ≡ true → unwrap_or (option_map is_committing o) true ≡ true → o ≡ Some Committed
-    committed None e f = absurd (cc)
-    committed (Some Committed) e f = refl
-    committed (Some (Aborted cause)) e f = absurd (cc)
+    never : (b : Bool) → (b && false) ≡ true → ⊥
+    never true f = absurd (cc)
+    never false f = absurd (cc)
+
+    by_job : (must : Bool) (job : Job) → (must && refutes job (Found x)) ≡ true → (must && is_check job) ≡ true
+    by_job true (Check v) f = refl
+    by_job false (Check v) f = absurd (cc)
+    by_job must (Set v) f = absurd (never must f)
+    by_job must Load f = absurd (never must f)
+    by_job must Store f = absurd (never must f)
+
+-- .. of the run
+check_is : (cs : List Command) (k : ℕ) → is_must_check (slice_index_or cs k no_command) ≡ true → list_any is_must_check cs ≡ true
+check_is [] k e = absurd (cc)
+check_is (c ∷ cs) zero e = ap (λ b. b || list_any is_must_check cs) e
+check_is (c ∷ cs) (suc k) e = ap (λ b. is_must_check c || b) (check_is cs k e) ∙ either (is_must_check c)
+  where
+    either : (b : Bool) → (b || true) ≡ true
+    either true = refl
+    either false = refl
+
+-- so a run that has none is not doomed
+sound_without : (w : Setting) (r : ℕ) (doom : Option Cause) → is_refuted w r doom ≡ true → has_must_check w.runs r ≡ false → is_some doom ≡ false
+sound_without w r None shown none = refl
+sound_without w r (Some (MustDown c)) shown none = absurd (cc)
+sound_without w r (Some (Refuted c x)) shown none = absurd (let both : true ≡ false = sym (check_is (commands_of w.runs r) c (fails_is (command_at w.runs r c) x shown)) ∙ none in cc)
+sound_without w r (Some (Lost d)) shown none = absurd (cc)
+sound_without w r (Some (Revoked lender d deadline m)) shown none = absurd (cc)
+sound_without w r (Some (DownAtEnd d)) shown none = absurd (cc)
+
+-- and has ended committed
+pub ended_committed : (s : Configuration) (rounds opened : ℕ) (held : ℕ → ℕ) (r : ℕ) → ConfigurationIsKept s rounds opened held → IsQuiet s → is_run s.setting.runs r ≡ true → has_must_check s.setting.runs r ≡ false → ((read_of s).run r).ended ≡ Some Committed
+ended_committed s rounds opened held r kept quiet run none = committed ((read_of s).run r).ended (quiet.ended r run) (λ aborts. (shapes s.setting (entries_of s.history) kept.history.well_formed r).aborts aborts)
+  where
+    sound : is_some ((read_of s).run r).doomed ≡ false
+    sound = sound_without s.setting r ((read_of s).run r).doomed (dooms_are_refuted s.setting (entries_of s.history) kept.history.plain kept.history.justified r) none
+
+    committed : (o : Option End) → is_some o ≡ true → (unwrap_or (option_map is_abort o) false ≡ true → is_some ((read_of s).run r).doomed ≡ true) → o ≡ Some Committed
+    committed None e doomed = absurd (cc)
+    committed (Some Committed) e doomed = refl
+    committed (Some (Aborted cause)) e doomed = absurd (let both : true ≡ false = sym (doomed refl) ∙ sound in cc)
 
 -- and no device is out
 pub none_out : (s : Configuration) (rounds opened : ℕ) (held : ℕ → ℕ) (d : ℕ) → ConfigurationIsKept s rounds opened held → IsQuiet s → s.grips d ≡ None

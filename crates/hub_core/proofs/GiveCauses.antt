@@ -90,7 +90,7 @@ undo_shows w n r d Worked = refl
 undo_shows w n r d (Sensed x) = refl
 undo_shows w n r d Died = refl
 
-sensed_shows : (w : Setting) (n : Reading) (r x : ℕ) → ShowsAll w n (command_entries w n r (next_of n r) (Sensed x))
+pub sensed_shows : (w : Setting) (n : Reading) (r x : ℕ) → ShowsAll w n (command_entries w n r (next_of n r) (Sensed x))
 sensed_shows w n r x = elim (fails (command_at w.runs r (next_of n r)) (Found x)) as (λ b. fails (command_at w.runs r (next_of n r)) (Found x) ≡ b → IsTrue (along w (abort_is_justified w) later (if b && not (is_doomed n r) then doom else []))) [
   | true ↦ (λ e. elim (is_doomed n r) as (λ b. IsTrue (along w (abort_is_justified w) later (if not b then doom else []))) [
     | true ↦ refl

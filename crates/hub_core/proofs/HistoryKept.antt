@@ -1,33 +1,34 @@
 -- What is kept of a history and the grips, with one entry more.
-use Rattle.command_rules.specs.Rosters.{run_no, touches}
-use Rattle.history_book.proofs.Frames.{did_live}
+use Rattle.command_rules.specs.Rosters.{device_no, run_no, touches}
+use Rattle.history_book.proofs.Frames.{did_live, doomed_live}
 use Rattle.history_book.proofs.Lines.{any_taken}
 use Rattle.history_book.proofs.Searches.{Each, own_devices}
 use Rattle.history_book.proofs.Shapes.{shapes}
 use Rattle.history_book.proofs.Snoc.{Along_more, each_more, entries_on, put_keeps, put_other, put_same}
 use Rattle.history_book.proofs.Standing.{Standing, standing, stands_in}
-use Rattle.history_book.specs.Histories.{entries_of, entry, kept_by, reading}
-use Rattle.history_book.specs.Lines.{before, is_ran}
+use Rattle.history_book.specs.Histories.{entries_of, entry, kept_by, moment_of, reading}
+use Rattle.history_book.specs.Lines.{before, is_ran, without}
 use Rattle.history_book.specs.Plans.{planned_times, split_of}
 use Rattle.history_book.specs.Readings.{OfRun, PlacedAt, Reading, did, is_live, nothing_read, put}
 use Rattle.history_book.specs.Settings.{Setting, devices_of, is_device, is_strict}
 use Rattle.history_book.specs.WellFormed.{each_entry, may_follow}
-use Rattle.history_book.specs.declared.entries.End.TheVariants.{Committed}
+use Rattle.history_book.specs.declared.entries.Cause.{Cause}
+use Rattle.history_book.specs.declared.entries.End.TheVariants.{Aborted, Committed}
 use Rattle.history_book.specs.declared.entries.Entry.{Entry}
-use Rattle.history_book.specs.declared.entries.Entry.TheVariants.{Arrived, Did, Ended, Placed}
+use Rattle.history_book.specs.declared.entries.Entry.TheVariants.{Arrived, Did, Doomed, Ended, Placed, Undid}
 use Rattle.home_types.specs.declared.commands.Answer.{Answer}
 use Rattle.home_types.specs.declared.items.Item.TheVariants.{Ran}
 use Rattle.hub_core.proofs.Afters.{read_with}
-use Rattle.hub_core.proofs.LineOrder.{LineIsKnown, StampsAreBelow, before_more, end_line, is_alone_by, order_at_end, same_order, stamps_below, strict_fewer_by}
+use Rattle.hub_core.proofs.LineOrder.{StampsAreBelow, before_more, end_line, is_alone_by, live_before_without, order_at_end, order_without, same_order, stamps_below, strict_fewer_by}
 use Rattle.hub_core.proofs.StageChoices.{live_stands}
 use Rattle.hub_core.specs.CleanReads.{entry_is_clean}
-use Rattle.hub_core.specs.HubKept.{ActsInTurn, HistoryIsKept, is_plain, placed_in_order}
-use Rattle.hub_core.specs.Isolation.{is_isolated}
-use Rattle.hub_core.specs.JustifiedAborts.{abort_is_justified}
-use Rattle.lock_leasing.specs.Configurations.{Commands, Configuration, Grip, Grips, Purpose, grips_command, has_grip, is_command, read_of}
+use Rattle.hub_core.specs.HubKept.{ActsInTurn, HistoryIsKept, NoneAnsweredDoomed, is_plain, placed_in_order}
+use Rattle.hub_core.specs.Isolation.{is_alone, is_isolated}
+use Rattle.hub_core.specs.JustifiedAborts.{abort_is_justified, shows}
+use Rattle.lock_leasing.specs.Configurations.{Commands, Configuration, Grip, Grips, Purpose, Undoes, grips_command, has_grip, is_command, read_of}
 use Rattle.lock_leasing.specs.Places.{IsScheduled, PlacesAreScheduled}
 use Rattle.lock_leasing.specs.Waits.{strict_wait}
-use Rattle.lock_leasing.specs.Words.{has_touched, stamp_of}
+use Rattle.lock_leasing.specs.Words.{has_touched, live_before, live_runs, stamp_of}
 use Rattle.std.proofs.Common.{ap, arith, refl, subst, sym, ◌∙◌}
 use Rattle.std.proofs.lemmas.Grind.{common_steps}
 use Rattle.std.proofs.lemmas.List.Folds.{list_all-append}
@@ -45,6 +46,7 @@ pub record MayAdd (s : Configuration) (e : Entry) (m : ℕ) (g : Grips) : Type 0
   pub moment : (entry s.setting (read_of s) e).moment ≤ m
   pub in_order : IsTrue (placed_in_order (entry s.setting (read_of s) e) (entry s.setting (read_of s) e).line)
   pub in_turn : ActsInTurn s.setting (entry s.setting (read_of s) e) g
+  pub first : NoneAnsweredDoomed (entry s.setting (read_of s) e) g
 
 -- the configuration with one entry more
 abbrev pub added : Configuration → ℕ → ℕ → Grips → Entry → Configuration
@@ -62,6 +64,7 @@ history_added s maker m g e may kept =
       isolated = λ strict. subst (λ h. IsTrue (each_entry s.setting (is_isolated s.setting) h)) (sym entries) (each_more s.setting (is_isolated s.setting) (entries_of s.history) e (kept.isolated strict) (may.isolated strict));
       in_order = subst (λ n. IsTrue (placed_in_order n n.line)) (sym read) may.in_order;
       in_turn = subst (λ n. ActsInTurn s.setting n g) (sym read) may.in_turn;
+      first = subst (λ n. NoneAnsweredDoomed n g) (sym read) may.first;
     }
   where
     entries : entries_of (s.history ++ kept_by maker (e ∷ [])) ≡ entries_of s.history ++ e ∷ []
@@ -72,9 +75,15 @@ history_added s maker m g e may kept =
 
 -- Runs that act in turn
 
--- where the line stays, and no run becomes live
+-- where no run becomes live, and no other one stands before a live run
+turn_by : (w : Setting) (n m : Reading) (h : Grips) → ((q : ℕ) → is_live m q ≡ true → live_before m q ≡ live_runs m (before q n.line)) → ((q : ℕ) → is_live m q ≡ true → is_live n q ≡ true) → ((q d : ℕ) → IsTrue (is_live m q && (has_touched m h q d || has_grip h q d)) → strict_wait w n q ≡ None) → ActsInTurn w m h
+turn_by w n m h line fewer waitless q d acts = strict_fewer_by w.runs w.kinds w.first w.mode.model w.mode.scheduler n m q (line q (acting (is_live m q) (has_touched m h q d || has_grip h q d) acts)) (λ x there now. fewer x now) (waitless q d acts)
+  where
+    acting : (l a : Bool) → (l && a) ≡ true → l ≡ true
+    acting l a e = grind (arith, common_steps)
+
 turn_kept : (w : Setting) (n m : Reading) (h : Grips) → m.line ≡ n.line → ((q : ℕ) → is_live m q ≡ true → is_live n q ≡ true) → ((q d : ℕ) → IsTrue (is_live m q && (has_touched m h q d || has_grip h q d)) → strict_wait w n q ≡ None) → ActsInTurn w m h
-turn_kept w n m h line fewer waitless q d acts = strict_fewer_by w.runs w.kinds w.first w.mode.model w.mode.scheduler n m q (ap (before q) line) (λ x there now. fewer x now) (waitless q d acts)
+turn_kept w n m h line fewer waitless = turn_by w n m h (λ q now. ap (λ l. live_runs m (before q l)) line) fewer waitless
 
 -- a run that acts with less acts with more
 acts_more : (l t c h l' t' c' h' : Bool) → (l ≡ true → l' ≡ true) → (t ≡ true → t' ≡ true) → (c ≡ true → c' ≡ true) → (h ≡ true → h' ≡ true) → (l && ((t || c) || h)) ≡ true → (l' && ((t' || c') || h')) ≡ true
@@ -87,6 +96,32 @@ acts_more true false false false l' t' c' h' fl ft fc fh e = absurd (cc)
 same_true : {a b : Bool} → a ≡ b → a ≡ true → b ≡ true
 same_true p e = sym p ∙ e
 
+-- fewer grips are out
+abbrev pub AreFewer : Grips → Grips → Type 0
+AreFewer h g = (d : ℕ) (p : Grip) → h d ≡ Some p → g d ≡ Some p
+
+pub less_one : (g : Grips) (d : ℕ) → AreFewer (put g d None) g
+less_one g d e p = elim (e == d) as (λ b. (if b then None else g e) ≡ Some p → g e ≡ Some p) [ true ↦ (λ f. absurd (cc)) | false ↦ (λ f. f) ]
+
+-- what a test finds of a grip it found before
+fewer_pass : (g h : Grips) (test : Grip → Bool) (d : ℕ) → AreFewer h g → unwrap_or (option_map test (h d)) false ≡ true → unwrap_or (option_map test (g d)) false ≡ true
+fewer_pass g h test d less = by_grip (h d) refl
+  where
+    by_grip : (o : Option Grip) → h d ≡ o → unwrap_or (option_map test o) false ≡ true → unwrap_or (option_map test (g d)) false ≡ true
+    by_grip None at e = absurd (cc)
+    by_grip (Some p) at e = ap (λ o. unwrap_or (option_map test o) false) (less d p at) ∙ e
+
+-- where runs are as live as they were and have no more answers
+turn_less : (w : Setting) (n m : Reading) (g h : Grips) → m.line ≡ n.line → ((q : ℕ) → is_live m q ≡ true → is_live n q ≡ true) → ((q d : ℕ) → did m q d ≡ did n q d) → AreFewer h g → ActsInTurn w n g → ActsInTurn w m h
+turn_less w n m g h line fewer same less turn = turn_kept w n m h line fewer (λ q d acts. turn q d (acts_more _ _ _ _ _ _ _ _ (fewer q) (same_true (same q d)) (fewer_pass g h (λ p. (p.maker == q) && is_command p.purpose) d less) (fewer_pass g h (λ p. p.maker == q) d less) acts))
+
+-- a command that is out is still the first one since a doom
+first_less : (n m : Reading) (g h : Grips) → ((q : ℕ) → (m.run q).answered_doomed ≡ (n.run q).answered_doomed) → AreFewer h g → NoneAnsweredDoomed n g → NoneAnsweredDoomed m h
+first_less n m g h same less first d p out = ap (λ b. not (is_command p.purpose && b)) (same p.maker) ∙ first d p (less d p out)
+
+same_grips : (g : Grips) → AreFewer g g
+same_grips g d p e = e
+
 abbrev stamp_in : OfRun → ℕ
 stamp_in o = unwrap_or (option_map (λ p. p.stamp) o.placed) 0
 
@@ -95,16 +130,7 @@ order_kept : (n m : Reading) → m.line ≡ n.line → ((q : ℕ) → stamp_of m
 order_kept n m line same ordered = ap (placed_in_order m) line ∙ same_order n m n.line same ∙ ordered
 
 arrival_turn : (w : Setting) (n : Reading) (g : Grips) (r m : ℕ) → ActsInTurn w n g → ActsInTurn w (entry w n (Arrived (run_no r) m)) g
-arrival_turn w n g r m turn = turn_kept w n (entry w n (Arrived (run_no r) m)) g refl (λ q. same_true (live q)) (λ q d acts. turn q d (acts_more _ _ _ _ _ _ _ _ (same_true (live q)) (same_true (did_is q d)) (λ e. e) (λ e. e) acts))
-  where
-    new : OfRun
-    new = record (n.run r) { arrived = Some m }
-
-    live : (q : ℕ) → is_live (entry w n (Arrived (run_no r) m)) q ≡ is_live n q
-    live q = put_keeps (λ o. is_some o.placed && is_none o.ended) n.run r new refl q
-
-    did_is : (q d : ℕ) → did (entry w n (Arrived (run_no r) m)) q d ≡ did n q d
-    did_is q d = put_keeps (λ o. is_some (o.on d).view) n.run r new refl q
+arrival_turn w n g r m turn = turn_less w n (entry w n (Arrived (run_no r) m)) g g refl (λ q. same_true (put_keeps (λ o. is_some o.placed && is_none o.ended) n.run r _ refl q)) (λ q d. put_keeps (λ o. is_some (o.on d).view) n.run r _ refl q) (same_grips g) turn
 
 has_none : (g : Grips) (r : ℕ) → ((d : ℕ) → has_grip g r d ≡ false) → (d : ℕ) → grips_command g r d ≡ false
 has_none g r none d = by_grip (g d) (none d)
@@ -147,15 +173,9 @@ placing_turn w n g r m stands unplaced untouched' gripless turn q d acts = elim 
     others apart =
         let acts' : IsTrue (is_live n q && (has_touched n g q d || has_grip g q d)) = acts_more _ _ _ _ _ _ _ _ (same_true (live q apart)) (same_true (did_is q d)) (λ e. e) (λ e. e) acts in
         let there : list_any (is_ran q) n.line ≡ true = live_stands n q stands (grind (arith, common_steps)) in
-        strict_fewer_by w.runs w.kinds w.first w.mode.model w.mode.scheduler n then' q (ap (before q) (end_line w n r m) ∙ before_more q n.line (Ran (run_no r)) there) (λ x among now. same_true (live x (other x (any_taken (is_ran x) _ n.line among))) now) (turn q d acts')
+        strict_fewer_by w.runs w.kinds w.first w.mode.model w.mode.scheduler n then' q (ap (live_runs then') (ap (before q) (end_line w n r m) ∙ before_more q n.line (Ran (run_no r)) there)) (λ x among now. same_true (live x (other x (any_taken (is_ran x) _ n.line among))) now) (turn q d acts')
 
--- fewer devices are out
-
-drop_grip : (g : Grips) (d q e : ℕ) → has_grip (put g d None) q e ≡ true → has_grip g q e ≡ true
-drop_grip g d q e = elim (e == d) as (λ b. unwrap_or (option_map (λ p. p.maker == q) (if b then None else g e)) false ≡ true → has_grip g q e ≡ true) [ true ↦ (λ f. absurd (cc)) | false ↦ (λ f. f) ]
-
-drop_command : (g : Grips) (d q e : ℕ) → grips_command (put g d None) q e ≡ true → grips_command g q e ≡ true
-drop_command g d q e = elim (e == d) as (λ b. unwrap_or (option_map (λ p. (p.maker == q) && is_command p.purpose) (if b then None else g e)) false ≡ true → grips_command g q e ≡ true) [ true ↦ (λ f. absurd (cc)) | false ↦ (λ f. f) ]
+-- one device less is out
 
 pub holds_is : (g : Grips) (r d : ℕ) (p : Purpose) → g d ≡ Some (record { maker = r; purpose = p }) → has_grip g r d ≡ true
 holds_is g r d p out = ap (λ o. unwrap_or (option_map (λ x. x.maker == r) o) false) out ∙ self
@@ -166,7 +186,7 @@ holds_is g r d p out = ap (λ o. unwrap_or (option_map (λ x. x.maker == r) o) f
 answer_turn : (w : Setting) (n : Reading) (g : Grips) (r k d : ℕ) (a : Answer) → strict_wait w n r ≡ None → ActsInTurn w n g → ActsInTurn w (entry w n (Did (run_no r) k a)) (put g d None)
 answer_turn w n g r k d a waitless turn = turn_kept w n (entry w n (Did (run_no r) k a)) (put g d None) refl (λ q. same_true (live q)) (λ q e acts. elim (q == r) as (λ b. (q == r) ≡ b → strict_wait w n q ≡ None) [
   | true ↦ (λ at. let same : q ≡ r = grind (arith, common_steps) in subst (λ x. strict_wait w n x ≡ None) (sym same) waitless)
-  | false ↦ (λ at. turn q e (acts_more _ _ _ _ _ _ _ _ (same_true (live q)) (same_true (did_is q e (grind (arith, common_steps)))) (drop_command g d q e) (drop_grip g d q e) acts))
+  | false ↦ (λ at. turn q e (acts_more _ _ _ _ _ _ _ _ (same_true (live q)) (same_true (did_is q e (grind (arith, common_steps)))) (fewer_pass g (put g d None) (λ p. (p.maker == q) && is_command p.purpose) e (less_one g d)) (fewer_pass g (put g d None) (λ p. p.maker == q) e (less_one g d)) acts))
 ] refl)
   where
     live : (q : ℕ) → is_live (entry w n (Did (run_no r) k a)) q ≡ is_live n q
@@ -175,20 +195,53 @@ answer_turn w n g r k d a waitless turn = turn_kept w n (entry w n (Did (run_no 
     did_is : (q e : ℕ) → q ≢ r → did (entry w n (Did (run_no r) k a)) q e ≡ did n q e
     did_is q e other = ap (λ o. is_some (o.on e).view) (put_other n.run r _ q other)
 
-commit_turn : (w : Setting) (n : Reading) (g : Grips) (r : ℕ) → ActsInTurn w n g → ActsInTurn w (entry w n (Ended (run_no r) Committed)) g
-commit_turn w n g r turn = turn_kept w n (entry w n (Ended (run_no r) Committed)) g refl fewer (λ q d acts. turn q d (acts_more _ _ _ _ _ _ _ _ (fewer q) (same_true (did_is q d)) (λ e. e) (λ e. e) acts))
+-- the device of a run's one grip is home again: it has no other command out
+answer_first : (w : Setting) (n : Reading) (g : Grips) (r k d : ℕ) (a : Answer) → ((e : ℕ) (p : Purpose) → g e ≡ Some (record { maker = r; purpose = p }) → e ≡ d) → NoneAnsweredDoomed n g → NoneAnsweredDoomed (entry w n (Did (run_no r) k a)) (put g d None)
+answer_first w n g r k d a alone first e p out = elim (p.maker == r) as (λ b. (p.maker == r) ≡ b → not (is_command p.purpose && ((entry w n (Did (run_no r) k a)).run p.maker).answered_doomed) ≡ true) [
+  | true ↦ (λ at. absurd (let own : p.maker ≡ r = grind (arith, common_steps) in gone (alone e p.purpose (subst (λ x. g e ≡ Some (record { maker = x; purpose = p.purpose })) own (less_one g d e p out)))))
+  | false ↦ (λ at. let other : p.maker ≢ r = grind (arith, common_steps) in ap (λ o. not (is_command p.purpose && o.answered_doomed)) (put_other n.run r _ p.maker other) ∙ first e p (less_one g d e p out))
+] refl
   where
+    gone : e ≡ d → ⊥
+    gone same = let none : None ≡ Some p = sym (put_same g d None) ∙ ap (put g d None) (sym same) ∙ out in absurd (cc)
+
+ends_live : (n : Reading) (r : ℕ) (o : OfRun) → is_some o.ended ≡ true → (q : ℕ) → (is_some (put n.run r o q).placed && is_none (put n.run r o q).ended) ≡ true → is_live n q ≡ true
+ends_live n r o over q = elim (q == r) as (λ b. (is_some (if b then o else n.run q).placed && is_none (if b then o else n.run q).ended) ≡ true → is_live n q ≡ true) [
+  | true ↦ (λ e. absurd (grind (arith, common_steps)))
+  | false ↦ (λ e. e)
+]
+
+commit_turn : (w : Setting) (n : Reading) (g : Grips) (r : ℕ) → ActsInTurn w n g → ActsInTurn w (entry w n (Ended (run_no r) Committed)) g
+commit_turn w n g r turn = turn_less w n (entry w n (Ended (run_no r) Committed)) g g refl (ends_live n r (record (n.run r) { ended = Some Committed }) refl) (λ q d. put_keeps (λ o. is_some (o.on d).view) n.run r _ refl q) (same_grips g) turn
+
+-- a run that is aborted stands before no run
+aborted_turn : (w : Setting) (n : Reading) (g : Grips) (r : ℕ) (cause : Cause) → ActsInTurn w n g → ActsInTurn w (entry w n (Ended (run_no r) (Aborted cause))) g
+aborted_turn w n g r cause turn = turn_by w n m g (λ q now. live_before_without n m r q refl gone (stays q now)) fewer (λ q d acts. turn q d (acts_more _ _ _ _ _ _ _ _ (fewer q) (same_true (put_keeps (λ o. is_some (o.on d).view) n.run r new refl q)) (λ e. e) (λ e. e) acts))
+  where
+    m : Reading
+    m = entry w n (Ended (run_no r) (Aborted cause))
+
     new : OfRun
-    new = record (n.run r) { ended = Some Committed }
+    new = record (n.run r) { ended = Some (Aborted cause) }
 
-    fewer : (q : ℕ) → is_live (entry w n (Ended (run_no r) Committed)) q ≡ true → is_live n q ≡ true
-    fewer q = elim (q == r) as (λ b. (is_some (if b then new else n.run q).placed && is_none (if b then new else n.run q).ended) ≡ true → is_live n q ≡ true) [
-      | true ↦ (λ e. absurd (grind (arith, common_steps)))
-      | false ↦ (λ e. e)
-    ]
+    fewer : (q : ℕ) → is_live m q ≡ true → is_live n q ≡ true
+    fewer = ends_live n r new refl
 
-    did_is : (q d : ℕ) → did (entry w n (Ended (run_no r) Committed)) q d ≡ did n q d
-    did_is q d = put_keeps (λ o. is_some (o.on d).view) n.run r new refl q
+    over : (o : Bool) → (o && false) ≡ false
+    over true = refl
+    over false = refl
+
+    gone : is_live m r ≡ false
+    gone = ap (λ o. is_some o.placed && is_none o.ended) (put_same n.run r new) ∙ over (is_some (n.run r).placed)
+
+    stays : (q : ℕ) → is_live m q ≡ true → q ≢ r
+    stays q now same = let both : true ≡ false = sym now ∙ ap (is_live m) same ∙ gone in absurd (cc)
+
+doom_turn : (w : Setting) (n : Reading) (g : Grips) (r : ℕ) (cause : Cause) → ActsInTurn w n g → ActsInTurn w (entry w n (Doomed (run_no r) cause)) g
+doom_turn w n g r cause turn = turn_less w n (entry w n (Doomed (run_no r) cause)) g g refl (λ q. same_true (doomed_live w n (run_no r) cause q)) (λ q d. put_keeps (λ o. is_some (o.on d).view) n.run r _ refl q) (same_grips g) turn
+
+undo_turn : (w : Setting) (n : Reading) (g : Grips) (r d : ℕ) → ActsInTurn w n g → ActsInTurn w (entry w n (Undid (run_no r) (device_no d) true)) (put g d None)
+undo_turn w n g r d turn = turn_less w n (entry w n (Undid (run_no r) (device_no d) true)) g (put g d None) refl (λ q. same_true (put_keeps (λ o. is_some o.placed && is_none o.ended) n.run r _ refl q)) (λ q e. put_keeps (λ o. is_some (o.on e).view) n.run r _ (put_keeps (λ x. is_some x.view) (n.run r).on d _ refl e) q) (less_one g d) turn
 
 -- one device more is out, for a run that waits for none
 pub grip_turn : (w : Setting) (n : Reading) (g : Grips) (r d : ℕ) (p : Purpose) → strict_wait w n r ≡ None → ActsInTurn w n g → ActsInTurn w n (put g d (Some (record { maker = r; purpose = p })))
@@ -220,6 +273,7 @@ arrival_may s r m follows later kept =
       moment = omega (arith, later);
       in_order = order_kept n (entry s.setting n (Arrived (run_no r) m)) refl (λ q. put_keeps stamp_in n.run r (record (n.run r) { arrived = Some m }) refl q) kept.in_order;
       in_turn = arrival_turn s.setting n s.grips r m kept.in_turn;
+      first = first_less n (entry s.setting n (Arrived (run_no r) m)) s.grips s.grips (λ q. put_keeps (λ o. o.answered_doomed) n.run r _ refl q) (same_grips s.grips) kept.first;
     }
   where
     n : Reading
@@ -270,6 +324,7 @@ placing_may s r m follows later scheduled unplaced gripless kept =
       moment = omega (arith, later);
       in_order = placing_order s.setting n r m stands (stamps_below s.setting (entries_of s.history)) unplaced kept.in_order;
       in_turn = placing_turn s.setting n s.grips r m stands unplaced (λ d. ap (λ o. is_some o.view) ((shapes s.setting (entries_of s.history) kept.well_formed r).clear unplaced d)) gripless kept.in_turn;
+      first = first_less n (entry s.setting n (Placed (run_no r) (length n.line) m)) s.grips s.grips (λ q. put_keeps (λ o. o.answered_doomed) n.run r _ refl q) (same_grips s.grips) kept.first;
     }
   where
     n : Reading
@@ -278,37 +333,41 @@ placing_may s r m follows later scheduled unplaced gripless kept =
     stands : Standing n
     stands = standing s.setting (entries_of s.history) kept.well_formed
 
+-- A run with a device out acts alone
+
+in_turn_out : (s : Configuration) (r d : ℕ) (p : Purpose) → s.grips d ≡ Some (record { maker = r; purpose = p }) → is_live (read_of s) r ≡ true → HistoryIsKept s → strict_wait s.setting (read_of s) r ≡ None
+in_turn_out s r d p out live kept = kept.in_turn r d (acting (is_live (read_of s) r) (has_touched (read_of s) s.grips r d) (has_grip s.grips r d) live (holds_is s.grips r d p out))
+  where
+    acting : (l t h : Bool) → l ≡ true → h ≡ true → IsTrue (l && (t || h))
+    acting l t h el eh = grind (arith, common_steps)
+
+alone_out : (s : Configuration) (r d : ℕ) (p : Purpose) → s.grips d ≡ Some (record { maker = r; purpose = p }) → is_live (read_of s) r ≡ true → HistoryIsKept s → IsTrue (is_alone s.setting (read_of s) r)
+alone_out s r d p out live kept = is_alone_by s.setting.runs s.setting.kinds s.setting.first s.setting.mode.model s.setting.mode.scheduler (read_of s) r (record { in_order = kept.in_order; there = live_stands (read_of s) r stands live; live = λ q now. live_stands (read_of s) q stands now }) (in_turn_out s r d p out live kept)
+  where
+    stands : Standing (read_of s)
+    stands = standing s.setting (entries_of s.history) kept.well_formed
+
 -- A command is answered
 
-pub answer_may : (s : Configuration) (r k d m : ℕ) (a : Answer) → may_follow s.setting (read_of s) (Did (run_no r) k a) ≡ true → is_plain (Did (run_no r) k a) ≡ true → entry_is_clean s.setting (read_of s) (Did (run_no r) k a) ≡ true → (read_of s).moment ≤ m → s.grips d ≡ Some (record { maker = r; purpose = Commands k }) → is_live (read_of s) r ≡ true
+pub answer_may : (s : Configuration) (r k d m : ℕ) (a : Answer) → may_follow s.setting (read_of s) (Did (run_no r) k a) ≡ true → is_plain (Did (run_no r) k a) ≡ true → entry_is_clean s.setting (read_of s) (Did (run_no r) k a) ≡ true → (read_of s).moment ≤ m → s.grips d ≡ Some (record { maker = r; purpose = Commands k })
+    → ((e : ℕ) (p : Purpose) → s.grips e ≡ Some (record { maker = r; purpose = p }) → e ≡ d) → is_live (read_of s) r ≡ true
     → HistoryIsKept s → MayAdd s (Did (run_no r) k a) m (put s.grips d None)
-answer_may s r k d m a follows plain clean later out live kept =
+answer_may s r k d m a follows plain clean later out alone live kept =
     record {
       follows = follows;
       plain = plain;
       clean = clean;
       justified = refl;
       scheduled = tt;
-      isolated = λ strict. is_alone_by s.setting.runs s.setting.kinds s.setting.first s.setting.mode.model s.setting.mode.scheduler n r known waitless;
+      isolated = λ strict. alone_out s r d (Commands k) out live kept;
       moment = later;
       in_order = order_kept n (entry s.setting n (Did (run_no r) k a)) refl (λ q. put_keeps stamp_in n.run r _ refl q) kept.in_order;
-      in_turn = answer_turn s.setting n s.grips r k d a waitless kept.in_turn;
+      in_turn = answer_turn s.setting n s.grips r k d a (in_turn_out s r d (Commands k) out live kept) kept.in_turn;
+      first = answer_first s.setting n s.grips r k d a alone kept.first;
     }
   where
     n : Reading
     n = read_of s
-
-    stands : Standing n
-    stands = standing s.setting (entries_of s.history) kept.well_formed
-
-    waitless : strict_wait s.setting n r ≡ None
-    waitless = kept.in_turn r d (acting (is_live n r) (has_touched n s.grips r d) (has_grip s.grips r d) live (holds_is s.grips r d (Commands k) out))
-      where
-        acting : (l t h : Bool) → l ≡ true → h ≡ true → IsTrue (l && (t || h))
-        acting l t h el eh = grind (arith, common_steps)
-
-    known : LineIsKnown n r
-    known = record { in_order = kept.in_order; there = live_stands n r stands live; live = λ q now. live_stands n q stands now }
 
 -- A run commits
 
@@ -328,7 +387,71 @@ commit_may s r m follows later up kept =
       moment = later;
       in_order = order_kept n (entry s.setting n (Ended (run_no r) Committed)) refl (λ q. put_keeps stamp_in n.run r (record (n.run r) { ended = Some Committed }) refl q) kept.in_order;
       in_turn = commit_turn s.setting n s.grips r kept.in_turn;
+      first = first_less n (entry s.setting n (Ended (run_no r) Committed)) s.grips s.grips (λ q. put_keeps (λ o. o.answered_doomed) n.run r _ refl q) (same_grips s.grips) kept.first;
     }
   where
     n : Reading
     n = read_of s
+
+-- A run is doomed
+
+pub doom_may : (s : Configuration) (r m : ℕ) (cause : Cause) → may_follow s.setting (read_of s) (Doomed (run_no r) cause) ≡ true → is_plain (Doomed (run_no r) cause) ≡ true → shows s.setting (read_of s) r cause ≡ true → moment_of cause (read_of s).moment ≤ m → HistoryIsKept s → MayAdd s (Doomed (run_no r) cause) m s.grips
+doom_may s r m cause follows plain shown later kept =
+    record {
+      follows = follows;
+      plain = plain;
+      clean = refl;
+      justified = shown;
+      scheduled = tt;
+      isolated = λ strict. refl;
+      moment = later;
+      in_order = order_kept n (entry s.setting n (Doomed (run_no r) cause)) refl (λ q. put_keeps stamp_in n.run r _ refl q) kept.in_order;
+      in_turn = doom_turn s.setting n s.grips r cause kept.in_turn;
+      first = first_less n (entry s.setting n (Doomed (run_no r) cause)) s.grips s.grips (λ q. put_keeps (λ o. o.answered_doomed) n.run r _ refl q) (same_grips s.grips) kept.first;
+    }
+  where
+    n : Reading
+    n = read_of s
+
+-- A run is undone on a device
+
+pub undo_may : (s : Configuration) (r d m v : ℕ) → may_follow s.setting (read_of s) (Undid (run_no r) (device_no d) true) ≡ true → (read_of s).moment ≤ m → s.grips d ≡ Some (record { maker = r; purpose = Undoes v }) → is_live (read_of s) r ≡ true → HistoryIsKept s → MayAdd s (Undid (run_no r) (device_no d) true) m (put s.grips d None)
+undo_may s r d m v follows later out live kept =
+    record {
+      follows = follows;
+      plain = refl;
+      clean = refl;
+      justified = refl;
+      scheduled = tt;
+      isolated = λ strict. alone_out s r d (Undoes v) out live kept;
+      moment = later;
+      in_order = order_kept n (entry s.setting n (Undid (run_no r) (device_no d) true)) refl (λ q. put_keeps stamp_in n.run r _ refl q) kept.in_order;
+      in_turn = undo_turn s.setting n s.grips r d kept.in_turn;
+      first = first_less n (entry s.setting n (Undid (run_no r) (device_no d) true)) s.grips (put s.grips d None) (λ q. put_keeps (λ o. o.answered_doomed) n.run r _ refl q) (less_one s.grips d) kept.first;
+    }
+  where
+    n : Reading
+    n = read_of s
+
+-- A run aborts
+
+pub aborted_may : (s : Configuration) (r m : ℕ) (cause : Cause) → may_follow s.setting (read_of s) (Ended (run_no r) (Aborted cause)) ≡ true → (read_of s).moment ≤ m → HistoryIsKept s → MayAdd s (Ended (run_no r) (Aborted cause)) m s.grips
+aborted_may s r m cause follows later kept =
+    record {
+      follows = follows;
+      plain = refl;
+      clean = refl;
+      justified = refl;
+      scheduled = tt;
+      isolated = λ strict. refl;
+      moment = later;
+      in_order = same_order n next (without r n.line) (λ q. put_keeps stamp_in n.run r _ refl q) ∙ order_without n r n.line kept.in_order;
+      in_turn = aborted_turn s.setting n s.grips r cause kept.in_turn;
+      first = first_less n next s.grips s.grips (λ q. put_keeps (λ o. o.answered_doomed) n.run r _ refl q) (same_grips s.grips) kept.first;
+    }
+  where
+    n : Reading
+    n = read_of s
+
+    next : Reading
+    next = entry s.setting n (Ended (run_no r) (Aborted cause))

@@ -179,7 +179,7 @@ window_closed {D = D} tag stands turns probes faults s devices kinds world close
       kinds = kinds_are;
       last = world_is ∙ sym tells.last;
       opened = refl;
-      commits = λ r run. ap (λ h. ((reading s.setting (entries_of h)).run r).ended) tells.history ∙ ended_committed (configuration_of s) s.rounds s.opened (held_in s) r c.kept.configuration (quiet_is (configuration_of s) c.quiet) run;
+      commits = λ r run none. ap (λ h. ((reading s.setting (entries_of h)).run r).ended) tells.history ∙ ended_committed (configuration_of s) s.rounds s.opened (held_in s) r c.kept.configuration (quiet_is (configuration_of s) c.quiet) run none;
       places = sym c.places;
       up = λ d lt. ap (λ l. (stand_at l d).up) world_is ∙ ap (λ (x : Stand). x.up) (stand_of d (let same = ap (λ l. length l) world_is in omega (arith, lt, same, size)));
       turns_rose = λ d device at. tells.turns_rose.each d device (known d device at) at;

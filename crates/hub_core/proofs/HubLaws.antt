@@ -69,6 +69,7 @@ stands_hub {D = D} stands turns probes faults s k =
         turns_rose = λ d device at. (k.home d device at).turns_are;
         probes_rose = λ d device at. (k.home d device at).probes_are;
       };
+      no_probes = c.stage.no_probes;
     }
 
 -- Quiet hubs

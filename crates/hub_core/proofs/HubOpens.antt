@@ -212,7 +212,7 @@ first_kept {D = D} tag stands turns probes faults home roster mode rounds known 
     configuration =
         subst (λ h. ConfigurationIsKept (configuration_of s) rounds home.opened h) all_held
         (subst (λ c. ConfigurationIsKept c rounds home.opened (λ d. (stand_at w.first d).value)) (sym (first_configuration tag stands turns probes faults home roster mode rounds known opens))
-        (starts w rounds home.opened opens.may opens.stage opens.kept.kinds))
+        (starts w rounds home.opened opens.may opens.stage opens.kept.kinds opens.kept.values))
 
     at_home : (d : ℕ) (device : D) → slice_get home.devices d ≡ Some device → FitsAtHome stands turns probes faults s d device
     at_home d device at =

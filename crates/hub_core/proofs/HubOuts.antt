@@ -15,7 +15,7 @@ use Rattle.device_states.specs.Devices.{HasRoom}
 use Rattle.std.proofs.lemmas.List.Sums.{sum_by-cons}
 use Rattle.std.specs.Borrow.{Bor}
 use Rattle.history_book.specs.Histories.{entries_of}
-use Rattle.history_book.specs.Readings.{is_live, next_command, next_of, put}
+use Rattle.history_book.specs.Readings.{is_doomed, is_live, next_command, next_of, put}
 use Rattle.history_book.specs.Settings.{Setting, is_device}
 use Rattle.history_book.specs.declared.entries.Kept.{Kept}
 use Rattle.home_types.specs.declared.commands.Command.{Command}
@@ -35,7 +35,8 @@ use Rattle.hub_core.specs.OpenHubs.{OpenHub, configuration_of, device_at, grip_i
 use Rattle.hub_core.specs.Steps.{HandsOut, after_choice, at_moment, choice_of, with_grip}
 use Rattle.hub_core.specs.declared.known.DeviceProgress.{DeviceProgress}
 use Rattle.hub_core.specs.declared.purposes.Purpose.{Purpose as KeptPurpose}
-use Rattle.lock_leasing.specs.Configurations.{Commands, Configuration, Grip, Purpose, is_out, read_of}
+use Rattle.lock_leasing.specs.Configurations.{Commands, Configuration, Grip, Probes, Purpose, Undoes, is_out, read_of}
+use Rattle.lock_leasing.specs.Words.{has_effect, value_without}
 use Rattle.std.proofs.Common.{ap, ap₂, arith, cond, inl, inr, refl, subst, sym, ◌∙◌}
 use Rattle.std.proofs.lemmas.Grind.{common_steps}
 use Rattle.std.proofs.lemmas.List.{length-set}
@@ -45,21 +46,42 @@ use Rattle.std.specs.Prelude.{Bool, IsTrue, List, None, Option, Some, [], count_
 
 -- Why it goes
 
--- the step that hands a device out is for the next command of a run of the window, whose device is home
-pub record IsHandedOut (s : Configuration) (r d : ℕ) (purpose : Purpose) : Type 0 where
+-- it goes for the run's next command ..
+pub record GoesToCommand (s : Configuration) (r d k : ℕ) : Type 0 where
+  pub number : k ≡ next_of (read_of s) r
+  pub sound : is_doomed (read_of s) r ≡ false
   pub command : Command
+  pub next : next_command s.setting (read_of s) r ≡ Some command
+  pub on : command.device.0 ≡ d
+
+-- .. or to undo the run's write
+pub record GoesToUndo (s : Configuration) (r d v : ℕ) : Type 0 where
+  pub doomed : is_doomed (read_of s) r ≡ true
+  pub effect : has_effect (read_of s) s.grips r d ≡ true
+  pub value : v ≡ value_without s.setting (read_of s) s.grips r d
+
+abbrev pub GoesFor : Configuration → ℕ → ℕ → Purpose → Type 0
+GoesFor s r d (Commands k) = GoesToCommand s r d k
+GoesFor s r d (Undoes v) = GoesToUndo s r d v
+GoesFor s r d (Probes v) = ⊥
+
+-- the step that hands a device out is of a live run of the window, whose device is home
+pub record IsHandedOut (s : Configuration) (r d : ℕ) (purpose : Purpose) : Type 0 where
   pub run : is_run s.setting.runs r ≡ true
   pub live : is_live (read_of s) r ≡ true
-  pub next : next_command s.setting (read_of s) r ≡ Some command
-  pub is : purpose ≡ Commands (next_of (read_of s) r)
   pub home : is_out s.grips d ≡ false
   pub device : is_device s.setting d ≡ true
+  pub for : GoesFor s r d purpose
 
 same_device : (d e : ℕ) (p q : Purpose) → HandsOut d p ≡ HandsOut e q → d ≡ e
 same_device d e p q is = cc
 
 same_purpose : (d e : ℕ) (p q : Purpose) → HandsOut d p ≡ HandsOut e q → p ≡ q
 same_purpose d e p q is = cc
+
+-- .. also where device and purpose are told otherwise
+handed_as : (s : Configuration) (r d e : ℕ) (p q : Purpose) → HandsOut d p ≡ HandsOut e q → IsHandedOut s r d p → IsHandedOut s r e q
+handed_as s r d e p q is out = subst (λ x. IsHandedOut s r e x) (same_purpose d e p q is) (subst (λ x. IsHandedOut s r x p) (same_device d e p q is) out)
 
 pub handed_out : (s : Configuration) (rounds opened : ℕ) (held : ℕ → ℕ) (r m d : ℕ) (purpose : Purpose) → ConfigurationIsKept s rounds opened held → choice_of s r m ≡ HandsOut d purpose → IsHandedOut s r d purpose
 handed_out s rounds opened held r m d purpose kept =
@@ -70,15 +92,21 @@ handed_out s rounds opened held r m d purpose kept =
       waits = λ why is. absurd (cc);
       arrives = λ run none is. absurd (cc);
       enters = λ run none is. absurd (cc);
-      goes = λ c run next home is. record {
-        command = c;
+      aborted = λ cause act doomed over is. absurd (cc);
+      undoes = λ cause e undoing up is. handed_as s r e d (Undoes (value_without s.setting (read_of s) s.grips r e)) purpose is (record {
+        run = undoing.act.run;
+        live = undoing.act.live;
+        home = undoing.home;
+        device = undoing.device;
+        for = record { doomed = ap is_some undoing.doomed; effect = undoing.effect; value = refl };
+      });
+      goes = λ c run next home is. handed_as s r c.device.0 d (Commands (next_of (read_of s) r)) purpose is (record {
         run = run.act.run;
         live = run.act.live;
-        next = run.next;
-        is = sym (same_purpose c.device.0 d (Commands (next_of (read_of s) r)) purpose is);
-        home = subst (λ e. is_out s.grips e ≡ false) (same_device c.device.0 d (Commands (next_of (read_of s) r)) purpose is) home;
-        device = subst (λ e. is_device s.setting e ≡ true) (same_device c.device.0 d (Commands (next_of (read_of s) r)) purpose is) (plainly.homed r (next_of (read_of s) r) c run.next);
-      };
+        home = home;
+        device = plainly.homed r (next_of (read_of s) r) c run.next;
+        for = record { number = refl; sound = ap is_some run.sound; command = c; next = run.next; on = refl };
+      });
       commits = λ all is. absurd (cc);
     })
 
@@ -104,11 +132,9 @@ pub command_there : {D : Type 0} (s : OpenHub D) (rounds opened : ℕ) (held : �
     → purpose ≡ Commands k → IsTrue (is_run s.setting.runs r) × (k < length (commands_of s.setting.runs r))
 command_there s rounds opened held r m d k purpose kept is for =
     let out = handed_out (configuration_of s) rounds opened held r m d purpose kept is in
-    let within : next_of (read_of (configuration_of s)) r < length (commands_of s.setting.runs r) = slice_get_within (commands_of s.setting.runs r) (next_of (read_of (configuration_of s)) r) out.command out.next in
-    (out.run, subst (λ x. x < length (commands_of s.setting.runs r)) (same_number (next_of (read_of (configuration_of s)) r) k (sym out.is ∙ for)) within)
-  where
-    same_number : (a b : ℕ) → Commands a ≡ Commands b → a ≡ b
-    same_number a b e = cc
+    let goes : GoesToCommand (configuration_of s) r d k = subst (GoesFor (configuration_of s) r d) for out.for in
+    let within : next_of (read_of (configuration_of s)) r < length (commands_of s.setting.runs r) = slice_get_within (commands_of s.setting.runs r) (next_of (read_of (configuration_of s)) r) goes.command goes.next in
+    (out.run, subst (λ x. x < length (commands_of s.setting.runs r)) (sym goes.number) within)
 
 pub out_home : {D : Type 0} (stands turns probes faults : D → ℕ) (s : OpenHub D) (r m d : ℕ) (purpose : Purpose) → HubIsKept stands turns probes faults s → choice_of (configuration_of s) r m ≡ HandsOut d purpose → (d < length s.setting.first) × IsHome s.places d
 out_home stands turns probes faults s r m d purpose k is =
@@ -297,9 +323,11 @@ gone_kept {D = D} stands turns probes faults s r d m purpose device slip task is
         plus_none : (n : ℕ) → n + 0 ≡ n
         plus_none n = omega arith
 
--- a task of a command makes no probe
-not_probing : (s : Configuration) (r k : ℕ) → probed (task_of s r (Commands k)) ≡ 0
-not_probing s r k = by_reading (reads (command_at s.setting.runs r k).job)
+-- what a run does with a device makes no probe
+not_probing : (s : Configuration) (r d : ℕ) (purpose : Purpose) → GoesFor s r d purpose → probed (task_of s r purpose) ≡ 0
+not_probing s r d (Undoes v) goes = refl
+not_probing s r d (Probes v) goes = absurd goes
+not_probing s r d (Commands k) goes = by_reading (reads (command_at s.setting.runs r k).job)
   where
     by_reading : (b : Bool) → probed (if b then Sense else Drive (driven (kind_at s.setting.kinds (command_at s.setting.runs r k).device.0) (command_at s.setting.runs r k).job ((read_of s).run r).register)) ≡ 0
     by_reading true = refl
@@ -390,7 +418,7 @@ went_out {D = D} stands turns probes faults s s₀ r m d now number purpose task
           had_probes = sent.had_probes;
           had_faults = sent.had_faults;
           does = task_is;
-          not_probed = ap probed (task_is ∙ ap (task_of (configuration_of s) r) (handed_out (configuration_of s) s.rounds s.opened (held_in s) r m d (purpose_of purpose) k.configuration chosen).is) ∙ not_probing (configuration_of s) r (next_of (read_of (configuration_of s)) r);
+          not_probed = ap probed task_is ∙ not_probing (configuration_of s) r d (purpose_of purpose) (handed_out (configuration_of s) s.rounds s.opened (held_in s) r m d (purpose_of purpose) k.configuration chosen).for;
         }
 
     new : ◌≡◌ {A = OpenHub D} (record s { moment = now; devices = devices; places = places; tickets = number }) t

@@ -1,18 +1,19 @@
 -- A history with one entry more, and what is kept beside it.
 use Rattle.command_rules.specs.Rosters.{Run, command_at, is_run}
-use Rattle.history_book.proofs.Snoc.{entries_on, put_other, put_same, reading_more}
+use Rattle.history_book.proofs.Snoc.{entries_on, put_keeps, put_other, put_same, reading_more}
 use Rattle.history_book.specs.Histories.{answered, entries_of, entry, reading}
 use Rattle.history_book.specs.Plans.{planned_times, split_of}
 use Rattle.history_book.specs.Readings.{OfRun, Reading, put}
 use Rattle.history_book.specs.Settings.{Setting}
+use Rattle.history_book.specs.declared.entries.Cause.{Cause}
 use Rattle.history_book.specs.declared.entries.End.{End}
-use Rattle.history_book.specs.declared.entries.End.TheVariants.{Committed}
-use Rattle.history_book.specs.declared.entries.Entry.TheVariants.{Arrived, Did, Ended, Placed}
+use Rattle.history_book.specs.declared.entries.Entry.TheVariants.{Arrived, Did, Doomed, Ended, Placed, Undid}
 use Rattle.history_book.specs.declared.entries.Entry.{Entry}
 use Rattle.history_book.specs.declared.entries.Kept.{Kept}
 use Rattle.home_types.specs.Commands.{register_after}
 use Rattle.home_types.specs.Kinds.{kind_at}
 use Rattle.home_types.specs.declared.commands.Answer.{Answer}
+use Rattle.home_types.specs.declared.numbers.DeviceNo.{DeviceNo}
 use Rattle.home_types.specs.declared.numbers.RunNo.{RunNo}
 use Rattle.hub_core.specs.OpenHubs.{progress_of}
 use Rattle.hub_core.specs.ReadHistories.{HistoryState, IsReadBeside, read_in}
@@ -131,16 +132,47 @@ answers_beside w h h₂ n n₂ maker c a r progress p k run at more left =
     counted : record (progress_of before) { answered = length before.answers + 1; register = register_after (command_at w.runs r.0 c).job a before.register } ≡ progress_of (o c)
     counted = ap (λ x. record (progress_of before) { answered = x; register = register_after (command_at w.runs r.0 c).job a before.register }) (sym (length-append before.answers (a ∷ [])))
 
-pub commits_beside : (w : Setting) (h h₂ : List Kept) (n n₂ maker : ℕ) (r : RunNo) (progress : List RunProgress) (p : RunProgress)
+pub dooms_beside : (w : Setting) (h h₂ : List Kept) (n n₂ maker : ℕ) (cause : Cause) (r : RunNo) (progress : List RunProgress) (p : RunProgress)
     → IsReadBeside (record { setting = w; history = h; spare = n }) progress
     → IsTrue (is_run w.runs r.0) → slice_get progress (r.0 - 1) ≡ Some p
-    → h₂ ≡ h ++ record { maker = maker; entry = Ended r Committed } ∷ [] → n₂ + 1 ≡ n
-    → IsReadBeside (record { setting = w; history = h₂; spare = n₂ }) (slice_set progress (r.0 - 1) (record p { ended = Some Committed }))
-commits_beside w h h₂ n n₂ maker r progress p k run at more left =
+    → h₂ ≡ h ++ record { maker = maker; entry = Doomed r cause } ∷ [] → n₂ + 1 ≡ n
+    → IsReadBeside (record { setting = w; history = h₂; spare = n₂ }) (slice_set progress (r.0 - 1) (record p { doomed = Some cause }))
+dooms_beside w h h₂ n n₂ maker cause r progress p k run at more left =
     let o = (reading w (entries_of h)).run r.0 in
-    entry_kept w h h₂ n n₂ maker r.0 (Ended r Committed) progress (record p { ended = Some Committed }) k run more
-    (ap (λ (x : RunProgress). record x { ended = Some Committed }) (progress_is _ progress r.0 p k run at) ∙ ap progress_of (sym (put_same (reading w (entries_of h)).run r.0 (record o { ended = Some Committed }))))
-    (λ q other. put_other (reading w (entries_of h)).run r.0 (record o { ended = Some Committed }) q other)
+    entry_kept w h h₂ n n₂ maker r.0 (Doomed r cause) progress (record p { doomed = Some cause }) k run more
+    (ap (λ (x : RunProgress). record x { doomed = Some cause }) (progress_is _ progress r.0 p k run at) ∙ ap progress_of (sym (put_same (reading w (entries_of h)).run r.0 (record o { doomed = Some cause }))))
+    (λ q other. put_other (reading w (entries_of h)).run r.0 (record o { doomed = Some cause }) q other)
+
+-- an undo changes the progress of no run
+pub undoes_beside : (w : Setting) (h h₂ : List Kept) (n n₂ maker : ℕ) (drove : Bool) (r : RunNo) (d : DeviceNo) (progress : List RunProgress)
+    → IsReadBeside (record { setting = w; history = h; spare = n }) progress
+    → h₂ ≡ h ++ record { maker = maker; entry = Undid r d drove } ∷ []
+    → IsReadBeside (record { setting = w; history = h₂; spare = n₂ }) progress
+undoes_beside w h h₂ n n₂ maker drove r d progress k more =
+    record {
+      size = k.size;
+      progress_is = λ j within. k.progress_is j within ∙ ap (λ x. Some x) (sym (put_keeps progress_of before.run r.0 undone_run refl (suc j))) ∙ ap (λ x. Some (progress_of (x.run (suc j)))) (sym read);
+    }
+  where
+    before : Reading
+    before = reading w (entries_of h)
+
+    undone_run : OfRun
+    undone_run = record (before.run r.0) { on = put (before.run r.0).on d.0 (record ((before.run r.0).on d.0) { undid = true }) }
+
+    read : reading w (entries_of h₂) ≡ entry w before (Undid r d drove)
+    read = ap (λ x. reading w (entries_of x)) more ∙ ap (reading w) (entries_on h maker (Undid r d drove ∷ [])) ∙ reading_more w (entries_of h) (Undid r d drove)
+
+pub ends_beside : (w : Setting) (h h₂ : List Kept) (n n₂ maker : ℕ) (end : End) (r : RunNo) (progress : List RunProgress) (p : RunProgress)
+    → IsReadBeside (record { setting = w; history = h; spare = n }) progress
+    → IsTrue (is_run w.runs r.0) → slice_get progress (r.0 - 1) ≡ Some p
+    → h₂ ≡ h ++ record { maker = maker; entry = Ended r end } ∷ [] → n₂ + 1 ≡ n
+    → IsReadBeside (record { setting = w; history = h₂; spare = n₂ }) (slice_set progress (r.0 - 1) (record p { ended = Some end }))
+ends_beside w h h₂ n n₂ maker end r progress p k run at more left =
+    let o = (reading w (entries_of h)).run r.0 in
+    entry_kept w h h₂ n n₂ maker r.0 (Ended r end) progress (record p { ended = Some end }) k run more
+    (ap (λ (x : RunProgress). record x { ended = Some end }) (progress_is _ progress r.0 p k run at) ∙ ap progress_of (sym (put_same (reading w (entries_of h)).run r.0 (record o { ended = Some end }))))
+    (λ q other. put_other (reading w (entries_of h)).run r.0 (record o { ended = Some end }) q other)
 
 pub places_beside : (w : Setting) (h h₂ : List Kept) (n n₂ maker at m : ℕ) (r : RunNo) (progress : List RunProgress) (p : RunProgress)
     → IsReadBeside (record { setting = w; history = h; spare = n }) progress

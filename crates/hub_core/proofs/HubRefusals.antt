@@ -1,26 +1,21 @@
 -- A grip that is not taken in, and a probe that is not handed out.
 use Rattle.device_gate.specs.Grips.{Gripped}
 use Rattle.device_gate.specs.Places.{IsKept, slip_of}
-use Rattle.device_gate.specs.declared.gates.Place.TheVariants.{Out}
 use Rattle.device_gate.specs.declared.grips.Done.{Done}
 use Rattle.device_gate.specs.declared.slips.Slip.{Slip}
 use Rattle.device_gate.specs.declared.slips.Task.{Task}
 use Rattle.device_gate.specs.declared.strangers.Stranger.{Stranger}
 use Rattle.command_rules.specs.Rosters.{is_run}
-use Rattle.hub_core.proofs.HubOuts.{gone_past}
-use Rattle.hub_core.proofs.HubReturns.{for_command, out_for_command}
 use Rattle.hub_core.proofs.HubStates.{is_kept_there, slip_carried}
-use Rattle.hub_core.proofs.Kept.{no_probe}
+use Rattle.hub_core.proofs.Kept.{no_probe, out_run}
 use Rattle.hub_core.specs.HubCalls.{IsGiven, IsProbeGiven, IsProbed, carried_by}
 use Rattle.hub_core.specs.HubSteps.{Given, ProbeTaken, Probed, Refused, Returned, give, give_if, give_probe, is_kept, stranger, take_probe}
 use Rattle.hub_core.specs.HubsKept.{HubIsKept}
-use Rattle.hub_core.specs.OpenHubs.{OpenHub, configuration_of, held_in, state_of}
+use Rattle.hub_core.specs.OpenHubs.{OpenHub, configuration_of, device_at, grip_in, held_in, state_of}
 use Rattle.hub_core.specs.Steps.{at_moment, may_probe}
-use Rattle.hub_core.specs.declared.known.DeviceProgress.{DeviceProgress}
 use Rattle.std.proofs.Common.{ap, arith, refl, subst, sym, ◌∙◌}
 use Rattle.std.proofs.lemmas.Grind.{common_steps}
-use Rattle.std.proofs.lemmas.Option.{slice_get_within}
-use Rattle.std.specs.Prelude.{Bool, Err, None, Option, Some, false, length, nat_lt, slice_get, true, ℕ, ◌&&◌, ◌<◌, ◌==◌, ◌≡◌}
+use Rattle.std.specs.Prelude.{Bool, Err, None, false, nat_lt, slice_get, suc, true, zero, ℕ, ◌&&◌, ◌==◌, ◌≡◌}
 
 -- the stranger is the hub's
 stranger_is : {D : Type 0} (s : OpenHub D) (grip : Gripped D Done) (x : Stranger) → x.kept ≡ slip_of (slice_get s.places grip.slip.device.0) → x.told ≡ grip.slip → x ≡ stranger (state_of s) (carried_by grip)
@@ -58,22 +53,12 @@ not_out s grip away = ap (λ b. b && nat_lt 0 grip.slip.maker) (not_there s grip
 
 -- in this stage a device is out for a run alone
 out_for_run : {D : Type 0} (stands turns probes faults : D → ℕ) (s : OpenHub D) (slip : Slip) (task : Task) → HubIsKept stands turns probes faults s → IsKept s.places slip task → (slip.maker == 0) ≡ false
-out_for_run stands turns probes faults s slip task kept there = by_known (slice_get s.devices slip.device.0) refl
+out_for_run stands turns probes faults s slip task kept there =
+    not_zero slip.maker (out_run (configuration_of s) s.rounds s.opened (held_in s) slip.device.0 _ (ap (λ o. grip_in o (device_at s.devices slip.device.0).purpose) there) kept.configuration)
   where
-    within : slip.device.0 < length s.devices
-    within = let inside : slip.device.0 < length s.places = slice_get_within s.places slip.device.0 (Out slip task) there in omega (arith, inside, kept.places_size, kept.devices_size)
-
     not_zero : (n : ℕ) → is_run s.setting.runs n ≡ true → (n == 0) ≡ false
-    not_zero n run = elim (n == 0) as (λ b. (n == 0) ≡ b → (n == 0) ≡ false) [
-      | true ↦ (λ e. let none : n ≡ 0 = grind (arith, common_steps) in let both : is_run s.setting.runs 0 ≡ true = subst (λ x. is_run s.setting.runs x ≡ true) none run in absurd (cc))
-      | false ↦ (λ e. e)
-    ] refl
-
-    by_known : (o : Option DeviceProgress) → slice_get s.devices slip.device.0 ≡ o → (slip.maker == 0) ≡ false
-    by_known None is = absurd (omega (arith, within, gone_past s.devices slip.device.0 is))
-    by_known (Some known) is =
-        let command = out_for_command stands turns probes faults s slip task known kept there is in
-        not_zero slip.maker (for_command stands turns probes faults s slip task known command.0 kept there is command.1).run
+    not_zero zero run = absurd (cc)
+    not_zero (suc n) run = grind (arith, common_steps)
 
 pub refused_probe : {D : Type 0} (stands turns probes faults : D → ℕ) (s s₀ : OpenHub D) (grip : Gripped D Done) (x : Stranger) → HubIsKept stands turns probes faults s → s ≡ s₀ → x.kept ≡ slip_of (slice_get s₀.places grip.slip.device.0) → x.told ≡ grip.slip → IsProbeGiven s₀ grip (Err (grip, x)) s₀
 refused_probe {D = D} stands turns probes faults s s₀ grip x kept same =

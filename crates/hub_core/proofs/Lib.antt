@@ -8,6 +8,7 @@ pub mod GiveCauses
 pub mod StageFacts
 pub mod StageChoices
 pub mod LineOrder
+pub mod WrittenValues
 pub mod HistoryKept
 pub mod Kept
 pub mod HubReads
@@ -16,6 +17,7 @@ pub mod NewHomes
 pub mod HubOpens
 pub mod Searching
 pub mod HubStates
+pub mod NextUndos
 pub mod HubChoices
 pub mod Sizes
 pub mod Progress
@@ -30,6 +32,7 @@ pub mod HubRefusals
 pub mod TestWindows
 pub mod PlannedInTurn
 pub mod NotedAnswers
+pub mod PassedRuns
 pub mod OrderSteps
 pub mod HubOrders
 pub mod ReturnedOrders

@@ -2,7 +2,7 @@
 use Rattle.command_rules.specs.Rosters.{Run, run_no, shares}
 use Rattle.history_book.proofs.Shapes.{put_all}
 use Rattle.history_book.specs.Histories.{entry, reading}
-use Rattle.history_book.specs.Lines.{before, is_ran}
+use Rattle.history_book.specs.Lines.{before, is_ran, without}
 use Rattle.history_book.specs.Plans.{split_of}
 use Rattle.history_book.specs.Readings.{OfRun, PlacedAt, Reading, is_live, nothing_read, put}
 use Rattle.history_book.specs.Settings.{Setting}
@@ -220,14 +220,14 @@ fewer_live n m p (Ran x ∷ is) fewer none = elim (is_live m x.0) as (λ b. is_l
 fewer_live n m p (Failed d k ∷ is) fewer none = fewer_live n m p is fewer none
 fewer_live n m p (Back d k ∷ is) fewer none = fewer_live n m p is fewer none
 
--- a run that waits for none waits for none where the runs before it are the same, or fewer of them are live
-pub strict_fewer_by : (runs : List Run) (kinds : List Kind) (first : List Stand) (model : Visibility) (scheduler : Scheduler) (n m : Reading) (r : ℕ) → before r m.line ≡ before r n.line
+-- a run that waits for none waits for none where fewer of the runs before it are live
+pub strict_fewer_by : (runs : List Run) (kinds : List Kind) (first : List Stand) (model : Visibility) (scheduler : Scheduler) (n m : Reading) (r : ℕ) → live_before m r ≡ live_runs m (before r n.line)
     → ((x : ℕ) → list_any (is_ran x) (before r n.line) ≡ true → is_live m x ≡ true → is_live n x ≡ true)
     → strict_wait (record { runs = runs; mode = record { model = model; scheduler = scheduler }; kinds = kinds; first = first }) n r ≡ None
     → strict_wait (record { runs = runs; mode = record { model = model; scheduler = scheduler }; kinds = kinds; first = first }) m r ≡ None
 strict_fewer_by runs kinds first Weak scheduler n m r line fewer none = refl
-strict_fewer_by runs kinds first Global scheduler n m r line fewer none = ap (λ l. find (λ x. true) (live_runs m l)) line ∙ fewer_live n m (λ x. true) (before r n.line) fewer none
-strict_fewer_by runs kinds first Partitioned scheduler n m r line fewer none = ap (λ l. find (λ x. shares runs x r) (live_runs m l)) line ∙ fewer_live n m (λ x. shares runs x r) (before r n.line) fewer none
+strict_fewer_by runs kinds first Global scheduler n m r line fewer none = ap (find (λ x. true)) line ∙ fewer_live n m (λ x. true) (before r n.line) fewer none
+strict_fewer_by runs kinds first Partitioned scheduler n m r line fewer none = ap (find (λ x. shares runs x r)) line ∙ fewer_live n m (λ x. shares runs x r) (before r n.line) fewer none
 strict_fewer_by runs kinds first Eventual scheduler n m r line fewer none = refl
 
 -- what stands before a run of the line is the same where items come behind it
@@ -237,3 +237,54 @@ before_more r (i ∷ is) x there = take_while-cons (λ y. not (is_ran r y)) i (i
   | true ↦ (λ e. refl)
   | false ↦ (λ e. ap (λ l. i ∷ l) (before_more r is x (grind (arith, common_steps))))
 ] refl ∙ sym (take_while-cons (λ y. not (is_ran r y)) i is)
+
+-- A run that leaves the line
+
+-- what stands before another run
+before_without : (r q : ℕ) (line : List Item) → q ≢ r → before q (without r line) ≡ without r (before q line)
+before_without r q [] other = refl
+before_without r q (i ∷ is) other =
+    elim (is_ran r i) as (λ b. is_ran r i ≡ b → before q (cond (not b) (i ∷ without r is) (without r is)) ≡ without r (cond (not (is_ran q i)) (i ∷ before q is) [])) [
+      | true ↦ (λ e. before_without r q is other ∙ sym (ap (λ b. without r (cond (not b) (i ∷ before q is) [])) (not_q i e) ∙ ap (λ b. cond (not b) (i ∷ without r (before q is)) (without r (before q is))) e))
+      | false ↦ (λ e. take_while-cons (λ y. not (is_ran q y)) i (without r is) ∙ elim (is_ran q i) as (λ b. cond (not b) (i ∷ before q (without r is)) [] ≡ without r (cond (not b) (i ∷ before q is) [])) [
+        | true ↦ refl
+        | false ↦ ap (λ l. i ∷ l) (before_without r q is other) ∙ sym (ap (λ b. cond (not b) (i ∷ without r (before q is)) (without r (before q is))) e)
+      ])
+    ] refl
+    ∙ ap (without r) (sym (take_while-cons (λ y. not (is_ran q y)) i is))
+  where
+    not_q : (j : Item) → is_ran r j ≡ true → is_ran q j ≡ false
+    not_q (Ran x) e = let at : x.0 ≡ r = grind (arith, common_steps) in let apart : x.0 ≢ q = (λ same. other (sym same ∙ at)) in grind (arith, common_steps)
+    not_q (Failed d k) e = refl
+    not_q (Back d k) e = refl
+
+-- a run that is not live is none of the live ones
+live_without : (n : Reading) (r : ℕ) (items : List Item) → is_live n r ≡ false → live_runs n (without r items) ≡ live_runs n items
+live_without n r [] gone = refl
+live_without n r (Ran x ∷ is) gone = elim (x.0 == r) as (λ b. (x.0 == r) ≡ b → live_runs n (cond (not b) (Ran x ∷ without r is) (without r is)) ≡ cons_option (if is_live n x.0 then Some x.0 else None) (live_runs n is)) [
+  | true ↦ (λ e. let same : x.0 ≡ r = grind (arith, common_steps) in live_without n r is gone ∙ sym (ap (λ b. cons_option (if b then Some x.0 else None) (live_runs n is)) (ap (is_live n) same ∙ gone)))
+  | false ↦ (λ e. ap (cons_option (if is_live n x.0 then Some x.0 else None)) (live_without n r is gone))
+] refl
+live_without n r (Failed d k ∷ is) gone = live_without n r is gone
+live_without n r (Back d k ∷ is) gone = live_without n r is gone
+
+-- the live runs before a run that stays
+pub live_before_without : (n m : Reading) (r q : ℕ) → m.line ≡ without r n.line → is_live m r ≡ false → q ≢ r → live_before m q ≡ live_runs m (before q n.line)
+live_before_without n m r q line gone other = ap (λ l. live_runs m (before q l)) line ∙ ap (live_runs m) (before_without r q n.line other) ∙ live_without m r (before q n.line) gone
+
+later_without : (n : Reading) (r stamp : ℕ) (line : List Item) → IsTrue (list_all (is_later n stamp) line) → IsTrue (list_all (is_later n stamp) (without r line))
+later_without n r stamp [] later = refl
+later_without n r stamp (i ∷ is) later = elim (is_ran r i) as (λ b. IsTrue (list_all (is_later n stamp) (cond (not b) (i ∷ without r is) (without r is)))) [
+  | true ↦ later_without n r stamp is (grind (arith, common_steps))
+  | false ↦ (let here : is_later n stamp i ≡ true = grind (arith, common_steps) in rw (here, later_without n r stamp is (grind (arith, common_steps))) refl)
+]
+
+-- the runs that stay stand in the order of their placings
+pub order_without : (n : Reading) (r : ℕ) (line : List Item) → IsTrue (placed_in_order n line) → IsTrue (placed_in_order n (without r line))
+order_without n r [] ordered = refl
+order_without n r (Ran x ∷ is) ordered = elim (x.0 == r) as (λ b. IsTrue (placed_in_order n (cond (not b) (Ran x ∷ without r is) (without r is)))) [
+  | true ↦ order_without n r is (grind (arith, common_steps))
+  | false ↦ rw (later_without n r (stamp_of n x.0) is (grind (arith, common_steps)), order_without n r is (grind (arith, common_steps))) refl
+]
+order_without n r (Failed d k ∷ is) ordered = order_without n r is ordered
+order_without n r (Back d k ∷ is) ordered = order_without n r is ordered

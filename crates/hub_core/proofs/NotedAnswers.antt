@@ -1,5 +1,6 @@
 -- How the calls of a lineage table that note an answer are one change.
 use Rattle.home_types.specs.declared.commands.View.{View}
+use Rattle.hub_core.specs.KeptOrders.{acquired_first, noted_first}
 use Rattle.lineage_table.specs.Accesses.{status_of, with_change}
 use Rattle.lineage_table.specs.Lineages.{LineageState, acquired, lineage_at, no_lineage, with_lineage, written}
 use Rattle.lineage_table.specs.declared.accesses.Access.{Access}
@@ -10,7 +11,7 @@ use Rattle.std.proofs.lemmas.Grind.{common_steps}
 use Rattle.std.proofs.lemmas.List.{get_or-set_same, length-set, set-get_or}
 use Rattle.std.specs.Prelude.{Bool, List, Option, Some, [], length, ℕ, ◌<◌, ◌∷◌, ◌≡◌}
 use Rattle.window_order.proofs.TableSteps.{with_both}
-use Rattle.window_order.specs.TableChanges.{acquired_if, noted, released_if, written_if}
+use Rattle.window_order.specs.TableChanges.{released_if, written_if}
 
 -- a change that leaves the lineage leaves the table
 pub with_same : (table : List LineageState) (d : ℕ) → with_lineage table d (λ s. s) ≡ table
@@ -34,9 +35,9 @@ pub written_now : (r v : ℕ) (s : LineageState) → status_of r s.accesses ≡ 
 written_now r v s h = status_changed r (λ (x : Access). record x { wrote = Some v }) Acquired Acquired s.accesses (λ x. refl) (λ x e. e) h
 
 -- the three changes are one
-pub noted_all : (r d : ℕ) (first : Bool) (view : View) (wrote : Option ℕ) (last : Bool) (t u v x : List LineageState) → d < length t → u ≡ with_lineage t d (acquired_if first r view) → v ≡ with_lineage u d (written_if wrote r) → x ≡ with_lineage v d (released_if last r)
-    → x ≡ with_lineage t d (noted r first view wrote last)
+pub noted_all : (r d : ℕ) (first : Bool) (view : View) (wrote : Option ℕ) (last : Bool) (t u v x : List LineageState) → d < length t → u ≡ with_lineage t d (acquired_first first r view) → v ≡ with_lineage u d (written_if wrote r) → x ≡ with_lineage v d (released_if last r)
+    → x ≡ with_lineage t d (noted_first r first view wrote last)
 noted_all r d first view wrote last t u v x below acquires writes releases =
     releases
-    ∙ ap (λ (y : List LineageState). with_lineage y d (released_if last r)) (writes ∙ ap (λ (y : List LineageState). with_lineage y d (written_if wrote r)) acquires ∙ with_both t d (acquired_if first r view) (written_if wrote r) below)
-    ∙ with_both t d (λ s. written_if wrote r (acquired_if first r view s)) (released_if last r) below
+    ∙ ap (λ (y : List LineageState). with_lineage y d (released_if last r)) (writes ∙ ap (λ (y : List LineageState). with_lineage y d (written_if wrote r)) acquires ∙ with_both t d (acquired_first first r view) (written_if wrote r) below)
+    ∙ with_both t d (λ s. written_if wrote r (acquired_first first r view s)) (released_if last r) below

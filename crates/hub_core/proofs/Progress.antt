@@ -7,6 +7,7 @@ use Rattle.history_book.specs.Histories.{entries_of}
 use Rattle.history_book.specs.Lines.{before, is_ran}
 use Rattle.history_book.specs.Readings.{PlacedAt, Reading, has_written, is_live, next_command, next_of, sees_down}
 use Rattle.history_book.specs.Settings.{Setting, device_numbers, run_numbers}
+use Rattle.history_book.specs.declared.entries.Cause.{Cause}
 use Rattle.history_book.specs.declared.entries.End.TheVariants.{Committed}
 use Rattle.history_book.specs.declared.entries.Entry.TheVariants.{Arrived, Ended, Placed}
 use Rattle.home_types.specs.Commands.{reads}
@@ -22,12 +23,13 @@ use Rattle.hub_core.proofs.Sizes.{run_there}
 use Rattle.hub_core.proofs.StageChoices.{StepsPlainly, choice_plain, live_stands, steps_plainly}
 use Rattle.hub_core.proofs.Takes.{live_run}
 use Rattle.hub_core.specs.HubKept.{ConfigurationIsKept}
-use Rattle.hub_core.specs.Stage.{plain_choice, plain_command}
-use Rattle.hub_core.specs.Steps.{Absent, Choice, HandsOut, Moves, Over, Waits, choice_of, not_quiet, only_if}
+use Rattle.hub_core.specs.Stage.{plain_choice, plain_command, plain_doomed}
+use Rattle.hub_core.specs.Steps.{Absent, Choice, HandsOut, Moves, Over, Waits, aborts, choice_of, first_case, not_quiet, only_if}
 use Rattle.hub_core.specs.declared.refusals.NotQuiet.TheVariants.{StillLive, StillOut}
-use Rattle.lock_leasing.specs.Configurations.{Configuration, Grips, has_grip, is_out, read_of}
+use Rattle.hub_core.specs.declared.waits.Why.TheVariants.{Busy}
+use Rattle.lock_leasing.specs.Configurations.{Configuration, Grips, Undoes, has_grip, is_out, read_of}
 use Rattle.lock_leasing.specs.Waits.{behind_wait, dirty_wait, grip_wait, strict_wait}
-use Rattle.lock_leasing.specs.Words.{has_effect, holds_device, live_before, live_runs}
+use Rattle.lock_leasing.specs.Words.{has_effect, holds_device, live_before, live_runs, next_undo_of, value_without}
 use Rattle.std.proofs.Common.{ap, arith, cond, inl, inr, refl, subst, sym, ◌∙◌}
 use Rattle.std.proofs.lemmas.Grind.{common_steps}
 use Rattle.std.proofs.lemmas.List.Sums.{take_while-cons}
@@ -103,9 +105,21 @@ waits_for_none runs kinds first Global scheduler n r none = ap (λ xs. find (λ 
 waits_for_none runs kinds first Partitioned scheduler n r none = ap (λ xs. find (λ x. shares runs x r) xs) none
 waits_for_none runs kinds first Eventual scheduler n r none = refl
 
+-- a doomed run is undone or ends, with its devices home
+doomed_goes : (w : Setting) (n : Reading) (g : Grips) (r : ℕ) (cause : Cause) → ((d : ℕ) → g d ≡ None) → is_wait (plain_doomed w n g r cause) ≡ false
+doomed_goes w n g r cause home = by_next (next_undo_of w n g r)
+  where
+    while_out : Option ℕ → Option ℕ
+    while_out None = None
+    while_out (Some d) = if is_out g d then Some d else None
+
+    by_next : (o : Option ℕ) → is_wait (first_case (option_map (λ d. Waits (Busy (device_no d))) (while_out o) ∷ option_map (λ d. HandsOut d (Undoes (value_without w n g r d))) o ∷ []) (aborts r cause)) ≡ false
+    by_next None = refl
+    by_next (Some d) = ap (λ b. is_wait (first_case (option_map (λ e. Waits (Busy (device_no e))) (if b then Some d else None) ∷ Some (HandsOut d (Undoes (value_without w n g r d))) ∷ []) (aborts r cause))) (ap (λ o. is_some o) (home d))
+
 -- a live run that stands behind no live run goes on, with its devices home
 first_goes : (w : Setting) (n : Reading) (g : Grips) (r m : ℕ) → StepsPlainly w n → is_run w.runs r ≡ true → is_none (n.run r).arrived ≡ false → is_live n r ≡ true → live_before n r ≡ [] → ((d : ℕ) → g d ≡ None) → is_wait (plain_choice w n g r m) ≡ false
-first_goes w n g r m p run came live first home = rw (run, going, home_free w g r home, came, placed) (by_next (next_command w n r))
+first_goes w n g r m p run came live first home = rw (run, going, home_free w g r home, came, placed) (by_doom (n.run r).doomed)
   where
     going : (n.run r).ended ≡ None
     going = none_is (n.run r).ended (grind (arith, common_steps, live))
@@ -134,6 +148,10 @@ first_goes w n g r m p run came live first home = rw (run, going, home_free w g 
         either : (b : Bool) → (if b then none_there else none_there) ≡ None
         either true = refl
         either false = refl
+
+    by_doom : (o : Option Cause) → is_wait (unwrap_or (option_map (plain_doomed w n g r) o) (unwrap_or (option_map (plain_command w n g r (next_of n r)) (next_command w n r)) (Over Committed (Ended (run_no r) Committed ∷ [])))) ≡ false
+    by_doom None = by_next (next_command w n r)
+    by_doom (Some cause) = doomed_goes w n g r cause home
 
 -- some run that has not ended is not told to wait
 pub some_run_moves : (s : Configuration) (rounds opened : ℕ) (held : ℕ → ℕ) (r : ℕ) → ConfigurationIsKept s rounds opened held → ((d : ℕ) → s.grips d ≡ None) → is_run s.setting.runs r ≡ true → ((read_of s).run r).ended ≡ None

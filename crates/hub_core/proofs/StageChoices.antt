@@ -1,6 +1,6 @@
 -- The step of a run in this stage.
 use Rattle.command_rules.specs.Rosters.{commands_of, device_no, followed_by, is_run, run_no, touches}
-use Rattle.history_book.proofs.Searches.{Each, own_devices}
+use Rattle.history_book.proofs.Searches.{Each, each_found, own_devices}
 use Rattle.history_book.proofs.Standing.{Standing, is_abort, standing}
 use Rattle.history_book.specs.Histories.{entries_of}
 use Rattle.history_book.specs.Lines.{Split, before, is_ran}
@@ -10,7 +10,7 @@ use Rattle.history_book.specs.declared.entries.Cause.{Cause}
 use Rattle.history_book.specs.declared.entries.Cause.TheVariants.{DownAtEnd, Revoked}
 use Rattle.history_book.specs.declared.entries.End.{End}
 use Rattle.history_book.specs.declared.entries.End.TheVariants.{Committed}
-use Rattle.history_book.specs.declared.entries.Entry.TheVariants.{Arrived, Doomed, Ended, Placed}
+use Rattle.history_book.specs.declared.entries.Entry.TheVariants.{Arrived, Doomed, Ended, Placed, Undid}
 use Rattle.home_types.specs.Kinds.{kind_at}
 use Rattle.home_types.specs.declared.commands.Command.{Command}
 use Rattle.home_types.specs.declared.items.Item.{Item}
@@ -19,18 +19,18 @@ use Rattle.home_types.specs.declared.modes.Scheduler.TheVariants.{Fcfs}
 use Rattle.home_types.specs.declared.modes.Scheduler.{Scheduler}
 use Rattle.home_types.specs.declared.modes.Visibility.{Visibility}
 use Rattle.home_types.specs.declared.modes.Visibility.TheVariants.{Eventual, Global, Partitioned, Weak}
-use Rattle.hub_core.proofs.Choices.{Answered, Commanding, IsNext, decide_is}
+use Rattle.hub_core.proofs.Choices.{Acts, Answered, Commanding, IsNext, Undoing, decide_is}
 use Rattle.hub_core.proofs.StageFacts.{ReadsPlainly, reads_plainly}
 use Rattle.hub_core.specs.HubKept.{ConfigurationIsKept, is_later, placed_in_order}
 use Rattle.hub_core.specs.Openings.{names_values_of}
-use Rattle.hub_core.specs.Stage.{is_safe, plain_choice, plain_command}
-use Rattle.hub_core.specs.Steps.{Absent, Choice, HandsOut, Moves, Over, Waits, answers_down, behind_case, busy_case, choice_of, command_cases, decide, decide_answered, decide_arrived, decide_command, decide_doomed, dirty_case, down_case, down_entries, first_case, only_if, strict_case}
+use Rattle.hub_core.specs.Stage.{plain_choice, plain_command, plain_doomed}
+use Rattle.hub_core.specs.Steps.{Absent, Choice, HandsOut, Moves, Over, Waits, aborts, answers_down, behind_case, busy_case, choice_of, command_cases, decide, decide_answered, decide_arrived, decide_command, decide_doomed, dirty_case, down_case, down_entries, first_case, only_if, strict_case, undo_cases, undo_on}
 use Rattle.hub_core.specs.declared.waits.Why.{Why}
 use Rattle.hub_core.specs.declared.waits.Why.TheVariants.{Busy}
-use Rattle.lock_leasing.specs.Configurations.{Commands, Configuration, Grips, is_out, read_of}
+use Rattle.lock_leasing.specs.Configurations.{Commands, Configuration, Grips, Undoes, is_out, read_of}
 use Rattle.lock_leasing.specs.Places.{At, DeniedBy, Placing, at_end, scheduled_place}
-use Rattle.lock_leasing.specs.Waits.{busy_wait, down_at_end, follow_wait, grip_wait}
-use Rattle.lock_leasing.specs.Words.{has_touched, is_overdue, lease_deadline, live_before, live_runs, overdue_for, stamp_of}
+use Rattle.lock_leasing.specs.Waits.{busy_wait, down_at_end, follow_wait, grip_wait, undo_wait}
+use Rattle.lock_leasing.specs.Words.{has_effect, has_touched, is_overdue, lease_deadline, live_before, live_runs, next_undo_of, overdue_for, stamp_of, value_without}
 use Rattle.std.proofs.Common.{ap, arith, cond, refl, subst, sym, ◌∙◌}
 use Rattle.std.proofs.lemmas.Grind.{common_steps}
 use Rattle.std.proofs.lemmas.List.Sums.{take_while-cons}
@@ -52,7 +52,6 @@ pub record StepsPlainly (w : Setting) (n : Reading) : Type 0 where
   pub strong : is_weak w.mode ≡ false
   pub scheduler : scheduler_of w.mode ≡ Fcfs
   pub follows_none : (r : ℕ) → followed_by w.runs r ≡ None
-  pub safe : (r k : ℕ) (c : Command) → slice_get (commands_of w.runs r) k ≡ Some c → is_safe c ≡ true
   pub homed : (r k : ℕ) (c : Command) → slice_get (commands_of w.runs r) k ≡ Some c → is_device w c.device.0 ≡ true
   pub up : (d : ℕ) → is_device w d ≡ true → n.up d ≡ true
   pub read : ReadsPlainly w n
@@ -61,7 +60,7 @@ pub record StepsPlainly (w : Setting) (n : Reading) : Type 0 where
 
 -- no run sees a device down
 pub never_down : (w : Setting) (n : Reading) (r d : ℕ) → ReadsPlainly w n → sees_down n r d ≡ false
-never_down w n r d p = up_view ((n.run r).on d).view (((p.runs r).on d).view)
+never_down w n r d p = up_view ((n.run r).on d).view (p.views r d)
   where
     up_view : (v : Option Bool) → unwrap_or v true ≡ true → unwrap_or (option_map not v) false ≡ false
     up_view None e = refl
@@ -154,6 +153,19 @@ command_is w n g r m k c p live home =
     out : Choice
     out = HandsOut c.device.0 (Commands k)
 
+-- an undo drives
+undo_is : (w : Setting) (n : Reading) (g : Grips) (r d : ℕ) → StepsPlainly w n → next_undo_of w n g r ≡ Some d → undo_on w n g r d ≡ HandsOut d (Undoes (value_without w n g r d))
+undo_is w n g r d p at = ap (λ b. if b then HandsOut d (Undoes (value_without w n g r d)) else Moves (Undid (run_no r) (device_no d) false ∷ [])) (p.up d device)
+  where
+    device : is_device w d ≡ true
+    device = (each_found (λ x. (is_device w x ≡ true) × (touches w.runs r x ≡ true)) (has_effect n g r) (devices_of w r) d (own_devices w r) at).0.0
+
+doomed_is : (w : Setting) (n : Reading) (g : Grips) (r : ℕ) (cause : Cause) → StepsPlainly w n → decide_doomed w n g r cause ≡ plain_doomed w n g r cause
+doomed_is w n g r cause p =
+    ap (λ b. first_case (if b then [] else undo_cases w n g r) (aborts r cause)) p.strong
+    ∙ same_map (λ d. Waits (Busy (device_no d))) (λ d. Waits (Busy (device_no d))) (undo_wait w n g r) _ _ (λ d at. refl)
+    (λ free. same_map (undo_on w n g r) (λ d. HandsOut d (Undoes (value_without w n g r d))) (next_undo_of w n g r) (aborts r cause) (aborts r cause) (λ d at. undo_is w n g r d p at) (λ over. refl))
+
 end_is : (w : Setting) (n : Reading) (g : Grips) (r : ℕ) → StepsPlainly w n → decide_answered w n g r ≡ Over Committed (Ended (run_no r) Committed ∷ [])
 end_is w n g r p = ap (λ o. unwrap_or (option_map (λ d. Moves (Doomed (run_no r) (DownAtEnd (device_no d)) ∷ [])) o) (Over Committed (Ended (run_no r) Committed ∷ []))) (ends_up w n g r p)
 
@@ -165,8 +177,8 @@ decide_plain w n g r m p =
     same_map (λ d. Waits (Busy (device_no d))) (λ d. Waits (Busy (device_no d))) (grip_wait w g r) _ _ (λ d at. refl) (λ free.
     same_test (is_none (n.run r).arrived) (Moves (Arrived (run_no r) m ∷ [])) _ _ (λ came.
     ap (λ c. unwrap_or (only_if (is_none (n.run r).placed) c) (first_case (option_map (decide_doomed w n g r) (n.run r).doomed ∷ option_map (decide_command w n g r m (next_of n r)) (next_command w n r) ∷ []) (decide_answered w n g r))) (place_is w n g r m p) ∙ same_test (is_none (n.run r).placed) (Moves (Placed (run_no r) (length n.line) m ∷ [])) _ _ (λ placed.
-    ap (λ o. first_case (option_map (decide_doomed w n g r) o ∷ option_map (decide_command w n g r m (next_of n r)) (next_command w n r) ∷ []) (decide_answered w n g r)) ((p.read.runs r).sound) ∙
-    same_map (decide_command w n g r m (next_of n r)) (plain_command w n g r (next_of n r)) (next_command w n r) _ _ (λ c at. command_is w n g r m (next_of n r) c p (live going placed) (p.homed r (next_of n r) c at)) (λ none. end_is w n g r p))))))
+    same_map (decide_doomed w n g r) (plain_doomed w n g r) (n.run r).doomed _ _ (λ cause at. doomed_is w n g r cause p) (λ sound.
+    same_map (decide_command w n g r m (next_of n r)) (plain_command w n g r (next_of n r)) (next_command w n r) _ _ (λ c at. command_is w n g r m (next_of n r) c p (live going placed) (p.homed r (next_of n r) c at)) (λ none. end_is w n g r p)))))))
   where
     live : (n.run r).ended ≡ None → is_none (n.run r).placed ≡ false → is_live n r ≡ true
     live going placed = grind (arith, common_steps)
@@ -195,7 +207,6 @@ steps_plainly s rounds opened held kept =
       strong = kept.stage.strong;
       scheduler = first_served s.setting.mode.model s.setting.mode.scheduler kept.stage.scheduler;
       follows_none = kept.stage.follows_none;
-      safe = kept.stage.safe;
       homed = λ r k c at. let home : IsTrue (is_device s.setting c.device.0 && names_values_of (kind_at s.setting.kinds c.device.0) c.job) = kept.opens.homed r k c at in grind (arith, common_steps);
       up = λ d home. read.up d ∙ kept.stage.up d (let below : nat_lt d (length s.setting.first) ≡ true = home in grind (arith, common_steps));
       read = read;
@@ -218,6 +229,8 @@ pub record HoldsOfPlain (P : Choice → Type 0) (w : Setting) (n : Reading) (g :
   pub waits : (why : Why) → P (Waits why)
   pub arrives : is_run w.runs r ≡ true → is_none (n.run r).arrived ≡ true → P (Moves (Arrived (run_no r) m ∷ []))
   pub enters : is_run w.runs r ≡ true → is_none (n.run r).placed ≡ true → P (Moves (Placed (run_no r) (length n.line) m ∷ []))
+  pub aborted : (cause : Cause) → Acts w n g r → (n.run r).doomed ≡ Some cause → next_undo_of w n g r ≡ None → P (aborts r cause)
+  pub undoes : (cause : Cause) (d : ℕ) → Undoing w n g r d cause → n.up d ≡ true → P (HandsOut d (Undoes (value_without w n g r d)))
   pub goes : (c : Command) → Commanding w n g r c → IsNext w n g r m c → is_out g c.device.0 ≡ false → P (HandsOut c.device.0 (Commands (next_of n r)))
   pub commits : Answered w n g r → P (Over Committed (Ended (run_no r) Committed ∷ []))
 
@@ -229,9 +242,9 @@ plain_is P w n g r m p each =
       waits = each.waits;
       arrives = each.arrives;
       enters = λ s enters. subst (λ at. P (Moves (Placed (run_no r) at m ∷ []))) (front_is s enters.place) (each.enters enters.run enters.unplaced);
-      aborted = λ cause act doomed over. absurd (not_doomed cause doomed);
-      drops = λ cause d undoing down. absurd (not_doomed cause undoing.doomed);
-      undoes = λ cause d undoing up. absurd (not_doomed cause undoing.doomed);
+      aborted = λ cause act doomed over. each.aborted cause act doomed (over p.strong);
+      drops = λ cause d undoing down. absurd (let both : true ≡ false = sym (p.up d undoing.device) ∙ down in cc);
+      undoes = each.undoes;
       revokes = λ c x run strong at. absurd (let both : None ≡ Some x = sym (never_overdue w n g r c.device.0 m p run.act.live) ∙ at in cc);
       downs = λ c run next home down. absurd (let both : false ≡ true = sym (answers_up w n r c.device.0 p (p.homed r (next_of n r) c run.next)) ∙ down in cc);
       goes = λ c run next home up. each.goes c run (next p.strong) (sym (busy_is w n g r c.device.0 p) ∙ home);
@@ -239,9 +252,6 @@ plain_is P w n g r m p each =
       commits = λ all up. each.commits all;
     })
   where
-    not_doomed : (cause : Cause) → (n.run r).doomed ≡ Some cause → ⊥
-    not_doomed cause at = let both : None ≡ Some cause = sym (p.read.runs r).sound ∙ at in absurd (cc)
-
     front_of : Placing → ℕ
     front_of (At s) = length s.front
     front_of (DeniedBy d x) = 0

@@ -13,7 +13,7 @@ use Rattle.home_types.specs.declared.modes.Visibility.TheVariants.{Global}
 use Rattle.home_types.specs.declared.worlds.Stand.{Stand}
 use Rattle.hub_core.specs.Homes.{CountsAreLow, HomeIsKept, HomeState, setting_for}
 use Rattle.hub_core.specs.Openings.{MayOpen, names_values_of}
-use Rattle.hub_core.specs.Stage.{StageAllows, is_safe}
+use Rattle.hub_core.specs.Stage.{StageAllows}
 use Rattle.std.proofs.Common.{ap, arith, refl, subst, sym, ◌∙◌}
 use Rattle.std.specs.Prelude.{IsTrue, List, None, Some, [], length, slice_get, suc, true, zero, ℕ, ◌&&◌, ◌<◌, ◌∷◌, ◌≡◌, ◌≤◌}
 
@@ -103,7 +103,6 @@ lamp_allows : StageAllows lamp_setting 0
 lamp_allows = record {
   strong = refl;
   scheduler = refl;
-  safe = each_command (λ c. is_safe c ≡ true) refl refl;
   follows_none = none_follows;
   up = up;
   no_probes = refl;

@@ -1,13 +1,19 @@
 -- What the code chooses, as the choice of a step.
-use Rattle.command_rules.specs.Rosters.{run_no}
-use Rattle.history_book.specs.Readings.{Reading}
-use Rattle.history_book.specs.declared.entries.End.TheVariants.{Committed}
+use Rattle.command_rules.specs.Rosters.{command_at, run_no}
+use Rattle.history_book.specs.Readings.{Reading, is_doomed}
+use Rattle.history_book.specs.Settings.{Setting}
+use Rattle.history_book.specs.declared.entries.Cause.TheVariants.{Refuted}
+use Rattle.history_book.specs.declared.entries.Cause.{Cause}
+use Rattle.history_book.specs.declared.entries.End.TheVariants.{Aborted, Committed}
 use Rattle.history_book.specs.declared.entries.Entry.TheVariants.{Arrived, Ended, Placed}
+use Rattle.home_types.specs.Commands.{fails}
+use Rattle.home_types.specs.declared.commands.Answer.TheVariants.{Down, Fine, Found}
+use Rattle.home_types.specs.declared.commands.Answer.{Answer}
 use Rattle.hub_core.specs.OpenHubs.{purpose_of}
 use Rattle.hub_core.specs.Steps.{Absent as IsAbsent, Choice, HandsOut as IsHandedOut, Moves, Over as IsOver, Waits as IsWaiting}
-use Rattle.hub_core.specs.declared.decisions.Chosen.TheVariants.{Absent, Arrives, Commits, HandsOut, Joins, Over, Waits}
+use Rattle.hub_core.specs.declared.decisions.Chosen.TheVariants.{Aborts, Absent, Arrives, Commits, HandsOut, Joins, Over, Waits}
 use Rattle.hub_core.specs.declared.decisions.Chosen.{Chosen}
-use Rattle.std.specs.Prelude.{[], length, ℕ, ◌∷◌}
+use Rattle.std.specs.Prelude.{None, Option, Some, [], if◌then◌else◌, length, not, ℕ, ◌&&◌, ◌∷◌}
 
 -- .. of the run at this moment, where the history says this
 abbrev pub told_choice : ℕ → ℕ → Reading → Chosen → Choice
@@ -16,5 +22,12 @@ told_choice r m n (Over end) = IsOver end []
 told_choice r m n Arrives = Moves (Arrived (run_no r) m ∷ [])
 told_choice r m n Joins = Moves (Placed (run_no r) (length n.line) m ∷ [])
 told_choice r m n Commits = IsOver Committed (Ended (run_no r) Committed ∷ [])
+told_choice r m n (Aborts cause) = IsOver (Aborted cause) (Ended (run_no r) (Aborted cause) ∷ [])
 told_choice r m n (Waits why) = IsWaiting why
 told_choice r m n (HandsOut d purpose) = IsHandedOut d.0 (purpose_of purpose)
+
+-- for what the run is doomed with this answer to its command k: a must check that found another value, where the run is not doomed yet
+abbrev pub refuted_by : Setting → Reading → ℕ → ℕ → Answer → Option Cause
+refuted_by w n r k Fine = None
+refuted_by w n r k (Found x) = if fails (command_at w.runs r k) (Found x) && not (is_doomed n r) then Some (Refuted k x) else None
+refuted_by w n r k Down = None

@@ -19,6 +19,7 @@ use Rattle.hub_core.specs.HubSteps.{Carried, Chose, Give, GiveProbe, Gave, HubSt
 use Rattle.hub_core.specs.JustifiedAborts.{IsJustified}
 use Rattle.hub_core.specs.LegalWindows.{IsLegalWindow}
 use Rattle.hub_core.specs.OpenHubs.{OpenHub, configuration_of, device_at, state_of}
+use Rattle.hub_core.specs.Stage.{has_must_check}
 use Rattle.hub_core.specs.Steps.{Absent as IsAbsent, Choice, HandsOut, Moves, Over as IsOver, Waits, choice_of, opened}
 use Rattle.hub_core.specs.declared.turns.Turn.TheVariants.{Absent, Go, Moved, Over, Wait}
 use Rattle.hub_core.specs.declared.turns.Turn.{Turn}
@@ -29,7 +30,7 @@ use Rattle.lock_leasing.specs.Places.{PlacesAreScheduled}
 use Rattle.lock_leasing.specs.Words.{standing_value}
 use Rattle.command_rules.specs.Rosters.{command_at, is_run}
 use Rattle.window_order.specs.OrderKept.{GripsFit}
-use Rattle.std.specs.Prelude.{Bool, Err, None, Ok, Option, Result, Some, is_some, length, not, slice_get, slice_index_or, slice_set, true, ℕ, ◌*◌, ◌+◌, ◌-◌, ◌<◌, ◌≡◌, ◌≢◌, ◌≤◌, ◌||◌}
+use Rattle.std.specs.Prelude.{Bool, Err, None, Ok, Option, Result, Some, false, is_some, length, not, slice_get, slice_index_or, slice_set, true, ℕ, ◌*◌, ◌+◌, ◌-◌, ◌<◌, ◌≡◌, ◌≢◌, ◌≤◌, ◌||◌}
 
 -- the hub is in the same window, with the same counts of its devices at the opening
 pub record SameWindow {D : Type 0} (s t : OpenHub D) : Type 0 where
@@ -107,9 +108,9 @@ pub record IsClosed {D : Type 0} (turns probes faults : D → ℕ) (s : OpenHub 
   pub last : home.world ≡ closed.last.devices.items
   pub opened : home.opened ≡ s.opened + 1
   pub places : s.places ≡ all_home home.devices
-  -- in this stage every run commits
-  pub commits : (r : ℕ) → is_run s.setting.runs r ≡ true → ((reading s.setting (entries_of closed.history.items)).run r).ended ≡ Some Committed
-  -- and no device fails
+  -- in this stage every run that has no must `check` commits
+  pub commits : (r : ℕ) → is_run s.setting.runs r ≡ true → has_must_check s.setting.runs r ≡ false → ((reading s.setting (entries_of closed.history.items)).run r).ended ≡ Some Committed
+  -- and each device is up
   pub up : (d : ℕ) → d < length home.world → (stand_at home.world d).up ≡ true
   pub turns_rose : (d : ℕ) (device : D) → slice_get home.devices d ≡ Some device → turns device ≡ (device_at s.devices d).at_opening.turns + slice_index_or closed.turns.items d 0
   pub probes_rose : (d : ℕ) (device : D) → slice_get home.devices d ≡ Some device → probes device ≡ (device_at s.devices d).at_opening.probes + (s.rounds - (device_at s.devices d).probes_left)
@@ -154,13 +155,15 @@ pub record HubStands {D : Type 0} (stands turns probes : D → ℕ) (s : OpenHub
   pub justified : IsJustified s.setting (entries_of s.history)
   pub stand : DevicesStand stands s
   pub told : CallsAreTold turns probes s
+  -- in this stage there are no probes
+  pub no_probes : s.rounds ≡ 0
 
 -- where no device is out and some run has not ended, some run that has not ended does not wait, at any moment
 abbrev pub SomeRunMoves : Configuration → Type 0
 SomeRunMoves s = (r : ℕ) → is_run s.setting.runs r ≡ true → ((read_of s).run r).ended ≡ None → ((d : ℕ) → s.grips d ≡ None)
     → (q : ℕ) × (is_run s.setting.runs q ≡ true) × (((read_of s).run q).ended ≡ None) × ((m : ℕ) (why : Why) → choice_of s q m ≢ Waits why)
 
--- how many entries a history of one run has at most: its arrival, its placing, an answer to each command with a failure, a doom, an undo of each device with a failure, and its end
+-- how many entries a history of one run has at most, failures and restarts apart: its arrival, its placing, an answer to each of 64 commands, a doom, an undo on each of 64 devices, and its end
 abbrev pub entries_of_a_run : ℕ
 entries_of_a_run = 132
 

@@ -3,23 +3,26 @@ use Rattle.history_book.specs.Histories.{entries_of}
 use Rattle.history_book.specs.Readings.{Reading, is_live}
 use Rattle.history_book.specs.Settings.{Setting, is_strict}
 use Rattle.history_book.specs.WellFormed.{IsWellFormed}
-use Rattle.history_book.specs.declared.entries.End.TheVariants.{Aborted, Committed}
+use Rattle.history_book.specs.declared.entries.Cause.TheVariants.{DownAtEnd, Lost, MustDown, Refuted, Revoked}
 use Rattle.history_book.specs.declared.entries.Entry.{Entry}
 use Rattle.history_book.specs.declared.entries.Entry.TheVariants.{Arrived, Did, Doomed, Ended, Fell, Placed, Rose, Undid}
+use Rattle.home_types.specs.HomeStates.{stand_at}
+use Rattle.home_types.specs.Kinds.{has_value, kind_at}
 use Rattle.home_types.specs.declared.commands.Answer.TheVariants.{Down, Fine, Found}
 use Rattle.home_types.specs.declared.items.Item.{Item}
 use Rattle.home_types.specs.declared.items.Item.TheVariants.{Back, Failed, Ran}
+use Rattle.home_types.specs.declared.kinds.Kind.{Kind}
 use Rattle.hub_core.specs.CleanReads.{ReadsAreClean}
 use Rattle.hub_core.specs.Isolation.{IsStrict}
 use Rattle.hub_core.specs.JustifiedAborts.{IsJustified}
 use Rattle.hub_core.specs.Openings.{MayOpen}
 use Rattle.hub_core.specs.Stage.{StageAllows}
-use Rattle.lock_leasing.specs.Configurations.{Configuration, Grip, Grips, has_grip, is_command, read_of}
+use Rattle.lock_leasing.specs.Configurations.{Commands, Configuration, Grip, Grips, Probes, Purpose, Undoes, has_grip, is_command, read_of}
 use Rattle.lock_leasing.specs.Places.{PlacesAreScheduled}
 use Rattle.lock_leasing.specs.Waits.{strict_wait}
 use Rattle.lock_leasing.specs.Words.{has_touched, stamp_of}
 use Rattle.std.specs.List.{list_all}
-use Rattle.std.specs.Prelude.{Bool, IsTrue, List, None, Some, [], false, length, nat_lt, true, ℕ, ◌&&◌, ◌||◌, ◌∷◌, ◌≡◌, ◌≤◌}
+use Rattle.std.specs.Prelude.{Bool, IsTrue, List, None, Some, [], false, length, nat_lt, not, true, ℕ, ◌&&◌, ◌<◌, ◌||◌, ◌∷◌, ◌≡◌, ◌≤◌}
 use Rattle.window_order.specs.OrderKept.{OrderIsKept}
 
 -- the item is a run that was placed after this number of entries
@@ -35,27 +38,53 @@ placed_in_order n (Ran r ∷ is) = list_all (is_later n (stamp_of n r.0)) is && 
 placed_in_order n (Failed d k ∷ is) = placed_in_order n is
 placed_in_order n (Back d k ∷ is) = placed_in_order n is
 
--- a run that has touched a device, or has out a grip, waits for no run by its model
+-- a live run that has touched a device, or has out a grip, waits for no run by its model
 abbrev pub ActsInTurn : Setting → Reading → Grips → Type 0
 ActsInTurn w n g = (r d : ℕ) → IsTrue (is_live n r && (has_touched n g r d || has_grip g r d)) → strict_wait w n r ≡ None
 
--- in this stage a history tells of arrivals, placings, commands that worked and commits alone
+-- in this stage no device fails: a history tells of arrivals, placings, commands that worked, dooms by a value that a must `check` found, undos that drove, and ends
 abbrev pub is_plain : Entry → Bool
 is_plain (Arrived r m) = true
 is_plain (Placed r at m) = true
 is_plain (Did r c Fine) = true
 is_plain (Did r c (Found x)) = true
 is_plain (Did r c Down) = false
-is_plain (Undid r d drove) = false
+is_plain (Undid r d drove) = drove
 is_plain (Fell d) = false
 is_plain (Rose d) = false
-is_plain (Doomed r cause) = false
-is_plain (Ended r Committed) = true
-is_plain (Ended r (Aborted cause)) = false
+is_plain (Doomed r (MustDown c)) = false
+is_plain (Doomed r (Refuted c x)) = true
+is_plain (Doomed r (Lost d)) = false
+is_plain (Doomed r (Revoked lender d deadline m)) = false
+is_plain (Doomed r (DownAtEnd d)) = false
+is_plain (Ended r e) = true
 
--- in this stage a device is out for a command alone
-abbrev pub CommandsAreOut : Grips → Type 0
-CommandsAreOut g = (d : ℕ) (grip : Grip) → g d ≡ Some grip → IsTrue (is_command grip.purpose)
+-- the test holds of each device that is out and its grip
+abbrev pub EachOut : Grips → (ℕ → Grip → Bool) → Type 0
+EachOut g test = (d : ℕ) (grip : Grip) → g d ≡ Some grip → test d grip ≡ true
+
+-- what a run does with a device: a command, or an undo
+abbrev pub is_of_run : Purpose → Bool
+is_of_run (Commands k) = true
+is_of_run (Undoes v) = true
+is_of_run (Probes v) = false
+
+-- in this stage a device is out for a run, and for no probe
+abbrev pub RunsAreOut : Grips → Type 0
+RunsAreOut g = EachOut g (λ d grip. is_of_run grip.purpose)
+
+-- a run that has a command out has had no answer since it was doomed
+abbrev pub NoneAnsweredDoomed : Reading → Grips → Type 0
+NoneAnsweredDoomed n g = EachOut g (λ d grip. not (is_command grip.purpose && (n.run grip.maker).answered_doomed))
+
+-- an undo drives a value of the device's kind
+abbrev pub undo_fits : Kind → Purpose → Bool
+undo_fits kind (Commands k) = true
+undo_fits kind (Undoes v) = has_value kind v
+undo_fits kind (Probes v) = true
+
+abbrev pub UndosFit : Setting → Grips → Type 0
+UndosFit w g = EachOut g (λ d grip. undo_fits (kind_at w.kinds d) grip.purpose)
 
 -- what is kept of the history and the grips
 pub record HistoryIsKept (s : Configuration) : Type 0 where
@@ -68,6 +97,7 @@ pub record HistoryIsKept (s : Configuration) : Type 0 where
   pub isolated : IsTrue (is_strict s.setting.mode) → IsStrict s.setting (entries_of s.history)
   pub in_order : IsTrue (placed_in_order (read_of s) (read_of s).line)
   pub in_turn : ActsInTurn s.setting (read_of s) s.grips
+  pub first : NoneAnsweredDoomed (read_of s) s.grips
 
 -- what is kept of a configuration in which each device stands, or stood as it went out, at this value: of a window that may be opened, and that this stage works
 pub record ConfigurationIsKept (s : Configuration) (rounds opened : ℕ) (held : ℕ → ℕ) : Type 0 where
@@ -75,6 +105,8 @@ pub record ConfigurationIsKept (s : Configuration) (rounds opened : ℕ) (held :
   pub stage : StageAllows s.setting rounds
   pub kinds : length s.setting.kinds ≡ length s.setting.first
   pub probes : (d : ℕ) → s.probes d ≤ rounds
-  pub commands : CommandsAreOut s.grips
+  pub values : (d : ℕ) → d < length s.setting.first → IsTrue (has_value (kind_at s.setting.kinds d) (stand_at s.setting.first d).value)
+  pub runs : RunsAreOut s.grips
+  pub undos : UndosFit s.setting s.grips
   pub history : HistoryIsKept s
   pub order : OrderIsKept s.setting (read_of s) s.grips held

@@ -5,26 +5,35 @@ use Rattle.hub_core.specs.HubCalls.{entries_of_a_run}
 use Rattle.hub_core.specs.ReadHistories.{HistoryState, read_in}
 use Rattle.lineage_table.specs.Accesses.{is_scheduled, status_of}
 use Rattle.lineage_table.specs.Lineages.{LineageState}
+use Rattle.home_types.specs.declared.commands.View.{View}
 use Rattle.lineage_table.specs.declared.accesses.Status.TheVariants.{Acquired, Scheduled}
 use Rattle.lock_leasing.specs.Configurations.{Grips}
 use Rattle.serial_line.specs.Marks.{Marked}
-use Rattle.std.specs.Prelude.{Bool, List, Some, false, if◌then◌else◌, length, option_map, true, unwrap_or, ℕ, ◌*◌, ◌+◌, ◌≡◌, ◌≤◌}
+use Rattle.std.specs.Prelude.{Bool, List, Option, Some, false, if◌then◌else◌, length, option_map, true, unwrap_or, ℕ, ◌*◌, ◌+◌, ◌≡◌, ◌≤◌}
 use Rattle.window_order.specs.MarksKept.{MarksAreKept}
-use Rattle.window_order.specs.TableChanges.{IsFirst}
+use Rattle.window_order.specs.TableChanges.{IsWaiting, acquired_if, noted, passed_if}
 use Rattle.window_order.specs.TableKept.{TableIsKept}
 
 -- the run has not touched the device: its access is scheduled
 abbrev pub is_first : ℕ → LineageState → Bool
 is_first r s = unwrap_or (option_map is_scheduled (status_of r s.accesses)) false
 
--- the run may have an answer on the device: its access is acquired, or scheduled where it is the first of those that are
+-- the run may have an answer on the device: its access is acquired, or scheduled where none is
 pub record MayNote (r : ℕ) (s : LineageState) : Type 0 where
   pub status : status_of r s.accesses ≡ Some (if is_first r s then Scheduled else Acquired)
-  pub first : is_first r s ≡ true → IsFirst r s
+  pub first : is_first r s ≡ true → IsWaiting r s
 
--- the table is that of the reading, and the line too, each item with what it has touched; after so many entries the line has no more items, and room for one with each entry to come
+-- the run touches the device, where it has not before: the scheduled accesses before its own are passed, and then its own is acquired
+abbrev pub acquired_first : Bool → ℕ → View → LineageState → LineageState
+acquired_first first r view s = acquired_if first r view (passed_if first r s)
+
+-- .. and it notes its answer there
+abbrev pub noted_first : ℕ → Bool → View → Option ℕ → Bool → LineageState → LineageState
+noted_first r first view wrote last s = noted r first view wrote last (passed_if first r s)
+
+-- the table is that of the reading and the grips, and the line too, each item with what it has touched; after so many entries the line has no more items, and room for one with each entry to come
 pub record IsOrderOf (w : Setting) (n : Reading) (g : Grips) (entries : ℕ) (line : Marked) (table : List LineageState) : Type 0 where
-  pub table_is : TableIsKept w n table
+  pub table_is : TableIsKept w n g table
   pub line_is : MarksAreKept n g line.marks
   pub short : length line.marks ≤ entries
   pub room : entries_of_a_run * length w.runs ≤ line.spare + entries

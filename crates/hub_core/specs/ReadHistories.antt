@@ -1,12 +1,15 @@
 -- A history, and what is kept beside it of what it says.
+use Rattle.command_rules.specs.Rosters.{run_no}
 use Rattle.history_book.specs.Histories.{entries_of, kept_by, reading}
 use Rattle.history_book.specs.Readings.{Reading}
 use Rattle.history_book.specs.Settings.{Setting}
+use Rattle.history_book.specs.declared.entries.Cause.{Cause}
+use Rattle.history_book.specs.declared.entries.Entry.TheVariants.{Doomed}
 use Rattle.history_book.specs.declared.entries.Entry.{Entry}
 use Rattle.history_book.specs.declared.entries.Kept.{Kept}
 use Rattle.hub_core.specs.OpenHubs.{progress_of}
 use Rattle.hub_core.specs.declared.known.RunProgress.{RunProgress}
-use Rattle.std.specs.Prelude.{List, Some, [], length, slice_get, suc, ℕ, ◌++◌, ◌-◌, ◌<◌, ◌∷◌, ◌≡◌}
+use Rattle.std.specs.Prelude.{List, None, Option, Some, [], length, slice_get, suc, ℕ, ◌++◌, ◌-◌, ◌<◌, ◌∷◌, ◌≡◌}
 
 -- what it shows: what is fixed, the entries, and how many more it takes with no memory
 pub record HistoryState : Type 0 where
@@ -21,6 +24,11 @@ read_in s = reading s.setting (entries_of s.history)
 -- the entry is appended, and takes one place of the room
 abbrev pub with_entry : HistoryState → ℕ → Entry → HistoryState
 with_entry s maker entry = record s { history = s.history ++ kept_by maker (entry ∷ []); spare = s.spare - 1 }
+
+-- the run is doomed, where there is a cause
+abbrev pub with_doom : HistoryState → ℕ → Option Cause → HistoryState
+with_doom s r None = s
+with_doom s r (Some cause) = with_entry s r (Doomed (run_no r) cause)
 
 -- the progress of each run is what the history says
 pub record IsReadBeside (s : HistoryState) (progress : List RunProgress) : Type 0 where

@@ -1,7 +1,8 @@
--- What this stage of the hub is built for: every model but the weak one, with runs placed first come first served, on a home with every device up, runs that follow no run and have no must `check`, and no probes.
-use Rattle.command_rules.specs.Rosters.{commands_of, device_no, followed_by, is_run, run_no}
+-- What this stage of the hub is built for: every model but the weak one, with runs placed first come first served, on a home with every device up, runs that follow no run, and no probes.
+use Rattle.command_rules.specs.Rosters.{Run, commands_of, device_no, followed_by, is_run, run_no}
 use Rattle.history_book.specs.Readings.{Reading, next_command, next_of}
 use Rattle.history_book.specs.Settings.{Setting, is_weak}
+use Rattle.history_book.specs.declared.entries.Cause.{Cause}
 use Rattle.history_book.specs.declared.entries.End.TheVariants.{Committed}
 use Rattle.history_book.specs.declared.entries.Entry.TheVariants.{Arrived, Ended, Placed}
 use Rattle.home_types.specs.HomeStates.{stand_at}
@@ -9,11 +10,13 @@ use Rattle.home_types.specs.declared.commands.Command.{Command}
 use Rattle.home_types.specs.declared.commands.Job.{Job}
 use Rattle.home_types.specs.declared.commands.Job.TheVariants.{Check, Load, Set, Store}
 use Rattle.home_types.specs.declared.modes.Scheduler.TheVariants.{Fcfs}
-use Rattle.hub_core.specs.Steps.{Absent, Choice, HandsOut, Moves, Over, Waits, behind_case, dirty_case, first_case, only_if, strict_case}
+use Rattle.hub_core.specs.Steps.{Absent, Choice, HandsOut, Moves, Over, Waits, aborts, behind_case, dirty_case, first_case, only_if, strict_case}
 use Rattle.hub_core.specs.declared.waits.Why.TheVariants.{Busy}
-use Rattle.lock_leasing.specs.Configurations.{Commands, Grips, is_out}
-use Rattle.lock_leasing.specs.Waits.{grip_wait}
-use Rattle.std.specs.Prelude.{Bool, None, Some, [], false, is_none, length, not, option_map, slice_get, true, ℕ, ◌&&◌, ◌<◌, ◌∷◌, ◌≡◌}
+use Rattle.lock_leasing.specs.Configurations.{Commands, Grips, Undoes, is_out}
+use Rattle.lock_leasing.specs.Waits.{grip_wait, undo_wait}
+use Rattle.lock_leasing.specs.Words.{next_undo_of, value_without}
+use Rattle.std.specs.List.{list_any}
+use Rattle.std.specs.Prelude.{Bool, List, None, [], false, is_none, length, not, option_map, true, ℕ, ◌&&◌, ◌<◌, ◌∷◌, ◌≡◌}
 
 abbrev pub is_check : Job → Bool
 is_check (Set v) = false
@@ -21,15 +24,17 @@ is_check (Check v) = true
 is_check Load = false
 is_check Store = false
 
--- no value that the command finds can doom its run: it is no must `check`
-abbrev pub is_safe : Command → Bool
-is_safe c = not (c.must && is_check c.job)
+-- a must `check`: what it finds may doom its run
+abbrev pub is_must_check : Command → Bool
+is_must_check c = c.must && is_check c.job
+
+abbrev pub has_must_check : List Run → ℕ → Bool
+has_must_check runs r = list_any is_must_check (commands_of runs r)
 
 -- this stage works the window
 pub record StageAllows (w : Setting) (rounds : ℕ) : Type 0 where
   pub strong : is_weak w.mode ≡ false
   pub scheduler : w.mode.scheduler ≡ Fcfs
-  pub safe : (r k : ℕ) (c : Command) → slice_get (commands_of w.runs r) k ≡ Some c → is_safe c ≡ true
   pub follows_none : (r : ℕ) → followed_by w.runs r ≡ None
   pub up : (d : ℕ) → d < length w.first → (stand_at w.first d).up ≡ true
   pub no_probes : rounds ≡ 0
@@ -40,7 +45,15 @@ pub record StageAllows (w : Setting) (rounds : ℕ) : Type 0 where
 abbrev pub plain_command : Setting → Reading → Grips → ℕ → ℕ → Command → Choice
 plain_command w n g r k c = first_case (behind_case w n g r c ∷ dirty_case w n g r c ∷ strict_case w n r ∷ only_if (is_out g c.device.0) (Waits (Busy c.device)) ∷ []) (HandsOut c.device.0 (Commands k))
 
--- the run arrives, is placed at the end of the line, has its next command, and at last commits
+-- the next device on which a doomed run is undone: it is out, or goes out to stand where it would if the run had not written; with none left the run ends for the cause of its doom
+abbrev pub plain_doomed : Setting → Reading → Grips → ℕ → Cause → Choice
+plain_doomed w n g r cause =
+    first_case
+    (option_map (λ d. Waits (Busy (device_no d))) (undo_wait w n g r)
+    ∷ option_map (λ d. HandsOut d (Undoes (value_without w n g r d))) (next_undo_of w n g r) ∷ [])
+    (aborts r cause)
+
+-- the run arrives, is placed at the end of the line, is undone where it is doomed, else has its next command, and at last commits
 abbrev pub plain_choice : Setting → Reading → Grips → ℕ → ℕ → Choice
 plain_choice w n g r m =
     first_case
@@ -49,5 +62,6 @@ plain_choice w n g r m =
     ∷ option_map (λ d. Waits (Busy (device_no d))) (grip_wait w g r)
     ∷ only_if (is_none (n.run r).arrived) (Moves (Arrived (run_no r) m ∷ []))
     ∷ only_if (is_none (n.run r).placed) (Moves (Placed (run_no r) (length n.line) m ∷ []))
+    ∷ option_map (plain_doomed w n g r) (n.run r).doomed
     ∷ option_map (plain_command w n g r (next_of n r)) (next_command w n r) ∷ [])
     (Over Committed (Ended (run_no r) Committed ∷ []))

@@ -1,26 +1,31 @@
-ghost use Rattle.std.specs.Prelude.{◌≡◌, ◌<◌, Some, None, [], if◌then◌else◌, ◌∷◌, max, slice_get, slice_set, ℕ};
+ghost use Rattle.std.specs.Prelude.{◌≡◌, ◌<◌, IsSome, IsTrue, Some, None, [], if◌then◌else◌, ◌∷◌, length, max, option_map, slice_get, slice_set, true, ℕ};
+ghost use Rattle.command_rules.specs.Rosters.{is_run};
 ghost use Rattle.device_gate.specs.Calls.{value_after};
+ghost use Rattle.device_gate.specs.Grips.{WasCalled};
 ghost use Rattle.device_gate.specs.Places.{IsKept};
 ghost use Rattle.history_book.specs.Readings.{is_fine, is_told};
-ghost use Rattle.lock_leasing.specs.Configurations.{read_of};
+ghost use Rattle.lock_leasing.specs.Configurations.{is_undo, read_of};
 ghost use Rattle.lock_leasing.specs.Tables.{view_when};
 ghost use Rattle.hub_core.specs.Decisions.{told_choice};
 ghost use Rattle.hub_core.specs.HubCalls.{Answers, GoesOut, IsGiven, SameWindow};
-ghost use Rattle.hub_core.specs.OpenHubs.{configuration_of, purpose_of};
+ghost use Rattle.hub_core.specs.OpenHubs.{configuration_of, device_at, purpose_of};
+ghost use Rattle.hub_core.specs.ReadHistories.{with_doom};
 ghost use Rattle.hub_core.specs.Steps.{Waits, Absent, Moves, Over, HandsOut, answer_told, choice_of};
 ghost use Rattle.history_book.specs.Histories.{entries_made};
-ghost use Rattle.history_book.specs.declared.entries.End.TheVariants.{Committed};
+ghost use Rattle.history_book.specs.declared.entries.End.TheVariants.{Aborted, Committed};
+ghost use Rattle.window_order.specs.TableChanges.{ChangesEach, doomed_lineage};
 
 use crate::decisions::Chosen;
 use crate::hubs::Hub;
-use crate::kept_orders::Noted;
+use crate::kept_orders::{KeptOrder, Noted};
 use crate::known::DeviceProgress;
 use crate::purposes::Purpose;
-use device_gate::{Done, Grip, Ready, Task, Told};
+use crate::read_histories::ReadHistory;
+use device_gate::{Done, Gate, Grip, Place, Ready, Task, Told};
 use device_states::Steady;
 use fcfs_scheduler::place;
-use history_book::{Entry, Made};
-use home_types::{Answer, DeviceNo, RunNo, Value, View};
+use history_book::{Cause, Entry, Made};
+use home_types::{Answer, DeviceNo, List, RunNo, Value, View};
 
 /// No entries.
 pub(crate) const NONE_MADE: Made = Made {
@@ -127,6 +132,18 @@ impl<D: Steady> Hub<D> {
         one_made(self.history.commit(r))
     }
 
+    /// The run ends aborted, for this cause.
+    pub(crate) fn abort(&mut self, r: RunNo, moment: u64, cause: Cause) -> Made
+        requires { choice_of (configuration_of self.old) r.0 moment ≡ told_choice r.0 (max self.old.moment moment) (read_of (configuration_of self.old)) (Chosen.Aborts cause) }
+        ensures answer { Answers self.old r.0 moment (Over (Aborted cause) (entries_made result)) self.new }
+        ensures window { SameWindow self.old self.new }
+    {
+        self.order.table.kept();
+        self.moment = self.moment.max(moment);
+        self.order.withdraw(r);
+        one_made(self.history.abort(r, cause))
+    }
+
     /// The device goes out for the run.
     pub(crate) fn hand_out(
         &mut self,
@@ -155,24 +172,108 @@ impl<D: Steady> Hub<D> {
         ensures given { IsGiven self.old grip moment (Ok result) self.new }
         ensures window { SameWindow self.old self.new }
     {
+        let known = *self.devices.get(grip.slip().device.0 as u64).unwrap();
+        match known.purpose {
+            Purpose::Command(k) => self.answer(grip, moment, k),
+            Purpose::Undo(_) => self.undo(grip, moment),
+            // In this stage no probe is out.
+            Purpose::Probe(_) => unreachable!(),
+        }
+    }
+
+    /// The device of the run's command with the number `k` comes home: the command is answered, and where it is a must
+    /// `check` that found another value the run is doomed.
+    fn answer(&mut self, grip: Grip<D, Done>, moment: u64, k: u32) -> Made
+        requires kept { IsKept self.old.places grip.slip grip.task }
+        requires maker { 0 < grip.slip.maker }
+        requires purpose { (device_at self.old.devices grip.slip.device.0).purpose ≡ Purpose.Command k }
+        ensures given { IsGiven self.old grip moment (Ok result) self.new }
+        ensures window { SameWindow self.old self.new }
+    {
         let slip = grip.slip();
         let d = slip.device;
-        let known = *self.devices.get(d.0 as u64).unwrap();
-        let Purpose::Command(k) = known.purpose else {
-            unreachable!()
-        };
-        let held = value_after(grip.task(), known.held);
-        let told = self.gate.take_in(grip);
-        // A steady device does not fail, so the call was answered.
-        self.gate.device(d).calm();
-        self.moment = self.moment.max(moment);
-        self.devices
-            .set(d.0 as u64, DeviceProgress { held, ..known });
         let r = RunNo(slip.maker);
+        let Came { told, held } = take_home(&mut self.gate, &mut self.devices, grip);
+        self.moment = self.moment.max(moment);
         let answer = answer_told(told);
+        let cause = self.history.refuted(r, k, answer);
         let entry = self.history.answer(r, k, answer);
-        let is_last = !self.history.pends(r, d);
+        let is_last = self.history.is_done(r, d);
         self.order.note(d, r, noted(answer, held, is_last));
-        one_made(entry)
+        let doomed = doom_for(&mut self.history, &mut self.order, r, cause);
+        Made {
+            a: Some(entry),
+            b: doomed,
+            c: None,
+        }
     }
+
+    /// The device on which a run is undone comes home.
+    fn undo(&mut self, grip: Grip<D, Done>, moment: u64) -> Made
+        requires kept { IsKept self.old.places grip.slip grip.task }
+        requires maker { 0 < grip.slip.maker }
+        requires purpose { is_undo (purpose_of (device_at self.old.devices grip.slip.device.0).purpose) ≡ true }
+        ensures given { IsGiven self.old grip moment (Ok result) self.new }
+        ensures window { SameWindow self.old self.new }
+    {
+        let slip = grip.slip();
+        take_home(&mut self.gate, &mut self.devices, grip);
+        self.moment = self.moment.max(moment);
+        one_made(self.history.undo(RunNo(slip.maker), slip.device))
+    }
+}
+
+/// What a device told that came home, and where it stands.
+#[derive(Drop)]
+struct Came {
+    told: Told,
+    held: Value,
+}
+
+/// The device of the grip comes home, and it is known where it stands.
+fn take_home<D: Steady>(
+    gate: &mut Gate<D>,
+    devices: &mut List<DeviceProgress>,
+    grip: Grip<D, Done>,
+) -> Came
+    requires kept { IsKept gate.old.places grip.slip grip.task }
+    requires known { grip.slip.device.0 < length devices.old.items }
+    ensures places { gate.new.places ≡ slice_set gate.old.places grip.slip.device.0 (Place.Home grip.device) }
+    ensures tickets { gate.new.tickets ≡ gate.old.tickets }
+    ensures devices { devices.new.items ≡ slice_set devices.old.items grip.slip.device.0 (record (device_at devices.old.items grip.slip.device.0) { held = result.held }) }
+    ensures held { result.held ≡ value_after grip.task (device_at devices.old.items grip.slip.device.0).held }
+    ensures told { result.told ≡ grip.stage.told }
+    ensures called { WasCalled grip.stage.told grip.task grip.slip (D.tag grip.device) (D.stands grip.device) (D.turns grip.device) (D.probes grip.device) (D.faults grip.device) }
+    ensures calm { D.faults grip.device ≡ 0 }
+{
+    let d = grip.slip().device;
+    let known = *devices.get(d.0 as u64).unwrap();
+    let held = value_after(grip.task(), known.held);
+    devices.set(d.0 as u64, DeviceProgress { held, ..known });
+    let told = gate.take_in(grip);
+    // A steady device does not fail, so the call was answered.
+    gate.device(d).calm();
+    Came { told, held }
+}
+
+/// The run is doomed, where there is a cause.
+fn doom_for(
+    history: &mut ReadHistory,
+    order: &mut KeptOrder,
+    r: RunNo,
+    cause: Option<Cause>,
+) -> Option<Entry>
+    requires run { IsTrue (is_run history.old.setting.runs r.0) }
+    requires room { IsSome cause → 0 < history.old.spare }
+    ensures entry { result ≡ option_map (λ c. Entry.Doomed r c) cause }
+    ensures history { history.new ≡ with_doom history.old r.0 cause }
+    ensures line { order.new.line ≡ order.old.line }
+    ensures table { cause ≡ None → order.new.table ≡ order.old.table }
+    ensures doomed { IsSome cause → ChangesEach (λ d. doomed_lineage r.0) order.old.table order.new.table }
+{
+    let Some(cause) = cause else {
+        return None;
+    };
+    order.doom(r);
+    Some(history.doom(r, cause))
 }

@@ -1,9 +1,11 @@
 ghost use Rattle.std.specs.Prelude.{◌≡◌, ◌<◌, ◌≤◌, IsTrue, None, find, length, max, option_map, true, ℕ};
 ghost use Rattle.command_rules.specs.Rosters.{command_at, commands_of, is_run};
+ghost use Rattle.history_book.specs.Readings.{is_live};
+ghost use Rattle.history_book.specs.Settings.{is_device};
 ghost use Rattle.hub_core.specs.Decisions.{told_choice};
 ghost use Rattle.hub_core.specs.HubSteps.{command_task, task_of};
 ghost use Rattle.hub_core.specs.OpenHubs.{configuration_of, purpose_of};
-ghost use Rattle.hub_core.specs.Stage.{plain_command};
+ghost use Rattle.hub_core.specs.Stage.{plain_command, plain_doomed};
 ghost use Rattle.hub_core.specs.Steps.{choice_of};
 ghost use Rattle.lock_leasing.specs.Configurations.{Commands, has_grip, is_out, read_of};
 ghost use Rattle.lock_leasing.specs.Standings.{IsAtCommand};
@@ -12,9 +14,10 @@ ghost use Rattle.lock_leasing.specs.Waits.{behind_wait, grip_wait, strict_wait};
 use crate::hubs::Hub;
 use crate::purposes::Purpose;
 use crate::waits::Why;
+use abort_rollback::{Undo, next_undo};
 use device_gate::Task;
 use device_states::Device;
-use history_book::End;
+use history_book::{Cause, End};
 use home_types::{Command, DeviceNo, Job, RunNo};
 use lock_leasing::{Touch, test_touch};
 use visibility_models::may_go;
@@ -30,6 +33,8 @@ pub(crate) enum Chosen {
     /// It is placed at the end of the line.
     Joins,
     Commits,
+    /// It is doomed for this cause, has nothing left to undo, and ends.
+    Aborts(Cause),
     Waits(Why),
     HandsOut(DeviceNo, Purpose),
 }
@@ -37,8 +42,7 @@ pub(crate) enum Chosen {
 impl<D: Device> Hub<D> {
     /// What the step of the run `r` is to do, by the cases of a step in order.
     ///
-    /// In this stage no run is doomed, none follows another, no lease is overdue and every device is up: the cases for
-    /// these are left out.
+    /// In this stage no run follows another, no lease is overdue and every device is up: the cases for these are left out.
     pub(crate) fn decide(&self, r: RunNo, moment: u64) -> Chosen
         ensures { told_choice r.0 (max self.now.moment moment) (read_of (configuration_of self.now)) result ≡ choice_of (configuration_of self.now) r.0 moment }
     {
@@ -58,9 +62,33 @@ impl<D: Device> Hub<D> {
         if !progress.placed {
             return Chosen::Joins;
         }
+        if let Some(cause) = progress.doomed {
+            return self.decide_doomed(r, cause);
+        }
         match self.history.next_command(r) {
             Some(command) => self.decide_command(r, progress.answered, command),
             None => Chosen::Commits,
+        }
+    }
+
+    /// What `r` is to do, which is doomed for this cause: it undoes its effective writes, by ascending device, and then ends.
+    fn decide_doomed(&self, r: RunNo, cause: Cause) -> Chosen
+        requires live { is_live (read_of (configuration_of self.now)) r.0 ≡ true }
+        requires up { (d : ℕ) → is_device self.now.setting d ≡ true → (read_of (configuration_of self.now)).up d ≡ true }
+        ensures { (m : ℕ) → told_choice r.0 m (read_of (configuration_of self.now)) result ≡ plain_doomed self.now.setting (read_of (configuration_of self.now)) (configuration_of self.now).grips r.0 cause }
+    {
+        let standing = self.standing();
+        match next_undo(standing.table, r) {
+            Undo::Drive(d, value) => {
+                if self.is_out(d) {
+                    Chosen::Waits(Why::Busy(d))
+                } else {
+                    Chosen::HandsOut(d, Purpose::Undo(value))
+                }
+            }
+            // In this stage every device is counted up.
+            Undo::Drop(_) => unreachable!(),
+            Undo::Finished => Chosen::Aborts(cause),
         }
     }
 

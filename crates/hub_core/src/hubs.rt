@@ -141,6 +141,7 @@ impl<D: Device> Hub<D> {
         ensures represents { Represents self.now.setting (read_of (configuration_of self.now)) (configuration_of self.now).grips result.now }
         ensures disciplined { (d : ℕ) → IsDisciplined (accesses_at result.now d) }
     {
+        self.order.table.kept();
         &self.order.table
     }
 
@@ -148,6 +149,7 @@ impl<D: Device> Hub<D> {
     pub(crate) fn standing(&self) -> Standing<'_>
         ensures { IsStandingOf (configuration_of self.now) result.table.now result.line.now.marks result.book.now.items (runs_of result.roster.now) }
     {
+        self.order.table.kept();
         Standing {
             table: &self.order.table,
             line: &self.order.line,

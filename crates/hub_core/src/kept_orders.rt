@@ -1,19 +1,22 @@
 //! The serialization line of a window and its lineage table.
 ghost use Rattle.std.specs.Prelude.{◌≡◌, ◌+◌, ◌<◌, ◌≤◌, ◌^◌, [], IfOk, IsTrue, Some, false, if◌then◌else◌, length, true, ℕ};
+ghost use Rattle.abort_rollback.specs.Undos.{next_undo};
 ghost use Rattle.commit_compaction.specs.Commits.{committed_lineage};
 ghost use Rattle.command_rules.specs.Rosters.{commands_of, is_run, runs_of, touches};
 ghost use Rattle.home_types.specs.declared.items.Item.TheVariants.{Ran};
-ghost use Rattle.hub_core.specs.KeptOrders.{MayNote, is_first};
+ghost use Rattle.hub_core.specs.KeptOrders.{MayNote, acquired_first, is_first, noted_first};
 ghost use Rattle.hub_core.specs.OpenHubs.{purpose_of};
 ghost use Rattle.hub_core.specs.PlansInTurn.{planned_in_turn};
 ghost use Rattle.lineage_table.specs.Accesses.{status_of};
-ghost use Rattle.lineage_table.specs.Lineages.{IsOpened, accesses_at, lineage_at, with_lineage};
-ghost use Rattle.lock_leasing.specs.Configurations.{is_command};
-ghost use Rattle.serial_line.specs.Marks.{stands, touching, with_item};
-ghost use Rattle.window_order.specs.TableChanges.{ChangesEach, IsNewOn, acquired_if, noted, scheduled_on, written_if};
+ghost use Rattle.lineage_table.specs.Lineages.{IsOpened, accesses_at, lineage_at, removed, undone, with_lineage};
+ghost use Rattle.lock_leasing.specs.Configurations.{is_command, is_undo};
+ghost use Rattle.serial_line.specs.Marks.{stands, touching, with_item, without};
+ghost use Rattle.window_order.specs.TableChanges.{ChangesEach, IsNewOn, doomed_lineage, scheduled_on, written_if};
 
 use crate::plans::{end_on, start_on};
 use crate::purposes::Purpose;
+use crate::releases::{pass_before, release_all};
+use abort_rollback::{Undo, withdraw};
 use command_rules::Roster;
 use commit_compaction::commit;
 use home_types::{DeviceNo, Item, NoMemory, RunNo, Value, View, World};
@@ -77,26 +80,30 @@ impl KeptOrder {
         schedule(&mut self.table, roster, r, moment);
     }
 
-    /// The device goes out to the run for this purpose: it has touched it where that is a command.
+    /// The device goes out to the run for this purpose: it has touched it where that is a command, and its write there
+    /// is undone where that is an undo.
     pub(crate) fn touch(&mut self, r: RunNo, d: DeviceNo, purpose: Purpose)
         requires run { stands (Ran r) self.old.line.marks ≡ true }
         requires device { d.0 < 256 }
+        requires homed { d.0 < length self.old.table }
         ensures marks { self.new.line.marks ≡ (if is_command (purpose_of purpose) then touching r.0 d.0 self.old.line.marks else self.old.line.marks) }
         ensures spare { self.new.line.spare ≡ self.old.line.spare }
-        ensures table { self.new.table ≡ self.old.table }
+        ensures table { self.new.table ≡ (if is_undo (purpose_of purpose) then with_lineage self.old.table d.0 (undone r.0) else self.old.table) }
     {
         match purpose {
             Purpose::Command(_) => self.line.mark(r, d),
-            Purpose::Undo(_) | Purpose::Probe(_) => {}
+            Purpose::Undo(_) => self.table.undone(d, r),
+            Purpose::Probe(_) => {}
         }
     }
 
-    /// The run notes an answer on the device.
+    /// The run notes an answer on the device. Where it is its first one there, the scheduled accesses before its own are
+    /// passed.
     pub(crate) fn note(&mut self, d: DeviceNo, r: RunNo, told: Noted)
         requires device { d.0 < length self.old.table }
         requires turn { MayNote r.0 (lineage_at self.old.table d.0) }
         ensures line { self.new.line ≡ self.old.line }
-        ensures table { self.new.table ≡ with_lineage self.old.table d.0 (noted r.0 (is_first r.0 (lineage_at self.old.table d.0)) told.view told.wrote told.is_last) }
+        ensures table { self.new.table ≡ with_lineage self.old.table d.0 (noted_first r.0 (is_first r.0 (lineage_at self.old.table d.0)) told.view told.wrote told.is_last) }
     {
         self.acquire_first(d, r, told.view);
         self.note_write(d, r, told.wrote);
@@ -105,15 +112,17 @@ impl KeptOrder {
         }
     }
 
-    /// The run touches the device, and sees it so, where it has not touched it before.
+    /// The run touches the device, and sees it so, where it has not touched it before; then those are passed that wait
+    /// before it.
     fn acquire_first(&mut self, d: DeviceNo, r: RunNo, view: View)
         requires device { d.0 < length self.old.table }
         requires turn { MayNote r.0 (lineage_at self.old.table d.0) }
         ensures line { self.new.line ≡ self.old.line }
-        ensures table { self.new.table ≡ with_lineage self.old.table d.0 (acquired_if (is_first r.0 (lineage_at self.old.table d.0)) r.0 view) }
+        ensures table { self.new.table ≡ with_lineage self.old.table d.0 (acquired_first (is_first r.0 (lineage_at self.old.table d.0)) r.0 view) }
         ensures acquired { status_of r.0 (accesses_at self.new.table d.0) ≡ Some Status.Acquired }
     {
         if self.is_first(d, r) {
+            pass_before(&mut self.table, d, r);
             self.table.acquire(d, r, view);
         }
     }
@@ -140,6 +149,26 @@ impl KeptOrder {
             Some(access) => access.status == Status::Scheduled,
             None => false,
         }
+    }
+
+    /// The run is doomed: it is done with each device that it has acquired.
+    pub(crate) fn doom(&mut self, r: RunNo)
+        ensures line { self.new.line ≡ self.old.line }
+        ensures table { ChangesEach (λ d. doomed_lineage r.0) self.old.table self.new.table }
+    {
+        release_all(&mut self.table, r);
+    }
+
+    /// The run, which has nothing left to undo, is aborted: it has no access any more, and leaves the line.
+    pub(crate) fn withdraw(&mut self, r: RunNo)
+        requires run { stands (Ran r) self.old.line.marks ≡ true }
+        requires finished { next_undo self.old.table r.0 ≡ Undo.Finished }
+        ensures marks { self.new.line.marks ≡ without r.0 self.old.line.marks }
+        ensures spare { self.new.line.spare ≡ self.old.line.spare + 1 }
+        ensures table { ChangesEach (λ d. removed r.0) self.old.table self.new.table }
+    {
+        withdraw(&mut self.table, r);
+        self.line.remove(r);
     }
 
     /// The run commits. It stays in the line.

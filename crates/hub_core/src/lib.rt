@@ -15,6 +15,7 @@ mod probe_calls;
 pub mod purposes;
 mod read_histories;
 pub mod refusals;
+mod releases;
 mod take_calls;
 #[cfg(test)]
 mod tests;

@@ -1,15 +1,16 @@
-ghost use Rattle.std.specs.Prelude.{◌≡◌, ◌<◌, ◌^◌, IsTrue, find, is_none, length, option_map, ℕ};
+ghost use Rattle.std.specs.Prelude.{◌≡◌, ◌<◌, ◌^◌, ◌||◌, IsTrue, find, is_none, length, not, option_map, true, ℕ};
 ghost use Rattle.command_rules.specs.Rosters.{command_at, commands_of, is_run, runs_of};
 ghost use Rattle.history_book.specs.Settings.{run_numbers};
-ghost use Rattle.history_book.specs.Readings.{next_command, next_of, pends};
+ghost use Rattle.history_book.specs.Readings.{is_doomed, next_command, next_of, pends};
 ghost use Rattle.home_types.specs.Commands.{register_after};
 ghost use Rattle.home_types.specs.Kinds.{kind_at};
+ghost use Rattle.hub_core.specs.Decisions.{refuted_by};
 ghost use Rattle.hub_core.specs.OpenHubs.{progress_of};
 ghost use Rattle.hub_core.specs.ReadHistories.{read_in, with_entry};
 
 use crate::known::RunProgress;
 use command_rules::Roster;
-use history_book::{Book, End, Entry, Kept};
+use history_book::{Book, Cause, End, Entry, Kept};
 use home_types::{
     Answer, Command, DeviceNo, Job, Kind, List, Mode, RunNo, Value, Visibility, World,
 };
@@ -146,6 +147,34 @@ impl ReadHistory {
             .any(|command| command.device == d)
     }
 
+    /// Whether the run is done with the device: it is doomed, or each of its commands there is answered.
+    pub(crate) fn is_done(&self, r: RunNo, d: DeviceNo) -> bool
+        requires run { IsTrue (is_run self.now.setting.runs r.0) }
+        ensures { result ≡ (is_doomed (read_in self.now) r.0 || not (pends self.now.setting (read_in self.now) r.0 d.0)) }
+    {
+        self.progress(r).doomed.is_some() || !self.pends(r, d)
+    }
+
+    /// For what the run is doomed with this answer to its command with the number `k`: a must `check` that found another
+    /// value. A run that is doomed already is not doomed again.
+    pub(crate) fn refuted(&self, r: RunNo, k: u32, answer: Answer) -> Option<Cause>
+        requires run { IsTrue (is_run self.now.setting.runs r.0) }
+        requires there { k < length (commands_of self.now.setting.runs r.0) }
+        ensures { result ≡ refuted_by self.now.setting (read_in self.now) r.0 k answer }
+    {
+        let command = self.command(r, k);
+        match (command.job, answer) {
+            (Job::Check(wanted), Answer::Found(found)) => {
+                if command.must && found != wanted && self.progress(r).doomed.is_none() {
+                    Some(Cause::Refuted(k, found))
+                } else {
+                    None
+                }
+            }
+            _ => None,
+        }
+    }
+
     /// The smallest run that has not ended.
     pub(crate) fn first_unended(&self) -> Option<RunNo>
         requires few { length self.now.setting.runs < 2 ^ 32 }
@@ -241,6 +270,60 @@ impl ReadHistory {
             at,
             RunProgress {
                 ended: Some(End::Committed),
+                ..progress
+            },
+        );
+        self.book.push(Kept { maker: r.0, entry });
+        entry
+    }
+
+    /// The run will be aborted, for this cause.
+    pub(crate) fn doom(&mut self, r: RunNo, cause: Cause) -> Entry
+        requires run { IsTrue (is_run self.old.setting.runs r.0) }
+        requires room { 0 < self.old.spare }
+        ensures entry { result ≡ Entry.Doomed r cause }
+        ensures new { self.new ≡ with_entry self.old r.0 result }
+    {
+        let entry = Entry::Doomed(r, cause);
+        let at = r.0 as u64 - 1;
+        let progress = *self.progress.get(at).unwrap();
+        self.progress.set(
+            at,
+            RunProgress {
+                doomed: Some(cause),
+                ..progress
+            },
+        );
+        self.book.push(Kept { maker: r.0, entry });
+        entry
+    }
+
+    /// The run's write on the device is undone, which a drive did. The progress of a run does not say so.
+    pub(crate) fn undo(&mut self, r: RunNo, d: DeviceNo) -> Entry
+        requires run { IsTrue (is_run self.old.setting.runs r.0) }
+        requires room { 0 < self.old.spare }
+        ensures entry { result ≡ Entry.Undid r d true }
+        ensures new { self.new ≡ with_entry self.old r.0 result }
+    {
+        let entry = Entry::Undid(r, d, true);
+        self.book.push(Kept { maker: r.0, entry });
+        entry
+    }
+
+    /// The run ends aborted, for this cause.
+    pub(crate) fn abort(&mut self, r: RunNo, cause: Cause) -> Entry
+        requires run { IsTrue (is_run self.old.setting.runs r.0) }
+        requires room { 0 < self.old.spare }
+        ensures entry { result ≡ Entry.Ended r (End.Aborted cause) }
+        ensures new { self.new ≡ with_entry self.old r.0 result }
+    {
+        let entry = Entry::Ended(r, End::Aborted(cause));
+        let at = r.0 as u64 - 1;
+        let progress = *self.progress.get(at).unwrap();
+        self.progress.set(
+            at,
+            RunProgress {
+                ended: Some(End::Aborted(cause)),
                 ..progress
             },
         );

@@ -34,6 +34,9 @@ impl<D: Steady> Hub<D> {
             Chosen::Arrives => Turn::Moved(self.arrive(r, moment)),
             Chosen::Joins => Turn::Moved(self.place(r, moment)),
             Chosen::Commits => Turn::Over(End::Committed, self.commit(r, moment)),
+            Chosen::Aborts(cause) => {
+                Turn::Over(End::Aborted(cause), self.abort(r, moment, cause))
+            }
             Chosen::HandsOut(d, purpose) => Turn::Go(self.hand_out(r, moment, d, purpose)),
         }
     }

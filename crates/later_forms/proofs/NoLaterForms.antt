@@ -1,11 +1,9 @@
 -- A script without later forms.
-use Rattle.home_types.specs.declared.commands.Command.{Command}
 use Rattle.later_forms.proofs.Searches.{found, gives_none, none_of, not_found, or_false_left, or_false_right}
-use Rattle.later_forms.specs.Scripts.{command_spot, down_spot, first_later, follows_another, has_later_command, has_later_form, is_later_command, window_spot, within_routine, within_window}
+use Rattle.later_forms.specs.Scripts.{down_spot, first_later, follows_another, has_later_form, window_spot, within_window}
 use Rattle.routine_reader.specs.Spots.{at, inside}
-use Rattle.routine_reader.specs.declared.faults.Part.TheVariants.{Command as OfCommand, Run, Window}
+use Rattle.routine_reader.specs.declared.faults.Part.TheVariants.{Run, Window}
 use Rattle.routine_reader.specs.declared.faults.Spot.{Spot}
-use Rattle.routine_reader.specs.declared.scripts.RoutineText.{RoutineText}
 use Rattle.routine_reader.specs.declared.scripts.RunText.{RunText}
 use Rattle.routine_reader.specs.declared.scripts.Script.{Script}
 use Rattle.routine_reader.specs.declared.scripts.WindowText.{WindowText}
@@ -20,17 +18,6 @@ use Rattle.std.specs.Prelude.{Bool, if◌then◌else◌, None, Option, Some, fal
 neither : {X : Type 0} (a b : Option X) → option_or a b ≡ None → (a ≡ None) × (b ≡ None)
 neither None b none = (refl, none)
 neither (Some x) b none = absurd (cc)
-
--- no command is a must `check`
-pub no_command : (script : Script) (i c : ℕ) (text : RoutineText) (command : Command) → first_later script ≡ None
-    → slice_get script.routines.items i ≡ Some text → slice_get text.routine.commands.items c ≡ Some command → is_later_command command ≡ false
-no_command script i c text command none routine_at at =
-    let later = (neither (command_spot script.routines.items) (window_spot script.windows.items) (neither (down_spot script.devices.items) _ none).1).0 in
-    let no_routine = gives_none has_later_command within_routine script.routines.items (λ r t has. gives r t has) later in
-    none_of is_later_command text.routine.commands.items c command (not_found has_later_command script.routines.items i text no_routine routine_at) at
-  where
-    gives : (r : ℕ) (t : RoutineText) → has_later_command t ≡ true → (spot : Spot) × (within_routine r t ≡ Some spot)
-    gives r t has = let place = found is_later_command t.routine.commands.items has in (inside OfCommand (r + 1) (place.0 + 1), ap (λ o. option_map (λ k. inside OfCommand (r + 1) (k + 1)) o) place.1)
 
 -- a window that has a later form gives its place
 form_gives : (k : ℕ) (window : WindowText) → has_later_form window ≡ true → (spot : Spot) × (within_window k window ≡ Some spot)
@@ -49,7 +36,7 @@ form_gives k window has = by_probes (nat_lt 0 window.probes) refl
 -- no window has a later form
 no_form : (script : Script) (k : ℕ) (window : WindowText) → first_later script ≡ None → slice_get script.windows.items k ≡ Some window → has_later_form window ≡ false
 no_form script k window none at =
-    let later = (neither (command_spot script.routines.items) (window_spot script.windows.items) (neither (down_spot script.devices.items) _ none).1).1 in
+    let later = (neither (down_spot script.devices.items) (window_spot script.windows.items) none).1 in
     not_found has_later_form script.windows.items k window (gives_none has_later_form within_window script.windows.items form_gives later) at
 
 -- no window has probes

@@ -23,8 +23,5 @@ pub window_is_sound : (script : Script) (k : ℕ) (window : WindowText) → IsSo
     → IsSoundWindow (length (map plain_routine script.routines.items)) (plain_window window)
 window_is_sound script k window sound at = seen_at plain_window (IsSoundWindow (length (map plain_routine script.routines.items))) script.windows.items k window sound.windows at
 
-pub few_commands : (script : Script) → IsSound (plain_script script) → All (λ text. length text.routine.commands.items ≤ 64) script.routines.items
-few_commands script sound k d within = (routine_is_sound script k (get_or script.routines.items k d) sound (slice_get-get_or script.routines.items k d within)).few_commands
-
 pub few_runs : (script : Script) → IsSound (plain_script script) → All (λ window. length window.runs.items ≤ 64) script.windows.items
 few_runs script sound k d within = (window_is_sound script k (get_or script.windows.items k d) sound (slice_get-get_or script.windows.items k d within)).few_runs

@@ -1,18 +1,14 @@
 -- Forms of a script that are not built yet, and the place of the first one.
-use Rattle.home_types.specs.declared.commands.Command.{Command}
-use Rattle.home_types.specs.declared.commands.Job.TheVariants.{Check, Load, Set, Store}
-use Rattle.home_types.specs.declared.commands.Job.{Job}
 use Rattle.routine_reader.specs.Spots.{at, inside}
-use Rattle.routine_reader.specs.declared.faults.Part.TheVariants.{Command as OfCommand, Device, Run, Window}
+use Rattle.routine_reader.specs.declared.faults.Part.TheVariants.{Device, Run, Window}
 use Rattle.routine_reader.specs.declared.faults.Spot.{Spot}
 use Rattle.routine_reader.specs.declared.scripts.DeviceText.{DeviceText}
-use Rattle.routine_reader.specs.declared.scripts.RoutineText.{RoutineText}
 use Rattle.routine_reader.specs.declared.scripts.RunText.{RunText}
 use Rattle.routine_reader.specs.declared.scripts.Script.{Script}
 use Rattle.routine_reader.specs.declared.scripts.WindowText.{WindowText}
 use Rattle.std.specs.List.{list_any}
 use Rattle.std.specs.Option.{option_or}
-use Rattle.std.specs.Prelude.{Bool, List, Option, Some, false, if◌then◌else◌, is_some, length, nat_lt, option_and_then, option_map, position, slice_get, true, ℕ, ◌&&◌, ◌+◌, ◌||◌}
+use Rattle.std.specs.Prelude.{Bool, List, Option, Some, if◌then◌else◌, is_some, length, nat_lt, option_and_then, option_map, position, slice_get, ℕ, ◌+◌, ◌||◌}
 
 -- the device has a plan of failures
 abbrev pub has_downs : DeviceText → Bool
@@ -21,27 +17,6 @@ has_downs device = nat_lt 0 (length device.downs.items)
 -- the first device with a plan of failures
 abbrev pub down_spot : List DeviceText → Option Spot
 down_spot devices = option_map (λ d. at Device (d + 1)) (position has_downs devices)
-
-abbrev pub is_check : Job → Bool
-is_check (Set v) = false
-is_check (Check v) = true
-is_check Load = false
-is_check Store = false
-
--- a must `check`: what it finds may doom its run
-abbrev pub is_later_command : Command → Bool
-is_later_command command = command.must && is_check command.job
-
-abbrev pub has_later_command : RoutineText → Bool
-has_later_command text = list_any is_later_command text.routine.commands.items
-
--- the first must `check` of the routine with this number, from 0
-abbrev pub within_routine : ℕ → RoutineText → Option Spot
-within_routine r text = option_map (λ c. inside OfCommand (r + 1) (c + 1)) (position is_later_command text.routine.commands.items)
-
--- that of the first routine which has one
-abbrev pub command_spot : List RoutineText → Option Spot
-command_spot routines = option_and_then (λ r. option_and_then (within_routine r) (slice_get routines r)) (position has_later_command routines)
 
 abbrev pub follows_another : RunText → Bool
 follows_another run = is_some run.follows
@@ -63,4 +38,4 @@ window_spot windows = option_and_then (λ k. option_and_then (within_window k) (
 
 -- the first form that is not built, in the order of the script
 abbrev pub first_later : Script → Option Spot
-first_later script = option_or (down_spot script.devices.items) (option_or (command_spot script.routines.items) (window_spot script.windows.items))
+first_later script = option_or (down_spot script.devices.items) (window_spot script.windows.items)

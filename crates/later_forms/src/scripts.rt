@@ -1,22 +1,19 @@
 ghost use Rattle.std.specs.Prelude.{◌≡◌, ◌<◌, ◌≤◌, ◌-◌, All, IfSome, length, option_map, position};
-ghost use Rattle.std.specs.List.{list_any};
-ghost use Rattle.later_forms.specs.Scripts.{command_spot, down_spot, first_later as first_later_of, follows_another as follows_it, follows_some as some_follows, has_downs as is_down, has_later_command as has_command, has_later_form as has_form, is_later_command as is_later_one, window_spot, within_routine as spot_of_routine, within_window as spot_of_window};
+ghost use Rattle.later_forms.specs.Scripts.{down_spot, first_later as first_later_of, follows_another as follows_it, follows_some as some_follows, has_downs as is_down, has_later_form as has_form, window_spot, within_window as spot_of_window};
 ghost use Rattle.routine_reader.specs.Scripts.{plain_script};
 ghost use Rattle.routine_reader.specs.Sound.{IsSound};
 
-use home_types::{Command, Job};
-use routine_reader::{DeviceText, Part, RoutineText, RunText, Script, Spot, WindowText};
+use routine_reader::{DeviceText, Part, RunText, Script, Spot, WindowText};
 
 /// The first form of the script that is not built yet, in the order of the script: a device with a plan of failures, a
-/// must `check`, a window with probes, or a run that follows another.
+/// window with probes, or a run that follows another.
 pub fn first_later(script: &Script) -> Option<Spot>
     requires sound { IsSound (plain_script script.now) }
     ensures { result ≡ first_later_of script.now }
 {
     let device = down_device(script.devices.as_slice());
-    let command = later_command(script.routines.as_slice());
     let window = later_window(script.windows.as_slice());
-    device.or(command).or(window)
+    device.or(window)
 }
 
 /// The first device with a plan of failures.
@@ -39,61 +36,6 @@ fn has_downs(device: &DeviceText) -> bool
     ensures { result ≡ is_down device.now }
 {
     device.downs.len() > 0
-}
-
-/// The first must `check`.
-fn later_command(routines: &[RoutineText]) -> Option<Spot>
-    requires few { length routines.now ≤ 1024 }
-    requires few_commands { All (λ text. length text.routine.commands.items ≤ 64) routines.now }
-    ensures { result ≡ command_spot routines.now }
-{
-    let place = first_later_routine(routines)?;
-    command_in(place as u32, &routines[place])
-}
-
-fn first_later_routine(routines: &[RoutineText]) -> Option<usize>
-    ensures place { result ≡ position has_command routines.now }
-    ensures within { IfSome result (λ place. place < length routines.now) }
-{
-    routines.iter().position(|text| has_later_command(text))
-}
-
-fn has_later_command(text: &RoutineText) -> bool
-    ensures { result ≡ has_command text.now }
-{
-    text.routine
-        .commands
-        .as_slice()
-        .iter()
-        .any(|command| is_later_command(*command))
-}
-
-fn is_later_command(command: Command) -> bool
-    ensures { result ≡ is_later_one command }
-{
-    match command.job {
-        Job::Check(_) => command.must,
-        Job::Set(_) | Job::Load | Job::Store => false,
-    }
-}
-
-/// The first must `check` of the routine with this number, from 0.
-fn command_in(number: u32, text: &RoutineText) -> Option<Spot>
-    requires routine { number < 1024 }
-    requires few { length text.now.routine.commands.items ≤ 64 }
-    ensures { result ≡ spot_of_routine number text.now }
-{
-    let place = first_later_command(text.routine.commands.as_slice())?;
-    Some(Part::Command.inside(number + 1, place as u32 + 1))
-}
-
-fn first_later_command(commands: &[Command]) -> Option<usize>
-    ensures place { result ≡ position is_later_one commands.now }
-    ensures within { IfSome result (λ place. place < length commands.now) }
-{
-    commands
-        .iter()
-        .position(|command| is_later_command(*command))
 }
 
 /// The first window with probes, or with a run that follows another.

@@ -61,8 +61,12 @@ fn the_first_form(rt: HostRuntime) -> Result<(), Fail> {
         job: r#""check","to":"on","must":false"#,
         ..PLAIN
     };
-    let check = Parts {
+    let must_check = Parts {
         job: r#""check","to":"on""#,
+        ..PLAIN
+    };
+    let down_and_probes = Parts {
+        device: r#","down":[[1,2]]"#,
         window: r#","probes":1"#,
         ..PLAIN
     };
@@ -79,7 +83,8 @@ fn the_first_form(rt: HostRuntime) -> Result<(), Fail> {
     assert!(rt; found_in(alloc, &down)? == Some(Some(Part::Device.at(1))));
     assert!(rt; found_in(alloc, &load)? == Some(None));
     assert!(rt; found_in(alloc, &best_effort)? == Some(None));
-    assert!(rt; found_in(alloc, &check)? == Some(Some(Part::Command.inside(1, 2))));
+    assert!(rt; found_in(alloc, &must_check)? == Some(None));
+    assert!(rt; found_in(alloc, &down_and_probes)? == Some(Some(Part::Device.at(1))));
     assert!(rt; found_in(alloc, &probes)? == Some(Some(Part::Window.at(1))));
     assert!(rt; found_in(alloc, &follows)? == Some(Some(Part::Run.inside(1, 2))));
     Ok(())

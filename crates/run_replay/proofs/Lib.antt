@@ -16,6 +16,7 @@ pub mod Living
 pub mod Ending
 pub mod Hands
 pub mod Opening
+pub mod EndedRuns
 pub mod Replayed
 pub mod Taking
 pub mod Acting

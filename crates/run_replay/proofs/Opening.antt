@@ -12,6 +12,7 @@ use Rattle.hub_core.specs.Steps.{opened}
 use Rattle.run_replay.proofs.Hands.{HoldNothing, empty_there}
 use Rattle.run_replay.specs.Players.{IsOpened, PlayerIsKept, PlayerState}
 use Rattle.std.proofs.Common.{ap, arith, refl, subst, sym, ◌∙◌}
+use Rattle.std.proofs.lemmas.Grind.{common_steps}
 use Rattle.std.specs.Prelude.{Bool, List, Option, Some, false, if◌then◌else◌, length, slice_get, suc, true, zero, ℕ, ◌*◌, ◌+◌, ◌<◌, ◌^◌, ◌≡◌, ◌≤◌}
 
 -- the player of the hub, with these hands
@@ -65,13 +66,15 @@ is_opened hub grips rounds fresh none = record {
   hands = none;
 }
 
--- A window that was just opened, in this stage without probes, may be replayed
+-- A window that was just opened may be replayed
 
 pub fresh_where : {D : Type 0} (turns probes faults : D → ℕ) (w : Setting) (rounds : ℕ) (home : HomeState D) (hub : OpenHub D) → IsOpenedOn turns probes faults w rounds home hub → configuration_of hub ≡ opened hub.setting hub.rounds
 fresh_where turns probes faults w rounds home hub is = is.configuration ∙ sym (ap (λ v. opened v rounds) (ap (λ c. c.setting) is.configuration)) ∙ ap (λ n. opened hub.setting n) (sym is.rounds_are)
 
-pub rounds_where : {D : Type 0} (turns probes faults : D → ℕ) (w : Setting) (rounds : ℕ) (home : HomeState D) (hub : OpenHub D) → IsOpenedOn turns probes faults w rounds home hub → rounds ≡ 0 → (d : ℕ) → d < length hub.setting.first → rounds ≤ (configuration_of hub).probes d
-rounds_where turns probes faults w rounds home hub is none d low = let all = least ((configuration_of hub).probes d) in subst (λ n. n ≤ (configuration_of hub).probes d) (sym none) all
-
-pub stage_where : {D : Type 0} (turns probes faults : D → ℕ) (w : Setting) (rounds : ℕ) (home : HomeState D) (hub : OpenHub D) → IsOpenedOn turns probes faults w rounds home hub → rounds ≡ 0 → hub.rounds ≡ 0
-stage_where turns probes faults w rounds home hub is none = is.rounds_are ∙ none
+-- .. in as many rounds as it was opened with
+pub rounds_where : {D : Type 0} (turns probes faults : D → ℕ) (w : Setting) (rounds : ℕ) (home : HomeState D) (hub : OpenHub D) → IsOpenedOn turns probes faults w rounds home hub → (d : ℕ) → d < length hub.setting.first → rounds ≤ (configuration_of hub).probes d
+rounds_where turns probes faults w rounds home hub is d low =
+    let inside : d < length w.first = subst (λ v. d < length v.first) (ap (λ c. c.setting) is.configuration) low in
+    let there : is_device w d ≡ true = grind (arith, common_steps, inside) in
+    let all : (configuration_of hub).probes d ≡ rounds = ap (λ c. c.probes d) is.configuration ∙ ap (λ b. if b then rounds else 0) there in
+    omega (arith, all)

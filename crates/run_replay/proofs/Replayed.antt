@@ -1,23 +1,21 @@
 -- A hub whose player was opened, played on until every actor had ended, and closed: its window was replayed.
-use Rattle.command_rules.specs.Rosters.{is_run}
 use Rattle.device_gate.specs.Places.{AreNumbered, all_home}
 use Rattle.device_gate.specs.declared.gates.Place.TheVariants.{Home, Out}
 use Rattle.device_gate.specs.declared.gates.Place.{Place}
 use Rattle.device_gate.specs.declared.slips.Told.TheVariants.{Worked}
-use Rattle.history_book.specs.Histories.{reading}
-use Rattle.history_book.specs.declared.entries.End.TheVariants.{Committed}
 use Rattle.history_book.specs.declared.records.WindowRecord.{WindowRecord}
 use Rattle.hub_core.specs.Homes.{HomeState}
 use Rattle.hub_core.specs.HubCalls.{HubStands, IsClosed, SameWindow}
-use Rattle.hub_core.specs.LegalWindows.{IsLegalWindow, history_of}
+use Rattle.hub_core.specs.LegalWindows.{IsLegalWindow}
 use Rattle.hub_core.specs.OpenHubs.{OpenHub, configuration_of, device_at}
 use Rattle.hub_core.specs.Steps.{not_quiet}
+use Rattle.run_replay.proofs.EndedRuns.{each_has_ended}
 use Rattle.run_replay.proofs.Ending.{quiet_at_end}
 use Rattle.run_replay.proofs.Living.{actors_are}
 use Rattle.run_replay.proofs.Tellings.{replays}
 use Rattle.run_replay.specs.Players.{HavePlans, IsOpened, PlayerIsKept, PlayerState, play_of}
 use Rattle.run_replay.specs.Playing.{IsFinished, IsPlayed}
-use Rattle.run_replay.specs.ReplayedWindows.{IsReplayed}
+use Rattle.run_replay.specs.ReplayedWindows.{IsReplayed, RunsHaveEnded}
 use Rattle.run_replay.specs.Replays.{Course, IsReplay}
 use Rattle.std.proofs.Common.{ap, inl, inr, refl, subst, sym, ◌∙◌}
 use Rattle.std.proofs.lemmas.List.{length-map}
@@ -99,7 +97,7 @@ replayed_so {D = D} tag plan stands turns probes faults hub picks seed rounds fi
   play = play_of last (acts_of hub picks seed rounds first played last went);
   is_replay = is_replay hub picks seed rounds first played last went;
   history = closes.history;
-  commits = λ r run. subst (λ w. ((reading w (history_of closed)).run r).ended ≡ Some Committed) window.setting (closes.commits r (ap (λ w. is_run w.runs r) window.setting ∙ run));
+  ends = subst (λ w. RunsHaveEnded w closed) window.setting (record { ended = each_has_ended last.hub.setting closed closes.legal; commits = closes.commits });
   kinds = closes.kinds ∙ ap (λ w. w.kinds) window.setting;
   last = closes.last;
   opened = closes.opened ∙ ap (λ n. n + 1) window.opened;

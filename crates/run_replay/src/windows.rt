@@ -15,11 +15,10 @@ use std::alloc::Global;
 impl<D: Steady> Player<D> {
     /// Makes a player of a hub in which nothing was done yet, whose detector comes so often to each device.
     ///
-    /// In this stage the hub has no probes. Takes all memory of the replay. Answers `NoMemory` where there is none to be had, and gives the hub back.
+    /// Takes all memory of the replay. Answers `NoMemory` where there is none to be had, and gives the hub back.
     pub fn open(alloc: Global, hub: Hub<D>, rounds: u32) -> Result<Player<D>, (Hub<D>, NoMemory)>
         requires fresh { configuration_of hub ≡ opened hub.setting hub.rounds }
         requires rounds { (d : ℕ) → d < length hub.setting.first → rounds ≤ (configuration_of hub).probes d }
-        requires stage { hub.rounds ≡ 0 }
         ensures opened { IfOk result (λ player. IsOpened hub rounds player) }
         ensures refused { IfErr result (λ refused. refused.0 ≡ hub) }
     {
@@ -86,7 +85,7 @@ impl<D: Steady> Player<D> {
 
 /// Replays a window: plays these turns, goes on by draws from the seed until every actor has ended, and closes it.
 ///
-/// In this stage the hub has no probes. Answers `NoMemory` where there is none to be had, and gives the hub back.
+/// Answers `NoMemory` where there is none to be had, and gives the hub back.
 pub fn replay_window<D: Steady>(
     alloc: Global,
     hub: Hub<D>,
@@ -96,7 +95,6 @@ pub fn replay_window<D: Steady>(
 ) -> Result<(Home<D>, WindowRecord), (Hub<D>, NoMemory)>
     requires fresh { configuration_of hub ≡ opened hub.setting hub.rounds }
     requires rounds { (d : ℕ) → d < length hub.setting.first → rounds ≤ (configuration_of hub).probes d }
-    requires stage { hub.rounds ≡ 0 }
     ensures replayed { IfOk result (λ closed. IsReplayed D.tag D.plan D.turns D.probes D.faults hub turns.now seed rounds closed.0 closed.1) }
     ensures refused { IfErr result (λ refused. refused.0 ≡ hub) }
 {

@@ -1,2 +1,1 @@
-pub mod BuiltWindows
 pub mod FittingOrders

@@ -1,7 +1,10 @@
-ghost use Rattle.std.specs.Prelude.{◌≡◌, ◌<◌, IfOk, IfSome, length, true};
+ghost use Rattle.std.specs.Prelude.{◌≡◌, ◌<◌, IfOk, IfSome, None, false, length};
+ghost use Rattle.hub_core.specs.OpenHubs.{configuration_of};
+ghost use Rattle.hub_core.specs.Steps.{opened};
+ghost use Rattle.later_forms.specs.CommandLines.{is_later_mode};
+ghost use Rattle.later_forms.specs.Scripts.{first_later as first_later_of};
 ghost use Rattle.routine_reader.specs.Scripts.{plain_script};
 ghost use Rattle.routine_reader.specs.Sound.{IsSound};
-ghost use Rattle.step_table.specs.Built.{IsFresh, is_built as built};
 
 use command_words::{CommandLine, Options};
 use device_states::{CalmBench, CalmDevice};
@@ -21,21 +24,25 @@ pub fn open_first(
     mode: Mode,
 ) -> Result<Option<Hub<Dev>>, AllocError>
     requires sound { IsSound (plain_script script.now) }
-    ensures { IfOk result (λ opened. IfSome opened IsFresh) }
+    ensures { IfOk result (λ there. IfSome there (λ hub. configuration_of hub ≡ opened hub.setting hub.rounds)) }
 {
-    if script.windows.len() > 0 && is_built(script, mode) {
-        Ok(Some(open_window(alloc, script, mode)?))
-    } else {
-        Ok(None)
+    let line = CommandLine::Replay(Options { mode, trace: false });
+    if script.windows.len() == 0 || is_later(line) {
+        return Ok(None);
+    }
+    match first_later(script) {
+        Some(_) => Ok(None),
+        None => Ok(Some(open_window(alloc, script, mode)?)),
     }
 }
 
 /// Opens the first window of the script on a new home.
 fn open_window(alloc: Global, script: &Script, mode: Mode) -> Result<Hub<Dev>, AllocError>
     requires sound { IsSound (plain_script script.now) }
-    requires built { built script.now mode ≡ true }
+    requires built { first_later_of script.now ≡ None }
+    requires mode { is_later_mode mode ≡ false }
     requires there { 0 < length script.now.windows.items }
-    ensures { IfOk result IsFresh }
+    ensures { IfOk result (λ hub. configuration_of hub ≡ opened hub.setting hub.rounds) }
 {
     let window = &script.windows.as_slice()[0];
     let Ok(roster) = roster(alloc, script, 0) else {
@@ -49,13 +56,4 @@ fn open_window(alloc: Global, script: &Script, mode: Mode) -> Result<Hub<Dev>, A
         Ok(hub) => Ok(hub),
         Err((_, NoMemory)) => Err(AllocError),
     }
-}
-
-/// Whether this stage of the hub works the windows of the script.
-fn is_built(script: &Script, mode: Mode) -> bool
-    requires sound { IsSound (plain_script script.now) }
-    ensures { result ≡ built script.now mode }
-{
-    let line = CommandLine::Replay(Options { mode, trace: false });
-    !is_later(line) && first_later(script).is_none()
 }

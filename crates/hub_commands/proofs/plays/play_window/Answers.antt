@@ -3,9 +3,8 @@ use Rattle.hub_core.specs.Stage.{StageAllows}
 use Rattle.hub_commands.proofs.Openings.{may_open, setting_as, stage_allows}
 use Rattle.hub_commands.proofs.PlayedWindows.{as_played}
 use Rattle.hub_commands.proofs.plays.play_window.Goals as goal
-use Rattle.later_forms.proofs.NoLaterForms.{no_probes}
 use Rattle.routine_reader.proofs.RosterLemmas.{window-there}
-use Rattle.run_replay.proofs.Opening.{fresh_where, rounds_where, stage_where}
+use Rattle.run_replay.proofs.Opening.{fresh_where, rounds_where}
 use Rattle.std.proofs.Common.{subst, sym}
 
 pub open_window-requires-clause-may : goal.open_window-requires-clause-may
@@ -31,18 +30,7 @@ replay_window-requires-clause-fresh g c =
 pub replay_window-requires-clause-rounds : goal.replay_window-requires-clause-rounds
 replay_window-requires-clause-rounds g c =
     let D = g.Dev.Device in
-    let window = c.index-as_slice-number.result in
-    let at = window-there c.args.script.now c.args.number c.as_slice.result.now window c.requires.there c.as_slice.ensures c.index-as_slice-number.is in
-    let none = no_probes c.args.script.now c.args.number window c.requires.built at in
-    rounds_where D.turns D.probes D.faults _ _ c.args.home c.in-Ok.hub c.in-Ok.ensures.opened none
-
-pub replay_window-requires-clause-stage : goal.replay_window-requires-clause-stage
-replay_window-requires-clause-stage g c =
-    let D = g.Dev.Device in
-    let window = c.index-as_slice-number.result in
-    let at = window-there c.args.script.now c.args.number c.as_slice.result.now window c.requires.there c.as_slice.ensures c.index-as_slice-number.is in
-    let none = no_probes c.args.script.now c.args.number window c.requires.built at in
-    stage_where D.turns D.probes D.faults _ _ c.args.home c.in-Ok.hub c.in-Ok.ensures.opened none
+    rounds_where D.turns D.probes D.faults _ _ c.args.home c.in-Ok.hub c.in-Ok.ensures.opened
 
 pub returns-in-Ok-replay_window : goal.returns-in-Ok-replay_window
 returns-in-Ok-replay_window g c =

@@ -1,9 +1,9 @@
+use Rattle.hub_commands.proofs.Openings.{may_open, setting_as, stage_allows, starts_up}
 use Rattle.hub_core.specs.Openings.{MayOpen}
 use Rattle.hub_core.specs.Stage.{StageAllows}
 use Rattle.routine_reader.proofs.RosterLemmas.{window-there}
 use Rattle.std.proofs.Common.{arith, subst, sym}
 use Rattle.std.specs.Prelude.{◌≤◌}
-use Rattle.step_table.proofs.BuiltWindows.{forms_of, is_up, may_open, mode_of, setting_as, stage_allows}
 use Rattle.step_table.proofs.openings.open_window.Goals as goal
 
 pub open_window-requires-clause-may : goal.open_window-requires-clause-may
@@ -15,7 +15,7 @@ open_window-requires-clause-may c =
     let at = window-there script 0 c.as_slice.result.now window c.requires.there c.as_slice.ensures c.index-as_slice-0.is in
     let few : home.opened ≤ 288 = omega (arith, c.in-Ok-build.ensures.opened) in
     subst (λ w. MayOpen w window.probes home.opened) (sym (setting_as script 0 home c.in-Ok.roster mode c.in-Ok.ensures))
-    (may_open _ _ _ _ _ script mode 0 window home c.requires.sound (forms_of script mode c.requires.built) (mode_of script mode c.requires.built) at c.kept.ensures c.in-Ok-build.ensures.kinds few)
+    (may_open _ _ _ _ _ script mode 0 window home c.requires.sound c.requires.built c.requires.mode at c.kept.ensures c.in-Ok-build.ensures.kinds few)
 
 pub open_window-requires-clause-stage : goal.open_window-requires-clause-stage
 open_window-requires-clause-stage c =
@@ -25,4 +25,4 @@ open_window-requires-clause-stage c =
     let window = c.index-as_slice-0.result in
     let at = window-there script 0 c.as_slice.result.now window c.requires.there c.as_slice.ensures c.index-as_slice-0.is in
     subst (λ w. StageAllows w window.probes) (sym (setting_as script 0 home c.in-Ok.roster mode c.in-Ok.ensures))
-    (stage_allows script mode 0 window home (forms_of script mode c.requires.built) (mode_of script mode c.requires.built) at (is_up script home c.in-Ok-build.ensures.world))
+    (stage_allows script mode 0 window home c.requires.built c.requires.mode at (starts_up script home c.in-Ok-build.ensures.world))

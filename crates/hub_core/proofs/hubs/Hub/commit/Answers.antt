@@ -14,5 +14,5 @@ invariant_of-self g c =
     let new = c.commit.ensures.new ∙ ap (with_entry c.self.inside.history c.args.r.0) c.commit.ensures.entry in
     let made = entry_inside _ _ _ _ c.self.inside.history c.commit.new.self _ _ c.self.inside.moment c.args.r.0 c.args.moment _ _ _ _ c.args.self.now _ (Ending Committed) c.self.view_is c.requires new c.self.invariant.0 in (
       rw c.max-self-inside.ensures made,
-      order_committed c.self.inside.history c.commit.new.self _ c.args.r.0 _ _ _ _ (read_hub _ _ _ _ c.self.invariant.0.0.configuration) new made.0.configuration.history.well_formed c.settle.ensures.line c.settle.ensures.table c.self.invariant.1,
+      order_committed c.self.inside.history c.commit.new.self _ c.args.r.0 _ _ _ _ (read_hub _ _ _ _ c.self.invariant.0.0.configuration) c.self.invariant.0.0.configuration.order.grips new made.0.configuration.history.well_formed c.settle.ensures.line c.settle.ensures.table c.self.invariant.1,
     )

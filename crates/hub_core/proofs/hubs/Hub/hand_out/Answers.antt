@@ -60,7 +60,10 @@ returns-clause-window g c =
     (record { at = e.device; after_is = e.places; number_is = e.tickets; does = e.task; device = ap (λ x. x.0) e.number; maker = e.maker; stood = e.stood; had_turns = e.turns; had_probes = e.probes; had_faults = e.faults })).window
 
 pub touch-requires-clause-run : goal.touch-requires-clause-run
-touch-requires-clause-run g c = (may_mark _ _ _ _ c.args.r.0 c.args.moment c.args.d.0 _ _ c.self.invariant.0.0.configuration (ap (λ s. choice_of (configuration_of s) c.args.r.0 c.args.moment) c.self.view_is ∙ c.requires) c.self.invariant.1.line_is).stands
+touch-requires-clause-run g c = (may_mark _ _ _ _ c.args.r.0 c.args.moment c.args.d.0 _ _ _ c.self.invariant.0.0.configuration (ap (λ s. choice_of (configuration_of s) c.args.r.0 c.args.moment) c.self.view_is ∙ c.requires) c.self.invariant.1.line_is c.self.invariant.1.table_is.devices).stands
 
 pub touch-requires-clause-device : goal.touch-requires-clause-device
-touch-requires-clause-device g c = (may_mark _ _ _ _ c.args.r.0 c.args.moment c.args.d.0 _ _ c.self.invariant.0.0.configuration (ap (λ s. choice_of (configuration_of s) c.args.r.0 c.args.moment) c.self.view_is ∙ c.requires) c.self.invariant.1.line_is).device
+touch-requires-clause-device g c = (may_mark _ _ _ _ c.args.r.0 c.args.moment c.args.d.0 _ _ _ c.self.invariant.0.0.configuration (ap (λ s. choice_of (configuration_of s) c.args.r.0 c.args.moment) c.self.view_is ∙ c.requires) c.self.invariant.1.line_is c.self.invariant.1.table_is.devices).device
+
+pub touch-requires-clause-homed : goal.touch-requires-clause-homed
+touch-requires-clause-homed g c = (may_mark _ _ _ _ c.args.r.0 c.args.moment c.args.d.0 _ _ _ c.self.invariant.0.0.configuration (ap (λ s. choice_of (configuration_of s) c.args.r.0 c.args.moment) c.self.view_is ∙ c.requires) c.self.invariant.1.line_is c.self.invariant.1.table_is.devices).homed

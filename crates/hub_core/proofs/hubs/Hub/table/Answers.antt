@@ -8,7 +8,7 @@ use Rattle.std.proofs.Common.{subst}
 pub returns-clause-represents : goal.returns-clause-represents
 returns-clause-represents g c =
     subst (λ (t : OpenHub g.row.D.Denot). Represents t.setting (read_of (configuration_of t)) (configuration_of t).grips c.self.inside.order.table) c.self.view_is
-    (hub_standing _ _ _ _ c.self.inside.history.spare _ _ c.self.invariant.0.0.configuration c.self.invariant.1).its_table
+    (hub_standing _ _ _ _ c.self.inside.history.spare _ _ c.kept.ensures c.self.invariant.0.0.configuration c.self.invariant.1).its_table
 
 pub returns-clause-disciplined : goal.returns-clause-disciplined
-returns-clause-disciplined g c = (hub_standing _ _ _ _ c.self.inside.history.spare _ _ c.self.invariant.0.0.configuration c.self.invariant.1).disciplined
+returns-clause-disciplined g c = c.kept.ensures

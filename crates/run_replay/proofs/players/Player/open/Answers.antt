@@ -12,7 +12,7 @@ actors-preserved g c = (
 )
 
 pub invariant_of-result : goal.invariant_of-result
-invariant_of-result g c = opens_kept c.args.hub c.actors.grips.items c.args.rounds c.requires.fresh c.requires.rounds c.requires.stage c.ranges.rounds.fits c.actors.invariant.0 (omega (arith, c.actors.grips.ok, c.actors.invariant.1, c.len.ensures, c.run_count.ensures, c.actors-test.false))
+invariant_of-result g c = opens_kept c.args.hub c.actors.grips.items c.args.rounds c.requires.fresh c.requires.rounds c.kept.ensures.no_probes c.ranges.rounds.fits c.actors.invariant.0 (omega (arith, c.actors.grips.ok, c.actors.invariant.1, c.len.ensures, c.run_count.ensures, c.actors-test.false))
 
 pub returns-clause-opened : goal.returns-clause-opened
 returns-clause-opened g c = is_opened c.args.hub c.actors.grips.items c.args.rounds c.requires.fresh c.actors.invariant.0

@@ -1,0 +1,127 @@
+-- What runs write, and what an undo drives: values of their devices' kinds.
+use Rattle.command_rules.specs.Rosters.{command_at, commands_of, no_command, run_no}
+use Rattle.history_book.proofs.Searches.{map_some}
+use Rattle.history_book.proofs.Shapes.{put_all}
+use Rattle.history_book.specs.Histories.{answered, entry, reading}
+use Rattle.history_book.specs.Lines.{without}
+use Rattle.history_book.specs.Readings.{OfRun, OnDevice, Reading, nothing_read, put}
+use Rattle.history_book.specs.Settings.{Setting, is_device}
+use Rattle.history_book.specs.WellFormed.{IsWellFormed, along, may_follow}
+use Rattle.history_book.specs.declared.entries.Entry.{Entry}
+use Rattle.history_book.specs.declared.entries.Entry.TheVariants.{Arrived, Did, Doomed, Ended, Fell, Placed, Rose, Undid}
+use Rattle.home_types.specs.Commands.{driven, writes}
+use Rattle.home_types.specs.HomeStates.{stand_at}
+use Rattle.home_types.specs.Kinds.{has_value, kind_at, nearest}
+use Rattle.home_types.specs.declared.commands.Answer.TheVariants.{Down, Fine, Found}
+use Rattle.home_types.specs.declared.commands.Answer.{Answer}
+use Rattle.home_types.specs.declared.commands.Command.{Command}
+use Rattle.home_types.specs.declared.commands.Job.TheVariants.{Check, Load, Set, Store}
+use Rattle.home_types.specs.declared.commands.Job.{Job}
+use Rattle.home_types.specs.declared.items.Item.{Item}
+use Rattle.home_types.specs.declared.items.Item.TheVariants.{Back, Failed, Ran}
+use Rattle.home_types.specs.declared.kinds.Kind.TheVariants.{Range, States}
+use Rattle.home_types.specs.declared.kinds.Kind.{Kind}
+use Rattle.hub_core.specs.Openings.{names_values_of}
+use Rattle.lock_leasing.proofs.Effects.{last_some_of}
+use Rattle.lock_leasing.specs.Configurations.{Grips}
+use Rattle.lock_leasing.specs.Words.{Write, is_undone, last_some, value_without, write_of}
+use Rattle.std.proofs.Common.{ap, arith, refl, subst, sym, ◌∙◌}
+use Rattle.std.proofs.lemmas.Grind.{common_steps}
+use Rattle.std.specs.Prelude.{Bool, IsTrue, List, None, Option, Some, [], false, fold, if◌then◌else◌, is_some, length, nat_lt, option_map, slice_get, slice_index_or, suc, true, unwrap_or, zero, ℕ, ◌&&◌, ◌∷◌, ◌≡◌}
+use Rattle.window_order.proofs.Runs.{both}
+
+-- a kind that has some value has the nearest one to any
+pub nearest_has : (kind : Kind) (held v : ℕ) → IsTrue (has_value kind held) → IsTrue (has_value kind (nearest kind v))
+nearest_has (States n) held v has = grind (arith, common_steps)
+nearest_has (Range low high) held v has = grind (arith, common_steps)
+
+-- a write that names values of a kind which has some drives one of them
+driven_has : (kind : Kind) (job : Job) (register held : ℕ) → writes job ≡ true → IsTrue (names_values_of kind job) → IsTrue (has_value kind held) → has_value kind (driven kind job register) ≡ true
+driven_has kind (Set v) register held writing named has = named
+driven_has kind (Check v) register held writing named has = absurd (cc)
+driven_has kind Load register held writing named has = absurd (cc)
+driven_has kind Store register held writing named has = nearest_has kind held register has
+
+-- commands name values of their devices, and each device stands at one of its own at the start
+pub record ValuesFit (w : Setting) : Type 0 where
+  pub homed : (r k : ℕ) (c : Command) → slice_get (commands_of w.runs r) k ≡ Some c → IsTrue (is_device w c.device.0 && names_values_of (kind_at w.kinds c.device.0) c.job)
+  pub first : (d : ℕ) → is_device w d ≡ true → IsTrue (has_value (kind_at w.kinds d) (stand_at w.first d).value)
+
+-- what the run wrote on the device, if it wrote, is one of its values
+abbrev pub WriteFits : Setting → ℕ → OnDevice → Type 0
+WriteFits w d o = unwrap_or (option_map (has_value (kind_at w.kinds d)) o.wrote) true ≡ true
+
+abbrev pub WritesFit : Setting → Reading → Type 0
+WritesFit w n = (r d : ℕ) → WriteFits w d ((n.run r).on d)
+
+writes_put : (w : Setting) (n m : Reading) (r : ℕ) (o : OfRun) → m.run ≡ put n.run r o → ((d : ℕ) → WriteFits w d (o.on d)) → WritesFit w n → WritesFit w m
+writes_put w n m r o run new all q = rw run (put_all (λ k x. (d : ℕ) → WriteFits w d (x.on d)) n.run r o all new q)
+
+answer_fits : (w : Setting) (n : Reading) (r k : ℕ) (a : Answer) → ValuesFit w → may_follow w n (Did (run_no r) k a) ≡ true → WritesFit w n
+    → WriteFits w (command_at w.runs r k).device.0 (answered (kind_at w.kinds (command_at w.runs r k).device.0) (command_at w.runs r k) (is_some (n.run r).doomed) (n.run r).register a ((n.run r).on (command_at w.runs r k).device.0))
+answer_fits w n r k Fine fit ok all = driven_has (kind_at w.kinds c.device.0) c.job (n.run r).register (stand_at w.first c.device.0).value writing named (fit.first c.device.0 device)
+  where
+    c : Command
+    c = command_at w.runs r k
+
+    writing : writes c.job ≡ true
+    writing = grind (arith, common_steps)
+
+    within : nat_lt k (length (commands_of w.runs r)) ≡ true
+    within = grind (arith, common_steps)
+
+    at : (cs : List Command) (j : ℕ) → nat_lt j (length cs) ≡ true → slice_get cs j ≡ Some (slice_index_or cs j no_command)
+    at [] j less = absurd (grind (arith, common_steps))
+    at (x ∷ cs) zero less = refl
+    at (x ∷ cs) (suc j) less = at cs j (grind (arith, common_steps))
+
+    home : IsTrue (is_device w c.device.0 && names_values_of (kind_at w.kinds c.device.0) c.job)
+    home = fit.homed r k c (at (commands_of w.runs r) k within)
+
+    device : is_device w c.device.0 ≡ true
+    device = (both (is_device w c.device.0) (names_values_of (kind_at w.kinds c.device.0) c.job) home).0
+
+    named : IsTrue (names_values_of (kind_at w.kinds c.device.0) c.job)
+    named = (both (is_device w c.device.0) (names_values_of (kind_at w.kinds c.device.0) c.job) home).1
+answer_fits w n r k (Found x) fit ok all = all r (command_at w.runs r k).device.0
+answer_fits w n r k Down fit ok all = all r (command_at w.runs r k).device.0
+
+writes_step : (w : Setting) (n : Reading) (e : Entry) → ValuesFit w → may_follow w n e ≡ true → WritesFit w n → WritesFit w (entry w n e)
+writes_step w n (Arrived r m) fit ok all = writes_put w n (entry w n (Arrived r m)) r.0 _ refl (all r.0) all
+writes_step w n (Placed r at m) fit ok all = writes_put w n (entry w n (Placed r at m)) r.0 _ refl (all r.0) all
+writes_step w n (Did r c a) fit ok all = writes_put w n (entry w n (Did r c a)) r.0 _ refl (put_all (WriteFits w) (n.run r.0).on (command_at w.runs r.0 c).device.0 _ (all r.0) (answer_fits w n r.0 c a fit ok all)) all
+writes_step w n (Undid r d drove) fit ok all = writes_put w n (entry w n (Undid r d drove)) r.0 _ refl (put_all (WriteFits w) (n.run r.0).on d.0 _ (all r.0) (all r.0 d.0)) all
+writes_step w n (Fell d) fit ok all = all
+writes_step w n (Rose d) fit ok all = all
+writes_step w n (Doomed r cause) fit ok all = writes_put w n (entry w n (Doomed r cause)) r.0 _ refl (all r.0) all
+writes_step w n (Ended r e) fit ok all = writes_put w n (entry w n (Ended r e)) r.0 _ refl (all r.0) all
+
+writes_from : (w : Setting) (n : Reading) (h : List Entry) → ValuesFit w → WritesFit w n → IsTrue (along w (may_follow w) n h) → WritesFit w (fold (entry w) n h)
+writes_from w n [] fit all ok = all
+writes_from w n (e ∷ h) fit all ok = writes_from w (entry w n e) h fit (writes_step w n e fit (grind (arith, common_steps)) all) (grind (arith, common_steps))
+
+-- in a well-formed history
+pub writes_fit : (w : Setting) (h : List Entry) → ValuesFit w → IsWellFormed w h → WritesFit w (reading w h)
+writes_fit w h fit ok = writes_from w (nothing_read w) h fit (λ r d. refl) ok
+
+-- so does the value at which a device would stand without a run
+pub undo_value : (w : Setting) (n : Reading) (g : Grips) (r d : ℕ) → WritesFit w n → IsTrue (has_value (kind_at w.kinds d) (stand_at w.first d).value) → has_value (kind_at w.kinds d) (value_without w n g r d) ≡ true
+undo_value w n g r d all first = by_write (last_some (write_of n g d) (without r n.line)) (λ e at. last_some_of Fits (write_of n g d) write_fits (without r n.line) None (λ e none. absurd (cc)) e at)
+  where
+    Fits : Write → Type 0
+    Fits e = has_value (kind_at w.kinds d) e.value ≡ true
+
+    write_fits : (i : Item) (e : Write) → write_of n g d i ≡ Some e → Fits e
+    write_fits (Failed k j) e at = absurd (cc)
+    write_fits (Back k j) e at = absurd (cc)
+    write_fits (Ran q) e at = by_undone (is_undone n g q.0 d) at
+      where
+        by_undone : (b : Bool) → (if b then None else option_map (λ v. record { run = q.0; value = v }) ((n.run q.0).on d).wrote) ≡ Some e → Fits e
+        by_undone true f = absurd (cc)
+        by_undone false f =
+            let found = map_some (λ v. record { run = q.0; value = v }) ((n.run q.0).on d).wrote e f in
+            subst Fits found.2 (ap (λ o. unwrap_or (option_map (has_value (kind_at w.kinds d)) o) true) (sym found.1) ∙ all q.0 d)
+
+    by_write : (o : Option Write) → ((e : Write) → o ≡ Some e → Fits e) → has_value (kind_at w.kinds d) (unwrap_or (option_map (λ e. e.value) o) (stand_at w.first d).value) ≡ true
+    by_write None each = first
+    by_write (Some e) each = each e refl

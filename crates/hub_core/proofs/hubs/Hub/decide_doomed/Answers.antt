@@ -1,0 +1,23 @@
+use Rattle.hub_core.proofs.HubChoices.{doomed_busy, doomed_ends, doomed_goes, never_dropped}
+use Rattle.hub_core.proofs.NextUndos.{next_undo_is}
+use Rattle.hub_core.proofs.hubs.Hub.decide_doomed.Goals as goal
+use Rattle.hub_core.specs.OpenHubs.{configuration_of}
+use Rattle.lock_leasing.specs.Configurations.{read_of}
+use Rattle.std.proofs.Common.{sym, ◌∙◌}
+
+pub unreachable-requires : goal.unreachable-requires
+unreachable-requires g c =
+    never_dropped c.args.self.now.setting (read_of (configuration_of c.args.self.now)) (configuration_of c.args.self.now).grips c.args.r.0 c.in-Drop.field-0 c.requires.up
+    (c.in-Drop.ensures ∙ next_undo_is (configuration_of c.args.self.now) _ _ _ _ c.args.r.0 c.standing-standing.ensures c.requires.live)
+
+pub returns-then-is_out : goal.returns-then-is_out
+returns-then-is_out g c = λ m. doomed_busy c.args.self.now.setting (read_of (configuration_of c.args.self.now)) (configuration_of c.args.self.now).grips c.args.r.0 c.args.cause c.in-Drive.d c.in-Drive.value
+    (c.in-Drive.ensures ∙ next_undo_is (configuration_of c.args.self.now) _ _ _ _ c.args.r.0 c.standing-standing.ensures c.requires.live) (sym c.if-is_out.ensures)
+
+pub returns-else-is_out : goal.returns-else-is_out
+returns-else-is_out g c = λ m. doomed_goes c.args.self.now.setting (read_of (configuration_of c.args.self.now)) (configuration_of c.args.self.now).grips c.args.r.0 c.args.cause c.in-Drive.d c.in-Drive.value
+    (c.in-Drive.ensures ∙ next_undo_is (configuration_of c.args.self.now) _ _ _ _ c.args.r.0 c.standing-standing.ensures c.requires.live) (sym c.if-is_out.ensures)
+
+pub returns-in-Finished : goal.returns-in-Finished
+returns-in-Finished g c = λ m. doomed_ends c.args.self.now.setting (read_of (configuration_of c.args.self.now)) (configuration_of c.args.self.now).grips c.args.r.0 c.args.cause
+    (c.in-Finished.ensures ∙ next_undo_is (configuration_of c.args.self.now) _ _ _ _ c.args.r.0 c.standing-standing.ensures c.requires.live)
