@@ -63,3 +63,4 @@ pub mod CappedTimes
 pub mod LegalWindow
 pub mod LegalDay
 pub mod OtherDays
+pub mod WorkedTables
