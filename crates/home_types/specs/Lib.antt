@@ -2,3 +2,4 @@ pub mod Listed
 pub mod Kinds
 pub mod HomeStates
 pub mod Commands
+pub mod DeviceSets

@@ -2,6 +2,7 @@
 #![tactic(auto)]
 
 pub mod commands;
+pub mod device_sets;
 pub mod items;
 pub mod kinds;
 pub mod limits;
@@ -13,6 +14,7 @@ pub mod texts;
 pub mod worlds;
 
 pub use commands::{Answer, Command, Job, Routine, View};
+pub use device_sets::DeviceSet;
 pub use items::Item;
 pub use kinds::Kind;
 pub use lists::List;

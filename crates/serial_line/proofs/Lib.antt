@@ -1,4 +1,3 @@
-pub mod Bits
 pub mod Searches
 pub mod Once
 pub mod Ties

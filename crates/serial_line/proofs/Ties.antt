@@ -4,7 +4,7 @@ use Rattle.home_types.specs.declared.items.Item.TheVariants.{Back, Failed, Ran}
 use Rattle.home_types.specs.declared.items.Item.{Item}
 use Rattle.home_types.specs.declared.numbers.DeviceNo.{DeviceNo}
 use Rattle.home_types.specs.declared.numbers.RunNo.{RunNo}
-use Rattle.serial_line.proofs.Bits.{contains_insert, contains_one}
+use Rattle.home_types.proofs.DeviceBits.{contains_insert, contains_one}
 use Rattle.serial_line.specs.Marks.{Mark, has_touched, is_item, is_ran, items_of, last_on, place_of, touching, untouched, with_item, with_touch, without}
 use Rattle.serial_line.specs.Searches.{last_place}
 use Rattle.serial_line.specs.Ties.{Each, IsLineOf, TouchesAs}

@@ -2,8 +2,7 @@ ghost use Rattle.std.specs.Prelude.{◌≡◌, ◌<◌, true};
 ghost use Rattle.std.specs.FinSet as set;
 ghost use Rattle.serial_line.specs.Marks.{is_item, is_ran, untouched};
 
-use crate::touches::Touches;
-use home_types::{DeviceNo, Item, RunNo};
+use home_types::{DeviceNo, DeviceSet, Item, RunNo};
 use std::marker::Model;
 
 /// An item of the line, with the devices that it has touched.
@@ -11,7 +10,7 @@ use std::marker::Model;
 pub(crate) struct Entry {
     item: Item,
     // of a run; an event has touched its own device alone
-    touches: Touches,
+    touches: DeviceSet,
 }
 
 impl Model for Entry {
@@ -31,7 +30,7 @@ impl Entry {
     {
         Entry {
             item,
-            touches: Touches::none(),
+            touches: DeviceSet::none(),
         }
     }
 

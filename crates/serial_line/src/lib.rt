@@ -5,6 +5,5 @@ pub mod entries;
 pub mod lines;
 #[cfg(test)]
 mod tests;
-pub mod touches;
 
 pub use lines::Line;

@@ -1,4 +1,4 @@
-use Rattle.serial_line.proofs.Bits.{contains_one}
+use Rattle.home_types.proofs.DeviceBits.{contains_one}
 use Rattle.serial_line.proofs.entries.Entry.has_touched.Goals as goal
 
 pub returns-in-Failed : goal.returns-in-Failed

@@ -1,37 +1,37 @@
 ghost use Rattle.std.specs.Prelude.{◌≡◌, ◌<◌};
 ghost use Rattle.std.specs.FinSet as set;
 
-use home_types::DeviceNo;
+use crate::numbers::DeviceNo;
 use std::marker::Model;
 
-/// A set of devices of a home, a bit for each.
+/// A set of devices of a home, a bit for each of the 256 that it may have.
 #[derive(Drop)]
-pub(crate) struct Touches {
+pub struct DeviceSet {
     words: [u64; 4],
 }
 
-impl Model for Touches {
+impl Model for DeviceSet {
     ghost use Rattle.std.specs.Coded.{coded_ℕ};
     ghost use Rattle.std.specs.FinSet as set;
-    ghost use Rattle.serial_line.specs.Sets.{Devices, devices_of_bits};
+    ghost use Rattle.home_types.specs.DeviceSets.{Devices, devices_of_bits};
 
     ghost Value = { Devices };
 
     ghost coded = { set.code coded_ℕ };
 
-    ghost view = { λ t. devices_of_bits t.words };
+    ghost view = { λ s. devices_of_bits s.words };
 }
 
-impl Touches {
+impl DeviceSet {
     /// No devices.
-    pub(crate) fn none() -> Touches
+    pub fn none() -> DeviceSet
         ensures { result ≡ set.empty }
     {
-        Touches { words: [0; 4] }
+        DeviceSet { words: [0; 4] }
     }
 
     /// Puts the device in.
-    pub(crate) fn add(&mut self, device: DeviceNo)
+    pub fn add(&mut self, device: DeviceNo)
         requires { device.0 < 256 }
         ensures { self.new ≡ set.insert self.old device.0 }
     {
@@ -39,8 +39,8 @@ impl Touches {
         self.words[(device.0 / 64) as usize] |= bit;
     }
 
-    /// Whether the device is in it.
-    pub(crate) fn has(&self, device: DeviceNo) -> bool
+    /// Whether the device is in it. A device from 256 on is not.
+    pub fn has(&self, device: DeviceNo) -> bool
         ensures { result ≡ set.contains self.now device.0 }
     {
         match self.words.get((device.0 / 64) as usize) {

@@ -1,5 +1,5 @@
 -- What the bits of a set of devices say.
-use Rattle.serial_line.specs.Sets.{Devices, devices_of_bits, has_bit}
+use Rattle.home_types.specs.DeviceSets.{Devices, devices_of_bits, has_bit}
 use Rattle.std.proofs.Common.{ap, arith, cond, nat_eq, refl, sym, ◌∙◌}
 use Rattle.std.proofs.lemmas.Cmp.{nat_cmp_total}
 use Rattle.std.proofs.lemmas.Grind.{common_steps}

@@ -1,5 +1,5 @@
-use Rattle.serial_line.proofs.Bits.{contains_bits, in_words, test_bit, word_at}
-use Rattle.serial_line.proofs.touches.Touches.has.Goals as goal
+use Rattle.home_types.proofs.DeviceBits.{contains_bits, in_words, test_bit, word_at}
+use Rattle.home_types.proofs.device_sets.DeviceSet.has.Goals as goal
 use Rattle.std.proofs.Common.{ap, length, refl, sym, ◌%◌, ◌/◌, ◌∙◌}
 use Rattle.std.specs.Int.{bit_at}
 use Rattle.std.specs.Prelude.{◌==◌}

@@ -1,5 +1,5 @@
-use Rattle.serial_line.proofs.Bits.{with_device}
-use Rattle.serial_line.proofs.touches.Touches.add.Goals as goal
+use Rattle.home_types.proofs.DeviceBits.{with_device}
+use Rattle.home_types.proofs.device_sets.DeviceSet.add.Goals as goal
 use Rattle.std.proofs.Common.{arith, length, rules, ◌%◌, ◌≡◌}
 use Rattle.std.proofs.lemmas.Nat.{one_shl}
 
