@@ -18,10 +18,6 @@ pub mod Pairs
 pub mod Losses
 pub mod Standing
 pub mod Decisions
-pub mod Leases
-pub mod LeaseTables
-pub mod LeaseChanges
-pub mod LeaseClaims
 pub mod Runs
 pub mod Converse
 pub mod Swaps

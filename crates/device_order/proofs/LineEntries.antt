@@ -111,9 +111,6 @@ uses_rest d (c ∷ cs) (a ∷ xs) h = uses_rest d cs xs (tail (c.device.0 == d) 
     tail : (x y : Bool) → (x || y) ≡ false → y ≡ false
     tail x y h = grind (arith, common_steps)
 
-open_status : (committed doomed pends : Bool) → is_open (stage_of committed doomed pends) ≡ (not committed && not doomed && pends)
-open_status committed doomed pends = grind (arith, common_steps)
-
 -- an event goes where the device's own order has it
 pub entries_event : (kinds : List Kind) (states : RunStates) (d : ℕ) (e : Event) (i : Item) (is : List Item) → entry_of kinds states d i ≡ Some (Occurred e)
     → entries kinds states d (line_with_event kinds states d i is) ≡ with_event e (entries kinds states d is)

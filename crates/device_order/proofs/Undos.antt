@@ -17,10 +17,6 @@ use Rattle.device_order.specs.declared.records.Probe.{Probe}
 use Rattle.device_order.specs.declared.records.Usage.{Usage}
 use Rattle.std.proofs.Common.{◌≡◌, ℕ, Bool, true, false, List, ◌∷◌, ◌++◌, arith, refl, ap, ◌∙◌, sym, subst}
 use Rattle.std.proofs.lemmas.Grind.{common_steps}
-use Rattle.std.specs.Prelude.{◌&&◌}
-
-either_part : (x y : Bool) → x ≡ true → (x && y) ≡ true → y ≡ true
-either_part x y h g = grind (arith, common_steps)
 
 -- the undo goes out
 

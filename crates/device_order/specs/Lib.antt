@@ -5,7 +5,6 @@ pub mod Invariant
 pub mod Changes
 pub mod Claims
 pub mod Decisions
-pub mod Leases
 pub mod Pairs
 pub mod Marks
 pub mod Summaries

@@ -5,7 +5,6 @@
 pub mod device_laws;
 pub mod exchange;
 pub mod invariants;
-pub mod lease_laws;
 pub mod line_laws;
 pub mod records;
 pub mod serial_laws;

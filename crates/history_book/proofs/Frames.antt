@@ -5,9 +5,8 @@ use Rattle.history_book.specs.Histories.{entry}
 use Rattle.history_book.specs.Readings.{Reading, is_live}
 use Rattle.history_book.specs.Settings.{Setting}
 use Rattle.history_book.specs.declared.entries.Cause.{Cause}
-use Rattle.history_book.specs.declared.entries.Entry.TheVariants.{Did, Doomed, Fell}
+use Rattle.history_book.specs.declared.entries.Entry.TheVariants.{Did, Doomed}
 use Rattle.home_types.specs.declared.commands.Answer.{Answer}
-use Rattle.home_types.specs.declared.numbers.DeviceNo.{DeviceNo}
 use Rattle.home_types.specs.declared.numbers.RunNo.{RunNo}
 use Rattle.std.proofs.Common.{refl}
 use Rattle.std.specs.Prelude.{Some, is_none, is_some, ℕ, ◌&&◌, ◌≡◌, ◌≢◌}
@@ -25,10 +24,6 @@ did_line w n r c a = refl
 
 pub did_live : (w : Setting) (n : Reading) (r : RunNo) (c : ℕ) (a : Answer) (q : ℕ) → is_live (entry w n (Did r c a)) q ≡ is_live n q
 did_live w n r c a q = put_keeps (λ o. is_some o.placed && is_none o.ended) n.run r.0 _ refl q
-
--- a failure leaves every run as it is
-pub fell_runs : (w : Setting) (n : Reading) (d : DeviceNo) → (entry w n (Fell d)).run ≡ n.run
-fell_runs w n d = refl
 
 -- a run that is doomed stays where it is, and is as live as it was
 pub doomed_live : (w : Setting) (n : Reading) (r : RunNo) (k : Cause) (q : ℕ) → is_live (entry w n (Doomed r k)) q ≡ is_live n q

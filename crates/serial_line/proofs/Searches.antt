@@ -5,7 +5,7 @@ use Rattle.std.proofs.lemmas.Grind.{common_steps}
 use Rattle.std.proofs.lemmas.List.Sums.{prefix_len_stops}
 use Rattle.std.specs.List.{list_any, prefix_len}
 use Rattle.std.specs.Option.{option_or}
-use Rattle.std.specs.Prelude.{Bool, List, None, Option, Some, [], drop, false, get_or, if◌then◌else◌, length, max, nat_lt, not, option_map, position, suc, take, take_while, true, unwrap_or, zero, ℕ, ◌+◌, ◌-◌, ◌++◌, ◌<◌, ◌∷◌, ◌≡◌, ◌≤◌, ◌||◌}
+use Rattle.std.specs.Prelude.{Bool, List, None, Option, Some, [], drop, false, get_or, if◌then◌else◌, length, max, nat_lt, not, option_map, position, suc, take, true, unwrap_or, zero, ℕ, ◌+◌, ◌-◌, ◌++◌, ◌<◌, ◌∷◌, ◌≡◌, ◌≤◌, ◌||◌}
 
 -- where a place passes and nothing behind it, it is the last place
 last_is : {A : Type 0} (test : A → Bool) (xs : List A) (k : ℕ) (x : A) → k < length xs → test (get_or xs k x) ≡ true → last_place test (drop (suc k) xs) ≡ None → last_place test xs ≡ Some k
@@ -128,14 +128,6 @@ up_to_either {A} p q (x ∷ xs) = by_cases (list_any p (x ∷ xs)) (list_any q (
     by_cases true false e f rest = let none : up_to_last q xs ≡ 0 = up_to_none q xs (grind (arith, common_steps)) in rw (either (x ∷ xs), e, rest, none) (omega arith)
     by_cases false true e f rest = let none : up_to_last p xs ≡ 0 = up_to_none p xs (grind (arith, common_steps)) in rw (either (x ∷ xs), e, f, rest, none) (omega arith)
     by_cases false false e f rest = rw (either (x ∷ xs), e, f) refl
-
--- what stands before the first place are so many items
-pub before_place : {A : Type 0} (p : A → Bool) (xs : List A) (k : ℕ) → position p xs ≡ Some k → take_while (λ x. not (p x)) xs ≡ take k xs
-before_place p xs k told = by_cases (nat_lt (prefix_len (λ x. not (p x)) xs) (length xs)) told
-  where
-    by_cases : (b : Bool) → cond b (Some (prefix_len (λ x. not (p x)) xs)) None ≡ Some k → take (prefix_len (λ x. not (p x)) xs) xs ≡ take k xs
-    by_cases true found = ap (λ o. take (unwrap_or o k) xs) found
-    by_cases false found = absurd (cc)
 
 -- the number of items before the first one of which the test holds
 abbrev pub up_to_first : {A : Type 0} → (A → Bool) → List A → ℕ

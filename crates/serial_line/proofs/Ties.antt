@@ -2,10 +2,9 @@
 -- The words on items are those of the reading of a history, written alike, so that these lemmas are about its words too.
 use Rattle.home_types.specs.declared.items.Item.TheVariants.{Back, Failed, Ran}
 use Rattle.home_types.specs.declared.items.Item.{Item}
-use Rattle.home_types.specs.declared.numbers.DeviceNo.{DeviceNo}
 use Rattle.home_types.specs.declared.numbers.RunNo.{RunNo}
-use Rattle.home_types.proofs.DeviceBits.{contains_insert, contains_one}
-use Rattle.serial_line.specs.Marks.{Mark, has_touched, is_item, is_ran, items_of, last_on, place_of, touching, untouched, with_item, with_touch, without}
+use Rattle.home_types.proofs.DeviceBits.{contains_insert}
+use Rattle.serial_line.specs.Marks.{Mark, has_touched, is_item, is_ran, items_of, last_on, touching, untouched, with_item, with_touch, without}
 use Rattle.serial_line.specs.Searches.{last_place}
 use Rattle.serial_line.specs.Ties.{Each, IsLineOf, TouchesAs}
 use Rattle.std.proofs.Common.{ap, arith, cond, refl, sym, ◌∙◌}
@@ -15,7 +14,7 @@ use Rattle.std.specs.FinSet as set
 use Rattle.std.specs.List.{list_any}
 use Rattle.std.specs.Option.{option_or}
 use Rattle.std.specs.Ordering.{nat_cmp}
-use Rattle.std.specs.Prelude.{Bool, List, None, Some, [], drop, false, filter, if◌then◌else◌, insert, length, not, option_map, position, suc, take, true, zero, ℕ, ◌&&◌, ◌+◌, ◌++◌, ◌==◌, ◌||◌, ◌∷◌, ◌≡◌}
+use Rattle.std.specs.Prelude.{Bool, List, None, Some, [], drop, false, filter, if◌then◌else◌, insert, length, not, option_map, suc, take, true, zero, ℕ, ◌&&◌, ◌+◌, ◌++◌, ◌==◌, ◌||◌, ◌∷◌, ◌≡◌}
 
 -- an empty line has no items
 pub line_empty : (touched : Item → ℕ → Bool) → IsLineOf [] touched []
@@ -49,12 +48,6 @@ line_inserted {marks} at x old new = record {
 
 pub run_comes : (touched : Item → ℕ → Bool) (r : RunNo) → ((d : ℕ) → touched (Ran r) d ≡ false) → TouchesAs touched (untouched (Ran r))
 run_comes touched r none d = set.contains-empty nat_cmp d ∙ sym (none d)
-
-pub failure_comes : (touched : Item → ℕ → Bool) (e : DeviceNo) (k : ℕ) → ((d : ℕ) → touched (Failed e k) d ≡ (e.0 == d)) → TouchesAs touched (untouched (Failed e k))
-failure_comes touched e k own d = sym (contains_one e.0 d) ∙ sym (own d)
-
-pub restart_comes : (touched : Item → ℕ → Bool) (e : DeviceNo) (k : ℕ) → ((d : ℕ) → touched (Back e k) d ≡ (e.0 == d)) → TouchesAs touched (untouched (Back e k))
-restart_comes touched e k own d = sym (contains_one e.0 d) ∙ sym (own d)
 
 -- a run taken out
 
@@ -128,10 +121,6 @@ line_retold {line} {before} {after} {marks} old same = record { items = old.item
     each (m ∷ ms) inside all = (λ d. all.0 d ∙ same m.item d (inside m.item (ap (λ b. b || list_any (is_item m.item) (items_of ms)) (item_itself m.item))), each ms (λ i among. inside i (rw among (grind (arith, common_steps)))) all.1)
 
 -- what the answers of a line then say
-
--- the place of an item is its first place in the line
-pub place_in_line : {line : List Item} {touched : Item → ℕ → Bool} {marks : List Mark} (x : Item) → IsLineOf line touched marks → place_of x marks ≡ position (is_item x) line
-place_in_line x is = ap (position (is_item x)) is.items
 
 -- the last place on a device is the last one that has touched it
 pub last_in_line : {line : List Item} {touched : Item → ℕ → Bool} {marks : List Mark} (d : ℕ) → IsLineOf line touched marks → last_on d marks ≡ last_place (λ i. touched i d) line
