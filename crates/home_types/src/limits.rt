@@ -1,4 +1,6 @@
 //! The limits of a script, a window and an input.
+ghost use Rattle.std.specs.Prelude.{◌≡◌};
+ghost use Rattle.home_types.specs.Limits.{most_check_bytes, most_commands, most_devices, most_downs, most_ms, most_probes, most_routines, most_runs, most_script_bytes, most_states, most_turns, most_windows};
 
 /// Devices of a home.
 pub const DEVICES: u32 = 256;
@@ -24,3 +26,19 @@ pub const COMMAND_MS: u32 = 60 * 60 * 1000;
 pub const SCRIPT_BYTES: u64 = 4 * 1024 * 1024;
 /// Bytes of an input with a record to check: 64 MiB.
 pub const CHECK_BYTES: u64 = 64 * 1024 * 1024;
+
+/// Each limit is the number that the definitions have for it.
+pub fn limits_law()
+    ensures devices { DEVICES ≡ most_devices }
+    ensures states { STATES ≡ most_states }
+    ensures downs { DOWNS ≡ most_downs }
+    ensures routines { ROUTINES ≡ most_routines }
+    ensures commands { COMMANDS ≡ most_commands }
+    ensures windows { WINDOWS ≡ most_windows }
+    ensures runs { RUNS ≡ most_runs }
+    ensures turns { TURNS ≡ most_turns }
+    ensures probes { PROBES ≡ most_probes }
+    ensures command_ms { COMMAND_MS ≡ most_ms }
+    ensures script_bytes { SCRIPT_BYTES ≡ most_script_bytes }
+    ensures check_bytes { CHECK_BYTES ≡ most_check_bytes }
+{}

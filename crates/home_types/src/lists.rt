@@ -24,16 +24,19 @@ impl<T> List<T> {
     /// Makes an empty list. Takes no memory.
     pub fn new(alloc: Global) -> List<T>
         ensures empty { result.items ≡ [] }
+        ensures no_room { result.spare ≡ 0 }
     {
         List {
             items: Vec::new(alloc),
         }
     }
 
-    /// Makes room for `n` more items, or answers `NoMemory`. The items stay in both cases.
+    /// Makes room for `n` more items, or answers `NoMemory`. The items stay in both cases, and so
+    /// does the room that there was.
     pub fn reserve(&mut self, n: u64) -> Result<(), NoMemory>
         ensures items { self.new.items ≡ self.old.items }
         ensures room { OnOk result (n ≤ self.new.spare) }
+        ensures kept { self.old.spare ≤ self.new.spare }
         ensures spare { OnErr result (self.new.spare ≡ self.old.spare) }
     {
         match self.items.reserve(n as usize) {
