@@ -5,7 +5,6 @@ use crate::entries::{Cause, End, Entry, Kept};
 use home_types::{List, NoMemory, RunNo};
 use std::alloc::Global;
 use std::marker::Model;
-use std::mem;
 
 /// The history of a window. Contracts see its entries, and beside them how many more it takes with no memory.
 #[derive(Drop)]
@@ -33,30 +32,23 @@ impl Model for Book {
 impl Book {
     /// Makes an empty book. Takes no memory.
     pub fn new(alloc: Global) -> Book
-        ensures { result.items ≡ [] }
+        ensures empty { result.items ≡ [] }
+        ensures no_room { result.spare ≡ 0 }
     {
-        let mut kept = List::new(alloc);
-        let mut ends = List::new(alloc);
-        let mut dooms = List::new(alloc);
-        // a new list does not promise that it has no room, and `kept` is the one with the least
-        if ends.spare() < kept.spare() {
-            mem::swap(&mut kept, &mut ends);
-        }
-        if dooms.spare() < kept.spare() {
-            mem::swap(&mut kept, &mut dooms);
-        }
         Book {
-            kept,
-            ends,
-            dooms,
+            kept: List::new(alloc),
+            ends: List::new(alloc),
+            dooms: List::new(alloc),
             alloc,
         }
     }
 
-    /// Makes room for `n` more entries, or answers `NoMemory`. The entries stay in both cases.
+    /// Makes room for `n` more entries, or answers `NoMemory`. The entries stay in both cases, and so
+    /// does the room that there was.
     pub fn reserve(&mut self, n: u64) -> Result<(), NoMemory>
         ensures items { self.new.items ≡ self.old.items }
         ensures room { OnOk result (n ≤ self.new.spare) }
+        ensures kept { self.old.spare ≤ self.new.spare }
         ensures refused { OnErr result (self.new ≡ self.old) }
     {
         if n <= self.kept.spare() {
@@ -72,7 +64,9 @@ impl Book {
         Ok(())
     }
 
-    /// Appends an entry. Takes no memory.
+    /// Appends an entry. Takes no memory, and uses one place of the room.
+    ///
+    /// Asks for room.
     pub fn push(&mut self, kept: Kept)
         requires { 0 < self.old.spare }
         ensures items { self.new.items ≡ self.old.items ++ kept ∷ [] }

@@ -34,6 +34,7 @@ impl Entry {
         }
     }
 
+    /// The run, or the failure or restart of a device.
     pub(crate) fn item(&self) -> Item
         ensures { result ≡ self.now.item }
     {

@@ -33,6 +33,7 @@ impl Line {
     /// Makes an empty line. Takes no memory.
     pub fn new(alloc: Global) -> Line
         ensures empty { result.marks ≡ [] }
+        ensures no_room { result.spare ≡ 0 }
         ensures few { length result.marks + result.spare < 2 ^ 32 }
     {
         Line {
@@ -41,12 +42,15 @@ impl Line {
         }
     }
 
-    /// Makes room for `n` more items, or answers `NoMemory`. The items stay in both cases, and after
-    /// a refusal the room too.
+    /// Makes room for `n` more items, or answers `NoMemory`. The items stay in both cases, and so
+    /// does the room that there was.
+    ///
+    /// Asks that the items and the `n` together are below 2^32.
     pub fn reserve(&mut self, n: u64) -> Result<(), NoMemory>
         requires few { length self.old.marks + n < 2 ^ 32 }
         ensures marks { self.new.marks ≡ self.old.marks }
         ensures room { OnOk result (n ≤ self.new.spare) }
+        ensures kept { self.old.spare ≤ self.new.spare }
         ensures refused { OnErr result (self.new ≡ self.old) }
         ensures few { length self.new.marks + self.new.spare < 2 ^ 32 }
     {
@@ -61,7 +65,10 @@ impl Line {
     }
 
     /// Puts an item at the place `at`, counted from 0: a run that has touched nothing, or an event.
-    /// The others stay in their order, with their touches. Takes no memory.
+    /// The others stay in their order, with their touches. Takes no memory, and uses one place of the
+    /// room.
+    ///
+    /// Asks for room, for a place up to the end, and for an item that is not in the line.
     pub fn insert(&mut self, at: u32, item: Item)
         requires room { 0 < self.old.spare }
         requires place { at ≤ length self.old.marks }
