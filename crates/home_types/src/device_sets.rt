@@ -1,5 +1,6 @@
 ghost use Rattle.std.specs.Prelude.{◌≡◌, ◌<◌};
 ghost use Rattle.std.specs.FinSet as set;
+ghost use Rattle.home_types.specs.Limits.{most_devices};
 
 use crate::numbers::DeviceNo;
 use std::marker::Model;
@@ -32,7 +33,7 @@ impl DeviceSet {
 
     /// Puts the device in.
     pub fn add(&mut self, device: DeviceNo)
-        requires { device.0 < 256 }
+        requires { device.0 < most_devices }
         ensures { self.new ≡ set.insert self.old device.0 }
     {
         let bit = 1 << (device.0 % 64);

@@ -1,5 +1,6 @@
 ghost use Rattle.std.specs.Prelude.{◌≡◌, ◌<◌, true};
 ghost use Rattle.std.specs.FinSet as set;
+ghost use Rattle.home_types.specs.Limits.{most_devices};
 ghost use Rattle.serial_line.specs.Marks.{is_item, is_ran, untouched};
 
 use home_types::{DeviceNo, DeviceSet, Item, RunNo};
@@ -62,7 +63,7 @@ impl Entry {
     /// The run of the entry has touched the device too.
     pub(crate) fn touch(&mut self, run: RunNo, device: DeviceNo)
         requires run { is_ran run.0 self.old.item ≡ true }
-        requires device { device.0 < 256 }
+        requires device { device.0 < most_devices }
         ensures item { self.new.item ≡ self.old.item }
         ensures touched { self.new.touched ≡ set.insert self.old.touched device.0 }
     {

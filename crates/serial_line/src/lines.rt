@@ -1,4 +1,5 @@
 ghost use Rattle.std.specs.Prelude.{◌≡◌, true, false, if◌then◌else◌, ◌+◌, ◌<◌, ◌≤◌, ◌^◌, [], is_some, length, slice_get, OnOk, OnErr};
+ghost use Rattle.home_types.specs.Limits.{most_devices};
 ghost use Rattle.home_types.specs.declared.items.Item.TheVariants.{Ran};
 ghost use Rattle.serial_line.specs.Marks.{all_differ, has_touched, items_of, last_on, place_of, stands, touching, with_item, without};
 
@@ -102,7 +103,7 @@ impl Line {
     /// memory.
     pub fn mark(&mut self, run: RunNo, device: DeviceNo)
         requires run { stands (Ran run) self.old.marks ≡ true }
-        requires device { device.0 < 256 }
+        requires device { device.0 < most_devices }
         ensures marks { self.new.marks ≡ touching run.0 device.0 self.old.marks }
         ensures spare { self.new.spare ≡ self.old.spare }
     {
