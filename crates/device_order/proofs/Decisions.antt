@@ -1,4 +1,4 @@
-use Rattle.device_order.specs.Decisions.{end_is_fit, entry_is_fit, event_is_fit, found_is_fit, grip_is_fit, implies, read_is_fit, same, shape_is_fit, touch_is_fit, usage_is_fit, view_is_fit, walk_is_fit}
+use Rattle.device_order.proofs.Fits.{end_is_fit, entry_is_fit, event_is_fit, found_is_fit, grip_is_fit, implies, read_is_fit, same, shape_is_fit, touch_is_fit, usage_is_fit, view_is_fit, walk_is_fit}
 use Rattle.device_order.specs.Invariant.{DeviceFits, DeviceInvariant}
 use Rattle.device_order.specs.Records.{DeviceRecord, walk_start}
 use Rattle.device_order.specs.Usages.{counts_serially, has_touched, is_doomed, is_free, is_up}
@@ -11,9 +11,8 @@ use Rattle.device_order.specs.declared.records.OrderEntry.TheVariants.{Occurred,
 use Rattle.device_order.specs.declared.records.OrderEntry.{OrderEntry}
 use Rattle.device_order.specs.declared.records.Probe.{Probe}
 use Rattle.device_order.specs.declared.records.Usage.{Usage}
-use Rattle.std.proofs.Common.{Bool, List, [], ap, arith, drop, false, get_or, length, sym, true, ℕ, ◌+◌, ◌<◌, ◌≤◌, ◌∙◌, ◌∷◌, ◌≡◌, ◌↔◌}
+use Rattle.std.proofs.Common.{Bool, List, [], arith, false, sym, true, ℕ, ◌∙◌, ◌∷◌, ◌≡◌, ◌↔◌}
 use Rattle.std.proofs.lemmas.Grind.{common_steps}
-use Rattle.std.proofs.lemmas.List.{at_drop_all, at_drop_more}
 use Rattle.std.specs.Prelude.{Option, Some, is_some, not, ◌&&◌, ◌||◌}
 
 two : (a b : Bool) → (a && b) ≡ true → (a ≡ true) × (b ≡ true)
@@ -122,25 +121,9 @@ walk_decides s up held p (x ∷ xs) k f = both (entry_is_fit s x) (walk_is_fit (
     both : (a b : Bool) → a ≡ true → b ≡ true → (a && b) ≡ true
     both a b h g = grind (arith, common_steps)
 
--- the program's answer decides the invariant
+-- the tests decide the invariant
 pub decided : (d : DeviceRecord) (x : Bool) → x ≡ walk_is_fit (walk_start d.first_up d.first) d.up d.held d.probe d.order → (x ≡ true) ↔ DeviceInvariant d
 decided d x e = (
   λ h. let r = walk_fits (walk_start d.first_up d.first) d.up d.held d.probe d.order (sym e ∙ h) in record { walk = r.0; ends = r.1 },
   λ i. e ∙ walk_decides (walk_start d.first_up d.first) d.up d.held d.probe d.order i.walk i.ends,
 )
-
--- one entry more, ..
-pub walk_more : (s : WalkState) (up : Bool) (held : ℕ) (p : Probe) (xs : List OrderEntry) (i : ℕ) (o : OrderEntry) → i < length xs → entry_is_fit s (get_or xs i o) ≡ true
-    → walk_is_fit s up held p (drop i xs) ≡ walk_is_fit (after_entry s (get_or xs i o)) up held p (drop (i + 1) xs)
-unfolding walk_is_fit
-walk_more s up held p xs i o within h = at_drop_more (walk_is_fit s up held p) xs i o within ∙ ap (λ b. b && walk_is_fit (after_entry s (get_or xs i o)) up held p (drop (i + 1) xs)) h
-
--- .. one that does not fit, ..
-pub walk_refused : (s : WalkState) (up : Bool) (held : ℕ) (p : Probe) (xs : List OrderEntry) (i : ℕ) (o : OrderEntry) → i < length xs → entry_is_fit s (get_or xs i o) ≡ false → walk_is_fit s up held p (drop i xs) ≡ false
-unfolding walk_is_fit
-walk_refused s up held p xs i o within h = at_drop_more (walk_is_fit s up held p) xs i o within ∙ ap (λ b. b && walk_is_fit (after_entry s (get_or xs i o)) up held p (drop (i + 1) xs)) h
-
--- .. and the end
-pub walk_done : (s : WalkState) (up : Bool) (held : ℕ) (p : Probe) (xs : List OrderEntry) (i : ℕ) → length xs ≤ i → walk_is_fit s up held p (drop i xs) ≡ end_is_fit s up held p
-unfolding walk_is_fit
-walk_done s up held p xs i all = at_drop_all (walk_is_fit s up held p) xs i all

@@ -17,7 +17,9 @@ pub mod Claims
 pub mod Pairs
 pub mod Losses
 pub mod Standing
+pub mod Fits
 pub mod Decisions
+mod Verdicts
 pub mod Runs
 pub mod Converse
 pub mod Swaps

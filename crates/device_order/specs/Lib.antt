@@ -4,7 +4,6 @@ pub mod Records
 pub mod Invariant
 pub mod Changes
 pub mod Claims
-pub mod Decisions
 pub mod Pairs
 pub mod Marks
 pub mod Summaries

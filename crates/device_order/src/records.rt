@@ -1,9 +1,9 @@
-use home_types::{List, Stand, Value, View};
+use home_types::{Value, View};
 
 /// How far a run of the line is with a device, and whether its answers count.
 ///
 /// A run counts while it is neither doomed nor about to be doomed by the step under way.
-#[derive(Clone, Copy, Debug, PartialEq, Eq)]
+#[derive(Clone, Copy)]
 pub enum Stage {
     /// The run is committed.
     Committed,
@@ -18,7 +18,7 @@ pub enum Stage {
 }
 
 /// What a run holds the grip of a device for.
-#[derive(Clone, Copy, Debug, PartialEq, Eq)]
+#[derive(Clone, Copy)]
 pub enum Grip {
     /// The run does not hold it.
     Free,
@@ -31,7 +31,7 @@ pub enum Grip {
 }
 
 /// The use that one run makes of a device.
-#[derive(Clone, Copy, Debug, PartialEq, Eq)]
+#[derive(Clone, Copy)]
 pub struct Usage {
     pub stage: Stage,
     /// How the run sees the device; none before its first answer there.
@@ -46,21 +46,21 @@ pub struct Usage {
 }
 
 /// What happens to a device by itself.
-#[derive(Clone, Copy, Debug, PartialEq, Eq)]
+#[derive(Clone, Copy)]
 pub enum Event {
     Failure,
     Restart,
 }
 
 /// What stands in the order of a device.
-#[derive(Clone, Copy, Debug, PartialEq, Eq)]
+#[derive(Clone, Copy)]
 pub enum OrderEntry {
     Occurred(Event),
     Used(Usage),
 }
 
 /// A probe of a device that is out.
-#[derive(Clone, Copy, Debug, PartialEq, Eq)]
+#[derive(Clone, Copy)]
 pub enum Probe {
     /// None is out.
     Unprobed,
@@ -68,18 +68,4 @@ pub enum Probe {
     Asks,
     /// It tries to bring a device that is counted down to the value.
     Restores(Value),
-}
-
-/// What is kept of one device.
-#[derive(Drop)]
-pub struct DeviceRecord {
-    /// The uses that runs make of it in line order, with its events among them.
-    pub order: List<OrderEntry>,
-    /// Its state before the order.
-    pub first: Stand,
-    /// Whether it is counted up now.
-    pub up: bool,
-    /// Where it stands, or stood as it went out with a grip or a probe.
-    pub held: Value,
-    pub probe: Probe,
 }

@@ -1,8 +1,6 @@
--- The invariant as tests.
-use Rattle.device_order.specs.Records.{DeviceRecord}
+-- The invariant of a device as tests, by which a record is computed to have it or not.
 use Rattle.device_order.specs.Usages.{counts_serially, has_touched, is_doomed, is_down, is_free, is_pending, is_restart, is_up}
 use Rattle.device_order.specs.Walks.{Commands, GripOut, Home, Undo, WalkState, after_entry, is_command_out, is_home}
-use Rattle.device_order.specs.declared.records.DeviceRecord.{DeviceRecord as KeptRecord}
 use Rattle.device_order.specs.declared.records.Event.{Event}
 use Rattle.device_order.specs.declared.records.Grip.TheVariants.{Free, Reads, Undoes, Writes}
 use Rattle.device_order.specs.declared.records.Grip.{Grip}
@@ -13,10 +11,6 @@ use Rattle.device_order.specs.declared.records.Probe.{Probe}
 use Rattle.device_order.specs.declared.records.Stage.{Stage}
 use Rattle.device_order.specs.declared.records.Usage.{Usage}
 use Rattle.std.specs.Prelude.{Bool, List, None, Option, Some, [], false, if◌then◌else◌, is_some, not, true, ℕ, ◌&&◌, ◌==◌, ◌||◌, ◌∷◌}
-
--- what is kept of a device, over plain lists and numbers
-abbrev pub plain_record : KeptRecord → DeviceRecord
-plain_record d = record { order = d.order.items; first_up = d.first.up; first = d.first.value; up = d.up; held = d.held; probe = d.probe }
 
 -- if the one then the other
 abbrev pub implies : Bool → Bool → Bool
