@@ -29,7 +29,6 @@ pub mod HubChanges
 pub mod HubOuts
 pub mod HubReturns
 pub mod HubRefusals
-pub mod TestWindows
 pub mod PlannedInTurn
 pub mod NotedAnswers
 pub mod PassedRuns

@@ -17,8 +17,6 @@ mod read_histories;
 pub mod refusals;
 mod releases;
 mod take_calls;
-#[cfg(test)]
-mod tests;
 pub mod turns;
 pub mod waits;
 

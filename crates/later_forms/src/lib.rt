@@ -3,8 +3,6 @@
 
 pub mod command_lines;
 pub mod scripts;
-#[cfg(test)]
-mod tests;
 
 pub use command_lines::is_later;
 pub use scripts::first_later;
