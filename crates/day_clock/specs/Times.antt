@@ -4,7 +4,9 @@ use Rattle.day_clock.specs.declared.times.When.{When}
 use Rattle.jiff.specs.Words.{parse_datetime}
 use Rattle.jiff_core.specs.declared.error.Error.{Error}
 use Rattle.jiff_fmt.specs.Temporal.{DateParts, TimeParts}
-use Rattle.std.specs.Prelude.{Err, List, None, Ok, Option, Result, Some, negsuc, pos, ℕ, ℤ, ◌≤◌}
+use Rattle.std.specs.Cmp.Lexicographic.{slice_cmp}
+use Rattle.std.specs.Ordering.{is_lt, nat_cmp}
+use Rattle.std.specs.Prelude.{Bool, Err, List, None, Ok, Option, Result, Some, [], negsuc, pos, ℕ, ℤ, ◌∷◌, ◌≤◌}
 
 -- the time of this date and time of day, where the year is not below 0
 abbrev pub when_in : ℤ → DateParts → TimeParts → Option When
@@ -25,6 +27,14 @@ time_of text = when_of (parse_datetime text)
 abbrev pub read_as_option : Result When Unread → Option When
 read_as_option (Ok time) = Some time
 read_as_option (Err unread) = None
+
+-- the fields of a time, from the year on
+abbrev pub fields_of : When → List ℕ
+fields_of time = time.year ∷ time.month ∷ time.day ∷ time.hour ∷ time.minute ∷ time.second ∷ []
+
+-- by the first field in which the times differ
+abbrev pub is_before : When → When → Bool
+is_before a b = is_lt (slice_cmp nat_cmp (fields_of a) (fields_of b))
 
 -- each field is in its range
 pub record IsCivilTime (time : When) : Type 0 where

@@ -15,6 +15,17 @@ pub struct When {
     pub second: u8,
 }
 
+impl When {
+    ghost use Rattle.day_clock.specs.Times.{is_before};
+
+    /// Whether this time comes before the other: by the first field in which they differ, from the year on.
+    pub fn is_before(self, other: When) -> bool
+        ensures { result ≡ is_before self other }
+    {
+        self < other
+    }
+}
+
 /// A text is no time of a window.
 #[derive(Clone, Copy, Debug, PartialEq, Eq)]
 pub struct Unread;

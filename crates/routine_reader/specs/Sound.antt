@@ -1,5 +1,5 @@
 -- Which scripts the format allows.
-use Rattle.day_clock.specs.Times.{IsCivilTime}
+use Rattle.day_clock.specs.Times.{IsCivilTime, is_before}
 use Rattle.day_clock.specs.declared.times.When.{When}
 use Rattle.home_types.specs.Kinds.{has_value, kind_at}
 use Rattle.home_types.specs.declared.commands.Command.{Command}
@@ -12,7 +12,6 @@ use Rattle.routine_reader.specs.Limits.{most_commands, most_devices, most_downs,
 use Rattle.routine_reader.specs.Names.{is_among, is_name}
 use Rattle.routine_reader.specs.Routines.{routine_names}
 use Rattle.routine_reader.specs.Scripts.{PlainDevice, PlainRoutine, PlainScript, PlainWindow}
-use Rattle.routine_reader.specs.Windows.{is_before}
 use Rattle.routine_reader.specs.declared.scripts.RunText.{RunText}
 use Rattle.std.specs.Prelude.{All, Bool, IfSome, List, Some, [], false, length, map, slice_get, take, true, ℕ, ◌+◌, ◌<◌, ◌^◌, ◌≡◌, ◌≤◌}
 

@@ -1,5 +1,5 @@
 -- The reading of a window, its turns and its runs.
-use Rattle.day_clock.specs.Times.{time_of}
+use Rattle.day_clock.specs.Times.{is_before, time_of}
 use Rattle.day_clock.specs.declared.times.When.{When}
 use Rattle.home_types.specs.declared.numbers.RunNo.{RunNo}
 use Rattle.routine_reader.specs.Forms.{has_form, if_there, items_in, long_number_of, needed, number_of, or_default}
@@ -17,9 +17,7 @@ use Rattle.routine_reader.specs.declared.forms.Form.TheVariants as form
 use Rattle.routine_reader.specs.declared.scripts.RunText.{RunText}
 use Rattle.serde_json.specs.Data.{Data}
 use Rattle.serde_json.specs.Find.{as_str}
-use Rattle.std.specs.Cmp.Lexicographic.{slice_cmp}
-use Rattle.std.specs.Ordering.{is_lt, nat_cmp}
-use Rattle.std.specs.Prelude.{Bool, Err, List, None, Ok, Option, Result, Some, [], codes, if◌then◌else◌, length, nat_le, ok_or, option_map, slice_get, true, ℕ, ◌&&◌, ◌+◌, ◌-◌, ◌∷◌}
+use Rattle.std.specs.Prelude.{Bool, Err, List, None, Ok, Option, Result, Some, [], codes, if◌then◌else◌, length, nat_le, ok_or, option_map, slice_get, true, ℕ, ◌&&◌, ◌+◌, ◌-◌}
 
 -- ---- its members
 
@@ -48,13 +46,6 @@ window_members value =
     else None
 
 -- ---- its time
-
-abbrev pub fields_of : When → List ℕ
-fields_of time = time.year ∷ time.month ∷ time.day ∷ time.hour ∷ time.minute ∷ time.second ∷ []
-
--- by the first field in which the times differ
-abbrev pub is_before : When → When → Bool
-is_before a b = is_lt (slice_cmp nat_cmp (fields_of a) (fields_of b))
 
 -- later than that of the window before, if there is one
 abbrev pub is_later : Option When → When → Bool

@@ -3,7 +3,7 @@ ghost use Rattle.home_types.specs.Listed.{Listed};
 ghost use Rattle.routine_reader.specs.Limits.{most_routines, most_runs, most_turns, most_windows};
 ghost use Rattle.routine_reader.specs.Scripts.{plain_window};
 ghost use Rattle.routine_reader.specs.Walks.{IsReading, read_each};
-ghost use Rattle.routine_reader.specs.Windows.{follows_reading, is_before, is_later, next_run, next_turn, next_window, run_members, run_reading, time_reading, turn_reading, window_members, window_reading};
+ghost use Rattle.routine_reader.specs.Windows.{follows_reading, is_later, next_run, next_turn, next_window, run_members, run_reading, time_reading, turn_reading, window_members, window_reading};
 ghost use Rattle.serde_json.specs.View.{view};
 ghost use Rattle.std.specs.Prelude.{◌≡◌, ◌<◌, ◌≤◌, ◌^◌, [], All, IfOk, length, map, option_map};
 
@@ -47,17 +47,11 @@ fn window_members(value: &Json) -> Option<WindowMembers<'_>>
     })
 }
 
-fn is_before(a: When, b: When) -> bool
-    ensures { result ≡ is_before a b }
-{
-    a < b
-}
-
 fn is_later(before: Option<When>, time: When) -> bool
     ensures { result ≡ is_later before time }
 {
     match before {
-        Some(before) => is_before(before, time),
+        Some(before) => before.is_before(time),
         None => true,
     }
 }
