@@ -32,6 +32,7 @@ pub enum InputFault {
     OverLimit,
     /// The source failed.
     Failed,
+    /// There was no memory for the bytes.
     NoMemory,
 }
 
@@ -56,7 +57,8 @@ const PIECE: usize = 4096;
 
 /// Reads a source to its end, and gives all the bytes.
 ///
-/// Stops with `OverLimit` as soon as it has taken one byte more than `limit`.
+/// It never takes more than `limit` bytes and one, and stops there with `OverLimit`. `Failed` comes where the source
+/// fails, and `NoMemory` where there is no memory for the bytes.
 pub fn read_to_end<S: Source>(
     alloc: Global,
     source: &mut S,
@@ -66,7 +68,7 @@ pub fn read_to_end<S: Source>(
     ensures ended { OnOk result (IsAtEnd (S.left source.new)) }
     ensures within { IfOk result (λ bytes. vec_len bytes ≤ limit) }
     ensures over_limit { IsErrOf result InputFault.OverLimit → TakesCount (S.left source.old) (S.left source.new) (limit + 1) }
-    ensures refused { OnErr result (TakesUpTo (S.left source.old) (S.left source.new) (limit + 1)) }
+    ensures taken { TakesUpTo (S.left source.old) (S.left source.new) (limit + 1) }
     ensures faults { CountsFaults result (S.faults source.old) (S.faults source.new) }
 {
     let mut held = Vec::new(alloc);

@@ -3,14 +3,12 @@ use Rattle.day_clock.proofs.sources.read_to_end.Goals as goal
 use Rattle.std.proofs.Common.{arith, length, take, ◌++◌, ◌+◌, ◌≤◌}
 use Rattle.std.proofs.KnownBytes.{Consumes-trans}
 use Rattle.std.proofs.lemmas.Grind.{common_steps}
-use Rattle.std.proofs.lemmas.Result.{err_from_is_err_and}
 
 -- a piece that finds no memory was taken all the same
-pub returns-in_err-extend_from_slice-clause-refused :
-    goal.returns-in_err-extend_from_slice-clause-refused
-returns-in_err-extend_from_slice-clause-refused g c =
-    let p = err_from_is_err_and c.from_residual-in_err-extend_from_slice.result c.from_residual-in_err-extend_from_slice.ensures.1 in
+pub returns-in_err-extend_from_slice-clause-taken :
+    goal.returns-in_err-extend_from_slice-clause-taken
+returns-in_err-extend_from_slice-clause-taken g c =
     let held = c.loop-piece.held in
     let piece = take c.in_ok-count.count c.read.new.into in
     let few : length (held.items ++ piece) ≤ c.args.limit + 1 = grind (arith, common_steps) in
-    rw p.1 (TakesUpTo-of_bytes _ _ (held.items ++ piece) _ few (Consumes-trans _ _ _ _ _ c.loop-piece.invariant.taken c.in_ok-count.ensures.gives))
+    TakesUpTo-of_bytes _ _ (held.items ++ piece) _ few (Consumes-trans _ _ _ _ _ c.loop-piece.invariant.taken c.in_ok-count.ensures.gives)
