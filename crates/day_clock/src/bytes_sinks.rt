@@ -34,6 +34,9 @@ impl BytesSink {
 
     /// Makes a sink that holds nothing and has room for `room` bytes in all, and takes at most `most` of them a call.
     /// The calls in `fails`, counted from 1, fail.
+    ///
+    /// `NoMemory` comes where there is none for all of the room, which is taken at once. A call must be able to take a
+    /// byte: `most` is not 0.
     pub fn new(alloc: Global, room: u64, fails: List<u64>, most: u64) -> Result<BytesSink, NoMemory>
         requires { 0 < most }
         ensures { IfOk result (λ sink. sink ≡ fresh_sink room fails most) }

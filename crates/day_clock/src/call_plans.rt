@@ -12,6 +12,7 @@ pub(crate) struct CallPlan {
 }
 
 impl CallPlan {
+    /// Makes the plan of something that was not called yet.
     pub(crate) fn new(failing: List<u64>) -> CallPlan
         ensures { result ≡ fresh_plan failing }
     {

@@ -31,12 +31,14 @@ impl Model for FaultCount {
 }
 
 impl FaultCount {
+    /// Makes the count of something that has not failed.
     pub fn new() -> FaultCount
         ensures { result ≡ 0 }
     {
         FaultCount { before: None }
     }
 
+    /// Counts one more fault.
     pub fn raise(&mut self)
         ensures { self.new ≡ self.old + 1 }
     {

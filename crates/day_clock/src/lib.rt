@@ -1,14 +1,14 @@
 // Where bytes come from and go to, and the times of windows.
 #![tactic(auto)]
 
-pub mod bytes_sinks;
-pub mod bytes_sources;
+mod bytes_sinks;
+mod bytes_sources;
 mod call_plans;
-pub mod faults;
-pub mod sinks;
-pub mod sources;
-pub mod std_sinks;
-pub mod std_sources;
+mod faults;
+mod sinks;
+mod sources;
+mod std_sinks;
+mod std_sources;
 pub mod times;
 
 pub use bytes_sinks::BytesSink;

@@ -13,6 +13,7 @@ pub struct StdSink<W> {
 }
 
 impl<W: Write> StdSink<W> {
+    /// Makes a sink that holds what the writer holds, and has not failed.
     pub fn new(writer: W) -> StdSink<W>
         ensures holds { ⟦<StdSink<W> as Sink>⟧.holds result ≡ W.contents writer }
         ensures faults { ⟦<StdSink<W> as Sink>⟧.faults result ≡ 0 }
