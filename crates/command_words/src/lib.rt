@@ -2,11 +2,11 @@
 #![tactic(auto)]
 
 pub mod command_lines;
-pub mod option_words;
-pub mod readers;
+mod option_words;
+mod readers;
 #[cfg(test)]
 mod tests;
-pub mod trial_numbers;
+mod trial_numbers;
 
 pub use command_lines::{CommandLine, Options, WordFault};
 pub use readers::read_words;

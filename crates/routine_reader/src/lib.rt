@@ -1,18 +1,18 @@
 // A day's script, read from its bytes.
 #![tactic(auto)]
 
-pub mod commands;
-pub mod devices;
+mod commands;
+mod devices;
 pub mod faults;
-pub mod forms;
-pub mod names;
-pub mod readers;
-pub mod rosters;
-pub mod routines;
+mod forms;
+mod names;
+mod readers;
+mod rosters;
+mod routines;
 pub mod scripts;
 #[cfg(test)]
 mod tests;
-pub mod windows;
+mod windows;
 
 pub use faults::{Count, Part, ReadFault, Spot};
 pub use readers::read_script;
