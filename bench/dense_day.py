@@ -1,10 +1,11 @@
 #!/usr/bin/env python3
 """Writes the script of a dense day of must `set` commands on standard output.
 
-    dense_day.py [WINDOWS [RUNS [COMMANDS [DEVICES]]]]
+    dense_day.py [WINDOWS [RUNS [COMMANDS [DEVICES [OWN]]]]]
 
-By default 288 windows of 64 runs of 64 commands each, on 256 devices. The day is always the same: what is drawn comes
-from a generator with a fixed seed.
+By default 288 windows of 64 runs of 64 commands each, on 256 devices. With OWN each routine keeps to so many devices of
+its own, which are drawn first; without it each command is on any device. The day is always the same: what is drawn
+comes from a generator with a fixed seed.
 """
 import json
 import sys
@@ -26,19 +27,31 @@ def draws():
     return below
 
 
-def day(windows, runs, commands, devices):
+def on_device(below, devices, own):
+    """What draws the device of each command of one routine."""
+    if not own:
+        return lambda: below(devices)
+    chosen = []
+    while len(chosen) < min(own, devices):
+        d = below(devices)
+        if d not in chosen:
+            chosen.append(d)
+    return lambda: chosen[below(len(chosen))]
+
+
+def commands_of(below, commands, devices, own):
+    device = on_device(below, devices, own)
+    return [{"on": f"d{device()}", "do": "set", "to": below(1000)} for _ in range(commands)]
+
+
+def day(windows, runs, commands, devices, own=0):
     below = draws()
     routines = max(runs, 1)
     return {
         "safehome": 1,
         "devices": [{"name": f"d{d}", "low": 0, "high": 999, "start": 0} for d in range(devices)],
         "routines": [
-            {
-                "name": f"r{r}",
-                "commands": [
-                    {"on": f"d{below(devices)}", "do": "set", "to": below(1000)} for _ in range(commands)
-                ],
-            }
+            {"name": f"r{r}", "commands": commands_of(below, commands, devices, own)}
             for r in range(routines)
         ],
         "windows": [
@@ -53,8 +66,8 @@ def day(windows, runs, commands, devices):
 
 
 def main():
-    sizes = [288, 64, 64, 256]
-    for i, word in enumerate(sys.argv[1:5]):
+    sizes = [288, 64, 64, 256, 0]
+    for i, word in enumerate(sys.argv[1:6]):
         sizes[i] = int(word)
     json.dump(day(*sizes), sys.stdout, separators=(",", ":"))
     sys.stdout.write("\n")

@@ -11,7 +11,7 @@ under each model:
 - empty: the same without runs, so that it is read, and its windows are opened, closed and printed.
 
 Where callgrind is installed, it counts the instructions of a day of four such windows, and of its parts, under each
-model.
+model; and those of such a day whose routines have 8 devices of their own each, under psv.
 """
 import os
 import re
@@ -59,7 +59,7 @@ def played(program, name, model, script):
           f" {len(script)} bytes of script, {len(done.stdout)} bytes of record", flush=True)
 
 
-def counted(program, model, script):
+def counted(program, name, model, script):
     with tempfile.TemporaryDirectory() as room:
         out = os.path.join(room, "callgrind")
         subprocess.run(["valgrind", "--tool=callgrind", f"--callgrind-out-file={out}", program, *words(model)],
@@ -76,7 +76,7 @@ def counted(program, model, script):
         ("home, record and printing", day - windows),
         ("replaying", windows),
     ]:
-        print(f"{part}, {model}: {count:,} instructions", flush=True)
+        print(f"{part}, {name}, {model}: {count:,} instructions", flush=True)
 
 
 def main():
@@ -89,7 +89,8 @@ def main():
         played(program, name, "gsv", script)
     if shutil.which("callgrind_annotate"):
         for model in MODELS:
-            counted(program, model, dense_day(4))
+            counted(program, "dense", model, dense_day(4))
+        counted(program, "8 devices a run", "psv", dense_day(4, 64, 64, 256, 8))
     else:
         print("callgrind is not installed: no instructions were counted")
 
