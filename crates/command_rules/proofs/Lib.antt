@@ -1,3 +1,5 @@
 pub mod RosterReads
 pub mod LastPlaces
 pub mod LastSums
+pub mod FootprintBits
+pub mod Sharing

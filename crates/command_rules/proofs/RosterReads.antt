@@ -5,10 +5,13 @@ use Rattle.command_rules.specs.declared.rosters.RosterRun.{RosterRun}
 use Rattle.std.proofs.Common.{IsTrue, Some, ap, arith, refl, slice_get, suc, zero, ℕ, ◌-◌, ◌∙◌, ◌≡◌}
 use Rattle.std.proofs.lemmas.Option.{slice_get-map}
 
+-- the run at the place i has the number after it
+pub commands_at : (roster : Roster) (i : ℕ) (run : RosterRun) → slice_get roster.runs.items i ≡ Some run → commands_of (runs_of roster) (suc i) ≡ run.routine.commands.items
+commands_at roster i run found = rw (slice_get-map plain_run roster.runs.items i, found) refl
+
 -- the run with the number r stands at the place before r
 pub commands_of-run : (roster : Roster) (r : ℕ) (run : RosterRun) → IsTrue (is_run (runs_of roster) r) → slice_get roster.runs.items (r - 1) ≡ Some run → commands_of (runs_of roster) r ≡ run.routine.commands.items
 commands_of-run roster zero run there at = cc
 commands_of-run roster (suc i) run there at =
     let same : i ≡ suc i - 1 = omega arith in
-    let found : slice_get roster.runs.items i ≡ Some run = ap (slice_get roster.runs.items) same ∙ at in
-    rw (slice_get-map plain_run roster.runs.items i, found) refl
+    commands_at roster i run (ap (slice_get roster.runs.items) same ∙ at)

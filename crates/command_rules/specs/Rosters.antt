@@ -7,7 +7,7 @@ use Rattle.home_types.specs.declared.commands.Job.TheVariants.{Load}
 use Rattle.home_types.specs.declared.numbers.DeviceNo.{DeviceNo}
 use Rattle.home_types.specs.declared.numbers.RunNo.{RunNo}
 use Rattle.std.specs.List.{list_any}
-use Rattle.std.specs.Prelude.{Bool, List, None, Option, Some, [], drop, false, find, if◌then◌else◌, is_some, map, option_and_then, option_map, position, slice_get, slice_index_or, suc, unwrap_or, zero, ℕ, ◌&&◌, ◌+◌, ◌==◌, ◌∷◌}
+use Rattle.std.specs.Prelude.{Bool, List, None, Option, Some, [], drop, false, find, if◌then◌else◌, is_some, map, not, option_and_then, option_map, position, slice_get, slice_index_or, suc, unwrap_or, zero, ℕ, ◌&&◌, ◌+◌, ◌==◌, ◌∷◌}
 
 abbrev pub run_no : ℕ → RunNo
 run_no r = record { 0 = r }
@@ -72,6 +72,10 @@ last_position test (x ∷ xs) = if list_any test xs then option_map suc (last_po
 -- the number of its last command on the device
 abbrev pub last_on : List Run → ℕ → ℕ → Option ℕ
 last_on runs r d = last_position (is_on d) (commands_of runs r)
+
+-- the command is the run's last one on its device
+abbrev pub is_last : List Run → ℕ → ℕ → Bool
+is_last runs r k = not (touches_from runs r (command_at runs r k).device.0 (suc k))
 
 -- its first command on the device reads
 abbrev pub reads_first : List Run → ℕ → ℕ → Bool

@@ -55,7 +55,7 @@ no_devices n = set.same_set nat_cmp_total set.nat_cmp-IsAntisymmetric _ _ (λ q.
 
 -- a bit more is a device more
 
-or_bit : (w k i : ℕ) → (bit_at (bit_or w (2 ^ k)) i == 1) ≡ ((i == k) || (bit_at w i == 1))
+pub or_bit : (w k i : ℕ) → (bit_at (bit_or w (2 ^ k)) i == 1) ≡ ((i == k) || (bit_at w i == 1))
 or_bit w k i = elim (i == k) as (λ b. (i == k) ≡ b → (bit_at (bit_or w (2 ^ k)) i == 1) ≡ (b || (bit_at w i == 1))) [
   | true ↦ (λ e. let same : i ≡ k = grind (arith, common_steps) in rw (same, bit_at_or w (2 ^ k) k, bit_at-pow_same k) (grind (arith, common_steps)))
   | false ↦ (λ e. let other : i ≢ k = grind (arith, common_steps) in rw (bit_at_or w (2 ^ k) i, bit_at-pow_other k i other) (grind (arith, common_steps)))

@@ -1,1 +1,3 @@
 pub mod DeviceBits
+pub mod DeviceWords
+pub mod Snocs

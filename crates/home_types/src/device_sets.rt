@@ -1,5 +1,6 @@
-ghost use Rattle.std.specs.Prelude.{◌≡◌, ◌<◌};
+ghost use Rattle.std.specs.Prelude.{◌≡◌, ◌<◌, ◌↔◌, IsTrue, option_map};
 ghost use Rattle.std.specs.FinSet as set;
+ghost use Rattle.home_types.specs.DeviceSets.{HasBit, IsFirstFrom, Meet};
 ghost use Rattle.home_types.specs.Limits.{most_devices};
 
 use crate::numbers::DeviceNo;
@@ -48,5 +49,64 @@ impl DeviceSet {
             Some(word) => (word >> (device.0 % 64)) & 1 == 1,
             None => false,
         }
+    }
+
+    /// Whether some device is in both. Looks at four words.
+    pub fn meets(&self, other: &DeviceSet) -> bool
+        ensures { IsTrue result ↔ Meet self.now other.now }
+    {
+        has_bit(
+            (self.words[0] & other.words[0])
+                | (self.words[1] & other.words[1])
+                | (self.words[2] & other.words[2])
+                | (self.words[3] & other.words[3]),
+        )
+    }
+
+    /// The smallest device from `from` on that is in it. Looks at four words at most.
+    pub fn next(&self, from: DeviceNo) -> Option<DeviceNo>
+        ensures { IsFirstFrom (λ d. set.contains self.now d) from.0 (option_map (λ d. d.0) result) }
+    {
+        let mut at = from.0;
+        'words: while let Some(word) = self.words.get((at / 64) as usize) {
+            let rest = word >> (at % 64);
+            if rest != 0 {
+                return Some(DeviceNo(at + rest.trailing_zeros() as u16));
+            }
+            at = (at / 64 + 1) * 64;
+        }
+        None
+    }
+}
+
+/// Whether some bit of the word is set.
+fn has_bit(word: u64) -> bool
+    ensures { IsTrue result ↔ HasBit word }
+{
+    word != 0
+}
+
+#[cfg(test)]
+mod tests {
+    use super::*;
+    use std::test::Fail;
+
+    #[test]
+    fn goes_over_its_devices(rt: HostRuntime) -> Result<(), Fail> {
+        let mut devices = DeviceSet::none();
+        for d in [3, 63, 64, 255] {
+            devices.add(DeviceNo(d));
+        }
+        assert!(rt; devices.next(DeviceNo(0)) == Some(DeviceNo(3)));
+        assert!(rt; devices.next(DeviceNo(4)) == Some(DeviceNo(63)));
+        assert!(rt; devices.next(DeviceNo(64)) == Some(DeviceNo(64)));
+        assert!(rt; devices.next(DeviceNo(65)) == Some(DeviceNo(255)));
+        assert!(rt; devices.next(DeviceNo(256)) == None);
+        let mut others = DeviceSet::none();
+        others.add(DeviceNo(65));
+        assert!(rt; !devices.meets(&others));
+        others.add(DeviceNo(255));
+        assert!(rt; devices.meets(&others));
+        Ok(())
     }
 }
