@@ -37,7 +37,7 @@ use Rattle.hub_core.specs.Stage.{StageAllows}
 use Rattle.hub_core.specs.Steps.{HandsOut, after_choice, after_give, after_take, answer_told, at_moment, command_entries, may_probe, opened}
 use Rattle.lock_leasing.proofs.Effects.{effect_is}
 use Rattle.lock_leasing.specs.Configurations.{Commands, Configuration, Grip, Grips, Probes, Purpose, Undoes, grips_command, has_grip, is_command, is_out, no_grips, read_of}
-use Rattle.lock_leasing.specs.Places.{IsScheduled, MayBeOut}
+use Rattle.lock_leasing.specs.Places.{GripsFit, IsScheduled, MayBeOut}
 use Rattle.lock_leasing.specs.Waits.{strict_wait}
 use Rattle.lock_leasing.specs.Words.{has_effect, live_before, value_without}
 use Rattle.std.proofs.Common.{ap, append-nil, append_assoc, ap₂, arith, refl, subst, sym, ◌∙◌}
@@ -49,7 +49,7 @@ use Rattle.window_order.proofs.ReadFacts.{IsRead, read_facts}
 use Rattle.window_order.proofs.Rollbacks.{aborts_kept, refuted_kept, undo_goes_kept, undone_kept}
 use Rattle.window_order.proofs.Runs.{both, run_positive}
 use Rattle.window_order.proofs.Steps.{arrives_kept, commits_kept, found_kept, goes_kept, placed_kept, starts_kept, wrote_kept}
-use Rattle.window_order.specs.OrderKept.{GripsFit, OrderIsKept}
+use Rattle.window_order.specs.OrderKept.{OrderIsKept}
 
 -- another history, moment and grips
 kept_after : (s : Configuration) (rounds opened : ℕ) (held after : ℕ → ℕ) (h : List Kept) (m : ℕ) (g : Grips) → HistoryIsKept (record s { history = h; moment = m; grips = g }) → RunsAreOut g → UndosFit s.setting g → OrderIsKept s.setting (reading s.setting (entries_of h)) g after → ConfigurationIsKept s rounds opened held

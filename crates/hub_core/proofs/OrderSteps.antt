@@ -37,12 +37,13 @@ use Rattle.window_order.proofs.TableCalls.{status_there, touches_now, waits_ther
 use Rattle.window_order.proofs.TableSteps.{aborted_table, answered_table, changes_one, command_out_table, committed_table, doomed_each, doomed_table, placed_table, undid_table, undo_out_table}
 use Rattle.window_order.specs.MarksKept.{MarksAreKept}
 use Rattle.window_order.proofs.TouchedLines.{marks_aborted, marks_answered, marks_arrived, marks_begin, marks_committed, marks_doomed, marks_out, marks_placed, marks_undo_home, marks_undo_out, marks_undone}
-use Rattle.window_order.specs.OrderKept.{GripsFit, OrderIsKept}
+use Rattle.window_order.specs.OrderKept.{OrderIsKept}
 use Rattle.window_order.specs.TableChanges.{ChangesEach, answered_change, answered_lineage, doomed_lineage, is_done_there, scheduled_on, told_write, undone_change}
 use Rattle.window_order.specs.TableKept.{TableIsKept}
 use Rattle.lock_leasing.specs.Tables.{view_when}
 use Rattle.history_book.specs.Readings.{is_told}
 use Rattle.history_book.specs.declared.entries.Cause.{Cause}
+use Rattle.lock_leasing.specs.Places.{GripsFit}
 use Rattle.std.proofs.lemmas.Grind.{common_steps}
 use Rattle.window_order.proofs.Grips.{HoldsNone, none_left}
 

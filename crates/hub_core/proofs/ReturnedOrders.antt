@@ -46,10 +46,11 @@ use Rattle.window_order.proofs.AnsweredTables.{answered_run, left_after}
 use Rattle.window_order.specs.TableChanges.{ChangesEach, doomed_lineage, is_done_there, told_write}
 use Rattle.history_book.specs.declared.entries.Cause.{Cause}
 use Rattle.history_book.specs.declared.entries.Entry.{Entry}
+use Rattle.lock_leasing.specs.Places.{GripsFit}
 use Rattle.std.proofs.lemmas.List.{append_assoc}
 use Rattle.window_order.proofs.ReadFacts.{IsRead, read_facts}
 use Rattle.window_order.proofs.Steps.{home_fits}
-use Rattle.window_order.specs.OrderKept.{GripsFit, OrderIsKept}
+use Rattle.window_order.specs.OrderKept.{OrderIsKept}
 
 -- What the answer tells
 

@@ -26,10 +26,9 @@ use Rattle.hub_core.specs.declared.turns.Turn.{Turn}
 use Rattle.hub_core.specs.declared.waits.Why.{Why}
 use Rattle.lock_leasing.specs.Configurations.{Commands, Configuration, Grip, Probes, Purpose, Undoes, read_of}
 use Rattle.lock_leasing.specs.Order.{OrderStands}
-use Rattle.lock_leasing.specs.Places.{PlacesAreScheduled}
+use Rattle.lock_leasing.specs.Places.{GripsFit, PlacesAreScheduled}
 use Rattle.lock_leasing.specs.Words.{standing_value}
 use Rattle.command_rules.specs.Rosters.{command_at, is_run}
-use Rattle.window_order.specs.OrderKept.{GripsFit}
 use Rattle.std.specs.Prelude.{Bool, Err, None, Ok, Option, Result, Some, false, is_some, length, not, slice_get, slice_index_or, slice_set, true, ℕ, ◌*◌, ◌+◌, ◌-◌, ◌<◌, ◌≡◌, ◌≢◌, ◌≤◌, ◌||◌}
 
 -- the hub is in the same window, with the same counts of its devices at the opening

@@ -3,7 +3,7 @@ use Rattle.command_rules.specs.Rosters.{follows, reads_first, touches}
 use Rattle.history_book.specs.Lines.{Split, of_run, split_at}
 use Rattle.history_book.specs.Plans.{planned_end, planned_start, planned_times, split_of}
 use Rattle.history_book.specs.Readings.{Planned, Reading, has_written, is_committed, is_doomed, is_live, is_next_on, next_of, nothing_read, passed_by}
-use Rattle.history_book.specs.Settings.{Setting, devices_of, scheduler_of}
+use Rattle.history_book.specs.Settings.{Setting, devices_of, is_device, scheduler_of}
 use Rattle.history_book.specs.WellFormed.{Along}
 use Rattle.history_book.specs.declared.entries.Entry.{Entry}
 use Rattle.history_book.specs.declared.entries.Entry.TheVariants.{Placed}
@@ -11,7 +11,7 @@ use Rattle.home_types.specs.declared.items.Item.{Item}
 use Rattle.home_types.specs.declared.items.Item.TheVariants.{Back, Failed, Ran}
 use Rattle.home_types.specs.declared.modes.Scheduler.{Scheduler}
 use Rattle.home_types.specs.declared.modes.Scheduler.TheVariants.{Fcfs, JustInTime, Timeline}
-use Rattle.lock_leasing.specs.Configurations.{Commands, Grips, Purpose, Undoes}
+use Rattle.lock_leasing.specs.Configurations.{Commands, Grips, Probes, Purpose, Undoes, is_out}
 use Rattle.lock_leasing.specs.Words.{effective_writer_of, has_touched, holds_device, live_runs}
 use Rattle.std.specs.List.{list_all, list_any, range_with_len}
 use Rattle.std.specs.Option.{option_or}
@@ -122,6 +122,12 @@ pub record MayBeOut (w : Setting) (n : Reading) (g : Grips) : Type 0 where
   pub commands : (d r k : ℕ) → g d ≡ Some (record { maker = r; purpose = Commands k }) → IsTrue (is_live n r && is_next_on w n r d && (k == next_of n r))
   pub undos : (d r v : ℕ) → g d ≡ Some (record { maker = r; purpose = Undoes v }) → IsTrue (is_live n r && is_doomed n r && has_written n r d && not ((n.run r).on d).undid)
   pub one : (d e r : ℕ) (p q : Purpose) → g d ≡ Some (record { maker = suc r; purpose = p }) → g e ≡ Some (record { maker = suc r; purpose = q }) → d ≡ e
+
+-- each grip that is out is of a device of the home; that of a run is one which the run may have, and a probe is the detector's
+pub record GripsFit (w : Setting) (n : Reading) (g : Grips) : Type 0 where
+  pub homed : (d : ℕ) → is_out g d ≡ true → is_device w d ≡ true
+  pub runs : MayBeOut w n g
+  pub probes : (d r : ℕ) (v : Option ℕ) → g d ≡ Some (record { maker = r; purpose = Probes v }) → r ≡ 0
 
 -- the scheduler gives the place of the entry, with some grips out
 abbrev pub IsScheduled : Setting → Reading → Entry → Type 0

@@ -11,6 +11,7 @@ use Rattle.hub_core.specs.HubSteps.{Gave, Give, HubStep, Refused, Returned}
 use Rattle.hub_core.specs.OpenHubs.{OpenHub, carried_in, configuration_of, device_at, grip_in, purpose_of, state_of}
 use Rattle.hub_core.specs.Steps.{after_give, at_moment, give_entries}
 use Rattle.lock_leasing.specs.Configurations.{Commands, Configuration, Probes, Purpose, Undoes, is_command, is_undo, read_of}
+use Rattle.lock_leasing.specs.Places.{GripsFit}
 use Rattle.run_replay.proofs.Holding.{Gives, gives_keeps, gives_plans}
 use Rattle.run_replay.proofs.HubSteps.{gave_back, never_refused}
 use Rattle.run_replay.proofs.Making.{give_makes}
@@ -25,7 +26,6 @@ use Rattle.std.proofs.lemmas.Grind.{common_steps}
 use Rattle.std.proofs.lemmas.Option.{slice_get_read, slice_get_within}
 use Rattle.std.proofs.Math.ListN.{get_or}
 use Rattle.std.specs.Prelude.{List, None, Option, Some, false, length, slice_get, slice_set, suc, true, zero, ℕ, ◌*◌, ◌+◌, ◌<◌, ◌==◌, ◌||◌, ◌^◌, ◌≡◌, ◌≤◌}
-use Rattle.window_order.specs.OrderKept.{GripsFit}
 
 -- a run's grip was done, and is given back
 pub record IsDone {D : Type 0} (s : PlayerState D) (a : ℕ) (grip : Gripped D Ready) (done : Gripped D Done) : Type 0 where

@@ -9,6 +9,7 @@ use Rattle.history_book.specs.Readings.{is_live}
 use Rattle.hub_core.specs.OpenHubs.{configuration_of, device_at, grip_in, purpose_of}
 use Rattle.hub_core.specs.Steps.{not_quiet}
 use Rattle.lock_leasing.specs.Configurations.{Commands, Configuration, Probes, Purpose, Undoes, is_out, read_of}
+use Rattle.lock_leasing.specs.Places.{GripsFit}
 use Rattle.run_replay.proofs.Progress.{each_at}
 use Rattle.run_replay.specs.Players.{PlayerIsKept, PlayerState, are_live, is_ended, is_full}
 use Rattle.std.proofs.Common.{ap, arith, refl, subst, sym, ◌∙◌}
@@ -16,7 +17,6 @@ use Rattle.std.proofs.lemmas.Grind.{common_steps}
 use Rattle.std.proofs.lemmas.Option.{slice_get_within}
 use Rattle.std.specs.List.{range_with_len}
 use Rattle.std.specs.Prelude.{Bool, IsTrue, List, None, Option, Some, [], false, filter, find, is_none, is_some, length, not, option_map, slice_get, suc, true, unwrap_or, zero, ℕ, ◌&&◌, ◌+◌, ◌<◌, ◌||◌, ◌∷◌, ◌≡◌, ◌≤◌}
-use Rattle.window_order.specs.OrderKept.{GripsFit}
 
 -- no number of the range passes
 no_number : (p : ℕ → Bool) (a n : ℕ) → ((x : ℕ) → a ≤ x → x < a + n → p x ≡ false) → find p (range_with_len a n) ≡ None

@@ -8,6 +8,7 @@ use Rattle.hub_core.specs.OpenHubs.{configuration_of, device_at, grip_in, purpos
 use Rattle.hub_core.specs.Steps.{Absent, Choice, HandsOut, Moves, Over, Waits, choice_of}
 use Rattle.hub_core.specs.declared.waits.Why.{Why}
 use Rattle.lock_leasing.specs.Configurations.{Commands, Configuration, Probes, Purpose, Undoes, has_grip, read_of}
+use Rattle.lock_leasing.specs.Places.{GripsFit}
 use Rattle.run_replay.proofs.Gripping.{full_hand}
 use Rattle.run_replay.proofs.Picking.{IsGoing, take_pick}
 use Rattle.run_replay.proofs.Waiting.{act_never_waits, detector_never_waits}
@@ -20,7 +21,6 @@ use Rattle.std.proofs.lemmas.List.{take-append-drop}
 use Rattle.std.proofs.lemmas.Option.{slice_get_within}
 use Rattle.std.specs.List.{range_with_len}
 use Rattle.std.specs.Prelude.{Bool, IsTrue, List, None, Option, Some, [], drop, false, filter, find, if◌then◌else◌, is_none, is_some, length, not, slice_get, suc, take, true, zero, ℕ, ◌&&◌, ◌++◌, ◌+◌, ◌<◌, ◌||◌, ◌∷◌, ◌≡◌, ◌≢◌, ◌≤◌}
-use Rattle.window_order.specs.OrderKept.{GripsFit}
 
 -- what holds of each number of a range that passes a test holds of the one
 pub each_at : (Q : ℕ → Type 0) (p : ℕ → Bool) (from n a : ℕ) → Each Q (filter p (range_with_len from n)) → from ≤ a → a < from + n → p a ≡ true → Q a

@@ -9,12 +9,12 @@ use Rattle.history_book.specs.Histories.{entries_made}
 use Rattle.hub_core.specs.HubCalls.{SomeRunMoves, entries_of_a_run}
 use Rattle.hub_core.specs.OpenHubs.{OpenHub, configuration_of}
 use Rattle.lock_leasing.specs.Configurations.{read_of}
+use Rattle.lock_leasing.specs.Places.{GripsFit}
 use Rattle.run_replay.specs.Replays.{Made, Passed, Picked, Play, Took, Waited, start_of}
 use Rattle.run_replay.specs.declared.picked.Picked.TheVariants.{Made as MadeSo, Passed as PassedSo, Took as TookSo, Waits as WaitsSo}
 use Rattle.run_replay.specs.declared.picked.Picked.{Picked as PickedSo}
 use Rattle.std.specs.List.{range_with_len}
 use Rattle.std.specs.Prelude.{Bool, List, None, Option, Some, [], drop, false, filter, is_some, length, nat_le, not, option_map, suc, unwrap_or, zero, slice_get, ℕ, ◌*◌, ◌+◌, ◌-◌, ◌<◌, ◌^◌, ◌&&◌, ◌||◌, ◌∷◌, ◌≡◌, ◌≤◌, ◌⊎◌}
-use Rattle.window_order.specs.OrderKept.{GripsFit}
 
 -- what a player shows: its hub, the grips that its actors hold, by their numbers, the detector's rounds, the moment, and how many devices the detector has come to
 pub record PlayerState (D : Type 0) : Type 0 where

@@ -22,6 +22,7 @@ use Rattle.lineage_table.specs.Lineages.{LineageState, removed, settled}
 use Rattle.lineage_table.specs.declared.accesses.Access.{Access}
 use Rattle.lock_leasing.specs.Configurations.{Commands, Grip, Grips, Probes, Purpose, Undoes, grips_undo, is_undo}
 use Rattle.lock_leasing.specs.Order.{committed_value}
+use Rattle.lock_leasing.specs.Places.{GripsFit}
 use Rattle.lock_leasing.specs.Tables.{uses}
 use Rattle.lock_leasing.specs.Words.{committed_write, is_undone}
 use Rattle.std.proofs.Common.{ap, arith, refl, subst, sym, ◌∙◌}
@@ -36,7 +37,6 @@ use Rattle.window_order.proofs.ReadFacts.{IsRead}
 use Rattle.window_order.proofs.Representing.{held_as}
 use Rattle.window_order.proofs.Runs.{both, cut_live, live_uncommitted}
 use Rattle.window_order.proofs.TableFrames.{access_by, commits_by, lineage_same, may_by, put_says, same_unplaced, uses_by, write_by}
-use Rattle.window_order.specs.OrderKept.{GripsFit}
 use Rattle.window_order.specs.TableKept.{LineageIsKept, access_read, accesses_along, accesses_read, commits_write, unplaced_on}
 
 -- The last committed write along a list

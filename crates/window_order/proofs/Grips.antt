@@ -7,12 +7,12 @@ use Rattle.history_book.proofs.Searches.{some_is}
 use Rattle.history_book.specs.Readings.{OfRun, Reading, is_committing, put}
 use Rattle.history_book.specs.Settings.{Setting, is_device}
 use Rattle.lock_leasing.specs.Configurations.{Commands, Grip, Grips, Probes, Purpose, Undoes, is_out}
+use Rattle.lock_leasing.specs.Places.{GripsFit}
 use Rattle.lock_leasing.specs.Waits.{grip_wait}
 use Rattle.std.proofs.Common.{ap, arith, refl, subst, sym, ◌∙◌}
 use Rattle.std.proofs.lemmas.Grind.{common_steps}
 use Rattle.std.specs.List.{range_with_len}
 use Rattle.std.specs.Prelude.{Bool, IsTrue, None, Option, Some, cond, false, find, if◌then◌else◌, is_none, is_some, length, nat_lt, not, option_map, slice_get, suc, true, unwrap_or, zero, ℕ, ◌&&◌, ◌+◌, ◌<◌, ◌==◌, ◌≡◌, ◌≢◌, ◌≤◌}
-use Rattle.window_order.specs.OrderKept.{GripsFit}
 use Rattle.window_order.specs.ReadWindows.{held_by, held_for, window_of}
 
 -- the run's command of this number may be out

@@ -14,6 +14,7 @@ use Rattle.lineage_table.specs.declared.accesses.Status.TheVariants.{Acquired, R
 use Rattle.lineage_table.specs.declared.accesses.Status.{Status}
 use Rattle.lock_leasing.specs.Configurations.{Commands, Grip, Grips, Probes, Purpose, Undoes, grips_command, is_command}
 use Rattle.lock_leasing.specs.Order.{covers}
+use Rattle.lock_leasing.specs.Places.{GripsFit}
 use Rattle.lock_leasing.specs.Tables.{EachTellsOfRun, Represents, TellsOfRun, may_be_passed, runs_with_access, some_in_use, status_by_answers, uses, view_when}
 use Rattle.lock_leasing.specs.Words.{has_touched}
 use Rattle.std.proofs.Common.{ap, arith, refl, subst, sym, ◌∙◌}
@@ -21,7 +22,6 @@ use Rattle.std.proofs.lemmas.Grind.{common_steps}
 use Rattle.std.specs.List.{AllByRecursion, list_any}
 use Rattle.std.specs.Prelude.{Bool, List, None, Option, Some, [], drop, false, if◌then◌else◌, map, not, option_map, slice_get, suc, true, unwrap_or, zero, ℕ, ◌&&◌, ◌==◌, ◌||◌, ◌∷◌, ◌≡◌}
 use Rattle.window_order.proofs.Runs.{both, three}
-use Rattle.window_order.specs.OrderKept.{GripsFit}
 use Rattle.window_order.specs.TableKept.{TableIsKept, access_read, accesses_read}
 
 same : (a b : ℕ) → (a == b) ≡ true → a ≡ b

@@ -28,6 +28,7 @@ use Rattle.home_types.specs.declared.items.Item.{Item}
 use Rattle.lock_leasing.proofs.Effects.{effect_is}
 use Rattle.lock_leasing.specs.Configurations.{Commands, Grip, Grips, Probes, Purpose, Undoes, is_out}
 use Rattle.lock_leasing.specs.Order.{InHistoryOrder}
+use Rattle.lock_leasing.specs.Places.{GripsFit}
 use Rattle.lock_leasing.specs.Waits.{grip_wait}
 use Rattle.lock_leasing.specs.Words.{effective_writer_of, has_effect, last_some, next_undo_of, value_without, write_of}
 use Rattle.std.proofs.Common.{ap, arith, cond, refl, subst, sym, ◌∙◌}
@@ -43,7 +44,7 @@ use Rattle.window_order.proofs.ReadFacts.{IsRead}
 use Rattle.window_order.proofs.Runs.{cut_live, live_run, live_uncommitted, state_by}
 use Rattle.window_order.proofs.StandingValues.{standing_on_line, writer_on_line}
 use Rattle.window_order.proofs.Steps.{IsOut, gets_answer, home_fits, out_is, out_newest}
-use Rattle.window_order.specs.OrderKept.{GripsFit, OrderIsKept}
+use Rattle.window_order.specs.OrderKept.{OrderIsKept}
 use Rattle.window_order.specs.ReadWindows.{held_by, probe_of, run_state, window_of}
 
 equal : (x y : ℕ) → (x == y) ≡ true → x ≡ y

@@ -34,6 +34,7 @@ use Rattle.home_types.specs.declared.commands.Answer.TheVariants.{Fine, Found}
 use Rattle.home_types.specs.declared.commands.Command.{Command}
 use Rattle.home_types.specs.declared.items.Item.{Item}
 use Rattle.lock_leasing.specs.Configurations.{Commands, Grip, Grips, Probes, Purpose, Undoes, is_out, no_grips}
+use Rattle.lock_leasing.specs.Places.{GripsFit}
 use Rattle.lock_leasing.specs.Waits.{behind_wait, dirty_wait, grip_wait}
 use Rattle.lock_leasing.specs.Words.{has_effect, live_before}
 use Rattle.std.proofs.Common.{ap, arith, cond, refl, subst, sym, ◌∙◌}
@@ -46,7 +47,7 @@ use Rattle.window_order.proofs.Grips.{HoldsNone, fits_other, fits_same, fits_wit
 use Rattle.window_order.proofs.HistoryOrder.{placed_history, same_history}
 use Rattle.window_order.proofs.ReadFacts.{IsRead, rest_drop, rest_next}
 use Rattle.window_order.proofs.Runs.{cut_live, four, lacks_parts, live_run, live_uncommitted, run_positive, state_by, three}
-use Rattle.window_order.specs.OrderKept.{GripsFit, OrderIsKept}
+use Rattle.window_order.specs.OrderKept.{OrderIsKept}
 use Rattle.window_order.specs.ReadWindows.{held_by, probe_of, run_state, window_of}
 
 -- The start

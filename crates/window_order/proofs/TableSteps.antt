@@ -13,6 +13,7 @@ use Rattle.history_book.specs.declared.entries.Entry.TheVariants.{Did, Doomed, E
 use Rattle.home_types.specs.declared.commands.Answer.{Answer}
 use Rattle.lineage_table.specs.Lineages.{LineageState, lineage_at, no_lineage, removed, with_lineage}
 use Rattle.lock_leasing.specs.Configurations.{Commands, Grips, Undoes, grips_command}
+use Rattle.lock_leasing.specs.Places.{GripsFit}
 use Rattle.std.proofs.Common.{ap, arith, refl, set, subst, sym, ◌∙◌}
 use Rattle.std.proofs.lemmas.Grind.{common_steps}
 use Rattle.std.proofs.lemmas.List.{get_or-set_other, get_or-set_same, length-set, set-set}
@@ -28,7 +29,7 @@ use Rattle.window_order.proofs.Representing.{gripped_pends}
 use Rattle.window_order.proofs.Runs.{cut_live}
 use Rattle.window_order.proofs.Steps.{IsOut, out_is}
 use Rattle.window_order.proofs.TableCalls.{touches_now}
-use Rattle.window_order.specs.OrderKept.{GripsFit, OrderIsKept}
+use Rattle.window_order.specs.OrderKept.{OrderIsKept}
 use Rattle.window_order.specs.TableChanges.{ChangesEach, answered_change, answered_lineage, doomed_change, doomed_lineage, passed_if, placed_change, undone_change}
 use Rattle.window_order.specs.TableKept.{LineageIsKept, TableIsKept}
 

@@ -19,6 +19,7 @@ use Rattle.home_types.specs.declared.commands.Command.{Command}
 use Rattle.home_types.specs.declared.items.Item.TheVariants.{Back, Failed, Ran}
 use Rattle.home_types.specs.declared.items.Item.{Item}
 use Rattle.lock_leasing.specs.Configurations.{Commands, Grip, Grips, Undoes, grips_command, is_command, no_grips}
+use Rattle.lock_leasing.specs.Places.{GripsFit}
 use Rattle.lock_leasing.specs.Standings.{item_has_touched}
 use Rattle.lock_leasing.specs.Words.{has_touched}
 use Rattle.serial_line.proofs.Ties.{line_empty, line_inserted, line_removed, line_retold, line_touching, run_comes}
@@ -35,7 +36,6 @@ use Rattle.window_order.proofs.Grips.{HoldsNone}
 use Rattle.window_order.proofs.ReadFacts.{IsRead}
 use Rattle.window_order.proofs.Steps.{IsOut, unplaced_holds}
 use Rattle.window_order.specs.MarksKept.{MarksAreKept}
-use Rattle.window_order.specs.OrderKept.{GripsFit}
 
 pub marks_begin : (w : Setting) → MarksAreKept (nothing_read w) no_grips []
 marks_begin w = line_empty (item_has_touched (nothing_read w) no_grips)
