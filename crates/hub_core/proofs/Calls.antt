@@ -20,7 +20,7 @@ use Rattle.hub_core.proofs.Afters.{read_with, take_history}
 use Rattle.hub_core.proofs.Choices.{decide_is}
 use Rattle.hub_core.proofs.Takes.{made_by}
 use Rattle.hub_core.specs.AccountedCalls.{tells_call, told_calls, told_falls}
-use Rattle.hub_core.specs.HubKept.{is_of_run, is_plain}
+use Rattle.hub_core.specs.HubKept.{is_of_run, stage_entry}
 use Rattle.hub_core.specs.Steps.{Choice, Moves, after_give, after_take, choice_of, decide, down_entries, give_entries, with_entries}
 use Rattle.lock_leasing.specs.Configurations.{Commands, Configuration, Grip, Grips, Probes, Purpose, Undoes, read_of}
 use Rattle.std.proofs.Common.{ap, arith, refl, ◌∙◌}
@@ -174,16 +174,16 @@ take_registers s r m q =
     ∙ ap (λ n. (n.run q).register) (read_with s r (made_by (choice_of s r m)))
     ∙ take_keeps_registers s.setting (read_of s) s.grips r (max s.moment m) q
 
--- a plain history tells of no failure
-pub no_falls : (h : List Entry) (d : ℕ) → IsTrue (list_all is_plain h) → told_falls h d ≡ 0
-no_falls [] d plain = refl
-no_falls (Arrived r m ∷ h) d plain = no_falls h d plain
-no_falls (Placed r at m ∷ h) d plain = no_falls h d plain
-no_falls (Did r c Fine ∷ h) d plain = no_falls h d plain
-no_falls (Did r c (Found x) ∷ h) d plain = no_falls h d plain
-no_falls (Did r c Down ∷ h) d plain = absurd (cc)
-no_falls (Undid r e drove ∷ h) d plain = no_falls h d (grind (arith, common_steps))
-no_falls (Fell e ∷ h) d plain = absurd (cc)
-no_falls (Rose e ∷ h) d plain = absurd (cc)
-no_falls (Doomed r cause ∷ h) d plain = no_falls h d (grind (arith, common_steps))
-no_falls (Ended r end ∷ h) d plain = no_falls h d plain
+-- a history of this stage tells of no failure
+pub no_falls : (h : List Entry) (d : ℕ) → IsTrue (list_all stage_entry h) → told_falls h d ≡ 0
+no_falls [] d staged = refl
+no_falls (Arrived r m ∷ h) d staged = no_falls h d staged
+no_falls (Placed r at m ∷ h) d staged = no_falls h d staged
+no_falls (Did r c Fine ∷ h) d staged = no_falls h d staged
+no_falls (Did r c (Found x) ∷ h) d staged = no_falls h d staged
+no_falls (Did r c Down ∷ h) d staged = absurd (cc)
+no_falls (Undid r e drove ∷ h) d staged = no_falls h d (grind (arith, common_steps))
+no_falls (Fell e ∷ h) d staged = absurd (cc)
+no_falls (Rose e ∷ h) d staged = absurd (cc)
+no_falls (Doomed r cause ∷ h) d staged = no_falls h d (grind (arith, common_steps))
+no_falls (Ended r end ∷ h) d staged = no_falls h d staged

@@ -19,7 +19,7 @@ use Rattle.home_types.specs.declared.commands.Job.TheVariants.{Check, Load, Set,
 use Rattle.home_types.specs.declared.commands.Job.{Job}
 use Rattle.home_types.specs.declared.worlds.Stand.{Stand}
 use Rattle.hub_core.proofs.Sizes.{run_there, run_within}
-use Rattle.hub_core.proofs.StageChoices.{StepsPlainly, steps_plainly}
+use Rattle.hub_core.proofs.StageChoices.{StageSteps, stage_steps}
 use Rattle.hub_core.proofs.StageFacts.{dooms_are_refuted, is_refuted}
 use Rattle.hub_core.specs.AccountedCalls.{CallsAreAccounted}
 use Rattle.hub_core.specs.Agreement.{AgreesWithSerial}
@@ -127,7 +127,7 @@ pub ended_committed : (s : Configuration) (rounds opened : ℕ) (held : ℕ → 
 ended_committed s rounds opened held r kept quiet run none = committed ((read_of s).run r).ended (quiet.ended r run) (λ aborts. (shapes s.setting (entries_of s.history) kept.history.well_formed r).aborts aborts)
   where
     sound : is_some ((read_of s).run r).doomed ≡ false
-    sound = sound_without s.setting r ((read_of s).run r).doomed (dooms_are_refuted s.setting (entries_of s.history) kept.history.plain kept.history.justified r) none
+    sound = sound_without s.setting r ((read_of s).run r).doomed (dooms_are_refuted s.setting (entries_of s.history) kept.history.stage kept.history.justified r) none
 
     committed : (o : Option End) → is_some o ≡ true → (unwrap_or (option_map is_abort o) false ≡ true → is_some ((read_of s).run r).doomed ≡ true) → o ≡ Some Committed
     committed None e doomed = absurd (cc)
@@ -167,12 +167,12 @@ order_is s rounds opened held kept quiet =
 pub serial_is : (s : Configuration) (rounds opened : ℕ) (held : ℕ → ℕ) (last : List Stand) → ConfigurationIsKept s rounds opened held → IsQuiet s → IsLastState s held last → AgreesWithSerial s.setting (entries_of s.history) (read_of s).line last
 serial_is s rounds opened held last kept quiet at = record { applies = agrees.applies; answers = agrees.answers; home = agrees.home; counted = λ d less. ap (λ x. x.up) (at.each d less) }
   where
-    plainly : StepsPlainly s.setting (read_of s)
-    plainly = steps_plainly s rounds opened held kept
+    staged : StageSteps s.setting (read_of s)
+    staged = stage_steps s rounds opened held kept
 
     agrees : AgreesAtEnd s.setting (read_of s) last
     agrees = agrees_where_home s.setting (read_of s) s.grips held last (read_facts s.setting (entries_of s.history) kept.history.well_formed) kept.order kept.stage.strong (none_live s rounds opened held kept quiet) at.size
-        (λ d less. none_out s rounds opened held d kept quiet) (λ d less. plainly.read.up d ∙ kept.stage.up d less) at.each
+        (λ d less. none_out s rounds opened held d kept quiet) (λ d less. staged.read.up d ∙ kept.stage.up d less) at.each
 
 each_ended : (s : Configuration) (a k : ℕ) → ((r : ℕ) → a ≤ r → r < a + k → is_some ((read_of s).run r).ended ≡ true) → IsTrue (list_all (λ r. is_some ((read_of s).run r).ended) (range_with_len a k))
 each_ended s a zero each = refl

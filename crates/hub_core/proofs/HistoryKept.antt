@@ -22,7 +22,7 @@ use Rattle.hub_core.proofs.Afters.{read_with}
 use Rattle.hub_core.proofs.LineOrder.{StampsAreBelow, before_more, end_line, is_alone_by, live_before_without, order_at_end, order_without, same_order, stamps_below, strict_fewer_by}
 use Rattle.hub_core.proofs.StageChoices.{live_stands}
 use Rattle.hub_core.specs.CleanReads.{entry_is_clean}
-use Rattle.hub_core.specs.HubKept.{ActsInTurn, HistoryIsKept, NoneAnsweredDoomed, is_plain, placed_in_order}
+use Rattle.hub_core.specs.HubKept.{ActsInTurn, HistoryIsKept, NoneAnsweredDoomed, stage_entry, placed_in_order}
 use Rattle.hub_core.specs.Isolation.{is_alone, is_isolated}
 use Rattle.hub_core.specs.JustifiedAborts.{abort_is_justified, shows}
 use Rattle.lock_leasing.specs.Configurations.{Commands, Configuration, Grip, Grips, Purpose, Undoes, grips_command, has_grip, is_command, read_of}
@@ -38,7 +38,7 @@ use Rattle.std.specs.Prelude.{Bool, IsTrue, List, None, Option, Some, [], false,
 -- what an entry has to be that comes at this moment, and leaves these grips out
 pub record MayAdd (s : Configuration) (e : Entry) (m : ℕ) (g : Grips) : Type 0 where
   pub follows : may_follow s.setting (read_of s) e ≡ true
-  pub plain : is_plain e ≡ true
+  pub stage : stage_entry e ≡ true
   pub clean : entry_is_clean s.setting (read_of s) e ≡ true
   pub justified : abort_is_justified s.setting (read_of s) e ≡ true
   pub scheduled : IsScheduled s.setting (read_of s) e
@@ -57,7 +57,7 @@ history_added s maker m g e may kept =
     record {
       well_formed = subst (λ h. IsTrue (each_entry s.setting (may_follow s.setting) h)) (sym entries) (each_more s.setting (may_follow s.setting) (entries_of s.history) e kept.well_formed may.follows);
       moment = subst (λ n. n.moment ≤ m) (sym read) may.moment;
-      plain = subst (λ h. IsTrue (list_all is_plain h)) (sym entries) (list_all-append is_plain (entries_of s.history) (e ∷ []) ∙ rw (kept.plain, may.plain) refl);
+      stage = subst (λ h. IsTrue (list_all stage_entry h)) (sym entries) (list_all-append stage_entry (entries_of s.history) (e ∷ []) ∙ rw (kept.stage, may.stage) refl);
       clean = subst (λ h. IsTrue (each_entry s.setting (entry_is_clean s.setting) h)) (sym entries) (each_more s.setting (entry_is_clean s.setting) (entries_of s.history) e kept.clean may.clean);
       justified = subst (λ h. IsTrue (each_entry s.setting (abort_is_justified s.setting) h)) (sym entries) (each_more s.setting (abort_is_justified s.setting) (entries_of s.history) e kept.justified may.justified);
       places = subst (λ h. PlacesAreScheduled s.setting h) (sym entries) (Along_more s.setting (IsScheduled s.setting) (nothing_read s.setting) (entries_of s.history) e kept.places may.scheduled);
@@ -265,7 +265,7 @@ pub arrival_may : (s : Configuration) (r m : ℕ) → may_follow s.setting (read
 arrival_may s r m follows later kept =
     record {
       follows = follows;
-      plain = refl;
+      stage = refl;
       clean = refl;
       justified = refl;
       scheduled = tt;
@@ -316,7 +316,7 @@ pub placing_may : (s : Configuration) (r m : ℕ) → may_follow s.setting (read
 placing_may s r m follows later scheduled unplaced gripless kept =
     record {
       follows = follows;
-      plain = refl;
+      stage = refl;
       clean = refl;
       justified = refl;
       scheduled = scheduled;
@@ -349,13 +349,13 @@ alone_out s r d p out live kept = is_alone_by s.setting.runs s.setting.kinds s.s
 
 -- A command is answered
 
-pub answer_may : (s : Configuration) (r k d m : ℕ) (a : Answer) → may_follow s.setting (read_of s) (Did (run_no r) k a) ≡ true → is_plain (Did (run_no r) k a) ≡ true → entry_is_clean s.setting (read_of s) (Did (run_no r) k a) ≡ true → (read_of s).moment ≤ m → s.grips d ≡ Some (record { maker = r; purpose = Commands k })
+pub answer_may : (s : Configuration) (r k d m : ℕ) (a : Answer) → may_follow s.setting (read_of s) (Did (run_no r) k a) ≡ true → stage_entry (Did (run_no r) k a) ≡ true → entry_is_clean s.setting (read_of s) (Did (run_no r) k a) ≡ true → (read_of s).moment ≤ m → s.grips d ≡ Some (record { maker = r; purpose = Commands k })
     → ((e : ℕ) (p : Purpose) → s.grips e ≡ Some (record { maker = r; purpose = p }) → e ≡ d) → is_live (read_of s) r ≡ true
     → HistoryIsKept s → MayAdd s (Did (run_no r) k a) m (put s.grips d None)
-answer_may s r k d m a follows plain clean later out alone live kept =
+answer_may s r k d m a follows staged clean later out alone live kept =
     record {
       follows = follows;
-      plain = plain;
+      stage = staged;
       clean = clean;
       justified = refl;
       scheduled = tt;
@@ -379,7 +379,7 @@ pub commit_may : (s : Configuration) (r m : ℕ) → may_follow s.setting (read_
 commit_may s r m follows later up kept =
     record {
       follows = follows;
-      plain = refl;
+      stage = refl;
       clean = refl;
       justified = refl;
       scheduled = tt;
@@ -395,11 +395,11 @@ commit_may s r m follows later up kept =
 
 -- A run is doomed
 
-pub doom_may : (s : Configuration) (r m : ℕ) (cause : Cause) → may_follow s.setting (read_of s) (Doomed (run_no r) cause) ≡ true → is_plain (Doomed (run_no r) cause) ≡ true → shows s.setting (read_of s) r cause ≡ true → moment_of cause (read_of s).moment ≤ m → HistoryIsKept s → MayAdd s (Doomed (run_no r) cause) m s.grips
-doom_may s r m cause follows plain shown later kept =
+pub doom_may : (s : Configuration) (r m : ℕ) (cause : Cause) → may_follow s.setting (read_of s) (Doomed (run_no r) cause) ≡ true → stage_entry (Doomed (run_no r) cause) ≡ true → shows s.setting (read_of s) r cause ≡ true → moment_of cause (read_of s).moment ≤ m → HistoryIsKept s → MayAdd s (Doomed (run_no r) cause) m s.grips
+doom_may s r m cause follows staged shown later kept =
     record {
       follows = follows;
-      plain = plain;
+      stage = staged;
       clean = refl;
       justified = shown;
       scheduled = tt;
@@ -419,7 +419,7 @@ pub undo_may : (s : Configuration) (r d m v : ℕ) → may_follow s.setting (rea
 undo_may s r d m v follows later out live kept =
     record {
       follows = follows;
-      plain = refl;
+      stage = refl;
       clean = refl;
       justified = refl;
       scheduled = tt;
@@ -439,7 +439,7 @@ pub aborted_may : (s : Configuration) (r m : ℕ) (cause : Cause) → may_follow
 aborted_may s r m cause follows later kept =
     record {
       follows = follows;
-      plain = refl;
+      stage = refl;
       clean = refl;
       justified = refl;
       scheduled = tt;

@@ -13,7 +13,7 @@ use Rattle.device_gate.specs.declared.slips.Task.TheVariants.{Drive, Sense}
 use Rattle.hub_core.proofs.Calls.{take_calls, take_registers}
 use Rattle.hub_core.proofs.Kept.{kept_at, take_kept}
 use Rattle.hub_core.proofs.Sizes.{history_fits}
-use Rattle.hub_core.proofs.StageFacts.{reads_plainly}
+use Rattle.hub_core.proofs.StageFacts.{stage_reads}
 use Rattle.hub_core.specs.AccountedCalls.{told_calls}
 use Rattle.hub_core.specs.HubCalls.{Answers, SameWindow}
 use Rattle.hub_core.specs.HubKept.{ConfigurationIsKept}
@@ -38,7 +38,7 @@ task_same s c r (Probes v) setting same = refl
 
 -- in this stage a device is up where it was at first
 pub up_first : (s : Configuration) (rounds opened d : ℕ) (held : ℕ → ℕ) → ConfigurationIsKept s rounds opened held → (read_of s).up d ≡ (stand_at s.setting.first d).up
-up_first s rounds opened d held kept = (reads_plainly s.setting (entries_of s.history) kept.history.plain).up d
+up_first s rounds opened d held kept = (stage_reads s.setting (entries_of s.history) kept.history.stage).up d
 
 -- Nothing goes out, and nothing comes home
 

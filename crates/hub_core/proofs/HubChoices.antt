@@ -19,11 +19,11 @@ use Rattle.home_types.specs.declared.modes.Visibility.{Visibility}
 use Rattle.home_types.specs.declared.numbers.DeviceNo.{DeviceNo}
 use Rattle.home_types.specs.declared.numbers.RunNo.{RunNo}
 use Rattle.hub_core.proofs.NextUndos.{undo_of}
-use Rattle.hub_core.proofs.StageChoices.{StepsPlainly, choice_plain, plain_is, steps_plainly}
+use Rattle.hub_core.proofs.StageChoices.{StageSteps, stage_choice_is, stage_holds, stage_steps}
 use Rattle.hub_core.specs.HubKept.{ConfigurationIsKept}
 use Rattle.hub_core.specs.HubsKept.{HubIsKept}
 use Rattle.hub_core.specs.OpenHubs.{OpenHub, configuration_of, grip_in, held_in, progress_of}
-use Rattle.hub_core.specs.Stage.{plain_choice, plain_command, plain_doomed}
+use Rattle.hub_core.specs.Stage.{stage_choice, stage_command, stage_doomed}
 use Rattle.hub_core.specs.Steps.{Absent, Choice, HandsOut, Moves, Over, Waits, aborts, choice_of}
 use Rattle.hub_core.specs.declared.known.RunProgress.{RunProgress}
 use Rattle.hub_core.specs.declared.purposes.Purpose.{Purpose as KeptPurpose}
@@ -74,18 +74,18 @@ waits_for (TouchBehind d x) = Waits (Behind d x)
 waits_for (TouchDirty d x) = Waits (Dirty d x)
 waits_for Free = Absent
 
-pub command_behind : (w : Setting) (n : Reading) (g : Grips) (r k : ℕ) (c : Command) (d : DeviceNo) (x : RunNo) → TouchBehind d x ≡ touch_of w n g r c → Waits (Behind d x) ≡ plain_command w n g r k c
+pub command_behind : (w : Setting) (n : Reading) (g : Grips) (r k : ℕ) (c : Command) (d : DeviceNo) (x : RunNo) → TouchBehind d x ≡ touch_of w n g r c → Waits (Behind d x) ≡ stage_command w n g r k c
 command_behind w n g r k c d x touch = at_ (behind_wait w n g r c.device.0) (dirty_wait w n g r c) refl refl
   where
-    at_ : (o p : Option ℕ) → behind_wait w n g r c.device.0 ≡ o → dirty_wait w n g r c ≡ p → Waits (Behind d x) ≡ plain_command w n g r k c
+    at_ : (o p : Option ℕ) → behind_wait w n g r c.device.0 ≡ o → dirty_wait w n g r c ≡ p → Waits (Behind d x) ≡ stage_command w n g r k c
     at_ (Some y) p behind dirty = ap waits_for (touch ∙ touch_is w n g r c (Some y) p behind dirty) ∙ sym (rw behind refl)
     at_ None (Some y) behind dirty = absurd (let both : TouchBehind d x ≡ TouchDirty c.device (run_no y) = touch ∙ touch_is w n g r c None (Some y) behind dirty in cc)
     at_ None None behind dirty = absurd (let both : TouchBehind d x ≡ Free = touch ∙ touch_is w n g r c None None behind dirty in cc)
 
-pub command_dirty : (w : Setting) (n : Reading) (g : Grips) (r k : ℕ) (c : Command) (d : DeviceNo) (x : RunNo) → TouchDirty d x ≡ touch_of w n g r c → Waits (Dirty d x) ≡ plain_command w n g r k c
+pub command_dirty : (w : Setting) (n : Reading) (g : Grips) (r k : ℕ) (c : Command) (d : DeviceNo) (x : RunNo) → TouchDirty d x ≡ touch_of w n g r c → Waits (Dirty d x) ≡ stage_command w n g r k c
 command_dirty w n g r k c d x touch = at_ (behind_wait w n g r c.device.0) (dirty_wait w n g r c) refl refl
   where
-    at_ : (o p : Option ℕ) → behind_wait w n g r c.device.0 ≡ o → dirty_wait w n g r c ≡ p → Waits (Dirty d x) ≡ plain_command w n g r k c
+    at_ : (o p : Option ℕ) → behind_wait w n g r c.device.0 ≡ o → dirty_wait w n g r c ≡ p → Waits (Dirty d x) ≡ stage_command w n g r k c
     at_ (Some y) p behind dirty = absurd (let both : TouchDirty d x ≡ TouchBehind c.device (run_no y) = touch ∙ touch_is w n g r c (Some y) p behind dirty in cc)
     at_ None (Some y) behind dirty = ap waits_for (touch ∙ touch_is w n g r c None (Some y) behind dirty) ∙ sym (rw (behind, dirty) refl)
     at_ None None behind dirty = absurd (let both : TouchDirty d x ≡ Free = touch ∙ touch_is w n g r c None None behind dirty in cc)
@@ -103,10 +103,10 @@ free_is w n g r c touch = at_ (behind_wait w n g r c.device.0) (dirty_wait w n g
     at_ None (Some y) behind dirty = absurd (let both : Free ≡ TouchDirty c.device (run_no y) = touch ∙ touch_is w n g r c None (Some y) behind dirty in cc)
     at_ None None behind dirty = record { behind = behind; dirty = dirty }
 
-pub command_strict : (w : Setting) (n : Reading) (g : Grips) (r k : ℕ) (c : Command) (x : RunNo) → Free ≡ touch_of w n g r c → Some x ≡ option_map run_no (strict_wait w n r) → Waits (Strict x) ≡ plain_command w n g r k c
+pub command_strict : (w : Setting) (n : Reading) (g : Grips) (r k : ℕ) (c : Command) (x : RunNo) → Free ≡ touch_of w n g r c → Some x ≡ option_map run_no (strict_wait w n r) → Waits (Strict x) ≡ stage_command w n g r k c
 command_strict w n g r k c x touch found = at_ (strict_wait w n r) refl
   where
-    at_ : (o : Option ℕ) → strict_wait w n r ≡ o → Waits (Strict x) ≡ plain_command w n g r k c
+    at_ : (o : Option ℕ) → strict_wait w n r ≡ o → Waits (Strict x) ≡ stage_command w n g r k c
     at_ None e = absurd (let both : Some x ≡ None = found ∙ ap (option_map run_no) e in cc)
     at_ (Some y) e = let free = free_is w n g r c touch in ap (λ o. unwrap_or (option_map (λ z. Waits (Strict z)) o) Absent) (found ∙ ap (option_map run_no) e) ∙ sym (rw (free.behind, free.dirty, e) refl)
 
@@ -118,10 +118,10 @@ not_strict w n r none = at_ (strict_wait w n r) refl
     at_ None e = e
     at_ (Some y) e = absurd (let both : None ≡ Some (run_no y) = none ∙ ap (option_map run_no) e in cc)
 
-pub command_busy : (w : Setting) (n : Reading) (g : Grips) (r k : ℕ) (c : Command) → Free ≡ touch_of w n g r c → None ≡ option_map run_no (strict_wait w n r) → is_out g c.device.0 ≡ true → Waits (Busy c.device) ≡ plain_command w n g r k c
+pub command_busy : (w : Setting) (n : Reading) (g : Grips) (r k : ℕ) (c : Command) → Free ≡ touch_of w n g r c → None ≡ option_map run_no (strict_wait w n r) → is_out g c.device.0 ≡ true → Waits (Busy c.device) ≡ stage_command w n g r k c
 command_busy w n g r k c touch none out = let free = free_is w n g r c touch in sym (rw (free.behind, free.dirty, not_strict w n r none, out) refl)
 
-pub command_goes : (w : Setting) (n : Reading) (g : Grips) (r k : ℕ) (c : Command) → Free ≡ touch_of w n g r c → None ≡ option_map run_no (strict_wait w n r) → is_out g c.device.0 ≡ false → HandsOut c.device.0 (Commands k) ≡ plain_command w n g r k c
+pub command_goes : (w : Setting) (n : Reading) (g : Grips) (r k : ℕ) (c : Command) → Free ≡ touch_of w n g r c → None ≡ option_map run_no (strict_wait w n r) → is_out g c.device.0 ≡ false → HandsOut c.device.0 (Commands k) ≡ stage_command w n g r k c
 command_goes w n g r k c touch none home = let free = free_is w n g r c touch in sym (rw (free.behind, free.dirty, not_strict w n r none, home) refl)
 
 -- what was told of the hub's own parts
@@ -158,13 +158,13 @@ drive_of n without (Some e) d v told = at (n.up e) told
     at true t = (ap (λ x. Some x) (same_device t), same_value t ∙ ap without (same_device t))
     at false t = absurd (cc)
 
-pub doomed_busy : (w : Setting) (n : Reading) (g : Grips) (r : ℕ) (cause : Cause) (d : DeviceNo) (v : ℕ) → Drive d v ≡ undo_of w n g r → is_out g d.0 ≡ true → Waits (Busy d) ≡ plain_doomed w n g r cause
+pub doomed_busy : (w : Setting) (n : Reading) (g : Grips) (r : ℕ) (cause : Cause) (d : DeviceNo) (v : ℕ) → Drive d v ≡ undo_of w n g r → is_out g d.0 ≡ true → Waits (Busy d) ≡ stage_doomed w n g r cause
 doomed_busy w n g r cause d v told out = let next = drive_of n (value_without w n g r) (next_undo_of w n g r) d v told in sym (rw (next.0, out) refl)
 
-pub doomed_goes : (w : Setting) (n : Reading) (g : Grips) (r : ℕ) (cause : Cause) (d : DeviceNo) (v : ℕ) → Drive d v ≡ undo_of w n g r → is_out g d.0 ≡ false → HandsOut d.0 (Undoes v) ≡ plain_doomed w n g r cause
+pub doomed_goes : (w : Setting) (n : Reading) (g : Grips) (r : ℕ) (cause : Cause) (d : DeviceNo) (v : ℕ) → Drive d v ≡ undo_of w n g r → is_out g d.0 ≡ false → HandsOut d.0 (Undoes v) ≡ stage_doomed w n g r cause
 doomed_goes w n g r cause d v told home = let next = drive_of n (value_without w n g r) (next_undo_of w n g r) d v told in ap (λ x. HandsOut d.0 (Undoes x)) next.1 ∙ sym (rw (next.0, home) refl)
 
-pub doomed_ends : (w : Setting) (n : Reading) (g : Grips) (r : ℕ) (cause : Cause) → Finished ≡ undo_of w n g r → aborts r cause ≡ plain_doomed w n g r cause
+pub doomed_ends : (w : Setting) (n : Reading) (g : Grips) (r : ℕ) (cause : Cause) → Finished ≡ undo_of w n g r → aborts r cause ≡ stage_doomed w n g r cause
 doomed_ends w n g r cause told = sym (rw (none (next_undo_of w n g r) told) refl)
   where
     either : (b : Bool) (e : ℕ) → Finished ≡ (if b then Drive (device_no e) (value_without w n g r e) else Drop (device_no e)) → ⊥
@@ -187,45 +187,45 @@ never_dropped w n g r d up told = at (next_undo_of w n g r) refl told
 
 -- The cases of a run
 
-pub case_absent : (w : Setting) (n : Reading) (g : Grips) (r m : ℕ) → is_run w.runs r ≡ false → Absent ≡ plain_choice w n g r m
+pub case_absent : (w : Setting) (n : Reading) (g : Grips) (r m : ℕ) → is_run w.runs r ≡ false → Absent ≡ stage_choice w n g r m
 case_absent w n g r m none = sym (rw none refl)
 
-pub case_over : (w : Setting) (n : Reading) (g : Grips) (r m : ℕ) (e : End) → is_run w.runs r ≡ true → (n.run r).ended ≡ Some e → Over e [] ≡ plain_choice w n g r m
+pub case_over : (w : Setting) (n : Reading) (g : Grips) (r m : ℕ) (e : End) → is_run w.runs r ≡ true → (n.run r).ended ≡ Some e → Over e [] ≡ stage_choice w n g r m
 case_over w n g r m e run ended = sym (rw (run, ended) refl)
 
-pub case_gripped : (w : Setting) (n : Reading) (g : Grips) (r m : ℕ) (d : DeviceNo) → is_run w.runs r ≡ true → (n.run r).ended ≡ None → Some d.0 ≡ grip_wait w g r → Waits (Busy d) ≡ plain_choice w n g r m
+pub case_gripped : (w : Setting) (n : Reading) (g : Grips) (r m : ℕ) (d : DeviceNo) → is_run w.runs r ≡ true → (n.run r).ended ≡ None → Some d.0 ≡ grip_wait w g r → Waits (Busy d) ≡ stage_choice w n g r m
 case_gripped w n g r m d run going grip = sym (rw (run, going, ← grip) refl)
 
-pub case_arrives : (w : Setting) (n : Reading) (g : Grips) (r m : ℕ) → is_run w.runs r ≡ true → (n.run r).ended ≡ None → None ≡ grip_wait w g r → is_none (n.run r).arrived ≡ true → Moves (Arrived (run_no r) m ∷ []) ≡ plain_choice w n g r m
+pub case_arrives : (w : Setting) (n : Reading) (g : Grips) (r m : ℕ) → is_run w.runs r ≡ true → (n.run r).ended ≡ None → None ≡ grip_wait w g r → is_none (n.run r).arrived ≡ true → Moves (Arrived (run_no r) m ∷ []) ≡ stage_choice w n g r m
 case_arrives w n g r m run going free away = sym (rw (run, going, ← free, away) refl)
 
 pub case_joins : (w : Setting) (n : Reading) (g : Grips) (r m : ℕ) → is_run w.runs r ≡ true → (n.run r).ended ≡ None → None ≡ grip_wait w g r → is_none (n.run r).arrived ≡ false → is_none (n.run r).placed ≡ true
-    → Moves (Placed (run_no r) (length n.line) m ∷ []) ≡ plain_choice w n g r m
+    → Moves (Placed (run_no r) (length n.line) m ∷ []) ≡ stage_choice w n g r m
 case_joins w n g r m run going free there outside = sym (rw (run, going, ← free, there, outside) refl)
 
 pub case_commits : (w : Setting) (n : Reading) (g : Grips) (r m : ℕ) → is_run w.runs r ≡ true → (n.run r).ended ≡ None → None ≡ grip_wait w g r → is_none (n.run r).arrived ≡ false → is_none (n.run r).placed ≡ false
-    → (n.run r).doomed ≡ None → None ≡ next_command w n r → Over Committed (Ended (run_no r) Committed ∷ []) ≡ plain_choice w n g r m
+    → (n.run r).doomed ≡ None → None ≡ next_command w n r → Over Committed (Ended (run_no r) Committed ∷ []) ≡ stage_choice w n g r m
 case_commits w n g r m run going free there placed sound none = sym (rw (run, going, ← free, there, placed, sound, ← none) refl)
 
 pub case_doomed : (w : Setting) (n : Reading) (g : Grips) (r m : ℕ) (cause : Cause) (x : Choice) → is_run w.runs r ≡ true → (n.run r).ended ≡ None → None ≡ grip_wait w g r → is_none (n.run r).arrived ≡ false → is_none (n.run r).placed ≡ false
-    → (n.run r).doomed ≡ Some cause → x ≡ plain_doomed w n g r cause → x ≡ plain_choice w n g r m
+    → (n.run r).doomed ≡ Some cause → x ≡ stage_doomed w n g r cause → x ≡ stage_choice w n g r m
 case_doomed w n g r m cause x run going free there placed doomed is = is ∙ sym (rw (run, going, ← free, there, placed, doomed) refl)
 
 pub case_command : (w : Setting) (n : Reading) (g : Grips) (r m : ℕ) (c : Command) (x : Choice) → is_run w.runs r ≡ true → (n.run r).ended ≡ None → None ≡ grip_wait w g r → is_none (n.run r).arrived ≡ false → is_none (n.run r).placed ≡ false
-    → (n.run r).doomed ≡ None → Some c ≡ next_command w n r → x ≡ plain_command w n g r (next_of n r) c → x ≡ plain_choice w n g r m
+    → (n.run r).doomed ≡ None → Some c ≡ next_command w n r → x ≡ stage_command w n g r (next_of n r) c → x ≡ stage_choice w n g r m
 case_command w n g r m c x run going free there placed sound next is = is ∙ sym (rw (run, going, ← free, there, placed, sound, ← next) refl)
 
--- What the type of a hub keeps makes its steps plain
+-- What the type of a hub keeps makes its steps those of this stage
 
-pub plain_hub : {D : Type 0} (stands turns probes faults : D → ℕ) (s t : OpenHub D) → s ≡ t → HubIsKept stands turns probes faults s → StepsPlainly t.setting (read_of (configuration_of t))
-plain_hub {D = D} stands turns probes faults s t same k =
-    subst (λ (x : OpenHub D). StepsPlainly x.setting (read_of (configuration_of x))) same (steps_plainly (configuration_of s) s.rounds s.opened (held_in s) k.configuration)
+pub stage_hub : {D : Type 0} (stands turns probes faults : D → ℕ) (s t : OpenHub D) → s ≡ t → HubIsKept stands turns probes faults s → StageSteps t.setting (read_of (configuration_of t))
+stage_hub {D = D} stands turns probes faults s t same k =
+    subst (λ (x : OpenHub D). StageSteps x.setting (read_of (configuration_of x))) same (stage_steps (configuration_of s) s.rounds s.opened (held_in s) k.configuration)
 
 pub choice_hub : {D : Type 0} (stands turns probes faults : D → ℕ) (s t : OpenHub D) (r m : ℕ) → s ≡ t → HubIsKept stands turns probes faults s
-    → choice_of (configuration_of t) r m ≡ plain_choice t.setting (read_of (configuration_of t)) (configuration_of t).grips r (max t.moment m)
+    → choice_of (configuration_of t) r m ≡ stage_choice t.setting (read_of (configuration_of t)) (configuration_of t).grips r (max t.moment m)
 choice_hub {D = D} stands turns probes faults s t r m same k =
-    subst (λ (x : OpenHub D). choice_of (configuration_of x) r m ≡ plain_choice x.setting (read_of (configuration_of x)) (configuration_of x).grips r (max x.moment m)) same
-    (choice_plain (configuration_of s) s.rounds s.opened (held_in s) r m k.configuration)
+    subst (λ (x : OpenHub D). choice_of (configuration_of x) r m ≡ stage_choice x.setting (read_of (configuration_of x)) (configuration_of x).grips r (max x.moment m)) same
+    (stage_choice_is (configuration_of s) s.rounds s.opened (held_in s) r m k.configuration)
 
 -- The last cases, of a run that is under way, by what is kept of it
 
@@ -241,7 +241,7 @@ hub_commits {D = D} stands turns probes faults s t r m p same k run known going 
     (absent ((read_of (configuration_of s)).run r).placed (ap (λ (x : RunProgress). x.placed) (sym known) ∙ placed))
     (ap (λ (x : RunProgress). x.doomed) (sym known) ∙ sound)
     none
-    ∙ sym (choice_plain (configuration_of s) s.rounds s.opened (held_in s) r m k.configuration)
+    ∙ sym (stage_choice_is (configuration_of s) s.rounds s.opened (held_in s) r m k.configuration)
     ∙ ap (λ (x : OpenHub D). choice_of (configuration_of x) r m) same
   where
     absent : {A : Type 0} (o : Option A) → is_some o ≡ true → is_none o ≡ false
@@ -251,7 +251,7 @@ hub_commits {D = D} stands turns probes faults s t r m p same k run known going 
 pub hub_commands : {D : Type 0} (stands turns probes faults : D → ℕ) (s t : OpenHub D) (r m : ℕ) (p : RunProgress) (c : Command) (x : Choice) → s ≡ t → HubIsKept stands turns probes faults s
     → true ≡ is_run s.setting.runs r → p ≡ progress_of ((read_of (configuration_of s)).run r) → p.ended ≡ None → None ≡ grip_wait t.setting (configuration_of t).grips r
     → is_some p.arrived ≡ true → p.placed ≡ true → p.doomed ≡ None → Some c ≡ next_command s.setting (read_of (configuration_of s)) r
-    → x ≡ plain_command t.setting (read_of (configuration_of t)) (configuration_of t).grips r p.answered c
+    → x ≡ stage_command t.setting (read_of (configuration_of t)) (configuration_of t).grips r p.answered c
     → x ≡ choice_of (configuration_of t) r m
 hub_commands {D = D} stands turns probes faults s t r m p c x same k run known going free there placed sound next is =
     case_command s.setting (read_of (configuration_of s)) (configuration_of s).grips r (max s.moment m) c x (sym run)
@@ -261,8 +261,8 @@ hub_commands {D = D} stands turns probes faults s t r m p c x same k run known g
     (absent ((read_of (configuration_of s)).run r).placed (ap (λ (y : RunProgress). y.placed) (sym known) ∙ placed))
     (ap (λ (y : RunProgress). y.doomed) (sym known) ∙ sound)
     next
-    (is ∙ ap (λ (y : OpenHub D). plain_command y.setting (read_of (configuration_of y)) (configuration_of y).grips r p.answered c) (sym same) ∙ ap (λ (y : RunProgress). plain_command s.setting (read_of (configuration_of s)) (configuration_of s).grips r y.answered c) known)
-    ∙ sym (choice_plain (configuration_of s) s.rounds s.opened (held_in s) r m k.configuration)
+    (is ∙ ap (λ (y : OpenHub D). stage_command y.setting (read_of (configuration_of y)) (configuration_of y).grips r p.answered c) (sym same) ∙ ap (λ (y : RunProgress). stage_command s.setting (read_of (configuration_of s)) (configuration_of s).grips r y.answered c) known)
+    ∙ sym (stage_choice_is (configuration_of s) s.rounds s.opened (held_in s) r m k.configuration)
     ∙ ap (λ (y : OpenHub D). choice_of (configuration_of y) r m) same
   where
     absent : {A : Type 0} (o : Option A) → is_some o ≡ true → is_none o ≡ false
@@ -272,7 +272,7 @@ hub_commands {D = D} stands turns probes faults s t r m p c x same k run known g
 pub hub_dooms : {D : Type 0} (stands turns probes faults : D → ℕ) (s t : OpenHub D) (r m : ℕ) (p : RunProgress) (cause : Cause) (x : Choice) → s ≡ t → HubIsKept stands turns probes faults s
     → true ≡ is_run s.setting.runs r → p ≡ progress_of ((read_of (configuration_of s)).run r) → p.ended ≡ None → None ≡ grip_wait t.setting (configuration_of t).grips r
     → is_some p.arrived ≡ true → p.placed ≡ true → p.doomed ≡ Some cause
-    → x ≡ plain_doomed t.setting (read_of (configuration_of t)) (configuration_of t).grips r cause
+    → x ≡ stage_doomed t.setting (read_of (configuration_of t)) (configuration_of t).grips r cause
     → x ≡ choice_of (configuration_of t) r m
 hub_dooms {D = D} stands turns probes faults s t r m p cause x same k run known going free there placed doomed is =
     case_doomed s.setting (read_of (configuration_of s)) (configuration_of s).grips r (max s.moment m) cause x (sym run)
@@ -281,8 +281,8 @@ hub_dooms {D = D} stands turns probes faults s t r m p cause x same k run known 
     (absent ((read_of (configuration_of s)).run r).arrived (ap (λ (y : RunProgress). is_some y.arrived) (sym known) ∙ there))
     (absent ((read_of (configuration_of s)).run r).placed (ap (λ (y : RunProgress). y.placed) (sym known) ∙ placed))
     (ap (λ (y : RunProgress). y.doomed) (sym known) ∙ doomed)
-    (is ∙ ap (λ (y : OpenHub D). plain_doomed y.setting (read_of (configuration_of y)) (configuration_of y).grips r cause) (sym same))
-    ∙ sym (choice_plain (configuration_of s) s.rounds s.opened (held_in s) r m k.configuration)
+    (is ∙ ap (λ (y : OpenHub D). stage_doomed y.setting (read_of (configuration_of y)) (configuration_of y).grips r cause) (sym same))
+    ∙ sym (stage_choice_is (configuration_of s) s.rounds s.opened (held_in s) r m k.configuration)
     ∙ ap (λ (y : OpenHub D). choice_of (configuration_of y) r m) same
   where
     absent : {A : Type 0} (o : Option A) → is_some o ≡ true → is_none o ≡ false
@@ -299,7 +299,7 @@ hub_is_live {D = D} s t r p same known going placed =
 pub hub_is_up : {D : Type 0} (stands turns probes faults : D → ℕ) (s t : OpenHub D) (d : ℕ) → s ≡ t → HubIsKept stands turns probes faults s → is_device t.setting d ≡ true → (read_of (configuration_of t)).up d ≡ true
 hub_is_up {D = D} stands turns probes faults s t d same k =
     subst (λ (x : OpenHub D). is_device x.setting d ≡ true → (read_of (configuration_of x)).up d ≡ true) same
-    (λ home. (steps_plainly (configuration_of s) s.rounds s.opened (held_in s) k.configuration).up d home)
+    (λ home. (stage_steps (configuration_of s) s.rounds s.opened (held_in s) k.configuration).up d home)
 
 -- A run that ends aborted
 
@@ -311,7 +311,7 @@ pub record IsAborting (s : Configuration) (r : ℕ) (cause : Cause) : Type 0 whe
 
 pub aborting : (s : Configuration) (rounds opened : ℕ) (held : ℕ → ℕ) (r m : ℕ) (cause : Cause) → ConfigurationIsKept s rounds opened held → choice_of s r m ≡ aborts r cause → IsAborting s r cause
 aborting s rounds opened held r m cause kept =
-    plain_is (λ c. c ≡ aborts r cause → IsAborting s r cause) s.setting (read_of s) s.grips r (max s.moment m) (steps_plainly s rounds opened held kept) (record {
+    stage_holds (λ c. c ≡ aborts r cause → IsAborting s r cause) s.setting (read_of s) s.grips r (max s.moment m) (stage_steps s rounds opened held kept) (record {
       absent = λ none is. absurd (cc);
       over = λ e at is. absurd (cc);
       waits = λ why is. absurd (cc);

@@ -11,7 +11,7 @@ use Rattle.home_types.specs.declared.worlds.Stand.{Stand}
 use Rattle.hub_core.proofs.Calls.{no_falls}
 use Rattle.hub_core.proofs.Closings.{ended_committed, legal_window, none_out, quiet_is}
 use Rattle.hub_core.proofs.Sizes.{history_fits}
-use Rattle.hub_core.proofs.StageChoices.{StepsPlainly, steps_plainly}
+use Rattle.hub_core.proofs.StageChoices.{StageSteps, stage_steps}
 use Rattle.hub_core.specs.AccountedCalls.{CallsAreAccounted, tells_call, told_calls}
 use Rattle.hub_core.specs.Agreement.{UpDevicesStand}
 use Rattle.hub_core.specs.ClosedHomes.{HaveRisen, NoneFell, known_stand}
@@ -82,8 +82,8 @@ known_there s d lt = get_or-map known_stand s.devices d no_device nowhere lt
 
 is_up : {D : Type 0} (stands turns probes faults : D → ℕ) (s : OpenHub D) (d : ℕ) → HubIsKept stands turns probes faults s → d < length s.setting.first → (read_of (configuration_of s)).up d ≡ true
 is_up stands turns probes faults s d kept lt =
-    let plainly : StepsPlainly s.setting (read_of (configuration_of s)) = steps_plainly (configuration_of s) s.rounds s.opened (held_in s) kept.configuration in
-    plainly.read.up d ∙ kept.configuration.stage.up d lt
+    let staged : StageSteps s.setting (read_of (configuration_of s)) = stage_steps (configuration_of s) s.rounds s.opened (held_in s) kept.configuration in
+    staged.read.up d ∙ kept.configuration.stage.up d lt
 
 -- a window makes few calls
 few_calls : {D : Type 0} (stands turns probes faults : D → ℕ) (s : OpenHub D) (d : ℕ) → HubIsKept stands turns probes faults s → told_calls s.setting.runs (entries_of s.history) d ≤ 132 * 64
@@ -152,7 +152,7 @@ accounted {D = D} tag stands turns probes faults s devices closed c tells =
       turns_size = tells.turns_rose.size ∙ c.kept.devices_size;
       faults_size = tells.faults_rose.size ∙ c.kept.devices_size;
       turns_of = λ d lt. turns_of d lt (at_place devices d (let same = sizes tag stands turns probes faults s devices c in omega (arith, lt, same)));
-      faults_of = λ d lt. (let none = no_falls (entries_of s.history) d c.kept.configuration.history.plain in omega (arith, none));
+      faults_of = λ d lt. (let none = no_falls (entries_of s.history) d c.kept.configuration.history.stage in omega (arith, none));
     }
   where
     turns_of : (d : ℕ) → d < length s.setting.first → (device : D) × (slice_get devices d ≡ Some device) → slice_index_or closed.turns.items d 0 ≡ told_calls s.setting.runs (entries_of s.history) d

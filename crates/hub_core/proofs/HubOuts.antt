@@ -23,7 +23,7 @@ use Rattle.hub_core.proofs.HubChanges.{few_entries, step_is, task_same, up_first
 use Rattle.hub_core.proofs.HubReads.{get_set}
 use Rattle.hub_core.proofs.HubStates.{carried_set, device_here, device_there, grips_set, known_same}
 use Rattle.hub_core.proofs.Kept.{take_kept}
-use Rattle.hub_core.proofs.StageChoices.{plain_is, steps_plainly}
+use Rattle.hub_core.proofs.StageChoices.{stage_holds, stage_steps}
 use Rattle.hub_core.specs.AccountedCalls.{tells_call, told_calls}
 use Rattle.hub_core.specs.Homes.{CountsAreLow}
 use Rattle.home_types.specs.Kinds.{has_value, kind_at}
@@ -85,8 +85,8 @@ handed_as s r d e p q is out = subst (λ x. IsHandedOut s r e x) (same_purpose d
 
 pub handed_out : (s : Configuration) (rounds opened : ℕ) (held : ℕ → ℕ) (r m d : ℕ) (purpose : Purpose) → ConfigurationIsKept s rounds opened held → choice_of s r m ≡ HandsOut d purpose → IsHandedOut s r d purpose
 handed_out s rounds opened held r m d purpose kept =
-    let plainly = steps_plainly s rounds opened held kept in
-    plain_is (λ c. c ≡ HandsOut d purpose → IsHandedOut s r d purpose) s.setting (read_of s) s.grips r (max s.moment m) plainly (record {
+    let staged = stage_steps s rounds opened held kept in
+    stage_holds (λ c. c ≡ HandsOut d purpose → IsHandedOut s r d purpose) s.setting (read_of s) s.grips r (max s.moment m) staged (record {
       absent = λ none is. absurd (cc);
       over = λ e at is. absurd (cc);
       waits = λ why is. absurd (cc);
@@ -104,7 +104,7 @@ handed_out s rounds opened held r m d purpose kept =
         run = run.act.run;
         live = run.act.live;
         home = home;
-        device = plainly.homed r (next_of (read_of s) r) c run.next;
+        device = staged.homed r (next_of (read_of s) r) c run.next;
         for = record { number = refl; sound = ap is_some run.sound; command = c; next = run.next; on = refl };
       });
       commits = λ all is. absurd (cc);

@@ -35,7 +35,7 @@ use Rattle.hub_core.proofs.HubReads.{get_set, run_place}
 use Rattle.hub_core.proofs.HubStates.{carried_set, device_here, device_there, grips_set, kept_is, known_same, known_set, place_here}
 use Rattle.hub_core.proofs.Kept.{BringsFor, IsOut, give_kept, out_is}
 use Rattle.hub_core.proofs.Sizes.{history_fits}
-use Rattle.hub_core.proofs.StageChoices.{StepsPlainly, steps_plainly}
+use Rattle.hub_core.proofs.StageChoices.{StageSteps, stage_steps}
 use Rattle.hub_core.proofs.Takes.{live_run}
 use Rattle.hub_core.proofs.WrittenValues.{nearest_has}
 use Rattle.hub_core.specs.AccountedCalls.{told_calls}
@@ -123,7 +123,7 @@ for_command stands turns probes faults s slip task known k kept there is for =
       does = does;
       stood = fits.stand (subst (λ x. IsTrue (is_counted_up x)) (sym does) (task_up (kind_at w.kinds (command_at w.runs r k).device.0) (command_at w.runs r k).job (n.run r).register));
       value = subst (λ x. IsTrue (has_value (kind_at w.kinds slip.device.0) (value_after x (held_in s slip.device.0)))) (sym (does ∙ ap (λ d. if reads (command_at w.runs r k).job then Sense else Drive (driven (kind_at w.kinds d) (command_at w.runs r k).job (n.run r).register)) on))
-          (task_value (kind_at w.kinds slip.device.0) (command_at w.runs r k).job (n.run r).register (held_in s slip.device.0) (subst (λ (c : Command). IsTrue (names_values_of (kind_at w.kinds slip.device.0) c.job)) (sym same) named) (kept.values slip.device.0 (device_within w slip.device.0 (subst (λ d. is_device w d ≡ true) out.1.on (plainly.homed r (next_of n r) out.0 out.1.next)))));
+          (task_value (kind_at w.kinds slip.device.0) (command_at w.runs r k).job (n.run r).register (held_in s slip.device.0) (subst (λ (c : Command). IsTrue (names_values_of (kind_at w.kinds slip.device.0) c.job)) (sym same) named) (kept.values slip.device.0 (device_within w slip.device.0 (subst (λ d. is_device w d ≡ true) out.1.on (staged.homed r (next_of n r) out.0 out.1.next)))));
     }
   where
     w : Setting
@@ -135,8 +135,8 @@ for_command stands turns probes faults s slip task known k kept there is for =
     r : ℕ
     r = slip.maker
 
-    plainly : StepsPlainly w n
-    plainly = steps_plainly (configuration_of s) s.rounds s.opened (held_in s) kept.configuration
+    staged : StageSteps w n
+    staged = stage_steps (configuration_of s) s.rounds s.opened (held_in s) kept.configuration
 
     read : IsRead w n
     read = read_facts w (entries_of s.history) kept.configuration.history.well_formed

@@ -26,11 +26,11 @@ use Rattle.hub_core.proofs.Causes.{and_is}
 use Rattle.hub_core.proofs.GiveCauses.{sensed_shows}
 use Rattle.hub_core.proofs.Gives.{command_back_follows, command_is, undo_back_follows}
 use Rattle.hub_core.proofs.HistoryKept.{MayAdd, aborted_may, added, answer_may, arrival_may, commit_may, doom_may, grip_turn, history_added, less_one, placing_may, undo_may}
-use Rattle.hub_core.proofs.StageChoices.{StepsPlainly, never_down, plain_is, steps_plainly, take_all}
+use Rattle.hub_core.proofs.StageChoices.{StageSteps, never_down, stage_holds, stage_steps, take_all}
 use Rattle.hub_core.proofs.Takes.{Follows, live_run, take_follows}
 use Rattle.hub_core.proofs.WrittenValues.{ValuesFit, undo_value, writes_fit}
 use Rattle.hub_core.specs.CleanReads.{answer_is_clean, clean_value, entry_is_clean}
-use Rattle.hub_core.specs.HubKept.{ActsInTurn, ConfigurationIsKept, EachOut, HistoryIsKept, NoneAnsweredDoomed, RunsAreOut, UndosFit, is_of_run, undo_fits}
+use Rattle.hub_core.specs.HubKept.{ActsInTurn, ConfigurationIsKept, EachOut, HistoryIsKept, NoneAnsweredDoomed, StageGrips, UndosFit, is_of_run, undo_fits}
 use Rattle.hub_core.specs.JustifiedAborts.{abort_is_justified, shows}
 use Rattle.hub_core.specs.Openings.{MayOpen, names_values_of}
 use Rattle.hub_core.specs.Stage.{StageAllows}
@@ -52,7 +52,7 @@ use Rattle.window_order.proofs.Steps.{arrives_kept, commits_kept, found_kept, go
 use Rattle.window_order.specs.OrderKept.{OrderIsKept}
 
 -- another history, moment and grips
-kept_after : (s : Configuration) (rounds opened : ℕ) (held after : ℕ → ℕ) (h : List Kept) (m : ℕ) (g : Grips) → HistoryIsKept (record s { history = h; moment = m; grips = g }) → RunsAreOut g → UndosFit s.setting g → OrderIsKept s.setting (reading s.setting (entries_of h)) g after → ConfigurationIsKept s rounds opened held
+kept_after : (s : Configuration) (rounds opened : ℕ) (held after : ℕ → ℕ) (h : List Kept) (m : ℕ) (g : Grips) → HistoryIsKept (record s { history = h; moment = m; grips = g }) → StageGrips g → UndosFit s.setting g → OrderIsKept s.setting (reading s.setting (entries_of h)) g after → ConfigurationIsKept s rounds opened held
     → ConfigurationIsKept (record s { history = h; moment = m; grips = g }) rounds opened after
 kept_after s rounds opened held after h m g history runs undos order kept =
     record {
@@ -73,7 +73,7 @@ history_same s m g later turn first kept =
     record {
       well_formed = kept.well_formed;
       moment = later;
-      plain = kept.plain;
+      stage = kept.stage;
       clean = kept.clean;
       justified = kept.justified;
       places = kept.places;
@@ -92,12 +92,12 @@ kept_at s rounds opened m held kept =
     kept_after s rounds opened held held s.history (max s.moment m) s.grips (history_same s (max s.moment m) s.grips (still_later s m kept.history) kept.history.in_turn kept.history.first kept.history) kept.runs kept.undos kept.order kept
 
 -- one entry more
-kept_with : (s : Configuration) (rounds opened maker m : ℕ) (held after : ℕ → ℕ) (g : Grips) (e : Entry) → MayAdd s e m g → RunsAreOut g → UndosFit s.setting g → OrderIsKept s.setting (entry s.setting (read_of s) e) g after → ConfigurationIsKept s rounds opened held → ConfigurationIsKept (added s maker m g e) rounds opened after
+kept_with : (s : Configuration) (rounds opened maker m : ℕ) (held after : ℕ → ℕ) (g : Grips) (e : Entry) → MayAdd s e m g → StageGrips g → UndosFit s.setting g → OrderIsKept s.setting (entry s.setting (read_of s) e) g after → ConfigurationIsKept s rounds opened held → ConfigurationIsKept (added s maker m g e) rounds opened after
 kept_with s rounds opened maker m held after g e may runs undos order kept =
     kept_after s rounds opened held after (s.history ++ kept_by maker (e ∷ [])) m g (history_added s maker m g e may kept.history) runs undos (subst (λ n. OrderIsKept s.setting n g after) (sym (read_with s maker (e ∷ []))) order) kept
 
 -- two entries more
-kept_with_two : (s : Configuration) (rounds opened maker m : ℕ) (held after : ℕ → ℕ) (g : Grips) (e f : Entry) → MayAdd s e m g → MayAdd (added s maker m g e) f m g → RunsAreOut g → UndosFit s.setting g → OrderIsKept s.setting (entry s.setting (entry s.setting (read_of s) e) f) g after → ConfigurationIsKept s rounds opened held
+kept_with_two : (s : Configuration) (rounds opened maker m : ℕ) (held after : ℕ → ℕ) (g : Grips) (e f : Entry) → MayAdd s e m g → MayAdd (added s maker m g e) f m g → StageGrips g → UndosFit s.setting g → OrderIsKept s.setting (entry s.setting (entry s.setting (read_of s) e) f) g after → ConfigurationIsKept s rounds opened held
     → ConfigurationIsKept (record s { history = s.history ++ kept_by maker (e ∷ f ∷ []); moment = m; grips = g }) rounds opened after
 kept_with_two s rounds opened maker m held after g e f may next runs undos order kept =
     kept_after s rounds opened held after (s.history ++ kept_by maker (e ∷ f ∷ [])) m g
@@ -138,7 +138,7 @@ gripless w n g r d fit run gone = by_grip (g d) refl
     ] refl
 
 -- the end of the line is the scheduler's place
-scheduled_at_end : (w : Setting) (n : Reading) (g : Grips) (r m : ℕ) → StepsPlainly w n → MayBeOut w n g → IsScheduled w n (Placed (run_no r) (length n.line) m)
+scheduled_at_end : (w : Setting) (n : Reading) (g : Grips) (r m : ℕ) → StageSteps w n → MayBeOut w n g → IsScheduled w n (Placed (run_no r) (length n.line) m)
 unfolding split_of
 scheduled_at_end w n g r m p out = (g, out, rw p.scheduler refl, take_all n.line)
 
@@ -156,25 +156,25 @@ first_follows w n e all = grind (arith, common_steps)
 
 pub take_kept : (s : Configuration) (rounds opened : ℕ) (held : ℕ → ℕ) (r m : ℕ) → ConfigurationIsKept s rounds opened held → ConfigurationIsKept (after_take s r m) rounds opened held
 take_kept s rounds opened held r m kept =
-    plain_is (λ c. Follows w n c → ConfigurationIsKept (after_choice (at_moment s m) r c) rounds opened held) w n s.grips r now plainly (record {
+    stage_holds (λ c. Follows w n c → ConfigurationIsKept (after_choice (at_moment s m) r c) rounds opened held) w n s.grips r now staged (record {
       absent = λ none ok. timed;
       over = λ e at ok. subst (λ h. ConfigurationIsKept (record (at_moment s m) { history = h }) rounds opened held) (sym (append-nil s.history)) timed;
       waits = λ why ok. timed;
       arrives = λ run none ok. let follows : may_follow w n (Arrived (run_no r) now) ≡ true = first_follows w n (Arrived (run_no r) now) ok in
           kept_with s rounds opened r now held held s.grips (Arrived (run_no r) now) (arrival_may s r now follows later kept.history) kept.runs kept.undos (arrives_kept w n s.grips held r now read follows kept.order) kept;
       enters = λ run none ok. let follows : may_follow w n (Placed (run_no r) (length n.line) now) ≡ true = first_follows w n (Placed (run_no r) (length n.line) now) ok in
-          kept_with s rounds opened r now held held s.grips (Placed (run_no r) (length n.line) now) (placing_may s r now follows later (scheduled_at_end w n s.grips r now plainly kept.order.grips.runs) none (λ d. gripless w n s.grips r d kept.order.grips run (unplaced (n.run r).placed none)) kept.history) kept.runs kept.undos
+          kept_with s rounds opened r now held held s.grips (Placed (run_no r) (length n.line) now) (placing_may s r now follows later (scheduled_at_end w n s.grips r now staged kept.order.grips.runs) none (λ d. gripless w n s.grips r d kept.order.grips run (unplaced (n.run r).placed none)) kept.history) kept.runs kept.undos
           (placed_kept w n s.grips held r now read follows kept.order) kept;
       aborted = λ cause act doomed over ok. let follows : may_follow w n (Ended (run_no r) (Aborted cause)) ≡ true = first_follows w n (Ended (run_no r) (Aborted cause)) ok in
           kept_with s rounds opened r now held held s.grips (Ended (run_no r) (Aborted cause)) (aborted_may s r now cause follows later kept.history) kept.runs kept.undos (aborts_kept w n s.grips held r cause read follows act.free over kept.order) kept;
       undoes = λ cause d undoing up ok. goes d (Undoes (value_without w n s.grips r d)) refl (undo_value w n s.grips r d (writes_fit w (entries_of s.history) values kept.history.well_formed) (values.first d undoing.device)) refl (in_turn_undone d undoing.act.live undoing.effect)
           (undo_goes_kept w n s.grips held r d read undoing.act.live (ap is_some undoing.doomed) undoing.act.free undoing.next undoing.home up kept.order);
-      goes = λ c run next home ok. let device : is_device w c.device.0 ≡ true = plainly.homed r (next_of n r) c run.next in
+      goes = λ c run next home ok. let device : is_device w c.device.0 ≡ true = staged.homed r (next_of n r) c run.next in
           goes c.device.0 (Commands (next_of n r)) refl refl (ap not (unanswered (n.run r).answered_doomed (n.run r).doomed (read.shaped r).answers_late run.sound)) next.alone
-          (goes_kept w n s.grips held r c read run.act.run run.act.live run.sound run.act.free run.next next.first next.clean home (never_down w n r c.device.0 plainly.read) (plainly.up c.device.0 device) device kept.order);
+          (goes_kept w n s.grips held r c read run.act.run run.act.live run.sound run.act.free run.next next.first next.clean home (never_down w n r c.device.0 staged.read) (staged.up c.device.0 device) device kept.order);
       commits = λ all ok. let follows : may_follow w n (Ended (run_no r) Committed) ≡ true = first_follows w n (Ended (run_no r) Committed) ok in
-          kept_with s rounds opened r now held held s.grips (Ended (run_no r) Committed) (commit_may s r now follows later plainly.up kept.history) kept.runs kept.undos (commits_kept w n s.grips held r read follows all.act.free kept.order) kept;
-    }) (take_follows w n s.grips r now (record { shaped = read.shaped; homed = plainly.homed; moment = grind (arith, common_steps, later) }))
+          kept_with s rounds opened r now held held s.grips (Ended (run_no r) Committed) (commit_may s r now follows later staged.up kept.history) kept.runs kept.undos (commits_kept w n s.grips held r read follows all.act.free kept.order) kept;
+    }) (take_follows w n s.grips r now (record { shaped = read.shaped; homed = staged.homed; moment = grind (arith, common_steps, later) }))
   where
     w : Setting
     w = s.setting
@@ -185,8 +185,8 @@ take_kept s rounds opened held r m kept =
     now : ℕ
     now = max s.moment m
 
-    plainly : StepsPlainly w n
-    plainly = steps_plainly s rounds opened held kept
+    staged : StageSteps w n
+    staged = stage_steps s rounds opened held kept
 
     read : IsRead w n
     read = read_facts w (entries_of s.history) kept.history.well_formed
@@ -323,8 +323,8 @@ command_follows s rounds opened held r k d v told c back brings value kept =
       next = back.known.next;
       first = back.first;
       suited = suited told brings;
-      home = plainly.homed r (next_of n r) c back.known.next;
-      up = plainly.up c.device.0 (plainly.homed r (next_of n r) c back.known.next);
+      home = staged.homed r (next_of n r) c back.known.next;
+      up = staged.up c.device.0 (staged.homed r (next_of n r) c back.known.next);
     }))
   where
     w : Setting
@@ -333,8 +333,8 @@ command_follows s rounds opened held r k d v told c back brings value kept =
     n : Reading
     n = read_of s
 
-    plainly : StepsPlainly w n
-    plainly = steps_plainly s rounds opened held kept
+    staged : StageSteps w n
+    staged = stage_steps s rounds opened held kept
 
     suited : (t : Told) → BringsFor s held r d v (Commands k) t → suits w c (answer_told t) ≡ true
     suited Worked b = ap not (ap (λ (y : Command). reads y.job) (sym back.same) ∙ b.0)
@@ -417,7 +417,7 @@ found_home s rounds opened held r k d m v x out brings value kept = subst (λ h.
     may_answer : may_follow w n answer ≡ true → MayAdd s answer now home
     may_answer follows = answer_may s r k d now (Found x) follows refl clean (still_later s m kept.history) out back.1.alone back.1.known.live kept.history
 
-    runs : RunsAreOut home
+    runs : StageGrips home
     runs = out_less s.grips (λ e q. is_of_run q.purpose) d kept.runs
 
     undos : UndosFit w home
@@ -489,7 +489,7 @@ undone_home s rounds opened held r d m v u out brings kept =
       wrote = grind (arith, common_steps, may);
       first = grind (arith, common_steps, may);
       home = home;
-      up = (steps_plainly s rounds opened held kept).up d home;
+      up = (stage_steps s rounds opened held kept).up d home;
     }))
 
 -- what is kept stays so when a device comes home
@@ -525,7 +525,7 @@ starts w rounds opened' opens stage kinds values =
       history = record {
         well_formed = refl;
         moment = omega arith;
-        plain = refl;
+        stage = refl;
         clean = refl;
         justified = refl;
         places = tt;

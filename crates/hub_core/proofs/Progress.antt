@@ -20,10 +20,10 @@ use Rattle.home_types.specs.declared.modes.Visibility.{Visibility}
 use Rattle.home_types.specs.declared.modes.Visibility.TheVariants.{Eventual, Global, Partitioned, Weak}
 use Rattle.home_types.specs.declared.worlds.Stand.{Stand}
 use Rattle.hub_core.proofs.Sizes.{run_there}
-use Rattle.hub_core.proofs.StageChoices.{StepsPlainly, choice_plain, live_stands, steps_plainly}
+use Rattle.hub_core.proofs.StageChoices.{StageSteps, stage_choice_is, live_stands, stage_steps}
 use Rattle.hub_core.proofs.Takes.{live_run}
 use Rattle.hub_core.specs.HubKept.{ConfigurationIsKept}
-use Rattle.hub_core.specs.Stage.{plain_choice, plain_command, plain_doomed}
+use Rattle.hub_core.specs.Stage.{stage_choice, stage_command, stage_doomed}
 use Rattle.hub_core.specs.Steps.{Absent, Choice, HandsOut, Moves, Over, Waits, aborts, choice_of, first_case, not_quiet, only_if}
 use Rattle.hub_core.specs.declared.refusals.NotQuiet.TheVariants.{StillLive, StillOut}
 use Rattle.hub_core.specs.declared.waits.Why.TheVariants.{Busy}
@@ -94,7 +94,7 @@ home_free w g r home = none (device_numbers w)
     none (d ∷ ds) = ap (λ b. cond b (Some d) (find (has_grip g r) ds)) (ap (λ o. unwrap_or (option_map (λ p. p.maker == r) o) false) (home d)) ∙ none ds
 
 -- a run that is not placed arrives, or is placed
-unplaced_goes : (w : Setting) (n : Reading) (g : Grips) (r m : ℕ) → is_run w.runs r ≡ true → (n.run r).ended ≡ None → grip_wait w g r ≡ None → is_none (n.run r).placed ≡ true → is_wait (plain_choice w n g r m) ≡ false
+unplaced_goes : (w : Setting) (n : Reading) (g : Grips) (r m : ℕ) → is_run w.runs r ≡ true → (n.run r).ended ≡ None → grip_wait w g r ≡ None → is_none (n.run r).placed ≡ true → is_wait (stage_choice w n g r m) ≡ false
 unplaced_goes w n g r m run going free unplaced = rw (run, going, free, unplaced) (elim (is_none (n.run r).arrived) as (λ b. is_wait (unwrap_or (only_if b (Moves (Arrived (run_no r) m ∷ []))) (Moves (Placed (run_no r) (length n.line) m ∷ []))) ≡ false) [ true ↦ refl | false ↦ refl ])
 
 -- a run that stands behind no live run waits for none by its model
@@ -106,7 +106,7 @@ waits_for_none runs kinds first Partitioned scheduler n r none = ap (λ xs. find
 waits_for_none runs kinds first Eventual scheduler n r none = refl
 
 -- a doomed run is undone or ends, with its devices home
-doomed_goes : (w : Setting) (n : Reading) (g : Grips) (r : ℕ) (cause : Cause) → ((d : ℕ) → g d ≡ None) → is_wait (plain_doomed w n g r cause) ≡ false
+doomed_goes : (w : Setting) (n : Reading) (g : Grips) (r : ℕ) (cause : Cause) → ((d : ℕ) → g d ≡ None) → is_wait (stage_doomed w n g r cause) ≡ false
 doomed_goes w n g r cause home = by_next (next_undo_of w n g r)
   where
     while_out : Option ℕ → Option ℕ
@@ -118,7 +118,7 @@ doomed_goes w n g r cause home = by_next (next_undo_of w n g r)
     by_next (Some d) = ap (λ b. is_wait (first_case (option_map (λ e. Waits (Busy (device_no e))) (if b then Some d else None) ∷ Some (HandsOut d (Undoes (value_without w n g r d))) ∷ []) (aborts r cause))) (ap (λ o. is_some o) (home d))
 
 -- a live run that stands behind no live run goes on, with its devices home
-first_goes : (w : Setting) (n : Reading) (g : Grips) (r m : ℕ) → StepsPlainly w n → is_run w.runs r ≡ true → is_none (n.run r).arrived ≡ false → is_live n r ≡ true → live_before n r ≡ [] → ((d : ℕ) → g d ≡ None) → is_wait (plain_choice w n g r m) ≡ false
+first_goes : (w : Setting) (n : Reading) (g : Grips) (r m : ℕ) → StageSteps w n → is_run w.runs r ≡ true → is_none (n.run r).arrived ≡ false → is_live n r ≡ true → live_before n r ≡ [] → ((d : ℕ) → g d ≡ None) → is_wait (stage_choice w n g r m) ≡ false
 first_goes w n g r m p run came live first home = rw (run, going, home_free w g r home, came, placed) (by_doom (n.run r).doomed)
   where
     going : (n.run r).ended ≡ None
@@ -134,7 +134,7 @@ first_goes w n g r m p run came live first home = rw (run, going, home_free w g 
     alone : strict_wait w n r ≡ None
     alone = waits_for_none w.runs w.kinds w.first w.mode.model w.mode.scheduler n r first
 
-    by_next : (o : Option Command) → is_wait (unwrap_or (option_map (plain_command w n g r (next_of n r)) o) (Over Committed (Ended (run_no r) Committed ∷ []))) ≡ false
+    by_next : (o : Option Command) → is_wait (unwrap_or (option_map (stage_command w n g r (next_of n r)) o) (Over Committed (Ended (run_no r) Committed ∷ []))) ≡ false
     by_next None = refl
     by_next (Some c) =
         let behind' : behind_wait w n g r c.device.0 ≡ None = ap (λ xs. find (λ x. holds_device w n g x c.device.0) xs) first in
@@ -149,7 +149,7 @@ first_goes w n g r m p run came live first home = rw (run, going, home_free w g 
         either true = refl
         either false = refl
 
-    by_doom : (o : Option Cause) → is_wait (unwrap_or (option_map (plain_doomed w n g r) o) (unwrap_or (option_map (plain_command w n g r (next_of n r)) (next_command w n r)) (Over Committed (Ended (run_no r) Committed ∷ [])))) ≡ false
+    by_doom : (o : Option Cause) → is_wait (unwrap_or (option_map (stage_doomed w n g r) o) (unwrap_or (option_map (stage_command w n g r (next_of n r)) (next_command w n r)) (Over Committed (Ended (run_no r) Committed ∷ [])))) ≡ false
     by_doom None = by_next (next_command w n r)
     by_doom (Some cause) = doomed_goes w n g r cause home
 
@@ -157,7 +157,7 @@ first_goes w n g r m p run came live first home = rw (run, going, home_free w g 
 pub some_run_moves : (s : Configuration) (rounds opened : ℕ) (held : ℕ → ℕ) (r : ℕ) → ConfigurationIsKept s rounds opened held → ((d : ℕ) → s.grips d ≡ None) → is_run s.setting.runs r ≡ true → ((read_of s).run r).ended ≡ None
     → (q : ℕ) × (is_run s.setting.runs q ≡ true) × (((read_of s).run q).ended ≡ None) × ((m : ℕ) → is_wait (choice_of s q m) ≡ false)
 some_run_moves s rounds opened held r kept home run going = elim (is_none (n.run r).placed) as (λ b. is_none (n.run r).placed ≡ b → (q : ℕ) × (is_run w.runs q ≡ true) × ((n.run q).ended ≡ None) × ((m : ℕ) → is_wait (choice_of s q m) ≡ false)) [
-  | true ↦ (λ unplaced. (r, run, going, λ m. ap is_wait (choice_plain s rounds opened held r m kept) ∙ unplaced_goes w n s.grips r (max s.moment m) run going (home_free w s.grips r home) unplaced))
+  | true ↦ (λ unplaced. (r, run, going, λ m. ap is_wait (stage_choice_is s rounds opened held r m kept) ∙ unplaced_goes w n s.grips r (max s.moment m) run going (home_free w s.grips r home) unplaced))
   | false ↦ (λ placed. from_line (first_live n r n.line (live_stands n r stands (live placed)) (live placed)))
 ] refl
   where
@@ -181,7 +181,7 @@ some_run_moves s rounds opened held r kept home run going = elim (is_none (n.run
         by_place (Some x) e = refl
 
     from_line : (q : ℕ) × IsFirst n n.line q → (q : ℕ) × (is_run w.runs q ≡ true) × ((n.run q).ended ≡ None) × ((m : ℕ) → is_wait (choice_of s q m) ≡ false)
-    from_line at = (q, live_run w n q shaped at.1.live, none_is (n.run q).ended (ends at.1.live), λ m. ap is_wait (choice_plain s rounds opened held q m kept) ∙ first_goes w n s.grips q (max s.moment m) (steps_plainly s rounds opened held kept) (live_run w n q shaped at.1.live) (came (n.run q).arrived ((shaped q).arrived (begun at.1.live))) at.1.live at.1.first home)
+    from_line at = (q, live_run w n q shaped at.1.live, none_is (n.run q).ended (ends at.1.live), λ m. ap is_wait (stage_choice_is s rounds opened held q m kept) ∙ first_goes w n s.grips q (max s.moment m) (stage_steps s rounds opened held kept) (live_run w n q shaped at.1.live) (came (n.run q).arrived ((shaped q).arrived (begun at.1.live))) at.1.live at.1.first home)
       where
         q : ℕ
         q = at.0

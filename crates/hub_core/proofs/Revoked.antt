@@ -23,11 +23,11 @@ find_same : {A : Type 0} (p q : A → Bool) (xs : List A) → ((x : A) → p x �
 find_same p q [] same = refl
 find_same p q (x ∷ xs) same = rw (same x, find_same p q xs same) refl
 
-pub overdue_is_plain : (w : Setting) (n : Reading) (g : Grips) (r d m : ℕ) → overdue_for w n g r d m ≡ overdue_for w n no_grips r d m
-overdue_is_plain w n g r d m = find_same (is_overdue w n g r d m) (is_overdue w n no_grips r d m) (live_before n r) (overdue_any_grips w n g no_grips r d m)
+pub overdue_without_grips : (w : Setting) (n : Reading) (g : Grips) (r d m : ℕ) → overdue_for w n g r d m ≡ overdue_for w n no_grips r d m
+overdue_without_grips w n g r d m = find_same (is_overdue w n g r d m) (is_overdue w n no_grips r d m) (live_before n r) (overdue_any_grips w n g no_grips r d m)
 
 pub revocation_is_shown : (w : Setting) (n : Reading) (g : Grips) (r m x : ℕ) (c : Command) → is_live n r ≡ true → next_command w n r ≡ Some c → overdue_for w n g r c.device.0 m ≡ Some x
     → shows w n x (Revoked (run_no r) c.device (lease_deadline w n x c.device.0) m) ≡ true
 revocation_is_shown w n g r m x c live next found =
-    let plain : overdue_for w n no_grips r c.device.0 m ≡ Some x = sym (overdue_is_plain w n g r c.device.0 m) ∙ found in
-    rw (live, next, plain) (grind (arith, common_steps))
+    let without : overdue_for w n no_grips r c.device.0 m ≡ Some x = sym (overdue_without_grips w n g r c.device.0 m) ∙ found in
+    rw (live, next, without) (grind (arith, common_steps))

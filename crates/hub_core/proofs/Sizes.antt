@@ -13,7 +13,7 @@ use Rattle.history_book.specs.declared.entries.Entry.TheVariants.{Arrived, Did, 
 use Rattle.home_types.specs.Kinds.{kind_at}
 use Rattle.home_types.specs.declared.commands.Answer.{Answer}
 use Rattle.home_types.specs.declared.commands.Command.{Command}
-use Rattle.hub_core.specs.HubKept.{ConfigurationIsKept, is_plain}
+use Rattle.hub_core.specs.HubKept.{ConfigurationIsKept, stage_entry}
 use Rattle.lock_leasing.specs.Configurations.{Configuration, read_of}
 use Rattle.std.proofs.Common.{ap, arith, length-append, refl, subst, sym, ◌∙◌}
 use Rattle.std.proofs.lemmas.Grind.{common_steps}
@@ -124,24 +124,24 @@ undo_more : (on : ℕ → OnDevice) (d devices : ℕ) → not (on d).undid ≡ t
 unfolding undone_of one_if
 undo_more on d devices first less = sum_more (λ e. one_if (on e).undid) _ d devices (λ e other. ap (λ x. one_if x.undid) (put_other on d _ e other)) (ap (λ x. one_if x.undid) (put_same on d _) ∙ sym (ap (λ k. k + 1) (not_yet (on d).undid first))) less
 
-told_step : (w : Setting) (n : Reading) (e : Entry) → is_plain e ≡ true → IsTrue (may_follow w n e) → IsTold w n → IsTold w (entry w n e)
+told_step : (w : Setting) (n : Reading) (e : Entry) → stage_entry e ≡ true → IsTrue (may_follow w n e) → IsTold w n → IsTold w (entry w n e)
 unfolding told_of one_if
-told_step w n (Arrived r m) plain ok told = told_put w n (entry w n (Arrived r m)) r.0 _ refl refl (grind (arith, common_steps)) (let none : one_if (is_some (n.run r.0).arrived) ≡ 0 = none_of (n.run r.0).arrived (grind (arith, common_steps)) in omega (arith, none)) told
-told_step w n (Placed r at m) plain ok told = told_put w n (entry w n (Placed r at m)) r.0 _ refl refl (grind (arith, common_steps)) (let none : one_if (is_some (n.run r.0).placed) ≡ 0 = none_of (n.run r.0).placed (grind (arith, common_steps)) in omega (arith, none)) told
-told_step w n (Did r c a) plain ok told = told_put w n (entry w n (Did r c a)) r.0 _ refl refl (grind (arith, common_steps)) (omega (arith, length-append (n.run r.0).answers (a ∷ []), answer_undoes_none w n r.0 c a (length w.first))) told
-told_step w n (Undid r d drove) plain ok told = told_put w n (entry w n (Undid r d drove)) r.0 _ refl refl (grind (arith, common_steps)) (omega (arith, undo_more (n.run r.0).on d.0 (length w.first) (grind (arith, common_steps)) (below d.0 (length w.first) (grind (arith, common_steps))))) told
+told_step w n (Arrived r m) staged ok told = told_put w n (entry w n (Arrived r m)) r.0 _ refl refl (grind (arith, common_steps)) (let none : one_if (is_some (n.run r.0).arrived) ≡ 0 = none_of (n.run r.0).arrived (grind (arith, common_steps)) in omega (arith, none)) told
+told_step w n (Placed r at m) staged ok told = told_put w n (entry w n (Placed r at m)) r.0 _ refl refl (grind (arith, common_steps)) (let none : one_if (is_some (n.run r.0).placed) ≡ 0 = none_of (n.run r.0).placed (grind (arith, common_steps)) in omega (arith, none)) told
+told_step w n (Did r c a) staged ok told = told_put w n (entry w n (Did r c a)) r.0 _ refl refl (grind (arith, common_steps)) (omega (arith, length-append (n.run r.0).answers (a ∷ []), answer_undoes_none w n r.0 c a (length w.first))) told
+told_step w n (Undid r d drove) staged ok told = told_put w n (entry w n (Undid r d drove)) r.0 _ refl refl (grind (arith, common_steps)) (omega (arith, undo_more (n.run r.0).on d.0 (length w.first) (grind (arith, common_steps)) (below d.0 (length w.first) (grind (arith, common_steps))))) told
   where
     below : (a b : ℕ) → nat_lt a b ≡ true → a < b
     below a b e = grind (arith, common_steps)
-told_step w n (Fell d) plain ok told = absurd (cc)
-told_step w n (Rose d) plain ok told = absurd (cc)
-told_step w n (Doomed r cause) plain ok told = told_put w n (entry w n (Doomed r cause)) r.0 _ refl refl (grind (arith, common_steps)) (let none : one_if (is_some (n.run r.0).doomed) ≡ 0 = not_yet (is_some (n.run r.0).doomed) (grind (arith, common_steps)) in omega (arith, none)) told
-told_step w n (Ended r Committed) plain ok told = told_put w n (entry w n (Ended r Committed)) r.0 _ refl refl (grind (arith, common_steps)) (let none : one_if (is_some (n.run r.0).ended) ≡ 0 = none_of (n.run r.0).ended (grind (arith, common_steps)) in omega (arith, none)) told
-told_step w n (Ended r (Aborted cause)) plain ok told = told_put w n (entry w n (Ended r (Aborted cause))) r.0 _ refl refl (grind (arith, common_steps)) (let none : one_if (is_some (n.run r.0).ended) ≡ 0 = none_of (n.run r.0).ended (grind (arith, common_steps)) in omega (arith, none)) told
+told_step w n (Fell d) staged ok told = absurd (cc)
+told_step w n (Rose d) staged ok told = absurd (cc)
+told_step w n (Doomed r cause) staged ok told = told_put w n (entry w n (Doomed r cause)) r.0 _ refl refl (grind (arith, common_steps)) (let none : one_if (is_some (n.run r.0).doomed) ≡ 0 = not_yet (is_some (n.run r.0).doomed) (grind (arith, common_steps)) in omega (arith, none)) told
+told_step w n (Ended r Committed) staged ok told = told_put w n (entry w n (Ended r Committed)) r.0 _ refl refl (grind (arith, common_steps)) (let none : one_if (is_some (n.run r.0).ended) ≡ 0 = none_of (n.run r.0).ended (grind (arith, common_steps)) in omega (arith, none)) told
+told_step w n (Ended r (Aborted cause)) staged ok told = told_put w n (entry w n (Ended r (Aborted cause))) r.0 _ refl refl (grind (arith, common_steps)) (let none : one_if (is_some (n.run r.0).ended) ≡ 0 = none_of (n.run r.0).ended (grind (arith, common_steps)) in omega (arith, none)) told
 
-told_from : (w : Setting) (n : Reading) (h : List Entry) → IsTold w n → IsTrue (list_all is_plain h) → IsTrue (along w (may_follow w) n h) → IsTold w (fold (entry w) n h)
-told_from w n [] told plain ok = told
-told_from w n (e ∷ h) told plain ok = told_from w (entry w n e) h (told_step w n e (grind (arith, common_steps)) (grind (arith, common_steps)) told) (grind (arith, common_steps)) (grind (arith, common_steps))
+told_from : (w : Setting) (n : Reading) (h : List Entry) → IsTold w n → IsTrue (list_all stage_entry h) → IsTrue (along w (may_follow w) n h) → IsTold w (fold (entry w) n h)
+told_from w n [] told staged ok = told
+told_from w n (e ∷ h) told staged ok = told_from w (entry w n e) h (told_step w n e (grind (arith, common_steps)) (grind (arith, common_steps)) told) (grind (arith, common_steps)) (grind (arith, common_steps))
 
 told_start : (w : Setting) → IsTold w (nothing_read w)
 unfolding sum_below told_of undone_of one_if
@@ -220,7 +220,7 @@ length_map f (x ∷ xs) = ap suc (length_map f xs)
 pub history_fits : (s : Configuration) (rounds opened : ℕ) (held : ℕ → ℕ) → ConfigurationIsKept s rounds opened held → length s.history ≤ 132 * length s.setting.runs
 history_fits s rounds opened held kept =
     let size : (read_of s).size ≡ length (entries_of s.history) = size_is s.setting (entries_of s.history) in
-    let told : (read_of s).size ≡ sum_below (λ i. told_of (length s.setting.first) ((read_of s).run (suc i))) (length s.setting.runs) = told_from s.setting (nothing_read s.setting) (entries_of s.history) (told_start s.setting) kept.history.plain kept.history.well_formed in
+    let told : (read_of s).size ≡ sum_below (λ i. told_of (length s.setting.first) ((read_of s).run (suc i))) (length s.setting.runs) = told_from s.setting (nothing_read s.setting) (entries_of s.history) (told_start s.setting) kept.history.stage kept.history.well_formed in
     let fits : sum_below (λ i. told_of (length s.setting.first) ((read_of s).run (suc i))) (length s.setting.runs) ≤ length s.setting.runs * 132 = sum_fits (λ i. told_of (length s.setting.first) ((read_of s).run (suc i))) (length s.setting.runs) 132 (λ i. told_fits s.setting (read_of s) (suc i) (shapes s.setting (entries_of s.history) kept.history.well_formed) (kept.opens.few_commands (suc i))) in
     let same : length (entries_of s.history) ≡ length s.history = length_map (λ k. k.entry) s.history in
     omega (arith, size, told, fits, same)

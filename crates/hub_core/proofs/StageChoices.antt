@@ -20,10 +20,10 @@ use Rattle.home_types.specs.declared.modes.Scheduler.{Scheduler}
 use Rattle.home_types.specs.declared.modes.Visibility.{Visibility}
 use Rattle.home_types.specs.declared.modes.Visibility.TheVariants.{Eventual, Global, Partitioned, Weak}
 use Rattle.hub_core.proofs.Choices.{Acts, Answered, Commanding, IsNext, Undoing, decide_is}
-use Rattle.hub_core.proofs.StageFacts.{ReadsPlainly, reads_plainly}
+use Rattle.hub_core.proofs.StageFacts.{StageReads, stage_reads}
 use Rattle.hub_core.specs.HubKept.{ConfigurationIsKept, is_later, placed_in_order}
 use Rattle.hub_core.specs.Openings.{names_values_of}
-use Rattle.hub_core.specs.Stage.{plain_choice, plain_command, plain_doomed}
+use Rattle.hub_core.specs.Stage.{stage_choice, stage_command, stage_doomed}
 use Rattle.hub_core.specs.Steps.{Absent, Choice, HandsOut, Moves, Over, Waits, aborts, answers_down, behind_case, busy_case, choice_of, command_cases, decide, decide_answered, decide_arrived, decide_command, decide_doomed, dirty_case, down_case, down_entries, first_case, only_if, strict_case, undo_cases, undo_on}
 use Rattle.hub_core.specs.declared.waits.Why.{Why}
 use Rattle.hub_core.specs.declared.waits.Why.TheVariants.{Busy}
@@ -47,19 +47,19 @@ same_map : {A : Type 0} {B : Type 0} (f h : B → A) (o : Option B) (s t : A) �
 same_map f h None s t some none = none refl
 same_map f h (Some y) s t some none = some y refl
 
--- what makes a step plain
-pub record StepsPlainly (w : Setting) (n : Reading) : Type 0 where
+-- what makes a step one of this stage
+pub record StageSteps (w : Setting) (n : Reading) : Type 0 where
   pub strong : is_weak w.mode ≡ false
   pub scheduler : scheduler_of w.mode ≡ Fcfs
   pub follows_none : (r : ℕ) → followed_by w.runs r ≡ None
   pub homed : (r k : ℕ) (c : Command) → slice_get (commands_of w.runs r) k ≡ Some c → is_device w c.device.0 ≡ true
   pub up : (d : ℕ) → is_device w d ≡ true → n.up d ≡ true
-  pub read : ReadsPlainly w n
+  pub read : StageReads w n
   pub in_order : IsTrue (placed_in_order n n.line)
   pub standing : (r : ℕ) → is_live n r ≡ true → list_any (is_ran r) n.line ≡ true
 
 -- no run sees a device down
-pub never_down : (w : Setting) (n : Reading) (r d : ℕ) → ReadsPlainly w n → sees_down n r d ≡ false
+pub never_down : (w : Setting) (n : Reading) (r d : ℕ) → StageReads w n → sees_down n r d ≡ false
 never_down w n r d p = up_view ((n.run r).on d).view (p.views r d)
   where
     up_view : (v : Option Bool) → unwrap_or v true ≡ true → unwrap_or (option_map not v) false ≡ false
@@ -107,7 +107,7 @@ placed_before n r (Failed d k ∷ is) ordered there = subst (λ l. Each (λ q. n
 placed_before n r (Back d k ∷ is) ordered there = subst (λ l. Each (λ q. nat_lt (stamp_of n q) (stamp_of n r) ≡ true) (live_runs n l)) (sym (take_while-cons (λ i. not (is_ran r i)) (Back d k) is)) (placed_before n r is (grind (arith, common_steps)) there)
 
 -- so no lease is overdue
-pub never_overdue : (w : Setting) (n : Reading) (g : Grips) (r d m : ℕ) → StepsPlainly w n → is_live n r ≡ true → overdue_for w n g r d m ≡ None
+pub never_overdue : (w : Setting) (n : Reading) (g : Grips) (r d m : ℕ) → StageSteps w n → is_live n r ≡ true → overdue_for w n g r d m ≡ None
 never_overdue w n g r d m p live = find_none (is_overdue w n g r d m) (live_before n r) (each_is (λ x. nat_lt (stamp_of n x) (stamp_of n r) ≡ true) (λ x. is_overdue w n g r d m x ≡ false) (live_before n r) (λ x before'. not_overdue x before') (placed_before n r n.line p.in_order (p.standing r live)))
   where
     not_overdue : (x : ℕ) → nat_lt (stamp_of n x) (stamp_of n r) ≡ true → is_overdue w n g r d m x ≡ false
@@ -115,14 +115,14 @@ never_overdue w n g r d m p live = find_none (is_overdue w n g r d m) (live_befo
 
 -- The cases
 
-busy_is : (w : Setting) (n : Reading) (g : Grips) (r d : ℕ) → StepsPlainly w n → busy_wait w n g r d ≡ is_out g d
+busy_is : (w : Setting) (n : Reading) (g : Grips) (r d : ℕ) → StageSteps w n → busy_wait w n g r d ≡ is_out g d
 busy_is w n g r d p = rw (p.strong, never_down w n r d p.read) refl
 
-answers_up : (w : Setting) (n : Reading) (r d : ℕ) → StepsPlainly w n → is_device w d ≡ true → answers_down w n r d ≡ false
+answers_up : (w : Setting) (n : Reading) (r d : ℕ) → StageSteps w n → is_device w d ≡ true → answers_down w n r d ≡ false
 answers_up w n r d p home = rw (p.strong, never_down w n r d p.read, p.up d home) refl
 
 -- no device that a run needs up is down at its end
-pub ends_up : (w : Setting) (n : Reading) (g : Grips) (r : ℕ) → StepsPlainly w n → down_at_end w n g r ≡ None
+pub ends_up : (w : Setting) (n : Reading) (g : Grips) (r : ℕ) → StageSteps w n → down_at_end w n g r ≡ None
 ends_up w n g r p = ap (λ o. if is_strict w.mode then o else None) (find_none (λ d. has_touched n g r d && not (n.up d)) (devices_of w r) (each_is (λ d. (is_device w d ≡ true) × (touches w.runs r d ≡ true)) (λ d. (has_touched n g r d && not (n.up d)) ≡ false) (devices_of w r) (λ d home. ap (λ b. has_touched n g r d && not b) (p.up d home.0) ∙ and_false (has_touched n g r d)) (own_devices w r))) ∙ either (is_strict w.mode)
   where
     and_false : (b : Bool) → (b && false) ≡ false
@@ -140,10 +140,10 @@ pub take_all : (line : List Item) → length (take (length line) line) ≡ lengt
 take_all [] = refl
 take_all (i ∷ is) = ap suc (take_all is)
 
-place_is : (w : Setting) (n : Reading) (g : Grips) (r m : ℕ) → StepsPlainly w n → decide_arrived w n g r m ≡ Moves (Placed (run_no r) (length n.line) m ∷ [])
+place_is : (w : Setting) (n : Reading) (g : Grips) (r m : ℕ) → StageSteps w n → decide_arrived w n g r m ≡ Moves (Placed (run_no r) (length n.line) m ∷ [])
 place_is w n g r m p = rw (no_leader w n r (p.follows_none r), p.scheduler) (ap (λ k. Moves (Placed (run_no r) k m ∷ [])) (take_all n.line))
 
-command_is : (w : Setting) (n : Reading) (g : Grips) (r m k : ℕ) (c : Command) → StepsPlainly w n → is_live n r ≡ true → is_device w c.device.0 ≡ true → decide_command w n g r m k c ≡ plain_command w n g r k c
+command_is : (w : Setting) (n : Reading) (g : Grips) (r m k : ℕ) (c : Command) → StageSteps w n → is_live n r ≡ true → is_device w c.device.0 ≡ true → decide_command w n g r m k c ≡ stage_command w n g r k c
 command_is w n g r m k c p live home =
     ap (λ b. first_case (command_cases b w n g r m k c) out) p.strong
     ∙ ap (λ o. first_case (option_map (λ x. Moves (Doomed (run_no x) (Revoked (run_no r) c.device (lease_deadline w n x c.device.0) m) ∷ [])) o ∷ behind_case w n g r c ∷ dirty_case w n g r c ∷ strict_case w n r ∷ busy_case w n g r c ∷ down_case w n r k c ∷ []) out) (never_overdue w n g r c.device.0 m p live)
@@ -154,31 +154,31 @@ command_is w n g r m k c p live home =
     out = HandsOut c.device.0 (Commands k)
 
 -- an undo drives
-undo_is : (w : Setting) (n : Reading) (g : Grips) (r d : ℕ) → StepsPlainly w n → next_undo_of w n g r ≡ Some d → undo_on w n g r d ≡ HandsOut d (Undoes (value_without w n g r d))
+undo_is : (w : Setting) (n : Reading) (g : Grips) (r d : ℕ) → StageSteps w n → next_undo_of w n g r ≡ Some d → undo_on w n g r d ≡ HandsOut d (Undoes (value_without w n g r d))
 undo_is w n g r d p at = ap (λ b. if b then HandsOut d (Undoes (value_without w n g r d)) else Moves (Undid (run_no r) (device_no d) false ∷ [])) (p.up d device)
   where
     device : is_device w d ≡ true
     device = (each_found (λ x. (is_device w x ≡ true) × (touches w.runs r x ≡ true)) (has_effect n g r) (devices_of w r) d (own_devices w r) at).0.0
 
-doomed_is : (w : Setting) (n : Reading) (g : Grips) (r : ℕ) (cause : Cause) → StepsPlainly w n → decide_doomed w n g r cause ≡ plain_doomed w n g r cause
+doomed_is : (w : Setting) (n : Reading) (g : Grips) (r : ℕ) (cause : Cause) → StageSteps w n → decide_doomed w n g r cause ≡ stage_doomed w n g r cause
 doomed_is w n g r cause p =
     ap (λ b. first_case (if b then [] else undo_cases w n g r) (aborts r cause)) p.strong
     ∙ same_map (λ d. Waits (Busy (device_no d))) (λ d. Waits (Busy (device_no d))) (undo_wait w n g r) _ _ (λ d at. refl)
     (λ free. same_map (undo_on w n g r) (λ d. HandsOut d (Undoes (value_without w n g r d))) (next_undo_of w n g r) (aborts r cause) (aborts r cause) (λ d at. undo_is w n g r d p at) (λ over. refl))
 
-end_is : (w : Setting) (n : Reading) (g : Grips) (r : ℕ) → StepsPlainly w n → decide_answered w n g r ≡ Over Committed (Ended (run_no r) Committed ∷ [])
+end_is : (w : Setting) (n : Reading) (g : Grips) (r : ℕ) → StageSteps w n → decide_answered w n g r ≡ Over Committed (Ended (run_no r) Committed ∷ [])
 end_is w n g r p = ap (λ o. unwrap_or (option_map (λ d. Moves (Doomed (run_no r) (DownAtEnd (device_no d)) ∷ [])) o) (Over Committed (Ended (run_no r) Committed ∷ []))) (ends_up w n g r p)
 
 -- in this stage the step of a run is one of the cases that are left
-pub decide_plain : (w : Setting) (n : Reading) (g : Grips) (r m : ℕ) → StepsPlainly w n → decide w n g r m ≡ plain_choice w n g r m
-decide_plain w n g r m p =
+pub stage_decides : (w : Setting) (n : Reading) (g : Grips) (r m : ℕ) → StageSteps w n → decide w n g r m ≡ stage_choice w n g r m
+stage_decides w n g r m p =
     same_test (not (is_run w.runs r)) Absent _ _ (λ run.
     same_map (λ e. Over e []) (λ e. Over e []) (n.run r).ended _ _ (λ e at. refl) (λ going.
     same_map (λ d. Waits (Busy (device_no d))) (λ d. Waits (Busy (device_no d))) (grip_wait w g r) _ _ (λ d at. refl) (λ free.
     same_test (is_none (n.run r).arrived) (Moves (Arrived (run_no r) m ∷ [])) _ _ (λ came.
     ap (λ c. unwrap_or (only_if (is_none (n.run r).placed) c) (first_case (option_map (decide_doomed w n g r) (n.run r).doomed ∷ option_map (decide_command w n g r m (next_of n r)) (next_command w n r) ∷ []) (decide_answered w n g r))) (place_is w n g r m p) ∙ same_test (is_none (n.run r).placed) (Moves (Placed (run_no r) (length n.line) m ∷ [])) _ _ (λ placed.
-    same_map (decide_doomed w n g r) (plain_doomed w n g r) (n.run r).doomed _ _ (λ cause at. doomed_is w n g r cause p) (λ sound.
-    same_map (decide_command w n g r m (next_of n r)) (plain_command w n g r (next_of n r)) (next_command w n r) _ _ (λ c at. command_is w n g r m (next_of n r) c p (live going placed) (p.homed r (next_of n r) c at)) (λ none. end_is w n g r p)))))))
+    same_map (decide_doomed w n g r) (stage_doomed w n g r) (n.run r).doomed _ _ (λ cause at. doomed_is w n g r cause p) (λ sound.
+    same_map (decide_command w n g r m (next_of n r)) (stage_command w n g r (next_of n r)) (next_command w n r) _ _ (λ c at. command_is w n g r m (next_of n r) c p (live going placed) (p.homed r (next_of n r) c at)) (λ none. end_is w n g r p)))))))
   where
     live : (n.run r).ended ≡ None → is_none (n.run r).placed ≡ false → is_live n r ≡ true
     live going placed = grind (arith, common_steps)
@@ -201,8 +201,8 @@ first_served Global scheduler e = refl
 first_served Partitioned scheduler e = refl
 first_served Eventual scheduler e = e
 
-pub steps_plainly : (s : Configuration) (rounds opened : ℕ) (held : ℕ → ℕ) → ConfigurationIsKept s rounds opened held → StepsPlainly s.setting (read_of s)
-steps_plainly s rounds opened held kept =
+pub stage_steps : (s : Configuration) (rounds opened : ℕ) (held : ℕ → ℕ) → ConfigurationIsKept s rounds opened held → StageSteps s.setting (read_of s)
+stage_steps s rounds opened held kept =
     record {
       strong = kept.stage.strong;
       scheduler = first_served s.setting.mode.model s.setting.mode.scheduler kept.stage.scheduler;
@@ -214,16 +214,16 @@ steps_plainly s rounds opened held kept =
       standing = λ r live. live_stands (read_of s) r (standing s.setting (entries_of s.history) kept.history.well_formed) live;
     }
   where
-    read : ReadsPlainly s.setting (read_of s)
-    read = reads_plainly s.setting (entries_of s.history) kept.history.plain
+    read : StageReads s.setting (read_of s)
+    read = stage_reads s.setting (entries_of s.history) kept.history.stage
 
 -- .. steps so
-pub choice_plain : (s : Configuration) (rounds opened : ℕ) (held : ℕ → ℕ) (r m : ℕ) → ConfigurationIsKept s rounds opened held → choice_of s r m ≡ plain_choice s.setting (read_of s) s.grips r (max s.moment m)
-choice_plain s rounds opened held r m kept = decide_plain s.setting (read_of s) s.grips r (max s.moment m) (steps_plainly s rounds opened held kept)
+pub stage_choice_is : (s : Configuration) (rounds opened : ℕ) (held : ℕ → ℕ) (r m : ℕ) → ConfigurationIsKept s rounds opened held → choice_of s r m ≡ stage_choice s.setting (read_of s) s.grips r (max s.moment m)
+stage_choice_is s rounds opened held r m kept = stage_decides s.setting (read_of s) s.grips r (max s.moment m) (stage_steps s rounds opened held kept)
 
 -- What holds of each thing that a run's step may do in this stage holds of the step
 
-pub record HoldsOfPlain (P : Choice → Type 0) (w : Setting) (n : Reading) (g : Grips) (r m : ℕ) : Type 0 where
+pub record HoldsOfStage (P : Choice → Type 0) (w : Setting) (n : Reading) (g : Grips) (r m : ℕ) : Type 0 where
   pub absent : is_run w.runs r ≡ false → P Absent
   pub over : (e : End) → (n.run r).ended ≡ Some e → P (Over e [])
   pub waits : (why : Why) → P (Waits why)
@@ -234,8 +234,8 @@ pub record HoldsOfPlain (P : Choice → Type 0) (w : Setting) (n : Reading) (g :
   pub goes : (c : Command) → Commanding w n g r c → IsNext w n g r m c → is_out g c.device.0 ≡ false → P (HandsOut c.device.0 (Commands (next_of n r)))
   pub commits : Answered w n g r → P (Over Committed (Ended (run_no r) Committed ∷ []))
 
-pub plain_is : (P : Choice → Type 0) (w : Setting) (n : Reading) (g : Grips) (r m : ℕ) → StepsPlainly w n → HoldsOfPlain P w n g r m → P (decide w n g r m)
-plain_is P w n g r m p each =
+pub stage_holds : (P : Choice → Type 0) (w : Setting) (n : Reading) (g : Grips) (r m : ℕ) → StageSteps w n → HoldsOfStage P w n g r m → P (decide w n g r m)
+stage_holds P w n g r m p each =
     decide_is P w n g r m (record {
       absent = each.absent;
       over = each.over;

@@ -1,4 +1,4 @@
--- What a plain history says: no device is down, no run sees one down, and a run is doomed by a must `check` alone.
+-- What a history of this stage says: no device is down, no run sees one down, and a run is doomed by a must `check` alone.
 use Rattle.command_rules.specs.Rosters.{command_at, run_no, touches_from}
 use Rattle.history_book.proofs.Lines.{any_insert}
 use Rattle.history_book.proofs.Shapes.{put_all}
@@ -24,7 +24,7 @@ use Rattle.home_types.specs.declared.commands.Command.{Command}
 use Rattle.home_types.specs.declared.items.Item.{Item}
 use Rattle.home_types.specs.declared.items.Item.TheVariants.{Back, Failed, Ran}
 use Rattle.home_types.specs.declared.kinds.Kind.{Kind}
-use Rattle.hub_core.specs.HubKept.{is_plain}
+use Rattle.hub_core.specs.HubKept.{stage_entry}
 use Rattle.hub_core.specs.JustifiedAborts.{IsJustified, abort_is_justified, has_answer}
 use Rattle.std.proofs.Common.{ap, append-nil, arith, refl, ◌∙◌}
 use Rattle.std.proofs.lemmas.Grind.{common_steps}
@@ -42,7 +42,7 @@ abbrev pub is_event_item : Item → Bool
 is_event_item i = not (of_run (λ r. true) i)
 
 -- each device is counted up as at the start, no event stands in the line or in a log, and no run sees a device down
-pub record ReadsPlainly (w : Setting) (n : Reading) : Type 0 where
+pub record StageReads (w : Setting) (n : Reading) : Type 0 where
   pub up : (d : ℕ) → n.up d ≡ (stand_at w.first d).up
   pub fell : (d : ℕ) → n.fell d ≡ 0
   pub rose : (d : ℕ) → n.rose d ≡ 0
@@ -50,12 +50,12 @@ pub record ReadsPlainly (w : Setting) (n : Reading) : Type 0 where
   pub log : (d : ℕ) → events_of (n.log d) ≡ []
   pub views : (r : ℕ) → SeesNoneDown (n.run r)
 
-plain_unread : (w : Setting) → ReadsPlainly w (nothing_read w)
-plain_unread w = record { up = λ d. refl; fell = λ d. refl; rose = λ d. refl; line = refl; log = λ d. refl; views = λ r d. refl }
+stage_unread : (w : Setting) → StageReads w (nothing_read w)
+stage_unread w = record { up = λ d. refl; fell = λ d. refl; rose = λ d. refl; line = refl; log = λ d. refl; views = λ r d. refl }
 
 -- something more of one run
-plain_put : (w : Setting) (n m : Reading) (r : ℕ) (o : OfRun) → m.up ≡ n.up → m.fell ≡ n.fell → m.rose ≡ n.rose → list_any is_event_item m.line ≡ list_any is_event_item n.line → ((d : ℕ) → events_of (m.log d) ≡ events_of (n.log d)) → m.run ≡ put n.run r o → SeesNoneDown o → ReadsPlainly w n → ReadsPlainly w m
-plain_put w n m r o up fell rose line log run new p =
+stage_put : (w : Setting) (n m : Reading) (r : ℕ) (o : OfRun) → m.up ≡ n.up → m.fell ≡ n.fell → m.rose ≡ n.rose → list_any is_event_item m.line ≡ list_any is_event_item n.line → ((d : ℕ) → events_of (m.log d) ≡ events_of (n.log d)) → m.run ≡ put n.run r o → SeesNoneDown o → StageReads w n → StageReads w m
+stage_put w n m r o up fell rose line log run new p =
     record {
       up = λ d. ap (λ f. f d) up ∙ p.up d;
       fell = λ d. ap (λ f. f d) fell ∙ p.fell d;
@@ -81,14 +81,14 @@ no_event : (b : Bool) (m : Mark) (ms : List Mark) → events_of (m ∷ []) ≡ [
 no_event true m ms none = events_append ms (m ∷ []) ∙ ap (λ x. events_of ms ++ x) none ∙ append-nil (events_of ms)
 no_event false m ms none = refl
 
-plain_placed : (w : Setting) (n : Reading) (r at m : ℕ) → ReadsPlainly w n → ReadsPlainly w (entry w n (Placed (run_no r) at m))
-plain_placed w n r at m p = plain_put w n (entry w n (Placed (run_no r) at m)) r _ refl refl refl line (λ d. refl) refl (p.views r) p
+stage_placed : (w : Setting) (n : Reading) (r at m : ℕ) → StageReads w n → StageReads w (entry w n (Placed (run_no r) at m))
+stage_placed w n r at m p = stage_put w n (entry w n (Placed (run_no r) at m)) r _ refl refl refl line (λ d. refl) refl (p.views r) p
   where
     line : list_any is_event_item ((split_of w n r at m).front ++ Ran (run_no r) ∷ (split_of w n r at m).back) ≡ list_any is_event_item n.line
     line = any_insert is_event_item (split_of w n r at m).front (split_of w n r at m).back (Ran (run_no r)) ∙ split_any w n r at m is_event_item
 
-plain_did : (w : Setting) (n : Reading) (r k : ℕ) (a : Answer) → view_by a ≡ Some true → ReadsPlainly w n → ReadsPlainly w (entry w n (Did (run_no r) k a))
-plain_did w n r k a up p = plain_put w n (entry w n (Did (run_no r) k a)) r _ refl refl refl refl log refl (λ d. put_all (λ e x. unwrap_or x.view true ≡ true) (n.run r).on c.device.0 _ (p.views r) (view_up (kind_at w.kinds c.device.0) c (is_some (n.run r).doomed) (n.run r).register a ((n.run r).on c.device.0) up (p.views r c.device.0)) d) p
+stage_did : (w : Setting) (n : Reading) (r k : ℕ) (a : Answer) → view_by a ≡ Some true → StageReads w n → StageReads w (entry w n (Did (run_no r) k a))
+stage_did w n r k a up p = stage_put w n (entry w n (Did (run_no r) k a)) r _ refl refl refl refl log refl (λ d. put_all (λ e x. unwrap_or x.view true ≡ true) (n.run r).on c.device.0 _ (p.views r) (view_up (kind_at w.kinds c.device.0) c (is_some (n.run r).doomed) (n.run r).register a ((n.run r).on c.device.0) up (p.views r c.device.0)) d) p
   where
     c : Command
     c = command_at w.runs r k
@@ -102,34 +102,34 @@ plain_did w n r k a up p = plain_put w n (entry w n (Did (run_no r) k a)) r _ re
         ended : Bool
         ended = not (touches_from w.runs r c.device.0 (k + 1))
 
-plain_aborted : (w : Setting) (n : Reading) (r : ℕ) (cause : Cause) → ReadsPlainly w n → ReadsPlainly w (entry w n (Ended (run_no r) (Aborted cause)))
-plain_aborted w n r cause p = plain_put w n (entry w n (Ended (run_no r) (Aborted cause))) r _ refl refl refl (any-filter_same is_event_item (λ i. not (is_ran r i)) true stays n.line) (λ d. refl) refl (p.views r) p
+stage_aborted : (w : Setting) (n : Reading) (r : ℕ) (cause : Cause) → StageReads w n → StageReads w (entry w n (Ended (run_no r) (Aborted cause)))
+stage_aborted w n r cause p = stage_put w n (entry w n (Ended (run_no r) (Aborted cause))) r _ refl refl refl (any-filter_same is_event_item (λ i. not (is_ran r i)) true stays n.line) (λ d. refl) refl (p.views r) p
   where
     stays : (i : Item) → is_event_item i ≡ true → not (is_ran r i) ≡ true
     stays (Ran q) e = absurd (cc)
     stays (Failed d k) e = refl
     stays (Back d k) e = refl
 
-pub plain_step : (w : Setting) (n : Reading) (e : Entry) → is_plain e ≡ true → ReadsPlainly w n → ReadsPlainly w (entry w n e)
-plain_step w n (Arrived r m) ok p = plain_put w n (entry w n (Arrived r m)) r.0 _ refl refl refl refl (λ d. refl) refl (p.views r.0) p
-plain_step w n (Placed r at m) ok p = plain_placed w n r.0 at m p
-plain_step w n (Did r c Fine) ok p = plain_did w n r.0 c Fine refl p
-plain_step w n (Did r c (Found x)) ok p = plain_did w n r.0 c (Found x) refl p
-plain_step w n (Did r c Down) ok p = absurd (cc)
-plain_step w n (Undid r d drove) ok p = plain_put w n (entry w n (Undid r d drove)) r.0 _ refl refl refl refl (λ e. refl) refl (λ e. put_all (λ k x. unwrap_or x.view true ≡ true) (n.run r.0).on d.0 _ (p.views r.0) (p.views r.0 d.0) e) p
-plain_step w n (Fell d) ok p = absurd (cc)
-plain_step w n (Rose d) ok p = absurd (cc)
-plain_step w n (Doomed r cause) ok p = plain_put w n (entry w n (Doomed r cause)) r.0 _ refl refl refl refl (λ d. refl) refl (p.views r.0) p
-plain_step w n (Ended r Committed) ok p = plain_put w n (entry w n (Ended r Committed)) r.0 _ refl refl refl refl (λ d. refl) refl (p.views r.0) p
-plain_step w n (Ended r (Aborted cause)) ok p = plain_aborted w n r.0 cause p
+pub stage_step : (w : Setting) (n : Reading) (e : Entry) → stage_entry e ≡ true → StageReads w n → StageReads w (entry w n e)
+stage_step w n (Arrived r m) ok p = stage_put w n (entry w n (Arrived r m)) r.0 _ refl refl refl refl (λ d. refl) refl (p.views r.0) p
+stage_step w n (Placed r at m) ok p = stage_placed w n r.0 at m p
+stage_step w n (Did r c Fine) ok p = stage_did w n r.0 c Fine refl p
+stage_step w n (Did r c (Found x)) ok p = stage_did w n r.0 c (Found x) refl p
+stage_step w n (Did r c Down) ok p = absurd (cc)
+stage_step w n (Undid r d drove) ok p = stage_put w n (entry w n (Undid r d drove)) r.0 _ refl refl refl refl (λ e. refl) refl (λ e. put_all (λ k x. unwrap_or x.view true ≡ true) (n.run r.0).on d.0 _ (p.views r.0) (p.views r.0 d.0) e) p
+stage_step w n (Fell d) ok p = absurd (cc)
+stage_step w n (Rose d) ok p = absurd (cc)
+stage_step w n (Doomed r cause) ok p = stage_put w n (entry w n (Doomed r cause)) r.0 _ refl refl refl refl (λ d. refl) refl (p.views r.0) p
+stage_step w n (Ended r Committed) ok p = stage_put w n (entry w n (Ended r Committed)) r.0 _ refl refl refl refl (λ d. refl) refl (p.views r.0) p
+stage_step w n (Ended r (Aborted cause)) ok p = stage_aborted w n r.0 cause p
 
-plain_from : (w : Setting) (n : Reading) (h : List Entry) → ReadsPlainly w n → IsTrue (list_all is_plain h) → ReadsPlainly w (fold (entry w) n h)
-plain_from w n [] p ok = p
-plain_from w n (e ∷ h) p ok = plain_from w (entry w n e) h (plain_step w n e (grind (arith, common_steps)) p) (grind (arith, common_steps))
+stage_from : (w : Setting) (n : Reading) (h : List Entry) → StageReads w n → IsTrue (list_all stage_entry h) → StageReads w (fold (entry w) n h)
+stage_from w n [] p ok = p
+stage_from w n (e ∷ h) p ok = stage_from w (entry w n e) h (stage_step w n e (grind (arith, common_steps)) p) (grind (arith, common_steps))
 
--- a plain history reads so
-pub reads_plainly : (w : Setting) (h : List Entry) → IsTrue (list_all is_plain h) → ReadsPlainly w (reading w h)
-reads_plainly w h ok = plain_from w (nothing_read w) h (plain_unread w) ok
+-- it reads so
+pub stage_reads : (w : Setting) (h : List Entry) → IsTrue (list_all stage_entry h) → StageReads w (reading w h)
+stage_reads w h ok = stage_from w (nothing_read w) h (stage_unread w) ok
 
 -- Dooms
 
@@ -149,27 +149,27 @@ DoomsAreRefuted w n = (r : ℕ) → is_refuted w r (n.run r).doomed ≡ true
 refuted_put : (w : Setting) (n m : Reading) (r : ℕ) (o : OfRun) → m.run ≡ put n.run r o → is_refuted w r o.doomed ≡ true → DoomsAreRefuted w n → DoomsAreRefuted w m
 refuted_put w n m r o run new all q = rw run (put_all (λ k x. is_refuted w k x.doomed ≡ true) n.run r o all new q)
 
-refuted_step : (w : Setting) (n : Reading) (e : Entry) → is_plain e ≡ true → abort_is_justified w n e ≡ true → DoomsAreRefuted w n → DoomsAreRefuted w (entry w n e)
-refuted_step w n (Arrived r m) plain shown all = refuted_put w n (entry w n (Arrived r m)) r.0 _ refl (all r.0) all
-refuted_step w n (Placed r at m) plain shown all = refuted_put w n (entry w n (Placed r at m)) r.0 _ refl (all r.0) all
-refuted_step w n (Did r c a) plain shown all = refuted_put w n (entry w n (Did r c a)) r.0 _ refl (all r.0) all
-refuted_step w n (Undid r d drove) plain shown all = refuted_put w n (entry w n (Undid r d drove)) r.0 _ refl (all r.0) all
-refuted_step w n (Fell d) plain shown all = all
-refuted_step w n (Rose d) plain shown all = all
-refuted_step w n (Doomed r (MustDown c)) plain shown all = absurd (cc)
-refuted_step w n (Doomed r (Refuted c x)) plain shown all = refuted_put w n (entry w n (Doomed r (Refuted c x))) r.0 _ refl (first_of (fails (command_at w.runs r.0 c) (Found x)) (has_answer n r.0 c (Found x)) shown) all
+refuted_step : (w : Setting) (n : Reading) (e : Entry) → stage_entry e ≡ true → abort_is_justified w n e ≡ true → DoomsAreRefuted w n → DoomsAreRefuted w (entry w n e)
+refuted_step w n (Arrived r m) staged shown all = refuted_put w n (entry w n (Arrived r m)) r.0 _ refl (all r.0) all
+refuted_step w n (Placed r at m) staged shown all = refuted_put w n (entry w n (Placed r at m)) r.0 _ refl (all r.0) all
+refuted_step w n (Did r c a) staged shown all = refuted_put w n (entry w n (Did r c a)) r.0 _ refl (all r.0) all
+refuted_step w n (Undid r d drove) staged shown all = refuted_put w n (entry w n (Undid r d drove)) r.0 _ refl (all r.0) all
+refuted_step w n (Fell d) staged shown all = all
+refuted_step w n (Rose d) staged shown all = all
+refuted_step w n (Doomed r (MustDown c)) staged shown all = absurd (cc)
+refuted_step w n (Doomed r (Refuted c x)) staged shown all = refuted_put w n (entry w n (Doomed r (Refuted c x))) r.0 _ refl (first_of (fails (command_at w.runs r.0 c) (Found x)) (has_answer n r.0 c (Found x)) shown) all
   where
     first_of : (a b : Bool) → (a && b) ≡ true → a ≡ true
     first_of a b e = grind (arith, common_steps)
-refuted_step w n (Doomed r (Lost d)) plain shown all = absurd (cc)
-refuted_step w n (Doomed r (Revoked lender d deadline m)) plain shown all = absurd (cc)
-refuted_step w n (Doomed r (DownAtEnd d)) plain shown all = absurd (cc)
-refuted_step w n (Ended r e) plain shown all = refuted_put w n (entry w n (Ended r e)) r.0 _ refl (all r.0) all
+refuted_step w n (Doomed r (Lost d)) staged shown all = absurd (cc)
+refuted_step w n (Doomed r (Revoked lender d deadline m)) staged shown all = absurd (cc)
+refuted_step w n (Doomed r (DownAtEnd d)) staged shown all = absurd (cc)
+refuted_step w n (Ended r e) staged shown all = refuted_put w n (entry w n (Ended r e)) r.0 _ refl (all r.0) all
 
-refuted_from : (w : Setting) (n : Reading) (h : List Entry) → DoomsAreRefuted w n → IsTrue (list_all is_plain h) → IsTrue (along w (abort_is_justified w) n h) → DoomsAreRefuted w (fold (entry w) n h)
-refuted_from w n [] all plain shown = all
-refuted_from w n (e ∷ h) all plain shown = refuted_from w (entry w n e) h (refuted_step w n e (grind (arith, common_steps)) (grind (arith, common_steps)) all) (grind (arith, common_steps)) (grind (arith, common_steps))
+refuted_from : (w : Setting) (n : Reading) (h : List Entry) → DoomsAreRefuted w n → IsTrue (list_all stage_entry h) → IsTrue (along w (abort_is_justified w) n h) → DoomsAreRefuted w (fold (entry w) n h)
+refuted_from w n [] all staged shown = all
+refuted_from w n (e ∷ h) all staged shown = refuted_from w (entry w n e) h (refuted_step w n e (grind (arith, common_steps)) (grind (arith, common_steps)) all) (grind (arith, common_steps)) (grind (arith, common_steps))
 
--- in a plain history whose dooms are justified
-pub dooms_are_refuted : (w : Setting) (h : List Entry) → IsTrue (list_all is_plain h) → IsJustified w h → DoomsAreRefuted w (reading w h)
-dooms_are_refuted w h plain shown = refuted_from w (nothing_read w) h (λ r. refl) plain shown
+-- where its dooms are justified
+pub dooms_are_refuted : (w : Setting) (h : List Entry) → IsTrue (list_all stage_entry h) → IsJustified w h → DoomsAreRefuted w (reading w h)
+dooms_are_refuted w h staged shown = refuted_from w (nothing_read w) h (λ r. refl) staged shown

@@ -43,21 +43,21 @@ abbrev pub ActsInTurn : Setting → Reading → Grips → Type 0
 ActsInTurn w n g = (r d : ℕ) → IsTrue (is_live n r && (has_touched n g r d || has_grip g r d)) → strict_wait w n r ≡ None
 
 -- in this stage no device fails: a history tells of arrivals, placings, commands that worked, dooms by a value that a must `check` found, undos that drove, and ends
-abbrev pub is_plain : Entry → Bool
-is_plain (Arrived r m) = true
-is_plain (Placed r at m) = true
-is_plain (Did r c Fine) = true
-is_plain (Did r c (Found x)) = true
-is_plain (Did r c Down) = false
-is_plain (Undid r d drove) = drove
-is_plain (Fell d) = false
-is_plain (Rose d) = false
-is_plain (Doomed r (MustDown c)) = false
-is_plain (Doomed r (Refuted c x)) = true
-is_plain (Doomed r (Lost d)) = false
-is_plain (Doomed r (Revoked lender d deadline m)) = false
-is_plain (Doomed r (DownAtEnd d)) = false
-is_plain (Ended r e) = true
+abbrev pub stage_entry : Entry → Bool
+stage_entry (Arrived r m) = true
+stage_entry (Placed r at m) = true
+stage_entry (Did r c Fine) = true
+stage_entry (Did r c (Found x)) = true
+stage_entry (Did r c Down) = false
+stage_entry (Undid r d drove) = drove
+stage_entry (Fell d) = false
+stage_entry (Rose d) = false
+stage_entry (Doomed r (MustDown c)) = false
+stage_entry (Doomed r (Refuted c x)) = true
+stage_entry (Doomed r (Lost d)) = false
+stage_entry (Doomed r (Revoked lender d deadline m)) = false
+stage_entry (Doomed r (DownAtEnd d)) = false
+stage_entry (Ended r e) = true
 
 -- the test holds of each device that is out and its grip
 abbrev pub EachOut : Grips → (ℕ → Grip → Bool) → Type 0
@@ -70,8 +70,8 @@ is_of_run (Undoes v) = true
 is_of_run (Probes v) = false
 
 -- in this stage a device is out for a run, and for no probe
-abbrev pub RunsAreOut : Grips → Type 0
-RunsAreOut g = EachOut g (λ d grip. is_of_run grip.purpose)
+abbrev pub StageGrips : Grips → Type 0
+StageGrips g = EachOut g (λ d grip. is_of_run grip.purpose)
 
 -- a run that has a command out has had no answer since it was doomed
 abbrev pub NoneAnsweredDoomed : Reading → Grips → Type 0
@@ -90,7 +90,7 @@ UndosFit w g = EachOut g (λ d grip. undo_fits (kind_at w.kinds d) grip.purpose)
 pub record HistoryIsKept (s : Configuration) : Type 0 where
   pub well_formed : IsWellFormed s.setting (entries_of s.history)
   pub moment : (read_of s).moment ≤ s.moment
-  pub plain : IsTrue (list_all is_plain (entries_of s.history))
+  pub stage : IsTrue (list_all stage_entry (entries_of s.history))
   pub clean : ReadsAreClean s.setting (entries_of s.history)
   pub justified : IsJustified s.setting (entries_of s.history)
   pub places : PlacesAreScheduled s.setting (entries_of s.history)
@@ -106,7 +106,7 @@ pub record ConfigurationIsKept (s : Configuration) (rounds opened : ℕ) (held :
   pub kinds : length s.setting.kinds ≡ length s.setting.first
   pub probes : (d : ℕ) → s.probes d ≤ rounds
   pub values : (d : ℕ) → d < length s.setting.first → IsTrue (has_value (kind_at s.setting.kinds d) (stand_at s.setting.first d).value)
-  pub runs : RunsAreOut s.grips
+  pub runs : StageGrips s.grips
   pub undos : UndosFit s.setting s.grips
   pub history : HistoryIsKept s
   pub order : OrderIsKept s.setting (read_of s) s.grips held

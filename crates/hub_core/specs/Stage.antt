@@ -42,26 +42,26 @@ pub record StageAllows (w : Setting) (rounds : ℕ) : Type 0 where
 -- The step of a run in this stage: the cases that are left
 
 -- the next command, with the number k: a run before it in the line holds its device, it would read the write of a live run before it, a live run before it is one that the model waits for, its device is out, or it goes out
-abbrev pub plain_command : Setting → Reading → Grips → ℕ → ℕ → Command → Choice
-plain_command w n g r k c = first_case (behind_case w n g r c ∷ dirty_case w n g r c ∷ strict_case w n r ∷ only_if (is_out g c.device.0) (Waits (Busy c.device)) ∷ []) (HandsOut c.device.0 (Commands k))
+abbrev pub stage_command : Setting → Reading → Grips → ℕ → ℕ → Command → Choice
+stage_command w n g r k c = first_case (behind_case w n g r c ∷ dirty_case w n g r c ∷ strict_case w n r ∷ only_if (is_out g c.device.0) (Waits (Busy c.device)) ∷ []) (HandsOut c.device.0 (Commands k))
 
 -- the next device on which a doomed run is undone: it is out, or goes out to stand where it would if the run had not written; with none left the run ends for the cause of its doom
-abbrev pub plain_doomed : Setting → Reading → Grips → ℕ → Cause → Choice
-plain_doomed w n g r cause =
+abbrev pub stage_doomed : Setting → Reading → Grips → ℕ → Cause → Choice
+stage_doomed w n g r cause =
     first_case
     (option_map (λ d. Waits (Busy (device_no d))) (undo_wait w n g r)
     ∷ option_map (λ d. HandsOut d (Undoes (value_without w n g r d))) (next_undo_of w n g r) ∷ [])
     (aborts r cause)
 
 -- the run arrives, is placed at the end of the line, is undone where it is doomed, else has its next command, and at last commits
-abbrev pub plain_choice : Setting → Reading → Grips → ℕ → ℕ → Choice
-plain_choice w n g r m =
+abbrev pub stage_choice : Setting → Reading → Grips → ℕ → ℕ → Choice
+stage_choice w n g r m =
     first_case
     (only_if (not (is_run w.runs r)) Absent
     ∷ option_map (λ e. Over e []) (n.run r).ended
     ∷ option_map (λ d. Waits (Busy (device_no d))) (grip_wait w g r)
     ∷ only_if (is_none (n.run r).arrived) (Moves (Arrived (run_no r) m ∷ []))
     ∷ only_if (is_none (n.run r).placed) (Moves (Placed (run_no r) (length n.line) m ∷ []))
-    ∷ option_map (plain_doomed w n g r) (n.run r).doomed
-    ∷ option_map (plain_command w n g r (next_of n r)) (next_command w n r) ∷ [])
+    ∷ option_map (stage_doomed w n g r) (n.run r).doomed
+    ∷ option_map (stage_command w n g r (next_of n r)) (next_command w n r) ∷ [])
     (Over Committed (Ended (run_no r) Committed ∷ []))

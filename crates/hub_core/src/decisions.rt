@@ -5,7 +5,7 @@ ghost use Rattle.history_book.specs.Settings.{is_device};
 ghost use Rattle.hub_core.specs.Decisions.{told_choice};
 ghost use Rattle.hub_core.specs.HubSteps.{command_task, task_of};
 ghost use Rattle.hub_core.specs.OpenHubs.{configuration_of, purpose_of};
-ghost use Rattle.hub_core.specs.Stage.{plain_command, plain_doomed};
+ghost use Rattle.hub_core.specs.Stage.{stage_command, stage_doomed};
 ghost use Rattle.hub_core.specs.Steps.{choice_of};
 ghost use Rattle.lock_leasing.specs.Configurations.{Commands, has_grip, is_out, read_of};
 ghost use Rattle.lock_leasing.specs.Standings.{IsAtCommand};
@@ -75,7 +75,7 @@ impl<D: Device> Hub<D> {
     fn decide_doomed(&self, r: RunNo, cause: Cause) -> Chosen
         requires live { is_live (read_of (configuration_of self.now)) r.0 ≡ true }
         requires up { (d : ℕ) → is_device self.now.setting d ≡ true → (read_of (configuration_of self.now)).up d ≡ true }
-        ensures { (m : ℕ) → told_choice r.0 m (read_of (configuration_of self.now)) result ≡ plain_doomed self.now.setting (read_of (configuration_of self.now)) (configuration_of self.now).grips r.0 cause }
+        ensures { (m : ℕ) → told_choice r.0 m (read_of (configuration_of self.now)) result ≡ stage_doomed self.now.setting (read_of (configuration_of self.now)) (configuration_of self.now).grips r.0 cause }
     {
         let standing = self.standing();
         match next_undo(standing.table, r) {
@@ -96,7 +96,7 @@ impl<D: Device> Hub<D> {
     fn decide_command(&self, r: RunNo, k: u32, command: Command) -> Chosen
         requires turn { IsAtCommand (configuration_of self.now) r.0 k }
         requires command { command_at self.now.setting.runs r.0 k ≡ command }
-        ensures { (m : ℕ) → told_choice r.0 m (read_of (configuration_of self.now)) result ≡ plain_command self.now.setting (read_of (configuration_of self.now)) (configuration_of self.now).grips r.0 k command }
+        ensures { (m : ℕ) → told_choice r.0 m (read_of (configuration_of self.now)) result ≡ stage_command self.now.setting (read_of (configuration_of self.now)) (configuration_of self.now).grips r.0 k command }
     {
         let standing = self.standing();
         match test_touch(&standing, r, k) {
