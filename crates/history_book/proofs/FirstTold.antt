@@ -2,7 +2,7 @@
 use Rattle.history_book.specs.Books.{first_told}
 use Rattle.history_book.specs.declared.entries.Entry.{Entry}
 use Rattle.history_book.specs.declared.entries.Kept.{Kept}
-use Rattle.std.proofs.Common.{Bool, IfNone, IfSome, List, None, Option, Some, [], ap, arith, cond, false, filter, length, refl, slice_index_or, suc, sym, true, zero, ℕ, ◌++◌, ◌<◌, ◌≡◌, ◌∷◌}
+use Rattle.std.proofs.Common.{IfNone, IfSome, List, None, Option, Some, [], arith, length, refl, slice_index_or, suc, sym, zero, ℕ, ◌++◌, ◌<◌, ◌≡◌, ◌∷◌}
 use Rattle.std.specs.Option.{option_or}
 
 module _ {T : Type 0} (told : Entry → Option T) where
@@ -40,11 +40,3 @@ module _ {T : Type 0} (told : Entry → Option T) where
   pub first_told-append : (h : List Kept) (kept : Kept) → first_told told (h ++ kept ∷ []) ≡ option_or (first_told told h) (told kept.entry)
   first_told-append [] kept = or_none (told kept.entry)
   first_told-append (x ∷ xs) kept = or_later (told x.entry) _ (first_told told xs) (told kept.entry) (first_told-append xs kept)
-
-  -- entries that tell nothing may be left out
-  pub first_told-sorted : (p : Entry → Bool) → ((e : Entry) → p e ≡ false → told e ≡ None) → (h : List Kept) → first_told told (filter (λ k. p k.entry) h) ≡ first_told told h
-  first_told-sorted p silent [] = refl
-  first_told-sorted p silent (x ∷ xs) = elim (p x.entry) as (λ b. p x.entry ≡ b → first_told told (cond b (x ∷ filter (λ k. p k.entry) xs) (filter (λ k. p k.entry) xs)) ≡ option_or (told x.entry) (first_told told xs)) [
-    | true ↦ (λ e. ap (λ o. option_or (told x.entry) o) (first_told-sorted p silent xs))
-    | false ↦ (λ e. rw (silent x.entry e) (first_told-sorted p silent xs))
-  ] refl

@@ -10,4 +10,5 @@ pub mod Once
 pub mod Searches
 pub mod Logs
 pub mod FirstTold
+pub mod FirstPlaces
 pub mod Told

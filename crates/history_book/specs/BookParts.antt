@@ -1,11 +1,28 @@
 -- What is true of the parts of each book.
-use Rattle.history_book.specs.Books.{is_doom, is_end}
+use Rattle.history_book.specs.Books.{doom_in, end_in}
 use Rattle.history_book.specs.declared.books.Book.TheInside.{Inside}
-use Rattle.std.specs.Prelude.{filter, ◌≡◌, ◌≤◌}
+use Rattle.history_book.specs.declared.entries.Entry.{Entry}
+use Rattle.history_book.specs.declared.entries.Kept.{Kept}
+use Rattle.std.specs.List.{position}
+use Rattle.std.specs.Option.{option_and_then}
+use Rattle.std.specs.Prelude.{List, None, Option, Some, if◌then◌else◌, is_none, is_some, length, nat_lt, option_map, slice_get, slice_index_or, slice_set, ℕ, ◌&&◌, ◌<◌, ◌≡◌}
 
--- the ends are the entries that end a run, the dooms those that doom one, and each has room for all that the book takes
-pub record IsSorted (book : Inside) : Type 0 where
-  pub ends : book.ends.items ≡ filter (λ k. is_end k.entry) book.kept.items
-  pub dooms : book.dooms.items ≡ filter (λ k. is_doom k.entry) book.kept.items
-  pub room_for_ends : book.kept.spare ≤ book.ends.spare
-  pub room_for_dooms : book.kept.spare ≤ book.dooms.spare
+-- the place of the first entry that tells something
+abbrev pub first_place : {T : Type 0} → (Entry → Option T) → List Kept → Option ℕ
+first_place told history = position (λ k. is_some (told k.entry)) history
+
+-- the places are, by the numbers of the runs, those of the first entry that tells something of the run
+abbrev pub ArePlaces : {T : Type 0} → (ℕ → Entry → Option T) → List Kept → List (Option ℕ) → Type 0
+ArePlaces told history places = (r : ℕ) → r < length places → slice_index_or places r None ≡ first_place (told r) history
+
+pub record IsPlaced (book : Inside) : Type 0 where
+  pub ends : ArePlaces end_in book.kept.items book.ends
+  pub dooms : ArePlaces doom_in book.kept.items book.dooms
+
+-- the entry at the place, where there is one
+abbrev pub entry_at : List Kept → Option ℕ → Option Entry
+entry_at history place = option_map (λ k. k.entry) (option_and_then (slice_get history) place)
+
+-- the places where the entry at this place tells of the run: that of an earlier one stays
+abbrev pub noted : ℕ → ℕ → List (Option ℕ) → List (Option ℕ)
+noted r place places = if nat_lt r (length places) && is_none (slice_index_or places r None) then slice_set places r (Some place) else places

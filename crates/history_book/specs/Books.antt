@@ -5,7 +5,7 @@ use Rattle.history_book.specs.declared.entries.Entry.TheVariants.{Arrived, Did, 
 use Rattle.history_book.specs.declared.entries.Entry.{Entry}
 use Rattle.history_book.specs.declared.entries.Kept.{Kept}
 use Rattle.std.specs.Option.{option_or}
-use Rattle.std.specs.Prelude.{Bool, List, None, Option, Some, [], false, if◌then◌else◌, true, ℕ, ◌==◌, ◌∷◌}
+use Rattle.std.specs.Prelude.{List, None, Option, Some, [], if◌then◌else◌, ℕ, ◌==◌, ◌∷◌}
 
 -- what the first entry that tells something tells
 abbrev pub first_told : {T : Type 0} → (Entry → Option T) → List Kept → Option T
@@ -33,28 +33,6 @@ doom_in r (Fell d) = None
 doom_in r (Rose d) = None
 doom_in r (Doomed q cause) = if q.0 == r then Some cause else None
 doom_in r (Ended q end) = None
-
--- the entry ends a run
-abbrev pub is_end : Entry → Bool
-is_end (Arrived q m) = false
-is_end (Placed q place m) = false
-is_end (Did q c a) = false
-is_end (Undid q d drove) = false
-is_end (Fell d) = false
-is_end (Rose d) = false
-is_end (Doomed q cause) = false
-is_end (Ended q end) = true
-
--- the entry dooms a run
-abbrev pub is_doom : Entry → Bool
-is_doom (Arrived q m) = false
-is_doom (Placed q place m) = false
-is_doom (Did q c a) = false
-is_doom (Undid q d drove) = false
-is_doom (Fell d) = false
-is_doom (Rose d) = false
-is_doom (Doomed q cause) = true
-is_doom (Ended q end) = false
 
 -- the end of the run
 abbrev pub end_of : List Kept → ℕ → Option End

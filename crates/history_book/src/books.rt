@@ -1,32 +1,35 @@
 ghost use Rattle.std.specs.Prelude.{◌≡◌, ◌+◌, ◌<◌, ◌≤◌, [], ◌∷◌, ◌++◌, length, OnOk, OnErr, slice_get};
+ghost use Rattle.history_book.specs.BookParts.{entry_at, noted};
 ghost use Rattle.history_book.specs.Books.{doom_in, doom_of, end_in, end_of};
 
 use crate::entries::{Cause, End, Entry, Kept};
-use home_types::{List, NoMemory, RunNo};
+use home_types::{List, NoMemory, RunNo, limits};
 use std::alloc::Global;
 use std::marker::Model;
+
+/// The places that are kept: one for each run that a window may have, by its number, and the detector's 0.
+const PLACES: usize = limits::RUNS as usize + 1;
 
 /// The history of a window. Contracts see its entries, and beside them how many more it takes with no memory.
 #[derive(Drop)]
 pub struct Book {
     kept: List<Kept>,
-    // the entries that end a run once more, and those that doom one, so that a question about them reads no others;
-    // each list has room for as many as `kept` takes
-    ends: List<Kept>,
-    dooms: List<Kept>,
-    alloc: Global,
+    // the places of each run's first `Ended` entry, and of its first `Doomed` entry, so that a question about them reads
+    // no others
+    ends: [Option<u64>; PLACES],
+    dooms: [Option<u64>; PLACES],
 }
 
 impl Model for Book {
     ghost use Rattle.home_types.specs.Listed.{Listed};
     ghost use Rattle.history_book.specs.declared.entries.Kept.{Kept};
-    ghost use Rattle.history_book.specs.BookParts.{IsSorted};
+    ghost use Rattle.history_book.specs.BookParts.{IsPlaced};
 
     ghost Value = { Listed Kept };
 
     ghost view = { λ b. b.kept };
 
-    ghost invariant = { IsSorted };
+    ghost invariant = { IsPlaced };
 }
 
 impl Book {
@@ -37,9 +40,8 @@ impl Book {
     {
         Book {
             kept: List::new(alloc),
-            ends: List::new(alloc),
-            dooms: List::new(alloc),
-            alloc,
+            ends: [None; PLACES],
+            dooms: [None; PLACES],
         }
     }
 
@@ -51,17 +53,7 @@ impl Book {
         ensures kept { self.old.spare ≤ self.new.spare }
         ensures refused { OnErr result (self.new ≡ self.old) }
     {
-        if n <= self.kept.spare() {
-            return Ok(());
-        }
-        // a copy, so that the book is as it was where the other lists find no room
-        let mut kept = List::of(self.alloc, self.kept.as_slice())?;
-        kept.reserve(n)?;
-        let room = kept.spare();
-        self.ends.reserve(room)?;
-        self.dooms.reserve(room)?;
-        self.kept = kept;
-        Ok(())
+        self.kept.reserve(n)
     }
 
     /// Appends an entry. Takes no memory, and uses one place of the room.
@@ -72,12 +64,12 @@ impl Book {
         ensures items { self.new.items ≡ self.old.items ++ kept ∷ [] }
         ensures spare { self.new.spare + 1 ≡ self.old.spare }
     {
-        let sorted = match kept.entry {
-            Entry::Ended(..) => self.ends.push(kept),
-            Entry::Doomed(..) => self.dooms.push(kept),
-            _ => Ok(()),
-        };
-        sorted.unwrap();
+        let place = self.kept.len();
+        match kept.entry {
+            Entry::Ended(r, _) => note(&mut self.ends, r, place),
+            Entry::Doomed(r, _) => note(&mut self.dooms, r, place),
+            _ => {}
+        }
         let pushed = self.kept.push(kept);
         pushed.unwrap();
     }
@@ -87,13 +79,6 @@ impl Book {
         ensures { result ≡ length self.now.items }
     {
         self.kept.len()
-    }
-
-    /// How many more entries the book takes with no memory.
-    pub fn spare(&self) -> u64
-        ensures { result ≡ self.now.spare }
-    {
-        self.kept.spare()
     }
 
     /// The entry at the place `i`, counted from 0.
@@ -115,14 +100,38 @@ impl Book {
     pub fn end_of(&self, r: RunNo) -> Option<End>
         ensures { result ≡ end_of self.now.items r.0 }
     {
-        first_end(self.ends.as_slice(), r)
+        match self.ends.get(r.0 as usize) {
+            Some(place) => self.entry_at(*place).and_then(|entry| end_in(r, entry)),
+            None => first_end(self.kept.as_slice(), r),
+        }
     }
 
     /// The cause of the first `Doomed` entry of the run `r`. `None` where it has none.
     pub fn doom_of(&self, r: RunNo) -> Option<Cause>
         ensures { result ≡ doom_of self.now.items r.0 }
     {
-        first_doom(self.dooms.as_slice(), r)
+        match self.dooms.get(r.0 as usize) {
+            Some(place) => self.entry_at(*place).and_then(|entry| doom_in(r, entry)),
+            None => first_doom(self.kept.as_slice(), r),
+        }
+    }
+
+    /// The entry at this place, where there is one.
+    fn entry_at(&self, place: Option<u64>) -> Option<Entry>
+        ensures { result ≡ entry_at self.now.items place }
+    {
+        let kept = self.get(place?)?;
+        Some(kept.entry)
+    }
+}
+
+/// The entry at this place tells of the run `r`; the place of an earlier one stays.
+fn note(places: &mut [Option<u64>], r: RunNo, place: u64)
+    ensures { places.new ≡ noted r.0 place places.old }
+{
+    let r = r.0 as usize;
+    if r < places.len() && places[r].is_none() {
+        places[r] = Some(place);
     }
 }
 

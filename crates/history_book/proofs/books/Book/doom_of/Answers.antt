@@ -1,24 +1,15 @@
-use Rattle.history_book.proofs.FirstTold.{first_told-sorted}
+use Rattle.history_book.proofs.FirstPlaces.{first_told-place, place_read}
 use Rattle.history_book.proofs.books.Book.doom_of.Goals as goal
-use Rattle.history_book.specs.Books.{doom_of, doom_in, is_doom}
-use Rattle.history_book.specs.declared.entries.Entry.TheVariants.{Arrived, Did, Doomed, Ended, Fell, Placed, Rose, Undid}
-use Rattle.history_book.specs.declared.entries.Entry.{Entry}
-use Rattle.std.proofs.Common.{None, ap, false, refl, ℕ, ◌∙◌, ◌≡◌}
+use Rattle.history_book.specs.BookParts.{entry_at}
+use Rattle.history_book.specs.Books.{doom_in, doom_of}
+use Rattle.std.proofs.Common.{ap, rules, sym, ◌∙◌, ◌≡◌}
+use Rattle.std.specs.Option.{option_and_then}
 
--- an entry of another kind tells nothing of it
-silent : (r : ℕ) (e : Entry) → is_doom e ≡ false → doom_in r e ≡ None
-silent r (Arrived q m) other = refl
-silent r (Placed q place m) other = refl
-silent r (Did q c a) other = refl
-silent r (Undid q d drove) other = refl
-silent r (Fell d) other = refl
-silent r (Rose d) other = refl
-silent r (Doomed q cause) other = absurd (cc)
-silent r (Ended q end) other = refl
-
-pub returns : goal.returns
-returns c =
-    c.first_doom.ensures
-    ∙ ap (λ h. doom_of h c.args.r.0) (c.as_slice.ensures ∙ c.self.invariant.dooms)
-    ∙ first_told-sorted (doom_in c.args.r.0) is_doom (silent c.args.r.0) c.self.inside.kept.items
-    ∙ ap (λ h. doom_of h.items c.args.r.0) c.self.view_is
+pub returns-in-Some : goal.returns-in-Some
+returns-in-Some c =
+    let told : c.and_then.result ≡ option_and_then (doom_in c.args.r.0) c.entry_at.result = search rules in
+    let place = place_read doom_in c.self.inside.kept.items c.self.inside.dooms c.args.r.0 c.in-Some.place.now c.in-Some.ensures.lookup.0 c.in-Some.ensures.lookup.1 c.self.invariant.dooms in
+    told
+    ∙ ap (option_and_then (doom_in c.args.r.0)) (c.entry_at.ensures ∙ ap (λ b. entry_at b.items c.in-Some.place.now) (sym c.self.view_is) ∙ ap (entry_at c.self.inside.kept.items) place)
+    ∙ first_told-place (doom_in c.args.r.0) c.self.inside.kept.items
+    ∙ ap (λ b. doom_of b.items c.args.r.0) c.self.view_is

@@ -1,24 +1,15 @@
-use Rattle.history_book.proofs.FirstTold.{first_told-sorted}
+use Rattle.history_book.proofs.FirstPlaces.{first_told-place, place_read}
 use Rattle.history_book.proofs.books.Book.end_of.Goals as goal
-use Rattle.history_book.specs.Books.{end_of, end_in, is_end}
-use Rattle.history_book.specs.declared.entries.Entry.TheVariants.{Arrived, Did, Doomed, Ended, Fell, Placed, Rose, Undid}
-use Rattle.history_book.specs.declared.entries.Entry.{Entry}
-use Rattle.std.proofs.Common.{None, ap, false, refl, ℕ, ◌∙◌, ◌≡◌}
+use Rattle.history_book.specs.BookParts.{entry_at}
+use Rattle.history_book.specs.Books.{end_in, end_of}
+use Rattle.std.proofs.Common.{ap, rules, sym, ◌∙◌, ◌≡◌}
+use Rattle.std.specs.Option.{option_and_then}
 
--- an entry of another kind tells nothing of it
-silent : (r : ℕ) (e : Entry) → is_end e ≡ false → end_in r e ≡ None
-silent r (Arrived q m) other = refl
-silent r (Placed q place m) other = refl
-silent r (Did q c a) other = refl
-silent r (Undid q d drove) other = refl
-silent r (Fell d) other = refl
-silent r (Rose d) other = refl
-silent r (Doomed q cause) other = refl
-silent r (Ended q end) other = absurd (cc)
-
-pub returns : goal.returns
-returns c =
-    c.first_end.ensures
-    ∙ ap (λ h. end_of h c.args.r.0) (c.as_slice.ensures ∙ c.self.invariant.ends)
-    ∙ first_told-sorted (end_in c.args.r.0) is_end (silent c.args.r.0) c.self.inside.kept.items
-    ∙ ap (λ h. end_of h.items c.args.r.0) c.self.view_is
+pub returns-in-Some : goal.returns-in-Some
+returns-in-Some c =
+    let told : c.and_then.result ≡ option_and_then (end_in c.args.r.0) c.entry_at.result = search rules in
+    let place = place_read end_in c.self.inside.kept.items c.self.inside.ends c.args.r.0 c.in-Some.place.now c.in-Some.ensures.lookup.0 c.in-Some.ensures.lookup.1 c.self.invariant.ends in
+    told
+    ∙ ap (option_and_then (end_in c.args.r.0)) (c.entry_at.ensures ∙ ap (λ b. entry_at b.items c.in-Some.place.now) (sym c.self.view_is) ∙ ap (entry_at c.self.inside.kept.items) place)
+    ∙ first_told-place (end_in c.args.r.0) c.self.inside.kept.items
+    ∙ ap (λ b. end_of b.items c.args.r.0) c.self.view_is
