@@ -1,6 +1,5 @@
 -- What an entry leaves: most of it by computing, the rest by put_keeps.
-use Rattle.command_rules.specs.Rosters.{command_at}
-use Rattle.history_book.proofs.Snoc.{put_keeps, put_other}
+use Rattle.history_book.proofs.Snoc.{put_keeps}
 use Rattle.history_book.specs.Histories.{entry}
 use Rattle.history_book.specs.Readings.{Reading, is_live}
 use Rattle.history_book.specs.Settings.{Setting}
@@ -9,19 +8,9 @@ use Rattle.history_book.specs.declared.entries.Entry.TheVariants.{Did, Doomed}
 use Rattle.home_types.specs.declared.commands.Answer.{Answer}
 use Rattle.home_types.specs.declared.numbers.RunNo.{RunNo}
 use Rattle.std.proofs.Common.{refl}
-use Rattle.std.specs.Prelude.{Some, is_none, is_some, ℕ, ◌&&◌, ◌≡◌, ◌≢◌}
+use Rattle.std.specs.Prelude.{Some, is_none, is_some, ℕ, ◌&&◌, ◌≡◌}
 
--- an answer on another device leaves what every run has done on this one
-pub did_elsewhere : (w : Setting) (n : Reading) (r : RunNo) (c : ℕ) (a : Answer) (d q : ℕ) → d ≢ (command_at w.runs r.0 c).device.0 → ((entry w n (Did r c a)).run q).on d ≡ (n.run q).on d
-did_elsewhere w n r c a d q other = put_keeps (λ o. o.on d) n.run r.0 _ (put_other (n.run r.0).on (command_at w.runs r.0 c).device.0 _ d other) q
-
-pub did_log_elsewhere : (w : Setting) (n : Reading) (r : RunNo) (c : ℕ) (a : Answer) (d : ℕ) → d ≢ (command_at w.runs r.0 c).device.0 → (entry w n (Did r c a)).log d ≡ n.log d
-did_log_elsewhere w n r c a d other = put_other n.log (command_at w.runs r.0 c).device.0 _ d other
-
--- an answer leaves line, counted states, places and ends
-pub did_line : (w : Setting) (n : Reading) (r : RunNo) (c : ℕ) (a : Answer) → (entry w n (Did r c a)).line ≡ n.line
-did_line w n r c a = refl
-
+-- an answer leaves each run as live as it was
 pub did_live : (w : Setting) (n : Reading) (r : RunNo) (c : ℕ) (a : Answer) (q : ℕ) → is_live (entry w n (Did r c a)) q ≡ is_live n q
 did_live w n r c a q = put_keeps (λ o. is_some o.placed && is_none o.ended) n.run r.0 _ refl q
 

@@ -1,9 +1,9 @@
 // The history of a window, and the record that is left of it.
 #![tactic(auto)]
 
-pub mod books;
+mod books;
 pub mod entries;
-pub mod records;
+mod records;
 #[cfg(test)]
 mod tests;
 

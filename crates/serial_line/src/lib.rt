@@ -1,8 +1,8 @@
 // The line: the items of a window's serial order, and the devices that each has touched.
 #![tactic(auto)]
 
-pub mod entries;
-pub mod lines;
+mod entries;
+mod lines;
 #[cfg(test)]
 mod tests;
 
