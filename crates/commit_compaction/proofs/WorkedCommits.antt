@@ -1,9 +1,8 @@
 -- Commits of worked windows: what becomes of a device's lineage.
 use Rattle.command_rules.specs.Rosters.{run_no}
-use Rattle.commit_compaction.specs.Commits.{committed_lineage}
 use Rattle.home_types.specs.declared.commands.View.TheVariants.{Down, Up}
 use Rattle.home_types.specs.declared.commands.View.{View}
-use Rattle.lineage_table.specs.Lineages.{LineageState}
+use Rattle.lineage_table.specs.Lineages.{LineageState, committed_lineage}
 use Rattle.lineage_table.specs.declared.accesses.Access.{Access}
 use Rattle.lineage_table.specs.declared.accesses.Status.TheVariants.{Released, Scheduled}
 use Rattle.std.proofs.Common.{List, None, Option, Some, [], refl, true, ℕ, ◌∷◌, ◌≡◌}

@@ -1,7 +1,6 @@
 ghost use Rattle.std.specs.Prelude.{◌≡◌, ◌<◌, ℕ, length};
-ghost use Rattle.commit_compaction.specs.Commits.{committed_lineage};
 ghost use Rattle.lineage_laws.specs.Laws.{stand_of};
-ghost use Rattle.lineage_table.specs.Lineages.{lineage_at, with_lineage};
+ghost use Rattle.lineage_table.specs.Lineages.{committed_lineage, lineage_at, with_lineage};
 
 use home_types::{DeviceNo, RunNo};
 use lineage_table::Table;
@@ -44,5 +43,5 @@ fn commit_keeps(table: &Table, d: DeviceNo, r: RunNo)
     ensures { stand_of (committed_lineage r.0 (lineage_at table.now d.0)) ≡ stand_of (lineage_at table.now d.0) }
 {
     // The type of the table keeps that no run has two accesses on a device.
-    let _ = table.accesses(d);
+    table.kept();
 }

@@ -1,6 +1,5 @@
 -- Each entry of this stage, and each device that goes out, keeps the line and the table of a window.
 use Rattle.command_rules.specs.Rosters.{command_at, commands_of, device_no, is_run, run_no}
-use Rattle.commit_compaction.specs.Commits.{committed_lineage}
 use Rattle.device_order.specs.LineWords.{CutAt}
 use Rattle.history_book.proofs.Snoc.{each_at, entries_on, reading_more}
 use Rattle.history_book.specs.Histories.{entries_of, entry, kept_by, reading}
@@ -21,7 +20,7 @@ use Rattle.hub_core.specs.KeptOrders.{IsOrderOf, MayNote, OrderIsBeside, is_firs
 use Rattle.hub_core.specs.PlansInTurn.{planned_in_turn}
 use Rattle.hub_core.specs.ReadHistories.{HistoryState, read_in, with_entry}
 use Rattle.lineage_table.specs.Accesses.{is_scheduled, status_of}
-use Rattle.lineage_table.specs.Lineages.{IsOpened, LineageState, lineage_at, removed, undone, with_lineage}
+use Rattle.lineage_table.specs.Lineages.{IsOpened, LineageState, committed_lineage, lineage_at, removed, undone, with_lineage}
 use Rattle.lineage_table.specs.declared.accesses.Status.TheVariants.{Acquired, Scheduled}
 use Rattle.lock_leasing.specs.Configurations.{Commands, Grip, Grips, Purpose, Undoes, grips_command, is_command, no_grips}
 use Rattle.serial_line.specs.Marks.{Mark, Marked, is_ran, touching, with_item, with_touch, without}

@@ -1,14 +1,13 @@
 //! The serialization line of a window and its lineage table.
 ghost use Rattle.std.specs.Prelude.{◌≡◌, ◌+◌, ◌<◌, ◌≤◌, ◌^◌, [], IfOk, IsTrue, Some, false, if◌then◌else◌, length, true, ℕ};
 ghost use Rattle.abort_rollback.specs.Undos.{next_undo};
-ghost use Rattle.commit_compaction.specs.Commits.{committed_lineage};
 ghost use Rattle.command_rules.specs.Rosters.{commands_of, is_run, runs_of, touches};
 ghost use Rattle.home_types.specs.declared.items.Item.TheVariants.{Ran};
 ghost use Rattle.hub_core.specs.KeptOrders.{MayNote, acquired_first, is_first, noted_first};
 ghost use Rattle.hub_core.specs.OpenHubs.{purpose_of};
 ghost use Rattle.hub_core.specs.PlansInTurn.{planned_in_turn};
 ghost use Rattle.lineage_table.specs.Accesses.{status_of};
-ghost use Rattle.lineage_table.specs.Lineages.{IsOpened, accesses_at, lineage_at, removed, undone, with_lineage};
+ghost use Rattle.lineage_table.specs.Lineages.{IsOpened, accesses_at, committed_lineage, lineage_at, removed, undone, with_lineage};
 ghost use Rattle.lock_leasing.specs.Configurations.{is_command, is_undo};
 ghost use Rattle.serial_line.specs.Marks.{stands, touching, with_item, without};
 ghost use Rattle.window_order.specs.TableChanges.{ChangesEach, IsNewOn, doomed_lineage, scheduled_on, written_if};

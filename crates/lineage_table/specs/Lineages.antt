@@ -4,7 +4,7 @@ use Rattle.home_types.specs.HomeStates.{stand_at}
 use Rattle.home_types.specs.declared.commands.View.{View}
 use Rattle.home_types.specs.declared.numbers.RunNo.{RunNo}
 use Rattle.home_types.specs.declared.worlds.Stand.{Stand}
-use Rattle.lineage_table.specs.Accesses.{IsDisciplined, behind, put_before, with_change, without, written_by}
+use Rattle.lineage_table.specs.Accesses.{IsDisciplined, access_of, behind, put_before, with_change, without, written_by}
 use Rattle.lineage_table.specs.declared.accesses.Access.{Access}
 use Rattle.lineage_table.specs.declared.accesses.Status.TheVariants.{Acquired, Released}
 use Rattle.std.specs.List.{list_any}
@@ -50,6 +50,22 @@ removed r s = with_left (without r s.accesses) s
 -- the run's value is committed: its access and those before it are gone
 abbrev pub settled : ℕ → LineageState → LineageState
 settled r s = record (with_left (behind r s.accesses) s) { committed = unwrap_or (written_by r s.accesses) s.committed }
+
+-- where the run wrote the device, its value is committed, and its access and those before it leave; else its access alone leaves
+abbrev pub without_access : ℕ → Access → LineageState → LineageState
+without_access r x s = by_value x.wrote
+  where
+    by_value : Option ℕ → LineageState
+    by_value (Some v) = settled r s
+    by_value None = removed r s
+
+-- the lineage when the run has committed: as it was, where the run has no access there
+abbrev pub committed_lineage : ℕ → LineageState → LineageState
+committed_lineage r s = by_access (access_of r s.accesses)
+  where
+    by_access : Option Access → LineageState
+    by_access None = s
+    by_access (Some x) = without_access r x s
 
 abbrev pub with_committed : ℕ → LineageState → LineageState
 with_committed v s = record s { committed = v }

@@ -1,5 +1,4 @@
 -- The lineages as a run commits.
-use Rattle.commit_compaction.specs.Commits.{committed_lineage}
 use Rattle.command_rules.specs.Rosters.{run_no, touches, touches_from}
 use Rattle.device_order.specs.LineChanges.{Lacks}
 use Rattle.device_order.specs.LineWords.{CutAt}
@@ -18,7 +17,7 @@ use Rattle.home_types.specs.declared.items.Item.{Item}
 use Rattle.lineage_table.proofs.Splits.{behind_at, without_at, without_none}
 use Rattle.lineage_table.proofs.Steps.{written_at}
 use Rattle.lineage_table.specs.Accesses.{access_of, behind, has_access, is_of, without, written_by}
-use Rattle.lineage_table.specs.Lineages.{LineageState, removed, settled}
+use Rattle.lineage_table.specs.Lineages.{LineageState, committed_lineage, removed, settled}
 use Rattle.lineage_table.specs.declared.accesses.Access.{Access}
 use Rattle.lock_leasing.specs.Configurations.{Commands, Grip, Grips, Probes, Purpose, Undoes, grips_undo, is_undo}
 use Rattle.lock_leasing.specs.Order.{committed_value}

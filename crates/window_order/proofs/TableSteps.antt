@@ -1,5 +1,4 @@
 -- Each step keeps the lineage table of a window.
-use Rattle.commit_compaction.specs.Commits.{committed_lineage}
 use Rattle.command_rules.specs.Rosters.{command_at, device_no, run_no}
 use Rattle.device_order.proofs.InPlace.{two_places}
 use Rattle.device_order.specs.LineWords.{CutAt}
@@ -11,7 +10,7 @@ use Rattle.history_book.specs.declared.entries.Cause.{Cause}
 use Rattle.history_book.specs.declared.entries.End.TheVariants.{Aborted, Committed}
 use Rattle.history_book.specs.declared.entries.Entry.TheVariants.{Did, Doomed, Ended, Placed, Undid}
 use Rattle.home_types.specs.declared.commands.Answer.{Answer}
-use Rattle.lineage_table.specs.Lineages.{LineageState, lineage_at, no_lineage, removed, with_lineage}
+use Rattle.lineage_table.specs.Lineages.{LineageState, committed_lineage, lineage_at, no_lineage, removed, with_lineage}
 use Rattle.lock_leasing.specs.Configurations.{Commands, Grips, Undoes, grips_command}
 use Rattle.lock_leasing.specs.Places.{GripsFit}
 use Rattle.std.proofs.Common.{ap, arith, refl, set, subst, sym, ◌∙◌}

@@ -1,7 +1,6 @@
 use Rattle.commit_compaction.proofs.commits.commit.Given as goal
-use Rattle.commit_compaction.specs.Commits.{committed_lineage}
 use Rattle.lineage_laws.specs.Laws.{stand_of}
-use Rattle.lineage_table.specs.Lineages.{lineage_at}
+use Rattle.lineage_table.specs.Lineages.{committed_lineage, lineage_at}
 use Rattle.std.proofs.Common.{length, ℕ, ◌<◌, ◌≡◌, ◌≤◌}
 
 -- the run has committed on the devices up to here, and on no other
