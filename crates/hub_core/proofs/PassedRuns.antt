@@ -3,9 +3,8 @@ use Rattle.history_book.proofs.Searches.{map_none, map_some}
 use Rattle.home_types.specs.declared.commands.View.TheVariants.{Down}
 use Rattle.home_types.specs.declared.numbers.RunNo.{RunNo}
 use Rattle.hub_core.proofs.NotedAnswers.{length_set, lineage_set, with_same}
-use Rattle.lineage_table.specs.Accesses.{IsDisciplined, is_scheduled}
+use Rattle.lineage_table.specs.Accesses.{IsDisciplined, first_before, is_scheduled}
 use Rattle.lineage_table.specs.Lineages.{LineageState, accesses_at, acquired, lineage_at, released, with_lineage}
-use Rattle.lock_leasing.specs.Holders.{first_before}
 use Rattle.std.proofs.Common.{ap, subst, sym, ◌∙◌}
 use Rattle.std.specs.Prelude.{List, None, Some, length, slice_set, ℕ, ◌<◌, ◌≡◌}
 use Rattle.window_order.proofs.PassedAccesses.{PassesFirst, pass_first, pass_none, waits_before}

@@ -1,8 +1,7 @@
 //! What the lineage table becomes on the devices of a run that is doomed, and of those that were doomed before it came.
 ghost use Rattle.std.specs.Prelude.{◌≡◌, ◌<◌, length};
-ghost use Rattle.lineage_table.specs.Accesses.{IsDisciplined, is_scheduled};
+ghost use Rattle.lineage_table.specs.Accesses.{IsDisciplined, first_before, is_scheduled};
 ghost use Rattle.lineage_table.specs.Lineages.{accesses_at, lineage_at, with_lineage};
-ghost use Rattle.lock_leasing.specs.Holders.{first_before};
 ghost use Rattle.window_order.specs.TableChanges.{ChangesEach, IsFirst, IsWaiting, doomed_lineage, passed};
 
 use home_types::{DeviceNo, RunNo, View};
@@ -49,13 +48,6 @@ fn scheduled_before(table: &Table, d: DeviceNo, r: RunNo) -> Option<RunNo>
     ensures found { result ≡ first_before (λ x. is_scheduled x.status) r.0 (accesses_at table.now d.0) }
     ensures disciplined { IsDisciplined (accesses_at table.now d.0) }
 {
-    'accesses: for access in table.accesses(d) {
-        if access.run == r {
-            return None;
-        }
-        if access.status == Status::Scheduled {
-            return Some(access.run);
-        }
-    }
-    None
+    table.kept();
+    table.first_before(d, r, |access| access.status == Status::Scheduled)
 }

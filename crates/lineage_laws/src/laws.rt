@@ -13,7 +13,7 @@ pub fn statuses(table: &Table, d: DeviceNo)
     ensures { StandByStatus (accesses_at table.now d.0) }
 {
     // The type of the table keeps it.
-    let _ = table.accesses(d);
+    table.kept();
 }
 
 /// Where the runs of the accesses of `d` stand in `runs` in the same order, they do so without the access of any one

@@ -4,7 +4,7 @@ use Rattle.lineage_table.specs.declared.accesses.Access.{Access}
 use Rattle.lineage_table.specs.declared.accesses.Status.TheVariants.{Acquired, Released, Scheduled}
 use Rattle.lineage_table.specs.declared.accesses.Status.{Status}
 use Rattle.std.specs.List.{AllPairs, list_any}
-use Rattle.std.specs.Prelude.{Bool, IsTrue, List, None, Option, Some, [], false, filter, find, fold, if◌then◌else◌, is_some, length, not, option_and_then, option_map, position, true, unwrap_or, ℕ, ◌++◌, ◌==◌, ◌||◌, ◌∷◌}
+use Rattle.std.specs.Prelude.{Bool, IsTrue, List, None, Option, Some, [], false, filter, find, fold, if◌then◌else◌, is_some, length, not, option_and_then, option_map, position, true, unwrap_or, ℕ, ◌++◌, ◌==◌, ◌||◌, ◌∷◌, ◌≡◌}
 
 -- How an access stands
 
@@ -83,6 +83,14 @@ put_before (Some r) access accesses = put_before_run r.0 access accesses
 abbrev pub place_before : Option RunNo → List Access → Option ℕ
 place_before None accesses = Some (length accesses)
 place_before (Some r) accesses = position (is_of r.0) accesses
+
+-- the run of the first access before that of r of which the test holds
+abbrev pub first_before : (Access → Bool) → ℕ → List Access → Option RunNo
+first_before test r accesses = option_map (λ x. x.run) (find test (before r accesses))
+
+-- it is found by a test that gives these answers
+abbrev pub IsFirstBefore : (Access → Bool → Type 0) → ℕ → List Access → Option RunNo → Type 0
+IsFirstBefore answers r accesses found = (test : Access → Bool) → ((x : Access) (b : Bool) → answers x b → b ≡ test x) → found ≡ first_before test r accesses
 
 -- What was written
 

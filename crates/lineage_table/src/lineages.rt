@@ -1,6 +1,6 @@
 ghost use Rattle.std.specs.Prelude.{◌≡◌, ◌<◌, ◌≤◌, [], false, IfOk, IsSome, IsTrue, None, Some, not, option_map, position};
 ghost use Rattle.std.specs.Option.{ForSome};
-ghost use Rattle.lineage_table.specs.Accesses.{IsDisciplined, access_of, before, effective_writer, has_access, is_of, place_before, some_acquired, some_scheduled, standing_value, status_of, without, written_by};
+ghost use Rattle.lineage_table.specs.Accesses.{IsDisciplined, IsFirstBefore, access_of, before, effective_writer, has_access, is_of, place_before, some_acquired, some_scheduled, standing_value, status_of, without, written_by};
 ghost use Rattle.lineage_table.specs.Lineages.{IsNew, acquired, counted_up, released, removed, scheduled, settled, undone, with_committed, written};
 
 use crate::accesses::{Access, Status};
@@ -165,11 +165,27 @@ impl Lineage {
     }
 
     /// The accesses, in line order.
+    #[cfg(test)]
     pub fn accesses(&self) -> &[Access]
-        ensures accesses { result.now ≡ self.now.accesses }
-        ensures disciplined { IsDisciplined self.now.accesses }
+        ensures { result.now ≡ self.now.accesses }
     {
         self.accesses.as_slice()
+    }
+
+    /// The run of the first access before that of the run of which the test holds.
+    pub fn first_before<F: Fn(Access) -> bool>(&self, r: RunNo, test: F) -> Option<RunNo>
+        requires { F.IsAlwaysCallable test }
+        ensures { IsFirstBefore (F.post test) r.0 self.now.accesses result }
+    {
+        'accesses: for access in self.accesses.as_slice() {
+            if access.run == r {
+                return None;
+            }
+            if test(*access) {
+                return Some(access.run);
+            }
+        }
+        None
     }
 
     /// Does nothing. Its contract is what the accesses of every lineage keep: the released ones stand before the acquired

@@ -1,7 +1,7 @@
 ghost use Rattle.std.specs.Prelude.{◌≡◌, ◌<◌, ◌≤◌, ◌^◌, [], false, IfOk, IsSome, Some, length, ℕ};
 ghost use Rattle.std.specs.Option.{ForSome};
 ghost use Rattle.command_rules.specs.Rosters.{is_on, runs_of};
-ghost use Rattle.lineage_table.specs.Accesses.{IsDisciplined, access_of, before, effective_writer, has_access, some_acquired, some_scheduled, standing_value, status_of, without, written_by};
+ghost use Rattle.lineage_table.specs.Accesses.{IsDisciplined, IsFirstBefore, access_of, before, effective_writer, has_access, some_acquired, some_scheduled, standing_value, status_of, without, written_by};
 ghost use Rattle.lineage_table.specs.Lineages.{IsOpened, accesses_at, acquired, counted_up, lineage_at, released, removed, runs_on, scheduled, settled, undone, with_committed, with_lineage, written};
 
 use crate::accesses::{Access, Status};
@@ -129,12 +129,26 @@ impl Table {
     }
 
     /// The accesses to the device, in line order.
-    pub fn accesses(&self, d: DeviceNo) -> &[Access]
+    #[cfg(test)]
+    pub(crate) fn accesses(&self, d: DeviceNo) -> &[Access]
         requires { d.0 < length self.now }
-        ensures accesses { result.now ≡ accesses_at self.now d.0 }
-        ensures disciplined { IsDisciplined (accesses_at self.now d.0) }
+        ensures { result.now ≡ accesses_at self.now d.0 }
     {
         self.lineages[d.0 as usize].accesses()
+    }
+
+    /// The run of the first access before that of the run of which the test holds, or of all where the run has none.
+    pub fn first_before<F: Fn(Access) -> bool>(
+        &self,
+        d: DeviceNo,
+        r: RunNo,
+        test: F,
+    ) -> Option<RunNo>
+        requires device { d.0 < length self.now }
+        requires test { F.IsAlwaysCallable test }
+        ensures { IsFirstBefore (F.post test) r.0 (accesses_at self.now d.0) result }
+    {
+        self.lineages[d.0 as usize].first_before(r, test)
     }
 
     /// Does nothing. Its contract is what the accesses to each device keep: the released ones stand before the acquired

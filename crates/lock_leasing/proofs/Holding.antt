@@ -11,13 +11,13 @@ use Rattle.home_types.specs.declared.commands.Command.{Command}
 use Rattle.home_types.specs.declared.items.Item.TheVariants.{Back, Failed, Ran}
 use Rattle.home_types.specs.declared.items.Item.{Item}
 use Rattle.home_types.specs.declared.numbers.RunNo.{RunNo}
-use Rattle.lineage_table.specs.Accesses.{access_of, before, effective_writer, is_released}
+use Rattle.lineage_table.specs.Accesses.{access_of, before, effective_writer, first_before, is_released}
 use Rattle.lineage_table.specs.declared.accesses.Access.{Access}
 use Rattle.lock_leasing.proofs.AccessRuns.{EachTail, HasAccess, has_work, workers_have_access}
 use Rattle.lock_leasing.proofs.Facts.{Facts, command_pends, undone_doomed}
 use Rattle.lock_leasing.proofs.Writers.{live_writer, run_in, writer_has_effect, writer_is}
 use Rattle.lock_leasing.specs.Configurations.{Grips, grips_command}
-use Rattle.lock_leasing.specs.Holders.{access_holds, dirty_writer, first_before, holder_before, is_down_view, is_writer, reads_its_place, sees_it_down, writer_before}
+use Rattle.lock_leasing.specs.Holders.{access_holds, dirty_writer, holder_before, is_down_view, is_writer, reads_its_place, sees_it_down, writer_before}
 use Rattle.lock_leasing.specs.Order.{covers}
 use Rattle.lock_leasing.specs.Tables.{EachTellsOfRun, TellsOfRun, runs_with_access, status_by_answers, uses, view_when}
 use Rattle.lock_leasing.specs.Waits.{behind_wait, dirty_wait}

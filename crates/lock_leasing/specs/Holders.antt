@@ -6,7 +6,7 @@ use Rattle.home_types.specs.declared.commands.Command.{Command}
 use Rattle.home_types.specs.declared.commands.View.TheVariants.{Down, Up}
 use Rattle.home_types.specs.declared.commands.View.{View}
 use Rattle.home_types.specs.declared.numbers.RunNo.{RunNo}
-use Rattle.lineage_table.specs.Accesses.{access_of, before, effective_writer, is_released}
+use Rattle.lineage_table.specs.Accesses.{access_of, effective_writer, first_before, is_released}
 use Rattle.lineage_table.specs.declared.accesses.Access.{Access}
 use Rattle.std.specs.Prelude.{Bool, List, None, Option, false, find, if◌then◌else◌, is_none, is_some, not, option_map, true, unwrap_or, ℕ, ◌&&◌, ◌==◌}
 
@@ -16,10 +16,6 @@ is_writer writer x = unwrap_or (option_map (λ q. q.0 == x.run.0) writer) false
 -- a doomed run holds the device where it is the effective writer, another where it is not done with it
 abbrev pub access_holds : List Kept → Option RunNo → Access → Bool
 access_holds history writer x = if is_some (doom_of history x.run.0) then is_writer writer x else not (is_released x.status)
-
--- the run of the first access before that of r of which the test holds
-abbrev pub first_before : (Access → Bool) → ℕ → List Access → Option RunNo
-first_before test r accesses = option_map (λ x. x.run) (find test (before r accesses))
 
 -- the first run before r that holds the device
 abbrev pub holder_before : List Kept → ℕ → List Access → Option RunNo

@@ -57,15 +57,8 @@ fn find_holder(s: &Standing, d: DeviceNo, r: RunNo) -> Option<RunNo>
     ensures { result ≡ holder_before s.now.book.now.items r.0 (accesses_at s.now.table.now d.0) }
 {
     let writer = s.table.effective_writer(d);
-    'accesses: for access in s.table.accesses(d) {
-        if access.run == r {
-            return None;
-        }
-        if holds(s.book, writer, *access) {
-            return Some(access.run);
-        }
-    }
-    None
+    s.table
+        .first_before(d, r, |access| holds(s.book, writer, access))
 }
 
 /// Whether the run of an access holds the device, whose effective writer is `writer`.
@@ -98,13 +91,6 @@ fn find_writer(s: &Standing, d: DeviceNo, r: RunNo) -> Option<RunNo>
     ensures { result ≡ writer_before r.0 (accesses_at s.now.table.now d.0) }
 {
     let writer = s.table.effective_writer(d);
-    'accesses: for access in s.table.accesses(d) {
-        if access.run == r {
-            return None;
-        }
-        if writer == Some(access.run) {
-            return writer;
-        }
-    }
-    None
+    s.table
+        .first_before(d, r, |access| writer == Some(access.run))
 }

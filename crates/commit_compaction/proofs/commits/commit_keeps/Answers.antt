@@ -3,4 +3,4 @@ use Rattle.commit_compaction.proofs.commits.commit_keeps.Goals as goal
 use Rattle.lineage_table.specs.Lineages.{lineage_at}
 
 pub returns : goal.returns
-returns c = commit_stands c.args.r (lineage_at c.args.table.now c.args.d.0) c.accesses.ensures.disciplined
+returns c = commit_stands c.args.r (lineage_at c.args.table.now c.args.d.0) (c.kept.ensures c.args.d.0)
