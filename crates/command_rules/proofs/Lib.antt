@@ -3,3 +3,4 @@ pub mod LastPlaces
 pub mod LastSums
 pub mod FootprintBits
 pub mod Sharing
+pub mod Indexes

@@ -2,12 +2,12 @@
 #![tactic(auto)]
 
 pub mod footprints;
-pub mod indexed_rosters;
+mod indexed_rosters;
 pub mod jobs;
-pub mod rosters;
+mod rosters;
 #[cfg(test)]
 mod tests;
 
 pub use indexed_rosters::IndexedRoster;
-pub use jobs::{reads, writes};
+pub use jobs::{driven, fails, reads, register_after, writes};
 pub use rosters::{Roster, RosterRun};
