@@ -1,4 +1,5 @@
 -- The number of a trial.
+use Rattle.home_types.specs.Limits.{most_windows}
 use Rattle.std.specs.List.{list_all}
 use Rattle.std.specs.Option.{option_map_or}
 use Rattle.std.specs.Prelude.{Bool, List, None, Option, Some, false, if◌then◌else◌, length, nat_le, not, slice_get, ℕ, ◌&&◌, ◌==◌}
@@ -16,9 +17,9 @@ starts_with_no_zero word = option_map_or (λ b. not (b == 48)) (slice_get word 0
 abbrev pub is_numeral : List ℕ → Bool
 is_numeral word = starts_with_no_zero word && (nat_le (length word) 3 && list_all is_digit word)
 
--- from 1 to 288
+-- from 1 to as many windows as a script may have
 abbrev pub is_window_count : ℕ → Bool
-is_window_count n = nat_le 1 n && nat_le n 288
+is_window_count n = nat_le 1 n && nat_le n most_windows
 
 -- the number that a word writes with 1 to 3 decimal digits without a leading zero, from 1 to 288
 abbrev pub number_of : List ℕ → Option ℕ

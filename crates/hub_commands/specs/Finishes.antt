@@ -5,6 +5,7 @@ use Rattle.command_words.specs.declared.command_lines.Options.{Options}
 use Rattle.day_clock.specs.Sinks.{AppendsPart}
 use Rattle.day_clock.specs.Sources.{TakesCount}
 use Rattle.day_report.specs.Days.{day_text}
+use Rattle.home_types.specs.Limits.{most_script_bytes}
 use Rattle.home_types.specs.Listed.{Listed}
 use Rattle.hub_core.specs.LegalDays.{IsLegalCutDay, IsLegalDay}
 use Rattle.hub_commands.specs.Days.{DevicesAreProbed, WindowsArePlayed, text_due}
@@ -13,7 +14,6 @@ use Rattle.hub_commands.specs.declared.faults.Fault.{Fault}
 use Rattle.hub_commands.specs.declared.finishes.Day.{Day}
 use Rattle.later_forms.specs.CommandLines.{is_later}
 use Rattle.later_forms.specs.Scripts.{first_later}
-use Rattle.routine_reader.specs.Limits.{most_bytes}
 use Rattle.routine_reader.specs.Readings.{script_reading}
 use Rattle.routine_reader.specs.Scripts.{plain_script}
 use Rattle.routine_reader.specs.Spots.{is_memory, top}
@@ -52,7 +52,7 @@ pub record IsRead (source : Reads) (script : Script) : Type 0 where
 
 -- all of it was read, or one byte more than a script may have
 abbrev pub IsTaken : Reads → Type 0
-IsTaken source = IsAtEnd source.rest ⊎ TakesCount source.left source.rest (most_bytes + 1)
+IsTaken source = IsAtEnd source.rest ⊎ TakesCount source.left source.rest (most_script_bytes + 1)
 
 -- the source gave its bytes without a fault, to its end or to one byte more than a script may have, and their reading is this refusal
 pub record IsRefused (source : Reads) (fault : ReadFault) : Type 0 where

@@ -4,6 +4,7 @@ use Rattle.history_book.specs.Histories.{entries_of}
 use Rattle.history_book.specs.Settings.{is_weak}
 use Rattle.history_book.specs.WellFormed.{IsWellFormed}
 use Rattle.history_book.specs.declared.entries.Kept.{Kept}
+use Rattle.home_types.specs.Limits.{most_commands, most_devices, most_runs}
 use Rattle.home_types.specs.declared.commands.Command.{Command}
 use Rattle.home_types.specs.declared.items.Item.TheVariants.{Back, Failed, Ran}
 use Rattle.home_types.specs.declared.items.Item.{Item}
@@ -28,9 +29,9 @@ item_has_touched n g (Back e k) d = e.0 == d
 
 -- a window of these runs may be opened on a home of so many devices
 pub record IsRosterFor (devices : ℕ) (runs : List Run) : Type 0 where
-  pub few_devices : devices ≤ 256
-  pub few_runs : length runs ≤ 64
-  pub few_commands : (r : ℕ) → length (commands_of runs r) ≤ 64
+  pub few_devices : devices ≤ most_devices
+  pub few_runs : length runs ≤ most_runs
+  pub few_commands : (r : ℕ) → length (commands_of runs r) ≤ most_commands
   -- each command is on a device of the home
   pub homed : (r k : ℕ) (c : Command) → slice_get (commands_of runs r) k ≡ Some c → c.device.0 < devices
   -- a run follows an earlier run, or none

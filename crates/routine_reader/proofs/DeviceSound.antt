@@ -1,12 +1,13 @@
 -- A device that is read is one that the format allows.
 use Rattle.home_types.specs.Kinds.{has_value}
+use Rattle.home_types.specs.Limits.{most_downs}
 use Rattle.home_types.specs.declared.kinds.Kind.TheVariants.{Range, States}
 use Rattle.home_types.specs.declared.kinds.Kind.{Kind}
 use Rattle.routine_reader.proofs.PrefixLemmas.{each-none}
 use Rattle.routine_reader.proofs.WalkSound.{each-after, each-all, each-length, ok-found, ok-if, ok-same, ok-then, ok-unless, ok-within}
 use Rattle.routine_reader.specs.Devices.{DeviceMembers, DeviceValues, device_members, device_reading, device_values, device_with, down_in, down_reading, down_within, downs_reading, has_states_or_range, next_down, range_with, state_name, state_names, states_with, value_in, value_within}
 use Rattle.routine_reader.specs.Forms.{at_most, has_form, if_there, items_in, needed, number_of, or_default, state_of}
-use Rattle.routine_reader.specs.Limits.{most_downs, most_of_32_bits}
+use Rattle.routine_reader.specs.Limits.{most_of_32_bits}
 use Rattle.routine_reader.specs.Names.{is_among, is_name, new_name, place_of}
 use Rattle.routine_reader.specs.Scripts.{PlainDevice}
 use Rattle.routine_reader.specs.Sound.{IsName, IsSoundDevice, IsSoundDown, IsSoundKind}

@@ -1,5 +1,6 @@
 -- A routine that is read is one that the format allows.
 use Rattle.home_types.specs.Kinds.{kind_at}
+use Rattle.home_types.specs.Limits.{most_commands}
 use Rattle.home_types.specs.declared.commands.Command.{Command}
 use Rattle.home_types.specs.declared.commands.Job.TheVariants as job
 use Rattle.home_types.specs.declared.commands.Job.{Job}
@@ -8,7 +9,6 @@ use Rattle.routine_reader.proofs.DeviceSound.{new-name, place-within, some-same,
 use Rattle.routine_reader.proofs.WalkSound.{each-all, each-length, ok-found, ok-same, ok-then, ok-unless, ok-within}
 use Rattle.routine_reader.specs.Commands.{command_members, command_reading, job_of, kind_of, next_command, states_of}
 use Rattle.routine_reader.specs.Devices.{device_names, value_in}
-use Rattle.routine_reader.specs.Limits.{most_commands}
 use Rattle.routine_reader.specs.Names.{is_among, new_name, place_of}
 use Rattle.routine_reader.specs.Routines.{commands_reading, routine_members, routine_reading}
 use Rattle.routine_reader.specs.Scripts.{PlainDevice, PlainRoutine}

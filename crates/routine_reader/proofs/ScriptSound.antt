@@ -1,12 +1,12 @@
 -- A script that is read is one that the format allows, where the times of its windows are times.
 use Rattle.day_clock.specs.Times.{IsCivilTime}
+use Rattle.home_types.specs.Limits.{most_devices, most_routines, most_windows}
 use Rattle.routine_reader.proofs.DeviceSound.{device-sound}
 use Rattle.routine_reader.proofs.PrefixLemmas.{EachAfter, different-names, each-none, length-before}
 use Rattle.routine_reader.proofs.RoutineSound.{routine-sound}
 use Rattle.routine_reader.proofs.WalkSound.{each-after, each-all, each-length, ok-same, ok-then}
 use Rattle.routine_reader.proofs.WindowSound.{window-sound}
 use Rattle.routine_reader.specs.Devices.{device_names, next_device}
-use Rattle.routine_reader.specs.Limits.{most_devices, most_routines, most_windows}
 use Rattle.routine_reader.specs.Names.{is_among}
 use Rattle.routine_reader.specs.Readings.{DayMembers, parts_reading}
 use Rattle.routine_reader.specs.Routines.{next_routine, routine_names}

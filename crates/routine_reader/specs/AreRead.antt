@@ -1,6 +1,6 @@
 -- What a reader of commands may rely on, of the devices that were read.
+use Rattle.home_types.specs.Limits.{most_devices, most_states}
 use Rattle.routine_reader.specs.Devices.{device_names}
-use Rattle.routine_reader.specs.Limits.{most_devices, most_states}
 use Rattle.routine_reader.specs.Scripts.{plain_device}
 use Rattle.routine_reader.specs.declared.devices.Devices.{Devices}
 use Rattle.std.specs.Prelude.{All, length, map, ◌≡◌, ◌≤◌}

@@ -1,41 +1,8 @@
--- The limits of a script.
+-- The limits of a script by what they count, and what a script need not say.
 use Rattle.routine_reader.specs.declared.faults.Count.TheVariants.{Bytes, Commands, Devices, Downs, Ms, Probes, Routines, Runs, States, Turns, Windows}
 use Rattle.routine_reader.specs.declared.faults.Count.{Count}
+use Rattle.home_types.specs.Limits.{most_commands, most_devices, most_downs, most_ms, most_probes, most_routines, most_runs, most_script_bytes, most_states, most_turns, most_windows}
 use Rattle.std.specs.Prelude.{ℕ}
-
-abbrev pub most_devices : ℕ
-most_devices = 256
-
-abbrev pub most_states : ℕ
-most_states = 256
-
-abbrev pub most_downs : ℕ
-most_downs = 16
-
-abbrev pub most_routines : ℕ
-most_routines = 1024
-
-abbrev pub most_commands : ℕ
-most_commands = 64
-
-abbrev pub most_windows : ℕ
-most_windows = 288
-
-abbrev pub most_runs : ℕ
-most_runs = 64
-
-abbrev pub most_turns : ℕ
-most_turns = 4096
-
-abbrev pub most_probes : ℕ
-most_probes = 100
-
--- one hour in ms
-abbrev pub most_ms : ℕ
-most_ms = 3600000
-
-abbrev pub most_bytes : ℕ
-most_bytes = 4194304
 
 -- the characters of a name
 abbrev pub most_characters : ℕ
@@ -58,7 +25,7 @@ most_of_64_bits = 18446744073709551615
 
 -- the most that a script may have of each kind
 abbrev pub limit_of : Count → ℕ
-limit_of Bytes = most_bytes
+limit_of Bytes = most_script_bytes
 limit_of Devices = most_devices
 limit_of States = most_states
 limit_of Downs = most_downs

@@ -1,7 +1,7 @@
 -- The reading of a script.
+use Rattle.home_types.specs.Limits.{most_script_bytes}
 use Rattle.routine_reader.specs.Devices.{next_device}
 use Rattle.routine_reader.specs.Forms.{has_form, items_in, long_number_of, needed}
-use Rattle.routine_reader.specs.Limits.{most_bytes}
 use Rattle.routine_reader.specs.Routines.{next_routine, routine_names}
 use Rattle.routine_reader.specs.Scripts.{PlainScript}
 use Rattle.routine_reader.specs.Spots.{top}
@@ -69,8 +69,8 @@ value_reading value = do
 -- the script that the bytes are, or the first refusal of the walk
 unfoldable pub script_reading : List ℕ → Result PlainScript ReadFault
 script_reading bytes =
-    if nat_le (length bytes) most_bytes then
+    if nat_le (length bytes) most_script_bytes then
     (do
       value ← ok_or (value_of bytes) NotJson
       value_reading value)
-    else Err (TooMany count.Bytes (most_bytes + 1) most_bytes)
+    else Err (TooMany count.Bytes (most_script_bytes + 1) most_script_bytes)

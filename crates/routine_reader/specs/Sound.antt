@@ -2,13 +2,13 @@
 use Rattle.day_clock.specs.Times.{IsCivilTime, is_before}
 use Rattle.day_clock.specs.declared.times.When.{When}
 use Rattle.home_types.specs.Kinds.{has_value, kind_at}
+use Rattle.home_types.specs.Limits.{most_commands, most_devices, most_downs, most_ms, most_probes, most_routines, most_runs, most_states, most_turns, most_windows}
 use Rattle.home_types.specs.declared.commands.Command.{Command}
 use Rattle.home_types.specs.declared.commands.Job.TheVariants.{Check, Load, Set, Store}
 use Rattle.home_types.specs.declared.commands.Job.{Job}
 use Rattle.home_types.specs.declared.kinds.Kind.TheVariants.{Range, States}
 use Rattle.home_types.specs.declared.kinds.Kind.{Kind}
 use Rattle.routine_reader.specs.Devices.{device_names}
-use Rattle.routine_reader.specs.Limits.{most_commands, most_devices, most_downs, most_ms, most_probes, most_routines, most_runs, most_states, most_turns, most_windows}
 use Rattle.routine_reader.specs.Names.{is_among, is_name}
 use Rattle.routine_reader.specs.Routines.{routine_names}
 use Rattle.routine_reader.specs.Scripts.{PlainDevice, PlainRoutine, PlainScript, PlainWindow}

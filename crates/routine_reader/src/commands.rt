@@ -1,6 +1,6 @@
+ghost use Rattle.home_types.specs.Limits.{most_states};
 ghost use Rattle.routine_reader.specs.AreRead.{AreDevices};
 ghost use Rattle.routine_reader.specs.Commands.{command_members, command_reading, job_of, kind_of, states_of, suits_verb, verb_of};
-ghost use Rattle.routine_reader.specs.Limits.{most_states};
 ghost use Rattle.routine_reader.specs.Scripts.{plain_device};
 ghost use Rattle.serde_json.specs.View.{view};
 ghost use Rattle.std.specs.Prelude.{◌≡◌, ◌<◌, ◌≤◌, All, length, map, option_map};

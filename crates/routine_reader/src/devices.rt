@@ -1,7 +1,7 @@
+ghost use Rattle.home_types.specs.Limits.{most_devices, most_downs, most_states};
 ghost use Rattle.home_types.specs.Listed.{Listed};
 ghost use Rattle.routine_reader.specs.AreRead.{AreDevices};
 ghost use Rattle.routine_reader.specs.Devices.{device_members, device_reading, device_values, down_reading, downs_reading, has_states_or_range, next_device, next_down, state_name, state_names, value_in};
-ghost use Rattle.routine_reader.specs.Limits.{most_devices, most_downs, most_states};
 ghost use Rattle.routine_reader.specs.Names.{is_among};
 ghost use Rattle.routine_reader.specs.Scripts.{plain_device};
 ghost use Rattle.routine_reader.specs.Walks.{IsReading, read_each};

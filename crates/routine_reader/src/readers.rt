@@ -1,5 +1,5 @@
+ghost use Rattle.home_types.specs.Limits.{most_devices, most_routines, most_windows};
 ghost use Rattle.day_clock.specs.Times.{IsCivilTime};
-ghost use Rattle.routine_reader.specs.Limits.{most_devices, most_routines, most_windows};
 ghost use Rattle.routine_reader.specs.Readings.{day_members, members_reading, parts_reading, script_reading, value_of, value_reading};
 ghost use Rattle.routine_reader.specs.Scripts.{plain_script};
 ghost use Rattle.routine_reader.specs.Sound.{IsSound};

@@ -1,7 +1,7 @@
+ghost use Rattle.home_types.specs.Limits.{most_commands, most_routines};
 ghost use Rattle.home_types.specs.Listed.{Listed};
 ghost use Rattle.routine_reader.specs.AreRead.{AreDevices};
 ghost use Rattle.routine_reader.specs.Commands.{next_command};
-ghost use Rattle.routine_reader.specs.Limits.{most_commands, most_routines};
 ghost use Rattle.routine_reader.specs.Names.{is_among};
 ghost use Rattle.routine_reader.specs.Routines.{commands_reading, next_routine, routine_members, routine_names, routine_reading};
 ghost use Rattle.routine_reader.specs.Scripts.{plain_device, plain_routine};

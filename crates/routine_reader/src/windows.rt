@@ -1,6 +1,6 @@
+ghost use Rattle.home_types.specs.Limits.{most_routines, most_runs, most_turns, most_windows};
 ghost use Rattle.day_clock.specs.Times.{IsCivilTime};
 ghost use Rattle.home_types.specs.Listed.{Listed};
-ghost use Rattle.routine_reader.specs.Limits.{most_routines, most_runs, most_turns, most_windows};
 ghost use Rattle.routine_reader.specs.Scripts.{plain_window};
 ghost use Rattle.routine_reader.specs.Walks.{IsReading, read_each};
 ghost use Rattle.routine_reader.specs.Windows.{follows_reading, is_later, next_run, next_turn, next_window, run_members, run_reading, time_reading, turn_reading, window_members, window_reading};

@@ -1,7 +1,7 @@
+use Rattle.home_types.specs.Limits.{most_states}
 use Rattle.routine_reader.proofs.WalkLemmas.{each-end, each-read, each-refused, walk-refused}
 use Rattle.routine_reader.proofs.devices.read_devices.Goals as goal
 use Rattle.routine_reader.specs.Devices.{device_names, next_device}
-use Rattle.routine_reader.specs.Limits.{most_states}
 use Rattle.routine_reader.specs.Scripts.{plain_device}
 use Rattle.routine_reader.specs.Spots.{is_memory}
 use Rattle.routine_reader.specs.Walks.{read_each}

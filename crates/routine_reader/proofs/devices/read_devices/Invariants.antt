@@ -1,6 +1,6 @@
+use Rattle.home_types.specs.Limits.{most_states}
 use Rattle.routine_reader.proofs.devices.read_devices.Given as goal
 use Rattle.routine_reader.specs.Devices.{device_names, next_device}
-use Rattle.routine_reader.specs.Limits.{most_states}
 use Rattle.routine_reader.specs.Scripts.{plain_device}
 use Rattle.routine_reader.specs.Walks.{read_each}
 use Rattle.serde_json.specs.View.{view}
