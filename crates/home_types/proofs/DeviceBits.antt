@@ -4,13 +4,13 @@ use Rattle.std.proofs.Common.{ap, arith, cond, nat_eq, refl, sym, ◌∙◌}
 use Rattle.std.proofs.lemmas.Cmp.{nat_cmp_total}
 use Rattle.std.proofs.lemmas.Grind.{common_steps}
 use Rattle.std.proofs.lemmas.List.{get_or-set_other, get_or-set_same}
-use Rattle.std.proofs.lemmas.Nat.Bits.{bit_at-pow_other, bit_at-pow_same, bit_at-zero, bit_at_or, shr_and_one}
+use Rattle.std.proofs.lemmas.Nat.Bits.{bit_at-pow_other, bit_at-pow_same, bit_at-zero, bit_at_clear_other, bit_at_clear_same, bit_at_or, shr_and_one}
 use Rattle.std.specs.FinSet as set
-use Rattle.std.specs.Int.{bit_at}
+use Rattle.std.specs.Int.{bit_at, bit_not, w64}
 use Rattle.std.specs.List.{list_any, range_with_len}
 use Rattle.std.specs.Ordering.{eq_by_cmp, is_eq, nat_cmp}
 use Rattle.std.specs.declared.cmp.Ordering.TheVariants.{Equal, Greater, Less}
-use Rattle.std.specs.Prelude.{Bool, List, [], bit_and, bit_or, false, filter, get_or, length, nat_le, nat_lt, replicate, slice_index, slice_set, suc, true, zero, ℕ, ◌%◌, ◌&&◌, ◌+◌, ◌/◌, ◌<◌, ◌==◌, ◌^◌, ◌||◌, ◌∷◌, ◌≡◌, ◌≢◌}
+use Rattle.std.specs.Prelude.{Bool, List, [], bit_and, bit_or, false, filter, get_or, length, nat_le, nat_lt, not, replicate, slice_index, slice_set, suc, true, zero, ℕ, ◌%◌, ◌&&◌, ◌*◌, ◌+◌, ◌/◌, ◌<◌, ◌==◌, ◌^◌, ◌||◌, ◌∷◌, ◌≡◌, ◌≢◌}
 
 -- the order of numbers ties only a number with itself
 tied : (x y : ℕ) → eq_by_cmp nat_cmp x y ≡ (x == y)
@@ -75,6 +75,33 @@ with_device words d small four =
     let within : d / 64 < length words = rw four (omega (arith, small)) in
     set.same_set nat_cmp_total set.nat_cmp-IsAntisymmetric _ _ (λ q.
     contains_bits _ q ∙ rw (with_bit words d q within, contains_insert (devices_of_bits words) d q, contains_bits words q) (grind (arith, common_steps)))
+
+-- a bit less is a device less
+
+pub contains_remove : (s : Devices) (d q : ℕ) → set.contains (set.remove s d) q ≡ (not (q == d) && set.contains s q)
+contains_remove s d q = set.contains-remove nat_cmp_total s d q ∙ ap (λ b. not b && set.contains s q) (tied q d)
+
+-- the word without its bit k
+abbrev pub cleared : ℕ → ℕ → ℕ
+cleared w k = bit_and w (bit_not w64 (1 * 2 ^ k % 2 ^ 64))
+
+clear_bit : (w k i : ℕ) → k < 64 → i < 64 → (bit_at (cleared w k) i == 1) ≡ (not (i == k) && (bit_at w i == 1))
+clear_bit w k i low within = elim (i == k) as (λ b. (i == k) ≡ b → (bit_at (cleared w k) i == 1) ≡ (not b && (bit_at w i == 1))) [
+  | true ↦ (λ e. let same : i ≡ k = grind (arith, common_steps) in rw (same, bit_at_clear_same w64 w k low) refl)
+  | false ↦ (λ e. let other : i ≢ k = grind (arith, common_steps) in rw (bit_at_clear_other w64 w k low i within other) refl)
+] refl
+
+without_bit : (words : List ℕ) (d q : ℕ) → d / 64 < length words → has_bit (slice_set words (d / 64) (cleared (slice_index words (d / 64)) (d % 64))) q ≡ (not (q == d) && has_bit words q)
+without_bit words d q within = elim ((q / 64) == (d / 64)) as (λ b. ((q / 64) == (d / 64)) ≡ b → has_bit (slice_set words (d / 64) (cleared (slice_index words (d / 64)) (d % 64))) q ≡ (not (q == d) && has_bit words q)) [
+  | true ↦ (λ e. let same : q / 64 ≡ d / 64 = grind (arith, common_steps) in rw (same, get_or-set_same words (d / 64) (cleared (slice_index words (d / 64)) (d % 64)) 0 within, clear_bit (slice_index words (d / 64)) (d % 64) (q % 64) (omega arith) (omega arith), same_word q d same) refl)
+  | false ↦ (λ e. let other : q / 64 ≢ d / 64 = grind (arith, common_steps) in let apart : (q == d) ≡ false = grind (arith, common_steps) in rw (get_or-set_other words (d / 64) (q / 64) (cleared (slice_index words (d / 64)) (d % 64)) 0 other, apart) refl)
+] refl
+
+pub without_device : (words : List ℕ) (d : ℕ) → d < 256 → length words ≡ 4 → devices_of_bits (slice_set words (d / 64) (cleared (slice_index words (d / 64)) (d % 64))) ≡ set.remove (devices_of_bits words) d
+without_device words d small four =
+    let within : d / 64 < length words = rw four (omega (arith, small)) in
+    set.same_set nat_cmp_total set.nat_cmp-IsAntisymmetric _ _ (λ q.
+    contains_bits _ q ∙ rw (without_bit words d q within, contains_remove (devices_of_bits words) d q, contains_bits words q) (grind (arith, common_steps)))
 
 -- the test of a bit
 pub test_bit : (word k : ℕ) → (bit_and (word / 2 ^ k) 1 == 1) ≡ (bit_at word k == 1)

@@ -41,6 +41,15 @@ impl DeviceSet {
         self.words[(device.0 / 64) as usize] |= bit;
     }
 
+    /// Takes the device out, where it is in.
+    pub fn remove(&mut self, device: DeviceNo)
+        requires { device.0 < most_devices }
+        ensures { self.new ≡ set.remove self.old device.0 }
+    {
+        let bit: u64 = 1 << (device.0 % 64);
+        self.words[(device.0 / 64) as usize] &= !bit;
+    }
+
     /// Whether the device is in it. A device from 256 on is not.
     pub fn has(&self, device: DeviceNo) -> bool
         ensures { result ≡ set.contains self.now device.0 }

@@ -2,6 +2,7 @@
 ghost use Rattle.std.specs.Prelude.{◌≡◌, ◌+◌, ◌<◌, ◌≤◌, ◌^◌, [], IfOk, IsTrue, Some, false, if◌then◌else◌, length, true, ℕ};
 ghost use Rattle.abort_rollback.specs.Undos.{next_undo};
 ghost use Rattle.command_rules.specs.Rosters.{commands_of, is_run, runs_of, touches};
+ghost use Rattle.home_types.specs.Limits.{most_devices};
 ghost use Rattle.home_types.specs.declared.items.Item.TheVariants.{Ran};
 ghost use Rattle.hub_core.specs.KeptOrders.{MayNote, acquired_first, is_first, noted_first};
 ghost use Rattle.hub_core.specs.OpenHubs.{purpose_of};
@@ -52,7 +53,7 @@ impl KeptOrder {
         roster: &Roster,
         items: u64,
     ) -> Result<KeptOrder, NoMemory>
-        requires devices { length world.now.devices.items ≤ 2 ^ 16 }
+        requires devices { length world.now.devices.items ≤ most_devices }
         requires items { items < 2 ^ 32 }
         ensures marks { IfOk result (λ order. order.line.marks ≡ []) }
         ensures room { IfOk result (λ order. items ≤ order.line.spare) }

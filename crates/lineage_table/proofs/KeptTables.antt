@@ -1,4 +1,5 @@
 -- A table stays one when the lineage of a device changes.
+use Rattle.home_types.specs.Limits.{most_devices}
 use Rattle.lineage_table.specs.Accesses.{IsDisciplined}
 use Rattle.lineage_table.specs.Lineages.{IsTable, LineageState, accesses_at, no_lineage}
 use Rattle.std.proofs.Common.{List, arith, get_or, length, refl, set, subst, sym, ℕ, ◌<◌, ◌≡◌, ◌≢◌, ◌∙◌}
@@ -9,7 +10,7 @@ use Rattle.std.specs.Prelude.{Bool, false, true, ◌==◌, ◌^◌, ◌≤◌}
 -- the lineage that is there afterwards keeps its accesses in turn, as each lineage does
 pub table_set : (table now : List LineageState) (d : ℕ) (s x : LineageState) → IsTable table → table ≡ now → d < length now → x ≡ get_or (set table d s) d x → IsDisciplined x.accesses → IsTable (set table d s)
 table_set table now d s x is same below there turns = record {
-  few = subst (λ k. k ≤ 2 ^ 16) (sym (length-set table d s)) is.few;
+  few = subst (λ k. k ≤ most_devices) (sym (length-set table d s)) is.few;
   turns = λ e. at_ e (e == d) refl;
 }
   where

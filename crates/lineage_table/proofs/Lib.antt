@@ -5,3 +5,5 @@ pub mod Standing
 pub mod Steps
 pub mod Undoing
 pub mod KeptTables
+pub mod RunSets
+pub mod RunAccesses

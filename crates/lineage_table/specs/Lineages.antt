@@ -1,6 +1,7 @@
 -- The lineage of a device, what each call makes of it, and the lineages of a home.
 use Rattle.command_rules.specs.Rosters.{Run, is_on}
 use Rattle.home_types.specs.HomeStates.{stand_at}
+use Rattle.home_types.specs.Limits.{most_devices}
 use Rattle.home_types.specs.declared.commands.View.{View}
 use Rattle.home_types.specs.declared.numbers.RunNo.{RunNo}
 use Rattle.home_types.specs.declared.worlds.Stand.{Stand}
@@ -88,7 +89,7 @@ accesses_at table d = (lineage_at table d).accesses
 
 -- what is true of the lineages of every table: a device has a number, and the accesses to each are in turn
 pub record IsTable (table : List LineageState) : Type 0 where
-  pub few : length table ≤ 2 ^ 16
+  pub few : length table ≤ most_devices
   pub turns : (d : ℕ) → IsDisciplined (accesses_at table d)
 
 -- the table with this change to the lineage of the device

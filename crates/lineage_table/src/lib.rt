@@ -1,9 +1,10 @@
 // The lineage table: for each device its committed value, and the accesses to it in line order.
 #![tactic(auto)]
 
-pub mod accesses;
-pub mod lineages;
-pub mod tables;
+mod accesses;
+mod lineages;
+mod run_devices;
+mod tables;
 #[cfg(test)]
 mod tests;
 #[cfg(test)]

@@ -1,5 +1,6 @@
-ghost use Rattle.std.specs.Prelude.{◌≡◌, ◌<◌, ◌≤◌, [], false, IfOk, IsSome, IsTrue, None, Some, not, option_map, position};
+ghost use Rattle.std.specs.Prelude.{◌≡◌, ◌<◌, ◌≤◌, [], false, IfOk, IsSome, IsTrue, None, Some, length, not, option_map, position, slice_index_or};
 ghost use Rattle.std.specs.Option.{ForSome};
+ghost use Rattle.lineage_table.specs.declared.accesses.Access.{Access};
 ghost use Rattle.lineage_table.specs.Accesses.{IsDisciplined, IsFirstBefore, access_of, before, effective_writer, has_access, is_of, place_before, some_acquired, some_scheduled, standing_value, status_of, without, written_by};
 ghost use Rattle.lineage_table.specs.Lineages.{IsNew, acquired, counted_up, released, removed, scheduled, settled, undone, with_committed, written};
 
@@ -204,6 +205,14 @@ impl Lineage {
         Some(self.accesses[at])
     }
 
+    /// The run of the access at this place, counted from 0.
+    pub(crate) fn run_at(&self, at: usize) -> RunNo
+        requires { at < length self.now.accesses }
+        ensures { (any : Access) → result ≡ (slice_index_or self.now.accesses at any).run }
+    {
+        self.accesses[at].run
+    }
+
     /// The value that stands: the last one written, else the committed one.
     pub fn stand(&self) -> Value
         ensures { result ≡ standing_value self.now.committed self.now.accesses }
@@ -251,7 +260,7 @@ impl Lineage {
     }
 
     /// The place of the run's access, counted from 0. It has one.
-    fn place(&self, r: RunNo) -> usize
+    pub(crate) fn place(&self, r: RunNo) -> usize
         requires { IsTrue (has_access r.0 self.now.accesses) }
         ensures { position (is_of r.0) self.now.accesses ≡ Some result }
     {

@@ -1,13 +1,18 @@
-ghost use Rattle.std.specs.Prelude.{◌≡◌, ◌<◌, ◌≤◌, ◌^◌, [], false, IfOk, IsSome, Some, length, ℕ};
+ghost use Rattle.std.specs.Prelude.{◌≡◌, ◌<◌, ◌≤◌, ◌==◌, ◌||◌, ◌^◌, [], false, IfOk, IfSome, IsSome, IsTrue, Some, length, option_map, ℕ};
 ghost use Rattle.std.specs.Option.{ForSome};
 ghost use Rattle.command_rules.specs.Rosters.{is_on, runs_of};
 ghost use Rattle.lineage_table.specs.Accesses.{IsDisciplined, IsFirstBefore, access_of, before, effective_writer, has_access, some_acquired, some_scheduled, standing_value, status_of, without, written_by};
+ghost use Rattle.home_types.specs.DeviceSets.{IsFirstFrom};
+ghost use Rattle.home_types.specs.Limits.{most_devices};
+ghost use Rattle.lineage_table.specs.RunDevices.{HasLess};
 ghost use Rattle.lineage_table.specs.Lineages.{IsOpened, accesses_at, acquired, counted_up, lineage_at, released, removed, runs_on, scheduled, settled, undone, with_committed, with_lineage, written};
 
 use crate::accesses::{Access, Status};
 use crate::lineages::Lineage;
+use crate::run_devices::RunDevices;
 use command_rules::Roster;
 use command_rules::footprints::has_command_on;
+use home_types::limits::RUNS;
 use home_types::{DeviceNo, NoMemory, RunNo, Value, View, World};
 use std::alloc::Global;
 use std::marker::Model;
@@ -19,17 +24,20 @@ use std::marker::Model;
 #[derive(Drop)]
 pub struct Table {
     lineages: Vec<Lineage>,
+    // the devices to which each run has an access, for the run numbers up to that of the last run
+    devices: RunDevices,
 }
 
 impl Model for Table {
     ghost use Rattle.std.specs.Prelude.{List};
-    ghost use Rattle.lineage_table.specs.Lineages.{IsTable, LineageState};
+    ghost use Rattle.lineage_table.specs.Lineages.{LineageState};
+    ghost use Rattle.lineage_table.specs.RunDevices.{IsSound};
 
     ghost Value = { List LineageState };
 
     ghost view = { λ t. t.lineages.items };
 
-    ghost invariant = { λ t. IsTable t.lineages.items };
+    ghost invariant = { λ t. IsSound t.devices t.lineages.items };
 }
 
 impl Table {
@@ -37,18 +45,19 @@ impl Table {
     ///
     /// Answers `NoMemory` where there is none to be had.
     pub fn open(alloc: Global, world: &World, roster: &Roster) -> Result<Table, NoMemory>
-        requires few { length world.now.devices.items ≤ 2 ^ 16 }
+        requires few { length world.now.devices.items ≤ most_devices }
         ensures { IfOk result (IsOpened (runs_of roster.now) world.now.devices.items) }
     {
         let stands = world.devices.as_slice();
         let Ok(mut lineages) = Vec::with_capacity(alloc, stands.len()) else {
             return Err(NoMemory);
         };
+        let devices = RunDevices::open(alloc, roster.runs.len().min(RUNS as u64) as usize + 1)?;
         'devices: for d in 0..stands.len() {
             let runs = count_runs_on(roster, DeviceNo(d as u16));
             lineages.push_reserved(Lineage::open(alloc, stands[d], runs)?);
         }
-        Ok(Table { lineages })
+        Ok(Table { lineages, devices })
     }
 
     /// Puts the scheduled access of a run before that of the run `before`, or last. Takes no memory.
@@ -64,6 +73,7 @@ impl Table {
     {
         self.lineages[d.0 as usize].schedule(before, access);
         self.lineages[d.0 as usize].kept();
+        self.devices.add(access.run, d);
     }
 
     /// Marks that the run touches the device, and sees it so.
@@ -117,6 +127,7 @@ impl Table {
     {
         let found = self.lineages[d.0 as usize].remove(r);
         self.lineages[d.0 as usize].kept();
+        self.devices.remove(r, d);
         found
     }
 
@@ -157,6 +168,33 @@ impl Table {
         ensures { (d : ℕ) → IsDisciplined (accesses_at self.now d) }
     {
         let _ = &self.lineages;
+    }
+
+    /// The smallest device from `from` on to which the run has an access.
+    ///
+    /// Of the runs of the roster it looks at four words at most; for others it goes over the devices.
+    pub fn next_device(&self, r: RunNo, from: DeviceNo) -> Option<DeviceNo>
+        ensures next { IsFirstFrom (λ d. has_access r.0 (accesses_at self.now d)) from.0 (option_map (λ d. d.0) result) }
+        ensures homed { IfSome result (λ d. d.0 < length self.now) }
+        ensures few { IfSome result (λ d. d.0 < most_devices) }
+    {
+        if self.devices.has_set(r) {
+            self.devices.next(r, from)
+        } else {
+            self.search_device(r, from)
+        }
+    }
+
+    /// The smallest device from `from` on to which the run has an access, by going over the devices.
+    fn search_device(&self, r: RunNo, from: DeviceNo) -> Option<DeviceNo>
+        ensures { IsFirstFrom (λ d. has_access r.0 (accesses_at self.now d)) from.0 (option_map (λ d. d.0) result) }
+    {
+        'devices: for d in from.0 as usize..self.lineages.len() {
+            if self.lineages[d].access(r).is_some() {
+                return Some(DeviceNo(d as u16));
+            }
+        }
+        None
     }
 
     /// How many more accesses the device takes.
@@ -214,6 +252,7 @@ impl Table {
         requires wrote { IsSome (written_by r.0 (accesses_at self.old d.0)) }
         ensures { self.new ≡ with_lineage self.old d.0 (settled r.0) }
     {
+        take_out_through(&mut self.devices, &self.lineages[d.0 as usize], d, r);
         self.lineages[d.0 as usize].settle(r);
         self.lineages[d.0 as usize].kept();
     }
@@ -235,6 +274,18 @@ impl Table {
     {
         self.lineages.len() as u32
     }
+}
+
+/// Takes the device out of the sets of the run and of those whose accesses stand before its own.
+fn take_out_through(devices: &mut RunDevices, lineage: &Lineage, d: DeviceNo, r: RunNo)
+    requires device { d.0 < most_devices }
+    requires access { IsTrue (has_access r.0 lineage.now.accesses) }
+    ensures { HasLess (λ q. has_access q (before r.0 lineage.now.accesses) || (q == r.0)) d.0 devices.old devices.new }
+{
+    'leaving: for at in 0..lineage.place(r) {
+        devices.remove(lineage.run_at(at), d);
+    }
+    devices.remove(r, d);
 }
 
 /// How many runs of the roster have the device in their footprint.

@@ -1,0 +1,8 @@
+use Rattle.lineage_table.proofs.tables.Table.search_device.Given as goal
+use Rattle.lineage_table.specs.Accesses.{has_access}
+use Rattle.lineage_table.specs.Lineages.{accesses_at}
+use Rattle.std.proofs.Common.{false, length, ℕ, ◌<◌, ◌≡◌, ◌≤◌}
+
+-- the run has no access to a device so far
+abbrev pub invariant-devices : goal.invariant-devices
+invariant-devices l = (l.fn.from.0 ≤ l.d) × (l.d-end ≡ length l.self) × ((e : ℕ) → l.fn.from.0 ≤ e → e < l.d → has_access l.r.0 (accesses_at l.self e) ≡ false)
