@@ -6,9 +6,9 @@ use Rattle.device_gate.specs.declared.slips.Told.{Told}
 use Rattle.history_book.proofs.Once.{count_append}
 use Rattle.history_book.proofs.Snoc.{entries_on, put_keeps, put_other}
 use Rattle.history_book.specs.Histories.{entries_of, entry, reading}
-use Rattle.history_book.specs.Readings.{Reading, is_doomed, next_of}
-use Rattle.history_book.specs.Settings.{Setting}
-use Rattle.history_book.specs.declared.entries.Cause.TheVariants.{MustDown, Refuted}
+use Rattle.history_book.specs.Readings.{Reading, did, is_doomed, next_of}
+use Rattle.history_book.specs.Settings.{Setting, is_weak}
+use Rattle.history_book.specs.declared.entries.Cause.TheVariants.{Lost, MustDown, Refuted}
 use Rattle.history_book.specs.declared.entries.Entry.{Entry}
 use Rattle.history_book.specs.declared.entries.Entry.TheVariants.{Arrived, Did, Doomed, Ended, Fell, Placed, Rose, Undid}
 use Rattle.home_types.specs.declared.commands.Answer.TheVariants.{Down, Fine, Found}
@@ -80,10 +80,13 @@ IsOutFor s d grip = by_purpose grip.purpose
     by_purpose (Undoes v) = ⊤
     by_purpose (Probes value) = ⊤
 
--- a command or an undo that worked is one call of its device
-pub give_calls : (s : Configuration) (d e : ℕ) (grip : Grip) (told : Told) → is_of_run grip.purpose ≡ true → IsOutFor s d grip → has_died told ≡ false
-    → told_calls s.setting.runs (entries_of (after_give s d grip told).history) e ≡ told_calls s.setting.runs (entries_of s.history) e + (if d == e then 1 else 0)
-give_calls s d e grip told of_run on lives = calls_with s grip.maker (give_entries s.setting (read_of s) d grip told) e ∙ ap (λ x. told_calls s.setting.runs (entries_of s.history) e + x) (by_purpose grip.purpose told of_run on lives)
+-- a command or an undo is one call of its device where it worked, and none where the device died
+abbrev pub calls_told : Told → ℕ
+calls_told told = if has_died told then 0 else 1
+
+pub give_calls : (s : Configuration) (d e : ℕ) (grip : Grip) (told : Told) → is_of_run grip.purpose ≡ true → IsOutFor s d grip
+    → told_calls s.setting.runs (entries_of (after_give s d grip told).history) e ≡ told_calls s.setting.runs (entries_of s.history) e + (if d == e then calls_told told else 0)
+give_calls s d e grip told of_run on = calls_with s grip.maker (give_entries s.setting (read_of s) d grip told) e ∙ ap (λ x. told_calls s.setting.runs (entries_of s.history) e + x) (by_purpose grip.purpose told of_run on)
   where
     r : ℕ
     r = grip.maker
@@ -91,22 +94,29 @@ give_calls s d e grip told of_run on lives = calls_with s grip.maker (give_entri
     runs : List Run
     runs = s.setting.runs
 
-    by_purpose : (p : Purpose) (t : Told) → is_of_run p ≡ true → IsOutFor s d (record { maker = r; purpose = p }) → has_died t ≡ false → told_calls runs (give_entries s.setting (read_of s) d (record { maker = r; purpose = p }) t) e ≡ (if d == e then 1 else 0)
-    by_purpose (Commands k) Worked run at alive = rw at (grind (arith, common_steps))
-    by_purpose (Commands k) (Sensed x) run at alive = elim (fails (command_at runs r k) (Found x) && not (is_doomed (read_of s) r)) as (λ b. told_calls runs (Did (run_no r) k (Found x) ∷ (if b then Doomed (run_no r) (Refuted k x) ∷ [] else [])) e ≡ (if d == e then 1 else 0)) [
+    dead : (k : ℕ) (doomed lost must : Bool)
+        → told_calls runs (Fell (command_at runs r k).device ∷ Did (run_no r) k Down ∷ (if doomed then [] else (if lost then Doomed (run_no r) (Lost (command_at runs r k).device) ∷ [] else (if must then Doomed (run_no r) (MustDown k) ∷ [] else [])))) e ≡ (if d == e then 0 else 0)
+    dead k true lost must = grind (arith, common_steps)
+    dead k false true must = grind (arith, common_steps)
+    dead k false false true = grind (arith, common_steps)
+    dead k false false false = grind (arith, common_steps)
+
+    by_purpose : (p : Purpose) (t : Told) → is_of_run p ≡ true → IsOutFor s d (record { maker = r; purpose = p }) → told_calls runs (give_entries s.setting (read_of s) d (record { maker = r; purpose = p }) t) e ≡ (if d == e then calls_told t else 0)
+    by_purpose (Commands k) Worked run at = rw at (grind (arith, common_steps))
+    by_purpose (Commands k) (Sensed x) run at = elim (fails (command_at runs r k) (Found x) && not (is_doomed (read_of s) r)) as (λ b. told_calls runs (Did (run_no r) k (Found x) ∷ (if b then Doomed (run_no r) (Refuted k x) ∷ [] else [])) e ≡ (if d == e then 1 else 0)) [
       | true ↦ rw at (grind (arith, common_steps))
       | false ↦ rw at (grind (arith, common_steps))
     ]
-    by_purpose (Commands k) Died run at alive = absurd (cc)
-    by_purpose (Undoes v) Worked run at alive = grind (arith, common_steps)
-    by_purpose (Undoes v) (Sensed x) run at alive = grind (arith, common_steps)
-    by_purpose (Undoes v) Died run at alive = absurd (cc)
-    by_purpose (Probes value) t run at alive = absurd (cc)
+    by_purpose (Commands k) Died run at = dead k (is_doomed (read_of s) r) (did (read_of s) r (command_at runs r k).device.0 && not (is_weak s.setting.mode)) (command_at runs r k).must
+    by_purpose (Undoes v) Worked run at = grind (arith, common_steps)
+    by_purpose (Undoes v) (Sensed x) run at = grind (arith, common_steps)
+    by_purpose (Undoes v) Died run at = grind (arith, common_steps)
+    by_purpose (Probes value) t run at = absurd (cc)
 
 -- its entries tell of its run alone
-pub give_others : (s : Configuration) (d q : ℕ) (grip : Grip) (told : Told) → is_of_run grip.purpose ≡ true → has_died told ≡ false → q ≢ grip.maker
+pub give_others : (s : Configuration) (d q : ℕ) (grip : Grip) (told : Told) → is_of_run grip.purpose ≡ true → q ≢ grip.maker
     → (reading s.setting (entries_of (after_give s d grip told).history)).run q ≡ (read_of s).run q
-give_others s d q grip told of_run lives other = ap (λ (n : Reading). n.run q) (read_with s r (give_entries w n d grip told)) ∙ by_purpose grip.purpose told of_run lives
+give_others s d q grip told of_run other = ap (λ (n : Reading). n.run q) (read_with s r (give_entries w n d grip told)) ∙ by_purpose grip.purpose told of_run
   where
     w : Setting
     w = s.setting
@@ -117,17 +127,27 @@ give_others s d q grip told of_run lives other = ap (λ (n : Reading). n.run q) 
     r : ℕ
     r = grip.maker
 
-    by_purpose : (p : Purpose) (t : Told) → is_of_run p ≡ true → has_died t ≡ false → (fold (entry w) n (give_entries w n d (record { maker = r; purpose = p }) t)).run q ≡ n.run q
-    by_purpose (Commands k) Worked run alive = put_other n.run r _ q other
-    by_purpose (Commands k) (Sensed x) run alive = elim (fails (command_at w.runs r k) (Found x) && not (is_doomed n r)) as (λ b. (fold (entry w) n (Did (run_no r) k (Found x) ∷ (if b then Doomed (run_no r) (Refuted k x) ∷ [] else []))).run q ≡ n.run q) [
+    fallen : ℕ → Reading
+    fallen k = entry w (entry w n (Fell (command_at w.runs r k).device)) (Did (run_no r) k Down)
+
+    dead : (k : ℕ) (doomed lost must : Bool)
+        → (fold (entry w) (fallen k) (if doomed then [] else (if lost then Doomed (run_no r) (Lost (command_at w.runs r k).device) ∷ [] else (if must then Doomed (run_no r) (MustDown k) ∷ [] else [])))).run q ≡ n.run q
+    dead k true lost must = put_other n.run r _ q other
+    dead k false true must = put_other (fallen k).run r _ q other ∙ put_other n.run r _ q other
+    dead k false false true = put_other (fallen k).run r _ q other ∙ put_other n.run r _ q other
+    dead k false false false = put_other n.run r _ q other
+
+    by_purpose : (p : Purpose) (t : Told) → is_of_run p ≡ true → (fold (entry w) n (give_entries w n d (record { maker = r; purpose = p }) t)).run q ≡ n.run q
+    by_purpose (Commands k) Worked run = put_other n.run r _ q other
+    by_purpose (Commands k) (Sensed x) run = elim (fails (command_at w.runs r k) (Found x) && not (is_doomed n r)) as (λ b. (fold (entry w) n (Did (run_no r) k (Found x) ∷ (if b then Doomed (run_no r) (Refuted k x) ∷ [] else []))).run q ≡ n.run q) [
       | true ↦ put_other (entry w n (Did (run_no r) k (Found x))).run r _ q other ∙ put_other n.run r _ q other
       | false ↦ put_other n.run r _ q other
     ]
-    by_purpose (Commands k) Died run alive = absurd (cc)
-    by_purpose (Undoes v) Worked run alive = put_other n.run r _ q other
-    by_purpose (Undoes v) (Sensed x) run alive = put_other n.run r _ q other
-    by_purpose (Undoes v) Died run alive = absurd (cc)
-    by_purpose (Probes value) t run alive = absurd (cc)
+    by_purpose (Commands k) Died run = dead k (is_doomed n r) (did n r (command_at w.runs r k).device.0 && not (is_weak w.mode)) (command_at w.runs r k).must
+    by_purpose (Undoes v) Worked run = put_other n.run r _ q other
+    by_purpose (Undoes v) (Sensed x) run = put_other n.run r _ q other
+    by_purpose (Undoes v) Died run = put_other n.run r _ q other
+    by_purpose (Probes value) t run = absurd (cc)
 
 -- The step of a run changes no register
 

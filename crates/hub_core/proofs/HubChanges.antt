@@ -1,6 +1,6 @@
 -- A step of a run in which no device goes out keeps what the type of a hub keeps, and is the step that it says.
-use Rattle.device_gate.specs.declared.gates.Place.{Place}
 use Rattle.history_book.specs.Histories.{entries_of, kept_by, reading}
+use Rattle.history_book.specs.WellFormed.{IsWellFormed}
 use Rattle.history_book.specs.declared.entries.End.{End}
 use Rattle.history_book.specs.declared.entries.Entry.{Entry}
 use Rattle.history_book.specs.declared.entries.Kept.{Kept}
@@ -15,19 +15,21 @@ use Rattle.hub_core.proofs.Kept.{kept_at, take_kept}
 use Rattle.hub_core.proofs.Sizes.{history_fits}
 use Rattle.hub_core.proofs.StageFacts.{stage_reads}
 use Rattle.hub_core.specs.AccountedCalls.{told_calls}
-use Rattle.hub_core.specs.HubCalls.{Answers, SameWindow}
+use Rattle.hub_core.specs.Decisions.{told_choice}
 use Rattle.hub_core.specs.HubKept.{ConfigurationIsKept}
 use Rattle.hub_core.specs.HubSteps.{Chose, HubStep, SlipFits, Take, carried_after, task_of}
-use Rattle.hub_core.specs.HubsKept.{HasRoomLeft, HubIsKept, is_away}
+use Rattle.hub_core.specs.HubsKept.{HasRoomLeft, HubIsKept, IsWhole, is_away, open_of}
+use Rattle.hub_core.specs.KeptOrders.{OrderIsBeside}
 use Rattle.hub_core.specs.OpenHubs.{OpenHub, configuration_of, device_at, held_in, purpose_of, state_of}
-use Rattle.hub_core.specs.ReadHistories.{HistoryState, with_entry}
-use Rattle.hub_core.specs.Steps.{Absent, Choice, Moves, Over, Waits, after_choice, after_take, at_moment, choice_of}
+use Rattle.hub_core.specs.ReadHistories.{HistoryState, read_in, with_entry}
+use Rattle.hub_core.specs.Steps.{Choice, Moves, Over, after_choice, after_take, at_moment, choice_of}
+use Rattle.hub_core.specs.declared.decisions.Chosen.{Chosen}
 use Rattle.hub_core.specs.declared.hubs.ClosingLists.{ClosingLists}
-use Rattle.hub_core.specs.declared.known.DeviceProgress.{DeviceProgress}
-use Rattle.hub_core.specs.declared.waits.Why.{Why}
+use Rattle.hub_core.specs.declared.hubs.Hub.TheInside.{Inside}
+use Rattle.hub_core.specs.declared.kept_orders.KeptOrder.{KeptOrder}
 use Rattle.lock_leasing.specs.Configurations.{Commands, Configuration, Probes, Purpose, Undoes, read_of}
-use Rattle.std.proofs.Common.{ap, append-nil, ap₂, arith, length-append, refl, subst, sym, ◌∙◌}
-use Rattle.std.specs.Prelude.{List, [], count_by, if◌then◌else◌, length, max, ℕ, ◌*◌, ◌++◌, ◌+◌, ◌-◌, ◌<◌, ◌∷◌, ◌≡◌, ◌≤◌}
+use Rattle.std.proofs.Common.{ap, ap₂, arith, length-append, refl, subst, sym, ◌∙◌}
+use Rattle.std.specs.Prelude.{List, [], count_by, if◌then◌else◌, length, max, ℕ, ◌*◌, ◌++◌, ◌+◌, ◌<◌, ◌∷◌, ◌≡◌, ◌≤◌}
 
 -- where a register is the same, what a device is out for does the same
 pub task_same : (s c : Configuration) (r : ℕ) (purpose : Purpose) → s.setting ≡ c.setting → ((read_of s).run r).register ≡ ((read_of c).run r).register → task_of s r purpose ≡ task_of c r purpose
@@ -105,17 +107,42 @@ entry_made {D = D} stands turns probes faults s r m e c is k =
     step : after_take (configuration_of s) r m ≡ configuration_of (record s { history = s.history ++ kept_by r (e ∷ []); moment = max s.moment m })
     step = added_one stands turns probes faults s r m e c is
 
--- there is room for one entry more where the history with it is kept
-pub has_place : (s : Configuration) (x : List Kept) (k : Kept) (rounds opened spare : ℕ) (held : ℕ → ℕ) → s.history ≡ x ++ k ∷ [] → ConfigurationIsKept s rounds opened held → 132 * length s.setting.runs ≤ spare + length x → 0 < spare
-has_place s x k rounds opened spare held more kept room =
-    let fits : length s.history ≤ 132 * length s.setting.runs = history_fits s rounds opened held kept in
-    let long : length s.history ≡ length x + 1 = ap (λ y. length y) more ∙ length-append x (k ∷ []) in
+-- What the parts of a hub become
+
+-- the hub stands at this moment, where it is a later one
+abbrev pub reached_at : {D : Type 0} → Inside D → ℕ → Inside D
+reached_at h m = record h { moment = max h.moment m }
+
+pub reached_whole : {D : Type 0} {stands turns probes faults : D → ℕ} (h : Inside D) (m : ℕ) → IsWhole stands turns probes faults h → IsWhole stands turns probes faults (reached_at h m)
+reached_whole h m k = record { shown = reached _ _ _ _ (open_of h) m k.shown; room = k.room; order = k.order; hands = k.hands }
+
+-- it has one entry more then, and this line and table
+abbrev pub entered : {D : Type 0} → Inside D → ℕ → ℕ → Entry → KeptOrder → Inside D
+entered h r m e order = record h { history = with_entry h.history r e; moment = max h.moment m; order = order }
+
+-- what the step of the run does is told of the parts, also where it is told of what the hub shows
+pub chosen_here : {D : Type 0} (h : Inside D) (s : OpenHub D) (r m : ℕ) (x : Chosen) → open_of h ≡ s → choice_of (configuration_of s) r m ≡ told_choice r (max s.moment m) (read_of (configuration_of s)) x
+    → choice_of (configuration_of (open_of h)) r m ≡ told_choice r (max h.moment m) (read_in h.history) x
+chosen_here {D = D} h s r m x seen is = subst (λ (y : OpenHub D). choice_of (configuration_of y) r m ≡ told_choice r (max y.moment m) (read_of (configuration_of y)) x) (sym seen) is
+
+-- the step of the run at this moment makes this one entry: so the parts change
+pub record IsEntered {D : Type 0} (h t : Inside D) (r m : ℕ) (e : Entry) (c : Making) : Type 0 where
+  pub chosen : choice_of (configuration_of (open_of h)) r m ≡ making c e
+  pub new : t ≡ entered h r m e t.order
+
+-- the history has a place for it
+pub has_place : {D : Type 0} {stands turns probes faults : D → ℕ} (h : Inside D) (r m : ℕ) (e : Entry) (c : Making) → choice_of (configuration_of (open_of h)) r m ≡ making c e → IsWhole stands turns probes faults h → 0 < h.history.spare
+has_place h r m e c is k =
+    let made = entry_made _ _ _ _ (open_of h) r m e c is k.shown in
+    let fits : length (h.history.history ++ kept_by r (e ∷ [])) ≤ 132 * length h.history.setting.runs = history_fits _ h.rounds h.opened _ made.configuration in
+    let long : length (h.history.history ++ kept_by r (e ∷ [])) ≡ length h.history.history + 1 = length-append h.history.history (kept_by r (e ∷ [])) in
+    let room : 132 * length h.history.setting.runs ≤ h.history.spare + length h.history.history = k.room.history in
     omega (arith, fits, long, room)
 
-pub room_made : {D : Type 0} (s : OpenHub D) (x : List Kept) (k : Kept) (m spare : ℕ) (closing : ClosingLists) → x ≡ s.history ++ k ∷ [] → 0 < spare → HasRoomLeft s spare closing → HasRoomLeft (record s { history = x; moment = m }) (spare - 1) closing
-room_made s x k m spare closing more some room =
+room_with : (h : HistoryState) (r : ℕ) (e : Entry) (closing : ClosingLists) → 0 < h.spare → HasRoomLeft h closing → HasRoomLeft (with_entry h r e) closing
+room_with h r e closing some room =
     record {
-      history = let long : length x ≡ length s.history + 1 = ap (λ y. length y) more ∙ length-append s.history (k ∷ []) in let enough : 132 * length s.setting.runs ≤ spare + length s.history = room.history in omega (arith, long, enough, some);
+      history = let long : length (h.history ++ kept_by r (e ∷ [])) ≡ length h.history + 1 = length-append h.history (kept_by r (e ∷ [])) in let enough : 132 * length h.setting.runs ≤ h.spare + length h.history = room.history in omega (arith, long, enough, some);
       order = room.order;
       last = room.last;
       world = room.world;
@@ -123,41 +150,19 @@ room_made s x k m spare closing more some room =
       faults = room.faults;
     }
 
--- What a hub shows with this history in it
-
-abbrev pub hub_of : {D : Type 0} → HistoryState → ℕ → ℕ → ℕ → List DeviceProgress → List (Place D) → ℕ → OpenHub D
-hub_of h rounds opened moment devices places tickets = record { setting = h.setting; rounds = rounds; opened = opened; history = h.history; moment = moment; devices = devices; places = places; tickets = tickets }
-
-abbrev pub InsideIsKept : {D : Type 0} → (D → ℕ) → (D → ℕ) → (D → ℕ) → (D → ℕ) → HistoryState → ℕ → ℕ → ℕ → List DeviceProgress → List (Place D) → ℕ → ClosingLists → Type 0
-InsideIsKept stands turns probes faults h rounds opened moment devices places tickets closing =
-    HubIsKept stands turns probes faults (hub_of h rounds opened moment devices places tickets) × HasRoomLeft (hub_of h rounds opened moment devices places tickets) h.spare closing
-
-pub reached_inside : {D : Type 0} (stands turns probes faults : D → ℕ) (h : HistoryState) (rounds opened moment m : ℕ) (devices : List DeviceProgress) (places : List (Place D)) (tickets : ℕ) (closing : ClosingLists)
-    → InsideIsKept stands turns probes faults h rounds opened moment devices places tickets closing → InsideIsKept stands turns probes faults h rounds opened (max moment m) devices places tickets closing
-reached_inside stands turns probes faults h rounds opened moment m devices places tickets closing k =
-    (reached stands turns probes faults (hub_of h rounds opened moment devices places tickets) m k.0, record { history = k.1.history; order = k.1.order; last = k.1.last; world = k.1.world; turns = k.1.turns; faults = k.1.faults })
-
--- the history has a place for the entry that a step makes
-pub place_inside : {D : Type 0} (stands turns probes faults : D → ℕ) (h : HistoryState) (rounds opened moment r m : ℕ) (devices : List DeviceProgress) (places : List (Place D)) (tickets : ℕ) (closing : ClosingLists) (s : OpenHub D) (e : Entry) (c : Making)
-    → hub_of h rounds opened moment devices places tickets ≡ s → choice_of (configuration_of s) r m ≡ making c e
-    → InsideIsKept stands turns probes faults h rounds opened moment devices places tickets closing → 0 < h.spare
-place_inside {D = D} stands turns probes faults h rounds opened moment r m devices places tickets closing s e c same is k =
-    has_place _ h.history (record { maker = r; entry = e }) rounds opened h.spare (held_in here) refl (entry_made stands turns probes faults here r m e c (ap (λ x. choice_of (configuration_of x) r m) same ∙ is) k.0).configuration k.1.history
+-- what is kept is kept with it, where line and table are
+pub entered_whole : {D : Type 0} {stands turns probes faults : D → ℕ} (h t : Inside D) (r m : ℕ) (e : Entry) (c : Making) → IsEntered h t r m e c
+    → (IsWellFormed h.history.setting (entries_of (h.history.history ++ kept_by r (e ∷ []))) → OrderIsBeside (with_entry h.history r e) (configuration_of (open_of h)).grips t.order.line t.order.table) → IsWhole stands turns probes faults h → IsWhole stands turns probes faults t
+entered_whole {D = D} {stands = stands} {turns = turns} {probes = probes} {faults = faults} h t r m e c enters order k =
+    subst (λ (x : Inside D). IsWhole stands turns probes faults x) (sym enters.new) (record {
+      shown = made;
+      room = room_with h.history r e h.closing (has_place h r m e c enters.chosen k) k.room;
+      order = order made.configuration.history.well_formed;
+      hands = k.hands;
+    })
   where
-    here : OpenHub D
-    here = hub_of h rounds opened moment devices places tickets
-
-pub entry_inside : {D : Type 0} (stands turns probes faults : D → ℕ) (h h₂ : HistoryState) (rounds opened moment r m : ℕ) (devices : List DeviceProgress) (places : List (Place D)) (tickets : ℕ) (closing : ClosingLists) (s : OpenHub D) (e : Entry) (c : Making)
-    → hub_of h rounds opened moment devices places tickets ≡ s → choice_of (configuration_of s) r m ≡ making c e → h₂ ≡ with_entry h r e
-    → InsideIsKept stands turns probes faults h rounds opened moment devices places tickets closing → InsideIsKept stands turns probes faults h₂ rounds opened (max moment m) devices places tickets closing
-entry_inside {D = D} stands turns probes faults h h₂ rounds opened moment r m devices places tickets closing s e c same is new k =
-    subst (λ x. InsideIsKept stands turns probes faults x rounds opened (max moment m) devices places tickets closing) (sym new) (
-      entry_made stands turns probes faults here r m e c (ap (λ x. choice_of (configuration_of x) r m) same ∙ is) k.0,
-      room_made here (h.history ++ kept_by r (e ∷ [])) (record { maker = r; entry = e }) (max moment m) h.spare closing refl (place_inside stands turns probes faults h rounds opened moment r m devices places tickets closing s e c same is k) k.1,
-    )
-  where
-    here : OpenHub D
-    here = hub_of h rounds opened moment devices places tickets
+    made : HubIsKept stands turns probes faults (open_of (entered h r m e t.order))
+    made = entry_made stands turns probes faults (open_of h) r m e c enters.chosen k.shown
 
 -- The answers
 
@@ -170,37 +175,6 @@ step_is s t r m c slip is next fits = (
   next ∙ ap (λ x. record { configuration = after_choice (at_moment (configuration_of s) m) r x; carried = carried_after (state_of s) r x slip }) (sym is),
   subst (λ x. SlipFits r x slip) (sym is) fits,
 )
-
--- a step that makes no entry
-pub data Idling : Type 0 where
-  Missing : Idling
-  Waiting : Why → Idling
-  Ended : End → Idling
-
-abbrev pub idling : Idling → Choice
-idling Missing = Absent
-idling (Waiting why) = Waits why
-idling (Ended end) = Over end []
-
-pub answers_none : {D : Type 0} (s t : OpenHub D) (r m : ℕ) (c : Idling) → idling c ≡ choice_of (configuration_of s) r m → t ≡ record s { moment = max s.moment m } → Answers s r m (idling c) t
-answers_none {D = D} s t r m Missing is new =
-    subst (λ (x : OpenHub D). Answers s r m Absent x) (sym new) (record { step = λ slip. step_is s (record s { moment = max s.moment m }) r m Absent slip (sym is) refl tt; places = refl })
-answers_none {D = D} s t r m (Waiting why) is new =
-    subst (λ (x : OpenHub D). Answers s r m (Waits why) x) (sym new) (record { step = λ slip. step_is s (record s { moment = max s.moment m }) r m (Waits why) slip (sym is) refl tt; places = refl })
-answers_none {D = D} s t r m (Ended end) is new =
-    subst (λ (x : OpenHub D). Answers s r m (Over end []) x) (sym new) (record {
-      step = λ slip. step_is s (record s { moment = max s.moment m }) r m (Over end []) slip (sym is) (ap (λ (x : List Kept). state_of (record s { history = x; moment = max s.moment m })) (sym (append-nil s.history))) tt;
-      places = refl;
-    })
-
-pub answers_one : {D : Type 0} (s t : OpenHub D) (r m : ℕ) (e : Entry) (c : Making) → choice_of (configuration_of s) r m ≡ making c e → t ≡ record s { history = s.history ++ kept_by r (e ∷ []); moment = max s.moment m } → Answers s r m (making c e) t
-answers_one {D = D} s t r m e Going is new =
-    subst (λ (x : OpenHub D). Answers s r m (Moves (e ∷ [])) x) (sym new) (record { step = λ slip. step_is s (record s { history = s.history ++ kept_by r (e ∷ []); moment = max s.moment m }) r m (Moves (e ∷ [])) slip is refl tt; places = refl })
-answers_one {D = D} s t r m e (Ending end) is new =
-    subst (λ (x : OpenHub D). Answers s r m (Over end (e ∷ [])) x) (sym new) (record { step = λ slip. step_is s (record s { history = s.history ++ kept_by r (e ∷ []); moment = max s.moment m }) r m (Over end (e ∷ [])) slip is refl tt; places = refl })
-
-pub same_window : {D : Type 0} (s t : OpenHub D) (x : List Kept) (m : ℕ) → t ≡ record s { history = x; moment = m } → SameWindow s t
-same_window {D = D} s t x m new = subst (λ (y : OpenHub D). SameWindow s y) (sym new) (record { setting = refl; rounds = refl; opened = refl; at_opening = λ d. refl })
 
 -- a history that is kept has few entries
 pub few_entries : {D : Type 0} (stands turns probes faults : D → ℕ) (s : OpenHub D) → HubIsKept stands turns probes faults s → length s.history ≤ 132 * 64

@@ -17,15 +17,11 @@ use Rattle.hub_core.specs.Agreement.{UpDevicesStand}
 use Rattle.hub_core.specs.ClosedHomes.{HaveRisen, NoneFell, known_stand}
 use Rattle.hub_core.specs.Homes.{CountsAreLow, HomeIsKept}
 use Rattle.hub_core.specs.HubCalls.{IsClosed}
-use Rattle.hub_core.specs.HubsKept.{FitsAtHome, HasRoomLeft, HubIsKept, IsEmptyFor}
-use Rattle.hub_core.specs.KeptOrders.{OrderIsBeside}
+use Rattle.hub_core.specs.HubsKept.{FitsAtHome, HubIsKept, IsEmptyFor, IsWhole}
 use Rattle.hub_core.specs.OpenHubs.{OpenHub, configuration_of, device_at, grip_in, held_in, no_device}
-use Rattle.hub_core.specs.ReadHistories.{HistoryState}
 use Rattle.hub_core.specs.Steps.{not_quiet}
-use Rattle.hub_core.specs.declared.hubs.ClosingLists.{ClosingLists}
-use Rattle.lineage_table.specs.Lineages.{LineageState}
-use Rattle.lock_leasing.specs.Configurations.{Grips, read_of}
-use Rattle.serial_line.specs.Marks.{Marked}
+use Rattle.hub_core.specs.declared.hubs.Hub.TheInside.{Inside}
+use Rattle.lock_leasing.specs.Configurations.{read_of}
 use Rattle.std.proofs.Common.{ap, arith, inl, inr, refl, sym, ◌∙◌}
 use Rattle.std.proofs.lemmas.List.{get_or-map, length-map}
 use Rattle.std.proofs.lemmas.List.Sums.{count_by-le-length}
@@ -206,11 +202,9 @@ took_next (y ∷ xs) zero x at = let same : y ≡ x = cc in ap (λ z. z ∷ []) 
 took_next (y ∷ xs) (suc i) x at = let more : suc i + 1 ≡ suc (i + 1) = omega arith in ap (λ k. take k (y ∷ xs)) more ∙ ap (λ zs. y ∷ zs) (took_next xs i x at)
 
 -- the line of a window that closes has a place in the record's list for each item
-pub items_fit : {D : Type 0} (stands turns probes faults : D → ℕ) (s : OpenHub D) (h : HistoryState) (g : Grips) (line : Marked) (table : List LineageState) (spare : ℕ) (closing : ClosingLists) → HubIsKept stands turns probes faults s → HasRoomLeft s spare closing → h.history ≡ s.history → OrderIsBeside h g line table
-    → IsEmptyFor closing.order (length line.marks)
-items_fit stands turns probes faults s h g line table spare closing k room same order =
-    let fits : length s.history ≤ 132 * length s.setting.runs = history_fits (configuration_of s) s.rounds s.opened (held_in s) k.configuration in
-    let short : length line.marks ≤ length h.history = order.short in
-    let size : length h.history ≡ length s.history = ap length same in
-    let had : 132 * length s.setting.runs ≤ closing.order.spare = room.order.1 in
-    (room.order.0, omega (arith, fits, short, size, had))
+pub items_fit : {D : Type 0} {stands turns probes faults : D → ℕ} (h : Inside D) → IsWhole stands turns probes faults h → IsEmptyFor h.closing.order (length h.order.line.marks)
+items_fit h k =
+    let fits : length h.history.history ≤ 132 * length h.history.setting.runs = history_fits _ h.rounds h.opened _ k.shown.configuration in
+    let short : length h.order.line.marks ≤ length h.history.history = k.order.short in
+    let had : 132 * length h.history.setting.runs ≤ h.closing.order.spare = k.room.order.1 in
+    (k.room.order.0, omega (arith, fits, short, had))

@@ -11,6 +11,7 @@ use Rattle.history_book.specs.Readings.{next_of}
 use Rattle.history_book.specs.Settings.{device_numbers, is_device, run_numbers}
 use Rattle.home_types.specs.declared.numbers.DeviceNo.{DeviceNo}
 use Rattle.home_types.specs.declared.numbers.RunNo.{RunNo}
+use Rattle.hub_core.proofs.Finds.{find_first, find_none}
 use Rattle.hub_core.proofs.Kept.{out_is}
 use Rattle.hub_core.proofs.Progress.{is_wait, some_run_moves}
 use Rattle.hub_core.proofs.Sizes.{history_fits}
@@ -23,12 +24,11 @@ use Rattle.hub_core.specs.declared.purposes.Purpose.TheVariants.{Command}
 use Rattle.hub_core.specs.declared.purposes.Purpose.{Purpose as KeptPurpose}
 use Rattle.hub_core.specs.declared.refusals.NotQuiet.TheVariants.{StillLive, StillOut}
 use Rattle.lock_leasing.specs.Configurations.{Commands, Configuration, is_out, read_of}
-use Rattle.std.proofs.Common.{ap, arith, inl, inr, refl, subst, sym, ◌∙◌}
+use Rattle.std.proofs.Common.{ap, arith, refl, subst, sym, ◌∙◌}
 use Rattle.std.proofs.lemmas.Grind.{common_steps}
 use Rattle.std.proofs.lemmas.Option.{slice_get_within}
-use Rattle.std.specs.List.{range_with_len}
 use Rattle.std.specs.Option.{option_or}
-use Rattle.std.specs.Prelude.{Bool, IfNone, IfSome, IsTrue, List, None, Option, Some, [], false, find, if◌then◌else◌, is_none, is_some, length, not, option_map, slice_get, suc, true, zero, ℕ, ◌+◌, ◌<◌, ◌∷◌, ◌≡◌, ◌≤◌, ◌↔◌, ◌⊎◌}
+use Rattle.std.specs.Prelude.{Bool, IfNone, IfSome, IsTrue, List, None, Option, Some, [], false, find, if◌then◌else◌, is_none, is_some, length, not, option_map, slice_get, true, ℕ, ◌+◌, ◌<◌, ◌∷◌, ◌≡◌, ◌≤◌, ◌↔◌}
 use Rattle.window_order.proofs.Promises.{order_stands}
 use Rattle.window_order.proofs.ReadFacts.{read_facts}
 use Rattle.window_order.proofs.StandingValues.{stands_home}
@@ -84,24 +84,6 @@ quiet_out s o none out = by_device o out ∙ ap (λ x. option_or (option_map (λ
     by_device : (x : Option DeviceNo) → option_map (λ d. d.0) x ≡ find (is_out s.grips) (device_numbers s.setting) → option_map (λ d. StillOut d) x ≡ option_map (λ d. StillOut (device_no d)) (find (is_out s.grips) (device_numbers s.setting))
     by_device None e = ap (λ x. option_map (λ d. StillOut (device_no d)) x) e
     by_device (Some d) e = ap (λ x. option_map (λ d. StillOut (device_no d)) x) e
-
-find_first : (p : ℕ → Bool) (a n x : ℕ) → a ≤ x → x < a + n → p x ≡ true → ((y : ℕ) → y < x → p y ≡ false) → find p (range_with_len a n) ≡ Some x
-find_first p a zero x low high here before = absurd (omega arith)
-find_first p a (suc n) x low high here before = by_place (a_or_more a x low) (λ more. find_first p (a + 1) n x (omega (arith, more)) (omega (arith, high)) here before)
-  where
-    a_or_more : (a x : ℕ) → a ≤ x → (a ≡ x) ⊎ (a < x)
-    a_or_more zero zero h = inl refl
-    a_or_more zero (suc x) h = inr (omega arith)
-    a_or_more (suc a) zero h = absurd (omega arith)
-    a_or_more (suc a) (suc x) h = elim (a_or_more a x (omega arith)) [ inl e ↦ inl (ap suc e) | inr e ↦ inr (omega arith) ]
-
-    by_place : (a ≡ x) ⊎ (a < x) → (a < x → find p (range_with_len (a + 1) n) ≡ Some x) → find p (a ∷ range_with_len (a + 1) n) ≡ Some x
-    by_place (inl same) rest = rw same (rw here refl)
-    by_place (inr more) rest = rw (before a more) (rest more)
-
-find_none : (p : ℕ → Bool) (a n : ℕ) → ((y : ℕ) → a ≤ y → y < a + n → p y ≡ false) → find p (range_with_len a n) ≡ None
-find_none p a zero none = refl
-find_none p a (suc n) none = rw (none a (omega arith) (omega arith)) (find_none p (a + 1) n (λ y low high. none y (omega (arith, low)) (omega (arith, high))))
 
 -- the first device that is out
 pub first_out_is : {D : Type 0} (s : OpenHub D) (o : Option DeviceNo) → length s.places ≡ length s.setting.first → IfSome o (λ d. IsFirstOut s.places d.0) → IfNone o (AllHome s.places)

@@ -11,10 +11,12 @@ use Rattle.home_types.specs.Kinds.{has_value, kind_at}
 use Rattle.home_types.specs.declared.kinds.Kind.{Kind}
 use Rattle.history_book.specs.declared.entries.Kept.{Kept}
 use Rattle.home_types.specs.declared.modes.Mode.{Mode}
+use Rattle.hub_core.proofs.Hands.{no_hands}
+use Rattle.home_types.specs.declared.numbers.DeviceNo.{DeviceNo}
 use Rattle.hub_core.proofs.Kept.{starts}
 use Rattle.hub_core.specs.HubCalls.{IsOpened, entries_of_a_run}
 use Rattle.hub_core.specs.HubKept.{ConfigurationIsKept}
-use Rattle.hub_core.specs.HubsKept.{FitsAtHome, HasRoomLeft, HubIsKept}
+use Rattle.hub_core.specs.HubsKept.{HandsAre, FitsAtHome, HasRoomLeft, HubIsKept}
 use Rattle.hub_core.specs.OpenHubs.{OpenHub, configuration_of, device_at, grip_in, held_in, no_device}
 use Rattle.hub_core.specs.Openings.{MayOpen}
 use Rattle.hub_core.specs.Stage.{StageAllows}
@@ -35,7 +37,7 @@ use Rattle.std.proofs.Common.{ap, arith, inl, inr, refl, subst, sym, ◌∙◌}
 use Rattle.std.proofs.lemmas.Grind.{common_steps}
 use Rattle.std.proofs.lemmas.List.{length-append, length-map, replicate-append-replicate}
 use Rattle.std.proofs.lemmas.Option.{get_or_from_slice_get, slice_get_cases, slice_get_within}
-use Rattle.std.specs.Prelude.{Bool, IsTrue, List, None, Some, [], false, if◌then◌else◌, length, nat_lt, replicate, slice_get, slice_index_or, suc, true, zero, ℕ, ◌*◌, ◌++◌, ◌+◌, ◌<◌, ◌∷◌, ◌≡◌, ◌≤◌, ◌⊎◌}
+use Rattle.std.specs.Prelude.{Bool, IsTrue, List, None, Option, Some, [], false, if◌then◌else◌, length, nat_lt, replicate, slice_get, slice_index_or, suc, true, zero, ℕ, ◌*◌, ◌++◌, ◌+◌, ◌<◌, ◌∷◌, ◌≡◌, ◌≤◌, ◌⊎◌}
 
 pub replicate_more : {A : Type 0} (n : ℕ) (x : A) → replicate n x ++ x ∷ [] ≡ replicate (n + 1) x
 replicate_more n x = replicate-append-replicate n 1 x
@@ -231,9 +233,9 @@ first_kept {D = D} tag stands turns probes faults home roster mode rounds known 
     low d (unknown le is) = rw is (record { few_turns = omega arith; few_probes = omega arith; few_faults = omega arith })
 
 -- .. and has its room
-pub first_room : {D : Type 0} (home : HomeState D) (roster : Roster) (mode : Mode) (rounds spare : ℕ) (known : List DeviceProgress) (closing : ClosingLists)
-    → length home.devices ≡ length home.world → entries_of_a_run * length roster.runs.items ≤ spare → IsClosingRoom (length home.devices) (length roster.runs.items) closing → HasRoomLeft (first_hub home roster mode rounds known) spare closing
-first_room home roster mode rounds spare known closing size enough room = record {
+pub first_room : {D : Type 0} (home : HomeState D) (roster : Roster) (mode : Mode) (spare : ℕ) (closing : ClosingLists)
+    → length home.devices ≡ length home.world → entries_of_a_run * length roster.runs.items ≤ spare → IsClosingRoom (length home.devices) (length roster.runs.items) closing → HasRoomLeft (record { setting = setting_for home roster mode; history = []; spare = spare }) closing
+first_room home roster mode spare closing size enough room = record {
   history = let same : length (runs_of roster) ≡ length roster.runs.items = length-map roster.runs.items plain_run in rw same (omega (arith, enough));
   order = let same : length (runs_of roster) ≡ length roster.runs.items = length-map roster.runs.items plain_run in rw same room.order;
   last = rw (← size) room.last;
@@ -284,3 +286,10 @@ pub first_order : {D : Type 0} (tag stands turns probes faults : D → ℕ) (hom
 first_order tag stands turns probes faults home roster mode rounds spare known line table opens room =
     subst (λ (g : Grips). OrderIsBeside (record { setting = setting_for home roster mode; history = []; spare = spare }) g line table) (sym (ap (λ (c : Configuration). c.grips) (first_configuration tag stands turns probes faults home roster mode rounds known opens)))
     (order_begins (setting_for home roster mode) line table room.no_item room.enough room.opened)
+
+-- no run holds a grip
+pub first_hands : {D : Type 0} (tag stands turns probes faults : D → ℕ) (home : HomeState D) (roster : Roster) (mode : Mode) (rounds : ℕ) (known : List DeviceProgress) (hands : List (Option DeviceNo))
+    → Opens tag stands turns probes faults home roster mode rounds known → hands ≡ replicate (length roster.runs.items) None → HandsAre (setting_for home roster mode) (configuration_of (first_hub home roster mode rounds known)).grips hands
+first_hands tag stands turns probes faults home roster mode rounds known hands opens none =
+    subst (λ (x : List (Option DeviceNo)). HandsAre (setting_for home roster mode) (configuration_of (first_hub home roster mode rounds known)).grips x) (sym (none ∙ ap (λ n. replicate n None) (sym (length-map roster.runs.items plain_run))))
+    (no_hands (setting_for home roster mode) _ (λ d. ap (λ (c : Configuration). c.grips d) (first_configuration tag stands turns probes faults home roster mode rounds known opens)))

@@ -1,49 +1,56 @@
 -- The line and the table of a hub, in its steps.
-use Rattle.command_rules.specs.Rosters.{Run, commands_of, is_on, run_no, touches}
-use Rattle.device_gate.specs.declared.gates.Place.TheVariants.{Out}
-use Rattle.device_gate.specs.declared.gates.Place.{Place}
-use Rattle.device_gate.specs.declared.slips.Slip.{Slip}
+use Rattle.command_rules.specs.Rosters.{Run, commands_of, device_no, is_on, run_no, touches}
+use Rattle.device_gate.specs.Grips.{Gripped}
+use Rattle.device_gate.specs.declared.gates.Place.TheVariants.{Home, Out}
+use Rattle.device_gate.specs.declared.grips.Ready.{Ready}
 use Rattle.device_gate.specs.declared.slips.Task.{Task}
 use Rattle.history_book.specs.Histories.{entries_of, kept_by}
 use Rattle.history_book.specs.Readings.{Reading, is_doomed, next_of, pends, put}
 use Rattle.history_book.specs.Settings.{Setting}
 use Rattle.history_book.specs.WellFormed.{may_follow}
-use Rattle.history_book.specs.declared.entries.Entry.TheVariants.{Placed}
+use Rattle.history_book.specs.declared.entries.Cause.{Cause}
+use Rattle.history_book.specs.declared.entries.End.TheVariants.{Aborted, Committed}
+use Rattle.history_book.specs.declared.entries.Entry.TheVariants.{Arrived, Ended, Placed}
 use Rattle.history_book.specs.declared.entries.Entry.{Entry}
 use Rattle.history_book.specs.declared.entries.Kept.{Kept}
 use Rattle.home_types.specs.declared.items.Item.TheVariants.{Ran}
-use Rattle.hub_core.proofs.HubChanges.{Going, InsideIsKept, Making, entry_made, hub_of, making}
-use Rattle.hub_core.proofs.HubOuts.{GoesFor, IsHandedOut, device_within, handed_out}
+use Rattle.hub_core.proofs.Hands.{hand_goes}
+use Rattle.hub_core.proofs.HubChanges.{Ending, Going, IsEntered, Making, entered_whole, entry_made, making}
+use Rattle.hub_core.proofs.HubOuts.{GoesFor, IsHanded, IsHandedOut, device_within, handed_out, went_out}
+use Rattle.hub_core.proofs.HubReads.{run_place}
 use Rattle.hub_core.proofs.HubStates.{grips_set}
 use Rattle.hub_core.proofs.Sizes.{history_fits}
-use Rattle.hub_core.proofs.OrderSteps.{last_follows, order_out, order_undo_out}
+use Rattle.hub_core.proofs.OrderSteps.{last_follows, order_aborted, order_arrived, order_committed, order_out, order_placed, order_undo_out}
 use Rattle.hub_core.specs.HubKept.{ConfigurationIsKept}
-use Rattle.hub_core.specs.HubsKept.{HubIsKept}
+use Rattle.hub_core.specs.HubsKept.{HandsAre, HubIsKept, IsWhole, open_of}
 use Rattle.hub_core.specs.KeptOrders.{OrderIsBeside}
-use Rattle.hub_core.specs.OpenHubs.{OpenHub, configuration_of, device_at, grip_in, held_in, purpose_of}
+use Rattle.hub_core.specs.OpenHubs.{configuration_of, device_at, grip_in, held_in, purpose_of}
 use Rattle.hub_core.specs.Openings.{MayOpen, names_values_of}
+use Rattle.hub_core.specs.PlansInTurn.{planned_in_turn}
 use Rattle.hub_core.specs.Steps.{HandsOut, Moves, choice_of}
-use Rattle.hub_core.specs.declared.hubs.ClosingLists.{ClosingLists}
+use Rattle.hub_core.specs.declared.hubs.Hub.TheInside.{Inside}
+use Rattle.hub_core.specs.declared.kept_orders.KeptOrder.{KeptOrder}
 use Rattle.hub_core.specs.declared.known.DeviceProgress.{DeviceProgress}
 use Rattle.hub_core.specs.declared.purposes.Purpose.{Purpose as KeptPurpose}
-use Rattle.hub_core.specs.ReadHistories.{HistoryState, read_in}
+use Rattle.hub_core.specs.ReadHistories.{HistoryState, read_in, with_entry}
 use Rattle.home_types.specs.Kinds.{kind_at}
 use Rattle.lineage_table.specs.Accesses.{IsDisciplined}
-use Rattle.lineage_table.specs.Lineages.{LineageState, accesses_at, lineage_at, undone, with_lineage}
+use Rattle.lineage_table.specs.Lineages.{LineageState, accesses_at, committed_lineage, lineage_at, removed, undone, with_lineage}
 use Rattle.lock_leasing.specs.Configurations.{Commands, Configuration, Grip, Grips, Probes, Purpose, Undoes, is_command, is_undo, read_of}
 use Rattle.lock_leasing.specs.Standings.{IsRosterFor, IsStandingOf}
-use Rattle.serial_line.specs.Marks.{Mark, Marked, stands, touching}
+use Rattle.serial_line.specs.Marks.{Mark, Marked, stands, touching, with_item, without}
 use Rattle.std.proofs.Common.{ap, ap₂, arith, length-append, refl, subst, sym, ◌∙◌}
 use Rattle.std.proofs.lemmas.Grind.{common_steps}
 use Rattle.std.proofs.lemmas.List.{length-map}
-use Rattle.std.specs.Prelude.{Bool, List, None, Option, Some, [], false, if◌then◌else◌, is_none, is_some, length, max, nat_lt, option_map, slice_get, slice_set, true, unwrap_or, ℕ, ◌&&◌, ◌*◌, ◌++◌, ◌+◌, ◌<◌, ◌==◌, ◌∷◌, ◌≡◌, ◌≤◌}
+use Rattle.std.proofs.lemmas.Option.{slice_get_within}
+use Rattle.std.specs.Prelude.{Bool, List, None, Option, Some, [], false, if◌then◌else◌, is_none, is_some, length, max, nat_lt, option_map, slice_get, true, unwrap_or, ℕ, ◌&&◌, ◌*◌, ◌++◌, ◌+◌, ◌-◌, ◌<◌, ◌==◌, ◌∷◌, ◌≡◌, ◌≤◌}
 use Rattle.window_order.proofs.PlacedTables.{new_on}
 use Rattle.window_order.proofs.Promises.{order_stands}
 use Rattle.window_order.proofs.ReadFacts.{IsRead, read_facts}
 use Rattle.window_order.proofs.Representing.{represents}
 use Rattle.window_order.specs.MarksKept.{MarksAreKept}
 use Rattle.window_order.proofs.TouchedLines.{live_stands, unplaced_absent}
-use Rattle.window_order.specs.TableChanges.{IsNewOn}
+use Rattle.window_order.specs.TableChanges.{ChangesEach, IsNewOn, scheduled_on}
 use Rattle.window_order.specs.TableKept.{TableIsKept}
 use Rattle.lock_leasing.proofs.Facts.{next_is_left}
 
@@ -83,21 +90,30 @@ hub_standing s rounds opened held spare line table disciplined k order = record 
   its_table = represents s.setting (read_of s) s.grips table disciplined order.table_is;
 }
 
+-- What is kept of the parts of a hub
+
+pub read_whole : {D : Type 0} {stands turns probes faults : D → ℕ} (h : Inside D) → IsWhole stands turns probes faults h → IsRead h.history.setting (read_in h.history)
+read_whole h k = read_hub _ h.rounds h.opened _ k.shown.configuration
+
+pub standing_whole : {D : Type 0} {stands turns probes faults : D → ℕ} (h : Inside D) → ((d : ℕ) → IsDisciplined (accesses_at h.order.table d)) → IsWhole stands turns probes faults h → IsStandingOf (configuration_of (open_of h)) h.order.table h.order.line.marks h.history.history h.history.setting.runs
+standing_whole h disciplined k = hub_standing _ h.rounds h.opened _ h.history.spare h.order.line h.order.table disciplined k.shown.configuration k.order
+
+-- A run arrives
+
+pub arrives_whole : {D : Type 0} {stands turns probes faults : D → ℕ} (h t : Inside D) (r m : ℕ) → IsEntered h t r m (Arrived (run_no r) (max h.moment m)) Going → t.order ≡ h.order → IsWhole stands turns probes faults h → IsWhole stands turns probes faults t
+arrives_whole h t r m enters same k = entered_whole h t r m _ Going enters (λ formed.
+    subst (λ (o : KeptOrder). OrderIsBeside (with_entry h.history r (Arrived (run_no r) (max h.moment m))) (configuration_of (open_of h)).grips o.line o.table) (sym same) (order_arrived h.history _ _ r (max h.moment m) _ _ refl k.order)) k
+
 -- A run is placed
 
 -- the line has room for the entry that a step makes
-pub line_place : {D : Type 0} (stands turns probes faults : D → ℕ) (h : HistoryState) (rounds opened moment r m : ℕ) (devices : List DeviceProgress) (places : List (Place D)) (tickets : ℕ) (closing : ClosingLists) (g : Grips) (line : Marked) (table : List LineageState) (s : OpenHub D) (e : Entry) (c : Making)
-    → hub_of h rounds opened moment devices places tickets ≡ s → choice_of (configuration_of s) r m ≡ making c e
-    → InsideIsKept stands turns probes faults h rounds opened moment devices places tickets closing → OrderIsBeside h g line table → 0 < line.spare
-line_place {D = D} stands turns probes faults h rounds opened moment r m devices places tickets closing g line table s e c same is k order =
-    let made = entry_made stands turns probes faults here r m e c (ap (λ x. choice_of (configuration_of x) r m) same ∙ is) k.0 in
-    let fits : length (h.history ++ kept_by r (e ∷ [])) ≤ 132 * length h.setting.runs = history_fits _ rounds opened (held_in here) made.configuration in
-    let long : length (h.history ++ kept_by r (e ∷ [])) ≡ length h.history + 1 = length-append h.history (kept_by r (e ∷ [])) in
-    let room : 132 * length h.setting.runs ≤ line.spare + length h.history = order.room in
+pub line_place : {D : Type 0} {stands turns probes faults : D → ℕ} (h : Inside D) (r m : ℕ) (e : Entry) (c : Making) → choice_of (configuration_of (open_of h)) r m ≡ making c e → IsWhole stands turns probes faults h → 0 < h.order.line.spare
+line_place h r m e c is k =
+    let made = entry_made _ _ _ _ (open_of h) r m e c is k.shown in
+    let fits : length (h.history.history ++ kept_by r (e ∷ [])) ≤ 132 * length h.history.setting.runs = history_fits _ h.rounds h.opened _ made.configuration in
+    let long : length (h.history.history ++ kept_by r (e ∷ [])) ≡ length h.history.history + 1 = length-append h.history.history (kept_by r (e ∷ [])) in
+    let room : 132 * length h.history.setting.runs ≤ h.order.line.spare + length h.history.history = k.order.room in
     omega (arith, fits, long, room)
-  where
-    here : OpenHub D
-    here = hub_of h rounds opened moment devices places tickets
 
 -- a run that may be placed does not stand in the line, and is new on each of its devices
 pub record MayJoin (w : Setting) (r : ℕ) (marks : List Mark) (table : List LineageState) : Type 0 where
@@ -114,19 +130,38 @@ may_join w n g r m marks table read may line_is table_is = record {
     none = grind (arith, common_steps)
 
 -- .. as the step of the hub does
-pub hub_joins : {D : Type 0} (stands turns probes faults : D → ℕ) (h : HistoryState) (rounds opened moment r m : ℕ) (devices : List DeviceProgress) (places : List (Place D)) (tickets : ℕ) (closing : ClosingLists) (g : Grips) (line : Marked) (table : List LineageState) (s : OpenHub D)
-    → hub_of h rounds opened moment devices places tickets ≡ s → choice_of (configuration_of s) r m ≡ Moves (Placed (run_no r) (length (read_of (configuration_of s)).line) (max s.moment m) ∷ [])
-    → InsideIsKept stands turns probes faults h rounds opened moment devices places tickets closing → OrderIsBeside h g line table → MayJoin h.setting r line.marks table
-hub_joins {D = D} stands turns probes faults h rounds opened moment r m devices places tickets closing g line table s same is k order =
-    may_join h.setting (read_in h) g r (max moment m) line.marks table (read_hub (configuration_of here) rounds opened (held_in here) k.0.configuration)
-    (last_follows h.setting h.history r (Placed (run_no r) (length (read_in h).line) (max moment m)) made.configuration.history.well_formed) order.line_is order.table_is
-  where
-    here : OpenHub D
-    here = hub_of h rounds opened moment devices places tickets
+pub hub_joins : {D : Type 0} {stands turns probes faults : D → ℕ} (h : Inside D) (r m : ℕ) → choice_of (configuration_of (open_of h)) r m ≡ Moves (Placed (run_no r) (length (read_in h.history).line) (max h.moment m) ∷ [])
+    → IsWhole stands turns probes faults h → MayJoin h.history.setting r h.order.line.marks h.order.table
+hub_joins h r m is k =
+    may_join h.history.setting (read_in h.history) _ r (max h.moment m) h.order.line.marks h.order.table (read_whole h k)
+    (last_follows h.history.setting h.history.history r (Placed (run_no r) (length (read_in h.history).line) (max h.moment m)) (entry_made _ _ _ _ (open_of h) r m _ Going is k.shown).configuration.history.well_formed) k.order.line_is k.order.table_is
 
-    made : HubIsKept stands turns probes faults (record here { history = h.history ++ kept_by r (Placed (run_no r) (length (read_in h).line) (max moment m) ∷ []); moment = max moment m })
-    made = entry_made stands turns probes faults here r m (Placed (run_no r) (length (read_in h).line) (max moment m)) Going
-        (subst (λ (x : OpenHub D). choice_of (configuration_of x) r m ≡ Moves (Placed (run_no r) (length (read_of (configuration_of x)).line) (max x.moment m) ∷ [])) (sym same) is) k.0
+-- the run stands at the end of the line, and is scheduled on its devices
+pub record IsJoined {D : Type 0} (h t : Inside D) (r m : ℕ) : Type 0 where
+  pub marks : t.order.line.marks ≡ with_item (length h.order.line.marks) (Ran (run_no r)) h.order.line.marks
+  pub spare : t.order.line.spare + 1 ≡ h.order.line.spare
+  pub table : ChangesEach (scheduled_on h.history.setting.runs r (planned_in_turn (max h.moment m) (commands_of h.history.setting.runs r))) h.order.table t.order.table
+
+pub joins_whole : {D : Type 0} {stands turns probes faults : D → ℕ} (h t : Inside D) (r m : ℕ) → IsEntered h t r m (Placed (run_no r) (length (read_in h.history).line) (max h.moment m)) Going → IsJoined h t r m → IsWhole stands turns probes faults h → IsWhole stands turns probes faults t
+joins_whole h t r m enters joined k = entered_whole h t r m _ Going enters (λ formed.
+    order_placed h.history _ _ r (max h.moment m) h.order.line t.order.line h.order.table t.order.table (read_whole h k) k.shown.configuration.order.grips k.shown.configuration.stage.scheduler refl formed joined.marks joined.spare joined.table k.order) k
+
+-- A run ends
+
+pub commits_whole : {D : Type 0} {stands turns probes faults : D → ℕ} (h t : Inside D) (r m : ℕ) → IsEntered h t r m (Ended (run_no r) Committed) (Ending Committed) → t.order.line ≡ h.order.line → ChangesEach (λ d. committed_lineage r) h.order.table t.order.table
+    → IsWhole stands turns probes faults h → IsWhole stands turns probes faults t
+commits_whole h t r m enters line table k = entered_whole h t r m _ (Ending Committed) enters (λ formed.
+    order_committed h.history _ _ r h.order.line t.order.line h.order.table t.order.table (read_whole h k) k.shown.configuration.order.grips refl formed line table k.order) k
+
+-- the run has left the line, and has no access any more
+pub record IsWithdrawn {D : Type 0} (h t : Inside D) (r : ℕ) : Type 0 where
+  pub marks : t.order.line.marks ≡ without r h.order.line.marks
+  pub spare : t.order.line.spare ≡ h.order.line.spare + 1
+  pub table : ChangesEach (λ d. removed r) h.order.table t.order.table
+
+pub aborts_whole : {D : Type 0} {stands turns probes faults : D → ℕ} (h t : Inside D) (r m : ℕ) (cause : Cause) → IsEntered h t r m (Ended (run_no r) (Aborted cause)) (Ending (Aborted cause)) → IsWithdrawn h t r → IsWhole stands turns probes faults h → IsWhole stands turns probes faults t
+aborts_whole h t r m cause enters left k = entered_whole h t r m _ (Ending (Aborted cause)) enters (λ formed.
+    order_aborted h.history _ _ r cause h.order.line t.order.line h.order.table t.order.table (read_whole h k) refl formed left.marks left.spare left.table k.order) k
 
 -- the line of a window has as many items as its marks
 pub standing_size : (s : Configuration) (table : List LineageState) (line : List Mark) (history : List Kept) (runs : List Run) → IsStandingOf s table line history runs → length line ≡ length (read_of s).line
@@ -165,31 +200,59 @@ went_for h s g f r d (Undoes v) line after table later setting same read home be
 went_for h s g f r d (Probes v) line after table later setting same read home below for out marks spare changed order = absurd for
 
 -- .. as the step of the hub does
-pub order_went : {D : Type 0} (h : HistoryState) (rounds opened moment r m d tickets : ℕ) (devices devices₂ : List DeviceProgress) (places places₂ : List (Place D)) (purpose : KeptPurpose) (slip : Slip) (task : Task) (known : DeviceProgress) (line after : Marked) (table later : List LineageState)
-    → ConfigurationIsKept (configuration_of (hub_of h rounds opened moment devices places tickets)) rounds opened (held_in (hub_of h rounds opened moment devices places tickets))
-    → choice_of (configuration_of (hub_of h rounds opened moment devices places tickets)) r m ≡ HandsOut d (purpose_of purpose)
-    → places₂ ≡ slice_set places d (Out slip task) → devices₂ ≡ slice_set devices d (record known { purpose = purpose }) → slip.maker ≡ r → d < length places → d < length devices
-    → after.marks ≡ (if is_command (purpose_of purpose) then touching r d line.marks else line.marks) → after.spare ≡ line.spare → later ≡ (if is_undo (purpose_of purpose) then with_lineage table d (undone r) else table)
-    → OrderIsBeside h (λ e. grip_in (slice_get places e) (device_at devices e).purpose) line table → OrderIsBeside h (λ e. grip_in (slice_get places₂ e) (device_at devices₂ e).purpose) after later
-order_went {D = D} h rounds opened moment r m d tickets devices devices₂ places places₂ purpose slip task known line after table later k chose sent set_is maker within within_devices marks spare changed order =
-    went_for h s g (λ e. grip_in (slice_get places₂ e) (device_at devices₂ e).purpose) r d (purpose_of purpose) line after table later refl refl (read_hub s rounds opened (held_in (hub_of h rounds opened moment devices places tickets)) k) (unheld (g d) out.home)
-    (let first : d < length h.setting.first = device_within h.setting d out.device in let size : length table ≡ length h.setting.first = order.table_is.devices in omega (arith, first, size)) out.for gone marks spare changed order
+pub record IsTouched {D : Type 0} (h t : Inside D) (r d : ℕ) (purpose : Purpose) : Type 0 where
+  pub marks : t.order.line.marks ≡ (if is_command purpose then touching r d h.order.line.marks else h.order.line.marks)
+  pub spare : t.order.line.spare ≡ h.order.line.spare
+  pub table : t.order.table ≡ (if is_undo purpose then with_lineage h.order.table d (undone r) else h.order.table)
+
+unheld : (o : Option Grip) → is_some o ≡ false → o ≡ None
+unheld None e = refl
+unheld (Some x) e = absurd (cc)
+
+gone_grips : {D : Type 0} {turns probes faults : D → ℕ} (h t : Inside D) (r m d : ℕ) (purpose : KeptPurpose) (known : DeviceProgress) (task : Task) (grip : Gripped D Ready) → IsHanded turns probes faults h t r m d purpose known task grip
+    → ◌≡◌ {A = Grips} (configuration_of (open_of t)).grips (put (configuration_of (open_of h)).grips d (Some (record { maker = r; purpose = purpose_of purpose })))
+gone_grips h t r m d purpose known task grip handed =
+    (λ i e. grip_in (slice_get (handed.sent.after_is i) e) (device_at (handed.devices_are i) e).purpose)
+    ∙ grips_set h.gate.places h.devices.items d (Out grip.slip task) (record known { purpose = purpose }) (slice_get_within h.gate.places d (Home grip.device) handed.sent.at) (slice_get_within h.devices.items d known handed.known_is)
+    ∙ (λ i. put (configuration_of (open_of h)).grips d (Some (record { maker = handed.sent.maker i; purpose = purpose_of purpose })))
+
+order_went : {D : Type 0} {stands turns probes faults : D → ℕ} (h t : Inside D) (r m d : ℕ) (purpose : KeptPurpose) (known : DeviceProgress) (task : Task) (grip : Gripped D Ready) → IsHanded turns probes faults h t r m d purpose known task grip → IsTouched h t r d (purpose_of purpose)
+    → IsWhole stands turns probes faults h → OrderIsBeside h.history (configuration_of (open_of t)).grips t.order.line t.order.table
+order_went {D = D} h t r m d purpose known task grip handed touched k =
+    went_for h.history s g (configuration_of (open_of t)).grips r d (purpose_of purpose) h.order.line t.order.line h.order.table t.order.table refl refl (read_whole h k) (unheld (g d) out.home)
+    (let first : d < length h.history.setting.first = device_within h.history.setting d out.device in let size : length h.order.table ≡ length h.history.setting.first = k.order.table_is.devices in omega (arith, first, size)) out.for gone touched.marks touched.spare touched.table k.order
   where
     s : Configuration
-    s = configuration_of (hub_of h rounds opened moment devices places tickets)
+    s = configuration_of (open_of h)
 
     g : Grips
-    g e = grip_in (slice_get places e) (device_at devices e).purpose
+    g = s.grips
 
     out : IsHandedOut s r d (purpose_of purpose)
-    out = handed_out s rounds opened (held_in (hub_of h rounds opened moment devices places tickets)) r m d (purpose_of purpose) k chose
+    out = handed_out s h.rounds h.opened (held_in (open_of h)) r m d (purpose_of purpose) k.shown.configuration handed.chosen
 
-    unheld : (o : Option Grip) → is_some o ≡ false → o ≡ None
-    unheld None e = refl
-    unheld (Some x) e = absurd (cc)
+    gone : ◌≡◌ {A = Grips} (configuration_of (open_of t)).grips (put g d (Some (record { maker = r; purpose = purpose_of purpose })))
+    gone = gone_grips h t r m d purpose known task grip handed
 
-    gone : ◌≡◌ {A = Grips} (λ e. grip_in (slice_get places₂ e) (device_at devices₂ e).purpose) (put g d (Some (record { maker = r; purpose = purpose_of purpose })))
-    gone =
-        (λ i e. grip_in (slice_get (sent i) e) (device_at (set_is i) e).purpose)
-        ∙ grips_set places devices d (Out slip task) (record known { purpose = purpose }) within within_devices
-        ∙ (λ i. put g d (Some (record { maker = maker i; purpose = purpose_of purpose })))
+-- its run's hand is one of those that are known
+pub hand_place : {D : Type 0} {stands turns probes faults : D → ℕ} (h : Inside D) (r m d : ℕ) (purpose : Purpose) → choice_of (configuration_of (open_of h)) r m ≡ HandsOut d purpose → IsWhole stands turns probes faults h → r - 1 < length h.hands.items
+hand_place h r m d purpose chosen k =
+    let place = run_place h.history.setting.runs r (handed_out (configuration_of (open_of h)) h.rounds h.opened (held_in (open_of h)) r m d purpose k.shown.configuration chosen).run in
+    omega (arith, place.1, k.hands.size)
+
+hands_went : {D : Type 0} {stands turns probes faults : D → ℕ} (h t : Inside D) (r m d : ℕ) (purpose : KeptPurpose) (known : DeviceProgress) (task : Task) (grip : Gripped D Ready) → IsHanded turns probes faults h t r m d purpose known task grip
+    → IsWhole stands turns probes faults h → HandsAre h.history.setting (configuration_of (open_of t)).grips t.hands.items
+hands_went h t r m d purpose known task grip handed k =
+    let out = handed_out (configuration_of (open_of h)) h.rounds h.opened (held_in (open_of h)) r m d (purpose_of purpose) k.shown.configuration handed.chosen in
+    hand_goes h.history.setting (configuration_of (open_of h)).grips (configuration_of (open_of t)).grips r (device_no d) (purpose_of purpose) h.hands.items t.hands.items out.run (device_within h.history.setting d out.device) out.free (unheld _ out.home) (gone_grips h t r m d purpose known task grip handed) handed.hands_are k.hands
+
+-- the device is handed out, and touched by its run
+pub handed_whole : {D : Type 0} {stands turns probes faults : D → ℕ} (h t : Inside D) (r m d : ℕ) (purpose : KeptPurpose) (known : DeviceProgress) (task : Task) (grip : Gripped D Ready) → IsHanded turns probes faults h t r m d purpose known task grip → IsTouched h t r d (purpose_of purpose)
+    → IsWhole stands turns probes faults h → IsWhole stands turns probes faults t
+handed_whole {D = D} {stands = stands} {turns = turns} {probes = probes} {faults = faults} h t r m d purpose known task grip handed touched k =
+    subst (λ (x : Inside D). IsWhole stands turns probes faults x) (sym handed.new) (record {
+      shown = subst (λ (x : Inside D). HubIsKept stands turns probes faults (open_of x)) handed.new (went_out h t r m d purpose known task grip handed k).kept;
+      room = k.room;
+      order = subst (λ (x : Inside D). OrderIsBeside h.history (configuration_of (open_of x)).grips t.order.line t.order.table) handed.new (order_went h t r m d purpose known task grip handed touched k);
+      hands = subst (λ (x : Inside D). HandsAre h.history.setting (configuration_of (open_of x)).grips t.hands.items) handed.new (hands_went h t r m d purpose known task grip handed k);
+    })

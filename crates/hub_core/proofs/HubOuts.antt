@@ -15,6 +15,7 @@ use Rattle.device_states.specs.Devices.{HasRoom}
 use Rattle.std.proofs.lemmas.List.Sums.{sum_by-cons}
 use Rattle.std.specs.Borrow.{Bor}
 use Rattle.history_book.specs.Histories.{entries_of}
+use Rattle.command_rules.specs.Rosters.{device_no}
 use Rattle.history_book.specs.Readings.{is_doomed, is_live, next_command, next_of, put}
 use Rattle.history_book.specs.Settings.{Setting, is_device}
 use Rattle.history_book.specs.declared.entries.Kept.{Kept}
@@ -30,12 +31,14 @@ use Rattle.home_types.specs.Kinds.{has_value, kind_at}
 use Rattle.hub_core.specs.HubKept.{ConfigurationIsKept}
 use Rattle.hub_core.specs.HubSteps.{Chose, HubStep, Take, carried_after, task_of}
 use Rattle.hub_core.specs.HubCalls.{GoesOut, SameWindow}
-use Rattle.hub_core.specs.HubsKept.{FitsAtHome, FitsOut, HubIsKept, is_away}
+use Rattle.hub_core.specs.HubsKept.{FitsAtHome, FitsOut, HubIsKept, IsWhole, is_away, open_of}
 use Rattle.hub_core.specs.OpenHubs.{OpenHub, configuration_of, device_at, grip_in, held_in, purpose_of, state_of}
 use Rattle.hub_core.specs.Steps.{HandsOut, after_choice, at_moment, choice_of, with_grip}
+use Rattle.hub_core.specs.declared.hubs.Hub.TheInside.{Inside}
 use Rattle.hub_core.specs.declared.known.DeviceProgress.{DeviceProgress}
 use Rattle.hub_core.specs.declared.purposes.Purpose.{Purpose as KeptPurpose}
 use Rattle.lock_leasing.specs.Configurations.{Commands, Configuration, Grip, Probes, Purpose, Undoes, is_out, read_of}
+use Rattle.lock_leasing.specs.Waits.{grip_wait}
 use Rattle.lock_leasing.specs.Words.{has_effect, value_without}
 use Rattle.std.proofs.Common.{ap, ap₂, arith, cond, inl, inr, refl, subst, sym, ◌∙◌}
 use Rattle.std.proofs.lemmas.Grind.{common_steps}
@@ -71,6 +74,7 @@ pub record IsHandedOut (s : Configuration) (r d : ℕ) (purpose : Purpose) : Typ
   pub live : is_live (read_of s) r ≡ true
   pub home : is_out s.grips d ≡ false
   pub device : is_device s.setting d ≡ true
+  pub free : grip_wait s.setting s.grips r ≡ None
   pub for : GoesFor s r d purpose
 
 same_device : (d e : ℕ) (p q : Purpose) → HandsOut d p ≡ HandsOut e q → d ≡ e
@@ -98,6 +102,7 @@ handed_out s rounds opened held r m d purpose kept =
         live = undoing.act.live;
         home = undoing.home;
         device = undoing.device;
+        free = undoing.act.free;
         for = record { doomed = ap is_some undoing.doomed; effect = undoing.effect; value = refl };
       });
       goes = λ c run next home is. handed_as s r c.device.0 d (Commands (next_of (read_of s) r)) purpose is (record {
@@ -105,6 +110,7 @@ handed_out s rounds opened held r m d purpose kept =
         live = run.act.live;
         home = home;
         device = staged.homed r (next_of (read_of s) r) c run.next;
+        free = run.act.free;
         for = record { number = refl; sound = ap is_some run.sound; command = c; next = run.next; on = refl };
       });
       commits = λ all is. absurd (cc);
@@ -338,14 +344,15 @@ at_index [] i x at = absurd (cc)
 at_index (y ∷ xs) zero x at = cc
 at_index (y ∷ xs) (suc i) x at = at_index xs i x at
 
+-- what a list has at a place is some
+pub is_there : {A : Type 0} (xs : List A) (i : ℕ) (o : Option (Bor A)) → i < length xs → option_copied o ≡ slice_get xs i → is_some o ≡ true
+is_there xs i None less is = absurd (omega (arith, less, gone_past xs i (sym is)))
+is_there xs i (Some x) less is = refl
+
 pub is_known : {D : Type 0} (stands turns probes faults : D → ℕ) (s : OpenHub D) (r m d : ℕ) (purpose : Purpose) (o : Option (Bor DeviceProgress)) → HubIsKept stands turns probes faults s → choice_of (configuration_of s) r m ≡ HandsOut d purpose → option_copied o ≡ slice_get s.devices d → is_some o ≡ true
 is_known stands turns probes faults s r m d purpose o k is at =
     let out = out_home stands turns probes faults s r m d purpose k is in
-    there s.devices d o (omega (arith, out.0, k.devices_size)) at
-  where
-    there : (xs : List DeviceProgress) (i : ℕ) (x : Option (Bor DeviceProgress)) → i < length xs → option_copied x ≡ slice_get xs i → is_some x ≡ true
-    there xs i None less is' = absurd (omega (arith, less, gone_past xs i (sym is')))
-    there xs i (Some x) less is' = refl
+    is_there s.devices d o (omega (arith, out.0, k.devices_size)) at
 
 -- a device that is home stands where it is known to
 pub stands_home : {D : Type 0} (stands turns probes faults : D → ℕ) (s : OpenHub D) (d : ℕ) (device : D) (known : DeviceProgress) → HubIsKept stands turns probes faults s → slice_get s.places d ≡ Some (Home device) → slice_get s.devices d ≡ Some known → stands device ≡ known.held
@@ -367,49 +374,58 @@ pub record IsSent {D : Type 0} (turns probes faults : D → ℕ) (places : List 
   pub had_probes : grip.slip.probes ≡ probes grip.device
   pub had_faults : grip.slip.faults ≡ faults grip.device
 
+-- the device goes out in the step of the run, of which this was known: so the parts change
+pub record IsHanded {D : Type 0} (turns probes faults : D → ℕ) (h t : Inside D) (r m d : ℕ) (purpose : KeptPurpose) (known : DeviceProgress) (task : Task) (grip : Gripped D Ready) : Type 0 where
+  pub chosen : choice_of (configuration_of (open_of h)) r m ≡ HandsOut d (purpose_of purpose)
+  pub does : task ≡ task_of (configuration_of (open_of h)) r (purpose_of purpose)
+  pub known_is : slice_get h.devices.items d ≡ Some known
+  pub sent : IsSent turns probes faults h.gate.places h.gate.tickets r d known.held task grip t.gate.places t.gate.tickets
+  pub moment_is : t.moment ≡ max h.moment m
+  pub devices_are : t.devices.items ≡ slice_set h.devices.items d (record known { purpose = purpose })
+  pub hands_are : t.hands.items ≡ slice_set h.hands.items (r - 1) (Some (device_no d))
+  pub new : t ≡ record h { moment = t.moment; devices = t.devices; gate = t.gate; order = t.order; hands = t.hands }
+
 pub record WentOut {D : Type 0} (stands turns probes faults : D → ℕ) (s : OpenHub D) (r m : ℕ) (grip : Gripped D Ready) (t : OpenHub D) : Type 0 where
   pub kept : HubIsKept stands turns probes faults t
   pub out : GoesOut s r m grip t
   pub window : SameWindow s t
 
-pub went_out : {D : Type 0} (stands turns probes faults : D → ℕ) (s s₀ : OpenHub D) (r m d now number : ℕ) (purpose : KeptPurpose) (task : Task) (known : DeviceProgress) (grip : Gripped D Ready) (devices : List DeviceProgress) (places : List (Place D))
-    → HubIsKept stands turns probes faults s → s ≡ s₀ → choice_of (configuration_of s₀) r m ≡ HandsOut d (purpose_of purpose)
-    → task ≡ task_of (configuration_of s₀) r (purpose_of purpose) → slice_get s.devices d ≡ Some known → now ≡ max s.moment m → devices ≡ slice_set s.devices d (record known { purpose = purpose })
-    → IsSent turns probes faults s.places s.tickets r d known.held task grip places number
-    → WentOut stands turns probes faults s₀ r m grip (record s { moment = now; devices = devices; places = places; tickets = number })
-went_out {D = D} stands turns probes faults s s₀ r m d now number purpose task known grip devices places k same chose does known_is now_is devices_are sent =
-    subst (λ (x : OpenHub D). WentOut stands turns probes faults x r m grip (record s { moment = now; devices = devices; places = places; tickets = number })) same
-    (record {
-      kept = subst (λ (x : OpenHub D). HubIsKept stands turns probes faults x) (sym new) (gone_kept stands turns probes faults s r d m purpose grip.device grip.slip task chosen sent.at leaves k);
+pub went_out : {D : Type 0} {stands turns probes faults : D → ℕ} (h t : Inside D) (r m d : ℕ) (purpose : KeptPurpose) (known : DeviceProgress) (task : Task) (grip : Gripped D Ready)
+    → IsHanded turns probes faults h t r m d purpose known task grip → IsWhole stands turns probes faults h → WentOut stands turns probes faults (open_of h) r m grip (open_of t)
+went_out {D = D} {stands = stands} {turns = turns} {probes = probes} {faults = faults} h t r m d purpose known task grip handed k =
+    record {
+      kept = subst (λ (x : OpenHub D). HubIsKept stands turns probes faults x) (sym new) (gone_kept stands turns probes faults s r d m purpose grip.device grip.slip task handed.chosen sent.at leaves k.shown);
       out = subst (λ (x : OpenHub D). GoesOut s r m grip x) (sym new) (record {
         purpose = purpose_of purpose;
-        step = subst (λ e. HubStep (state_of s) (Take r m grip.slip) (Chose (HandsOut e (purpose_of purpose))) (state_of t)) (sym sent.device)
-            (step_is s t r m (HandsOut d (purpose_of purpose)) grip.slip chosen (gone_state s r d m purpose grip.slip task sent.maker leaves.does within within_devices) (record { device = sent.device; maker = sent.maker }));
+        step = subst (λ e. HubStep (state_of s) (Take r m grip.slip) (Chose (HandsOut e (purpose_of purpose))) (state_of t')) (sym sent.device)
+            (step_is s t' r m (HandsOut d (purpose_of purpose)) grip.slip handed.chosen (gone_state s r d m purpose grip.slip task sent.maker leaves.does within within_devices) (record { device = sent.device; maker = sent.maker }));
         task = sent.does ∙ leaves.does;
         home = subst (λ e. slice_get s.places e ≡ Some (Home grip.device)) (sym sent.device) sent.at;
         places = ap₂ (λ e x. slice_set s.places e (Out grip.slip x)) (sym sent.device) (sym sent.does);
       });
       window = subst (λ (x : OpenHub D). SameWindow s x) (sym new) (record { setting = refl; rounds = refl; opened = refl; at_opening = known_same (λ (p : DeviceProgress). p.at_opening) s.devices d (record (device_at s.devices d) { purpose = purpose }) within_devices refl });
-    })
+    }
   where
-    t : OpenHub D
-    t = gone s d purpose grip.slip task (max s.moment m)
+    s : OpenHub D
+    s = open_of h
 
-    chosen : choice_of (configuration_of s) r m ≡ HandsOut d (purpose_of purpose)
-    chosen = ap (λ (x : OpenHub D). choice_of (configuration_of x) r m) same ∙ chose
+    t' : OpenHub D
+    t' = gone s d purpose grip.slip task (max s.moment m)
+
+    sent : IsSent turns probes faults h.gate.places h.gate.tickets r d known.held task grip t.gate.places t.gate.tickets
+    sent = handed.sent
 
     within : d < length s.places
     within = slice_get_within s.places d (Home grip.device) sent.at
 
     within_devices : d < length s.devices
-    within_devices = slice_get_within s.devices d known known_is
+    within_devices = slice_get_within s.devices d known handed.known_is
 
     here : device_at s.devices d ≡ known
-    here = at_index s.devices d known known_is
+    here = at_index s.devices d known handed.known_is
 
     leaves : IsLeaving turns probes faults s r d purpose grip.device grip.slip task
     leaves =
-        let task_is = does ∙ ap (λ (x : OpenHub D). task_of (configuration_of x) r (purpose_of purpose)) (sym same) in
         record {
           number = sent.device;
           maker = sent.maker;
@@ -417,14 +433,20 @@ went_out {D = D} stands turns probes faults s s₀ r m d now number purpose task
           had_turns = sent.had_turns;
           had_probes = sent.had_probes;
           had_faults = sent.had_faults;
-          does = task_is;
-          not_probed = ap probed task_is ∙ not_probing (configuration_of s) r d (purpose_of purpose) (handed_out (configuration_of s) s.rounds s.opened (held_in s) r m d (purpose_of purpose) k.configuration chosen).for;
+          does = handed.does;
+          not_probed = ap probed handed.does ∙ not_probing (configuration_of s) r d (purpose_of purpose) (handed_out (configuration_of s) s.rounds s.opened (held_in s) r m d (purpose_of purpose) k.shown.configuration handed.chosen).for;
         }
 
-    new : ◌≡◌ {A = OpenHub D} (record s { moment = now; devices = devices; places = places; tickets = number }) t
+    new : open_of t ≡ t'
     new =
-        let devices_now = devices_are ∙ ap (λ (p : DeviceProgress). slice_set s.devices d (record p { purpose = purpose })) (sym here) in
-        λ i. record s { history = s.history; moment = now_is i; devices = devices_now i; places = sent.after_is i; tickets = sent.number_is i }
+        let devices_now = handed.devices_are ∙ ap (λ (p : DeviceProgress). slice_set s.devices d (record p { purpose = purpose })) (sym here) in
+        ap (λ (x : Inside D). open_of x) handed.new ∙ λ i. record s { history = s.history; moment = handed.moment_is i; devices = devices_now i; places = sent.after_is i; tickets = sent.number_is i }
+
+-- .. as the hub is seen
+pub went_out_at : {D : Type 0} {stands turns probes faults : D → ℕ} (h t : Inside D) (s : OpenHub D) (r m d : ℕ) (purpose : KeptPurpose) (known : DeviceProgress) (task : Task) (grip : Gripped D Ready)
+    → open_of h ≡ s → IsHanded turns probes faults h t r m d purpose known task grip → IsWhole stands turns probes faults h → WentOut stands turns probes faults s r m grip (open_of t)
+went_out_at {D = D} {stands = stands} {turns = turns} {probes = probes} {faults = faults} h t s r m d purpose known task grip seen handed k =
+    subst (λ (x : OpenHub D). WentOut stands turns probes faults x r m grip (open_of t)) seen (went_out h t r m d purpose known task grip handed k)
 
 -- .. also where the hub is seen otherwise
 pub command_given : {D : Type 0} (stands turns probes faults : D → ℕ) (s s₀ : OpenHub D) (r m d k : ℕ) (purpose : Purpose) → HubIsKept stands turns probes faults s → s ≡ s₀ → choice_of (configuration_of s₀) r m ≡ HandsOut d purpose

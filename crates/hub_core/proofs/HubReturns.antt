@@ -1,6 +1,6 @@
 -- A device that comes home keeps what the type of a hub keeps.
 use Rattle.command_rules.specs.Rosters.{command_at, commands_of, is_run, run_no}
-use Rattle.device_gate.specs.Calls.{answered, failed, has_died, is_counted_up, may_tell, stands_after, turns_of, value_after}
+use Rattle.device_gate.specs.Calls.{answered, failed, has_died, is_counted_up, may_tell, turns_of, value_after}
 use Rattle.device_gate.specs.Grips.{Gripped, WasCalled}
 use Rattle.device_gate.specs.Places.{IsKept}
 use Rattle.device_gate.specs.declared.gates.Place.TheVariants.{Home, Out}
@@ -14,6 +14,7 @@ use Rattle.device_gate.specs.declared.slips.Told.{Told}
 use Rattle.history_book.specs.Histories.{entries_made, entries_of, kept_by}
 use Rattle.history_book.specs.Readings.{Reading, has_written, is_doomed, is_live, next_of, put}
 use Rattle.history_book.specs.Settings.{Setting, is_device}
+use Rattle.history_book.specs.WellFormed.{IsWellFormed}
 use Rattle.history_book.specs.declared.entries.Cause.TheVariants.{Refuted}
 use Rattle.history_book.specs.declared.entries.Cause.{Cause}
 use Rattle.history_book.specs.declared.entries.Entry.TheVariants.{Did, Doomed, Undid}
@@ -27,10 +28,11 @@ use Rattle.home_types.specs.declared.commands.Command.{Command}
 use Rattle.home_types.specs.declared.commands.Job.TheVariants.{Check, Load, Set, Store}
 use Rattle.home_types.specs.declared.commands.Job.{Job}
 use Rattle.home_types.specs.declared.kinds.Kind.{Kind}
-use Rattle.hub_core.proofs.Calls.{IsOutFor, give_calls, give_others}
+use Rattle.hub_core.proofs.Calls.{IsOutFor, calls_told, give_calls, give_others}
 use Rattle.hub_core.proofs.Gives.{command_is}
-use Rattle.hub_core.proofs.HubChanges.{InsideIsKept, hub_of, up_first}
-use Rattle.hub_core.proofs.HubOuts.{at_index, count_cons, device_within, other_home, other_out}
+use Rattle.hub_core.proofs.Hands.{hand_comes}
+use Rattle.hub_core.proofs.HubChanges.{up_first}
+use Rattle.hub_core.proofs.HubOuts.{count_cons, device_within, other_home, other_out}
 use Rattle.hub_core.proofs.HubReads.{get_set, run_place}
 use Rattle.hub_core.proofs.HubStates.{carried_set, device_here, device_there, grips_set, kept_is, known_same, known_set, place_here}
 use Rattle.hub_core.proofs.Kept.{BringsFor, IsOut, give_kept, out_is}
@@ -44,17 +46,17 @@ use Rattle.hub_core.specs.HubCalls.{IsGiven, SameWindow, carried_by}
 use Rattle.hub_core.specs.Decisions.{refuted_by}
 use Rattle.hub_core.specs.HubKept.{ConfigurationIsKept, is_of_run}
 use Rattle.hub_core.specs.HubSteps.{Carried, Gave, Given, HubState, Returned, command_task, give, give_if, is_kept, task_of}
-use Rattle.hub_core.specs.HubsKept.{FitsAtHome, FitsOut, HasRoomLeft, HubIsKept, is_away}
+use Rattle.hub_core.specs.HubsKept.{FitsAtHome, FitsOut, HandsAre, HasRoomLeft, HubIsKept, IsWhole, is_away, open_of}
+use Rattle.hub_core.specs.KeptOrders.{OrderIsBeside}
 use Rattle.hub_core.specs.Openings.{names_values_of}
-use Rattle.hub_core.specs.OpenHubs.{OpenHub, configuration_of, device_at, grip_in, held_in, no_device, purpose_of, state_of}
+use Rattle.hub_core.specs.OpenHubs.{OpenHub, configuration_of, device_at, grip_in, held_in, purpose_of, state_of}
 use Rattle.hub_core.specs.ReadHistories.{HistoryState, read_in, with_doom, with_entry}
 use Rattle.hub_core.specs.Steps.{after_give, answer_told, at_moment, give_entries, with_entries, with_grip}
-use Rattle.hub_core.specs.declared.hubs.ClosingLists.{ClosingLists}
+use Rattle.hub_core.specs.declared.hubs.Hub.TheInside.{Inside}
 use Rattle.hub_core.specs.declared.known.DeviceProgress.{DeviceProgress}
 use Rattle.hub_core.specs.declared.purposes.Purpose.TheVariants.{Command as ForCommand, Probe as ForProbe, Undo as ForUndo}
 use Rattle.hub_core.specs.declared.purposes.Purpose.{Purpose as KeptPurpose}
-use Rattle.lock_leasing.proofs.Meetings.{item_there}
-use Rattle.lock_leasing.specs.Configurations.{Commands, Configuration, Grip, Probes, Purpose, Undoes, is_undo, read_of}
+use Rattle.lock_leasing.specs.Configurations.{Commands, Configuration, Grip, Grips, Probes, Purpose, Undoes, is_undo, read_of}
 use Rattle.std.proofs.Common.{ap, append_assoc, ap₂, arith, inl, inr, length-append, refl, subst, sym, ◌∙◌}
 use Rattle.std.proofs.lemmas.Grind.{common_steps}
 use Rattle.std.proofs.lemmas.List.{length-map, length-set}
@@ -111,8 +113,8 @@ task_calls kind Store register = refl
 grip_there : {D : Type 0} (s : OpenHub D) (slip : Slip) (task : Task) → IsKept s.places slip task → (configuration_of s).grips slip.device.0 ≡ Some (record { maker = slip.maker; purpose = purpose_of (device_at s.devices slip.device.0).purpose })
 grip_there s slip task kept = ap (λ o. grip_in o (device_at s.devices slip.device.0).purpose) kept
 
-pub for_command : {D : Type 0} (stands turns probes faults : D → ℕ) (s : OpenHub D) (slip : Slip) (task : Task) (known : DeviceProgress) (k : ℕ) → HubIsKept stands turns probes faults s → IsKept s.places slip task → slice_get s.devices slip.device.0 ≡ Some known → known.purpose ≡ ForCommand k → IsForCommand s slip task k
-for_command stands turns probes faults s slip task known k kept there is for =
+pub for_command : {D : Type 0} (stands turns probes faults : D → ℕ) (s : OpenHub D) (slip : Slip) (task : Task) (k : ℕ) → HubIsKept stands turns probes faults s → IsKept s.places slip task → (device_at s.devices slip.device.0).purpose ≡ ForCommand k → IsForCommand s slip task k
+for_command stands turns probes faults s slip task k kept there purpose =
     record {
       grip = grip;
       run = live_run w n r read.shaped (out.1.live);
@@ -140,9 +142,6 @@ for_command stands turns probes faults s slip task known k kept there is for =
 
     read : IsRead w n
     read = read_facts w (entries_of s.history) kept.configuration.history.well_formed
-
-    purpose : (device_at s.devices slip.device.0).purpose ≡ ForCommand k
-    purpose = ap (λ (p : DeviceProgress). p.purpose) (at_index s.devices slip.device.0 known is) ∙ for
 
     grip : (configuration_of s).grips slip.device.0 ≡ Some (record { maker = r; purpose = Commands k })
     grip = grip_there s slip task there ∙ ap (λ (p : KeptPurpose). Some (record { maker = r; purpose = purpose_of p })) purpose
@@ -172,8 +171,8 @@ for_command stands turns probes faults s slip task known k kept there is for =
         subst (λ d. IsTrue (names_values_of (kind_at w.kinds d) out.0.job)) out.1.on there'
 
 -- .. or to undo its write
-for_undo : {D : Type 0} (stands turns probes faults : D → ℕ) (s : OpenHub D) (slip : Slip) (task : Task) (known : DeviceProgress) (v : ℕ) → HubIsKept stands turns probes faults s → IsKept s.places slip task → slice_get s.devices slip.device.0 ≡ Some known → known.purpose ≡ ForUndo v → IsForRun s slip task (Undoes v)
-for_undo stands turns probes faults s slip task known v kept there is for =
+for_undo : {D : Type 0} (stands turns probes faults : D → ℕ) (s : OpenHub D) (slip : Slip) (task : Task) (v : ℕ) → HubIsKept stands turns probes faults s → IsKept s.places slip task → (device_at s.devices slip.device.0).purpose ≡ ForUndo v → IsForRun s slip task (Undoes v)
+for_undo stands turns probes faults s slip task v kept there purpose =
     record {
       grip = grip;
       of_run = refl;
@@ -190,9 +189,6 @@ for_undo stands turns probes faults s slip task known v kept there is for =
 
     read : IsRead s.setting n
     read = read_facts s.setting (entries_of s.history) kept.configuration.history.well_formed
-
-    purpose : (device_at s.devices slip.device.0).purpose ≡ ForUndo v
-    purpose = ap (λ (p : DeviceProgress). p.purpose) (at_index s.devices slip.device.0 known is) ∙ for
 
     grip : (configuration_of s).grips slip.device.0 ≡ Some (record { maker = slip.maker; purpose = Undoes v })
     grip = grip_there s slip task there ∙ ap (λ (p : KeptPurpose). Some (record { maker = slip.maker; purpose = purpose_of p })) purpose
@@ -227,13 +223,10 @@ pub no_probe_out : {D : Type 0} (stands turns probes faults : D → ℕ) (s : Op
 no_probe_out stands turns probes faults s slip task kept there = kept.configuration.runs slip.device.0 (record { maker = slip.maker; purpose = purpose_of (device_at s.devices slip.device.0).purpose }) (grip_there s slip task there)
 
 -- a device that is out is so for a run
-pub for_run : {D : Type 0} (stands turns probes faults : D → ℕ) (s : OpenHub D) (slip : Slip) (task : Task) (known : DeviceProgress) → HubIsKept stands turns probes faults s → IsKept s.places slip task → slice_get s.devices slip.device.0 ≡ Some known → IsForRun s slip task (purpose_of known.purpose)
-for_run stands turns probes faults s slip task known kept there is = by_purpose known.purpose refl
-  where
-    by_purpose : (p : KeptPurpose) → known.purpose ≡ p → IsForRun s slip task (purpose_of p)
-    by_purpose (ForCommand k) e = command_run s slip task k (for_command stands turns probes faults s slip task known k kept there is e)
-    by_purpose (ForUndo v) e = for_undo stands turns probes faults s slip task known v kept there is e
-    by_purpose (ForProbe v) e = absurd (let probe : is_of_run (Probes v) ≡ true = subst (λ (p : KeptPurpose). is_of_run (purpose_of p) ≡ true) (ap (λ (p : DeviceProgress). p.purpose) (at_index s.devices slip.device.0 known is) ∙ e) (no_probe_out stands turns probes faults s slip task kept there) in cc)
+pub for_run : {D : Type 0} (stands turns probes faults : D → ℕ) (s : OpenHub D) (slip : Slip) (task : Task) (purpose : KeptPurpose) → HubIsKept stands turns probes faults s → IsKept s.places slip task → (device_at s.devices slip.device.0).purpose ≡ purpose → IsForRun s slip task (purpose_of purpose)
+for_run stands turns probes faults s slip task (ForCommand k) kept there is = command_run s slip task k (for_command stands turns probes faults s slip task k kept there is)
+for_run stands turns probes faults s slip task (ForUndo v) kept there is = for_undo stands turns probes faults s slip task v kept there is
+for_run stands turns probes faults s slip task (ForProbe v) kept there is = absurd (let probe : is_of_run (Probes v) ≡ true = subst (λ (p : KeptPurpose). is_of_run (purpose_of p) ≡ true) is (no_probe_out stands turns probes faults s slip task kept there) in cc)
 
 -- What it told
 
@@ -243,55 +236,53 @@ has_lived Worked slip faults rose none = refl
 has_lived (Sensed x) slip faults rose none = refl
 has_lived Died slip faults rose none = absurd (omega (arith, rose, none))
 
--- where no call died the device stands where its task leaves it, after so many calls and no fault
-stands_so : (told : Told) (task : Task) (stood stands : ℕ) → has_died told ≡ false → IfSome (stands_after task stood told) (λ v. stands ≡ v) → stands ≡ value_after task stood
-stands_so told task stood stands lives at = subst (λ b. IfSome (if b then None else Some (value_after task stood)) (λ v. stands ≡ v)) lives at
+-- the device was called so often
+turns_so : (told : Told) (task : Task) (turns now : ℕ) → turns_of task ≡ 1 → now ≡ turns + answered task told → now ≡ turns + calls_told told
+turns_so told task turns now one rose = rose ∙ ap (λ k. turns + (if has_died told then 0 else k)) one
 
-turns_so : (told : Told) (task : Task) (turns now : ℕ) → has_died told ≡ false → turns_of task ≡ 1 → now ≡ turns + answered task told → now ≡ turns + 1
-turns_so told task turns now lives one rose = rose ∙ ap (λ b. turns + (if b then 0 else turns_of task)) lives ∙ ap (λ k. turns + k) one
-
-faults_so : (told : Told) (faults now : ℕ) → has_died told ≡ false → now ≡ faults + failed told → now ≡ faults
-faults_so told faults now lives rose = rose ∙ ap (λ b. faults + (if b then 1 else 0)) lives ∙ plus_none faults
+-- a write that worked has driven its device there
+wrote_brings : (s : Configuration) (held : ℕ → ℕ) (r k d stood : ℕ) (task : Task) → (command_at s.setting.runs r k).device.0 ≡ d → task ≡ command_task s r (command_at s.setting.runs r k) → IsTrue (may_tell task stood Worked) → BringsFor s held r d (value_after task (held d)) (Commands k) Worked
+wrote_brings s held r k d stood task on does fits =
+    subst (λ e. (reads job ≡ false) × (value_after task (held d) ≡ driven (kind_at s.setting.kinds e) job register)) on
+    (by_reading (reads job) refl does fits)
   where
-    plus_none : (n : ℕ) → n + 0 ≡ n
-    plus_none n = omega arith
+    job : Job
+    job = (command_at s.setting.runs r k).job
 
--- what it told is what its command brings ..
-brings_so : (s : Configuration) (held : ℕ → ℕ) (r k d v stood : ℕ) (task : Task) (told : Told) → (command_at s.setting.runs r k).device.0 ≡ d → task ≡ command_task s r (command_at s.setting.runs r k) → IsTrue (may_tell task stood told) → has_died told ≡ false → stood ≡ held d → v ≡ value_after task (held d)
-    → BringsFor s held r d v (Commands k) told
-brings_so s held r k d v stood task told on does fits lives at stands = by_reading (reads (command_at s.setting.runs r k).job) refl told (does ∙ ap (λ e. if reads (command_at s.setting.runs r k).job then Sense else Drive (driven (kind_at s.setting.kinds e) (command_at s.setting.runs r k).job ((read_of s).run r).register)) on) fits lives
-  where
+    register : ℕ
+    register = ((read_of s).run r).register
+
     value : ℕ
-    value = driven (kind_at s.setting.kinds d) (command_at s.setting.runs r k).job ((read_of s).run r).register
+    value = driven (kind_at s.setting.kinds (command_at s.setting.runs r k).device.0) job register
+
+    by_reading : (b : Bool) → reads job ≡ b → task ≡ (if reads job then Sense else Drive value) → IsTrue (may_tell task stood Worked) → (reads job ≡ false) × (value_after task (held d) ≡ value)
+    by_reading true e is tells = absurd (let none : false ≡ true = subst (λ x. IsTrue (may_tell x stood Worked)) (is ∙ ap (λ b. if b then Sense else Drive value) e) tells in cc)
+    by_reading false e is tells = (e, ap (λ y. value_after y (held d)) (is ∙ ap (λ b. if b then Sense else Drive value) e))
+
+-- a read has found where its device stands
+found_brings : (s : Configuration) (held : ℕ → ℕ) (r k d x stood : ℕ) (task : Task) → task ≡ command_task s r (command_at s.setting.runs r k) → IsTrue (may_tell task stood (Sensed x)) → stood ≡ held d → BringsFor s held r d (value_after task (held d)) (Commands k) (Sensed x)
+found_brings s held r k d x stood task does fits at = by_reading (reads job) refl does fits
+  where
+    job : Job
+    job = (command_at s.setting.runs r k).job
+
+    value : ℕ
+    value = driven (kind_at s.setting.kinds (command_at s.setting.runs r k).device.0) job ((read_of s).run r).register
 
     same : (x y : ℕ) → (x == y) ≡ true → x ≡ y
     same x y e = grind (arith, common_steps)
 
-    by_reading : (b : Bool) → reads (command_at s.setting.runs r k).job ≡ b → (t : Told) → task ≡ (if reads (command_at s.setting.runs r k).job then Sense else Drive value) → IsTrue (may_tell task stood t) → has_died t ≡ false → BringsFor s held r d v (Commands k) t
-    by_reading true e Worked is tells alive = absurd (let none : false ≡ true = subst (λ x. IsTrue (may_tell x stood Worked)) (is ∙ ap (λ b. if b then Sense else Drive value) e) tells in cc)
-    by_reading true e (Sensed x) is tells alive =
+    by_reading : (b : Bool) → reads job ≡ b → task ≡ (if reads job then Sense else Drive value) → IsTrue (may_tell task stood (Sensed x)) → (reads job ≡ true) × (x ≡ value_after task (held d)) × (value_after task (held d) ≡ held d)
+    by_reading true e is tells =
         let sense : task ≡ Sense = is ∙ ap (λ b. if b then Sense else Drive value) e in
-        let stays : v ≡ held d = stands ∙ ap (λ y. value_after y (held d)) sense in
+        let stays : value_after task (held d) ≡ held d = ap (λ y. value_after y (held d)) sense in
         let found : x ≡ stood = same x stood (subst (λ y. IsTrue (may_tell y stood (Sensed x))) sense tells) in
         (e, found ∙ at ∙ sym stays, stays)
-    by_reading false e Worked is tells alive = (e, stands ∙ ap (λ y. value_after y (held d)) (is ∙ ap (λ b. if b then Sense else Drive value) e))
-    by_reading false e (Sensed x) is tells alive = absurd (let none : false ≡ true = subst (λ y. IsTrue (may_tell y stood (Sensed x))) (is ∙ ap (λ b. if b then Sense else Drive value) e) tells in cc)
-    by_reading b e Died is tells alive = absurd (cc)
+    by_reading false e is tells = absurd (let none : false ≡ true = subst (λ y. IsTrue (may_tell y stood (Sensed x))) (is ∙ ap (λ b. if b then Sense else Drive value) e) tells in cc)
 
--- .. or its undo
-brings_undone : (s : Configuration) (held : ℕ → ℕ) (r d u v stood : ℕ) (task : Task) (told : Told) → task ≡ Drive u → IsTrue (may_tell task stood told) → has_died told ≡ false → v ≡ value_after task (held d) → BringsFor s held r d v (Undoes u) told
-brings_undone s held r d u v stood task told does fits lives stands = at told (subst (λ x. IsTrue (may_tell x stood told)) does fits) lives
-  where
-    at : (t : Told) → IsTrue (may_tell (Drive u) stood t) → has_died t ≡ false → BringsFor s held r d v (Undoes u) t
-    at Worked may alive = stands ∙ ap (λ x. value_after x (held d)) does
-    at (Sensed x) may alive = absurd (cc)
-    at Died may alive = absurd (cc)
-
-pub brings_for : {D : Type 0} (s : OpenHub D) (slip : Slip) (task : Task) (purpose : Purpose) (told : Told) → IsForRun s slip task purpose → IsTrue (may_tell task slip.stood told) → has_died told ≡ false
-    → BringsFor (configuration_of s) (held_in s) slip.maker slip.device.0 (value_after task (held_in s slip.device.0)) purpose told
-brings_for s slip task (Commands k) told for fits lives = brings_so (configuration_of s) (held_in s) slip.maker k slip.device.0 _ slip.stood task told for.on for.does fits lives for.stood refl
-brings_for s slip task (Undoes u) told for fits lives = brings_undone (configuration_of s) (held_in s) slip.maker slip.device.0 u _ slip.stood task told for.does fits lives refl
-brings_for s slip task (Probes u) told for fits lives = absurd (cc (for.of_run))
+-- an undo has driven its device there; it finds no value
+undo_senses : (x u stood : ℕ) (task : Task) → task ≡ Drive u → IsTrue (may_tell task stood (Sensed x)) → ⊥
+undo_senses x u stood task does fits = let none : false ≡ true = subst (λ y. IsTrue (may_tell y stood (Sensed x))) does fits in absurd (cc)
 
 -- The entries of the step back
 
@@ -317,10 +308,14 @@ undo_gives s slip v (Sensed x) lives = refl
 undo_gives s slip v Died lives = absurd (cc)
 
 -- it makes an entry
-some_entry : {D : Type 0} (s : OpenHub D) (slip : Slip) (purpose : Purpose) (told : Told) → is_of_run purpose ≡ true → has_died told ≡ false → 1 ≤ length (entries_for s slip purpose told)
-some_entry s slip (Commands k) told of_run lives = subst (λ es. 1 ≤ length es) (sym (command_gives s slip k told lives)) (omega arith)
-some_entry s slip (Undoes v) told of_run lives = subst (λ es. 1 ≤ length es) (sym (undo_gives s slip v told lives)) (omega arith)
-some_entry s slip (Probes v) told of_run lives = absurd (cc)
+some_entry : {D : Type 0} (s : OpenHub D) (slip : Slip) (purpose : Purpose) (told : Told) → is_of_run purpose ≡ true → 1 ≤ length (entries_for s slip purpose told)
+some_entry s slip (Commands k) Worked of_run = omega arith
+some_entry s slip (Commands k) (Sensed x) of_run = omega arith
+some_entry s slip (Commands k) Died of_run = omega arith
+some_entry s slip (Undoes v) Worked of_run = omega arith
+some_entry s slip (Undoes v) (Sensed x) of_run = omega arith
+some_entry s slip (Undoes v) Died of_run = omega arith
+some_entry s slip (Probes v) told of_run = absurd (cc)
 
 length_kept : (maker : ℕ) (es : List Entry) → length (kept_by maker es) ≡ length es
 length_kept maker es = length-map es _
@@ -380,8 +375,44 @@ other_maker stands turns probes faults s slip task purpose e other does kept for
     first : slip.maker ≡ suc (slip.maker - 1)
     first = (run_place s.setting.runs slip.maker for.run).0
 
+-- What is kept of a device that came home, by what it was out for and what it told
+
+-- in this stage no call dies: what is left open is a device that died
+abbrev pub StageLives : Told → Type 0
+StageLives told = has_died told ≡ false
+
+-- what the step back leaves of the configuration, where the device stands, and its faults
+record GivesBack {D : Type 0} (stands faults : D → ℕ) (s : OpenHub D) (slip : Slip) (purpose : Purpose) (told : Told) (device : D) (v m : ℕ) : Type 0 where
+  configuration : ConfigurationIsKept (after_back s slip (entries_for s slip purpose told) m) s.rounds s.opened (put (held_in s) slip.device.0 v)
+  stand : (read_of (after_back s slip (entries_for s slip purpose told) m)).up slip.device.0 ≡ true → stands device ≡ v
+  faults_are : faults device ≡ slip.faults
+
+-- where the call lived it is as the task leaves it
+lived_back : {D : Type 0} (stands turns probes faults : D → ℕ) (s : OpenHub D) (slip : Slip) (task : Task) (purpose : Purpose) (told : Told) (device : D) (m tag : ℕ) → IsForRun s slip task purpose → WasCalled told task slip tag (stands device) (turns device) (probes device) (faults device) → has_died told ≡ false
+    → BringsFor (configuration_of s) (held_in s) slip.maker slip.device.0 (value_after task (held_in s slip.device.0)) purpose told → HubIsKept stands turns probes faults s → GivesBack stands faults s slip purpose told device (value_after task (held_in s slip.device.0)) m
+lived_back stands turns probes faults s slip task purpose told device m tag for called lives brings kept =
+    record {
+      configuration = give_kept (configuration_of s) s.rounds s.opened (held_in s) slip.device.0 m (value_after task (held_in s slip.device.0)) (record { maker = slip.maker; purpose = purpose }) told for.grip brings for.value kept.configuration;
+      stand = λ up. subst (λ b. IfSome (if b then None else Some (value_after task slip.stood)) (λ v. stands device ≡ v)) lives called.stands_there ∙ ap (value_after task) for.stood;
+      faults_are = called.faults_rose ∙ ap (λ b. slip.faults + (if b then 1 else 0)) lives ∙ plus_none slip.faults;
+    }
+  where
+    plus_none : (n : ℕ) → n + 0 ≡ n
+    plus_none n = omega arith
+
+-- the cases
+gives_back : {D : Type 0} (stands turns probes faults : D → ℕ) (s : OpenHub D) (slip : Slip) (task : Task) (purpose : Purpose) (told : Told) (device : D) (m tag : ℕ) → IsForRun s slip task purpose → WasCalled told task slip tag (stands device) (turns device) (probes device) (faults device) → StageLives told
+    → HubIsKept stands turns probes faults s → GivesBack stands faults s slip purpose told device (value_after task (held_in s slip.device.0)) m
+gives_back stands turns probes faults s slip task (Commands k) Worked device m tag for called lives kept = lived_back stands turns probes faults s slip task (Commands k) Worked device m tag for called refl (wrote_brings (configuration_of s) (held_in s) slip.maker k slip.device.0 slip.stood task for.on for.does called.fits) kept
+gives_back stands turns probes faults s slip task (Commands k) (Sensed x) device m tag for called lives kept = lived_back stands turns probes faults s slip task (Commands k) (Sensed x) device m tag for called refl (found_brings (configuration_of s) (held_in s) slip.maker k slip.device.0 x slip.stood task for.does called.fits for.stood) kept
+gives_back stands turns probes faults s slip task (Commands k) Died device m tag for called lives kept = absurd (cc)
+gives_back stands turns probes faults s slip task (Undoes u) Worked device m tag for called lives kept = lived_back stands turns probes faults s slip task (Undoes u) Worked device m tag for called refl (ap (λ x. value_after x (held_in s slip.device.0)) for.does) kept
+gives_back stands turns probes faults s slip task (Undoes u) (Sensed x) device m tag for called lives kept = absurd (undo_senses x u slip.stood task for.does called.fits)
+gives_back stands turns probes faults s slip task (Undoes u) Died device m tag for called lives kept = absurd (cc)
+gives_back stands turns probes faults s slip task (Probes u) told device m tag for called lives kept = absurd (cc (for.of_run))
+
 pub back_kept : {D : Type 0} (stands turns probes faults : D → ℕ) (s : OpenHub D) (slip : Slip) (task : Task) (purpose : Purpose) (told : Told) (device : D) (m tag : ℕ)
-    → IsKept s.places slip task → IsForRun s slip task purpose → WasCalled told task slip tag (stands device) (turns device) (probes device) (faults device) → has_died told ≡ false → slip.device.0 < length s.devices
+    → IsKept s.places slip task → IsForRun s slip task purpose → WasCalled told task slip tag (stands device) (turns device) (probes device) (faults device) → StageLives told → slip.device.0 < length s.devices
     → HubIsKept stands turns probes faults s → HubIsKept stands turns probes faults (back s slip (entries_for s slip purpose told) device (value_after task (held_in s slip.device.0)) (max s.moment m))
 back_kept {D = D} stands turns probes faults s slip task purpose told device m tag at for called lives known kept =
     record {
@@ -405,7 +436,7 @@ back_kept {D = D} stands turns probes faults s slip task purpose told device m t
           let few : s.tickets ≤ length s.history + count_by is_away s.places = kept.few_tickets in
           let less = count_back s.places d device slip task at in
           let more : length t.history ≡ length s.history + length (kept_by slip.maker (entries_for s slip purpose told)) = length-append s.history (kept_by slip.maker (entries_for s slip purpose told)) in
-          let some = some_entry s slip purpose told for.of_run lives in
+          let some = some_entry s slip purpose told for.of_run in
           let made = length_kept slip.maker (entries_for s slip purpose told) in
           omega (arith, few, less, more, some, made);
     }
@@ -438,20 +469,22 @@ back_kept {D = D} stands turns probes faults s slip task purpose told device m t
     grip : Grip
     grip = record { maker = slip.maker; purpose = purpose }
 
+    given : GivesBack stands faults s slip purpose told device v m
+    given = gives_back stands turns probes faults s slip task purpose told device m tag for called lives kept
+
     now : ConfigurationIsKept (configuration_of t) s.rounds s.opened (held_in t)
     now =
-        let given = give_kept (configuration_of s) s.rounds s.opened (held_in s) d m v grip told for.grip (brings_for s slip task purpose told for called.fits lives) for.value kept.configuration in
         subst (λ (c : Configuration). ConfigurationIsKept c s.rounds s.opened (held_in t)) (sym (back_configuration s slip (entries_for s slip purpose told) device v m within known))
-        (subst (λ h. ConfigurationIsKept (after_back s slip (entries_for s slip purpose told) m) s.rounds s.opened h) (sym (known_set (λ (p : DeviceProgress). p.held) s.devices d known_now known)) given)
+        (subst (λ h. ConfigurationIsKept (after_back s slip (entries_for s slip purpose told) m) s.rounds s.opened h) (sym (known_set (λ (p : DeviceProgress). p.held) s.devices d known_now known)) given.configuration)
 
     register_same : (q : ℕ) → q ≢ slip.maker → ((read_of (configuration_of s)).run q).register ≡ ((read_of (configuration_of t)).run q).register
-    register_same q other = sym (ap (λ o. o.register) (give_others (configuration_of s) d q grip told for.of_run lives other))
+    register_same q other = sym (ap (λ o. o.register) (give_others (configuration_of s) d q grip told for.of_run other))
 
-    calls : (e : ℕ) → told_calls s.setting.runs (entries_of t.history) e ≡ told_calls s.setting.runs (entries_of s.history) e + (if d == e then 1 else 0)
-    calls e = give_calls (configuration_of s) d e grip told for.of_run for.on lives
+    calls : (e : ℕ) → told_calls s.setting.runs (entries_of t.history) e ≡ told_calls s.setting.runs (entries_of s.history) e + (if d == e then calls_told told else 0)
+    calls e = give_calls (configuration_of s) d e grip told for.of_run for.on
 
     told_other : (e : ℕ) → e ≢ d → told_calls s.setting.runs (entries_of t.history) e ≡ told_calls s.setting.runs (entries_of s.history) e
-    told_other e other = calls e ∙ ap (λ b. told_calls s.setting.runs (entries_of s.history) e + (if b then 1 else 0)) (apart d e (λ p. other (sym p))) ∙ plus_none (told_calls s.setting.runs (entries_of s.history) e)
+    told_other e other = calls e ∙ ap (λ b. told_calls s.setting.runs (entries_of s.history) e + (if b then calls_told told else 0)) (apart d e (λ p. other (sym p))) ∙ plus_none (told_calls s.setting.runs (entries_of s.history) e)
       where
         apart : (a b : ℕ) → a ≢ b → (a == b) ≡ false
         apart a b e = grind (arith, common_steps)
@@ -459,8 +492,8 @@ back_kept {D = D} stands turns probes faults s slip task purpose told device m t
         plus_none : (n : ℕ) → n + 0 ≡ n
         plus_none n = omega arith
 
-    told_here : told_calls s.setting.runs (entries_of t.history) d ≡ told_calls s.setting.runs (entries_of s.history) d + 1
-    told_here = calls d ∙ ap (λ b. told_calls s.setting.runs (entries_of s.history) d + (if b then 1 else 0)) (itself d)
+    told_here : told_calls s.setting.runs (entries_of t.history) d ≡ told_calls s.setting.runs (entries_of s.history) d + calls_told told
+    told_here = calls d ∙ ap (λ b. told_calls s.setting.runs (entries_of s.history) d + (if b then calls_told told else 0)) (itself d)
       where
         itself : (a : ℕ) → (a == a) ≡ true
         itself a = grind (arith, common_steps)
@@ -472,14 +505,14 @@ back_kept {D = D} stands turns probes faults s slip task purpose told device m t
     comes =
         let fits = kept.out d slip task at in
         record {
-          stand = λ up. stands_so told task slip.stood (stands device) lives called.stands_there ∙ ap (value_after task) for.stood ∙ ap (λ (p : DeviceProgress). p.held) (sym here);
+          stand = λ up. given.stand up ∙ ap (λ (p : DeviceProgress). p.held) (sym here);
           turns_are =
-              let rose : turns device ≡ slip.turns + 1 = turns_so told task slip.turns (turns device) lives for.calls called.turns_rose in
+              let rose : turns device ≡ slip.turns + calls_told told = turns_so told task slip.turns (turns device) for.calls called.turns_rose in
               let had : slip.turns ≡ (device_at s.devices d).at_opening.turns + told_calls s.setting.runs (entries_of s.history) d = fits.turns_are in
               let same : (device_at t.devices d).at_opening.turns ≡ (device_at s.devices d).at_opening.turns = ap (λ (p : DeviceProgress). p.at_opening.turns) here in
               omega (arith, rose, had, same, told_here);
           probes_are = called.probes_rose ∙ fits.probes_are ∙ ap (λ (p : DeviceProgress). p.at_opening.probes + (s.rounds - p.probes_left)) (sym here);
-          faults_are = faults_so told slip.faults (faults device) lives called.faults_rose ∙ fits.faults_are ∙ ap (λ (p : DeviceProgress). p.at_opening.faults) (sym here);
+          faults_are = given.faults_are ∙ fits.faults_are ∙ ap (λ (p : DeviceProgress). p.at_opening.faults) (sym here);
         }
 
 -- The answer
@@ -490,30 +523,63 @@ taken_in : (s : HubState) (told : Carried) (grip : Grip) (result : Told) (m : �
 taken_in s told grip result m kept maker out =
     ap (λ b. give_if (b && nat_lt 0 told.slip.maker) s (at_moment s.configuration m) told result) kept ∙ ap (λ b. give_if (true && b) s (at_moment s.configuration m) told result) maker ∙ rw out refl
 
--- What came of it
+-- The parts of the hub to which it came back
 
-pub record CameBack {D : Type 0} (stands turns probes faults : D → ℕ) (h₂ : HistoryState) (rounds opened now number : ℕ) (devices₂ : List DeviceProgress) (places₂ : List (Place D)) (closing : ClosingLists) (s₀ : OpenHub D) (grip : Gripped D Done) (m : ℕ) (made : Made) : Type 0 where
-  pub inside : InsideIsKept stands turns probes faults h₂ rounds opened now devices₂ places₂ number closing
-  pub given : IsGiven s₀ grip m (Ok made) (hub_of h₂ rounds opened now devices₂ places₂ number)
-  pub window : SameWindow s₀ (hub_of h₂ rounds opened now devices₂ places₂ number)
-
--- what is known of the grip that came back
-pub record IsReturned {D : Type 0} (stands turns probes faults : D → ℕ) (places : List (Place D)) (devices : List DeviceProgress) (known : DeviceProgress) (why : KeptPurpose) (tag : ℕ) (grip : Gripped D Done) : Type 0 where
-  pub there : IsKept places grip.slip grip.task
+-- what is known of the grip, and of its device; in this stage no call died
+pub record IsReturned {D : Type 0} (stands turns probes faults : D → ℕ) (h : Inside D) (why : KeptPurpose) (tag : ℕ) (grip : Gripped D Done) : Type 0 where
+  pub there : IsKept h.gate.places grip.slip grip.task
   pub maker : 0 < grip.slip.maker
-  pub known_is : slice_get devices grip.slip.device.0 ≡ Some known
-  pub purpose : known.purpose ≡ why
+  pub purpose : (device_at h.devices.items grip.slip.device.0).purpose ≡ why
   pub called : WasCalled grip.stage.told grip.task grip.slip tag (stands grip.device) (turns grip.device) (probes grip.device) (faults grip.device)
-  pub calm : faults grip.device ≡ 0
+  pub stage_lives : StageLives grip.stage.told
 
--- no call died
-pub told_alive : {D : Type 0} (stands turns probes faults : D → ℕ) (places : List (Place D)) (devices : List DeviceProgress) (known : DeviceProgress) (purpose : KeptPurpose) (tag : ℕ) (grip : Gripped D Done) → IsReturned stands turns probes faults places devices known purpose tag grip → has_died grip.stage.told ≡ false
-told_alive stands turns probes faults places devices known purpose tag grip returned = has_lived grip.stage.told grip.slip (faults grip.device) returned.called.faults_rose returned.calm
+-- .. also where it is told of what the hub shows
+pub grip_back : {D : Type 0} {stands turns probes faults : D → ℕ} (h : Inside D) (s : OpenHub D) (why : KeptPurpose) (tag : ℕ) (grip : Gripped D Done) → open_of h ≡ s → IsKept s.places grip.slip grip.task → 0 < grip.slip.maker → (device_at s.devices grip.slip.device.0).purpose ≡ why
+    → WasCalled grip.stage.told grip.task grip.slip tag (stands grip.device) (turns grip.device) (probes grip.device) (faults grip.device) → StageLives grip.stage.told → IsReturned stands turns probes faults h why tag grip
+grip_back {D = D} h s why tag grip seen there maker for called lives =
+    record {
+      there = ap (λ (x : OpenHub D). slice_get x.places grip.slip.device.0) seen ∙ there;
+      maker = maker;
+      purpose = ap (λ (x : OpenHub D). (device_at x.devices grip.slip.device.0).purpose) seen ∙ for;
+      called = called;
+      stage_lives = lives;
+    }
+
+-- its device is one that is known
+pub known_back : {D : Type 0} {stands turns probes faults : D → ℕ} (h : Inside D) (s : OpenHub D) (slip : Slip) (task : Task) → open_of h ≡ s → IsKept s.places slip task → IsWhole stands turns probes faults h → slip.device.0 < length h.devices.items
+known_back {D = D} h s slip task seen there k =
+    let within : slip.device.0 < length h.gate.places = slice_get_within h.gate.places slip.device.0 (Out slip task) (ap (λ (x : OpenHub D). slice_get x.places slip.device.0) seen ∙ there) in
+    omega (arith, within, k.shown.devices_size, k.shown.places_size)
+
+-- its run is one of the window
+pub undo_run : {D : Type 0} {stands turns probes faults : D → ℕ} (h : Inside D) (s : OpenHub D) (slip : Slip) (task : Task) → open_of h ≡ s → IsKept s.places slip task → IsWhole stands turns probes faults h → is_run h.history.setting.runs slip.maker ≡ true
+undo_run {D = D} h s slip task seen there k = (for_run _ _ _ _ (open_of h) slip task _ k.shown (ap (λ (x : OpenHub D). slice_get x.places slip.device.0) seen ∙ there) refl).run
+
+-- its run is one of those whose hands are known
+pub hand_back : {D : Type 0} {stands turns probes faults : D → ℕ} (h : Inside D) (s : OpenHub D) (slip : Slip) (task : Task) → open_of h ≡ s → IsKept s.places slip task → IsWhole stands turns probes faults h → slip.maker ≤ length h.hands.items
+hand_back h s slip task seen there k =
+    let place = run_place h.history.setting.runs slip.maker (undo_run h s slip task seen there k) in
+    omega (arith, place.0, place.1, k.hands.size)
+
+-- the command for which it was out
+pub command_back : {D : Type 0} {stands turns probes faults : D → ℕ} (h : Inside D) (s : OpenHub D) (slip : Slip) (task : Task) (k : ℕ) → open_of h ≡ s → IsKept s.places slip task → (device_at s.devices slip.device.0).purpose ≡ ForCommand k → IsWhole stands turns probes faults h → IsForCommand (open_of h) slip task k
+command_back {D = D} h s slip task k seen there for whole =
+    for_command _ _ _ _ (open_of h) slip task k whole.shown (ap (λ (x : OpenHub D). slice_get x.places slip.device.0) seen ∙ there) (ap (λ (x : OpenHub D). (device_at x.devices slip.device.0).purpose) seen ∙ for)
+
+-- no probe was out
+pub probe_back : {D : Type 0} {stands turns probes faults : D → ℕ} (h : Inside D) (s : OpenHub D) (slip : Slip) (task : Task) (v : Option ℕ) → open_of h ≡ s → IsKept s.places slip task → (device_at h.devices.items slip.device.0).purpose ≡ ForProbe v → IsWhole stands turns probes faults h → ⊥
+probe_back {D = D} h s slip task v seen there for k =
+    let probe : is_of_run (Probes v) ≡ true = subst (λ (p : KeptPurpose). is_of_run (purpose_of p) ≡ true) for (no_probe_out _ _ _ _ (open_of h) slip task k.shown (ap (λ (x : OpenHub D). slice_get x.places slip.device.0) seen ∙ there)) in absurd (cc)
+
+-- an undo's value
+pub undone_value : (p : KeptPurpose) → is_undo (purpose_of p) ≡ true → (v : ℕ) × (p ≡ ForUndo v)
+undone_value (ForCommand k) is = absurd (cc)
+undone_value (ForUndo v) is = (v, refl)
+undone_value (ForProbe v) is = absurd (cc)
 
 -- it was out for a run
-pub returned_for : {D : Type 0} (stands turns probes faults : D → ℕ) (s : OpenHub D) (known : DeviceProgress) (purpose : KeptPurpose) (tag : ℕ) (grip : Gripped D Done) → HubIsKept stands turns probes faults s → IsReturned stands turns probes faults s.places s.devices known purpose tag grip → IsForRun s grip.slip grip.task (purpose_of purpose)
-returned_for stands turns probes faults s known purpose tag grip kept returned =
-    subst (λ (p : KeptPurpose). IsForRun s grip.slip grip.task (purpose_of p)) returned.purpose (for_run stands turns probes faults s grip.slip grip.task known kept returned.there returned.known_is)
+pub returned_for : {D : Type 0} {stands turns probes faults : D → ℕ} (h : Inside D) (why : KeptPurpose) (tag : ℕ) (grip : Gripped D Done) → IsReturned stands turns probes faults h why tag grip → IsWhole stands turns probes faults h → IsForRun (open_of h) grip.slip grip.task (purpose_of why)
+returned_for h why tag grip returned k = for_run _ _ _ _ (open_of h) grip.slip grip.task why k.shown returned.there returned.purpose
 
 -- the entries that its step back makes
 abbrev pub returned_entries : {D : Type 0} → OpenHub D → Gripped D Done → KeptPurpose → List Entry
@@ -523,138 +589,153 @@ returned_entries s grip purpose = entries_for s grip.slip (purpose_of purpose) g
 abbrev pub returned_hub : {D : Type 0} → OpenHub D → Gripped D Done → KeptPurpose → ℕ → OpenHub D
 returned_hub s grip purpose m = back s grip.slip (returned_entries s grip purpose) grip.device (value_after grip.task (held_in s grip.slip.device.0)) (max s.moment m)
 
-returned_kept : {D : Type 0} (stands turns probes faults : D → ℕ) (s : OpenHub D) (m tag : ℕ) (known : DeviceProgress) (purpose : KeptPurpose) (grip : Gripped D Done) → HubIsKept stands turns probes faults s → IsReturned stands turns probes faults s.places s.devices known purpose tag grip → HubIsKept stands turns probes faults (returned_hub s grip purpose m)
-returned_kept stands turns probes faults s m tag known purpose grip kept returned =
-    back_kept stands turns probes faults s grip.slip grip.task (purpose_of purpose) grip.stage.told grip.device m tag returned.there (returned_for stands turns probes faults s known purpose tag grip kept returned) returned.called
-    (told_alive stands turns probes faults s.places s.devices known purpose tag grip returned) (slice_get_within s.devices grip.slip.device.0 known returned.known_is) kept
+returned_kept : {D : Type 0} {stands turns probes faults : D → ℕ} (h : Inside D) (m : ℕ) (why : KeptPurpose) (tag : ℕ) (grip : Gripped D Done) → IsReturned stands turns probes faults h why tag grip → IsWhole stands turns probes faults h → HubIsKept stands turns probes faults (returned_hub (open_of h) grip why m)
+returned_kept h m why tag grip returned k =
+    back_kept _ _ _ _ (open_of h) grip.slip grip.task (purpose_of why) grip.stage.told grip.device m tag returned.there (returned_for h why tag grip returned k) returned.called returned.stage_lives
+    (known_back h (open_of h) grip.slip grip.task refl returned.there k) k.shown
 
--- the history has a place for each of these entries
-pub back_places : {D : Type 0} (stands turns probes faults : D → ℕ) (h : HistoryState) (rounds opened moment tickets tag : ℕ) (devices : List DeviceProgress) (places : List (Place D)) (closing : ClosingLists) (known : DeviceProgress) (purpose : KeptPurpose) (grip : Gripped D Done)
-    → InsideIsKept stands turns probes faults h rounds opened moment devices places tickets closing → IsReturned stands turns probes faults places devices known purpose tag grip → length (returned_entries (hub_of h rounds opened moment devices places tickets) grip purpose) ≤ h.spare
-back_places {D = D} stands turns probes faults h rounds opened moment tickets tag devices places closing known purpose grip inside returned =
-    let fits : length t.history ≤ 132 * length h.setting.runs = history_fits (configuration_of t) rounds opened (held_in t) (returned_kept stands turns probes faults s 0 tag known purpose grip inside.0 returned).configuration in
-    let long : length t.history ≡ length h.history + length (kept_by grip.slip.maker (returned_entries s grip purpose)) = length-append h.history (kept_by grip.slip.maker (returned_entries s grip purpose)) in
-    let made = length_kept grip.slip.maker (returned_entries s grip purpose) in
-    let room : 132 * length h.setting.runs ≤ h.spare + length h.history = inside.1.history in
+-- The room for its entries
+
+-- the history has a place for each of them
+pub back_places : {D : Type 0} {stands turns probes faults : D → ℕ} (h : Inside D) (why : KeptPurpose) (tag : ℕ) (grip : Gripped D Done) → IsReturned stands turns probes faults h why tag grip → IsWhole stands turns probes faults h → length (returned_entries (open_of h) grip why) ≤ h.history.spare
+back_places {D = D} h why tag grip returned k =
+    let fits : length t.history ≤ 132 * length h.history.setting.runs = history_fits (configuration_of t) h.rounds h.opened (held_in t) (returned_kept h 0 why tag grip returned k).configuration in
+    let long : length t.history ≡ length h.history.history + length (kept_by grip.slip.maker (returned_entries (open_of h) grip why)) = length-append h.history.history (kept_by grip.slip.maker (returned_entries (open_of h) grip why)) in
+    let made = length_kept grip.slip.maker (returned_entries (open_of h) grip why) in
+    let room : 132 * length h.history.setting.runs ≤ h.history.spare + length h.history.history = k.room.history in
     omega (arith, fits, long, made, room)
   where
-    s : OpenHub D
-    s = hub_of h rounds opened moment devices places tickets
-
     t : OpenHub D
-    t = returned_hub s grip purpose 0
+    t = returned_hub (open_of h) grip why 0
 
 -- .. for the first one
-pub back_place : {D : Type 0} (stands turns probes faults : D → ℕ) (h : HistoryState) (rounds opened moment tickets tag : ℕ) (devices : List DeviceProgress) (places : List (Place D)) (closing : ClosingLists) (known : DeviceProgress) (purpose : KeptPurpose) (grip : Gripped D Done)
-    → InsideIsKept stands turns probes faults h rounds opened moment devices places tickets closing → IsReturned stands turns probes faults places devices known purpose tag grip → 0 < h.spare
-back_place {D = D} stands turns probes faults h rounds opened moment tickets tag devices places closing known purpose grip inside returned =
-    let s : OpenHub D = hub_of h rounds opened moment devices places tickets in
-    let some : 1 ≤ length (returned_entries s grip purpose) = some_entry s grip.slip (purpose_of purpose) grip.stage.told (returned_for stands turns probes faults s known purpose tag grip inside.0 returned).of_run (told_alive stands turns probes faults places devices known purpose tag grip returned) in
-    let fits : length (returned_entries s grip purpose) ≤ h.spare = back_places stands turns probes faults h rounds opened moment tickets tag devices places closing known purpose grip inside returned in
+pub back_place : {D : Type 0} {stands turns probes faults : D → ℕ} (h : Inside D) (why : KeptPurpose) (tag : ℕ) (grip : Gripped D Done) → IsReturned stands turns probes faults h why tag grip → IsWhole stands turns probes faults h → 0 < h.history.spare
+back_place h why tag grip returned k =
+    let some : 1 ≤ length (returned_entries (open_of h) grip why) = some_entry (open_of h) grip.slip (purpose_of why) grip.stage.told (returned_for h why tag grip returned k).of_run in
+    let fits : length (returned_entries (open_of h) grip why) ≤ h.history.spare = back_places h why tag grip returned k in
     omega (arith, some, fits)
 
--- .. and behind an answer for the doom
-pub doom_place : {D : Type 0} (stands turns probes faults : D → ℕ) (h h₁ : HistoryState) (rounds opened moment tickets k tag : ℕ) (devices : List DeviceProgress) (places : List (Place D)) (closing : ClosingLists) (known : DeviceProgress) (grip : Gripped D Done) (sl : Slip) (x : Answer) (e : Entry) (cause : Option Cause)
-    → InsideIsKept stands turns probes faults h rounds opened moment devices places tickets closing → IsReturned stands turns probes faults places devices known (ForCommand k) tag grip → sl ≡ grip.slip → x ≡ answer_told grip.stage.told
-    → cause ≡ refuted_by h.setting (read_in h) sl.maker k x → h₁ ≡ with_entry h sl.maker e → IsSome cause → 0 < h₁.spare
-doom_place {D = D} stands turns probes faults h h₁ rounds opened moment tickets k tag devices places closing known grip sl x e cause inside returned same told refuted new some = at cause some (command_gives s grip.slip k grip.stage.told alive ∙ ap (answer_entries grip.slip.maker k (answer_told grip.stage.told)) (ap₂ (λ (y : Slip) a. refuted_by h.setting (read_in h) y.maker k a) (sym same) (sym told) ∙ sym refuted))
-  where
-    s : OpenHub D
-    s = hub_of h rounds opened moment devices places tickets
-
-    alive : has_died grip.stage.told ≡ false
-    alive = told_alive stands turns probes faults places devices known (ForCommand k) tag grip returned
-
-    at : (c : Option Cause) → IsSome c → returned_entries s grip (ForCommand k) ≡ answer_entries grip.slip.maker k (answer_told grip.stage.told) c → 0 < h₁.spare
-    at None none entries = absurd (cc none)
-    at (Some c) some' entries =
-        let long : length (returned_entries s grip (ForCommand k)) ≡ 2 = ap (λ (l : List Entry). length l) entries in
-        let fits : length (returned_entries s grip (ForCommand k)) ≤ h.spare = back_places stands turns probes faults h rounds opened moment tickets tag devices places closing known (ForCommand k) grip inside returned in
-        let left : h₁.spare ≡ h.spare - 1 = ap (λ (y : HistoryState). y.spare) new in
-        omega (arith, long, fits, left)
+-- What came of it
 
 -- the history with the entries of a step, each of which takes one place of the room
 abbrev pub with_more : HistoryState → ℕ → List Entry → HistoryState
 with_more h maker entries = record h { history = h.history ++ kept_by maker entries; spare = h.spare - length entries }
 
-pub came_back : {D : Type 0} (stands turns probes faults : D → ℕ) (h h₂ : HistoryState) (rounds opened moment now tickets number m tag : ℕ) (devices devices₂ : List DeviceProgress) (places places₂ : List (Place D)) (closing : ClosingLists) (s₀ : OpenHub D) (known : DeviceProgress) (purpose : KeptPurpose) (grip : Gripped D Done) (made : Made) (entries : List Entry)
-    → InsideIsKept stands turns probes faults h rounds opened moment devices places tickets closing → hub_of h rounds opened moment devices places tickets ≡ s₀
-    → IsReturned stands turns probes faults places devices known purpose tag grip → returned_entries (hub_of h rounds opened moment devices places tickets) grip purpose ≡ entries
-    → h₂ ≡ with_more h grip.slip.maker entries → now ≡ max moment m → number ≡ tickets → devices₂ ≡ slice_set devices grip.slip.device.0 (record known { held = value_after grip.task known.held }) → places₂ ≡ slice_set places grip.slip.device.0 (Home grip.device)
-    → entries_made made ≡ entries
-    → CameBack stands turns probes faults h₂ rounds opened now number devices₂ places₂ closing s₀ grip m made
-came_back {D = D} stands turns probes faults h h₂ rounds opened moment now tickets number m tag devices devices₂ places places₂ closing s₀ known purpose grip made entries inside same returned gives_these h_is now_is number_is devices_are places_are made_is =
-    subst (λ (x : OpenHub D). CameBack stands turns probes faults h₂ rounds opened now number devices₂ places₂ closing x grip m made) same
-    (record {
-      inside = (subst (λ (x : OpenHub D). HubIsKept stands turns probes faults x) (sym new) (returned_kept stands turns probes faults s m tag known purpose grip inside.0 returned), room);
+-- the device is home again, and stands there: so the parts change, but for the history and the order
+pub record IsHomeAgain {D : Type 0} (h t : Inside D) (m value : ℕ) (grip : Gripped D Done) : Type 0 where
+  pub moment_is : t.moment ≡ max h.moment m
+  pub value_is : value ≡ value_after grip.task (device_at h.devices.items grip.slip.device.0).held
+  pub devices_are : t.devices.items ≡ slice_set h.devices.items grip.slip.device.0 (record (device_at h.devices.items grip.slip.device.0) { held = value })
+  pub places_are : t.gate.places ≡ slice_set h.gate.places grip.slip.device.0 (Home grip.device)
+  pub tickets_are : t.gate.tickets ≡ h.gate.tickets
+  pub hands_are : t.hands.items ≡ slice_set h.hands.items (grip.slip.maker - 1) None
+  pub new : t ≡ record h { history = t.history; moment = t.moment; devices = t.devices; gate = t.gate; order = t.order; hands = t.hands }
+
+-- what the code knows of a grip that came back, for what it was out, and of what became of the parts with these entries
+pub record IsBack {D : Type 0} (stands turns probes faults : D → ℕ) (h t : Inside D) (m value : ℕ) (why : KeptPurpose) (tag : ℕ) (grip : Gripped D Done) (entries : List Entry) : Type 0 where
+  pub returned : IsReturned stands turns probes faults h why tag grip
+  pub home : IsHomeAgain h t m value grip
+  pub gives : returned_entries (open_of h) grip why ≡ entries
+  pub history_is : t.history ≡ with_more h.history grip.slip.maker entries
+
+-- the hub shows it
+back_shows : {D : Type 0} {stands turns probes faults : D → ℕ} (h t : Inside D) (m value : ℕ) (why : KeptPurpose) (tag : ℕ) (grip : Gripped D Done) (entries : List Entry) → IsBack stands turns probes faults h t m value why tag grip entries → open_of t ≡ returned_hub (open_of h) grip why m
+back_shows {D = D} h t m value why tag grip entries back =
+    let history_is : t.history ≡ with_more h.history grip.slip.maker (returned_entries (open_of h) grip why) = back.history_is ∙ ap (with_more h.history grip.slip.maker) (sym back.gives) in
+    let devices_now = back.home.devices_are ∙ ap (λ v. slice_set h.devices.items grip.slip.device.0 (record (device_at h.devices.items grip.slip.device.0) { held = v })) back.home.value_is in
+    ap (λ (x : Inside D). open_of x) back.home.new ∙ λ i. record {
+      setting = (history_is i).setting;
+      rounds = h.rounds;
+      opened = h.opened;
+      history = (history_is i).history;
+      moment = back.home.moment_is i;
+      devices = devices_now i;
+      places = back.home.places_are i;
+      tickets = back.home.tickets_are i;
+    }
+
+back_room : {D : Type 0} {stands turns probes faults : D → ℕ} (h t : Inside D) (m value : ℕ) (why : KeptPurpose) (tag : ℕ) (grip : Gripped D Done) (entries : List Entry) → IsBack stands turns probes faults h t m value why tag grip entries → IsWhole stands turns probes faults h → HasRoomLeft t.history h.closing
+back_room h t m value why tag grip entries back k =
+    subst (λ x. HasRoomLeft x h.closing) (sym back.history_is) (record {
+      history =
+          let fits : length entries ≤ h.history.spare = subst (λ es. length es ≤ h.history.spare) back.gives (back_places h why tag grip back.returned k) in
+          let long : length (h.history.history ++ kept_by grip.slip.maker entries) ≡ length h.history.history + length (kept_by grip.slip.maker entries) = length-append h.history.history (kept_by grip.slip.maker entries) in
+          let more = length_kept grip.slip.maker entries in
+          let enough : 132 * length h.history.setting.runs ≤ h.history.spare + length h.history.history = k.room.history in
+          omega (arith, long, more, enough, fits);
+      order = k.room.order;
+      last = k.room.last;
+      world = k.room.world;
+      turns = k.room.turns;
+      faults = k.room.faults;
+    })
+
+-- the grips when the device is home again
+pub home_grips : {D : Type 0} {stands turns probes faults : D → ℕ} (h t : Inside D) (m value : ℕ) (grip : Gripped D Done) → IsKept h.gate.places grip.slip grip.task → IsHomeAgain h t m value grip → IsWhole stands turns probes faults h
+    → ◌≡◌ {A = Grips} (configuration_of (open_of t)).grips (put (configuration_of (open_of h)).grips grip.slip.device.0 None)
+home_grips h t m value grip there home k =
+    (λ i e. grip_in (slice_get (home.places_are i) e) (device_at (home.devices_are i) e).purpose)
+    ∙ grips_set h.gate.places h.devices.items grip.slip.device.0 (Home grip.device) (record (device_at h.devices.items grip.slip.device.0) { held = value }) (slice_get_within h.gate.places grip.slip.device.0 (Out grip.slip grip.task) there) (known_back h (open_of h) grip.slip grip.task refl there k)
+
+back_hands : {D : Type 0} {stands turns probes faults : D → ℕ} (h t : Inside D) (m value : ℕ) (why : KeptPurpose) (tag : ℕ) (grip : Gripped D Done) → IsReturned stands turns probes faults h why tag grip → IsHomeAgain h t m value grip → IsWhole stands turns probes faults h
+    → HandsAre h.history.setting (configuration_of (open_of t)).grips t.hands.items
+back_hands h t m value why tag grip returned home k =
+    let for = returned_for h why tag grip returned k in
+    hand_comes h.history.setting (read_in h.history) (configuration_of (open_of h)).grips (configuration_of (open_of t)).grips grip.slip.maker grip.slip.device.0 (purpose_of why) h.hands.items t.hands.items for.run for.grip k.shown.configuration.order.grips (home_grips h t m value grip returned.there home k) home.hands_are k.hands
+
+-- what is kept is kept then, where line and table are
+pub back_whole : {D : Type 0} {stands turns probes faults : D → ℕ} (h t : Inside D) (m value : ℕ) (why : KeptPurpose) (tag : ℕ) (grip : Gripped D Done) (entries : List Entry) → IsBack stands turns probes faults h t m value why tag grip entries
+    → (IsWellFormed t.history.setting (entries_of t.history.history) → OrderIsBeside t.history (configuration_of (open_of t)).grips t.order.line t.order.table) → IsWhole stands turns probes faults h → IsWhole stands turns probes faults t
+back_whole {D = D} {stands = stands} {turns = turns} {probes = probes} {faults = faults} h t m value why tag grip entries back order k =
+    subst (λ (x : Inside D). IsWhole stands turns probes faults x) (sym back.home.new) (record {
+      shown = subst (λ (x : Inside D). HubIsKept stands turns probes faults (open_of x)) back.home.new shown;
+      room = back_room h t m value why tag grip entries back k;
+      order = subst (λ (x : Inside D). OrderIsBeside t.history (configuration_of (open_of x)).grips t.order.line t.order.table) back.home.new (order shown.configuration.history.well_formed);
+      hands = subst (λ (x : Inside D). HandsAre t.history.setting (configuration_of (open_of x)).grips t.hands.items) back.home.new
+          (subst (λ (w : Setting). HandsAre w (configuration_of (open_of t)).grips t.hands.items) (sym (ap (λ (x : HistoryState). x.setting) back.history_is)) (back_hands h t m value why tag grip back.returned back.home k));
+    })
+  where
+    shown : HubIsKept stands turns probes faults (open_of t)
+    shown = subst (λ (x : OpenHub D). HubIsKept stands turns probes faults x) (sym (back_shows h t m value why tag grip entries back)) (returned_kept h m why tag grip back.returned k)
+
+-- and the grip is given
+pub record CameBack {D : Type 0} (s t : OpenHub D) (grip : Gripped D Done) (m : ℕ) (made : Made) : Type 0 where
+  pub given : IsGiven s grip m (Ok made) t
+  pub window : SameWindow s t
+
+pub back_given : {D : Type 0} {stands turns probes faults : D → ℕ} (h t : Inside D) (s₀ : OpenHub D) (m value : ℕ) (why : KeptPurpose) (tag : ℕ) (grip : Gripped D Done) (entries : List Entry) (made : Made) → open_of h ≡ s₀ → IsBack stands turns probes faults h t m value why tag grip entries → entries_made made ≡ entries
+    → IsWhole stands turns probes faults h → CameBack s₀ (open_of t) grip m made
+back_given {D = D} h t s₀ m value why tag grip entries made seen back made_is k =
+    subst (λ (x : OpenHub D). CameBack x (open_of t) grip m made) seen (record {
       given = (
         (
-          ap (λ x. Returned (Gave x)) (made_is ∙ sym gives_these) ∙ ap (λ (x : Given). Returned x.answer) (sym gives),
-          ap (λ (x : OpenHub D). state_of x) new ∙ back_state s grip.slip (returned_entries s grip purpose) grip.device v m within within_devices ∙ ap (λ (x : Given). x.next) (sym gives),
+          ap (λ x. Returned (Gave x)) (made_is ∙ sym back.gives) ∙ ap (λ (x : Given). Returned x.answer) (sym gives),
+          ap (λ (x : OpenHub D). state_of x) shows ∙ back_state s grip.slip (returned_entries s grip why) grip.device (value_after grip.task (held_in s grip.slip.device.0)) m within within_devices ∙ ap (λ (x : Given). x.next) (sym gives),
         ),
-        places_are,
+        back.home.places_are,
       );
-      window = subst (λ (x : OpenHub D). SameWindow s x) (sym new) (record { setting = refl; rounds = refl; opened = refl; at_opening = known_same (λ (p : DeviceProgress). p.at_opening) devices grip.slip.device.0 (record (device_at devices grip.slip.device.0) { held = v }) within_devices refl });
+      window = subst (λ (x : OpenHub D). SameWindow s x) (sym shows) (record { setting = refl; rounds = refl; opened = refl; at_opening = known_same (λ (p : DeviceProgress). p.at_opening) s.devices grip.slip.device.0 (record (device_at s.devices grip.slip.device.0) { held = value_after grip.task (held_in s grip.slip.device.0) }) within_devices refl });
     })
   where
     s : OpenHub D
-    s = hub_of h rounds opened moment devices places tickets
+    s = open_of h
 
-    v : ℕ
-    v = value_after grip.task (held_in s grip.slip.device.0)
+    shows : open_of t ≡ returned_hub s grip why m
+    shows = back_shows h t m value why tag grip entries back
 
-    t : OpenHub D
-    t = returned_hub s grip purpose m
+    within : grip.slip.device.0 < length s.places
+    within = slice_get_within s.places grip.slip.device.0 (Out grip.slip grip.task) back.returned.there
 
-    within : grip.slip.device.0 < length places
-    within = slice_get_within places grip.slip.device.0 (Out grip.slip grip.task) returned.there
+    within_devices : grip.slip.device.0 < length s.devices
+    within_devices = known_back h s grip.slip grip.task refl back.returned.there k
 
-    within_devices : grip.slip.device.0 < length devices
-    within_devices = slice_get_within devices grip.slip.device.0 known returned.known_is
-
-    here : device_at devices grip.slip.device.0 ≡ known
-    here = at_index devices grip.slip.device.0 known returned.known_is
-
-    gives : give (state_of s) (carried_by grip) grip.stage.told m ≡ record { answer = Gave (returned_entries s grip purpose); next = record { configuration = after_back s grip.slip (returned_entries s grip purpose) m; carried = put (state_of s).carried grip.slip.device.0 None } }
-    gives = taken_in (state_of s) (carried_by grip) (record { maker = grip.slip.maker; purpose = purpose_of purpose }) grip.stage.told m (kept_is s grip.slip grip.task returned.there) (positive grip.slip.maker returned.maker) (returned_for stands turns probes faults s known purpose tag grip inside.0 returned).grip
+    gives : give (state_of s) (carried_by grip) grip.stage.told m ≡ record { answer = Gave (returned_entries s grip why); next = record { configuration = after_back s grip.slip (returned_entries s grip why) m; carried = put (state_of s).carried grip.slip.device.0 None } }
+    gives = taken_in (state_of s) (carried_by grip) (record { maker = grip.slip.maker; purpose = purpose_of why }) grip.stage.told m (kept_is s grip.slip grip.task back.returned.there) (positive grip.slip.maker back.returned.maker) (returned_for h why tag grip back.returned k).grip
       where
         positive : (n : ℕ) → 0 < n → nat_lt 0 n ≡ true
         positive n some = grind (arith, common_steps, some)
 
-    history_is : h₂ ≡ with_more h grip.slip.maker (returned_entries s grip purpose)
-    history_is = h_is ∙ ap (with_more h grip.slip.maker) (sym gives_these)
-
-    new : ◌≡◌ {A = OpenHub D} (hub_of h₂ rounds opened now devices₂ places₂ number) t
-    new =
-        let devices_now = devices_are ∙ ap (λ (p : DeviceProgress). slice_set devices grip.slip.device.0 (record p { held = value_after grip.task p.held })) (sym here) in
-        λ i. record {
-          setting = (history_is i).setting;
-          rounds = rounds;
-          opened = opened;
-          history = (history_is i).history;
-          moment = now_is i;
-          devices = devices_now i;
-          places = places_are i;
-          tickets = number_is i;
-        }
-
-    room : HasRoomLeft (hub_of h₂ rounds opened now devices₂ places₂ number) h₂.spare closing
-    room =
-        let some = back_places stands turns probes faults h rounds opened moment tickets tag devices places closing known purpose grip inside returned in
-        let setting : length h₂.setting.first ≡ length h.setting.first = ap (λ (x : HistoryState). length x.setting.first) history_is in
-        let runs : length h₂.setting.runs ≡ length h.setting.runs = ap (λ (x : HistoryState). length x.setting.runs) history_is in
-        let long : length h₂.history ≡ length h.history + length (kept_by grip.slip.maker (returned_entries s grip purpose)) = ap (λ (x : HistoryState). length x.history) history_is ∙ length-append h.history (kept_by grip.slip.maker (returned_entries s grip purpose)) in
-        let more = length_kept grip.slip.maker (returned_entries s grip purpose) in
-        let left : h₂.spare ≡ h.spare - length (returned_entries s grip purpose) = ap (λ (x : HistoryState). x.spare) history_is in
-        let enough : 132 * length h.setting.runs ≤ h.spare + length h.history = inside.1.history in
-        record {
-          history = omega (arith, runs, long, more, left, enough, some);
-          order = let had : 132 * length h.setting.runs ≤ closing.order.spare = inside.1.order.1 in (inside.1.order.0, omega (arith, had, runs));
-          last = (inside.1.last.0, omega (arith, inside.1.last.1, setting));
-          world = (inside.1.world.0, omega (arith, inside.1.world.1, setting));
-          turns = (inside.1.turns.0, omega (arith, inside.1.turns.1, setting));
-          faults = (inside.1.faults.0, omega (arith, inside.1.faults.1, setting));
-        }
+-- A command came back
 
 -- the answer and the doom, one after the other
 pub answered_more : (h : HistoryState) (r k : ℕ) (a : Answer) (cause : Option Cause) → with_doom (with_entry h r (Did (run_no r) k a)) r cause ≡ with_more h r (answer_entries r k a cause)
@@ -664,107 +745,70 @@ answered_more h r k a (Some c) =
     let left : h.spare - 1 - 1 ≡ h.spare - 2 = omega arith in
     λ i. record h { history = history i; spare = left i }
 
+-- what the code wrote of it: the answer, and the doom of its run where it failed
+pub record IsAnswered {D : Type 0} (h : Inside D) (grip : Gripped D Done) (k : ℕ) (slip : Slip) (a : Answer) (cause : Option Cause) (mid after : HistoryState) : Type 0 where
+  pub same : slip ≡ grip.slip
+  pub told : a ≡ answer_told grip.stage.told
+  pub refuted : cause ≡ refuted_by h.history.setting (read_in h.history) slip.maker k a
+  pub answered : mid ≡ with_entry h.history slip.maker (Did (run_no slip.maker) k a)
+  pub doomed : after ≡ with_doom mid slip.maker cause
+
+-- its entries
+pub answer_gives : {D : Type 0} {stands turns probes faults : D → ℕ} (h : Inside D) (k tag : ℕ) (grip : Gripped D Done) (slip : Slip) (a : Answer) (cause : Option Cause) (mid after : HistoryState) → IsReturned stands turns probes faults h (ForCommand k) tag grip → IsAnswered h grip k slip a cause mid after
+    → returned_entries (open_of h) grip (ForCommand k) ≡ answer_entries slip.maker k a cause
+answer_gives h k tag grip slip a cause mid after returned answered =
+    command_gives (open_of h) grip.slip k grip.stage.told returned.stage_lives
+    ∙ ap₂ (λ (y : Slip) x. answer_entries y.maker k x (refuted_by h.history.setting (read_in h.history) y.maker k x)) (sym answered.same) (sym answered.told)
+    ∙ ap (answer_entries slip.maker k a) (sym answered.refuted)
+
+-- behind the answer there is a place for the doom
+pub doom_place : {D : Type 0} {stands turns probes faults : D → ℕ} (h : Inside D) (k tag : ℕ) (grip : Gripped D Done) (slip : Slip) (a : Answer) (cause : Option Cause) (mid after : HistoryState) → IsReturned stands turns probes faults h (ForCommand k) tag grip → IsAnswered h grip k slip a cause mid after
+    → IsWhole stands turns probes faults h → IsSome cause → 0 < mid.spare
+doom_place {D = D} h k tag grip slip a cause mid after returned answered whole some = at cause some (answer_gives h k tag grip slip a cause mid after returned answered)
+  where
+    at : (c : Option Cause) → IsSome c → returned_entries (open_of h) grip (ForCommand k) ≡ answer_entries slip.maker k a c → 0 < mid.spare
+    at None none entries = absurd (cc none)
+    at (Some c) some' entries =
+        let long : length (returned_entries (open_of h) grip (ForCommand k)) ≡ 2 = ap (λ (l : List Entry). length l) entries in
+        let fits : length (returned_entries (open_of h) grip (ForCommand k)) ≤ h.history.spare = back_places h (ForCommand k) tag grip returned whole in
+        let left : mid.spare ≡ h.history.spare - 1 = ap (λ (y : HistoryState). y.spare) answered.answered in
+        omega (arith, long, fits, left)
+
+pub answered_back : {D : Type 0} {stands turns probes faults : D → ℕ} (h t : Inside D) (m value k tag : ℕ) (grip : Gripped D Done) (slip : Slip) (a : Answer) (cause : Option Cause) (mid : HistoryState) → IsReturned stands turns probes faults h (ForCommand k) tag grip → IsHomeAgain h t m value grip → IsAnswered h grip k slip a cause mid t.history
+    → IsBack stands turns probes faults h t m value (ForCommand k) tag grip (answer_entries slip.maker k a cause)
+answered_back h t m value k tag grip slip a cause mid returned home answered =
+    record {
+      returned = returned;
+      home = home;
+      gives = answer_gives h k tag grip slip a cause mid t.history returned answered;
+      history_is = answered.doomed ∙ ap (λ (y : HistoryState). with_doom y slip.maker cause) answered.answered ∙ answered_more h.history slip.maker k a cause ∙ ap (λ (y : Slip). with_more h.history y.maker (answer_entries slip.maker k a cause)) answered.same;
+    }
+
+-- the entries that the code made are these
+pub answer_made : (slip : Slip) (k : ℕ) (a : Answer) (cause : Option Cause) (e : Entry) (o : Option Entry) → e ≡ Did (run_no slip.maker) k a → o ≡ option_map (λ c. Doomed (run_no slip.maker) c) cause → entries_made (record { a = Some e; b = o; c = None }) ≡ answer_entries slip.maker k a cause
+answer_made slip k a cause e o entry_is made = ap₂ (λ x y. entries_made (record { a = Some x; b = y; c = None })) entry_is made ∙ by_cause cause
+  where
+    by_cause : (c : Option Cause) → entries_made (record { a = Some (Did (run_no slip.maker) k a); b = option_map (λ z. Doomed (run_no slip.maker) z) c; c = None }) ≡ answer_entries slip.maker k a c
+    by_cause None = refl
+    by_cause (Some c) = refl
+
+-- An undo came back
+
+pub undone_back : {D : Type 0} {stands turns probes faults : D → ℕ} (h t : Inside D) (m value v tag : ℕ) (grip : Gripped D Done) (slip : Slip) → IsReturned stands turns probes faults h (ForUndo v) tag grip → IsHomeAgain h t m value grip → slip ≡ grip.slip → t.history ≡ with_entry h.history slip.maker (Undid (run_no slip.maker) slip.device true)
+    → IsBack stands turns probes faults h t m value (ForUndo v) tag grip (Undid (run_no slip.maker) slip.device true ∷ [])
+undone_back h t m value v tag grip slip returned home same new =
+    record {
+      returned = returned;
+      home = home;
+      gives = undo_gives (open_of h) grip.slip v grip.stage.told returned.stage_lives ∙ ap (λ (y : Slip). Undid (run_no y.maker) y.device true ∷ []) (sym same);
+      history_is = new ∙ ap (λ (y : Slip). with_entry h.history y.maker (Undid (run_no slip.maker) slip.device true)) same;
+    }
+
+-- The gate
+
 pub home_again : {D : Type 0} (places after : List (Place D)) (sl slip : Slip) (task : Task) (device : D) → sl ≡ slip → after ≡ slice_set places slip.device.0 (Home device) → IsKept places slip task → slice_get after sl.device.0 ≡ Some (Home device)
 home_again places after sl slip task device same is kept =
     ap₂ (λ x y. slice_get x y.device.0) is same ∙ place_here places slip.device.0 (Home device) (slice_get_within places slip.device.0 (Out slip task) kept)
 
 pub same_home : {D : Type 0} (a b : D) → Some (Home a) ≡ Some (Home b) → a ≡ b
 same_home a b e = cc
-
--- the grip that came back, by what is known of its device
-pub returned_as : {D : Type 0} (stands turns probes faults : D → ℕ) (places : List (Place D)) (devices : List DeviceProgress) (purpose : KeptPurpose) (tag : ℕ) (grip : Gripped D Done)
-    → IsKept places grip.slip grip.task → 0 < grip.slip.maker → length devices ≡ length places → (device_at devices grip.slip.device.0).purpose ≡ purpose
-    → WasCalled grip.stage.told grip.task grip.slip tag (stands grip.device) (turns grip.device) (probes grip.device) (faults grip.device) → faults grip.device ≡ 0
-    → IsReturned stands turns probes faults places devices (device_at devices grip.slip.device.0) purpose tag grip
-returned_as stands turns probes faults places devices purpose tag grip there maker size for called calm =
-    record {
-      there = there;
-      maker = maker;
-      known_is = item_there devices grip.slip.device.0 no_device (let within : grip.slip.device.0 < length places = slice_get_within places grip.slip.device.0 (Out grip.slip grip.task) there in omega (arith, within, size));
-      purpose = for;
-      called = called;
-      calm = calm;
-    }
-
--- a command's device came back: its answer, and the doom of its run where it failed
-pub answered_back : {D : Type 0} (stands turns probes faults : D → ℕ) (h h₁ h₂ : HistoryState) (rounds opened moment now tickets number m k tag value : ℕ) (devices devices₂ : List DeviceProgress) (places places₂ : List (Place D)) (closing : ClosingLists) (s₀ : OpenHub D) (known : DeviceProgress) (grip : Gripped D Done) (sl : Slip) (x : Answer) (cause : Option Cause) (e : Entry) (o : Option Entry)
-    → InsideIsKept stands turns probes faults h rounds opened moment devices places tickets closing → hub_of h rounds opened moment devices places tickets ≡ s₀ → IsReturned stands turns probes faults places devices known (ForCommand k) tag grip → sl ≡ grip.slip → x ≡ answer_told grip.stage.told
-    → cause ≡ refuted_by h.setting (read_in h) sl.maker k x → e ≡ Did (run_no sl.maker) k x → h₁ ≡ with_entry h sl.maker e → h₂ ≡ with_doom h₁ sl.maker cause → o ≡ option_map (λ c. Doomed (run_no sl.maker) c) cause
-    → now ≡ max moment m → number ≡ tickets → devices₂ ≡ slice_set devices grip.slip.device.0 (record known { held = value }) → value ≡ value_after grip.task known.held → places₂ ≡ slice_set places grip.slip.device.0 (Home grip.device)
-    → CameBack stands turns probes faults h₂ rounds opened now number devices₂ places₂ closing s₀ grip m (record { a = Some e; b = o; c = None })
-answered_back {D = D} stands turns probes faults h h₁ h₂ rounds opened moment now tickets number m k tag value devices devices₂ places places₂ closing s₀ known grip sl x cause e o inside hub returned same told refuted entry_is new doomed made now_is number_is devices_are value_is places_are =
-    came_back stands turns probes faults h h₂ rounds opened moment now tickets number m tag devices devices₂ places places₂ closing s₀ known (ForCommand k) grip (record { a = Some e; b = o; c = None }) (answer_entries grip.slip.maker k (answer_told grip.stage.told) cause) inside hub returned gives
-    (doomed ∙ ap₂ (λ (y : HistoryState) (z : Slip). with_doom y z.maker cause) answered same ∙ answered_more h grip.slip.maker k (answer_told grip.stage.told) cause)
-    now_is number_is (devices_are ∙ ap (λ v. slice_set devices grip.slip.device.0 (record known { held = v })) value_is) places_are
-    (ap (λ y. entries_made (record { a = Some e; b = y; c = None })) made ∙ made_by e cause ∙ ap (λ y. y ∷ option_to_list (option_map (λ c. Doomed (run_no sl.maker) c) cause)) answer_is ∙ ap (λ (y : Slip). Did (run_no grip.slip.maker) k (answer_told grip.stage.told) ∷ option_to_list (option_map (λ c. Doomed (run_no y.maker) c) cause)) same)
-  where
-    answer_is : e ≡ Did (run_no grip.slip.maker) k (answer_told grip.stage.told)
-    answer_is = entry_is ∙ ap₂ (λ (y : Slip) a. Did (run_no y.maker) k a) same told
-
-    answered : h₁ ≡ with_entry h grip.slip.maker (Did (run_no grip.slip.maker) k (answer_told grip.stage.told))
-    answered = new ∙ ap₂ (λ (y : Slip) z. with_entry h y.maker z) same answer_is
-
-    gives : returned_entries (hub_of h rounds opened moment devices places tickets) grip (ForCommand k) ≡ answer_entries grip.slip.maker k (answer_told grip.stage.told) cause
-    gives = command_gives (hub_of h rounds opened moment devices places tickets) grip.slip k grip.stage.told (told_alive stands turns probes faults places devices known (ForCommand k) tag grip returned)
-        ∙ ap (answer_entries grip.slip.maker k (answer_told grip.stage.told)) (ap₂ (λ (y : Slip) a. refuted_by h.setting (read_in h) y.maker k a) (sym same) (sym told) ∙ sym refuted)
-
-    made_by : (y : Entry) (c : Option Cause) → entries_made (record { a = Some y; b = option_map (λ z. Doomed (run_no sl.maker) z) c; c = None }) ≡ y ∷ option_to_list (option_map (λ z. Doomed (run_no sl.maker) z) c)
-    made_by y None = refl
-    made_by y (Some c) = refl
-
--- a device came back on which a run is undone
-pub undone_back : {D : Type 0} (stands turns probes faults : D → ℕ) (h h₂ : HistoryState) (rounds opened moment now tickets number m v tag value : ℕ) (devices devices₂ : List DeviceProgress) (places places₂ : List (Place D)) (closing : ClosingLists) (s₀ : OpenHub D) (known : DeviceProgress) (grip : Gripped D Done) (sl : Slip) (e : Entry) (made : Made)
-    → InsideIsKept stands turns probes faults h rounds opened moment devices places tickets closing → hub_of h rounds opened moment devices places tickets ≡ s₀ → IsReturned stands turns probes faults places devices known (ForUndo v) tag grip → sl ≡ grip.slip
-    → e ≡ Undid (run_no sl.maker) sl.device true → h₂ ≡ with_entry h sl.maker e → entries_made made ≡ e ∷ []
-    → now ≡ max moment m → number ≡ tickets → devices₂ ≡ slice_set devices grip.slip.device.0 (record known { held = value }) → value ≡ value_after grip.task known.held → places₂ ≡ slice_set places grip.slip.device.0 (Home grip.device)
-    → CameBack stands turns probes faults h₂ rounds opened now number devices₂ places₂ closing s₀ grip m made
-undone_back {D = D} stands turns probes faults h h₂ rounds opened moment now tickets number m v tag value devices devices₂ places places₂ closing s₀ known grip sl e made inside hub returned same entry_is new made_is now_is number_is devices_are value_is places_are =
-    came_back stands turns probes faults h h₂ rounds opened moment now tickets number m tag devices devices₂ places places₂ closing s₀ known (ForUndo v) grip made (Undid (run_no grip.slip.maker) grip.slip.device true ∷ []) inside hub returned
-    (undo_gives (hub_of h rounds opened moment devices places tickets) grip.slip v grip.stage.told (told_alive stands turns probes faults places devices known (ForUndo v) tag grip returned))
-    (new ∙ ap₂ (λ (y : Slip) z. with_entry h y.maker z) same undo_is)
-    now_is number_is (devices_are ∙ ap (λ y. slice_set devices grip.slip.device.0 (record known { held = y })) value_is) places_are
-    (made_is ∙ ap (λ y. y ∷ []) undo_is)
-  where
-    undo_is : e ≡ Undid (run_no grip.slip.maker) grip.slip.device true
-    undo_is = entry_is ∙ ap (λ (y : Slip). Undid (run_no y.maker) y.device true) same
-
--- What the code knows of a grip that comes back to a hub
-
--- the grip
-pub grip_back : {D : Type 0} (stands turns probes faults : D → ℕ) (s s₀ : OpenHub D) (why : KeptPurpose) (tag : ℕ) (grip : Gripped D Done) → s ≡ s₀ → HubIsKept stands turns probes faults s
-    → IsKept s₀.places grip.slip grip.task → 0 < grip.slip.maker → (device_at s₀.devices grip.slip.device.0).purpose ≡ why
-    → WasCalled grip.stage.told grip.task grip.slip tag (stands grip.device) (turns grip.device) (probes grip.device) (faults grip.device) → faults grip.device ≡ 0
-    → IsReturned stands turns probes faults s.places s.devices (device_at s.devices grip.slip.device.0) why tag grip
-grip_back {D = D} stands turns probes faults s s₀ why tag grip same kept there maker for called calm =
-    returned_as stands turns probes faults s.places s.devices why tag grip (ap (λ (x : OpenHub D). slice_get x.places grip.slip.device.0) same ∙ there) maker (kept.devices_size ∙ sym kept.places_size)
-    (ap (λ (x : OpenHub D). (device_at x.devices grip.slip.device.0).purpose) same ∙ for) called calm
-
--- its device is one that is known
-pub known_back : {D : Type 0} (stands turns probes faults : D → ℕ) (s s₀ : OpenHub D) (slip : Slip) (task : Task) → s ≡ s₀ → HubIsKept stands turns probes faults s → IsKept s₀.places slip task → slip.device.0 < length s.devices
-known_back {D = D} stands turns probes faults s s₀ slip task same kept there =
-    let within : slip.device.0 < length s.places = slice_get_within s.places slip.device.0 (Out slip task) (ap (λ (x : OpenHub D). slice_get x.places slip.device.0) same ∙ there) in
-    omega (arith, within, kept.devices_size, kept.places_size)
-
--- the command for which it was out
-pub command_back : {D : Type 0} (stands turns probes faults : D → ℕ) (s s₀ : OpenHub D) (slip : Slip) (task : Task) (k : ℕ) → s ≡ s₀ → HubIsKept stands turns probes faults s → IsKept s₀.places slip task → (device_at s₀.devices slip.device.0).purpose ≡ ForCommand k → IsForCommand s slip task k
-command_back {D = D} stands turns probes faults s s₀ slip task k same kept there for =
-    for_command stands turns probes faults s slip task (device_at s.devices slip.device.0) k kept (ap (λ (x : OpenHub D). slice_get x.places slip.device.0) same ∙ there)
-    (item_there s.devices slip.device.0 no_device (known_back stands turns probes faults s s₀ slip task same kept there))
-    (ap (λ (x : OpenHub D). (device_at x.devices slip.device.0).purpose) same ∙ for)
-
--- the run whose write was undone
-pub undo_run : {D : Type 0} (stands turns probes faults : D → ℕ) (s s₀ : OpenHub D) (slip : Slip) (task : Task) → s ≡ s₀ → HubIsKept stands turns probes faults s → IsKept s₀.places slip task → is_run s.setting.runs slip.maker ≡ true
-undo_run {D = D} stands turns probes faults s s₀ slip task same kept there =
-    (for_run stands turns probes faults s slip task (device_at s.devices slip.device.0) kept (ap (λ (x : OpenHub D). slice_get x.places slip.device.0) same ∙ there)
-    (item_there s.devices slip.device.0 no_device (known_back stands turns probes faults s s₀ slip task same kept there))).run
-
--- no probe was out
-pub probe_back : {D : Type 0} (stands turns probes faults : D → ℕ) (s s₀ : OpenHub D) (slip : Slip) (task : Task) (v : Option ℕ) → s ≡ s₀ → HubIsKept stands turns probes faults s → IsKept s₀.places slip task → (device_at s.devices slip.device.0).purpose ≡ ForProbe v → ⊥
-probe_back {D = D} stands turns probes faults s s₀ slip task v same kept there for =
-    let probe : is_of_run (Probes v) ≡ true = subst (λ (p : KeptPurpose). is_of_run (purpose_of p) ≡ true) for (no_probe_out stands turns probes faults s slip task kept (ap (λ (x : OpenHub D). slice_get x.places slip.device.0) same ∙ there)) in absurd (cc)
-
--- an undo's value
-pub undone_value : (p : KeptPurpose) → is_undo (purpose_of p) ≡ true → (v : ℕ) × (p ≡ ForUndo v)
-undone_value (ForCommand k) is = absurd (cc)
-undone_value (ForUndo v) is = (v, refl)
-undone_value (ForProbe v) is = absurd (cc)

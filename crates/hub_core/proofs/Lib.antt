@@ -35,3 +35,5 @@ pub mod PassedRuns
 pub mod OrderSteps
 pub mod HubOrders
 pub mod ReturnedOrders
+pub mod Finds
+pub mod Hands

@@ -2,8 +2,7 @@
 use Rattle.command_rules.specs.Rosters.{command_at, commands_of, is_run, run_no, touches_from}
 use Rattle.device_gate.specs.Calls.{value_after}
 use Rattle.device_gate.specs.Grips.{Gripped}
-use Rattle.device_gate.specs.declared.gates.Place.TheVariants.{Home, Out}
-use Rattle.device_gate.specs.declared.gates.Place.{Place}
+use Rattle.device_gate.specs.declared.gates.Place.TheVariants.{Out}
 use Rattle.device_gate.specs.declared.grips.Done.{Done}
 use Rattle.device_gate.specs.declared.slips.Slip.{Slip}
 use Rattle.device_gate.specs.declared.slips.Task.TheVariants.{Drive, Sense}
@@ -22,17 +21,15 @@ use Rattle.home_types.specs.declared.commands.Command.{Command}
 use Rattle.home_types.specs.declared.commands.Job.TheVariants.{Check, Load, Set, Store}
 use Rattle.home_types.specs.declared.commands.Job.{Job}
 use Rattle.home_types.specs.declared.commands.View.{View}
-use Rattle.hub_core.proofs.HubChanges.{InsideIsKept, hub_of}
-use Rattle.hub_core.proofs.HubOrders.{read_hub}
-use Rattle.hub_core.proofs.HubReturns.{IsForCommand, IsReturned, for_command, returned_for}
-use Rattle.hub_core.proofs.HubStates.{grips_set}
+use Rattle.hub_core.proofs.HubOrders.{read_whole}
+use Rattle.hub_core.proofs.HubReturns.{IsAnswered, IsForCommand, IsHomeAgain, IsReturned, answer_entries, answered_back, back_whole, for_command, home_grips, returned_for, undone_back}
 use Rattle.hub_core.proofs.OrderSteps.{ToldOf, last_follows, may_note, none_out, order_answered, order_doomed, order_undone, read_more}
+use Rattle.hub_core.specs.HubsKept.{IsWhole, open_of}
 use Rattle.hub_core.specs.KeptOrders.{MayNote, OrderIsBeside, is_first, noted_first}
-use Rattle.hub_core.specs.OpenHubs.{OpenHub, configuration_of, device_at, grip_in, held_in}
+use Rattle.hub_core.specs.OpenHubs.{configuration_of, device_at, held_in}
 use Rattle.hub_core.specs.ReadHistories.{HistoryState, read_in, with_doom, with_entry}
-use Rattle.hub_core.specs.Steps.{answer_told}
-use Rattle.hub_core.specs.declared.hubs.ClosingLists.{ClosingLists}
-use Rattle.hub_core.specs.declared.known.DeviceProgress.{DeviceProgress}
+use Rattle.hub_core.specs.declared.hubs.Hub.TheInside.{Inside}
+use Rattle.hub_core.specs.declared.kept_orders.KeptOrder.{KeptOrder}
 use Rattle.hub_core.specs.declared.purposes.Purpose.TheVariants.{Command as ForCommand, Undo as ForUndo}
 use Rattle.lineage_table.specs.Lineages.{LineageState, lineage_at, with_lineage}
 use Rattle.lock_leasing.specs.Configurations.{Commands, Grips, grips_command}
@@ -41,7 +38,7 @@ use Rattle.serial_line.specs.Marks.{Marked}
 use Rattle.std.proofs.Common.{ap, arith, refl, subst, sym, ◌∙◌}
 use Rattle.std.proofs.lemmas.Grind.{common_steps}
 use Rattle.std.proofs.lemmas.Option.{slice_get_within}
-use Rattle.std.specs.Prelude.{Bool, IsSome, List, None, Option, Some, [], if◌then◌else◌, is_some, length, nat_lt, not, slice_get, slice_set, true, ℕ, ◌&&◌, ◌++◌, ◌+◌, ◌<◌, ◌==◌, ◌||◌, ◌∷◌, ◌≡◌, false}
+use Rattle.std.specs.Prelude.{Bool, IsSome, List, None, Option, Some, [], if◌then◌else◌, is_some, length, nat_lt, not, true, ℕ, ◌&&◌, ◌++◌, ◌+◌, ◌<◌, ◌==◌, ◌||◌, ◌∷◌, ◌≡◌, false}
 use Rattle.window_order.proofs.AnsweredTables.{answered_run, left_after}
 use Rattle.window_order.specs.TableChanges.{ChangesEach, doomed_lineage, is_done_there, told_write}
 use Rattle.history_book.specs.declared.entries.Cause.{Cause}
@@ -95,23 +92,18 @@ pub record MayTell (table : List LineageState) (sl : Slip) : Type 0 where
   pub device : sl.device.0 < length table
   pub turn : MayNote sl.maker (lineage_at table sl.device.0)
 
-pub may_tell : {D : Type 0} (stands turns probes faults : D → ℕ) (h : HistoryState) (rounds opened moment tickets k tag : ℕ) (devices : List DeviceProgress) (places : List (Place D)) (closing : ClosingLists) (known : DeviceProgress) (grip : Gripped D Done) (sl : Slip) (line : Marked) (table : List LineageState)
-    → InsideIsKept stands turns probes faults h rounds opened moment devices places tickets closing → IsReturned stands turns probes faults places devices known (ForCommand k) tag grip → sl ≡ grip.slip
-    → OrderIsBeside h (λ e. grip_in (slice_get places e) (device_at devices e).purpose) line table → MayTell table sl
-may_tell {D = D} stands turns probes faults h rounds opened moment tickets k tag devices places closing known grip sl line table inside returned same order =
-    subst (MayTell table) (sym same) (record {
-      device = let size : length table ≡ length h.setting.first = order.table_is.devices in omega (arith, within, size);
-      turn = (may_note h.setting (read_in h) (configuration_of s).grips (held_in s) grip.slip.device.0 grip.slip.maker k table (read_hub (configuration_of s) rounds opened (held_in s) inside.0.configuration) inside.0.configuration.order for.grip within order.table_is).1;
+pub may_tell : {D : Type 0} {stands turns probes faults : D → ℕ} (h : Inside D) (k tag : ℕ) (grip : Gripped D Done) (slip : Slip) → IsReturned stands turns probes faults h (ForCommand k) tag grip → slip ≡ grip.slip → IsWhole stands turns probes faults h → MayTell h.order.table slip
+may_tell h k tag grip slip returned same whole =
+    subst (MayTell h.order.table) (sym same) (record {
+      device = let size : length h.order.table ≡ length h.history.setting.first = whole.order.table_is.devices in omega (arith, within, size);
+      turn = (may_note h.history.setting (read_in h.history) (configuration_of (open_of h)).grips (held_in (open_of h)) grip.slip.device.0 grip.slip.maker k h.order.table (read_whole h whole) whole.shown.configuration.order for.grip within whole.order.table_is).1;
     })
   where
-    s : OpenHub D
-    s = hub_of h rounds opened moment devices places tickets
+    for : IsForCommand (open_of h) grip.slip grip.task k
+    for = for_command _ _ _ _ (open_of h) grip.slip grip.task k whole.shown returned.there returned.purpose
 
-    for : IsForCommand s grip.slip grip.task k
-    for = for_command stands turns probes faults s grip.slip grip.task known k inside.0 returned.there returned.known_is returned.purpose
-
-    within : grip.slip.device.0 < length h.setting.first
-    within = let there : grip.slip.device.0 < length places = slice_get_within places grip.slip.device.0 (Out grip.slip grip.task) returned.there in let size : length places ≡ length h.setting.first = inside.0.places_size in omega (arith, there, size)
+    within : grip.slip.device.0 < length h.history.setting.first
+    within = let there : grip.slip.device.0 < length h.gate.places = slice_get_within h.gate.places grip.slip.device.0 (Out grip.slip grip.task) returned.there in let size : length h.gate.places ≡ length h.history.setting.first = whole.shown.places_size in omega (arith, there, size)
 
 -- line and table when a command is answered, and its run is then doomed where there is a cause
 order_told : (h h₁ h₂ : HistoryState) (g f : Grips) (held : ℕ → ℕ) (d r k : ℕ) (a : Answer) (cause : Option Cause) (view : View) (wrote : Option ℕ) (last : Bool) (line mid after : Marked) (table between later : List LineageState)
@@ -150,34 +142,35 @@ order_told h h₁ h₂ g f held d r k a (Some cause) view wrote last line mid af
     none : (e : ℕ) → grips_command f r e ≡ false
     none e = ap (λ x. grips_command x r e) home ∙ none_out h.setting (read_in h) g d r (Commands k) run at order.grips e
 
--- .. when the device of a command is home again
-pub order_came : {D : Type 0} (stands turns probes faults : D → ℕ) (h h₁ h₂ : HistoryState) (rounds opened moment tickets k tag value : ℕ) (devices devices₂ : List DeviceProgress) (places places₂ : List (Place D)) (closing : ClosingLists) (known progress : DeviceProgress) (grip : Gripped D Done) (sl : Slip) (x : Answer) (cause : Option Cause)
-    (view : View) (wrote : Option ℕ) (last : Bool) (line mid after : Marked) (table between later : List LineageState)
-    → InsideIsKept stands turns probes faults h rounds opened moment devices places tickets closing → IsReturned stands turns probes faults places devices known (ForCommand k) tag grip → sl ≡ grip.slip → x ≡ answer_told grip.stage.told
-    → h₁ ≡ with_entry h grip.slip.maker (Did (run_no grip.slip.maker) k (answer_told grip.stage.told)) → h₂ ≡ with_doom h₁ grip.slip.maker cause → IsWellFormed h₂.setting (entries_of h₂.history)
-    → devices₂ ≡ slice_set devices grip.slip.device.0 progress → places₂ ≡ slice_set places grip.slip.device.0 (Home grip.device)
-    → view ≡ view_when (is_told x) → wrote ≡ (if is_fine x then Some value else None) → value ≡ value_after grip.task known.held → last ≡ (is_doomed (read_in h₁) sl.maker || not (pends h₁.setting (read_in h₁) sl.maker sl.device.0))
-    → mid ≡ line → between ≡ with_lineage table sl.device.0 (noted_first sl.maker (is_first sl.maker (lineage_at table sl.device.0)) view wrote last)
-    → after ≡ mid → (cause ≡ None → later ≡ between) → (IsSome cause → ChangesEach (λ d. doomed_lineage grip.slip.maker) between later)
-    → OrderIsBeside h (λ e. grip_in (slice_get places e) (device_at devices e).purpose) line table → OrderIsBeside h₂ (λ e. grip_in (slice_get places₂ e) (device_at devices₂ e).purpose) after later
-order_came {D = D} stands turns probes faults h h₁ h₂ rounds opened moment tickets k tag value devices devices₂ places places₂ closing known progress grip sl x cause view wrote last line mid after table between later inside returned same answered new doomed formed devices_are places_are view_is wrote_as value_is last_is line_is table_is after_is unchanged changed order =
-    order_told h h₁ h₂ g (λ e. grip_in (slice_get places₂ e) (device_at devices₂ e).purpose) (held_in s) d r k a cause view wrote last line mid after table between later (read_hub (configuration_of s) rounds opened (held_in s) inside.0.configuration) inside.0.configuration.order for.run for.grip below new doomed formed home (record {
-      view_is = view_is ∙ ap (λ y. view_when (is_told y)) answered;
-      wrote_is = wrote_as ∙ ap (λ y. if is_fine y then Some value else None) answered ∙ wrote_is w n r (command_at w.runs r k) a grip.task value known.held suited for.does value_is;
-      last_is = last_is ∙ (λ i. is_doomed (read_in (new i)) (same i).maker || not (pends (new i).setting (read_in (new i)) (same i).maker (same i).device.0)) ∙ ap (λ m. is_doomed m r || not (pends w m r d)) (read_more w h.history r (Did (run_no r) k a)) ∙ done_after w n r k a d for.next for.on;
-    }) line_is (subst (λ (z : Slip). between ≡ with_lineage table z.device.0 (noted_first z.maker (is_first z.maker (lineage_at table z.device.0)) view wrote last)) same table_is) after_is unchanged changed order
-  where
-    s : OpenHub D
-    s = hub_of h rounds opened moment devices places tickets
+-- what line and table note of a command that came back: what it tells of its device, and then the doom of its run where there is a cause
+pub record IsNoted {D : Type 0} (h t : Inside D) (value : ℕ) (slip : Slip) (a : Answer) (cause : Option Cause) (mid : HistoryState) (view : View) (wrote : Option ℕ) (last : Bool) (between : KeptOrder) : Type 0 where
+  pub view_is : view ≡ view_when (is_told a)
+  pub wrote_is : wrote ≡ (if is_fine a then Some value else None)
+  pub last_is : last ≡ (is_doomed (read_in mid) slip.maker || not (pends mid.setting (read_in mid) slip.maker slip.device.0))
+  pub line : between.line ≡ h.order.line
+  pub table : between.table ≡ with_lineage h.order.table slip.device.0 (noted_first slip.maker (is_first slip.maker (lineage_at h.order.table slip.device.0)) view wrote last)
+  pub line_after : t.order.line ≡ between.line
+  pub unchanged : cause ≡ None → t.order.table ≡ between.table
+  pub changed : IsSome cause → ChangesEach (λ d. doomed_lineage slip.maker) between.table t.order.table
 
+-- .. when its device is home again
+order_came : {D : Type 0} {stands turns probes faults : D → ℕ} (h t : Inside D) (m value k tag : ℕ) (grip : Gripped D Done) (slip : Slip) (a : Answer) (cause : Option Cause) (mid : HistoryState) (view : View) (wrote : Option ℕ) (last : Bool) (between : KeptOrder)
+    → IsReturned stands turns probes faults h (ForCommand k) tag grip → IsHomeAgain h t m value grip → IsAnswered h grip k slip a cause mid t.history → IsNoted h t value slip a cause mid view wrote last between
+    → IsWellFormed t.history.setting (entries_of t.history.history) → IsWhole stands turns probes faults h → OrderIsBeside t.history (configuration_of (open_of t)).grips t.order.line t.order.table
+order_came {D = D} h t m value k tag grip slip a cause mid view wrote last between returned home answered noted formed whole =
+    order_told h.history mid t.history (configuration_of (open_of h)).grips (configuration_of (open_of t)).grips (held_in (open_of h)) d r k a cause view wrote last h.order.line between.line t.order.line h.order.table between.table t.order.table
+    (read_whole h whole) whole.shown.configuration.order for.run for.grip below new doomed formed (home_grips h t m value grip returned.there home whole) (record {
+      view_is = noted.view_is;
+      wrote_is = noted.wrote_is ∙ wrote_is w n r (command_at w.runs r k) a grip.task value (device_at h.devices.items d).held suited for.does home.value_is;
+      last_is = noted.last_is ∙ (λ i. is_doomed (read_in (new i)) (answered.same i).maker || not (pends (new i).setting (read_in (new i)) (answered.same i).maker (answered.same i).device.0)) ∙ ap (λ x. is_doomed x r || not (pends w x r d)) (read_more w h.history.history r (Did (run_no r) k a)) ∙ done_after w n r k a d for.next for.on;
+    }) noted.line (subst (λ (z : Slip). between.table ≡ with_lineage h.order.table z.device.0 (noted_first z.maker (is_first z.maker (lineage_at h.order.table z.device.0)) view wrote last)) answered.same noted.table) noted.line_after noted.unchanged
+    (λ some. subst (λ (z : Slip). ChangesEach (λ e. doomed_lineage z.maker) between.table t.order.table) answered.same (noted.changed some)) whole.order
+  where
     w : Setting
-    w = h.setting
+    w = h.history.setting
 
     n : Reading
-    n = read_in h
-
-    g : Grips
-    g e = grip_in (slice_get places e) (device_at devices e).purpose
+    n = read_in h.history
 
     d : ℕ
     d = grip.slip.device.0
@@ -185,42 +178,36 @@ order_came {D = D} stands turns probes faults h h₁ h₂ rounds opened moment t
     r : ℕ
     r = grip.slip.maker
 
-    a : Answer
-    a = answer_told grip.stage.told
+    new : mid ≡ with_entry h.history r (Did (run_no r) k a)
+    new = answered.answered ∙ ap (λ (z : Slip). with_entry h.history z.maker (Did (run_no z.maker) k a)) answered.same
 
-    for : IsForCommand s grip.slip grip.task k
-    for = for_command stands turns probes faults s grip.slip grip.task known k inside.0 returned.there returned.known_is returned.purpose
+    doomed : t.history ≡ with_doom mid r cause
+    doomed = answered.doomed ∙ ap (λ (z : Slip). with_doom mid z.maker cause) answered.same
 
-    within : d < length places
-    within = slice_get_within places d (Out grip.slip grip.task) returned.there
+    for : IsForCommand (open_of h) grip.slip grip.task k
+    for = for_command _ _ _ _ (open_of h) grip.slip grip.task k whole.shown returned.there returned.purpose
 
-    within_devices : d < length devices
-    within_devices = slice_get_within devices d known returned.known_is
-
-    below : d < length h.setting.first
-    below = let size : length places ≡ length h.setting.first = inside.0.places_size in omega (arith, within, size)
-
-    home : ◌≡◌ {A = Grips} (λ e. grip_in (slice_get places₂ e) (device_at devices₂ e).purpose) (put g d None)
-    home = (λ i e. grip_in (slice_get (places_are i) e) (device_at (devices_are i) e).purpose) ∙ grips_set places devices d (Home grip.device) progress within within_devices
+    below : d < length h.history.setting.first
+    below = let there : d < length h.gate.places = slice_get_within h.gate.places d (Out grip.slip grip.task) returned.there in let size : length h.gate.places ≡ length h.history.setting.first = whole.shown.places_size in omega (arith, there, size)
 
     may : may_follow w n (Did (run_no r) k a) ≡ true
-    may = first_follows h h₁ h₂ r (Did (run_no r) k a) cause new doomed formed
+    may = first_follows h.history mid t.history r (Did (run_no r) k a) cause new doomed formed
 
     suited : suits w (command_at w.runs r k) a ≡ true
     suited = fourth (may_act w n r) (k == next_of n r) (nat_lt k (length (commands_of w.runs r))) (suits w (command_at w.runs r k) a) ((n.run r).answered_doomed) may
 
--- line and table when the device on which a run is undone is home again
-pub order_back : {D : Type 0} (stands turns probes faults : D → ℕ) (h h₂ : HistoryState) (rounds opened moment tickets v tag : ℕ) (devices devices₂ : List DeviceProgress) (places places₂ : List (Place D)) (closing : ClosingLists) (known progress : DeviceProgress) (grip : Gripped D Done) (line : Marked) (table : List LineageState)
-    → InsideIsKept stands turns probes faults h rounds opened moment devices places tickets closing → IsReturned stands turns probes faults places devices known (ForUndo v) tag grip
-    → h₂ ≡ with_entry h grip.slip.maker (Undid (run_no grip.slip.maker) grip.slip.device true) → devices₂ ≡ slice_set devices grip.slip.device.0 progress → places₂ ≡ slice_set places grip.slip.device.0 (Home grip.device)
-    → OrderIsBeside h (λ e. grip_in (slice_get places e) (device_at devices e).purpose) line table → OrderIsBeside h₂ (λ e. grip_in (slice_get places₂ e) (device_at devices₂ e).purpose) line table
-order_back {D = D} stands turns probes faults h h₂ rounds opened moment tickets v tag devices devices₂ places places₂ closing known progress grip line table inside returned new devices_are places_are order =
-    order_undone h h₂ g (λ e. grip_in (slice_get places₂ e) (device_at devices₂ e).purpose) grip.slip.maker grip.slip.device.0 v line table new (returned_for stands turns probes faults s known (ForUndo v) tag grip inside.0 returned).grip
-    ((λ i e. grip_in (slice_get (places_are i) e) (device_at (devices_are i) e).purpose)
-    ∙ grips_set places devices grip.slip.device.0 (Home grip.device) progress (slice_get_within places grip.slip.device.0 (Out grip.slip grip.task) returned.there) (slice_get_within devices grip.slip.device.0 known returned.known_is)) order
-  where
-    s : OpenHub D
-    s = hub_of h rounds opened moment devices places tickets
+-- a command came back: what is kept is kept
+pub answered_whole : {D : Type 0} {stands turns probes faults : D → ℕ} (h t : Inside D) (m value k tag : ℕ) (grip : Gripped D Done) (slip : Slip) (a : Answer) (cause : Option Cause) (mid : HistoryState) (view : View) (wrote : Option ℕ) (last : Bool) (between : KeptOrder)
+    → IsReturned stands turns probes faults h (ForCommand k) tag grip → IsHomeAgain h t m value grip → IsAnswered h grip k slip a cause mid t.history → IsNoted h t value slip a cause mid view wrote last between → IsWhole stands turns probes faults h → IsWhole stands turns probes faults t
+answered_whole h t m value k tag grip slip a cause mid view wrote last between returned home answered noted whole =
+    back_whole h t m value (ForCommand k) tag grip (answer_entries slip.maker k a cause) (answered_back h t m value k tag grip slip a cause mid returned home answered)
+    (λ formed. order_came h t m value k tag grip slip a cause mid view wrote last between returned home answered noted formed whole) whole
 
-    g : Grips
-    g e = grip_in (slice_get places e) (device_at devices e).purpose
+-- .. and an undo
+pub undone_whole : {D : Type 0} {stands turns probes faults : D → ℕ} (h t : Inside D) (m value v tag : ℕ) (grip : Gripped D Done) (slip : Slip) → IsReturned stands turns probes faults h (ForUndo v) tag grip → IsHomeAgain h t m value grip → slip ≡ grip.slip
+    → t.history ≡ with_entry h.history slip.maker (Undid (run_no slip.maker) slip.device true) → t.order ≡ h.order → IsWhole stands turns probes faults h → IsWhole stands turns probes faults t
+undone_whole h t m value v tag grip slip returned home same new order whole =
+    back_whole h t m value (ForUndo v) tag grip (Undid (run_no slip.maker) slip.device true ∷ []) (undone_back h t m value v tag grip slip returned home same new)
+    (λ formed. subst (λ (o : KeptOrder). OrderIsBeside t.history (configuration_of (open_of t)).grips o.line o.table) (sym order)
+    (order_undone h.history t.history (configuration_of (open_of h)).grips (configuration_of (open_of t)).grips grip.slip.maker grip.slip.device.0 v h.order.line h.order.table
+    (new ∙ ap (λ (y : Slip). with_entry h.history y.maker (Undid (run_no y.maker) y.device true)) same) (returned_for h (ForUndo v) tag grip returned whole).grip (home_grips h t m value grip returned.there home whole) whole.order)) whole

@@ -4,12 +4,13 @@ use Rattle.history_book.specs.Readings.{Reading, is_doomed, is_live, next_comman
 use Rattle.history_book.specs.Settings.{Setting}
 use Rattle.history_book.specs.declared.entries.Cause.TheVariants.{Revoked}
 use Rattle.home_types.specs.declared.commands.Command.{Command}
+use Rattle.hub_core.proofs.Finds.{find_same}
 use Rattle.hub_core.specs.JustifiedAborts.{shows}
 use Rattle.lock_leasing.specs.Configurations.{Grips, no_grips}
 use Rattle.lock_leasing.specs.Words.{has_effect, is_overdue, lease_deadline, live_before, overdue_for, stamp_of}
 use Rattle.std.proofs.Common.{arith, refl, sym, ◌∙◌}
 use Rattle.std.proofs.lemmas.Grind.{common_steps}
-use Rattle.std.specs.Prelude.{Bool, List, Some, [], false, find, if◌then◌else◌, nat_lt, not, true, ℕ, ◌&&◌, ◌∷◌, ◌≡◌}
+use Rattle.std.specs.Prelude.{Some, [], false, if◌then◌else◌, nat_lt, not, true, ℕ, ◌&&◌, ◌≡◌}
 
 overdue_any_grips : (w : Setting) (n : Reading) (g g' : Grips) (r d m x : ℕ) → is_overdue w n g r d m x ≡ is_overdue w n g' r d m x
 overdue_any_grips w n g g' r d m x = elim (is_doomed n x) as (λ b.
@@ -18,10 +19,6 @@ overdue_any_grips w n g g' r d m x = elim (is_doomed n x) as (λ b.
       | true ↦ refl
       | false ↦ refl
     ]
-
-find_same : {A : Type 0} (p q : A → Bool) (xs : List A) → ((x : A) → p x ≡ q x) → find p xs ≡ find q xs
-find_same p q [] same = refl
-find_same p q (x ∷ xs) same = rw (same x, find_same p q xs same) refl
 
 pub overdue_without_grips : (w : Setting) (n : Reading) (g : Grips) (r d m : ℕ) → overdue_for w n g r d m ≡ overdue_for w n no_grips r d m
 overdue_without_grips w n g r d m = find_same (is_overdue w n g r d m) (is_overdue w n no_grips r d m) (live_before n r) (overdue_any_grips w n g no_grips r d m)

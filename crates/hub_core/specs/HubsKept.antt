@@ -5,17 +5,23 @@ use Rattle.device_gate.specs.Calls.{is_counted_up, probed}
 use Rattle.device_gate.specs.declared.slips.Slip.{Slip}
 use Rattle.device_gate.specs.declared.slips.Task.{Task}
 use Rattle.history_book.specs.Histories.{entries_of}
+use Rattle.history_book.specs.Settings.{Setting}
 use Rattle.home_types.specs.Kinds.{has_value, kind_at}
 use Rattle.home_types.specs.Listed.{Listed}
+use Rattle.home_types.specs.declared.numbers.DeviceNo.{DeviceNo}
 use Rattle.hub_core.specs.AccountedCalls.{told_calls}
 use Rattle.hub_core.specs.Homes.{CountsAreLow}
 use Rattle.hub_core.specs.HubCalls.{entries_of_a_run}
 use Rattle.hub_core.specs.HubKept.{ConfigurationIsKept}
 use Rattle.hub_core.specs.HubSteps.{task_of}
 use Rattle.hub_core.specs.OpenHubs.{OpenHub, configuration_of, device_at, held_in, purpose_of}
+use Rattle.hub_core.specs.KeptOrders.{OrderIsBeside}
+use Rattle.hub_core.specs.ReadHistories.{HistoryState}
 use Rattle.hub_core.specs.declared.hubs.ClosingLists.{ClosingLists}
-use Rattle.lock_leasing.specs.Configurations.{read_of}
-use Rattle.std.specs.Prelude.{Bool, IsTrue, Some, [], count_by, false, length, slice_get, true, ℕ, ◌*◌, ◌+◌, ◌-◌, ◌<◌, ◌≡◌, ◌≤◌}
+use Rattle.hub_core.specs.declared.hubs.Hub.TheInside.{Inside}
+use Rattle.lock_leasing.specs.Configurations.{Grips, read_of}
+use Rattle.lock_leasing.specs.Waits.{grip_wait}
+use Rattle.std.specs.Prelude.{Bool, IsTrue, List, Option, Some, [], count_by, false, length, option_map, slice_get, suc, true, ℕ, ◌*◌, ◌+◌, ◌-◌, ◌<◌, ◌≡◌, ◌≤◌}
 
 -- how often the device was called up to now: its counts at the opening, and what the window made of them
 abbrev pub turns_now : {D : Type 0} → OpenHub D → ℕ → ℕ
@@ -64,11 +70,36 @@ pub record HubIsKept {D : Type 0} (stands turns probes faults : D → ℕ) (s : 
 abbrev pub IsEmptyFor : {T : Type 0} → Listed T → ℕ → Type 0
 IsEmptyFor list n = (list.items ≡ []) × (n ≤ list.spare)
 
--- a hub has room for every entry of its history, and for every item and every device in the lists that its closing fills
-pub record HasRoomLeft {D : Type 0} (s : OpenHub D) (spare : ℕ) (closing : ClosingLists) : Type 0 where
-  pub history : entries_of_a_run * length s.setting.runs ≤ spare + length s.history
-  pub order : IsEmptyFor closing.order (entries_of_a_run * length s.setting.runs)
-  pub last : IsEmptyFor closing.last (length s.setting.first)
-  pub world : IsEmptyFor closing.world (length s.setting.first)
-  pub turns : IsEmptyFor closing.turns (length s.setting.first)
-  pub faults : IsEmptyFor closing.faults (length s.setting.first)
+-- a window has room for every entry of its history, and for every item and every device in the lists that its closing fills
+pub record HasRoomLeft (h : HistoryState) (closing : ClosingLists) : Type 0 where
+  pub history : entries_of_a_run * length h.setting.runs ≤ h.spare + length h.history
+  pub order : IsEmptyFor closing.order (entries_of_a_run * length h.setting.runs)
+  pub last : IsEmptyFor closing.last (length h.setting.first)
+  pub world : IsEmptyFor closing.world (length h.setting.first)
+  pub turns : IsEmptyFor closing.turns (length h.setting.first)
+  pub faults : IsEmptyFor closing.faults (length h.setting.first)
+
+-- what the parts of a hub show
+abbrev pub open_of : {D : Type 0} → Inside D → OpenHub D
+open_of h = record {
+  setting = h.history.setting;
+  rounds = h.rounds;
+  opened = h.opened;
+  history = h.history.history;
+  moment = h.moment;
+  devices = h.devices.items;
+  places = h.gate.places;
+  tickets = h.gate.tickets;
+}
+
+-- of each run of the window, the device whose grip it holds
+pub record HandsAre (w : Setting) (g : Grips) (hands : List (Option DeviceNo)) : Type 0 where
+  pub size : length hands ≡ length w.runs
+  pub each : (i : ℕ) (hand : Option DeviceNo) → slice_get hands i ≡ Some hand → option_map (λ d. d.0) hand ≡ grip_wait w g (suc i)
+
+-- what the type of a hub keeps of its parts
+pub record IsWhole {D : Type 0} (stands turns probes faults : D → ℕ) (h : Inside D) : Type 0 where
+  pub shown : HubIsKept stands turns probes faults (open_of h)
+  pub room : HasRoomLeft h.history h.closing
+  pub order : OrderIsBeside h.history (configuration_of (open_of h)).grips h.order.line h.order.table
+  pub hands : HandsAre h.history.setting (configuration_of (open_of h)).grips h.hands.items

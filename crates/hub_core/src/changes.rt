@@ -1,6 +1,6 @@
-ghost use Rattle.std.specs.Prelude.{◌≡◌, ◌<◌, IsSome, IsTrue, Some, None, [], if◌then◌else◌, ◌∷◌, length, max, option_map, slice_get, slice_set, true, ℕ};
+ghost use Rattle.std.specs.Prelude.{◌≡◌, ◌<◌, ◌≤◌, ◌-◌, IsSome, IsTrue, Some, None, [], if◌then◌else◌, ◌∷◌, false, length, max, option_map, slice_get, slice_set, true, ℕ};
 ghost use Rattle.command_rules.specs.Rosters.{is_run};
-ghost use Rattle.device_gate.specs.Calls.{value_after};
+ghost use Rattle.device_gate.specs.Calls.{has_died, value_after};
 ghost use Rattle.device_gate.specs.Grips.{WasCalled};
 ghost use Rattle.device_gate.specs.Places.{IsKept};
 ghost use Rattle.history_book.specs.Readings.{is_fine, is_told};
@@ -162,6 +162,7 @@ impl<D: Steady> Hub<D> {
         self.devices
             .set(d.0 as u64, DeviceProgress { purpose, ..known });
         self.order.touch(r, d, purpose);
+        self.hands.set(r.0 as u64 - 1, Some(d));
         self.gate.hand_out(d, r.0, known.held, task)
     }
 
@@ -193,7 +194,12 @@ impl<D: Steady> Hub<D> {
         let slip = grip.slip();
         let d = slip.device;
         let r = RunNo(slip.maker);
-        let Came { told, held } = take_home(&mut self.gate, &mut self.devices, grip);
+        let Came { told, held } = take_home(
+            &mut self.gate,
+            &mut self.devices,
+            &mut self.hands,
+            grip,
+        );
         self.moment = self.moment.max(moment);
         let answer = answer_told(told);
         let cause = self.history.refuted(r, k, answer);
@@ -217,7 +223,7 @@ impl<D: Steady> Hub<D> {
         ensures window { SameWindow self.old self.new }
     {
         let slip = grip.slip();
-        take_home(&mut self.gate, &mut self.devices, grip);
+        take_home(&mut self.gate, &mut self.devices, &mut self.hands, grip);
         self.moment = self.moment.max(moment);
         one_made(self.history.undo(RunNo(slip.maker), slip.device))
     }
@@ -230,28 +236,34 @@ struct Came {
     held: Value,
 }
 
-/// The device of the grip comes home, and it is known where it stands.
+/// The device of a run's grip comes home: it is known where it stands, and the run holds no grip.
 fn take_home<D: Steady>(
     gate: &mut Gate<D>,
     devices: &mut List<DeviceProgress>,
+    hands: &mut List<Option<DeviceNo>>,
     grip: Grip<D, Done>,
 ) -> Came
     requires kept { IsKept gate.old.places grip.slip grip.task }
+    requires maker { 0 < grip.slip.maker }
+    requires run { grip.slip.maker ≤ length hands.old.items }
     requires known { grip.slip.device.0 < length devices.old.items }
     ensures places { gate.new.places ≡ slice_set gate.old.places grip.slip.device.0 (Place.Home grip.device) }
     ensures tickets { gate.new.tickets ≡ gate.old.tickets }
     ensures devices { devices.new.items ≡ slice_set devices.old.items grip.slip.device.0 (record (device_at devices.old.items grip.slip.device.0) { held = result.held }) }
+    ensures hands { hands.new.items ≡ slice_set hands.old.items (grip.slip.maker - 1) None }
     ensures held { result.held ≡ value_after grip.task (device_at devices.old.items grip.slip.device.0).held }
     ensures told { result.told ≡ grip.stage.told }
     ensures called { WasCalled grip.stage.told grip.task grip.slip (D.tag grip.device) (D.stands grip.device) (D.turns grip.device) (D.probes grip.device) (D.faults grip.device) }
-    ensures calm { D.faults grip.device ≡ 0 }
+    ensures stage_lives { has_died grip.stage.told ≡ false }
 {
-    let d = grip.slip().device;
+    let slip = grip.slip();
+    let d = slip.device;
     let known = *devices.get(d.0 as u64).unwrap();
     let held = value_after(grip.task(), known.held);
     devices.set(d.0 as u64, DeviceProgress { held, ..known });
+    hands.set(slip.maker as u64 - 1, None);
     let told = gate.take_in(grip);
-    // A steady device does not fail, so the call was answered.
+    // In this stage devices are steady: none fails, so the call was answered.
     gate.device(d).calm();
     Came { told, held }
 }

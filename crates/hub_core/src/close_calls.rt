@@ -45,6 +45,7 @@ impl<D: Steady> Hub<D> {
             moment: _,
             devices: known,
             gate,
+            hands: _,
             closing,
         } = self;
         let ReadHistory {

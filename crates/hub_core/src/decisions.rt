@@ -7,7 +7,7 @@ ghost use Rattle.hub_core.specs.HubSteps.{command_task, task_of};
 ghost use Rattle.hub_core.specs.OpenHubs.{configuration_of, purpose_of};
 ghost use Rattle.hub_core.specs.Stage.{stage_command, stage_doomed};
 ghost use Rattle.hub_core.specs.Steps.{choice_of};
-ghost use Rattle.lock_leasing.specs.Configurations.{Commands, has_grip, is_out, read_of};
+ghost use Rattle.lock_leasing.specs.Configurations.{Commands, is_out, read_of};
 ghost use Rattle.lock_leasing.specs.Standings.{IsAtCommand};
 ghost use Rattle.lock_leasing.specs.Waits.{behind_wait, grip_wait, strict_wait};
 
@@ -113,27 +113,12 @@ impl<D: Device> Hub<D> {
         Chosen::HandsOut(command.device, Purpose::Command(k))
     }
 
-    /// The device whose grip the run holds, the smallest one.
+    /// The device whose grip the run holds.
     fn grip_of(&self, r: RunNo) -> Option<DeviceNo>
+        requires { IsTrue (is_run self.now.setting.runs r.0) }
         ensures { option_map (λ d. d.0) result ≡ grip_wait self.now.setting (configuration_of self.now).grips r.0 }
     {
-        'devices: for at in 0..self.history.device_count() {
-            let d = DeviceNo(at as u16);
-            if self.holds(r, d) {
-                return Some(d);
-            }
-        }
-        None
-    }
-
-    /// Whether the run holds the grip of the device.
-    fn holds(&self, r: RunNo, d: DeviceNo) -> bool
-        ensures { result ≡ has_grip (configuration_of self.now).grips r.0 d.0 }
-    {
-        match self.gate.slip(d) {
-            Some(slip) => slip.maker == r.0,
-            None => false,
-        }
+        *self.hands.get(r.0 as u64 - 1).unwrap()
     }
 
     /// Whether the device is out.

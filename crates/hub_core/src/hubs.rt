@@ -59,59 +59,20 @@ pub struct Hub<D: Device> {
     pub(crate) moment: u64,
     pub(crate) devices: List<DeviceProgress>,
     pub(crate) gate: Gate<D>,
+    /// For each run the device whose grip it holds.
+    pub(crate) hands: List<Option<DeviceNo>>,
     pub(crate) closing: ClosingLists,
 }
 
 impl<D: Device> Model for Hub<D> {
-    ghost use Rattle.std.specs.Prelude.{◌≡◌, []};
-    ghost use Rattle.hub_core.specs.HubsKept.{HasRoomLeft, HubIsKept};
-    ghost use Rattle.hub_core.specs.KeptOrders.{OrderIsBeside};
-    ghost use Rattle.hub_core.specs.OpenHubs.{OpenHub, configuration_of};
+    ghost use Rattle.hub_core.specs.HubsKept.{IsWhole, open_of};
+    ghost use Rattle.hub_core.specs.OpenHubs.{OpenHub};
 
     ghost Value = { OpenHub D };
 
-    ghost view = { λ h. record {
-      setting = h.history.setting;
-      rounds = h.rounds;
-      opened = h.opened;
-      history = h.history.history;
-      moment = h.moment;
-      devices = h.devices.items;
-      places = h.gate.places;
-      tickets = h.gate.tickets;
-    } };
+    ghost view = { open_of };
 
-    ghost invariant = { λ h.
-        (HubIsKept D.stands D.turns D.probes D.faults (record {
-          setting = h.history.setting;
-          rounds = h.rounds;
-          opened = h.opened;
-          history = h.history.history;
-          moment = h.moment;
-          devices = h.devices.items;
-          places = h.gate.places;
-          tickets = h.gate.tickets;
-        })
-        × HasRoomLeft (record {
-          setting = h.history.setting;
-          rounds = h.rounds;
-          opened = h.opened;
-          history = h.history.history;
-          moment = h.moment;
-          devices = h.devices.items;
-          places = h.gate.places;
-          tickets = h.gate.tickets;
-        }) h.history.spare h.closing)
-        × OrderIsBeside h.history (configuration_of (record {
-          setting = h.history.setting;
-          rounds = h.rounds;
-          opened = h.opened;
-          history = h.history.history;
-          moment = h.moment;
-          devices = h.devices.items;
-          places = h.gate.places;
-          tickets = h.gate.tickets;
-        })).grips h.order.line h.order.table };
+    ghost invariant = { IsWhole D.stands D.turns D.probes D.faults };
 }
 
 impl<D: Device> Hub<D> {

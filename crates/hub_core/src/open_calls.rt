@@ -1,4 +1,4 @@
-ghost use Rattle.std.specs.Prelude.{◌≡◌, ◌<◌, ◌≤◌, IfErr, IfOk, [], length, replicate, slice_get, ℕ};
+ghost use Rattle.std.specs.Prelude.{◌≡◌, ◌<◌, ◌≤◌, IfErr, IfOk, None, [], length, replicate, slice_get, ℕ};
 ghost use Rattle.command_rules.specs.Rosters.{runs_of};
 ghost use Rattle.home_types.specs.HomeStates.{stand_at};
 ghost use Rattle.hub_core.specs.HubCalls.{IsOpened};
@@ -18,7 +18,7 @@ use command_rules::Roster;
 use device_gate::Gate;
 use device_states::Device;
 use history_book::Book;
-use home_types::{Kind, List, Mode, NoMemory, World};
+use home_types::{DeviceNo, Kind, List, Mode, NoMemory, World};
 use std::alloc::Global;
 
 /// The memory of a window's history.
@@ -34,6 +34,7 @@ struct Room {
     history: HistoryRoom,
     order: KeptOrder,
     devices: List<DeviceProgress>,
+    hands: List<Option<DeviceNo>>,
     closing: ClosingLists,
 }
 
@@ -75,6 +76,7 @@ impl<D: Device> Home<D> {
                 moment: 0,
                 devices: room.devices,
                 gate,
+                hands: room.hands,
                 closing: room.closing,
             }),
             Err((devices, NoMemory)) => Err((
@@ -96,6 +98,7 @@ impl<D: Device> Home<D> {
         ensures history { IfOk result (λ room. IsHistoryRoom (length roster.now.runs.items) room.history.book room.history.progress.items) }
         ensures order { IfOk result (λ room. IsOrderRoom (runs_of roster.now) self.now.world room.order.line room.order.table) }
         ensures devices { IfOk result (λ room. AreKnown D.turns D.probes D.faults self.now rounds (length self.now.devices) room.devices.items) }
+        ensures hands { IfOk result (λ room. room.hands.items ≡ replicate (length roster.now.runs.items) None) }
         ensures closing { IfOk result (λ room. IsClosingRoom (length self.now.devices) (length roster.now.runs.items) room.closing) }
     {
         let runs = roster.runs.len();
@@ -103,6 +106,7 @@ impl<D: Device> Home<D> {
             history: history_room(alloc, runs)?,
             order: KeptOrder::open(alloc, &self.world, roster, ENTRIES_OF_A_RUN * runs)?,
             devices: self.known_devices(alloc, rounds)?,
+            hands: no_hands(alloc, runs)?,
             closing: closing_lists(alloc, self.devices.len(), runs)?,
         })
     }
@@ -189,6 +193,17 @@ fn no_progress(alloc: Global, runs: u64) -> Result<List<RunProgress>, NoMemory>
         })?;
     }
     Ok(progress)
+}
+
+/// None of so many runs holds a grip.
+fn no_hands(alloc: Global, runs: u64) -> Result<List<Option<DeviceNo>>, NoMemory>
+    ensures { IfOk result (λ hands. hands.items ≡ replicate runs None) }
+{
+    let mut hands = List::new(alloc);
+    'runs: for _ in 0..runs {
+        hands.push(None)?;
+    }
+    Ok(hands)
 }
 
 /// The lists that closing fills, with room for so many devices and for the items of so many runs.

@@ -1,8 +1,8 @@
-use Rattle.hub_core.proofs.HubOpens.{Opens, first_order, first_hub, first_kept, first_opened, first_room, is_first_hub}
+use Rattle.hub_core.proofs.HubOpens.{Opens, first_order, first_hands, first_kept, first_opened, first_room, is_first_hub}
 use Rattle.hub_core.proofs.homes.Home.open_window.Goals as goal
 use Rattle.hub_core.specs.Homes.{HomeIsKept, HomeState, setting_for}
 use Rattle.hub_core.specs.HubCalls.{IsOpened, entries_of_a_run}
-use Rattle.hub_core.specs.HubsKept.{HasRoomLeft, HubIsKept}
+use Rattle.hub_core.specs.HubsKept.{HandsAre, HasRoomLeft, HubIsKept}
 use Rattle.hub_core.specs.KeptOrders.{OrderIsBeside}
 use Rattle.hub_core.specs.OpenHubs.{OpenHub, configuration_of}
 use Rattle.std.proofs.Common.{length, subst, sym, ◌*◌, ◌≡◌, ◌≤◌}
@@ -10,18 +10,17 @@ use Rattle.std.proofs.Common.{length, subst, sym, ◌*◌, ◌≡◌, ◌≤◌}
 -- the hub of a window that opens, which is kept and has its room
 pub invariant_of-result : goal.invariant_of-result
 invariant_of-result g c =
-    let s : OpenHub g.row.D.Denot = record { setting = c.empty_history.result.setting; rounds = c.args.rounds; opened = c.self.inside.opened; history = c.empty_history.result.history; moment = 0; devices = c.in-Ok.room.devices.items; places = c.in-Ok-open.gate.places; tickets = c.in-Ok-open.gate.tickets } in
-    let same : s ≡ first_hub c.args.self c.args.roster c.args.mode c.args.rounds c.in-Ok.room.devices.items = is_first_hub c.args.self c.args.roster c.args.mode c.args.rounds c.in-Ok.room.devices.items _ _ _ _ _ _ _ _ c.self.view_is c.empty_history.ensures.setting c.empty_history.ensures.history c.in-Ok-open.ensures.home c.in-Ok-open.ensures.tickets in
+    let same = is_first_hub c.args.self c.args.roster c.args.mode c.args.rounds c.in-Ok.room.devices.items _ _ _ _ _ _ _ _ c.self.view_is c.empty_history.ensures.setting c.empty_history.ensures.history c.in-Ok-open.ensures.home c.in-Ok-open.ensures.tickets in
     let kept : HomeIsKept g.D.Device.tag g.D.Device.stands g.D.Device.turns g.D.Device.probes g.D.Device.faults c.args.self = subst (λ (h : HomeState g.row.D.Denot). HomeIsKept g.D.Device.tag g.D.Device.stands g.D.Device.turns g.D.Device.probes g.D.Device.faults h) c.self.view_is c.self.invariant in
     let opens : Opens g.D.Device.tag g.D.Device.stands g.D.Device.turns g.D.Device.probes g.D.Device.faults c.args.self c.args.roster c.args.mode c.args.rounds c.in-Ok.room.devices.items = record { kept = kept; may = c.requires.may; stage = c.requires.stage; knows = c.in-Ok.ensures.devices } in
-    let enough : entries_of_a_run * length c.args.roster.runs.items ≤ c.empty_history.result.spare = rw c.empty_history.ensures.spare c.in-Ok.ensures.history.enough in (
-      (
-        subst (λ (t : OpenHub g.row.D.Denot). HubIsKept g.D.Device.stands g.D.Device.turns g.D.Device.probes g.D.Device.faults t) (sym same) (first_kept _ _ _ _ _ c.args.self c.args.roster c.args.mode _ _ opens),
-        subst (λ (t : OpenHub g.row.D.Denot). HasRoomLeft t c.empty_history.result.spare c.in-Ok.room.closing) (sym same) (first_room c.args.self c.args.roster c.args.mode c.args.rounds _ _ _ kept.size enough c.in-Ok.ensures.closing),
-      ),
-      subst (λ (t : OpenHub g.row.D.Denot). OrderIsBeside (record { setting = t.setting; history = t.history; spare = c.empty_history.result.spare }) (configuration_of t).grips c.in-Ok.room.order.line c.in-Ok.room.order.table) (sym same)
-          (first_order _ _ _ _ _ c.args.self c.args.roster c.args.mode c.args.rounds c.empty_history.result.spare _ _ _ opens c.in-Ok.ensures.order),
-    )
+    let enough : entries_of_a_run * length c.args.roster.runs.items ≤ c.empty_history.result.spare = rw c.empty_history.ensures.spare c.in-Ok.ensures.history.enough in
+    record {
+      shown = subst (λ (t : OpenHub g.row.D.Denot). HubIsKept g.D.Device.stands g.D.Device.turns g.D.Device.probes g.D.Device.faults t) (sym same) (first_kept _ _ _ _ _ c.args.self c.args.roster c.args.mode _ _ opens);
+      room = subst (λ (t : OpenHub g.row.D.Denot). HasRoomLeft (record { setting = t.setting; history = t.history; spare = c.empty_history.result.spare }) c.in-Ok.room.closing) (sym same) (first_room c.args.self c.args.roster c.args.mode _ _ kept.size enough c.in-Ok.ensures.closing);
+      order = subst (λ (t : OpenHub g.row.D.Denot). OrderIsBeside (record { setting = t.setting; history = t.history; spare = c.empty_history.result.spare }) (configuration_of t).grips c.in-Ok.room.order.line c.in-Ok.room.order.table) (sym same)
+          (first_order _ _ _ _ _ c.args.self c.args.roster c.args.mode c.args.rounds c.empty_history.result.spare _ _ _ opens c.in-Ok.ensures.order);
+      hands = subst (λ (t : OpenHub g.row.D.Denot). HandsAre t.setting (configuration_of t).grips c.in-Ok.room.hands.items) (sym same) (first_hands _ _ _ _ _ c.args.self c.args.roster c.args.mode c.args.rounds _ _ opens c.in-Ok.ensures.hands);
+    }
 
 pub returns-in-Ok-open-clause-opened : goal.returns-in-Ok-open-clause-opened
 returns-in-Ok-open-clause-opened g c =

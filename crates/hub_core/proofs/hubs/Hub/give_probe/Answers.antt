@@ -5,4 +5,4 @@ use Rattle.std.proofs.Common.{ap, ◌∙◌}
 use Rattle.std.specs.Prelude.{slice_get}
 
 pub returns-clause-given : goal.returns-clause-given
-returns-clause-given g c = refused_probe _ _ _ _ _ c.args.self.now c.args.grip c.stranger-stranger.result c.self.invariant.0.0 c.self.view_is (c.stranger-stranger.ensures.kept ∙ ap (λ s. slip_of (slice_get s.places c.args.grip.slip.device.0)) c.self.view_is) c.stranger-stranger.ensures.told
+returns-clause-given g c = refused_probe _ _ _ _ _ c.args.self.now c.args.grip c.stranger-stranger.result c.self.invariant.shown c.self.view_is (c.stranger-stranger.ensures.kept ∙ ap (λ s. slip_of (slice_get s.places c.args.grip.slip.device.0)) c.self.view_is) c.stranger-stranger.ensures.told

@@ -1,26 +1,22 @@
-use Rattle.hub_core.proofs.Searching.{here_number, no_number, past_number}
+use Rattle.command_rules.specs.Rosters.{is_run}
+use Rattle.hub_core.proofs.HubOuts.{is_there}
+use Rattle.hub_core.proofs.HubReads.{run_place}
 use Rattle.hub_core.proofs.hubs.Hub.grip_of.Goals as goal
+use Rattle.hub_core.specs.HubsKept.{open_of}
 use Rattle.hub_core.specs.OpenHubs.{configuration_of}
-use Rattle.lock_leasing.specs.Configurations.{has_grip}
+use Rattle.lock_leasing.specs.Waits.{grip_wait}
 use Rattle.std.proofs.Common.{ap, arith, sym, ◌∙◌}
-use Rattle.std.specs.Prelude.{Some, length, ℕ, ◌+◌, ◌<◌, ◌≡◌, ◌≤◌}
+use Rattle.std.specs.Option.{option_copied}
+use Rattle.std.specs.Prelude.{◌-◌}
 
-pub devices-preserved : goal.devices-preserved
-devices-preserved g c =
-    let count = ap (λ s. length s.setting.first) c.self.view_is in
-    let within : c.devices.at < length c.args.self.now.setting.first = omega (arith, c.devices-test.true, c.device_count-at-end.ensures, count) in
-    let same : 0 + c.devices.at ≡ c.devices.at = omega arith in
-    past_number (has_grip (configuration_of c.args.self.now).grips c.args.r.0) 0 _ c.devices.at within (ap (has_grip (configuration_of c.args.self.now).grips c.args.r.0) same ∙ sym c.if-holds.ensures) c.devices.invariant
-
-pub returns-then-holds : goal.returns-then-holds
-returns-then-holds g c =
-    let count = ap (λ s. length s.setting.first) c.self.view_is in
-    let within : c.devices.at < length c.args.self.now.setting.first = omega (arith, c.devices-test.true, c.device_count-at-end.ensures, count) in
-    let same : 0 + c.devices.at ≡ c.devices.at = omega arith in
-    ap (λ (k : ℕ). Some k) (sym same) ∙ here_number (has_grip (configuration_of c.args.self.now).grips c.args.r.0) 0 _ c.devices.at within (ap (has_grip (configuration_of c.args.self.now).grips c.args.r.0) same ∙ sym c.if-holds.ensures) c.devices.invariant
+pub unwrap-requires : goal.unwrap-requires
+unwrap-requires g c =
+    let place = run_place c.self.inside.history.setting.runs c.args.r.0 (ap (λ s. is_run s.setting.runs c.args.r.0) c.self.view_is ∙ c.requires) in
+    is_there c.self.inside.hands.items (c.args.r.0 - 1) _ (omega (arith, place.1, c.self.invariant.hands.size)) c.get.ensures
 
 pub returns : goal.returns
 returns g c =
-    let count = ap (λ s. length s.setting.first) c.self.view_is in
-    let past : length c.args.self.now.setting.first ≤ c.devices.at = omega (arith, c.devices-test.false, c.device_count-at-end.ensures, count) in
-    no_number (has_grip (configuration_of c.args.self.now).grips c.args.r.0) 0 _ c.devices.at past c.devices.invariant
+    let place = run_place c.self.inside.history.setting.runs c.args.r.0 (ap (λ s. is_run s.setting.runs c.args.r.0) c.self.view_is ∙ c.requires) in
+    c.self.invariant.hands.each (c.args.r.0 - 1) _ (sym c.get.ensures ∙ ap option_copied c.unwrap.ensures)
+    ∙ ap (grip_wait c.self.inside.history.setting (configuration_of (open_of c.self.inside)).grips) (sym place.0)
+    ∙ ap (λ s. grip_wait s.setting (configuration_of s).grips c.args.r.0) c.self.view_is

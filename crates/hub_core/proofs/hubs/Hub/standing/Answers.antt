@@ -1,5 +1,5 @@
 use Rattle.command_rules.specs.Rosters.{runs_of}
-use Rattle.hub_core.proofs.HubOrders.{hub_standing}
+use Rattle.hub_core.proofs.HubOrders.{standing_whole}
 use Rattle.hub_core.proofs.hubs.Hub.standing.Goals as goal
 use Rattle.hub_core.specs.OpenHubs.{OpenHub, configuration_of}
 use Rattle.lock_leasing.specs.Standings.{IsStandingOf}
@@ -8,4 +8,4 @@ use Rattle.std.proofs.Common.{subst}
 pub returns : goal.returns
 returns g c =
     subst (λ (t : OpenHub g.row.D.Denot). IsStandingOf (configuration_of t) c.self.inside.order.table c.self.inside.order.line.marks c.book.result.now.items (runs_of c.roster.result.now)) c.self.view_is
-    (rw (c.book.ensures, c.roster.ensures) (hub_standing _ _ _ _ c.self.inside.history.spare _ _ c.kept.ensures c.self.invariant.0.0.configuration c.self.invariant.1))
+    (rw (c.book.ensures, c.roster.ensures) (standing_whole c.self.inside c.kept.ensures c.self.invariant))

@@ -2,4 +2,4 @@ use Rattle.hub_core.proofs.HubRefusals.{none_probed}
 use Rattle.hub_core.proofs.hubs.Hub.take_probe.Goals as goal
 
 pub returns-clause-probed : goal.returns-clause-probed
-returns-clause-probed g c = none_probed _ _ _ _ _ c.args.self.now c.args.d.0 c.self.invariant.0.0 c.self.view_is
+returns-clause-probed g c = none_probed _ _ _ _ _ c.args.self.now c.args.d.0 c.self.invariant.shown c.self.view_is
