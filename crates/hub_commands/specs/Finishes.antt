@@ -3,7 +3,7 @@ use Rattle.command_words.specs.declared.command_lines.CommandLine.TheVariants.{R
 use Rattle.command_words.specs.declared.command_lines.CommandLine.{CommandLine}
 use Rattle.command_words.specs.declared.command_lines.Options.{Options}
 use Rattle.day_clock.specs.Sinks.{AppendsPart}
-use Rattle.day_clock.specs.Sources.{TakesCount}
+use Rattle.day_clock.specs.Sources.{TakesCount, TakesUpTo}
 use Rattle.day_report.specs.Days.{day_text}
 use Rattle.home_types.specs.Limits.{most_script_bytes}
 use Rattle.home_types.specs.Listed.{Listed}
@@ -44,9 +44,14 @@ pub record Writes : Type 0 where
 abbrev pub written : Option (List ℕ) → Option (List ℕ) → ℕ → ℕ → Writes
 written held holds faults faults_after = record { held = held; holds = holds; faults = faults; faults_after = faults_after }
 
+-- at most one byte more than a script may have was taken
+abbrev pub IsWithinLimit : Reads → Type 0
+IsWithinLimit source = TakesUpTo source.left source.rest (most_script_bytes + 1)
+
 -- the source gave all of its bytes without a fault, and the script is their reading
 pub record IsRead (source : Reads) (script : Script) : Type 0 where
   pub ended : IsAtEnd source.rest
+  pub within : IsWithinLimit source
   pub reading : IfSome source.left (λ bytes. script_reading bytes ≡ Ok (plain_script script))
   pub calm : source.faults_after ≡ source.faults
 
@@ -58,6 +63,7 @@ IsTaken source = IsAtEnd source.rest ⊎ TakesCount source.left source.rest (mos
 pub record IsRefused (source : Reads) (fault : ReadFault) : Type 0 where
   pub named : is_memory fault ≡ false
   pub taken : IsTaken source
+  pub within : IsWithinLimit source
   pub reading : IfSome source.left (λ bytes. script_reading bytes ≡ Err fault)
   pub calm : source.faults_after ≡ source.faults
 
@@ -65,14 +71,22 @@ pub record IsRefused (source : Reads) (fault : ReadFault) : Type 0 where
 abbrev pub IsUnread : Reads → Type 0
 IsUnread source = (source.rest ≡ source.left) × (source.faults_after ≡ source.faults)
 
+-- the source failed
+abbrev pub InputFails : Reads → Type 0
+InputFails source = (source.faults < source.faults_after) × IsWithinLimit source
+
+-- memory was wanted, before anything was read or behind it
+abbrev pub InputIsStarved : Reads → Type 0
+InputIsStarved source = (source.faults_after ≡ source.faults) × IsWithinLimit source
+
 -- what came of the input
 abbrev pub InputIsRead : Reads → Result Script Fault → Type 0
 InputIsRead source (Ok script) = IsRead source script
 InputIsRead source (Err (Refuses fault)) = IsRefused source fault
 InputIsRead source (Err Words) = ⊥
-InputIsRead source (Err Read) = source.faults < source.faults_after
+InputIsRead source (Err Read) = InputFails source
 InputIsRead source (Err Write) = ⊥
-InputIsRead source (Err Memory) = source.faults_after ≡ source.faults
+InputIsRead source (Err Memory) = InputIsStarved source
 InputIsRead source (Err (Later spot)) = ⊥
 InputIsRead source (Err (Check window place name)) = ⊥
 
@@ -196,8 +210,8 @@ abbrev pub CallEnds : {D : Type 0} → Shown D → Option CommandLine → Reads 
 CallEnds shown line source sink day None = IsReplayed shown line source sink day None
 CallEnds shown line source sink day (Some (Refuses fault)) = EndsBefore line sink day × IsRefused source fault
 CallEnds shown line source sink day (Some Words) = (line ≡ None) × IsUnread source × (day ≡ None) × IsUnwritten sink
-CallEnds shown line source sink day (Some Read) = EndsBefore line sink day × (source.faults < source.faults_after)
+CallEnds shown line source sink day (Some Read) = EndsBefore line sink day × InputFails source
 CallEnds shown line source sink day (Some Write) = IsReplayed shown line source sink day (Some Write)
-CallEnds shown line source sink day (Some Memory) = ((day ≡ None) × IsUnwritten sink × (source.faults_after ≡ source.faults)) ⊎ IsReplayed shown line source sink day (Some Memory)
+CallEnds shown line source sink day (Some Memory) = ((day ≡ None) × IsUnwritten sink × InputIsStarved source) ⊎ IsReplayed shown line source sink day (Some Memory)
 CallEnds shown line source sink day (Some (Later spot)) = CommandIsLater line spot source sink day ⊎ ScriptIsLater line spot source sink day
 CallEnds shown line source sink day (Some (Check window place name)) = ⊥
