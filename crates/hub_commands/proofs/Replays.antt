@@ -8,9 +8,10 @@ use Rattle.home_types.specs.declared.modes.Mode.{Mode}
 use Rattle.hub_core.specs.Homes.{AreNew, HomeState}
 use Rattle.hub_core.specs.LegalDays.{IsLegalCutDay, IsLegalDay}
 use Rattle.hub_commands.proofs.DaysUnderWay.{cut_is_legal, day_is_legal, no_window, starts}
+use Rattle.hub_commands.proofs.Snocs.{no_snoc, snoc_front}
 use Rattle.hub_commands.proofs.Texts.{appends_keeps, appends_more, due_whole, keeps_appends, part_more, part_wider, text_more, text_starts, text_whole, whole_first}
 use Rattle.hub_commands.specs.Days.{DevicesAreProbed, IsUnderWay, WindowsArePlayed, text_due, text_so_far}
-use Rattle.hub_commands.specs.Finishes.{AppendsFirst, IsCut, IsStarved, IsWhole, ReplayEnds, Shown, Writes, written}
+use Rattle.hub_commands.specs.Finishes.{AppendsFirst, IsCut, IsStarved, IsWhole, IsWrittenAsClosed, ReplayEnds, Shown, Writes, written}
 use Rattle.hub_commands.specs.Pieces.{PieceEnds, StopEnds}
 use Rattle.hub_commands.specs.Played.{HasGoneOn}
 use Rattle.hub_commands.specs.declared.faults.Fault.TheVariants.{Memory as WantsMemory}
@@ -22,7 +23,7 @@ use Rattle.routine_reader.specs.Rosters.{kinds_of, start_home}
 use Rattle.routine_reader.specs.declared.scripts.Script.{Script}
 use Rattle.std.proofs.Common.{ap, append-nil, append_assoc, arith, refl, subst, sym, ◌∙◌}
 use Rattle.std.specs.Io.KnownBytes.{Appends, Keeps}
-use Rattle.std.specs.Prelude.{Err, IfOk, List, None, Ok, Option, Result, Some, [], if◌then◌else◌, length, ℕ, ◌++◌, ◌==◌, ◌∷◌, ◌≡◌}
+use Rattle.std.specs.Prelude.{Err, IfOk, List, None, Ok, Option, Result, Some, [], if◌then◌else◌, length, take, ℕ, ◌++◌, ◌==◌, ◌∷◌, ◌≡◌}
 
 -- the home is under way, and the sink got the texts so far
 pub record IsReplaying {D : Type 0} (shown : Shown D) (script : Script) (options : Options) (sink : Writes) (home : HomeState D) (records : List WindowRecord) : Type 0 where
@@ -42,15 +43,52 @@ pub keeps_same : (held : Option (List ℕ)) → Keeps held held
 keeps_same None = tt
 keeps_same (Some bytes) = refl
 
+-- these bytes begin with the text of the windows but the last
+abbrev LeadWith : Script → Options → List WindowRecord → List ℕ → Type 0
+LeadWith script options records bytes = (before : List WindowRecord) (closed : WindowRecord) → records ≡ before ++ closed ∷ []
+    → (rest : List ℕ) × (bytes ≡ text_so_far script options.mode options.trace before ++ rest)
+
+-- with no window there is none to write
+none_leads : (script : Script) (options : Options) (records : List WindowRecord) (bytes : List ℕ) → records ≡ [] → LeadWith script options records bytes
+none_leads script options records bytes none before closed is = absurd (no_snoc before closed (sym none ∙ is))
+
+-- the text of all windows does
+all_lead : (script : Script) (options : Options) (records : List WindowRecord) → LeadWith script options records (text_so_far script options.mode options.trace records)
+all_lead script options records before closed is = (
+  window_text script (length before) closed options.mode options.trace,
+  ap (λ rs. text_so_far script options.mode options.trace rs) is ∙ text_more script options.mode options.trace before closed,
+)
+
+-- the text of the windows but the last does
+rest_lead : (script : Script) (options : Options) (earlier : List WindowRecord) (last : WindowRecord) (records : List WindowRecord) → records ≡ earlier ++ last ∷ []
+    → LeadWith script options records (text_so_far script options.mode options.trace earlier)
+rest_lead script options earlier last records all before closed is = (
+  [],
+  ap (λ rs. text_so_far script options.mode options.trace rs) (snoc_front earlier before last closed (sym all ∙ is)) ∙ sym (append-nil (text_so_far script options.mode options.trace before)),
+)
+
+-- so the sink that got these bytes, and any more, has each window but the last
+lead_written : (script : Script) (options : Options) (held holds : Option (List ℕ)) (f f_after : ℕ) (records : List WindowRecord) (bytes more : List ℕ)
+    → LeadWith script options records bytes → Appends held holds (bytes ++ more) → IsWrittenAsClosed script options (written held holds f f_after) records
+lead_written script options held holds f f_after records bytes more leads got before closed is =
+    let own = leads before closed is in
+    (own.0 ++ more, subst (λ t. Appends held holds t) (ap (λ t. t ++ more) own.1 ∙ append_assoc (text_so_far script options.mode options.trace before) own.0 more) got)
+
+-- the same where it got these bytes alone
+lead_whole : (script : Script) (options : Options) (held holds : Option (List ℕ)) (f f_after : ℕ) (records : List WindowRecord) (bytes : List ℕ)
+    → LeadWith script options records bytes → Appends held holds bytes → IsWrittenAsClosed script options (written held holds f f_after) records
+lead_whole script options held holds f f_after records bytes leads got =
+    lead_written script options held holds f f_after records bytes [] leads (subst (λ t. Appends held holds t) (sym (append-nil bytes)) got)
+
 -- a piece was not written: the sink has all before it, and a first part of it
 stopped : {D M : Type 0} (shown : Shown D) (script : Script) (options : Options) (held mid holds : Option (List ℕ)) (f f_mid f_after : ℕ) (home : HomeState D) (windows : Listed WindowRecord) (before : List ℕ) (piece : Result (List ℕ) M) (fault : PieceFault) (day : Option (Day D)) (why : Option Fault)
     → IsUnderWay shown.tag shown.plan shown.stands shown.turns shown.probes shown.faults script options.mode home windows.items
-    → Appends held mid before → f_mid ≡ f
+    → Appends held mid before → LeadWith script options windows.items before → f_mid ≡ f
     → PieceEnds (written mid holds f_mid f_after) piece (Err fault) → StopEnds windows home.devices fault day why
     → (tail : List ℕ) × (text_due script options.mode options.trace windows.items ≡ before ++ tail)
     → ((bytes : List ℕ) → piece ≡ Ok bytes → (rest : List ℕ) × (text_due script options.mode options.trace windows.items ≡ (before ++ bytes) ++ rest))
     → ReplayEnds shown script options (written held holds f f_after) day why
-stopped shown script options held mid holds f f_mid f_after home windows before piece Sink day why under first calm ended stop tail due =
+stopped shown script options held mid holds f f_mid f_after home windows before piece Sink day why under first leads calm ended stop tail due =
     let rest = due ended.0 ended.1 in
     let cut : IsCut shown script options (written held holds f f_after) day = record {
       day = record { windows = windows; devices = Some stop.0 };
@@ -63,10 +101,11 @@ stopped shown script options held mid holds f f_mid f_after home windows before 
       played = under.played;
       probed = subst (λ ds. DevicesAreProbed shown.probes script under.plays ds) (sym stop.1) under.probed;
       text = subst (λ t. AppendsPart held holds t) (sym rest.1) (part_wider held holds (before ++ ended.0) rest.0 (part_more held mid holds before ended.0 first ended.2));
+      as_closed = lead_written script options held holds f f_after windows.items before (take ended.2.0 ended.0) leads (appends_more held mid holds before (take ended.2.0 ended.0) first ended.2.2);
       failed = let late = ended.3 in omega (arith, late, calm);
     } in
     subst (λ (w : Option Fault). ReplayEnds shown script options (written held holds f f_after) day w) (sym stop.3) cut
-stopped shown script options held mid holds f f_mid f_after home windows before piece Memory day why under first calm ended stop tail due =
+stopped shown script options held mid holds f f_mid f_after home windows before piece Memory day why under first leads calm ended stop tail due =
     let starved : IsStarved script options (written held holds f f_after) day = record {
       day = record { windows = windows; devices = None };
       given = stop.0;
@@ -74,6 +113,7 @@ stopped shown script options held mid holds f f_mid f_after home windows before 
       plays = under.plays;
       played = under.played;
       text = subst (λ t. AppendsFirst held holds t) (sym tail.1) (whole_first held holds before tail.0 (appends_keeps held mid holds before first ended.0));
+      as_closed = lead_whole script options held holds f f_after windows.items before leads (appends_keeps held mid holds before first ended.0);
       calm = ended.1 ∙ calm;
     } in
     subst (λ (w : Option Fault). ReplayEnds shown script options (written held holds f f_after) day w) (sym stop.1) starved
@@ -106,7 +146,7 @@ pub head_stopped : {D M : Type 0} (shown : Shown D) (script : Script) (options :
 head_stopped shown script options held holds f f_after home windows piece fault day why are kinds world opened none ok ended stop =
     stopped shown script options held held holds f f f_after home windows [] piece fault day why
     (home_starts shown script options.mode home windows.items are kinds world opened none)
-    (keeps_appends held held (keeps_same held)) refl ended stop
+    (keeps_appends held held (keeps_same held)) (none_leads script options windows.items [] none) refl ended stop
     (text_due script options.mode options.trace windows.items, refl)
     (λ bytes is. (
       after_texts script windows.items,
@@ -140,7 +180,7 @@ pub lines_stopped : {D M : Type 0} (shown : Shown D) (script : Script) (options 
     → ReplayEnds shown script options (written held holds f f_after) day why
 lines_stopped shown script options held mid holds f f_mid f_after home next records windows piece fault day why under gone lines ended stop =
     stopped shown script options held mid holds f f_mid f_after next windows (text_so_far script options.mode options.trace records) piece fault day why
-    gone.under_way under.text under.calm ended stop
+    gone.under_way under.text (rest_lead script options records gone.closed windows.items gone.more) under.calm ended stop
     (own ++ after_texts script windows.items, due ∙ append_assoc (text_so_far script options.mode options.trace records) own (after_texts script windows.items))
     (λ bytes is. (
       after_texts script windows.items,
@@ -164,7 +204,7 @@ pub total_stopped : {D M : Type 0} (shown : Shown D) (script : Script) (options 
     → ReplayEnds shown script options (written held holds f f_after) day why
 total_stopped shown script options held mid holds f f_mid f_after home windows piece fault day why under all ok ended stop =
     stopped shown script options held mid holds f f_mid f_after home windows (text_so_far script options.mode options.trace windows.items) piece fault day why
-    under.under_way under.text under.calm ended stop
+    under.under_way under.text (all_lead script options windows.items) under.calm ended stop
     (after_texts script windows.items, refl)
     (λ bytes is. (
       [],
@@ -210,6 +250,8 @@ starved shown script options held holds f f_after home records windows day why u
       played = subst (λ rs. WindowsArePlayed script options.mode rs under.under_way.plays) (sym same) under.under_way.played;
       text = subst (λ rs. AppendsFirst held holds (text_due script options.mode options.trace rs)) (sym same)
           (whole_first held holds (text_so_far script options.mode options.trace records) (after_texts script records) under.text);
+      as_closed = subst (λ rs. IsWrittenAsClosed script options (written held holds f f_after) rs) (sym same)
+          (lead_whole script options held holds f f_after records (text_so_far script options.mode options.trace records) (all_lead script options records) under.text);
       calm = under.calm;
     } in
     subst (λ (w : Option Fault). ReplayEnds shown script options (written held holds f f_after) day w) (sym because) ends
@@ -226,6 +268,7 @@ unbuilt shown script options held f windows day why none given because =
       plays = [];
       played = subst (λ rs. WindowsArePlayed script options.mode rs []) (sym none) (no_window script options.mode);
       text = (0, keeps_appends held held (keeps_same held));
+      as_closed = lead_whole script options held held f f windows.items [] (none_leads script options windows.items [] none) (keeps_appends held held (keeps_same held));
       calm = refl;
     } in
     subst (λ (w : Option Fault). ReplayEnds shown script options (written held held f f) day w) (sym because) ends

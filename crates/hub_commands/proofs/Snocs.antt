@@ -21,6 +21,24 @@ pub get_last : {X : Type 0} (xs : List X) (x : X) → slice_get (xs ++ x ∷ [])
 get_last [] x = refl
 get_last (y ∷ xs) x = get_last xs x
 
+-- lists with one item more each are the same before it
+pub snoc_front : {X : Type 0} (xs ys : List X) (x y : X) → xs ++ x ∷ [] ≡ ys ++ y ∷ [] → xs ≡ ys
+snoc_front [] [] x y same = refl
+snoc_front [] (z ∷ []) x y same = absurd (cc)
+snoc_front [] (z ∷ w ∷ ys) x y same = absurd (cc)
+snoc_front (w ∷ []) [] x y same = absurd (cc)
+snoc_front (w ∷ v ∷ xs) [] x y same = absurd (cc)
+snoc_front (w ∷ xs) (z ∷ ys) x y same =
+    let first : w ≡ z = cc in
+    let rest : xs ++ x ∷ [] ≡ ys ++ y ∷ [] = cc in
+    let front = snoc_front xs ys x y rest in
+    λ i. first i ∷ front i
+
+-- no list is empty with one item more
+pub no_snoc : {X : Type 0} (xs : List X) (x : X) → [] ≡ xs ++ x ∷ [] → ⊥
+no_snoc [] x none = cc
+no_snoc (y ∷ xs) x none = cc
+
 fold_more : {A X : Type 0} (f : A → X → A) (a : A) (xs : List X) (x : X) → fold f a (xs ++ x ∷ []) ≡ f (fold f a xs) x
 fold_more f a [] x = refl
 fold_more f a (y ∷ xs) x = fold_more f (f a y) xs x

@@ -8,7 +8,8 @@ use Rattle.day_report.specs.Days.{day_text}
 use Rattle.home_types.specs.Limits.{most_script_bytes}
 use Rattle.home_types.specs.Listed.{Listed}
 use Rattle.hub_core.specs.LegalDays.{IsLegalCutDay, IsLegalDay}
-use Rattle.hub_commands.specs.Days.{DevicesAreProbed, WindowsArePlayed, text_due}
+use Rattle.history_book.specs.declared.records.WindowRecord.{WindowRecord}
+use Rattle.hub_commands.specs.Days.{DevicesAreProbed, WindowsArePlayed, text_due, text_so_far}
 use Rattle.hub_commands.specs.declared.faults.Fault.TheVariants.{Check, Later, Memory, Read, Script as Refuses, Words, Write}
 use Rattle.hub_commands.specs.declared.faults.Fault.{Fault}
 use Rattle.hub_commands.specs.declared.finishes.Day.{Day}
@@ -22,7 +23,7 @@ use Rattle.routine_reader.specs.declared.faults.Spot.{Spot}
 use Rattle.routine_reader.specs.declared.scripts.Script.{Script}
 use Rattle.run_replay.specs.Replays.{Play}
 use Rattle.std.specs.Io.KnownBytes.{Appends, IsAtEnd, Keeps}
-use Rattle.std.specs.Prelude.{Err, IfSome, List, None, Ok, Option, Result, Some, [], false, take, true, ℕ, ◌+◌, ◌<◌, ◌≡◌, ◌⊎◌}
+use Rattle.std.specs.Prelude.{Err, IfSome, List, None, Ok, Option, Result, Some, [], false, take, true, ℕ, ◌+◌, ◌++◌, ◌<◌, ◌∷◌, ◌≡◌, ◌⊎◌}
 
 -- what the call does to its source: the bytes to come before and after it, where the source tells them, and its faults
 pub record Reads : Type 0 where
@@ -98,6 +99,15 @@ IsUnwritten sink = Keeps sink.held sink.holds × (sink.faults_after ≡ sink.fau
 abbrev pub AppendsFirst : Option (List ℕ) → Option (List ℕ) → List ℕ → Type 0
 AppendsFirst held holds bytes = (n : ℕ) × Appends held holds (take n bytes)
 
+-- the sink got at least these bytes
+abbrev pub AppendsAtLeast : Option (List ℕ) → Option (List ℕ) → List ℕ → Type 0
+AppendsAtLeast held holds bytes = (more : List ℕ) × Appends held holds (bytes ++ more)
+
+-- each window was written before the next one was played: the sink got at least the text of the windows but the last
+abbrev pub IsWrittenAsClosed : Script → Options → Writes → List WindowRecord → Type 0
+IsWrittenAsClosed script options sink records = (before : List WindowRecord) (closed : WindowRecord) → records ≡ before ++ closed ∷ []
+    → AppendsAtLeast sink.held sink.holds (text_so_far script options.mode options.trace before)
+
 -- the devices of a day, and what they show: whose they are, what they tell, where they stand and how often they were called
 pub record Shown (D : Type 0) : Type 0 where
   pub tag : D → ℕ
@@ -135,6 +145,7 @@ pub record IsCut {D : Type 0} (shown : Shown D) (script : Script) (options : Opt
   pub played : WindowsArePlayed script options.mode day.windows.items plays
   pub probed : DevicesAreProbed shown.probes script plays devices.items
   pub text : AppendsPart sink.held sink.holds (text_due script options.mode options.trace day.windows.items)
+  pub as_closed : IsWrittenAsClosed script options sink day.windows.items
   pub failed : sink.faults < sink.faults_after
 
 -- the day was cut short for want of memory: its windows are legal up to there, no device is handed back, and the sink got a first part of its text
@@ -145,6 +156,7 @@ pub record IsStarved {D : Type 0} (script : Script) (options : Options) (sink : 
   pub plays : List Play
   pub played : WindowsArePlayed script options.mode day.windows.items plays
   pub text : AppendsFirst sink.held sink.holds (text_due script options.mode options.trace day.windows.items)
+  pub as_closed : IsWrittenAsClosed script options sink day.windows.items
   pub calm : sink.faults_after ≡ sink.faults
 
 -- the script was read, and no window of it was played
