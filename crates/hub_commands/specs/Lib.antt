@@ -1,5 +1,6 @@
 pub mod Days
 pub mod Played
 pub mod Statuses
+pub mod FaultTexts
 pub mod Finishes
 pub mod Pieces

@@ -63,6 +63,10 @@ impl Fault {
 }
 
 impl fmt::Display for Fault {
+    ghost use Rattle.hub_commands.specs.FaultTexts.{fault_text};
+
+    ghost output = { λ fault. fault_text fault };
+
     fn fmt<W: fmt::Write>(&self, f: &mut fmt::Formatter<W>) -> fmt::Result {
         match self {
             Fault::Script(fault) => write!(f, "script: {fault}"),
@@ -82,6 +86,11 @@ impl fmt::Display for Fault {
 }
 
 impl fmt::Display for Place {
+    ghost use Rattle.hub_commands.specs.FaultTexts.{place_text};
+    ghost use Rattle.std.specs.Prelude.{Some};
+
+    ghost output = { λ place. Some (place_text place) };
+
     /// Writes a device by its number, since its name stands beside the place.
     fn fmt<W: fmt::Write>(&self, f: &mut fmt::Formatter<W>) -> fmt::Result {
         match self {
