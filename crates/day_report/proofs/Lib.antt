@@ -1,4 +1,3 @@
 pub mod Counts
 pub mod Growing
 pub mod Homes
-pub mod Parts
