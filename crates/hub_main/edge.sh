@@ -74,6 +74,8 @@ words replay --
 words replay --help
 words check --trace
 words trial 01
+words "$(printf 'replay\377')"
+words replay "$(printf '\377')"
 
 call replay --model wv
 ends 8 'later top'
