@@ -7,7 +7,7 @@ use Rattle.device_gate.specs.declared.gates.Place.TheVariants.{Home, Out}
 use Rattle.device_gate.specs.declared.gates.Place.{Place}
 use Rattle.device_gate.specs.declared.slips.Slip.{Slip}
 use Rattle.history_book.proofs.Searches.{each_found, own_devices}
-use Rattle.history_book.specs.Readings.{Reading, is_live, next_command, next_of}
+use Rattle.history_book.specs.Readings.{PlacedAt, Reading, is_live, next_command, next_of}
 use Rattle.history_book.specs.Settings.{Setting, devices_of, is_device}
 use Rattle.history_book.specs.declared.entries.Cause.{Cause}
 use Rattle.history_book.specs.declared.entries.End.TheVariants.{Committed}
@@ -229,16 +229,21 @@ choice_hub {D = D} stands turns probes faults s t r m same k =
 
 -- The last cases, of a run that is under way, by what is kept of it
 
+-- a run with a stamp was placed
+was_placed : (o : Option PlacedAt) → is_some (option_map (λ p. p.stamp) o) ≡ true → is_some o ≡ true
+was_placed None e = absurd (cc)
+was_placed (Some p) e = refl
+
 pub hub_commits : {D : Type 0} (stands turns probes faults : D → ℕ) (s t : OpenHub D) (r m : ℕ) (p : RunProgress) → s ≡ t → HubIsKept stands turns probes faults s
     → true ≡ is_run s.setting.runs r → p ≡ progress_of ((read_of (configuration_of s)).run r) → p.ended ≡ None → None ≡ grip_wait t.setting (configuration_of t).grips r
-    → is_some p.arrived ≡ true → p.placed ≡ true → p.doomed ≡ None → None ≡ next_command s.setting (read_of (configuration_of s)) r
+    → is_some p.arrived ≡ true → is_some p.placed ≡ true → p.doomed ≡ None → None ≡ next_command s.setting (read_of (configuration_of s)) r
     → Over Committed (Ended (run_no r) Committed ∷ []) ≡ choice_of (configuration_of t) r m
 hub_commits {D = D} stands turns probes faults s t r m p same k run known going free there placed sound none =
     case_commits s.setting (read_of (configuration_of s)) (configuration_of s).grips r (max s.moment m) (sym run)
     (ap (λ (x : RunProgress). x.ended) (sym known) ∙ going)
     (free ∙ ap (λ (x : OpenHub D). grip_wait x.setting (configuration_of x).grips r) (sym same))
     (absent ((read_of (configuration_of s)).run r).arrived (ap (λ (x : RunProgress). is_some x.arrived) (sym known) ∙ there))
-    (absent ((read_of (configuration_of s)).run r).placed (ap (λ (x : RunProgress). x.placed) (sym known) ∙ placed))
+    (absent ((read_of (configuration_of s)).run r).placed (was_placed ((read_of (configuration_of s)).run r).placed (ap (λ (x : RunProgress). is_some x.placed) (sym known) ∙ placed)))
     (ap (λ (x : RunProgress). x.doomed) (sym known) ∙ sound)
     none
     ∙ sym (stage_choice_is (configuration_of s) s.rounds s.opened (held_in s) r m k.configuration)
@@ -250,7 +255,7 @@ hub_commits {D = D} stands turns probes faults s t r m p same k run known going 
 
 pub hub_commands : {D : Type 0} (stands turns probes faults : D → ℕ) (s t : OpenHub D) (r m : ℕ) (p : RunProgress) (c : Command) (x : Choice) → s ≡ t → HubIsKept stands turns probes faults s
     → true ≡ is_run s.setting.runs r → p ≡ progress_of ((read_of (configuration_of s)).run r) → p.ended ≡ None → None ≡ grip_wait t.setting (configuration_of t).grips r
-    → is_some p.arrived ≡ true → p.placed ≡ true → p.doomed ≡ None → Some c ≡ next_command s.setting (read_of (configuration_of s)) r
+    → is_some p.arrived ≡ true → is_some p.placed ≡ true → p.doomed ≡ None → Some c ≡ next_command s.setting (read_of (configuration_of s)) r
     → x ≡ stage_command t.setting (read_of (configuration_of t)) (configuration_of t).grips r p.answered c
     → x ≡ choice_of (configuration_of t) r m
 hub_commands {D = D} stands turns probes faults s t r m p c x same k run known going free there placed sound next is =
@@ -258,7 +263,7 @@ hub_commands {D = D} stands turns probes faults s t r m p c x same k run known g
     (ap (λ (y : RunProgress). y.ended) (sym known) ∙ going)
     (free ∙ ap (λ (y : OpenHub D). grip_wait y.setting (configuration_of y).grips r) (sym same))
     (absent ((read_of (configuration_of s)).run r).arrived (ap (λ (y : RunProgress). is_some y.arrived) (sym known) ∙ there))
-    (absent ((read_of (configuration_of s)).run r).placed (ap (λ (y : RunProgress). y.placed) (sym known) ∙ placed))
+    (absent ((read_of (configuration_of s)).run r).placed (was_placed ((read_of (configuration_of s)).run r).placed (ap (λ (y : RunProgress). is_some y.placed) (sym known) ∙ placed)))
     (ap (λ (y : RunProgress). y.doomed) (sym known) ∙ sound)
     next
     (is ∙ ap (λ (y : OpenHub D). stage_command y.setting (read_of (configuration_of y)) (configuration_of y).grips r p.answered c) (sym same) ∙ ap (λ (y : RunProgress). stage_command s.setting (read_of (configuration_of s)) (configuration_of s).grips r y.answered c) known)
@@ -271,7 +276,7 @@ hub_commands {D = D} stands turns probes faults s t r m p c x same k run known g
 
 pub hub_dooms : {D : Type 0} (stands turns probes faults : D → ℕ) (s t : OpenHub D) (r m : ℕ) (p : RunProgress) (cause : Cause) (x : Choice) → s ≡ t → HubIsKept stands turns probes faults s
     → true ≡ is_run s.setting.runs r → p ≡ progress_of ((read_of (configuration_of s)).run r) → p.ended ≡ None → None ≡ grip_wait t.setting (configuration_of t).grips r
-    → is_some p.arrived ≡ true → p.placed ≡ true → p.doomed ≡ Some cause
+    → is_some p.arrived ≡ true → is_some p.placed ≡ true → p.doomed ≡ Some cause
     → x ≡ stage_doomed t.setting (read_of (configuration_of t)) (configuration_of t).grips r cause
     → x ≡ choice_of (configuration_of t) r m
 hub_dooms {D = D} stands turns probes faults s t r m p cause x same k run known going free there placed doomed is =
@@ -279,7 +284,7 @@ hub_dooms {D = D} stands turns probes faults s t r m p cause x same k run known 
     (ap (λ (y : RunProgress). y.ended) (sym known) ∙ going)
     (free ∙ ap (λ (y : OpenHub D). grip_wait y.setting (configuration_of y).grips r) (sym same))
     (absent ((read_of (configuration_of s)).run r).arrived (ap (λ (y : RunProgress). is_some y.arrived) (sym known) ∙ there))
-    (absent ((read_of (configuration_of s)).run r).placed (ap (λ (y : RunProgress). y.placed) (sym known) ∙ placed))
+    (absent ((read_of (configuration_of s)).run r).placed (was_placed ((read_of (configuration_of s)).run r).placed (ap (λ (y : RunProgress). is_some y.placed) (sym known) ∙ placed)))
     (ap (λ (y : RunProgress). y.doomed) (sym known) ∙ doomed)
     (is ∙ ap (λ (y : OpenHub D). stage_doomed y.setting (read_of (configuration_of y)) (configuration_of y).grips r cause) (sym same))
     ∙ sym (stage_choice_is (configuration_of s) s.rounds s.opened (held_in s) r m k.configuration)
@@ -290,10 +295,10 @@ hub_dooms {D = D} stands turns probes faults s t r m p cause x same k run known 
     absent (Some y) e = refl
 
 -- the run is live
-pub hub_is_live : {D : Type 0} (s t : OpenHub D) (r : ℕ) (p : RunProgress) → s ≡ t → p ≡ progress_of ((read_of (configuration_of s)).run r) → p.ended ≡ None → p.placed ≡ true → is_live (read_of (configuration_of t)) r ≡ true
+pub hub_is_live : {D : Type 0} (s t : OpenHub D) (r : ℕ) (p : RunProgress) → s ≡ t → p ≡ progress_of ((read_of (configuration_of s)).run r) → p.ended ≡ None → is_some p.placed ≡ true → is_live (read_of (configuration_of t)) r ≡ true
 hub_is_live {D = D} s t r p same known going placed =
     subst (λ (x : OpenHub D). is_live (read_of (configuration_of x)) r ≡ true) same
-    (λ i. (ap (λ (x : RunProgress). x.placed) (sym known) ∙ placed) i && is_none ((ap (λ (x : RunProgress). x.ended) (sym known) ∙ going) i))
+    (λ i. (was_placed ((read_of (configuration_of s)).run r).placed (ap (λ (x : RunProgress). is_some x.placed) (sym known) ∙ placed)) i && is_none ((ap (λ (x : RunProgress). x.ended) (sym known) ∙ going) i))
 
 -- each device is counted up
 pub hub_is_up : {D : Type 0} (stands turns probes faults : D → ℕ) (s t : OpenHub D) (d : ℕ) → s ≡ t → HubIsKept stands turns probes faults s → is_device t.setting d ≡ true → (read_of (configuration_of t)).up d ≡ true
@@ -331,12 +336,12 @@ pub finished_is : (s : Configuration) (r : ℕ) (cause : Cause) → IsAborting s
 finished_is s r cause ends = ap (undo_by (read_of s) (value_without s.setting (read_of s) s.grips r)) ends.over
 
 -- the run is at its next command
-pub hub_at_command : {D : Type 0} (stands turns probes faults : D → ℕ) (s t : OpenHub D) (r : ℕ) (p : RunProgress) (c : Command) → s ≡ t → HubIsKept stands turns probes faults s → p ≡ progress_of ((read_of (configuration_of s)).run r) → p.ended ≡ None → p.placed ≡ true → p.doomed ≡ None → Some c ≡ next_command s.setting (read_of (configuration_of s)) r
+pub hub_at_command : {D : Type 0} (stands turns probes faults : D → ℕ) (s t : OpenHub D) (r : ℕ) (p : RunProgress) (c : Command) → s ≡ t → HubIsKept stands turns probes faults s → p ≡ progress_of ((read_of (configuration_of s)).run r) → p.ended ≡ None → is_some p.placed ≡ true → p.doomed ≡ None → Some c ≡ next_command s.setting (read_of (configuration_of s)) r
     → IsAtCommand (configuration_of t) r p.answered × (command_at t.setting.runs r p.answered ≡ c)
 hub_at_command {D = D} stands turns probes faults s t r p c same k known going placed sound next =
     subst (λ (x : OpenHub D). IsAtCommand (configuration_of x) r p.answered × (command_at x.setting.runs r p.answered ≡ c)) same (
       record {
-        live = λ i. (ap (λ (x : RunProgress). x.placed) (sym known) ∙ placed) i && is_none ((ap (λ (x : RunProgress). x.ended) (sym known) ∙ going) i);
+        live = λ i. (was_placed ((read_of (configuration_of s)).run r).placed (ap (λ (x : RunProgress). is_some x.placed) (sym known) ∙ placed)) i && is_none ((ap (λ (x : RunProgress). x.ended) (sym known) ∙ going) i);
         sound = ap is_some (ap (λ (x : RunProgress). x.doomed) (sym known) ∙ sound);
         next = sym (ap (λ (x : RunProgress). x.answered) known);
         command = subst (λ y. y < length (commands_of s.setting.runs r)) (sym (ap (λ (x : RunProgress). x.answered) known)) there.0;

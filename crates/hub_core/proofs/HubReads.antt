@@ -1,5 +1,6 @@
 -- A history with one entry more, and what is kept beside it.
 use Rattle.command_rules.specs.Rosters.{Run, command_at, is_run}
+use Rattle.history_book.proofs.Counts.{size_is}
 use Rattle.history_book.proofs.Snoc.{entries_on, put_keeps, put_other, put_same, reading_more}
 use Rattle.history_book.specs.Histories.{answered, entries_of, entry, reading}
 use Rattle.history_book.specs.Plans.{planned_times, split_of}
@@ -19,7 +20,7 @@ use Rattle.hub_core.specs.OpenHubs.{progress_of}
 use Rattle.hub_core.specs.ReadHistories.{HistoryState, IsReadBeside, read_in}
 use Rattle.hub_core.specs.declared.known.RunProgress.{RunProgress}
 use Rattle.std.proofs.Common.{ap, arith, inl, inr, refl, sym, ◌∙◌, ◌⊎◌}
-use Rattle.std.proofs.lemmas.List.{length-append, length-set}
+use Rattle.std.proofs.lemmas.List.{length-append, length-map, length-set}
 use Rattle.std.proofs.lemmas.Option.{slice_get_within}
 use Rattle.std.specs.Prelude.{Bool, IsTrue, List, None, Option, Some, [], is_none, is_some, length, not, slice_get, slice_set, suc, true, zero, ℕ, ◌++◌, ◌+◌, ◌-◌, ◌<◌, ◌∷◌, ◌≡◌, ◌≢◌, ◌≤◌, ◌||◌}
 
@@ -178,14 +179,18 @@ pub places_beside : (w : Setting) (h h₂ : List Kept) (n n₂ maker at m : ℕ)
     → IsReadBeside (record { setting = w; history = h; spare = n }) progress
     → IsTrue (is_run w.runs r.0) → slice_get progress (r.0 - 1) ≡ Some p
     → h₂ ≡ h ++ record { maker = maker; entry = Placed r at m } ∷ [] → n₂ + 1 ≡ n
-    → IsReadBeside (record { setting = w; history = h₂; spare = n₂ }) (slice_set progress (r.0 - 1) (record p { placed = true }))
+    → IsReadBeside (record { setting = w; history = h₂; spare = n₂ }) (slice_set progress (r.0 - 1) (record p { placed = Some (length h) }))
 places_beside w h h₂ n n₂ maker at m r progress p k run here more left =
-    entry_kept w h h₂ n n₂ maker r.0 (Placed r at m) progress (record p { placed = true }) k run more
-    (ap (λ (x : RunProgress). record x { placed = true }) (progress_is _ progress r.0 p k run here) ∙ ap progress_of (sym (put_same read.run r.0 placed_run)))
+    entry_kept w h h₂ n n₂ maker r.0 (Placed r at m) progress (record p { placed = Some (length h) }) k run more
+    (ap (λ (x : RunProgress). record x { placed = Some (length h) }) (progress_is _ progress r.0 p k run here) ∙ (λ i. record (progress_of (read.run r.0)) { placed = Some (stamp i) }) ∙ ap progress_of (sym (put_same read.run r.0 placed_run)))
     (λ q other. put_other read.run r.0 placed_run q other)
   where
     read : Reading
     read = reading w (entries_of h)
+
+    -- as many entries as the reading has counted
+    stamp : length h ≡ read.size
+    stamp = sym (size_is w (entries_of h) ∙ length-map h (λ (x : Kept). x.entry))
 
     placed_run : OfRun
     placed_run = record (read.run r.0) { placed = Some (record { place = at; moment = m; stamp = read.size }); planned = planned_times w read r.0 (split_of w read r.0 at m).front m }

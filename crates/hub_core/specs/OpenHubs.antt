@@ -11,7 +11,7 @@ use Rattle.hub_core.specs.declared.known.RunProgress.{RunProgress}
 use Rattle.hub_core.specs.declared.purposes.Purpose.TheVariants.{Command, Probe, Undo}
 use Rattle.hub_core.specs.declared.purposes.Purpose.{Purpose as KeptPurpose}
 use Rattle.lock_leasing.specs.Configurations.{Commands, Configuration, Grip, Probes, Purpose, Undoes}
-use Rattle.std.specs.Prelude.{List, None, Option, Some, is_some, length, slice_get, slice_index_or, ℕ}
+use Rattle.std.specs.Prelude.{List, None, Option, Some, length, option_map, slice_get, slice_index_or, ℕ}
 
 -- what a hub shows: what is fixed, the rounds of probes and how many windows were opened before, the history and the last moment, what is known of each device, and its place
 pub record OpenHub (D : Type 0) : Type 0 where
@@ -69,4 +69,4 @@ held_in s d = (device_at s.devices d).held
 
 -- what a reading says of a run, in short
 abbrev pub progress_of : OfRun → RunProgress
-progress_of o = record { arrived = o.arrived; placed = is_some o.placed; answered = length o.answers; register = o.register; doomed = o.doomed; ended = o.ended }
+progress_of o = record { arrived = o.arrived; placed = option_map (λ p. p.stamp) o.placed; answered = length o.answers; register = o.register; doomed = o.doomed; ended = o.ended }

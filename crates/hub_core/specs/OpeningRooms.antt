@@ -17,7 +17,7 @@ use Rattle.std.specs.Prelude.{List, None, Some, [], false, length, replicate, sl
 
 -- nothing has happened to a run
 abbrev pub no_progress : RunProgress
-no_progress = record { arrived = None; placed = false; answered = 0; register = 0; doomed = None; ended = None }
+no_progress = record { arrived = None; placed = None; answered = 0; register = 0; doomed = None; ended = None }
 
 -- no entry and no progress of so many runs, with room for all entries of the runs
 pub record IsHistoryRoom (runs : ℕ) (book : Listed Kept) (progress : List RunProgress) : Type 0 where

@@ -59,7 +59,7 @@ impl<D: Device> Hub<D> {
         if progress.arrived.is_none() {
             return Chosen::Arrives;
         }
-        if !progress.placed {
+        if progress.placed.is_none() {
             return Chosen::Joins;
         }
         if let Some(cause) = progress.doomed {

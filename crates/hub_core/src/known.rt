@@ -7,7 +7,8 @@ use home_types::Value;
 pub struct RunProgress {
     /// The moment when it arrived, in ms.
     pub arrived: Option<u64>,
-    pub placed: bool,
+    /// The stamp of its placement: how many entries the history had. A run that was placed later has a greater one.
+    pub placed: Option<u64>,
     /// How many of its commands are answered.
     pub answered: u32,
     /// What its last load found.

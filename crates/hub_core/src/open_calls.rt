@@ -185,7 +185,7 @@ fn no_progress(alloc: Global, runs: u64) -> Result<List<RunProgress>, NoMemory>
     'runs: for _ in 0..runs {
         progress.push(RunProgress {
             arrived: None,
-            placed: false,
+            placed: None,
             answered: 0,
             register: 0,
             doomed: None,

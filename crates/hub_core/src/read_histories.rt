@@ -219,11 +219,12 @@ impl ReadHistory {
     {
         let entry = Entry::Placed(r, items, moment);
         let at = r.0 as u64 - 1;
+        let stamp = self.book.len();
         let progress = *self.progress.get(at).unwrap();
         self.progress.set(
             at,
             RunProgress {
-                placed: true,
+                placed: Some(stamp),
                 ..progress
             },
         );
