@@ -12,7 +12,7 @@ use Rattle.lock_leasing.specs.Waits.{grip_wait}
 use Rattle.std.proofs.Common.{ap, arith, inl, inr, refl, subst, sym, ◌∙◌}
 use Rattle.std.proofs.lemmas.Grind.{common_steps}
 use Rattle.std.proofs.lemmas.List.{length-replicate, length-set}
-use Rattle.std.specs.Prelude.{List, None, Option, Some, [], false, if◌then◌else◌, length, option_map, replicate, slice_get, slice_set, suc, true, unwrap_or, zero, ℕ, ⊤, ◌-◌, ◌<◌, ◌==◌, ◌≡◌, ◌≢◌}
+use Rattle.std.specs.Prelude.{List, None, Option, Some, false, if◌then◌else◌, length, option_map, replicate, slice_get, slice_set, suc, true, unwrap_or, zero, ℕ, ⊤, ◌-◌, ◌<◌, ◌==◌, ◌≡◌, ◌≢◌}
 use Rattle.window_order.proofs.Grips.{HoldsNone, none_left}
 use Rattle.lock_leasing.specs.Places.{GripsFit}
 

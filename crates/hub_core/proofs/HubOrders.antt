@@ -13,6 +13,7 @@ use Rattle.history_book.specs.declared.entries.End.TheVariants.{Aborted, Committ
 use Rattle.history_book.specs.declared.entries.Entry.TheVariants.{Arrived, Ended, Placed}
 use Rattle.history_book.specs.declared.entries.Entry.{Entry}
 use Rattle.history_book.specs.declared.entries.Kept.{Kept}
+use Rattle.home_types.specs.declared.commands.Command.{Command}
 use Rattle.home_types.specs.declared.items.Item.TheVariants.{Ran}
 use Rattle.hub_core.proofs.Hands.{hand_goes}
 use Rattle.hub_core.proofs.HubChanges.{Ending, Going, IsEntered, Making, entered_whole, entry_made, making}
@@ -38,13 +39,14 @@ use Rattle.lineage_table.specs.Accesses.{IsDisciplined}
 use Rattle.lineage_table.specs.Lineages.{LineageState, accesses_at, committed_lineage, lineage_at, removed, undone, with_lineage}
 use Rattle.lock_leasing.specs.Configurations.{Commands, Configuration, Grip, Grips, Probes, Purpose, Undoes, is_command, is_undo, read_of}
 use Rattle.lock_leasing.specs.Standings.{IsRosterFor, IsStandingOf}
-use Rattle.serial_line.specs.Marks.{Mark, Marked, stands, touching, with_item, without}
+use Rattle.serial_line.specs.Marks.{Mark, Marked, items_of, stands, touching, with_item, without}
 use Rattle.std.proofs.Common.{ap, ap₂, arith, length-append, refl, subst, sym, ◌∙◌}
 use Rattle.std.proofs.lemmas.Grind.{common_steps}
 use Rattle.std.proofs.lemmas.List.{length-map}
-use Rattle.std.proofs.lemmas.Option.{slice_get_within}
-use Rattle.std.specs.Prelude.{Bool, List, None, Option, Some, [], false, if◌then◌else◌, is_none, is_some, length, max, nat_lt, option_map, slice_get, true, unwrap_or, ℕ, ◌&&◌, ◌*◌, ◌++◌, ◌+◌, ◌-◌, ◌<◌, ◌==◌, ◌∷◌, ◌≡◌, ◌≤◌}
-use Rattle.window_order.proofs.PlacedTables.{new_on}
+use Rattle.std.proofs.lemmas.Option.{slice_get-get_or, slice_get_within}
+use Rattle.std.specs.List.{All}
+use Rattle.std.specs.Prelude.{Bool, List, None, Option, Some, [], drop, false, get_or, if◌then◌else◌, is_none, is_some, length, max, nat_lt, option_map, slice_get, true, unwrap_or, ℕ, ◌&&◌, ◌*◌, ◌++◌, ◌+◌, ◌-◌, ◌<◌, ◌==◌, ◌∷◌, ◌≡◌, ◌≤◌}
+use Rattle.window_order.proofs.PlacedTables.{new_at_end, none_wrote_behind}
 use Rattle.window_order.proofs.Promises.{order_stands}
 use Rattle.window_order.proofs.ReadFacts.{IsRead, read_facts}
 use Rattle.window_order.proofs.Representing.{represents}
@@ -115,15 +117,20 @@ line_place h r m e c is k =
     let room : 132 * length h.history.setting.runs ≤ h.order.line.spare + length h.history.history = k.order.room in
     omega (arith, fits, long, room)
 
--- a run that may be placed does not stand in the line, and is new on each of its devices
-pub record MayJoin (w : Setting) (r : ℕ) (marks : List Mark) (table : List LineageState) : Type 0 where
+-- a run that may be placed here has its devices in the home, does not stand in the line, and is new on each of its devices
+pub record MayJoin (w : Setting) (r at : ℕ) (marks : List Mark) (table : List LineageState) : Type 0 where
+  pub few : length table ≤ 256
+  pub homed : All (λ (c : Command). c.device.0 < length table) (commands_of w.runs r)
   pub absent : stands (Ran (run_no r)) marks ≡ false
-  pub new : (d : ℕ) → d < length table → touches w.runs r d ≡ true → IsNewOn r (lineage_at table d)
+  pub new : (d : ℕ) → d < length table → touches w.runs r d ≡ true → IsNewOn r (drop at (items_of marks)) (lineage_at table d)
 
-pub may_join : (w : Setting) (n : Reading) (g : Grips) (r m : ℕ) (marks : List Mark) (table : List LineageState) → IsRead w n → may_follow w n (Placed (run_no r) (length n.line) m) ≡ true → MarksAreKept n g marks → TableIsKept w n g table → MayJoin w r marks table
-may_join w n g r m marks table read may line_is table_is = record {
+-- .. as it may at the end of the line
+pub may_join : (w : Setting) (n : Reading) (g : Grips) (r m : ℕ) (marks : List Mark) (table : List LineageState) → IsRead w n → IsRosterFor (length w.first) w.runs → may_follow w n (Placed (run_no r) (length n.line) m) ≡ true → MarksAreKept n g marks → TableIsKept w n g table → MayJoin w r (length n.line) marks table
+may_join w n g r m marks table read allowed may line_is table_is = record {
+  few = subst (λ k. k ≤ 256) (sym table_is.devices) allowed.few_devices;
+  homed = λ k c within. subst (λ x. (get_or (commands_of w.runs r) k c).device.0 < x) (sym table_is.devices) (allowed.homed r k (get_or (commands_of w.runs r) k c) (slice_get-get_or (commands_of w.runs r) k c within));
   absent = unplaced_absent w n g r marks read none line_is;
-  new = λ d lt used. new_on w n g r m read may d (lineage_at table d) used (table_is.each d (subst (λ x. d < x) table_is.devices lt));
+  new = λ d lt used. subst (λ is. IsNewOn r (drop (length n.line) is) (lineage_at table d)) (sym line_is.items) (new_at_end w n g r m read may d (lineage_at table d) used (table_is.each d (subst (λ x. d < x) table_is.devices lt)));
 }
   where
     none : is_none (n.run r).placed ≡ true
@@ -131,20 +138,20 @@ may_join w n g r m marks table read may line_is table_is = record {
 
 -- .. as the step of the hub does
 pub hub_joins : {D : Type 0} {stands turns probes faults : D → ℕ} (h : Inside D) (r m : ℕ) → choice_of (configuration_of (open_of h)) r m ≡ Moves (Placed (run_no r) (length (read_in h.history).line) (max h.moment m) ∷ [])
-    → IsWhole stands turns probes faults h → MayJoin h.history.setting r h.order.line.marks h.order.table
+    → IsWhole stands turns probes faults h → MayJoin h.history.setting r (length (read_in h.history).line) h.order.line.marks h.order.table
 hub_joins h r m is k =
-    may_join h.history.setting (read_in h.history) _ r (max h.moment m) h.order.line.marks h.order.table (read_whole h k)
+    may_join h.history.setting (read_in h.history) _ r (max h.moment m) h.order.line.marks h.order.table (read_whole h k) (roster_allowed h.history.setting h.rounds h.opened k.shown.configuration.opens)
     (last_follows h.history.setting h.history.history r (Placed (run_no r) (length (read_in h.history).line) (max h.moment m)) (entry_made _ _ _ _ (open_of h) r m _ Going is k.shown).configuration.history.well_formed) k.order.line_is k.order.table_is
 
 -- the run stands at the end of the line, and is scheduled on its devices
 pub record IsJoined {D : Type 0} (h t : Inside D) (r m : ℕ) : Type 0 where
-  pub marks : t.order.line.marks ≡ with_item (length h.order.line.marks) (Ran (run_no r)) h.order.line.marks
+  pub marks : t.order.line.marks ≡ with_item (length (read_in h.history).line) (Ran (run_no r)) h.order.line.marks
   pub spare : t.order.line.spare + 1 ≡ h.order.line.spare
-  pub table : ChangesEach (scheduled_on h.history.setting.runs r (planned_in_turn (max h.moment m) (commands_of h.history.setting.runs r))) h.order.table t.order.table
+  pub table : ChangesEach (scheduled_on h.history.setting.runs r (planned_in_turn (max h.moment m) (commands_of h.history.setting.runs r)) (drop (length (read_in h.history).line) (items_of h.order.line.marks))) h.order.table t.order.table
 
 pub joins_whole : {D : Type 0} {stands turns probes faults : D → ℕ} (h t : Inside D) (r m : ℕ) → IsEntered h t r m (Placed (run_no r) (length (read_in h.history).line) (max h.moment m)) Going → IsJoined h t r m → IsWhole stands turns probes faults h → IsWhole stands turns probes faults t
 joins_whole h t r m enters joined k = entered_whole h t r m _ Going enters (λ formed.
-    order_placed h.history _ _ r (max h.moment m) h.order.line t.order.line h.order.table t.order.table (read_whole h k) k.shown.configuration.order.grips k.shown.configuration.stage.scheduler refl formed joined.marks joined.spare joined.table k.order) k
+    order_placed h.history _ _ r (length (read_in h.history).line) (max h.moment m) h.order.line t.order.line h.order.table t.order.table (read_whole h k) k.shown.configuration.order.grips k.shown.configuration.stage.scheduler (none_wrote_behind h.history.setting (read_in h.history) r) refl formed joined.marks joined.spare joined.table k.order) k
 
 -- A run ends
 

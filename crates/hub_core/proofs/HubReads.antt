@@ -34,7 +34,7 @@ get_set (x ∷ xs) (suc i) zero y h = inr ((λ e. absurd (omega arith)), refl)
 get_set (x ∷ xs) (suc i) (suc j) y h =
     elim (get_set xs i j y (omega arith)) [ inl p ↦ inl (ap (λ n. suc n) p.0, p.1) | inr e ↦ inr ((λ z. e.0 (omega arith)), e.1) ]
 
-some_is : {A : Type 0} (x y : A) → Some x ≡ Some y → x ≡ y
+pub some_is : {A : Type 0} (x y : A) → Some x ≡ Some y → x ≡ y
 some_is x y e = cc
 
 -- a run has a number from 1 on, and a place in the roster

@@ -30,6 +30,8 @@ pub mod HubOuts
 pub mod HubReturns
 pub mod HubRefusals
 pub mod PlannedInTurn
+pub mod PlannedUses
+pub mod Scheduling
 pub mod NotedAnswers
 pub mod PassedRuns
 pub mod OrderSteps

@@ -13,6 +13,7 @@ use Rattle.history_book.specs.declared.entries.Kept.{Kept}
 use Rattle.home_types.specs.declared.commands.Answer.{Answer}
 use Rattle.home_types.specs.declared.commands.View.{View}
 use Rattle.home_types.specs.declared.items.Item.TheVariants.{Ran}
+use Rattle.home_types.specs.declared.items.Item.{Item}
 use Rattle.home_types.specs.declared.modes.Scheduler.TheVariants.{Fcfs}
 use Rattle.hub_core.proofs.PlannedInTurn.{planned_first_come}
 use Rattle.hub_core.specs.HubCalls.{entries_of_a_run}
@@ -23,10 +24,10 @@ use Rattle.lineage_table.specs.Accesses.{is_scheduled, status_of}
 use Rattle.lineage_table.specs.Lineages.{IsOpened, LineageState, committed_lineage, lineage_at, removed, undone, with_lineage}
 use Rattle.lineage_table.specs.declared.accesses.Status.TheVariants.{Acquired, Scheduled}
 use Rattle.lock_leasing.specs.Configurations.{Commands, Grip, Grips, Purpose, Undoes, grips_command, is_command, no_grips}
-use Rattle.serial_line.specs.Marks.{Mark, Marked, is_ran, touching, with_item, with_touch, without}
+use Rattle.serial_line.specs.Marks.{Mark, Marked, is_ran, items_of, touching, untouched, with_item, with_touch, without}
 use Rattle.std.proofs.Common.{ap, arith, cond, length-append, refl, subst, sym, ◌∙◌}
-use Rattle.std.proofs.lemmas.List.{length-map}
-use Rattle.std.specs.Prelude.{Bool, IsTrue, List, None, Option, Some, [], false, if◌then◌else◌, length, not, option_map, suc, true, unwrap_or, ℕ, ◌&&◌, ◌*◌, ◌++◌, ◌+◌, ◌<◌, ◌==◌, ◌∷◌, ◌≡◌, ◌≤◌}
+use Rattle.std.proofs.lemmas.List.{length-map, take-append-drop}
+use Rattle.std.specs.Prelude.{Bool, IsTrue, List, None, Option, Some, [], drop, false, if◌then◌else◌, length, not, option_map, suc, take, true, unwrap_or, ℕ, ◌&&◌, ◌*◌, ◌++◌, ◌+◌, ◌<◌, ◌==◌, ◌∷◌, ◌≡◌, ◌≤◌}
 use Rattle.window_order.proofs.AnsweredTables.{TouchesNow}
 use Rattle.window_order.proofs.PlacedTables.{arrived_table, opened_table}
 use Rattle.window_order.proofs.ReadFacts.{IsRead}
@@ -37,7 +38,7 @@ use Rattle.window_order.proofs.TableSteps.{aborted_table, answered_table, change
 use Rattle.window_order.specs.MarksKept.{MarksAreKept}
 use Rattle.window_order.proofs.TouchedLines.{marks_aborted, marks_answered, marks_arrived, marks_begin, marks_committed, marks_doomed, marks_out, marks_placed, marks_undo_home, marks_undo_out, marks_undone}
 use Rattle.window_order.specs.OrderKept.{OrderIsKept}
-use Rattle.window_order.specs.TableChanges.{ChangesEach, answered_change, answered_lineage, doomed_lineage, is_done_there, scheduled_on, told_write, undone_change}
+use Rattle.window_order.specs.TableChanges.{ChangesEach, NoneWroteBehind, answered_change, answered_lineage, doomed_lineage, is_done_there, placed_change, scheduled_on, told_write, undone_change}
 use Rattle.window_order.specs.TableKept.{TableIsKept}
 use Rattle.lock_leasing.specs.Tables.{view_when}
 use Rattle.history_book.specs.Readings.{is_told}
@@ -84,21 +85,22 @@ order_arrived h h₂ g r m line table new kept = entry_kept h h₂ g r (Arrived 
 
 -- A run is placed
 
-length_with : (marks : List Mark) (r : ℕ) → length (with_item (length marks) (Ran (run_no r)) marks) ≡ length marks + 1
-length_with [] r = refl
-length_with (m ∷ marks) r = ap suc (length_with marks r) ∙ next (length marks)
-  where
-    next : (k : ℕ) → suc (k + 1) ≡ suc k + 1
-    next k = omega arith
+length_with : (at : ℕ) (x : Item) (marks : List Mark) → length (with_item at x marks) ≡ length marks + 1
+length_with at x marks =
+    let after : length (with_item at x marks) ≡ length (take at marks) + suc (length (drop at marks)) = length-append (take at marks) (untouched x ∷ drop at marks) in
+    let before : length (take at marks ++ drop at marks) ≡ length (take at marks) + length (drop at marks) = length-append (take at marks) (drop at marks) in
+    let whole : length (take at marks ++ drop at marks) ≡ length marks = ap length (take-append-drop at marks) in
+    omega (arith, after, before, whole)
 
-pub order_placed : (h h₂ : HistoryState) (g : Grips) (r m : ℕ) (line after : Marked) (table later : List LineageState) → IsRead h.setting (read_in h) → GripsFit h.setting (read_in h) g → h.setting.mode.scheduler ≡ Fcfs
-    → h₂ ≡ with_entry h r (Placed (run_no r) (length (read_in h).line) m) → IsWellFormed h₂.setting (entries_of h₂.history)
-    → after.marks ≡ with_item (length line.marks) (Ran (run_no r)) line.marks → after.spare + 1 ≡ line.spare → ChangesEach (scheduled_on h.setting.runs r (planned_in_turn m (commands_of h.setting.runs r))) table later
+-- .. where no committed run behind its place has written one of its devices
+pub order_placed : (h h₂ : HistoryState) (g : Grips) (r at m : ℕ) (line after : Marked) (table later : List LineageState) → IsRead h.setting (read_in h) → GripsFit h.setting (read_in h) g → h.setting.mode.scheduler ≡ Fcfs → NoneWroteBehind h.setting (read_in h) r at
+    → h₂ ≡ with_entry h r (Placed (run_no r) at m) → IsWellFormed h₂.setting (entries_of h₂.history)
+    → after.marks ≡ with_item at (Ran (run_no r)) line.marks → after.spare + 1 ≡ line.spare → ChangesEach (scheduled_on h.setting.runs r (planned_in_turn m (commands_of h.setting.runs r)) (drop at (items_of line.marks))) table later
     → OrderIsBeside h g line table → OrderIsBeside h₂ g after later
-order_placed h h₂ g r m line after table later read fit first_come new formed marks spare changes kept = entry_kept h h₂ g r (Placed (run_no r) (length (read_in h).line) m) after later new (record {
-  table_is = placed_table w n g r m table later read may (subst (λ planned. ChangesEach (scheduled_on w.runs r planned) table later) (sym (planned_first_come w n r n.line m first_come)) changes) kept.table_is;
-  line_is = subst (MarksAreKept (entry w n (Placed (run_no r) (length n.line) m)) g) (sym marks) (marks_placed w n g r m line.marks read fit may kept.line_is);
-  short = let size = ap (λ (x : List Mark). length x) marks ∙ length_with line.marks r in omega (arith, size, kept.short);
+order_placed h h₂ g r at m line after table later read fit first_come clear new formed marks spare changes kept = entry_kept h h₂ g r (Placed (run_no r) at m) after later new (record {
+  table_is = placed_table w n g r at m table later read may clear changed kept.table_is;
+  line_is = subst (MarksAreKept (entry w n (Placed (run_no r) at m)) g) (sym marks) (marks_placed w n g r at m line.marks read fit may kept.line_is);
+  short = let size = ap (λ (x : List Mark). length x) marks ∙ length_with at (Ran (run_no r)) line.marks in omega (arith, size, kept.short);
   room = omega (arith, spare, kept.room);
 })
   where
@@ -108,8 +110,13 @@ order_placed h h₂ g r m line after table later read fit first_come new formed 
     n : Reading
     n = read_in h
 
-    may : may_follow w n (Placed (run_no r) (length n.line) m) ≡ true
-    may = last_follows w h.history r (Placed (run_no r) (length n.line) m) (subst (λ (x : HistoryState). IsWellFormed x.setting (entries_of x.history)) new formed)
+    may : may_follow w n (Placed (run_no r) at m) ≡ true
+    may = last_follows w h.history r (Placed (run_no r) at m) (subst (λ (x : HistoryState). IsWellFormed x.setting (entries_of x.history)) new formed)
+
+    -- first come first served its plan is the same behind any items
+    changed : ChangesEach (placed_change w n r at m) table later
+    changed = subst (λ planned. ChangesEach (scheduled_on w.runs r planned (drop at n.line)) table later) (sym (planned_first_come w n r (take at n.line) m first_come))
+        (subst (λ is. ChangesEach (scheduled_on w.runs r (planned_in_turn m (commands_of w.runs r)) (drop at is)) table later) kept.line_is.items changes)
 
 -- A run commits
 

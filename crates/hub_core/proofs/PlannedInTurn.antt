@@ -12,13 +12,7 @@ use Rattle.home_types.specs.declared.modes.Visibility.{Visibility}
 use Rattle.hub_core.specs.PlansInTurn.{planned_in_turn}
 use Rattle.std.proofs.Common.{append-nil, append_assoc, arith, sym, ◌∙◌}
 use Rattle.std.proofs.lemmas.Grind.{common_steps}
-use Rattle.std.specs.Prelude.{List, [], fold, if◌then◌else◌, max, min, ℕ, ◌++◌, ◌+◌, ◌==◌, ◌∷◌, ◌≡◌}
-
--- the planned end on the device behind these, where it is this one before them
-abbrev pub end_from : ℕ → ℕ → List Planned → ℕ
-end_from d end planned = fold (λ t p. if p.device == d then p.to else t) end planned
-
--- In the planned times of a run
+use Rattle.std.specs.Prelude.{List, [], fold, max, min, ℕ, ◌++◌, ◌+◌, ◌∷◌, ◌≡◌}
 
 -- planning one command after the other from a clock adds what they have in turn
 planned_from : (clock : ℕ) (planned : List Planned) (cs : List Command) → (fold (plan_more (λ d. 0)) (record { clock = clock; planned = planned }) cs).planned ≡ planned ++ planned_in_turn clock cs

@@ -10,7 +10,7 @@ use Rattle.lock_leasing.specs.Configurations.{Grips, no_grips}
 use Rattle.lock_leasing.specs.Words.{has_effect, is_overdue, lease_deadline, live_before, overdue_for, stamp_of}
 use Rattle.std.proofs.Common.{arith, refl, sym, ◌∙◌}
 use Rattle.std.proofs.lemmas.Grind.{common_steps}
-use Rattle.std.specs.Prelude.{Some, [], false, if◌then◌else◌, nat_lt, not, true, ℕ, ◌&&◌, ◌≡◌}
+use Rattle.std.specs.Prelude.{Some, false, if◌then◌else◌, nat_lt, not, true, ℕ, ◌&&◌, ◌≡◌}
 
 overdue_any_grips : (w : Setting) (n : Reading) (g g' : Grips) (r d m x : ℕ) → is_overdue w n g r d m x ≡ is_overdue w n g' r d m x
 overdue_any_grips w n g g' r d m x = elim (is_doomed n x) as (λ b.

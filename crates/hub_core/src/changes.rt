@@ -109,16 +109,16 @@ impl<D: Steady> Hub<D> {
         one_made(self.history.arrive(r, self.moment))
     }
 
-    /// The run is placed at the end of the line.
+    /// The run is placed where the scheduler says, and the entry, the line and the table are told that place.
     pub(crate) fn place(&mut self, r: RunNo, moment: u64) -> Made
         requires { choice_of (configuration_of self.old) r.0 moment ≡ told_choice r.0 (max self.old.moment moment) (read_of (configuration_of self.old)) Chosen.Joins }
         ensures answer { Answers self.old r.0 moment (Moves (entries_made result)) self.new }
         ensures window { SameWindow self.old self.new }
     {
-        let items = place(&self.standing(), r);
+        let at = place(&self.standing(), r);
         self.moment = self.moment.max(moment);
-        self.order.join(self.history.roster(), r, self.moment);
-        one_made(self.history.place(r, items, self.moment))
+        self.order.join(self.history.roster(), r, at, self.moment);
+        one_made(self.history.place(r, at, self.moment))
     }
 
     /// The run commits.

@@ -1,5 +1,6 @@
 //! The serialization line of a window and its lineage table.
-ghost use Rattle.std.specs.Prelude.{◌≡◌, ◌+◌, ◌<◌, ◌≤◌, ◌^◌, [], IfOk, IsTrue, Some, false, if◌then◌else◌, length, true, ℕ};
+ghost use Rattle.std.specs.Prelude.{◌≡◌, ◌+◌, ◌<◌, ◌≤◌, ◌^◌, [], IfOk, IsTrue, None, Some, drop, false, if◌then◌else◌, length, true, ℕ, ◌∷◌};
+ghost use Rattle.std.specs.List.{All};
 ghost use Rattle.abort_rollback.specs.Undos.{next_undo};
 ghost use Rattle.command_rules.specs.Rosters.{commands_of, is_run, runs_of, touches};
 ghost use Rattle.home_types.specs.Limits.{most_devices};
@@ -10,10 +11,10 @@ ghost use Rattle.hub_core.specs.PlansInTurn.{planned_in_turn};
 ghost use Rattle.lineage_table.specs.Accesses.{status_of};
 ghost use Rattle.lineage_table.specs.Lineages.{IsOpened, accesses_at, committed_lineage, lineage_at, removed, undone, with_lineage};
 ghost use Rattle.lock_leasing.specs.Configurations.{is_command, is_undo};
-ghost use Rattle.serial_line.specs.Marks.{stands, touching, with_item, without};
-ghost use Rattle.window_order.specs.TableChanges.{ChangesEach, IsNewOn, doomed_lineage, scheduled_on, written_if};
+ghost use Rattle.serial_line.specs.Marks.{items_of, stands, touching, with_item, without};
+ghost use Rattle.window_order.specs.TableChanges.{ChangesEach, IsNewOn, doomed_lineage, first_with_access, scheduled_on, written_if};
 
-use crate::plans::{end_on, start_on};
+use crate::plans::{PlannedUse, planned_uses};
 use crate::purposes::Purpose;
 use crate::releases::{pass_before, release_all};
 use abort_rollback::{Undo, withdraw};
@@ -65,19 +66,23 @@ impl KeptOrder {
         Ok(KeptOrder { line, table })
     }
 
-    /// The run stands at the end of the line, and has an access on each of its devices, with the times for which it is
-    /// planned at this moment. Takes no memory.
-    pub(crate) fn join(&mut self, roster: &Roster, r: RunNo, moment: u64)
+    /// The run stands at this place in the line, counted from 0, and has an access on each of its devices, with the times
+    /// for which it is planned at this moment. There it stands before the first access of a run behind it. Takes no
+    /// memory.
+    pub(crate) fn join(&mut self, roster: &Roster, r: RunNo, at: u32, moment: u64)
         requires run { IsTrue (is_run (runs_of roster.now) r.0) }
+        requires few { length self.old.table ≤ 256 }
+        requires homed { All (λ c. c.device.0 < length self.old.table) (commands_of (runs_of roster.now) r.0) }
         requires room { 0 < self.old.line.spare }
+        requires place { at ≤ length self.old.line.marks }
         requires absent { stands (Ran r) self.old.line.marks ≡ false }
-        requires new { (d : ℕ) → d < length self.old.table → touches (runs_of roster.now) r.0 d ≡ true → IsNewOn r.0 (lineage_at self.old.table d) }
-        ensures marks { self.new.line.marks ≡ with_item (length self.old.line.marks) (Ran r) self.old.line.marks }
+        requires new { (d : ℕ) → d < length self.old.table → touches (runs_of roster.now) r.0 d ≡ true → IsNewOn r.0 (drop at (items_of self.old.line.marks)) (lineage_at self.old.table d) }
+        ensures marks { self.new.line.marks ≡ with_item at (Ran r) self.old.line.marks }
         ensures spare { self.new.line.spare + 1 ≡ self.old.line.spare }
-        ensures table { ChangesEach (scheduled_on (runs_of roster.now) r.0 (planned_in_turn moment (commands_of (runs_of roster.now) r.0))) self.old.table self.new.table }
+        ensures table { ChangesEach (scheduled_on (runs_of roster.now) r.0 (planned_in_turn moment (commands_of (runs_of roster.now) r.0)) (drop at (items_of self.old.line.marks))) self.old.table self.new.table }
     {
-        self.line.insert(self.line.len(), Item::Ran(r));
-        schedule(&mut self.table, roster, r, moment);
+        schedule(&mut self.table, &self.line, at, roster, r, moment);
+        self.line.insert(at, Item::Ran(r));
     }
 
     /// The device goes out to the run for this purpose: it has touched it where that is a command, and its write there
@@ -180,35 +185,69 @@ impl KeptOrder {
     }
 }
 
-/// The run, which is placed at this moment, has an access on each of its devices.
-fn schedule(table: &mut Table, roster: &Roster, r: RunNo, moment: u64)
+/// The run, which is placed in the line at this place and moment, has an access on each of its devices.
+fn schedule(table: &mut Table, line: &Line, at: u32, roster: &Roster, r: RunNo, moment: u64)
     requires run { IsTrue (is_run (runs_of roster.now) r.0) }
-    requires new { (d : ℕ) → d < length table.old → touches (runs_of roster.now) r.0 d ≡ true → IsNewOn r.0 (lineage_at table.old d) }
-    ensures { ChangesEach (scheduled_on (runs_of roster.now) r.0 (planned_in_turn moment (commands_of (runs_of roster.now) r.0))) table.old table.new }
+    requires few { length table.old ≤ 256 }
+    requires homed { All (λ c. c.device.0 < length table.old) (commands_of (runs_of roster.now) r.0) }
+    requires new { (d : ℕ) → d < length table.old → touches (runs_of roster.now) r.0 d ≡ true → IsNewOn r.0 (drop at (items_of line.now.marks)) (lineage_at table.old d) }
+    ensures { ChangesEach (scheduled_on (runs_of roster.now) r.0 (planned_in_turn moment (commands_of (runs_of roster.now) r.0)) (drop at (items_of line.now.marks))) table.old table.new }
 {
-    'devices: for d in 0..table.devices() {
-        schedule_on(table, roster, r, moment, DeviceNo(d as u16));
+    let commands = roster.commands(r);
+    let mut uses = planned_uses(commands, moment);
+    'commands: for command in commands {
+        let d = command.device;
+        // A later command on the device finds no use any more.
+        if let Some(used) = uses[d.0 as usize] {
+            uses[d.0 as usize] = None;
+            let before = first_behind(line, table, at, d);
+            table.schedule(d, before, waiting(r, used));
+        }
     }
 }
 
-/// The run, which is placed at this moment, has an access on the device where it is one of its own.
-fn schedule_on(table: &mut Table, roster: &Roster, r: RunNo, moment: u64, d: DeviceNo)
-    requires run { IsTrue (is_run (runs_of roster.now) r.0) }
-    requires device { d.0 < length table.old }
-    requires new { touches (runs_of roster.now) r.0 d.0 ≡ true → IsNewOn r.0 (lineage_at table.old d.0) }
-    ensures { table.new ≡ with_lineage table.old d.0 (scheduled_on (runs_of roster.now) r.0 (planned_in_turn moment (commands_of (runs_of roster.now) r.0)) d.0) }
+/// The access of a run that has not touched the device yet, and is planned to use it so.
+fn waiting(r: RunNo, used: PlannedUse) -> Access
+    ensures { result ≡ record { run = r; status = Status.Scheduled; view = None; wrote = None; from = used.from; to = used.to } }
 {
-    if !roster.touches(r, d) {
-        return;
-    }
-    let commands = roster.commands(r);
-    let access = Access {
+    Access {
         run: r,
         status: Status::Scheduled,
         view: None,
         wrote: None,
-        from: start_on(commands, d, moment),
-        to: end_on(commands, d, moment),
-    };
-    table.schedule(d, None, access);
+        from: used.from,
+        to: used.to,
+    }
+}
+
+/// The first run from this place of the line on that has an access on the device.
+fn first_behind(line: &Line, table: &Table, at: u32, d: DeviceNo) -> Option<RunNo>
+    requires { d.0 < length table.now }
+    ensures { result ≡ first_with_access (accesses_at table.now d.0) (drop at (items_of line.now.marks)) }
+{
+    'items: for k in at..line.len() {
+        let item = line.get(k).unwrap();
+        let found = run_with_access(table, d, item);
+        if found.is_some() {
+            return found;
+        }
+    }
+    None
+}
+
+/// The run that the item is, where it has an access on the device.
+fn run_with_access(table: &Table, d: DeviceNo, item: Item) -> Option<RunNo>
+    requires { d.0 < length table.now }
+    ensures { result ≡ first_with_access (accesses_at table.now d.0) (item ∷ []) }
+{
+    match item {
+        Item::Ran(r) => {
+            if table.access(d, r).is_some() {
+                Some(r)
+            } else {
+                None
+            }
+        }
+        Item::Failed(..) | Item::Back(..) => None,
+    }
 }

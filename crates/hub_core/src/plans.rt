@@ -1,37 +1,43 @@
 //! The planned times of a run that is placed first come first served: its commands follow one another.
-ghost use Rattle.std.specs.Prelude.{◌≡◌};
-ghost use Rattle.history_book.specs.Plans.{planned_end, planned_start};
-ghost use Rattle.hub_core.specs.PlansInTurn.{planned_in_turn};
+ghost use Rattle.std.specs.Prelude.{◌≡◌, ◌<◌, Some, slice_get, ℕ};
+ghost use Rattle.std.specs.List.{All};
+ghost use Rattle.hub_core.specs.PlansInTurn.{planned_in_turn, planned_use, used_again};
 
-use home_types::{Command, DeviceNo};
+use home_types::Command;
 
-/// When the run is planned to start on the device, in ms, where it is placed at this moment. 0 where it has no command
-/// there.
-pub(crate) fn start_on(commands: &[Command], d: DeviceNo, moment: u64) -> u64
-    ensures { result ≡ planned_start (planned_in_turn moment commands.now) d.0 }
-{
-    let mut clock = moment;
-    'commands: for command in commands {
-        if command.device == d {
-            return clock;
-        }
-        clock = clock.saturating_add(command.ms as u64);
-    }
-    0
+/// For how long a run is planned to use a device, in ms.
+#[derive(Clone, Copy, Debug, PartialEq, Eq)]
+pub(crate) struct PlannedUse {
+    pub(crate) from: u64,
+    pub(crate) to: u64,
 }
 
-/// When the run is planned to end on the device, in ms, where it is placed at this moment. 0 where it has no command
-/// there.
-pub(crate) fn end_on(commands: &[Command], d: DeviceNo, moment: u64) -> u64
-    ensures { result ≡ planned_end (planned_in_turn moment commands.now) d.0 }
+/// For how long the run is planned to use each of the 256 devices that a home may have, where it is placed at this
+/// moment. `None` where it has no command.
+pub(crate) fn planned_uses(commands: &[Command], moment: u64) -> [Option<PlannedUse>; 256]
+    requires { All (λ c. c.device.0 < 256) commands.now }
+    ensures { (d : ℕ) → d < 256 → slice_get result d ≡ Some (planned_use (planned_in_turn moment commands.now) d) }
 {
+    let mut uses = [None; 256];
     let mut clock = moment;
-    let mut end = 0;
     'commands: for command in commands {
+        let from = clock;
         clock = clock.saturating_add(command.ms as u64);
-        if command.device == d {
-            end = clock;
-        }
+        let d = command.device.0 as usize;
+        uses[d] = Some(used_again(uses[d], from, clock));
     }
-    end
+    uses
+}
+
+/// The use of a device with one more command, which is planned from and to these times.
+fn used_again(used: Option<PlannedUse>, from: u64, to: u64) -> PlannedUse
+    ensures { result ≡ used_again used from to }
+{
+    match used {
+        Some(used) => PlannedUse {
+            from: used.from,
+            to,
+        },
+        None => PlannedUse { from, to },
+    }
 }

@@ -209,12 +209,11 @@ impl ReadHistory {
         entry
     }
 
-    /// The run is placed at the end of the line, which has so many items.
+    /// The run is placed behind so many items of the line.
     pub(crate) fn place(&mut self, r: RunNo, items: u32, moment: u64) -> Entry
         requires run { IsTrue (is_run self.old.setting.runs r.0) }
         requires room { 0 < self.old.spare }
-        requires items { items ≡ length (read_in self.old).line }
-        ensures entry { result ≡ Entry.Placed r (length (read_in self.old).line) moment }
+        ensures entry { result ≡ Entry.Placed r items moment }
         ensures new { self.new ≡ with_entry self.old r.0 result }
     {
         let entry = Entry::Placed(r, items, moment);

@@ -5,13 +5,16 @@ use Rattle.device_order.specs.LineWords.{RunsAreDistinct}
 use Rattle.history_book.specs.Lines.{is_ran, of_run, without as line_without}
 use Rattle.home_types.specs.declared.items.Item.TheVariants.{Back, Failed, Ran}
 use Rattle.home_types.specs.declared.items.Item.{Item}
-use Rattle.lineage_table.specs.Accesses.{has_access, with_change, without}
+use Rattle.lineage_table.proofs.Splits.{put_at}
+use Rattle.lineage_table.specs.Accesses.{has_access, is_of, put_before, with_change, without}
 use Rattle.lineage_table.specs.declared.accesses.Access.{Access}
 use Rattle.std.proofs.Common.{ap, arith, refl, subst, sym, ◌∙◌}
 use Rattle.std.proofs.lemmas.Grind.{common_steps}
 use Rattle.std.proofs.lemmas.List.Folds.{list_any-append}
+use Rattle.std.proofs.lemmas.List.{append-nil}
 use Rattle.std.specs.List.{list_any}
-use Rattle.std.specs.Prelude.{Bool, List, [], false, if◌then◌else◌, map, not, true, ℕ, ◌&&◌, ◌++◌, ◌==◌, ◌||◌, ◌∷◌, ◌≡◌, ◌≢◌}
+use Rattle.std.specs.Prelude.{Bool, List, Some, [], false, if◌then◌else◌, map, not, true, ℕ, ◌&&◌, ◌++◌, ◌==◌, ◌||◌, ◌∷◌, ◌≡◌, ◌≢◌}
+use Rattle.window_order.specs.TableChanges.{first_with_access}
 use Rattle.window_order.specs.TableKept.{accesses_along}
 
 -- the accesses of the front of a line, whose back covers it or not
@@ -182,26 +185,6 @@ along_none p c f test (Ran q ∷ is) none = at_ (along_none p c f test is (λ x 
 along_none p c f test (Failed d k ∷ is) none = along_none p c f test is none
 along_none p c f test (Back d k ∷ is) none = along_none p c f test is none
 
--- A run at the end of the line
-
-pub along_end : (p c : ℕ → Bool) (f : ℕ → Access) (r : ℕ) (is : List Item) → c r ≡ false → accesses_along p c f (is ++ Ran (run_no r) ∷ []) ≡ front_accesses p c f false is ++ (if p r then (f r ∷ []) else [])
-along_end p c f r is covers = along_parts p c f is (Ran (run_no r) ∷ []) ∙ (λ i. front_accesses p c f (covers i || false) is ++ (if also (p r) i then (f r ∷ []) else []))
-  where
-    also : (x : Bool) → (x && not false) ≡ x
-    also true = refl
-    also false = refl
-
--- a whole line is a front with nothing behind it
-pub front_whole : (p c : ℕ → Bool) (f : ℕ → Access) (is : List Item) → front_accesses p c f false is ≡ accesses_along p c f is
-front_whole p c f [] = refl
-front_whole p c f (Ran q ∷ is) = λ i. if p q.0 && not (no_more (list_any (of_run c) is) i) then (f q.0 ∷ front_whole p c f is i) else front_whole p c f is i
-  where
-    no_more : (x : Bool) → (x || false) ≡ x
-    no_more true = refl
-    no_more false = refl
-front_whole p c f (Failed d k ∷ is) = front_whole p c f is
-front_whole p c f (Back d k ∷ is) = front_whole p c f is
-
 -- The access of one run is changed
 
 -- in a line where each run stands once
@@ -358,3 +341,59 @@ apart r (Ran q ∷ a) b distinct x there = λ i. differ (q.0 == x) refl i || apa
     differ false e = refl
 apart r (Failed d k ∷ a) b distinct x there = apart r a b distinct x there
 apart r (Back d k ∷ a) b distinct x there = apart r a b distinct x there
+
+-- the runs of the back of a line differ, and do not stand in its front
+pub distinct_parts : (a b : List Item) → RunsAreDistinct (a ++ b) → RunsAreDistinct b × ((x : ℕ) → list_any (is_ran x) b ≡ true → Lacks x a)
+unfolding RunsAreDistinct Lacks
+distinct_parts [] b distinct = (distinct, λ x there. tt)
+distinct_parts (Ran q ∷ a) b distinct =
+    let rest : RunsAreDistinct b × ((x : ℕ) → list_any (is_ran x) b ≡ true → Lacks x a) = distinct_parts a b distinct.1 in
+    (rest.0, λ x there. (lacks_none q.0 (a ++ b) distinct.0 x (list_any-append (is_ran x) a b ∙ last (list_any (is_ran x) a) (list_any (is_ran x) b) there), rest.1 x there))
+  where
+    last : (u v : Bool) → v ≡ true → (u || v) ≡ true
+    last u v h = grind (arith, common_steps)
+distinct_parts (Failed d k ∷ a) b distinct = distinct_parts a b distinct
+distinct_parts (Back d k ∷ a) b distinct = distinct_parts a b distinct
+
+-- A run in the middle of the line
+
+-- an access is put behind those of the front, before the first one of a run of the back
+pub put_between : (p c : ℕ → Bool) (f : ℕ → Access) (y : Access) (a : List Access) (is : List Item) → RunsAreDistinct is → ((x : ℕ) → (f x).run.0 ≡ x) → ((x : ℕ) → list_any (is_ran x) is ≡ true → has_access x a ≡ false)
+    → put_before (first_with_access (a ++ accesses_along p c f is) is) y (a ++ accesses_along p c f is) ≡ a ++ y ∷ accesses_along p c f is
+unfolding RunsAreDistinct
+put_between p c f y a [] distinct own apart = ap (λ xs. xs ++ y ∷ []) (append-nil a)
+put_between p c f y a (Ran q ∷ is) distinct own apart = at_ (p q.0 && not (list_any (of_run c) is)) (put_between p c f y a is distinct.1 own (λ x there. apart x (either (q.0 == x) (list_any (is_ran x) is) there)))
+  where
+    self : (x : ℕ) → (x == x) ≡ true
+    self x = grind (arith, common_steps)
+
+    either : (x y : Bool) → y ≡ true → (x || y) ≡ true
+    either x y h = grind (arith, common_steps)
+
+    first : (x y : Bool) → x ≡ true → (x || y) ≡ true
+    first x y h = grind (arith, common_steps)
+
+    middle : (x y z : Bool) → y ≡ true → (x || (y || z)) ≡ true
+    middle x y z h = grind (arith, common_steps)
+
+    its_own : is_of q.0 (f q.0) ≡ true
+    its_own = ap (λ x. x == q.0) (own q.0) ∙ self q.0
+
+    none : has_access q.0 a ≡ false
+    none = apart q.0 (first (q.0 == q.0) (list_any (is_ran q.0) is) (self q.0))
+
+    here : has_access q.0 (a ++ f q.0 ∷ accesses_along p c f is) ≡ true
+    here = list_any-append (is_of q.0) a (f q.0 ∷ accesses_along p c f is) ∙ middle (has_access q.0 a) (is_of q.0 (f q.0)) (has_access q.0 (accesses_along p c f is)) its_own
+
+    nowhere : has_access q.0 (a ++ accesses_along p c f is) ≡ false
+    nowhere = list_any-append (is_of q.0) a (accesses_along p c f is) ∙ (λ i. none i || along_lacks p c f q.0 is own distinct.0 i)
+
+    at_ : (b : Bool) → put_before (first_with_access (a ++ accesses_along p c f is) is) y (a ++ accesses_along p c f is) ≡ a ++ y ∷ accesses_along p c f is
+        → put_before (first_with_access (a ++ (if b then (f q.0 ∷ accesses_along p c f is) else accesses_along p c f is)) (Ran q ∷ is)) y (a ++ (if b then (f q.0 ∷ accesses_along p c f is) else accesses_along p c f is))
+        ≡ a ++ y ∷ (if b then (f q.0 ∷ accesses_along p c f is) else accesses_along p c f is)
+    at_ true rest =
+        (λ i. put_before (if here i then Some q else first_with_access (a ++ f q.0 ∷ accesses_along p c f is) is) y (a ++ f q.0 ∷ accesses_along p c f is))
+        ∙ put_at q.0 y a (f q.0) (accesses_along p c f is) none its_own
+    at_ false rest = (λ i. put_before (if nowhere i then Some q else first_with_access (a ++ accesses_along p c f is) is) y (a ++ accesses_along p c f is)) ∙ rest
+put_between p c f y a (Failed d k ∷ is) distinct own apart = put_between p c f y a is distinct own apart
+put_between p c f y a (Back d k ∷ is) distinct own apart = put_between p c f y a is distinct own apart

@@ -1,13 +1,15 @@
--- The lineages as a window opens, as a run arrives, and as one is placed at the end of the line.
+-- The lineages as a window opens, as a run arrives, and as one is placed in the line.
 use Rattle.command_rules.specs.Rosters.{Run, commands_of, is_on, is_run, run_no, touches, touches_from}
 use Rattle.device_order.specs.LineChanges.{Lacks}
+use Rattle.device_order.specs.LineWords.{RunsAreDistinct}
 use Rattle.history_book.proofs.Searches.{some_is}
 use Rattle.history_book.proofs.Shapes.{IsShaped}
 use Rattle.history_book.proofs.Snoc.{put_other, put_same}
 use Rattle.history_book.proofs.Standing.{aborted}
 use Rattle.history_book.specs.Histories.{entry}
+use Rattle.history_book.specs.Lines.{is_ran, of_run}
 use Rattle.history_book.specs.Plans.{planned_end, planned_start, planned_times, split_of}
-use Rattle.history_book.specs.Readings.{OfRun, PlacedAt, Reading, did, is_committing, is_doomed, nothing_read, put}
+use Rattle.history_book.specs.Readings.{OfRun, PlacedAt, Planned, Reading, did, is_committing, is_doomed, nothing_read, put}
 use Rattle.history_book.specs.Settings.{Setting}
 use Rattle.history_book.specs.WellFormed.{may_follow}
 use Rattle.history_book.specs.declared.entries.Entry.TheVariants.{Arrived, Placed}
@@ -15,26 +17,28 @@ use Rattle.home_types.specs.HomeStates.{stand_at}
 use Rattle.home_types.specs.declared.commands.View.TheVariants.{Down}
 use Rattle.home_types.specs.declared.items.Item.TheVariants.{Ran}
 use Rattle.home_types.specs.declared.items.Item.{Item}
-use Rattle.lineage_table.specs.Accesses.{has_access}
+use Rattle.home_types.specs.declared.numbers.RunNo.{RunNo}
+use Rattle.lineage_table.specs.Accesses.{has_access, put_before, status_of}
 use Rattle.lineage_table.specs.Lineages.{IsOpened, LineageState, lineage_at, runs_on, scheduled}
 use Rattle.lineage_table.specs.declared.accesses.Access.{Access}
 use Rattle.lineage_table.specs.declared.accesses.Status.TheVariants.{Acquired, Released, Scheduled}
 use Rattle.lock_leasing.specs.Configurations.{Grips, grips_command, grips_undo}
-use Rattle.lock_leasing.specs.Order.{committed_value}
+use Rattle.lock_leasing.specs.Order.{committed_value, covers}
 use Rattle.lock_leasing.specs.Tables.{may_be_passed, uses, view_when}
 use Rattle.lock_leasing.specs.Words.{committed_write}
 use Rattle.std.proofs.Common.{ap, arith, cond, refl, subst, sym, ◌∙◌}
 use Rattle.std.proofs.lemmas.Grind.{common_steps}
 use Rattle.std.proofs.lemmas.List.Sums.{fold-append, sum_by-cons}
-use Rattle.std.proofs.lemmas.List.{append-nil}
+use Rattle.std.proofs.lemmas.List.{drop_all, take-append-drop}
 use Rattle.std.specs.List.{list_any}
-use Rattle.std.specs.Option.{option_or}
-use Rattle.std.specs.Prelude.{Bool, List, None, Option, Some, [], drop, false, fold, if◌then◌else◌, is_none, is_some, length, not, option_map, slice_get, suc, take, true, unwrap_or, zero, ℕ, ◌&&◌, ◌++◌, ◌+◌, ◌<◌, ◌||◌, ◌∷◌, ◌≡◌, ◌≢◌, ◌≤◌}
-use Rattle.window_order.proofs.AccessLists.{SameBut, along_end, along_lacks, front_but, front_whole}
-use Rattle.window_order.proofs.ReadFacts.{IsRead, lacks_count}
+use Rattle.std.specs.Option.{ForSome, option_or}
+use Rattle.std.specs.Prelude.{Bool, List, None, Option, Some, [], count_by, drop, false, fold, if◌then◌else◌, is_none, is_some, length, not, option_map, slice_get, suc, take, true, unwrap_or, zero, ℕ, ◌&&◌, ◌++◌, ◌+◌, ◌<◌, ◌||◌, ◌∷◌, ◌≡◌, ◌≢◌, ◌≤◌}
+use Rattle.window_order.proofs.AccessLists.{SameBut, along_absent, along_but, along_lacks, along_parts, along_there, any_but, distinct_parts, front_accesses, front_but, front_lacks, put_between}
+use Rattle.window_order.proofs.ReadFacts.{IsRead, lacks_count, runs_distinct}
+use Rattle.window_order.proofs.Runs.{lacks_parts}
 use Rattle.window_order.proofs.TableFrames.{access_by, commits_by, lineage_same, may_by, put_says, same_committed, uses_by, write_by}
-use Rattle.window_order.specs.TableChanges.{IsNewOn, placed_change, waiting_access}
-use Rattle.window_order.specs.TableKept.{LineageIsKept, TableIsKept, access_read, accesses_read, commits_write, unplaced_among, unplaced_on}
+use Rattle.window_order.specs.TableChanges.{IsNewOn, NoneWroteBehind, first_with_access, placed_change, waiting_access}
+use Rattle.window_order.specs.TableKept.{LineageIsKept, TableIsKept, access_read, accesses_along, accesses_read, commits_write, unplaced_among, unplaced_on}
 
 -- The start
 
@@ -84,14 +88,6 @@ arrived_table w n g r m table kept = record {
     new = record (n.run r) { arrived = Some m }
 
 -- A run is placed
-
-take_all_items : (xs : List Item) → take (length xs) xs ≡ xs
-take_all_items [] = refl
-take_all_items (x ∷ xs) = ap (λ ys. x ∷ ys) (take_all_items xs)
-
-drop_all_items : (xs : List Item) → drop (length xs) xs ≡ []
-drop_all_items [] = refl
-drop_all_items (x ∷ xs) = drop_all_items xs
 
 -- one run fewer is not placed
 record OnePlaced (n m : Reading) (r : ℕ) : Type 0 where
@@ -154,23 +150,44 @@ stands w (suc i) h = at_ (slice_get w.runs i) refl h
     at_ None e k = absurd (cc)
     at_ (Some run) e k = record { index = i; run = run; number = omega arith; at = e; commands = ap (λ o. unwrap_or (option_map (λ (x : Run). x.commands) o) []) e }
 
--- each lineage is kept, with an access more on the run's devices
-pub placed_kept : (w : Setting) (n : Reading) (g : Grips) (r m : ℕ) → IsRead w n → may_follow w n (Placed (run_no r) (length n.line) m) ≡ true → (d : ℕ) (s : LineageState) → LineageIsKept w n g d s
-    → LineageIsKept w (entry w n (Placed (run_no r) (length n.line) m)) g d (placed_change w n r m d s)
+-- each lineage is kept, with an access more on the run's devices, where no committed run behind its place has written one of them
+pub placed_kept : (w : Setting) (n : Reading) (g : Grips) (r at m : ℕ) → IsRead w n → may_follow w n (Placed (run_no r) at m) ≡ true → NoneWroteBehind w n r at → (d : ℕ) (s : LineageState) → LineageIsKept w n g d s
+    → LineageIsKept w (entry w n (Placed (run_no r) at m)) g d (placed_change w n r at m d s)
 unfolding split_of
-placed_kept w n g r m read may d s kept = at_ (touches w.runs r d) refl
+placed_kept w n g r at m read may clear d s kept = at_ (touches w.runs r d) refl
   where
     next : Reading
-    next = entry w n (Placed (run_no r) (length n.line) m)
+    next = entry w n (Placed (run_no r) at m)
+
+    front : List Item
+    front = take at n.line
+
+    back : List Item
+    back = drop at n.line
+
+    planned : List Planned
+    planned = planned_times w n r front m
 
     old : OfRun
     old = n.run r
 
     new : OfRun
-    new = record (n.run r) { placed = Some (record { place = length n.line; moment = m; stamp = n.size }); planned = planned_times w n r (split_of w n r (length n.line) m).front m }
+    new = record (n.run r) { placed = Some (record { place = at; moment = m; stamp = n.size }); planned = planned_times w n r (split_of w n r at m).front m }
 
     own : next.run r ≡ new
     own = put_same n.run r new
+
+    p : ℕ → Bool
+    p = uses w n d
+
+    q : ℕ → Bool
+    q = uses w next d
+
+    c : ℕ → Bool
+    c = commits_write n d
+
+    e : ℕ → Bool
+    e = commits_write next d
 
     before_ : ℕ → Access
     before_ = access_read w n g kept.passed d
@@ -190,17 +207,22 @@ placed_kept w n g r m read may d s kept = at_ (touches w.runs r d) refl
     of_window : Stands w r
     of_window = stands w r run
 
-    line : next.line ≡ n.line ++ Ran (run_no r) ∷ []
-    line = λ i. take_all_items n.line i ++ Ran (run_no r) ∷ drop_all_items n.line i
-
-    unplaced : (p : Option PlacedAt) (b : Bool) → is_none p ≡ true → (is_some p && b) ≡ false
+    unplaced : (o : Option PlacedAt) (b : Bool) → is_none o ≡ true → (is_some o && b) ≡ false
     unplaced None b h = refl
     unplaced (Some x) b h = absurd (cc)
 
-    lacks : Lacks r n.line
-    lacks = lacks_count r n.line (read.once r ∙ ap (λ b. cond b 1 0) (unplaced (n.run r).placed (not (aborted (n.run r))) none))
+    -- the line before, and after
 
-    others : SameBut r (uses w n d) (uses w next d) (commits_write n d) (commits_write next d) before_ then_
+    parts : front ++ back ≡ n.line
+    parts = take-append-drop at n.line
+
+    lacks : Lacks r front × Lacks r back
+    lacks = lacks_parts r front back (ap (count_by (is_ran r)) parts ∙ read.once r ∙ ap (λ b. cond b 1 0) (unplaced (n.run r).placed (not (aborted (n.run r))) none))
+
+    apart : RunsAreDistinct back × ((x : ℕ) → list_any (is_ran x) back ≡ true → Lacks x front)
+    apart = distinct_parts front back (subst RunsAreDistinct (sym parts) (runs_distinct n read.once))
+
+    others : SameBut r p q c e before_ then_
     others = record {
       has_one = λ x ne. ap (uses_by w d x) (put_other n.run r new x ne);
       covering = λ x ne. ap (commits_by d) (put_other n.run r new x ne);
@@ -210,13 +232,13 @@ placed_kept w n g r m read may d s kept = at_ (touches w.runs r d) refl
     going : old.ended ≡ None
     going = shape.going none
 
-    uncommitted : commits_write next d r ≡ false
+    uncommitted : e r ≡ false
     uncommitted = ap (commits_by d) own ∙ (λ i. unwrap_or (option_map is_committing (going i)) false && is_some (old.on d).wrote)
 
-    on_it : (e t p v : Bool) → e ≡ true → p ≡ t → ((true && e) && t && not (t && not p && not v)) ≡ t
-    on_it e t p v h k = grind (arith, common_steps)
+    on_it : (a t b v : Bool) → a ≡ true → b ≡ t → ((true && a) && t && not (t && not b && not v)) ≡ t
+    on_it a t b v h k = grind (arith, common_steps)
 
-    used : uses w next d r ≡ touches w.runs r d
+    used : q r ≡ touches w.runs r d
     used = ap (uses_by w d r) own ∙ on_it (is_none old.ended) (touches w.runs r d) (touches_from w.runs r d (length old.answers)) (is_some (old.on d).view) (ap is_none going) (ap (λ xs. touches_from w.runs r d (length xs)) (shape.unanswered none))
 
     clash : (a b : Bool) → a ≡ false → (a && b) ≡ true → ⊥
@@ -230,74 +252,115 @@ placed_kept w n g r m read may d s kept = at_ (touches w.runs r d) refl
     unpassed = by_passed (kept.passed r) refl
       where
         by_passed : (b : Bool) → kept.passed r ≡ b → b ≡ false
-        by_passed true e = absurd (clash (is_doomed n r) (not (did n r d || grips_command g r d)) sound (kept.may_pass r e))
-        by_passed false e = refl
+        by_passed true h = absurd (clash (is_doomed n r) (not (did n r d || grips_command g r d)) sound (kept.may_pass r h))
+        by_passed false h = refl
 
-    may_after : (q : ℕ) → may_be_passed n g q d ≡ true → may_be_passed next g q d ≡ true
-    may_after q passed = put_says (may_by g d) n.run r new refl q ∙ passed
+    may_after : (x : ℕ) → may_be_passed n g x d ≡ true → may_be_passed next g x d ≡ true
+    may_after x passed = put_says (may_by g d) n.run r new refl x ∙ passed
 
     none_written : (b : Bool) → ◌≡◌ {A = Option ℕ} (if b then None else None) None
     none_written true = refl
     none_written false = refl
 
-    waits : then_ r ≡ waiting_access r (planned_times w n r n.line m) d
+    waits : then_ r ≡ waiting_access r planned d
     waits = ap (access_by w g kept.passed d r) own ∙ (λ i. record {
       run = run_no r;
       status = if unpassed i then Released else (if is_some (shape.clear none d i).view then (if (not (is_some old.doomed) && touches_from w.runs r d (length old.answers)) || grips_command g r d then Acquired else Released) else Scheduled);
       view = if unpassed i then Some Down else option_map view_when (shape.clear none d i).view;
       wrote = ((λ j. if (old.on d).undid || grips_undo g r d then None else (shape.clear none d j).wrote) ∙ none_written ((old.on d).undid || grips_undo g r d)) i;
-      from = planned_start (planned_times w n r (take_all_items n.line i) m) d;
-      to = planned_end (planned_times w n r (take_all_items n.line i) m) d;
+      from = planned_start planned d;
+      to = planned_end planned d;
     })
 
-    accesses : accesses_read w next g kept.passed d next.line ≡ accesses_read w n g kept.passed d n.line ++ (if touches w.runs r d then (waiting_access r (planned_times w n r n.line m) d ∷ []) else [])
-    accesses =
-        ap (accesses_read w next g kept.passed d) line
-        ∙ along_end (uses w next d) (commits_write next d) then_ r n.line uncommitted
-        ∙ (λ i. (front_but r (uses w n d) (uses w next d) (commits_write n d) (commits_write next d) before_ then_ false n.line others lacks ∙ front_whole (uses w n d) (commits_write n d) before_ n.line) i ++ (if used i then (waits i ∷ []) else []))
+    -- the accesses of the two parts
 
-    same_write : (q : ℕ) → write_by d (next.run q) ≡ write_by d (n.run q)
-    same_write = put_says (λ q. write_by d) n.run r new refl
+    whole : accesses_read w n g kept.passed d n.line ≡ front_accesses p c before_ (list_any (of_run c) back) front ++ accesses_along p c before_ back
+    whole = ap (accesses_along p c before_) (sym parts) ∙ along_parts p c before_ front back
+
+    front_same : (b : Bool) → front_accesses q e then_ b front ≡ front_accesses p c before_ b front
+    front_same b = front_but r p q c e before_ then_ b front others lacks.0
+
+    back_same : accesses_along q e then_ back ≡ accesses_along p c before_ back
+    back_same = along_but r p q c e before_ then_ back others lacks.1
+
+    behind_same : list_any (of_run e) back ≡ list_any (of_run c) back
+    behind_same = any_but r c e back others.covering lacks.1
+
+    -- the run has an access between them
+    with_one : touches w.runs r d ≡ true → put_before (first_with_access s.accesses back) (waiting_access r planned d) s.accesses ≡ accesses_read w next g kept.passed d next.line
+    with_one on = subst (λ xs. put_before (first_with_access xs back) (waiting_access r planned d) xs ≡ accesses_read w next g kept.passed d next.line) (sym was) (
+        put_between p c before_ (waiting_access r planned d) (front_accesses p c before_ false front) back apart.0 (λ x. refl) (λ x there. front_lacks p c before_ false x front (λ y. refl) (apart.1 x there))
+        ∙ sym (
+        along_there q e then_ r front back (used ∙ on) uncommitted (behind_same ∙ clear d on)
+        ∙ (λ i. front_same false i ++ waits i ∷ back_same i)
+        )
+        )
+      where
+        was : s.accesses ≡ front_accesses p c before_ false front ++ accesses_along p c before_ back
+        was = kept.accesses ∙ whole ∙ (λ i. front_accesses p c before_ (clear d on i) front ++ accesses_along p c before_ back)
+
+    -- it has none
+    with_none : touches w.runs r d ≡ false → s.accesses ≡ accesses_read w next g kept.passed d next.line
+    with_none off = kept.accesses ∙ whole ∙ sym (
+        along_absent q e then_ r front back (used ∙ off)
+        ∙ (λ i. front_accesses q e then_ (uncommitted i || behind_same i) front ++ back_same i)
+        ∙ (λ i. front_same (list_any (of_run c) back) i ++ accesses_along p c before_ back)
+        )
+
+    same_write : (x : ℕ) → write_by d (next.run x) ≡ write_by d (n.run x)
+    same_write = put_says (λ x. write_by d) n.run r new refl
+
+    last_write : Reading → Option ℕ → List Item → Option ℕ
+    last_write x best is = fold (λ b i. option_or (committed_write x d i) b) best is
 
     committed : committed_value w next d ≡ committed_value w n d
     committed = ap (λ o. unwrap_or o (stand_at w.first d).value) (
-        ap (fold (λ b x. option_or (committed_write next d x) b) None) line
-        ∙ fold-append (λ b x. option_or (committed_write next d x) b) None n.line (Ran (run_no r) ∷ [])
-        ∙ (λ i. option_or (no_write i) (same_committed n next d None n.line same_write i))
+        fold-append (λ b i. option_or (committed_write next d i) b) None front (Ran (run_no r) ∷ back)
+        ∙ (λ i. last_write next (option_or (no_write i) (last_write next None front)) back)
+        ∙ sym (fold-append (λ b i. option_or (committed_write next d i) b) None front back)
+        ∙ ap (last_write next None) parts
+        ∙ same_committed n next d None n.line same_write
         )
       where
         no_write : committed_write next d (Ran (run_no r)) ≡ None
         no_write = same_write r ∙ (λ i. if unwrap_or (option_map is_committing (going i)) false then (old.on d).wrote else None)
 
     one : OnePlaced n next r
-    one = record { before = none; after = ap (λ o. is_none o.placed) own; others = λ q ne. ap (λ o. is_none o.placed) (put_other n.run r new q ne) }
+    one = record { before = none; after = ap (λ o. is_none o.placed) own; others = λ x ne. ap (λ o. is_none o.placed) (put_other n.run r new x ne) }
 
     fewer : unplaced_on w n d ≡ cond (touches w.runs r d) 1 0 + unplaced_on w next d
     fewer = one_fewer n next d r 1 of_window.index w.runs of_window.run of_window.at of_window.number one ∙ ap (λ cs. cond (list_any (is_on d) cs) 1 0 + unplaced_on w next d) (sym of_window.commands)
 
-    at_ : (b : Bool) → touches w.runs r d ≡ b → LineageIsKept w next g d (placed_change w n r m d s)
-    at_ true e = subst (LineageIsKept w next g d) (λ i. if sym e i then scheduled None (waiting_access r (planned_times w n r n.line m) d) s else s) (record {
+    at_ : (b : Bool) → touches w.runs r d ≡ b → LineageIsKept w next g d (placed_change w n r at m d s)
+    at_ true on = subst (LineageIsKept w next g d) (λ i. if sym on i then scheduled (first_with_access s.accesses back) (waiting_access r planned d) s else s) (record {
       passed = kept.passed;
-      may_pass = λ q passed. may_after q (kept.may_pass q passed);
+      may_pass = λ x passed. may_after x (kept.may_pass x passed);
       committed = kept.committed ∙ sym committed;
-      accesses = ap (λ xs. xs ++ waiting_access r (planned_times w n r n.line m) d ∷ []) kept.accesses ∙ sym (accesses ∙ (λ i. accesses_read w n g kept.passed d n.line ++ (if e i then (waiting_access r (planned_times w n r n.line m) d ∷ []) else [])));
-      room = let less : unplaced_on w n d ≡ 1 + unplaced_on w next d = fewer ∙ ap (λ b. cond b 1 0 + unplaced_on w next d) e in let room = kept.room in omega (arith, less, room);
+      accesses = with_one on;
+      room = let less : unplaced_on w n d ≡ 1 + unplaced_on w next d = fewer ∙ ap (λ b. cond b 1 0 + unplaced_on w next d) on in let room = kept.room in omega (arith, less, room);
       up = kept.up;
     })
-    at_ false e = subst (LineageIsKept w next g d) (λ i. if sym e i then scheduled None (waiting_access r (planned_times w n r n.line m) d) s else s) (record {
+    at_ false off = subst (LineageIsKept w next g d) (λ i. if sym off i then scheduled (first_with_access s.accesses back) (waiting_access r planned d) s else s) (record {
       passed = kept.passed;
-      may_pass = λ q passed. may_after q (kept.may_pass q passed);
+      may_pass = λ x passed. may_after x (kept.may_pass x passed);
       committed = kept.committed ∙ sym committed;
-      accesses = kept.accesses ∙ sym (accesses ∙ (λ i. accesses_read w n g kept.passed d n.line ++ (if e i then (waiting_access r (planned_times w n r n.line m) d ∷ []) else [])) ∙ append-nil (accesses_read w n g kept.passed d n.line));
-      room = let less : unplaced_on w n d ≡ 0 + unplaced_on w next d = fewer ∙ ap (λ b. cond b 1 0 + unplaced_on w next d) e in let room = kept.room in omega (arith, less, room);
+      accesses = with_none off;
+      room = let less : unplaced_on w n d ≡ 0 + unplaced_on w next d = fewer ∙ ap (λ b. cond b 1 0 + unplaced_on w next d) off in let room = kept.room in omega (arith, less, room);
       up = kept.up;
     })
 
--- a run that is placed is new on each of its devices
-pub new_on : (w : Setting) (n : Reading) (g : Grips) (r m : ℕ) → IsRead w n → may_follow w n (Placed (run_no r) (length n.line) m) ≡ true → (d : ℕ) (s : LineageState) → touches w.runs r d ≡ true → LineageIsKept w n g d s → IsNewOn r s
-new_on w n g r m read may d s used kept = record {
+-- at the end of the line nothing stands behind a run
+
+pub none_wrote_behind : (w : Setting) (n : Reading) (r : ℕ) → NoneWroteBehind w n r (length n.line)
+none_wrote_behind w n r d on = ap (list_any (covers n d)) (drop_all (length n.line) n.line (omega arith))
+
+-- a run that is placed is new on each of its devices, where the first run with an access behind its place waits
+pub new_on : (w : Setting) (n : Reading) (g : Grips) (r at m : ℕ) → IsRead w n → may_follow w n (Placed (run_no r) at m) ≡ true → (d : ℕ) (s : LineageState) → touches w.runs r d ≡ true
+    → ForSome (first_with_access s.accesses (drop at n.line)) (λ q. status_of q.0 s.accesses ≡ Some Scheduled) → LineageIsKept w n g d s → IsNewOn r (drop at n.line) s
+new_on w n g r at m read may d s used waits kept = record {
   none = ap (has_access r) kept.accesses ∙ along_lacks (uses w n d) (commits_write n d) (access_read w n g kept.passed d) r n.line (λ x. refl) lacks;
   room = let room = kept.room in omega (arith, some, room);
+  waits = waits;
 }
   where
     none : is_none (n.run r).placed ≡ true
@@ -324,3 +387,7 @@ new_on w n g r m read may d s used kept = record {
 
     some : unplaced_on w n d ≡ 1 + unplaced_on w next d
     some = one_fewer n next d r 1 of_window.index w.runs of_window.run of_window.at of_window.number one ∙ ap (λ cs. cond (list_any (is_on d) cs) 1 0 + unplaced_on w next d) (sym of_window.commands) ∙ ap (λ b. cond b 1 0 + unplaced_on w next d) used
+
+-- .. as none does behind the end of the line
+pub new_at_end : (w : Setting) (n : Reading) (g : Grips) (r m : ℕ) → IsRead w n → may_follow w n (Placed (run_no r) (length n.line) m) ≡ true → (d : ℕ) (s : LineageState) → touches w.runs r d ≡ true → LineageIsKept w n g d s → IsNewOn r (drop (length n.line) n.line) s
+new_at_end w n g r m read may d s used kept = new_on w n g r (length n.line) m read may d s used (λ q at. absurd (let nobody : ◌≡◌ {A = Option RunNo} None (Some q) = sym (ap (first_with_access s.accesses) (drop_all (length n.line) n.line (omega arith))) ∙ at in cc)) kept

@@ -29,7 +29,7 @@ use Rattle.window_order.proofs.Runs.{cut_live}
 use Rattle.window_order.proofs.Steps.{IsOut, out_is}
 use Rattle.window_order.proofs.TableCalls.{touches_now}
 use Rattle.window_order.specs.OrderKept.{OrderIsKept}
-use Rattle.window_order.specs.TableChanges.{ChangesEach, answered_change, answered_lineage, doomed_change, doomed_lineage, passed_if, placed_change, undone_change}
+use Rattle.window_order.specs.TableChanges.{ChangesEach, NoneWroteBehind, answered_change, answered_lineage, doomed_change, doomed_lineage, passed_if, placed_change, undone_change}
 use Rattle.window_order.specs.TableKept.{LineageIsKept, TableIsKept}
 
 -- a table whose lineages change so is kept where each change keeps its lineage
@@ -44,10 +44,10 @@ changed_table w n m g h change old new each changes kept = record {
 pub same_table : (w : Setting) (n m : Reading) (g h : Grips) (table : List LineageState) → ((d : ℕ) (s : LineageState) → LineageIsKept w n g d s → LineageIsKept w m h d s) → TableIsKept w n g table → TableIsKept w m h table
 same_table w n m g h table each kept = changed_table w n m g h (λ d s. s) table table each (record { devices = refl; each = λ d below. refl }) kept
 
--- a run is placed at the end of the line
-pub placed_table : (w : Setting) (n : Reading) (g : Grips) (r m : ℕ) (old new : List LineageState) → IsRead w n → may_follow w n (Placed (run_no r) (length n.line) m) ≡ true → ChangesEach (placed_change w n r m) old new → TableIsKept w n g old
-    → TableIsKept w (entry w n (Placed (run_no r) (length n.line) m)) g new
-placed_table w n g r m old new read may changes kept = changed_table w n (entry w n (Placed (run_no r) (length n.line) m)) g g (placed_change w n r m) old new (placed_kept w n g r m read may) changes kept
+-- a run is placed, with no committed run behind it that has written one of its devices
+pub placed_table : (w : Setting) (n : Reading) (g : Grips) (r at m : ℕ) (old new : List LineageState) → IsRead w n → may_follow w n (Placed (run_no r) at m) ≡ true → NoneWroteBehind w n r at → ChangesEach (placed_change w n r at m) old new → TableIsKept w n g old
+    → TableIsKept w (entry w n (Placed (run_no r) at m)) g new
+placed_table w n g r at m old new read may clear changes kept = changed_table w n (entry w n (Placed (run_no r) at m)) g g (placed_change w n r at m) old new (placed_kept w n g r at m read may clear) changes kept
 
 -- a run commits
 pub committed_table : (w : Setting) (n : Reading) (g : Grips) (r : ℕ) (old new : List LineageState) → IsRead w n → GripsFit w n g → may_follow w n (Ended (run_no r) Committed) ≡ true → ChangesEach (λ d. committed_lineage r) old new → TableIsKept w n g old

@@ -27,10 +27,9 @@ use Rattle.serial_line.specs.Marks.{Mark, stands, touching, with_item, without}
 use Rattle.serial_line.specs.Ties.{IsLineOf}
 use Rattle.std.proofs.Common.{ap, ap₂, arith, refl, subst, sym, ◌∙◌}
 use Rattle.std.proofs.lemmas.Grind.{common_steps}
-use Rattle.std.proofs.lemmas.List.{length-map}
 use Rattle.std.specs.List.{list_any}
 use Rattle.std.specs.Option.{option_or}
-use Rattle.std.specs.Prelude.{Bool, List, None, Option, Some, [], drop, false, if◌then◌else◌, is_none, is_some, length, not, option_map, take, true, unwrap_or, ℕ, ◌&&◌, ◌++◌, ◌==◌, ◌||◌, ◌∷◌, ◌≡◌, ◌≢◌}
+use Rattle.std.specs.Prelude.{Bool, List, None, Option, Some, [], false, if◌then◌else◌, is_none, is_some, not, option_map, true, unwrap_or, ℕ, ◌&&◌, ◌==◌, ◌||◌, ◌≡◌, ◌≢◌}
 use Rattle.window_order.proofs.AnsweredTables.{answered_run}
 use Rattle.window_order.proofs.Grips.{HoldsNone}
 use Rattle.window_order.proofs.ReadFacts.{IsRead}
@@ -57,22 +56,17 @@ marks_arrived w n g r m marks kept = marks_same n (entry w n (Arrived (run_no r)
 pub marks_committed : (w : Setting) (n : Reading) (g : Grips) (r : ℕ) (marks : List Mark) → MarksAreKept n g marks → MarksAreKept (entry w n (Ended (run_no r) Committed)) g marks
 marks_committed w n g r marks kept = marks_same n (entry w n (Ended (run_no r) Committed)) g g marks refl (λ q d. ap (λ b. b || grips_command g q d) (put_keeps (λ o. is_some (o.on d).view) n.run r _ refl q)) kept
 
--- a run is placed at the end: it has touched nothing
-pub marks_placed : (w : Setting) (n : Reading) (g : Grips) (r m : ℕ) (marks : List Mark) → IsRead w n → GripsFit w n g → may_follow w n (Placed (run_no r) (length n.line) m) ≡ true → MarksAreKept n g marks
-    → MarksAreKept (entry w n (Placed (run_no r) (length n.line) m)) g (with_item (length marks) (Ran (run_no r)) marks)
+-- a run is placed: it has touched nothing
+pub marks_placed : (w : Setting) (n : Reading) (g : Grips) (r at m : ℕ) (marks : List Mark) → IsRead w n → GripsFit w n g → may_follow w n (Placed (run_no r) at m) ≡ true → MarksAreKept n g marks
+    → MarksAreKept (entry w n (Placed (run_no r) at m)) g (with_item at (Ran (run_no r)) marks)
 unfolding split_of
-marks_placed w n g r m marks read fit may kept =
-    subst (λ k. IsLineOf (take k n.line ++ Ran (run_no r) ∷ drop k n.line) (item_has_touched next g) (with_item (length marks) (Ran (run_no r)) marks)) size
-    (line_inserted (length marks) (Ran (run_no r)) told (run_comes (item_has_touched next g) (run_no r) untouched))
+marks_placed w n g r at m marks read fit may kept = line_inserted at (Ran (run_no r)) told (run_comes (item_has_touched next g) (run_no r) untouched)
   where
     next : Reading
-    next = entry w n (Placed (run_no r) (length n.line) m)
+    next = entry w n (Placed (run_no r) at m)
 
     new : OfRun
-    new = record (n.run r) { placed = Some (record { place = length n.line; moment = m; stamp = n.size }); planned = planned_times w n r (split_of w n r (length n.line) m).front m }
-
-    size : length marks ≡ length n.line
-    size = sym (length-map marks (λ (x : Mark). x.item)) ∙ ap length kept.items
+    new = record (n.run r) { placed = Some (record { place = at; moment = m; stamp = n.size }); planned = planned_times w n r (split_of w n r at m).front m }
 
     same : (q d : ℕ) → has_touched next g q d ≡ has_touched n g q d
     same q d = ap (λ b. b || grips_command g q d) (put_keeps (λ o. is_some (o.on d).view) n.run r new refl q)

@@ -9,36 +9,54 @@ use Rattle.home_types.specs.declared.commands.Answer.{Answer}
 use Rattle.home_types.specs.declared.commands.Command.{Command}
 use Rattle.home_types.specs.declared.commands.View.TheVariants.{Down}
 use Rattle.home_types.specs.declared.commands.View.{View}
+use Rattle.home_types.specs.declared.items.Item.TheVariants.{Back, Failed, Ran}
+use Rattle.home_types.specs.declared.items.Item.{Item}
+use Rattle.home_types.specs.declared.numbers.RunNo.{RunNo}
 use Rattle.lineage_table.specs.Accesses.{before, has_access, is_acquired, is_of, is_scheduled, some_acquired, some_scheduled, status_of}
 use Rattle.lineage_table.specs.Lineages.{LineageState, acquired, lineage_at, released, scheduled, undone, written}
 use Rattle.lineage_table.specs.declared.accesses.Access.{Access}
 use Rattle.lineage_table.specs.declared.accesses.Status.TheVariants.{Released, Scheduled}
 use Rattle.lock_leasing.specs.Configurations.{Grips, grips_command}
+use Rattle.lock_leasing.specs.Order.{covers}
 use Rattle.lock_leasing.specs.Tables.{view_when}
-use Rattle.std.specs.Prelude.{Bool, List, None, Option, Some, [], false, if◌then◌else◌, length, not, option_map, unwrap_or, ℕ, ◌+◌, ◌<◌, ◌==◌, ◌||◌, ◌∷◌, ◌≡◌}
+use Rattle.std.specs.List.{list_any}
+use Rattle.std.specs.Option.{ForSome}
+use Rattle.std.specs.Prelude.{Bool, List, None, Option, Some, [], drop, false, if◌then◌else◌, length, not, option_map, take, true, unwrap_or, ℕ, ◌+◌, ◌<◌, ◌==◌, ◌||◌, ◌∷◌, ◌≡◌}
 
 -- the table has the same devices, and each has its lineage changed so
 pub record ChangesEach (change : ℕ → LineageState → LineageState) (old new : List LineageState) : Type 0 where
   pub devices : length new ≡ length old
   pub each : (d : ℕ) → d < length old → lineage_at new d ≡ change d (lineage_at old d)
 
--- A run is placed at the end of the line
+-- A run is placed
 
--- the access of a run that has not touched the device yet
+-- the first run of these items that has an access
+abbrev pub first_with_access : List Access → List Item → Option RunNo
+first_with_access accesses [] = None
+first_with_access accesses (Ran r ∷ is) = if has_access r.0 accesses then Some r else first_with_access accesses is
+first_with_access accesses (Failed e k ∷ is) = first_with_access accesses is
+first_with_access accesses (Back e k ∷ is) = first_with_access accesses is
+
+-- the access of the run that has not touched the device yet
 abbrev pub waiting_access : ℕ → List Planned → ℕ → Access
 waiting_access r planned d = record { run = run_no r; status = Scheduled; view = None; wrote = None; from = planned_start planned d; to = planned_end planned d }
 
--- what the table asks for before it schedules the run's access: the run has none, and there is room
-pub record IsNewOn (r : ℕ) (s : LineageState) : Type 0 where
+-- what the table asks for before it schedules the run's access in front of those of these items: the run has none, there is room, and the first of them waits
+pub record IsNewOn (r : ℕ) (back : List Item) (s : LineageState) : Type 0 where
   pub none : has_access r s.accesses ≡ false
   pub room : 0 < s.room
+  pub waits : ForSome (first_with_access s.accesses back) (λ q. status_of q.0 s.accesses ≡ Some Scheduled)
 
--- it has an access on each of its devices, with these planned times
-abbrev pub scheduled_on : List Run → ℕ → List Planned → ℕ → LineageState → LineageState
-scheduled_on runs r planned d s = if touches runs r d then scheduled None (waiting_access r planned d) s else s
+-- placed in front of these items it has an access on each of its devices, with these planned times, before the first one of a run among them
+abbrev pub scheduled_on : List Run → ℕ → List Planned → List Item → ℕ → LineageState → LineageState
+scheduled_on runs r planned back d s = if touches runs r d then scheduled (first_with_access s.accesses back) (waiting_access r planned d) s else s
 
-abbrev pub placed_change : Setting → Reading → ℕ → ℕ → ℕ → LineageState → LineageState
-placed_change w n r m = scheduled_on w.runs r (planned_times w n r n.line m)
+abbrev pub placed_change : Setting → Reading → ℕ → ℕ → ℕ → ℕ → LineageState → LineageState
+placed_change w n r at m = scheduled_on w.runs r (planned_times w n r (take at n.line) m) (drop at n.line)
+
+-- no committed run behind the place has written a device of the run
+abbrev pub NoneWroteBehind : Setting → Reading → ℕ → ℕ → Type 0
+NoneWroteBehind w n r at = (d : ℕ) → touches w.runs r d ≡ true → list_any (covers n d) (drop at n.line) ≡ false
 
 -- A command is answered
 

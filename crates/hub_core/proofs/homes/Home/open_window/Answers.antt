@@ -5,7 +5,7 @@ use Rattle.hub_core.specs.HubCalls.{IsOpened, entries_of_a_run}
 use Rattle.hub_core.specs.HubsKept.{HandsAre, HasRoomLeft, HubIsKept}
 use Rattle.hub_core.specs.KeptOrders.{OrderIsBeside}
 use Rattle.hub_core.specs.OpenHubs.{OpenHub, configuration_of}
-use Rattle.std.proofs.Common.{length, subst, sym, ◌*◌, ◌≡◌, ◌≤◌}
+use Rattle.std.proofs.Common.{length, subst, sym, ◌*◌, ◌≤◌}
 
 -- the hub of a window that opens, which is kept and has its room
 pub invariant_of-result : goal.invariant_of-result

@@ -1,0 +1,43 @@
+-- For how long a run whose commands follow one another uses each device, command after command.
+use Rattle.command_rules.specs.Rosters.{is_on}
+use Rattle.history_book.specs.Plans.{greatest}
+use Rattle.history_book.specs.Readings.{Planned}
+use Rattle.home_types.specs.declared.commands.Command.{Command}
+use Rattle.hub_core.specs.PlansInTurn.{planned_in_turn, planned_use, used_again}
+use Rattle.hub_core.specs.declared.plans.PlannedUse.{PlannedUse}
+use Rattle.std.proofs.Common.{ap, refl}
+use Rattle.std.specs.List.{list_any}
+use Rattle.std.specs.Prelude.{Bool, List, None, Option, Some, [], false, find, fold, if◌then◌else◌, min, option_map, true, unwrap_or, ℕ, ◌+◌, ◌==◌, ◌||◌, ◌∷◌, ◌≡◌}
+
+-- the use of the device behind these, where it is this one before them
+abbrev pub use_from : ℕ → Option PlannedUse → List Planned → Option PlannedUse
+use_from d used planned = fold (λ u p. if p.device == d then Some (used_again u p.from p.to) else u) used planned
+
+abbrev pub end_from : ℕ → ℕ → List Planned → ℕ
+end_from d end planned = fold (λ t p. if p.device == d then p.to else t) end planned
+
+-- one that is used already keeps its start
+used_from : (d from to : ℕ) (planned : List Planned) → use_from d (Some (record { from = from; to = to })) planned ≡ Some (record { from = from; to = end_from d to planned })
+used_from d from to [] = refl
+used_from d from to (p ∷ ps) = by_device (p.device == d) (used_from d from p.to ps) (used_from d from to ps)
+  where
+    by_device : (b : Bool) → use_from d (Some (record { from = from; to = p.to })) ps ≡ Some (record { from = from; to = end_from d p.to ps }) → use_from d (Some (record { from = from; to = to })) ps ≡ Some (record { from = from; to = end_from d to ps })
+        → use_from d (if b then Some (record { from = from; to = p.to }) else Some (record { from = from; to = to })) ps ≡ Some (record { from = from; to = end_from d (if b then p.to else to) ps })
+    by_device true here there = here
+    by_device false here there = there
+
+-- one that is not used yet is used as the whole plan says
+pub use_is : (d : ℕ) (planned : List Planned) → use_from d None planned ≡ planned_use planned d
+use_is d [] = refl
+use_is d (p ∷ ps) = by_device (p.device == d) (use_is d ps)
+  where
+    by_device : (b : Bool) → use_from d None ps ≡ planned_use ps d
+        → use_from d (if b then Some (record { from = p.from; to = p.to }) else None) ps
+        ≡ (if (b || list_any (λ x. x.device == d) ps) then Some (record { from = unwrap_or (option_map (λ x. x.from) (if b then Some p else find (λ x. x.device == d) ps)) 0; to = end_from d (if b then p.to else 0) ps }) else None)
+    by_device true rest = used_from d p.from p.to ps
+    by_device false rest = rest
+
+-- the plan is on the devices of the commands
+pub planned_devices : (d m : ℕ) (commands : List Command) → list_any (λ p. p.device == d) (planned_in_turn m commands) ≡ list_any (is_on d) commands
+planned_devices d m [] = refl
+planned_devices d m (c ∷ cs) = ap (λ b. (c.device.0 == d) || b) (planned_devices d (min (m + c.ms) greatest) cs)

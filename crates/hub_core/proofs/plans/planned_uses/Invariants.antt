@@ -1,0 +1,11 @@
+use Rattle.hub_core.proofs.PlannedUses.{use_from}
+use Rattle.hub_core.proofs.plans.planned_uses.Given as goal
+use Rattle.hub_core.specs.PlansInTurn.{planned_in_turn, planned_use}
+use Rattle.std.proofs.Common.{None, drop, get_or, length, ℕ, ◌<◌, ◌≡◌}
+
+-- the uses so far, and with them those of the commands that are left
+abbrev pub invariant-commands : goal.invariant-commands
+invariant-commands l = record {
+  size : length l.uses ≡ 256;
+  each : (d : ℕ) → d < 256 → use_from d (get_or l.uses d None) (planned_in_turn l.clock (drop l.command-index l.commands)) ≡ planned_use (planned_in_turn l.moment l.commands) d;
+}
