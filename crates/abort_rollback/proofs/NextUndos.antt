@@ -3,12 +3,13 @@ use Rattle.abort_rollback.specs.Undos.{first_effective, has_effective_write, nex
 use Rattle.abort_rollback.specs.declared.undos.Undo.TheVariants.{Drive, Drop, Finished}
 use Rattle.command_rules.specs.Rosters.{device_no}
 use Rattle.home_types.specs.declared.numbers.RunNo.{RunNo}
-use Rattle.lineage_table.specs.Accesses.{effective_writer}
+use Rattle.lineage_laws.proofs.Sweeps.{writes_nothing}
+use Rattle.lineage_table.specs.Accesses.{IsDisciplined, effective_writer, has_access}
 use Rattle.lineage_table.specs.Lineages.{LineageState, accesses_at, lineage_at}
 use Rattle.std.proofs.Common.{Bool, List, None, Option, Some, ap, arith, cond, false, length, refl, subst, suc, sym, true, zero, ℕ, ◌+◌, ◌<◌, ◌∙◌, ◌≡◌, ◌≤◌}
 use Rattle.std.proofs.lemmas.Grind.{common_steps}
 use Rattle.std.specs.List.{range_with_len}
-use Rattle.std.specs.Prelude.{find, if◌then◌else◌, option_map, unwrap_or, ◌==◌, ◌≢◌}
+use Rattle.std.specs.Prelude.{find, if◌then◌else◌, option_map, nat_lt, unwrap_or, ◌==◌, ◌≢◌}
 
 two : (b : Bool) → b ≡ true → b ≡ false → ⊥
 two b s t = cc
@@ -56,6 +57,23 @@ undo_here table r d within here before = ap (λ o. unwrap_or (option_map (undo_o
 -- .. and there is none where it has the effective write on no device
 pub undo_nowhere : (table : List LineageState) (r : ℕ) → ((e : ℕ) → e < length table → has_effective_write table r e ≡ false) → next_undo table r ≡ Finished
 undo_nowhere table r before = ap (λ o. unwrap_or (option_map (undo_on table r) o) Finished) (first_nowhere (has_effective_write table r) (length table) before)
+
+-- a device to which the run has no access is no device on which it has the effective write: none up to the next one
+pub not_before : (table : List LineageState) (r from d : ℕ) → ((e : ℕ) → IsDisciplined (accesses_at table e)) → ((e : ℕ) → e < from → has_effective_write table r e ≡ false)
+    → ((e : ℕ) → from ≤ e → e < d → has_access r (accesses_at table e) ≡ false) → (e : ℕ) → e < d → has_effective_write table r e ≡ false
+not_before table r from d disciplined before none e below = at (nat_lt e from) refl
+  where
+    at : (b : Bool) → nat_lt e from ≡ b → has_effective_write table r e ≡ false
+    at true h = before e (grind (arith, common_steps))
+    at false h = let reached : from ≤ e = grind (arith, common_steps) in writes_nothing r (accesses_at table e) (disciplined e) (none e reached below)
+
+-- .. and not on that one either
+pub not_through : (table : List LineageState) (r d : ℕ) → ((e : ℕ) → e < d → has_effective_write table r e ≡ false) → has_effective_write table r d ≡ false → (e : ℕ) → e < d + 1 → has_effective_write table r e ≡ false
+not_through table r d before here e below = at (e == d) refl
+  where
+    at : (b : Bool) → (e == d) ≡ b → has_effective_write table r e ≡ false
+    at true h = let same : e ≡ d = grind (arith, common_steps) in ap (has_effective_write table r) same ∙ here
+    at false h = let other : e ≢ d = grind (arith, common_steps) in before e (omega (arith, below, other))
 
 -- a run with nothing left to undo has the effective write on no device
 pub nothing_effective : (table : List LineageState) (r : RunNo) → next_undo table r.0 ≡ Finished → (d : ℕ) → d < length table → effective_writer (accesses_at table d) ≢ Some r

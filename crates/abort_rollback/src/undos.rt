@@ -21,11 +21,13 @@ pub enum Undo {
 pub fn next_undo(table: &Table, r: RunNo) -> Undo
     ensures { result ≡ next_undo table.now r.0 }
 {
-    'devices: for d in 0..table.devices() {
-        let device = DeviceNo(d as u16);
-        if table.effective_writer(device) == Some(r) {
-            return undo_on(table, device, r);
+    table.kept();
+    let mut from = DeviceNo(0);
+    'devices: while let Some(d) = table.next_device(r, from) {
+        if table.effective_writer(d) == Some(r) {
+            return undo_on(table, d, r);
         }
+        from = DeviceNo(d.0 + 1);
     }
     Undo::Finished
 }

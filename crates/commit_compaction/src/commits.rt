@@ -14,18 +14,19 @@ pub fn commit(table: &mut Table, r: RunNo)
     ensures exact { (d : ℕ) → d < length table.old → lineage_at table.new d ≡ committed_lineage r.0 (lineage_at table.old d) }
     ensures stands { (d : ℕ) → d < length table.old → stand_of (lineage_at table.new d) ≡ stand_of (lineage_at table.old d) }
 {
-    'devices: for d in 0..table.devices() {
-        commit_on(table, DeviceNo(d as u16), r);
+    table.kept();
+    let mut from = DeviceNo(0);
+    'devices: while let Some(d) = table.next_device(r, from) {
+        commit_on(table, d, r);
+        from = DeviceNo(d.0 + 1);
     }
 }
 
 /// Commits the run on one device.
 fn commit_on(table: &mut Table, d: DeviceNo, r: RunNo)
     requires { d.0 < length table.old }
-    ensures exact { table.new ≡ with_lineage table.old d.0 (committed_lineage r.0) }
-    ensures stands { stand_of (committed_lineage r.0 (lineage_at table.old d.0)) ≡ stand_of (lineage_at table.old d.0) }
+    ensures { table.new ≡ with_lineage table.old d.0 (committed_lineage r.0) }
 {
-    commit_keeps(table, d, r);
     match table.access(d, r) {
         None => {}
         Some(access) => match access.wrote {
@@ -35,13 +36,4 @@ fn commit_on(table: &mut Table, d: DeviceNo, r: RunNo)
             }
         },
     }
-}
-
-/// A law: the value that stands on a device is kept where a run commits.
-fn commit_keeps(table: &Table, d: DeviceNo, r: RunNo)
-    requires { d.0 < length table.now }
-    ensures { stand_of (committed_lineage r.0 (lineage_at table.now d.0)) ≡ stand_of (lineage_at table.now d.0) }
-{
-    // The type of the table keeps that no run has two accesses on a device.
-    table.kept();
 }

@@ -1,2 +1,3 @@
 pub mod LineOrders
 pub mod Statuses
+pub mod Sweeps

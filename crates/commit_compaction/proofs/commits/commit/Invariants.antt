@@ -1,15 +1,11 @@
 use Rattle.commit_compaction.proofs.commits.commit.Given as goal
-use Rattle.lineage_laws.specs.Laws.{stand_of}
-use Rattle.lineage_table.specs.Lineages.{committed_lineage, lineage_at}
-use Rattle.std.proofs.Common.{length, ℕ, ◌<◌, ◌≡◌, ◌≤◌}
+use Rattle.lineage_laws.proofs.Sweeps.{ChangedUpTo}
+use Rattle.lineage_table.specs.Lineages.{committed_lineage}
+use Rattle.std.proofs.Common.{length, ◌-◌}
 
 -- the run has committed on the devices up to here, and on no other
 abbrev pub invariant-devices : goal.invariant-devices
-invariant-devices l = record {
-  devices : length l.table ≡ length l.initial.table;
-  few : l.d-end ≤ 65536;
-  size : l.d-end ≡ length l.table;
-  exact : (d : ℕ) → d < l.d → lineage_at l.table d ≡ committed_lineage l.r.0 (lineage_at l.initial.table d);
-  stands : (d : ℕ) → d < l.d → stand_of (lineage_at l.table d) ≡ stand_of (lineage_at l.initial.table d);
-  others : (d : ℕ) → l.d ≤ d → lineage_at l.table d ≡ lineage_at l.initial.table d;
-}
+invariant-devices l = ChangedUpTo (λ d. committed_lineage l.r.0) l.initial.table l.table l.from.0
+
+abbrev pub decreases-devices : goal.decreases-devices
+decreases-devices l = length l.table - l.from.0
