@@ -262,7 +262,7 @@ order_answered h h₂ g f held d r k a view wrote last line after table later re
 pub order_doomed : (h h₂ : HistoryState) (g : Grips) (r : ℕ) (cause : Cause) (line after : Marked) (table later : List LineageState) → IsRead h.setting (read_in h) → GripsFit h.setting (read_in h) g → ((d : ℕ) → grips_command g r d ≡ false)
     → h₂ ≡ with_entry h r (Doomed (run_no r) cause) → IsWellFormed h₂.setting (entries_of h₂.history) → after ≡ line → ChangesEach (λ d. doomed_lineage r) table later → OrderIsBeside h g line table → OrderIsBeside h₂ g after later
 order_doomed h h₂ g r cause line after table later read fit none new formed same changes kept = entry_kept h h₂ g r (Doomed (run_no r) cause) after later new (subst (λ (x : Marked). IsOrderOf w (entry w n (Doomed (run_no r) cause)) g (length h.history + 1) x later) (sym same) (record {
-  table_is = doomed_table w n g r cause table later read fit sound (doomed_each g r table later none changes) kept.table_is;
+  table_is = doomed_table w n g r cause table later read fit sound (doomed_each g r None table later none changes) kept.table_is;
   line_is = marks_doomed w n g r cause line.marks kept.line_is;
   short = omega (arith, kept.short);
   room = omega (arith, kept.room);

@@ -1,15 +1,29 @@
 -- How the accesses before a run's are passed by calls of a lineage table.
 use Rattle.history_book.proofs.Searches.{map_none, map_some}
 use Rattle.home_types.specs.declared.commands.View.TheVariants.{Down}
+use Rattle.home_types.specs.declared.numbers.DeviceNo.{DeviceNo}
 use Rattle.home_types.specs.declared.numbers.RunNo.{RunNo}
 use Rattle.hub_core.proofs.NotedAnswers.{length_set, lineage_set, with_same}
-use Rattle.lineage_table.specs.Accesses.{IsDisciplined, first_before, is_scheduled}
+use Rattle.lineage_table.specs.Accesses.{IsDisciplined, first_before, has_access, is_acquired, is_scheduled}
+use Rattle.lineage_laws.proofs.Sweeps.{no_access}
+use Rattle.lineage_table.specs.declared.accesses.Access.{Access}
 use Rattle.lineage_table.specs.Lineages.{LineageState, accesses_at, acquired, lineage_at, released, with_lineage}
-use Rattle.std.proofs.Common.{ap, subst, sym, ◌∙◌}
-use Rattle.std.specs.Prelude.{List, None, Some, length, slice_set, ℕ, ◌<◌, ◌≡◌}
+use Rattle.std.proofs.Common.{ap, refl, subst, sym, ◌∙◌}
+use Rattle.std.specs.Prelude.{Bool, List, None, Option, Some, false, if◌then◌else◌, length, option_map, slice_set, true, unwrap_or, ℕ, ◌<◌, ◌≡◌}
 use Rattle.window_order.proofs.PassedAccesses.{PassesFirst, pass_first, pass_none, waits_before}
 use Rattle.window_order.proofs.TableSteps.{with_both}
-use Rattle.window_order.specs.TableChanges.{IsFirst, IsWaiting, passed}
+use Rattle.window_order.specs.TableChanges.{IsFirst, IsWaiting, doomed_lineage, doomed_unless, has_acquired, is_device, passed, released_if}
+
+-- a doom is nothing on a device to which the run has no access
+pub dooms_nothing : (out : Option DeviceNo) (r d : ℕ) (s : LineageState) → has_access r s.accesses ≡ false → doomed_unless out r d s ≡ s
+dooms_nothing out r d s none = at (is_device out d)
+  where
+    not_acquired : has_acquired r s ≡ false
+    not_acquired = ap (λ o. unwrap_or (option_map is_acquired (option_map (λ (x : Access). x.status) o)) false) (no_access r s.accesses none)
+
+    at : (b : Bool) → (if b then s else doomed_lineage r s) ≡ s
+    at true = refl
+    at false = ap (λ b. released_if b r s) not_acquired
 
 -- the run that is found is the next one that is passed
 pub passes_run : (r : ℕ) (q : RunNo) (s : LineageState) → IsDisciplined s.accesses → IsWaiting r s → first_before (λ x. is_scheduled x.status) r s.accesses ≡ Some q → PassesFirst r q.0 s

@@ -286,6 +286,6 @@ fn doom_for(
     let Some(cause) = cause else {
         return None;
     };
-    order.doom(r);
+    order.doom(r, None);
     Some(history.doom(r, cause))
 }

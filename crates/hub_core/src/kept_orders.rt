@@ -12,7 +12,7 @@ ghost use Rattle.lineage_table.specs.Accesses.{status_of};
 ghost use Rattle.lineage_table.specs.Lineages.{IsOpened, accesses_at, committed_lineage, lineage_at, removed, undone, with_lineage};
 ghost use Rattle.lock_leasing.specs.Configurations.{is_command, is_undo};
 ghost use Rattle.serial_line.specs.Marks.{items_of, stands, touching, with_item, without};
-ghost use Rattle.window_order.specs.TableChanges.{ChangesEach, IsNewOn, doomed_lineage, first_with_access, scheduled_on, written_if};
+ghost use Rattle.window_order.specs.TableChanges.{ChangesEach, IsNewOn, first_with_access, scheduled_on, written_if, doomed_unless};
 
 use crate::plans::{PlannedUse, planned_uses};
 use crate::purposes::Purpose;
@@ -156,12 +156,13 @@ impl KeptOrder {
         }
     }
 
-    /// The run is doomed: it is done with each device that it has acquired.
-    pub(crate) fn doom(&mut self, r: RunNo)
+    /// The run is doomed: it is done with each device that it has acquired, but for the one that is out for a command
+    /// of it, where there is one.
+    pub(crate) fn doom(&mut self, r: RunNo, out: Option<DeviceNo>)
         ensures line { self.new.line ≡ self.old.line }
-        ensures table { ChangesEach (λ d. doomed_lineage r.0) self.old.table self.new.table }
+        ensures table { ChangesEach (doomed_unless out r.0) self.old.table self.new.table }
     {
-        release_all(&mut self.table, r);
+        release_all(&mut self.table, r, out);
     }
 
     /// The run, which has nothing left to undo, is aborted: it has no access any more, and leaves the line.

@@ -2,25 +2,31 @@
 ghost use Rattle.std.specs.Prelude.{◌≡◌, ◌<◌, length};
 ghost use Rattle.lineage_table.specs.Accesses.{IsDisciplined, first_before, is_scheduled};
 ghost use Rattle.lineage_table.specs.Lineages.{accesses_at, lineage_at, with_lineage};
-ghost use Rattle.window_order.specs.TableChanges.{ChangesEach, IsFirst, IsWaiting, doomed_lineage, passed};
+ghost use Rattle.window_order.specs.TableChanges.{ChangesEach, IsFirst, IsWaiting, doomed_unless, passed};
 
 use home_types::{DeviceNo, RunNo, View};
 use lineage_table::{Status, Table};
 
-/// The run is done with each device that it has acquired.
-pub(crate) fn release_all(table: &mut Table, r: RunNo)
-    ensures { ChangesEach (λ d. doomed_lineage r.0) table.old table.new }
+/// The run is done with each device that it has acquired, but for the one that is out for a command of it, where there
+/// is one: that access stays acquired until the answer comes.
+pub(crate) fn release_all(table: &mut Table, r: RunNo, out: Option<DeviceNo>)
+    ensures { ChangesEach (doomed_unless out r.0) table.old table.new }
 {
-    'devices: for d in 0..table.devices() {
-        release_on(table, DeviceNo(d as u16), r);
+    let mut from = DeviceNo(0);
+    'devices: while let Some(d) = table.next_device(r, from) {
+        release_on(table, d, r, out);
+        from = DeviceNo(d.0 + 1);
     }
 }
 
-/// The run is done with the device, where it has acquired it.
-fn release_on(table: &mut Table, d: DeviceNo, r: RunNo)
+/// The run is done with the device, where it has acquired it and it is not the one that is out.
+fn release_on(table: &mut Table, d: DeviceNo, r: RunNo, out: Option<DeviceNo>)
     requires { d.0 < length table.old }
-    ensures { table.new ≡ with_lineage table.old d.0 (doomed_lineage r.0) }
+    ensures { table.new ≡ with_lineage table.old d.0 (doomed_unless out r.0 d.0) }
 {
+    if out == Some(d) {
+        return;
+    }
     if let Some(access) = table.access(d, r) {
         if access.status == Status::Acquired {
             table.release(d, r);

@@ -10,13 +10,14 @@ use Rattle.history_book.specs.declared.entries.Cause.{Cause}
 use Rattle.history_book.specs.declared.entries.End.TheVariants.{Aborted, Committed}
 use Rattle.history_book.specs.declared.entries.Entry.TheVariants.{Did, Doomed, Ended, Placed, Undid}
 use Rattle.home_types.specs.declared.commands.Answer.{Answer}
+use Rattle.home_types.specs.declared.numbers.DeviceNo.{DeviceNo}
 use Rattle.lineage_table.specs.Lineages.{LineageState, committed_lineage, lineage_at, no_lineage, removed, with_lineage}
 use Rattle.lock_leasing.specs.Configurations.{Commands, Grips, Undoes, grips_command}
 use Rattle.lock_leasing.specs.Places.{GripsFit}
 use Rattle.std.proofs.Common.{ap, arith, refl, set, subst, sym, ◌∙◌}
 use Rattle.std.proofs.lemmas.Grind.{common_steps}
 use Rattle.std.proofs.lemmas.List.{get_or-set_other, get_or-set_same, length-set, set-set}
-use Rattle.std.specs.Prelude.{Bool, List, None, Some, false, if◌then◌else◌, length, not, true, ℕ, ◌<◌, ◌==◌, ◌≡◌, ◌≢◌}
+use Rattle.std.specs.Prelude.{Bool, List, None, Option, Some, false, if◌then◌else◌, length, not, true, ℕ, ◌<◌, ◌==◌, ◌≡◌, ◌≢◌}
 use Rattle.window_order.proofs.AbortedTables.{aborted_kept}
 use Rattle.window_order.proofs.AnsweredTables.{TouchesNow, answered_elsewhere, answered_there}
 use Rattle.window_order.proofs.CommittedTables.{committed_kept}
@@ -29,7 +30,7 @@ use Rattle.window_order.proofs.Runs.{cut_live}
 use Rattle.window_order.proofs.Steps.{IsOut, out_is}
 use Rattle.window_order.proofs.TableCalls.{touches_now}
 use Rattle.window_order.specs.OrderKept.{OrderIsKept}
-use Rattle.window_order.specs.TableChanges.{ChangesEach, NoneWroteBehind, answered_change, answered_lineage, doomed_change, doomed_lineage, passed_if, placed_change, undone_change}
+use Rattle.window_order.specs.TableChanges.{ChangesEach, NoneWroteBehind, answered_change, answered_lineage, doomed_change, doomed_lineage, passed_if, placed_change, undone_change, doomed_unless, is_device}
 use Rattle.window_order.specs.TableKept.{LineageIsKept, TableIsKept}
 
 -- a table whose lineages change so is kept where each change keeps its lineage
@@ -108,9 +109,13 @@ answered_table w n g held d r k a old new read order at changes kept =
 pub doomed_table : (w : Setting) (n : Reading) (g : Grips) (r : ℕ) (cause : Cause) (old new : List LineageState) → IsRead w n → GripsFit w n g → is_doomed n r ≡ false → ChangesEach (doomed_change g r) old new → TableIsKept w n g old → TableIsKept w (entry w n (Doomed (run_no r) cause)) g new
 doomed_table w n g r cause old new read fit sound changes kept = changed_table w n (entry w n (Doomed (run_no r) cause)) g g (doomed_change g r) old new (doomed_kept w n g r cause read sound (λ d out. gripped_pends w n g r d fit out)) changes kept
 
--- .. that has no command out
-pub doomed_each : (g : Grips) (r : ℕ) (old new : List LineageState) → ((d : ℕ) → grips_command g r d ≡ false) → ChangesEach (λ d. doomed_lineage r) old new → ChangesEach (doomed_change g r) old new
-doomed_each g r old new none changes = record { devices = changes.devices; each = λ d below. changes.each d below ∙ (λ i. if sym (none d) i then lineage_at old d else doomed_lineage r (lineage_at old d)) }
+-- .. whose command out, if it has one, is on this device
+pub doomed_each : (g : Grips) (r : ℕ) (out : Option DeviceNo) (old new : List LineageState) → ((d : ℕ) → grips_command g r d ≡ is_device out d) → ChangesEach (doomed_unless out r) old new → ChangesEach (doomed_change g r) old new
+doomed_each g r out old new same changes = record { devices = changes.devices; each = λ d below. changes.each d below ∙ (λ i. if sym (same d) i then lineage_at old d else doomed_lineage r (lineage_at old d)) }
+
+pub doomed_unless_table : (w : Setting) (n : Reading) (g : Grips) (r : ℕ) (cause : Cause) (out : Option DeviceNo) (old new : List LineageState) → IsRead w n → GripsFit w n g → is_doomed n r ≡ false → ((d : ℕ) → grips_command g r d ≡ is_device out d) → ChangesEach (doomed_unless out r) old new → TableIsKept w n g old
+    → TableIsKept w (entry w n (Doomed (run_no r) cause)) g new
+doomed_unless_table w n g r cause out old new read fit sound same changes kept = doomed_table w n g r cause old new read fit sound (doomed_each g r out old new same changes) kept
 
 -- an undo goes out
 pub undo_out_table : (w : Setting) (n : Reading) (g : Grips) (d r v : ℕ) (old new : List LineageState) → IsRead w n → g d ≡ None → ChangesEach (undone_change r d) old new → TableIsKept w n g old → TableIsKept w n (put g d (Some (record { maker = r; purpose = Undoes v }))) new

@@ -12,6 +12,7 @@ use Rattle.home_types.specs.declared.commands.View.{View}
 use Rattle.home_types.specs.declared.items.Item.TheVariants.{Back, Failed, Ran}
 use Rattle.home_types.specs.declared.items.Item.{Item}
 use Rattle.home_types.specs.declared.numbers.RunNo.{RunNo}
+use Rattle.home_types.specs.declared.numbers.DeviceNo.{DeviceNo}
 use Rattle.lineage_table.specs.Accesses.{before, has_access, is_acquired, is_of, is_scheduled, some_acquired, some_scheduled, status_of}
 use Rattle.lineage_table.specs.Lineages.{LineageState, acquired, lineage_at, released, scheduled, undone, written}
 use Rattle.lineage_table.specs.declared.accesses.Access.{Access}
@@ -126,7 +127,14 @@ has_acquired r s = unwrap_or (option_map is_acquired (status_of r s.accesses)) f
 abbrev pub doomed_lineage : ℕ → LineageState → LineageState
 doomed_lineage r s = released_if (has_acquired r s) r s
 
--- .. but not with the one that is out for its command
+-- .. but not with this one, where one is named
+abbrev pub is_device : Option DeviceNo → ℕ → Bool
+is_device out d = unwrap_or (option_map (λ e. e.0 == d) out) false
+
+abbrev pub doomed_unless : Option DeviceNo → ℕ → ℕ → LineageState → LineageState
+doomed_unless out r d s = if is_device out d then s else doomed_lineage r s
+
+-- .. which is the one that is out for its command
 abbrev pub doomed_change : Grips → ℕ → ℕ → LineageState → LineageState
 doomed_change g r d s = if grips_command g r d then s else doomed_lineage r s
 

@@ -1,14 +1,11 @@
 use Rattle.hub_core.proofs.releases.release_all.Given as goal
-use Rattle.lineage_table.specs.Lineages.{lineage_at}
-use Rattle.std.proofs.Common.{length, ℕ, ◌<◌, ◌≡◌, ◌≤◌}
-use Rattle.window_order.specs.TableChanges.{doomed_lineage}
+use Rattle.lineage_laws.proofs.Sweeps.{ChangedUpTo}
+use Rattle.std.proofs.Common.{length, ◌-◌}
+use Rattle.window_order.specs.TableChanges.{doomed_unless}
 
 -- the run is done with the devices up to here, and with no other
 abbrev pub invariant-devices : goal.invariant-devices
-invariant-devices l = record {
-  devices : length l.table ≡ length l.initial.table;
-  few : l.d-end ≤ 65536;
-  size : l.d-end ≡ length l.table;
-  exact : (d : ℕ) → d < l.d → lineage_at l.table d ≡ doomed_lineage l.r.0 (lineage_at l.initial.table d);
-  others : (d : ℕ) → l.d ≤ d → lineage_at l.table d ≡ lineage_at l.initial.table d;
-}
+invariant-devices l = ChangedUpTo (doomed_unless l.out l.r.0) l.initial.table l.table l.from.0
+
+abbrev pub decreases-devices : goal.decreases-devices
+decreases-devices l = length l.table - l.from.0
