@@ -27,3 +27,4 @@ pub mod CommittedTables
 pub mod AbortedTables
 pub mod TableSteps
 pub mod TouchedLines
+pub mod FewAccesses
