@@ -1,8 +1,8 @@
 ghost use Rattle.std.specs.Prelude.{◌≡◌};
-ghost use Rattle.home_types.specs.Commands.{command_effect, fails as command_fails};
+ghost use Rattle.home_types.specs.Commands.{command_effect};
 ghost use Rattle.serial_meaning.specs.Progress.{effect_of};
 
-use home_types::{Answer, Command, Job, Kind, Stand, Value};
+use home_types::{Answer, Job, Kind, Stand, Value};
 
 /// What a command does: its answer, and then the register of its run and where its device stands.
 #[derive(Clone, Copy)]
@@ -48,17 +48,4 @@ pub fn outcome_of(kind: Kind, job: Job, register: Value, stand: Stand) -> Outcom
             },
         },
     }
-}
-
-/// Whether the command fails its run with this answer: it is a must, and was told `Down` or found another value than
-/// it checks.
-pub fn fails(command: Command, answer: Answer) -> bool
-    ensures { result ≡ command_fails command answer }
-{
-    command.must
-        && match (command.job, answer) {
-            (_, Answer::Down) => true,
-            (Job::Check(v), Answer::Found(x)) => x != v,
-            _ => false,
-        }
 }

@@ -2,8 +2,8 @@
 #![tactic(auto)]
 
 mod effects;
-pub mod orders;
-pub mod routines;
+mod orders;
+mod routines;
 #[cfg(test)]
 mod tests;
 

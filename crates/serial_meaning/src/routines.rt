@@ -3,7 +3,8 @@ ghost use Rattle.serial_meaning.specs.Conditions.{HasDevices, HasKinds};
 ghost use Rattle.serial_meaning.specs.Executions.{routine_answers, routine_in, shown_answers};
 ghost use Rattle.serial_meaning.specs.Progress.{DoesCommand, DoesCommands};
 
-use crate::effects::{fails, outcome_of};
+use crate::effects::outcome_of;
+use command_rules::fails;
 use home_types::{Answer, Command, Kind, List, NoMemory, Routine, Stand, Value, World};
 use std::alloc::Global;
 
