@@ -257,6 +257,13 @@ first_opened tag stands turns probes faults home roster mode rounds known opens 
   faults_then = λ d device at. ap (λ (k : DeviceProgress). k.at_opening.faults) (known_there turns probes faults home rounds known d device opens.knows at);
 }
 
+-- a setting with the roster that was indexed
+pub setting_of_indexed : (s : Setting) (indexed roster : Roster) (mode : Mode) (kinds : List Kind) (world : List Stand)
+    → ◌≡◌ {A = Setting} s (record { runs = runs_of indexed; mode = mode; kinds = kinds; first = world })
+    → indexed ≡ roster
+    → ◌≡◌ {A = Setting} s (record { runs = runs_of roster; mode = mode; kinds = kinds; first = world })
+setting_of_indexed s indexed roster mode kinds world is same = subst (λ (q : Roster). ◌≡◌ {A = Setting} s (record { runs = runs_of q; mode = mode; kinds = kinds; first = world })) same is
+
 -- what was put together is the hub of a window that opens
 pub is_first_hub : {D : Type 0} (home : HomeState D) (roster : Roster) (mode : Mode) (rounds : ℕ) (known : List DeviceProgress) (kinds : List Kind) (world : List Stand) (devices : List D) (opened' : ℕ) (setting : Setting) (history : List Kept) (places : List (Place D)) (tickets : ℕ)
     → ◌≡◌ {A = HomeState D} (record { kinds = kinds; world = world; devices = devices; opened = opened' }) home

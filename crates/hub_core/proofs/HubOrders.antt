@@ -1,4 +1,5 @@
 -- The line and the table of a hub, in its steps.
+use Rattle.command_rules.specs.Footprints.{FitsIndex}
 use Rattle.command_rules.specs.Rosters.{Run, commands_of, device_no, is_on, run_no, touches}
 use Rattle.device_gate.specs.Grips.{Gripped}
 use Rattle.device_gate.specs.declared.gates.Place.TheVariants.{Home, Out}
@@ -75,6 +76,12 @@ roster_allowed w rounds opened may = record {
 
     earlier : (z a b : ℕ) → (nat_lt z a && nat_lt a b) ≡ true → a < b
     earlier z a b h = grind (arith, common_steps)
+
+-- .. and its footprints may be made
+pub index_fits : (w : Setting) (rounds opened : ℕ) → MayOpen w rounds opened → FitsIndex w.runs
+index_fits w rounds opened may =
+    let allowed = roster_allowed w rounds opened may in
+    record { few_commands = allowed.few_commands; low_devices = λ r k c at. let inside = allowed.homed r k c at in let few = allowed.few_devices in omega (arith, inside, few) }
 
 -- table, line, history and roster of a hub belong to its window, where the accesses in the table are in turn, as those of every table are
 pub hub_standing : (s : Configuration) (rounds opened : ℕ) (held : ℕ → ℕ) (spare : ℕ) (line : Marked) (table : List LineageState) → ((d : ℕ) → IsDisciplined (accesses_at table d)) → ConfigurationIsKept s rounds opened held → OrderIsBeside (record { setting = s.setting; history = s.history; spare = spare }) s.grips line table

@@ -12,6 +12,7 @@ pub mod WrittenValues
 pub mod HistoryKept
 pub mod Kept
 pub mod HubReads
+pub mod LastAnswers
 pub mod NewDevices
 pub mod NewHomes
 pub mod HubOpens

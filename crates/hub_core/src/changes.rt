@@ -204,7 +204,7 @@ impl<D: Steady> Hub<D> {
         let answer = answer_told(told);
         let cause = self.history.refuted(r, k, answer);
         let entry = self.history.answer(r, k, answer);
-        let is_last = self.history.is_done(r, d);
+        let is_last = self.history.is_done(r, k, d);
         self.order.note(d, r, noted(answer, held, is_last));
         let doomed = doom_for(&mut self.history, &mut self.order, r, cause);
         Made {

@@ -15,10 +15,11 @@ use crate::hubs::Hub;
 use crate::purposes::Purpose;
 use crate::waits::Why;
 use abort_rollback::{Undo, next_undo};
+use command_rules::{driven, reads};
 use device_gate::Task;
 use device_states::Device;
 use history_book::{Cause, End};
-use home_types::{Command, DeviceNo, Job, RunNo};
+use home_types::{Command, DeviceNo, RunNo};
 use lock_leasing::{Touch, test_touch};
 use visibility_models::may_go;
 
@@ -104,7 +105,12 @@ impl<D: Device> Hub<D> {
             Touch::Dirty(d, x) => return Chosen::Waits(Why::Dirty(d, x)),
             Touch::Free => {}
         }
-        if let Some(x) = may_go(self.history.model(), &standing, r) {
+        if let Some(x) = may_go(
+            self.history.model(),
+            &standing,
+            self.history.indexed_roster(),
+            r,
+        ) {
             return Chosen::Waits(Why::Strict(x));
         }
         if self.is_out(command.device) {
@@ -147,13 +153,11 @@ impl<D: Device> Hub<D> {
         ensures { result ≡ command_task (configuration_of self.now) r.0 (command_at self.now.setting.runs r.0 k) }
     {
         let command = self.history.command(r, k);
-        match command.job {
-            Job::Set(value) => Task::Drive(value),
-            Job::Check(_) | Job::Load => Task::Sense,
-            Job::Store => {
-                let register = self.history.progress(r).register;
-                Task::Drive(self.history.kind(command.device).nearest(register))
-            }
+        if reads(command.job) {
+            return Task::Sense;
         }
+        let kind = self.history.kind(command.device);
+        let register = self.history.progress(r).register;
+        Task::Drive(driven(kind, command.job, register))
     }
 }

@@ -14,7 +14,7 @@ use crate::kept_orders::KeptOrder;
 use crate::known::{Counts, DeviceProgress, RunProgress};
 use crate::purposes::Purpose;
 use crate::read_histories::ReadHistory;
-use command_rules::Roster;
+use command_rules::{IndexedRoster, Roster};
 use device_gate::Gate;
 use device_states::Device;
 use history_book::Book;
@@ -61,6 +61,9 @@ impl<D: Device> Home<D> {
         let Ok(room) = self.room(alloc, &roster, rounds) else {
             return Err((self, NoMemory));
         };
+        let Ok(indexed) = IndexedRoster::open(alloc, roster) else {
+            return Err((self, NoMemory));
+        };
         let Home {
             kinds,
             world,
@@ -69,7 +72,7 @@ impl<D: Device> Home<D> {
         } = self;
         match Gate::open(alloc, devices) {
             Ok(gate) => Ok(Hub {
-                history: empty_history(roster, mode, kinds, world, room.history),
+                history: empty_history(indexed, mode, kinds, world, room.history),
                 order: room.order,
                 rounds,
                 opened,
@@ -144,7 +147,7 @@ impl<D: Device> Home<D> {
 
 /// The empty history of a window, in this memory.
 fn empty_history(
-    roster: Roster,
+    roster: IndexedRoster,
     mode: Mode,
     kinds: List<Kind>,
     first: World,

@@ -1,19 +1,16 @@
-ghost use Rattle.std.specs.Prelude.{◌≡◌, ◌<◌, ◌^◌, ◌||◌, IsTrue, find, is_none, length, not, option_map, true, ℕ};
+ghost use Rattle.std.specs.Prelude.{◌≡◌, ◌+◌, ◌<◌, ◌^◌, ◌||◌, IsTrue, find, is_none, length, not, option_map, true, ℕ};
 ghost use Rattle.command_rules.specs.Rosters.{command_at, commands_of, is_run, runs_of};
 ghost use Rattle.history_book.specs.Settings.{run_numbers};
 ghost use Rattle.history_book.specs.Readings.{is_doomed, next_command, next_of, pends};
-ghost use Rattle.home_types.specs.Commands.{register_after};
 ghost use Rattle.home_types.specs.Kinds.{kind_at};
 ghost use Rattle.hub_core.specs.Decisions.{refuted_by};
 ghost use Rattle.hub_core.specs.OpenHubs.{progress_of};
 ghost use Rattle.hub_core.specs.ReadHistories.{read_in, with_entry};
 
 use crate::known::RunProgress;
-use command_rules::Roster;
+use command_rules::{IndexedRoster, Roster, register_after};
 use history_book::{Book, Cause, End, Entry, Kept};
-use home_types::{
-    Answer, Command, DeviceNo, Job, Kind, List, Mode, RunNo, Value, Visibility, World,
-};
+use home_types::{Answer, Command, DeviceNo, Job, Kind, List, Mode, RunNo, Visibility, World};
 use std::marker::Model;
 
 /// The history of a window, with the progress of each run kept beside it, so that no step reads it anew.
@@ -21,7 +18,7 @@ use std::marker::Model;
 /// Contracts see what is fixed, the entries, and how many more it takes with no memory.
 #[derive(Drop)]
 pub(crate) struct ReadHistory {
-    pub(crate) roster: Roster,
+    pub(crate) roster: IndexedRoster,
     pub(crate) mode: Mode,
     pub(crate) kinds: List<Kind>,
     pub(crate) first: World,
@@ -53,6 +50,13 @@ impl ReadHistory {
     pub(crate) fn roster(&self) -> &Roster
         ensures { runs_of result.now ≡ self.now.setting.runs }
     {
+        self.roster.roster()
+    }
+
+    /// The runs of the window, with their footprints.
+    pub(crate) fn indexed_roster(&self) -> &IndexedRoster
+        ensures { runs_of result.now ≡ self.now.setting.runs }
+    {
         &self.roster
     }
 
@@ -74,14 +78,14 @@ impl ReadHistory {
     pub(crate) fn has_run(&self, r: RunNo) -> bool
         ensures { result ≡ is_run self.now.setting.runs r.0 }
     {
-        1 <= r.0 && r.0 as u64 <= self.roster.runs.len()
+        1 <= r.0 && r.0 as u64 <= self.run_count()
     }
 
     /// How many runs the window has.
     pub(crate) fn run_count(&self) -> u64
         ensures { result ≡ length self.now.setting.runs }
     {
-        self.roster.runs.len()
+        self.roster.roster().runs.len()
     }
 
     /// How many devices the home has.
@@ -134,25 +138,16 @@ impl ReadHistory {
         }
     }
 
-    /// Whether a command of the run on the device has no answer yet.
-    pub(crate) fn pends(&self, r: RunNo, d: DeviceNo) -> bool
+    /// Whether the run is done with the device, on which its last answered command is, the one with the number `k`: it is
+    /// doomed, or has no later command there.
+    pub(crate) fn is_done(&self, r: RunNo, k: u32, d: DeviceNo) -> bool
         requires run { IsTrue (is_run self.now.setting.runs r.0) }
-        ensures { result ≡ pends self.now.setting (read_in self.now) r.0 d.0 }
-    {
-        let next = self.progress(r).answered;
-        let commands = self.roster.commands(r);
-        commands
-            .iter()
-            .skip(next as usize)
-            .any(|command| command.device == d)
-    }
-
-    /// Whether the run is done with the device: it is doomed, or each of its commands there is answered.
-    pub(crate) fn is_done(&self, r: RunNo, d: DeviceNo) -> bool
-        requires run { IsTrue (is_run self.now.setting.runs r.0) }
+        requires there { k < length (commands_of self.now.setting.runs r.0) }
+        requires device { (command_at self.now.setting.runs r.0 k).device.0 ≡ d.0 }
+        requires answered { next_of (read_in self.now) r.0 ≡ k + 1 }
         ensures { result ≡ (is_doomed (read_in self.now) r.0 || not (pends self.now.setting (read_in self.now) r.0 d.0)) }
     {
-        self.progress(r).doomed.is_some() || !self.pends(r, d)
+        self.progress(r).doomed.is_some() || self.roster.is_last(r, k)
     }
 
     /// For what the run is doomed with this answer to its command with the number `k`: a must `check` that found another
@@ -329,15 +324,5 @@ impl ReadHistory {
         );
         self.book.push(Kept { maker: r.0, entry });
         entry
-    }
-}
-
-/// What the answer to a job leaves in the register.
-fn register_after(job: Job, answer: Answer, register: Value) -> Value
-    ensures { result ≡ register_after job answer register }
-{
-    match (job, answer) {
-        (Job::Load, Answer::Found(found)) => found,
-        _ => register,
     }
 }

@@ -1,4 +1,5 @@
-use Rattle.hub_core.proofs.HubOpens.{Opens, first_order, first_hands, first_kept, first_opened, first_room, is_first_hub}
+use Rattle.hub_core.proofs.HubOpens.{Opens, first_order, first_hands, first_kept, first_opened, first_room, is_first_hub, setting_of_indexed}
+use Rattle.hub_core.proofs.HubOrders.{index_fits}
 use Rattle.hub_core.proofs.homes.Home.open_window.Goals as goal
 use Rattle.hub_core.specs.Homes.{HomeIsKept, HomeState, setting_for}
 use Rattle.hub_core.specs.HubCalls.{IsOpened, entries_of_a_run}
@@ -7,10 +8,13 @@ use Rattle.hub_core.specs.KeptOrders.{OrderIsBeside}
 use Rattle.hub_core.specs.OpenHubs.{OpenHub, configuration_of}
 use Rattle.std.proofs.Common.{length, subst, sym, ◌*◌, ◌≤◌}
 
+pub open-requires : goal.open-requires
+open-requires g c = index_fits (setting_for c.args.self c.args.roster c.args.mode) c.args.rounds c.args.self.opened c.requires.may
+
 -- the hub of a window that opens, which is kept and has its room
 pub invariant_of-result : goal.invariant_of-result
 invariant_of-result g c =
-    let same = is_first_hub c.args.self c.args.roster c.args.mode c.args.rounds c.in-Ok.room.devices.items _ _ _ _ _ _ _ _ c.self.view_is c.empty_history.ensures.setting c.empty_history.ensures.history c.in-Ok-open.ensures.home c.in-Ok-open.ensures.tickets in
+    let same = is_first_hub c.args.self c.args.roster c.args.mode c.args.rounds c.in-Ok.room.devices.items _ _ _ _ _ _ _ _ c.self.view_is (setting_of_indexed _ _ _ _ _ _ c.empty_history.ensures.setting c.in-Ok-open.ensures) c.empty_history.ensures.history c.in-Ok-open-2.ensures.home c.in-Ok-open-2.ensures.tickets in
     let kept : HomeIsKept g.D.Device.tag g.D.Device.stands g.D.Device.turns g.D.Device.probes g.D.Device.faults c.args.self = subst (λ (h : HomeState g.row.D.Denot). HomeIsKept g.D.Device.tag g.D.Device.stands g.D.Device.turns g.D.Device.probes g.D.Device.faults h) c.self.view_is c.self.invariant in
     let opens : Opens g.D.Device.tag g.D.Device.stands g.D.Device.turns g.D.Device.probes g.D.Device.faults c.args.self c.args.roster c.args.mode c.args.rounds c.in-Ok.room.devices.items = record { kept = kept; may = c.requires.may; stage = c.requires.stage; knows = c.in-Ok.ensures.devices } in
     let enough : entries_of_a_run * length c.args.roster.runs.items ≤ c.empty_history.result.spare = rw c.empty_history.ensures.spare c.in-Ok.ensures.history.enough in
@@ -22,10 +26,10 @@ invariant_of-result g c =
       hands = subst (λ (t : OpenHub g.row.D.Denot). HandsAre t.setting (configuration_of t).grips c.in-Ok.room.hands.items) (sym same) (first_hands _ _ _ _ _ c.args.self c.args.roster c.args.mode c.args.rounds _ _ opens c.in-Ok.ensures.hands);
     }
 
-pub returns-in-Ok-open-clause-opened : goal.returns-in-Ok-open-clause-opened
-returns-in-Ok-open-clause-opened g c =
+pub returns-in-Ok-open-2-clause-opened : goal.returns-in-Ok-open-2-clause-opened
+returns-in-Ok-open-2-clause-opened g c =
     let kept : HomeIsKept g.D.Device.tag g.D.Device.stands g.D.Device.turns g.D.Device.probes g.D.Device.faults c.args.self = subst (λ (h : HomeState g.row.D.Denot). HomeIsKept g.D.Device.tag g.D.Device.stands g.D.Device.turns g.D.Device.probes g.D.Device.faults h) c.self.view_is c.self.invariant in
     let opens : Opens g.D.Device.tag g.D.Device.stands g.D.Device.turns g.D.Device.probes g.D.Device.faults c.args.self c.args.roster c.args.mode c.args.rounds c.in-Ok.room.devices.items = record { kept = kept; may = c.requires.may; stage = c.requires.stage; knows = c.in-Ok.ensures.devices } in
     subst (λ (t : OpenHub g.row.D.Denot). IsOpened g.D.Device.turns g.D.Device.probes g.D.Device.faults (setting_for c.args.self c.args.roster c.args.mode) c.args.rounds c.args.self t)
-    (sym (is_first_hub c.args.self c.args.roster c.args.mode c.args.rounds c.in-Ok.room.devices.items _ _ _ _ _ _ _ _ c.self.view_is c.empty_history.ensures.setting c.empty_history.ensures.history c.in-Ok-open.ensures.home c.in-Ok-open.ensures.tickets))
+    (sym (is_first_hub c.args.self c.args.roster c.args.mode c.args.rounds c.in-Ok.room.devices.items _ _ _ _ _ _ _ _ c.self.view_is (setting_of_indexed _ _ _ _ _ _ c.empty_history.ensures.setting c.in-Ok-open.ensures) c.empty_history.ensures.history c.in-Ok-open-2.ensures.home c.in-Ok-open-2.ensures.tickets))
     (first_opened _ _ _ _ _ c.args.self c.args.roster c.args.mode _ _ opens)

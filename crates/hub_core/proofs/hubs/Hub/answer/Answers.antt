@@ -1,6 +1,7 @@
 use Rattle.command_rules.specs.Rosters.{is_run}
 use Rattle.history_book.specs.Readings.{next_of}
 use Rattle.hub_core.proofs.HubReturns.{IsBack, answer_entries, answer_made, answered_back, back_given, back_place, command_back, doom_place, grip_back, hand_back}
+use Rattle.hub_core.proofs.LastAnswers.{just_answered}
 use Rattle.hub_core.proofs.ReturnedOrders.{answered_whole, may_tell}
 use Rattle.hub_core.proofs.hubs.Hub.answer.Goals as goal
 use Rattle.hub_core.specs.ReadHistories.{read_in, with_doom, with_entry}
@@ -34,8 +35,29 @@ answer-entry-requires-clause-few g c =
     let number : next_of (read_in c.self.inside.history) c.slip-slip.result.maker ≡ c.args.k = ap (λ s. next_of (read_in c.self.inside.history) s.maker) c.slip-slip.ensures ∙ sym command.next in
     omega (arith, number, command.few)
 
-pub is_done-is_last-requires : goal.is_done-is_last-requires
-is_done-is_last-requires g c = record { run = ap (λ s. is_run s.setting.runs c.slip-slip.result.maker) c.answer-entry.ensures.new ∙ ap (λ s. is_run c.self.inside.history.setting.runs s.maker) c.slip-slip.ensures ∙ (command_back c.self.inside c.args.self.now c.args.grip.slip c.args.grip.task c.args.k c.self.view_is c.requires.kept c.requires.purpose c.self.invariant).run }
+pub is_done-is_last-requires-clause-run : goal.is_done-is_last-requires-clause-run
+is_done-is_last-requires-clause-run g c =
+    let command = command_back c.self.inside c.args.self.now c.args.grip.slip c.args.grip.task c.args.k c.self.view_is c.requires.kept c.requires.purpose c.self.invariant in
+    let last = just_answered c.self.inside.history c.answer-entry.new.self c.args.grip.slip.maker c.slip-slip.result.maker c.args.k c.slip-slip.result.device.0 c.answer-entry.result c.answer_told-answer.result command.run command.next command.within (command.on ∙ ap (λ s. s.device.0) (sym c.slip-slip.ensures)) (ap (λ s. s.maker) c.slip-slip.ensures) c.answer-entry.ensures.entry c.answer-entry.ensures.new in
+    last.run
+
+pub is_done-is_last-requires-clause-there : goal.is_done-is_last-requires-clause-there
+is_done-is_last-requires-clause-there g c =
+    let command = command_back c.self.inside c.args.self.now c.args.grip.slip c.args.grip.task c.args.k c.self.view_is c.requires.kept c.requires.purpose c.self.invariant in
+    let last = just_answered c.self.inside.history c.answer-entry.new.self c.args.grip.slip.maker c.slip-slip.result.maker c.args.k c.slip-slip.result.device.0 c.answer-entry.result c.answer_told-answer.result command.run command.next command.within (command.on ∙ ap (λ s. s.device.0) (sym c.slip-slip.ensures)) (ap (λ s. s.maker) c.slip-slip.ensures) c.answer-entry.ensures.entry c.answer-entry.ensures.new in
+    last.there
+
+pub is_done-is_last-requires-clause-device : goal.is_done-is_last-requires-clause-device
+is_done-is_last-requires-clause-device g c =
+    let command = command_back c.self.inside c.args.self.now c.args.grip.slip c.args.grip.task c.args.k c.self.view_is c.requires.kept c.requires.purpose c.self.invariant in
+    let last = just_answered c.self.inside.history c.answer-entry.new.self c.args.grip.slip.maker c.slip-slip.result.maker c.args.k c.slip-slip.result.device.0 c.answer-entry.result c.answer_told-answer.result command.run command.next command.within (command.on ∙ ap (λ s. s.device.0) (sym c.slip-slip.ensures)) (ap (λ s. s.maker) c.slip-slip.ensures) c.answer-entry.ensures.entry c.answer-entry.ensures.new in
+    last.device
+
+pub is_done-is_last-requires-clause-answered : goal.is_done-is_last-requires-clause-answered
+is_done-is_last-requires-clause-answered g c =
+    let command = command_back c.self.inside c.args.self.now c.args.grip.slip c.args.grip.task c.args.k c.self.view_is c.requires.kept c.requires.purpose c.self.invariant in
+    let last = just_answered c.self.inside.history c.answer-entry.new.self c.args.grip.slip.maker c.slip-slip.result.maker c.args.k c.slip-slip.result.device.0 c.answer-entry.result c.answer_told-answer.result command.run command.next command.within (command.on ∙ ap (λ s. s.device.0) (sym c.slip-slip.ensures)) (ap (λ s. s.maker) c.slip-slip.ensures) c.answer-entry.ensures.entry c.answer-entry.ensures.new in
+    last.answered
 
 pub note-requires-clause-device : goal.note-requires-clause-device
 note-requires-clause-device g c = (may_tell c.self.inside c.args.k _ c.args.grip c.slip-slip.result (grip_back c.self.inside c.args.self.now (ForCommand c.args.k) _ c.args.grip c.self.view_is c.requires.kept c.requires.maker c.requires.purpose c.take_home-told.ensures.called c.take_home-told.ensures.stage_lives) c.slip-slip.ensures c.self.invariant).device

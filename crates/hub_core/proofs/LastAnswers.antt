@@ -1,0 +1,39 @@
+-- A run that has just answered its next command, and whether it is done with the device of that command.
+use Rattle.command_rules.specs.Rosters.{command_at, commands_of, is_run, run_no}
+use Rattle.history_book.proofs.Snoc.{entries_on, put_same, reading_more}
+use Rattle.history_book.specs.Histories.{entries_of, entry, reading}
+use Rattle.history_book.specs.Readings.{OfRun, Reading, next_of}
+use Rattle.history_book.specs.declared.entries.Entry.TheVariants.{Did}
+use Rattle.history_book.specs.declared.entries.Entry.{Entry}
+use Rattle.home_types.specs.declared.commands.Answer.{Answer}
+use Rattle.hub_core.specs.ReadHistories.{HistoryState, read_in, with_entry}
+use Rattle.std.proofs.Common.{ap, subst, sym, ◌∙◌}
+use Rattle.std.proofs.lemmas.List.{length-append}
+use Rattle.std.specs.Prelude.{IsTrue, [], length, true, ℕ, ◌+◌, ◌<◌, ◌∷◌, ◌≡◌}
+
+-- the answer is counted
+next_behind : (s : HistoryState) (maker r k : ℕ) (a : Answer) → next_of (read_in (with_entry s maker (Did (run_no r) k a))) r ≡ next_of (read_in s) r + 1
+next_behind s maker r k a =
+    let read = ap (reading s.setting) (entries_on s.history maker (Did (run_no r) k a ∷ [])) ∙ reading_more s.setting (entries_of s.history) (Did (run_no r) k a) in
+    ap (λ (n : Reading). next_of n r) read
+    ∙ ap (λ (o : OfRun). length o.answers) (put_same (read_in s).run r _)
+    ∙ length-append ((read_in s).run r).answers (a ∷ [])
+
+-- the run has just answered its command k, which is on the device
+pub record HasJustAnswered (s : HistoryState) (r k d : ℕ) : Type 0 where
+  pub run : IsTrue (is_run s.setting.runs r)
+  pub there : k < length (commands_of s.setting.runs r)
+  pub device : (command_at s.setting.runs r k).device.0 ≡ d
+  pub answered : next_of (read_in s) r ≡ k + 1
+
+-- .. once the answer to its next command is appended
+pub just_answered : (s t : HistoryState) (maker r k d : ℕ) (e : Entry) (a : Answer) → is_run s.setting.runs maker ≡ true → k ≡ next_of (read_in s) maker → k < length (commands_of s.setting.runs maker) → (command_at s.setting.runs maker k).device.0 ≡ d
+    → r ≡ maker → e ≡ Did (run_no r) k a → t ≡ with_entry s r e → HasJustAnswered t r k d
+just_answered s t maker r k d e a run next within on same is new =
+    subst (λ (u : HistoryState). HasJustAnswered u r k d) (sym (new ∙ ap (with_entry s r) is))
+    (subst (λ q. HasJustAnswered (with_entry s q (Did (run_no q) k a)) q k d) (sym same) (record {
+      run = run;
+      there = within;
+      device = on;
+      answered = next_behind s maker maker k a ∙ ap (λ n. n + 1) (sym next);
+    }))
