@@ -78,7 +78,7 @@ met_run c (suc a) m run = let no : (suc a == 0) ≡ false = grind (arith, common
 
 -- what came of it
 
-entries_are : {D : Type 0} (s t : PlayerState D) (a : ℕ) (grip : Gripped D Ready) (done : Gripped D Done) (entries : List Entry) → IsGivenBack s t a grip done entries
+pub entries_are : {D : Type 0} (s t : PlayerState D) (a : ℕ) (grip : Gripped D Ready) (done : Gripped D Done) (entries : List Entry) → IsGivenBack s t a grip done entries
     → (entries ≡ give_entries s.hub.setting (read_of (configuration_of s.hub)) grip.slip.device.0 (record { maker = a; purpose = purpose_at s grip }) done.stage.told)
     × (configuration_of t.hub ≡ after_give (at_moment (configuration_of s.hub) t.moment) grip.slip.device.0 (record { maker = a; purpose = purpose_at s grip }) done.stage.told)
 entries_are {D = D} s t a grip done entries by =
@@ -99,7 +99,7 @@ given_picked s t a acts grip done entries by =
     (two.1 ∙ ap (λ c. after_give c grip.slip.device.0 (record { maker = a; purpose = purpose_at s grip }) done.stage.told) (sym (met_run (configuration_of s.hub) a t.moment by.is.run))) by.place
 
 -- a run's grip is for a command or an undo
-runs_purpose : {D : Type 0} (s : PlayerState D) (a d : ℕ) (purpose : Purpose) → 0 < a → GripsFit s.hub.setting (read_of (configuration_of s.hub)) (configuration_of s.hub).grips → (configuration_of s.hub).grips d ≡ Some (record { maker = a; purpose = purpose }) → (is_command purpose || is_undo purpose) ≡ true
+pub runs_purpose : {D : Type 0} (s : PlayerState D) (a d : ℕ) (purpose : Purpose) → 0 < a → GripsFit s.hub.setting (read_of (configuration_of s.hub)) (configuration_of s.hub).grips → (configuration_of s.hub).grips d ≡ Some (record { maker = a; purpose = purpose }) → (is_command purpose || is_undo purpose) ≡ true
 runs_purpose s a d (Commands k) run fit out = refl
 runs_purpose s a d (Undoes v) run fit out = refl
 runs_purpose s a d (Probes v) run fit out = absurd (let no = fit.probes d a v out in omega (arith, run, no))

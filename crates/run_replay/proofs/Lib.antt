@@ -12,9 +12,10 @@ pub mod Gripping
 pub mod Picking
 pub mod Stepping
 pub mod Counting
+pub mod Leaving
 pub mod Living
 pub mod Ending
-pub mod Hands
+pub mod EmptyHands
 pub mod Opening
 pub mod EndedRuns
 pub mod Replayed

@@ -9,7 +9,7 @@ use Rattle.hub_core.specs.Homes.{HomeState}
 use Rattle.hub_core.specs.HubCalls.{IsOpened as IsOpenedOn}
 use Rattle.hub_core.specs.OpenHubs.{OpenHub, configuration_of, device_at, grip_in}
 use Rattle.hub_core.specs.Steps.{opened}
-use Rattle.run_replay.proofs.Hands.{HoldNothing, empty_there}
+use Rattle.run_replay.proofs.EmptyHands.{HoldNothing, empty_there}
 use Rattle.run_replay.specs.Players.{IsOpened, PlayerIsKept, PlayerState}
 use Rattle.std.proofs.Common.{ap, arith, refl, subst, sym, ◌∙◌}
 use Rattle.std.proofs.lemmas.Grind.{common_steps}

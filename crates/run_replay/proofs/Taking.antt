@@ -114,10 +114,10 @@ pub record IsAnswered {D : Type 0} (s t : PlayerState D) (r : ℕ) (choice : Cho
 some_slip : Slip
 some_slip = record { ticket = 0; device = record { 0 = 0 }; maker = 0; stood = 0; turns = 0; probes = 0; faults = 0 }
 
-chosen : {D : Type 0} (s t : PlayerState D) (r : ℕ) (choice : Choice) → Answers s.hub r s.moment choice t.hub → choice ≡ choice_of (configuration_of s.hub) r s.moment
+pub chosen : {D : Type 0} (s t : PlayerState D) (r : ℕ) (choice : Choice) → Answers s.hub r s.moment choice t.hub → choice ≡ choice_of (configuration_of s.hub) r s.moment
 chosen s t r choice answers = took_choice (state_of s.hub) (state_of t.hub) r s.moment some_slip choice (answers.step some_slip)
 
-after : {D : Type 0} (s t : PlayerState D) (r : ℕ) (choice : Choice) → Answers s.hub r s.moment choice t.hub → configuration_of t.hub ≡ after_take (configuration_of s.hub) r s.moment
+pub after : {D : Type 0} (s t : PlayerState D) (r : ℕ) (choice : Choice) → Answers s.hub r s.moment choice t.hub → configuration_of t.hub ≡ after_take (configuration_of s.hub) r s.moment
 after s t r choice answers = took_after (state_of s.hub) (state_of t.hub) r s.moment some_slip choice (answers.step some_slip)
 
 longer : {D : Type 0} (s t : PlayerState D) (r : ℕ) → configuration_of t.hub ≡ after_take (configuration_of s.hub) r s.moment → length s.hub.history ≤ length t.hub.history
@@ -188,10 +188,10 @@ pub record GoesToHand {D : Type 0} (s t : PlayerState D) (r : ℕ) (grip : Gripp
   pub moment : t.moment ≡ s.moment
   pub place : t.place ≡ s.place
 
-went : {D : Type 0} (s t : PlayerState D) (r : ℕ) (grip : Gripped D Ready) → (is : GoesToHand s t r grip) → HandsOut grip.slip.device.0 is.out.purpose ≡ choice_of (configuration_of s.hub) r s.moment
+pub went : {D : Type 0} (s t : PlayerState D) (r : ℕ) (grip : Gripped D Ready) → (is : GoesToHand s t r grip) → HandsOut grip.slip.device.0 is.out.purpose ≡ choice_of (configuration_of s.hub) r s.moment
 went s t r grip is = took_choice (state_of s.hub) (state_of t.hub) r s.moment grip.slip (HandsOut grip.slip.device.0 is.out.purpose) is.out.step
 
-went_after : {D : Type 0} (s t : PlayerState D) (r : ℕ) (grip : Gripped D Ready) → (is : GoesToHand s t r grip) → configuration_of t.hub ≡ after_take (configuration_of s.hub) r s.moment
+pub went_after : {D : Type 0} (s t : PlayerState D) (r : ℕ) (grip : Gripped D Ready) → (is : GoesToHand s t r grip) → configuration_of t.hub ≡ after_take (configuration_of s.hub) r s.moment
 went_after s t r grip is = took_after (state_of s.hub) (state_of t.hub) r s.moment grip.slip (HandsOut grip.slip.device.0 is.out.purpose) is.out.step
 
 its_slip : {D : Type 0} (s t : PlayerState D) (r : ℕ) (grip : Gripped D Ready) → (is : GoesToHand s t r grip) → IsSlipOf r grip.slip.device.0 grip.slip

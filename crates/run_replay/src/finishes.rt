@@ -1,11 +1,11 @@
-ghost use Rattle.std.specs.Prelude.{◌≡◌, ◌<◌, List, Some, filter, length, not, slice_get, ℕ};
+ghost use Rattle.std.specs.Prelude.{◌≡◌, ◌<◌, List, Some, length, slice_get, ℕ};
 ghost use Rattle.hub_core.specs.HubCalls.{SameWindow};
-ghost use Rattle.run_replay.specs.Players.{HavePlans, are_live, is_ended, picked_of, play_of, steps_left};
+ghost use Rattle.run_replay.specs.Players.{HavePlans, are_live, play_of, steps_left};
 ghost use Rattle.run_replay.specs.Playing.{GoesOn, IsFinished};
-ghost use Rattle.run_replay.specs.Replays.{from_place, pick_first, waits};
+ghost use Rattle.run_replay.specs.Replays.{from_place, pick_first};
 
 use crate::draws::Draws;
-use crate::picked::Picked;
+use crate::picked::has_waited;
 use crate::players::Player;
 use device_states::Steady;
 
@@ -22,13 +22,6 @@ fn place_on(place: u64, step: u64, live: u64) -> u64
     } else {
         step - ahead
     }
-}
-
-/// Whether the actor that did this waits.
-fn has_waited(picked: Picked) -> bool
-    ensures { result ≡ waits (picked_of picked) }
-{
-    matches!(picked, Picked::Waits(_))
 }
 
 impl<D: Steady> Player<D> {
@@ -55,14 +48,7 @@ impl<D: Steady> Player<D> {
     fn live_count(&self) -> u64
         ensures { result ≡ length (are_live self.now) }
     {
-        self.kept();
-        let mut count = 0;
-        'actors: for actor in 0..self.grips.len() {
-            if !self.has_ended(actor as u32) {
-                count += 1;
-            }
-        }
-        count
+        self.actors.len() as u64
     }
 
     /// The actor at this place of the ascending list of those that have not ended.
@@ -70,17 +56,7 @@ impl<D: Steady> Player<D> {
         requires { place < length (are_live self.now) }
         ensures { slice_get (are_live self.now) place ≡ Some result }
     {
-        self.kept();
-        let mut before = 0;
-        'actors: for actor in 0..self.grips.len() {
-            if !self.has_ended(actor as u32) {
-                if before == place {
-                    return actor as u32;
-                }
-                before += 1;
-            }
-        }
-        unreachable!()
+        self.actors[place as usize]
     }
 
     /// Picks the actors that have not ended, from this place of their list on and in cyclic order, until one does not

@@ -3,6 +3,7 @@
 
 pub mod draws;
 mod finishes;
+mod hands;
 pub mod picked;
 pub mod players;
 pub mod windows;

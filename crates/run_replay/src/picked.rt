@@ -1,3 +1,7 @@
+ghost use Rattle.std.specs.Prelude.{◌≡◌};
+ghost use Rattle.run_replay.specs.Players.{picked_of};
+ghost use Rattle.run_replay.specs.Replays.{waits};
+
 use history_book::Made;
 use home_types::DeviceNo;
 use hub_core::Why;
@@ -13,4 +17,11 @@ pub enum Picked {
     Took(DeviceNo),
     /// It waits.
     Waits(Why),
+}
+
+/// Whether the actor that did this waits.
+pub(crate) fn has_waited(picked: Picked) -> bool
+    ensures { result ≡ waits (picked_of picked) }
+{
+    matches!(picked, Picked::Waits(_))
 }

@@ -1,40 +1,37 @@
-ghost use Rattle.std.specs.Prelude.{◌≡◌, ◌<◌, false, true, ℕ};
+ghost use Rattle.std.specs.Prelude.{◌≡◌, ◌<◌, ◌==◌, false, filter, not, ℕ};
 ghost use Rattle.hub_core.specs.HubCalls.{HubStands, SameWindow};
-ghost use Rattle.run_replay.specs.Players.{HavePlans, PlayerStands, is_ended, is_full, picked_of, play_of, steps_left};
+ghost use Rattle.run_replay.specs.Players.{HavePlans, PlayerStands, is_ended, picked_of, play_of, steps_left};
 ghost use Rattle.run_replay.specs.Playing.{IsPicked, IsPlayed};
 ghost use Rattle.run_replay.specs.Replays.{waits};
 
-use crate::picked::Picked;
+use crate::hands::Hands;
+use crate::picked::{Picked, has_waited};
 use device_states::{Device, Steady};
-use history_book::Made;
-use home_types::RunNo;
-use hub_core::{Grip, Hub, Ready, Turn};
 use std::marker::Model;
-use std::mem;
 
-/// A hub with the grips that its actors hold: its runs, and the detector, which is the actor 0.
-///
-/// An actor is stepped where it is picked: one that holds a grip acts and gives it back, any other one takes.
+/// A hub with the grips that its actors hold, and the actors that have not ended.
 pub struct Player<D: Device> {
-    pub(crate) hub: Hub<D>,
-    /// The grip of each actor that holds one.
-    pub(crate) grips: Vec<Option<Grip<D, Ready>>>,
-    /// How often the detector comes to each device.
-    pub(crate) rounds: u32,
-    /// The moment, in ms: it rises by the time that the commands take.
-    pub(crate) moment: u64,
-    /// How many devices the detector has come to.
-    pub(crate) place: u64,
+    pub(crate) hands: Hands<D>,
+    /// The actors that have not ended, ascending.
+    pub(crate) actors: Vec<u32>,
 }
 
 impl<D: Device> Model for Player<D> {
-    ghost use Rattle.run_replay.specs.Players.{PlayerIsKept, PlayerState};
+    ghost use Rattle.std.specs.Prelude.{◌≡◌};
+    ghost use Rattle.run_replay.specs.Players.{PlayerState, are_live};
 
     ghost Value = { PlayerState D };
 
-    ghost view = { λ p. record { hub = p.hub; grips = p.grips.items; rounds = p.rounds; moment = p.moment; place = p.place } };
+    ghost view = { λ p. p.hands };
 
-    ghost invariant = { λ p. PlayerIsKept (record { hub = p.hub; grips = p.grips.items; rounds = p.rounds; moment = p.moment; place = p.place }) };
+    ghost invariant = { λ p. p.actors.items ≡ are_live p.hands };
+}
+
+/// Takes an actor out of a list, where it stands there.
+fn take_out(actors: &mut Vec<u32>, actor: u32)
+    ensures { actors.new.items ≡ filter (λ a. not (a == actor)) actors.old.items }
+{
+    actors.retain(|a| *a != actor);
 }
 
 impl<D: Steady> Player<D> {
@@ -46,16 +43,15 @@ impl<D: Steady> Player<D> {
         ensures plans { (plans : ℕ → _) → HavePlans D.plan plans self.old → HavePlans D.plan plans self.new }
         ensures fewer { waits (picked_of result) ≡ false → is_ended self.old actor ≡ false → steps_left self.new < steps_left self.old }
     {
-        self.hub.kept();
-        if self.has_ended(actor) {
-            return Picked::Passed;
+        let picked = self.hands.pick(actor);
+        if has_waited(picked) {
+            return picked;
         }
-        // In this stage the detector has no rounds, so it has ended and the actor is a run.
-        if self.holds(actor) {
-            Picked::Made(self.act(actor))
-        } else {
-            self.run_takes(RunNo(actor))
+        if !self.hands.has_ended(actor) {
+            return picked;
         }
+        take_out(&mut self.actors, actor);
+        picked
     }
 
     /// Steps each of these actors, one after another.
@@ -70,86 +66,11 @@ impl<D: Steady> Player<D> {
         }
     }
 
-    /// Whether the actor holds a grip.
-    pub(crate) fn holds(&self, actor: u32) -> bool
-        ensures { result ≡ is_full self.now actor }
-    {
-        matches!(self.grips.get(actor as usize), Some(Some(_)))
-    }
-
-    /// Whether the actor has ended: the detector when its rounds are over and it holds no grip, a run when it has its
-    /// end, and where it is none of the window.
-    pub(crate) fn has_ended(&self, actor: u32) -> bool
-        ensures { result ≡ is_ended self.now actor }
-    {
-        if actor == 0 {
-            let all = u64::from(self.rounds) * self.hub.device_count();
-            return !self.holds(0) && all <= self.place;
-        }
-        self.hub.is_over(RunNo(actor))
-    }
-
-    /// Makes the call of the grip that the run holds, and gives the grip back.
-    fn act(&mut self, actor: u32) -> Made
-        requires run { 0 < actor }
-        requires going { is_ended self.old actor ≡ false }
-        requires holds { is_full self.old actor ≡ true }
-        ensures picked { (acts : ℕ) → (later : ℕ) × IsPicked self.old.rounds actor (play_of self.old acts) (picked_of (Picked.Made result)) (play_of self.new later) }
-        ensures window { SameWindow self.old.hub self.new.hub }
-        ensures rounds { self.new.rounds ≡ self.old.rounds }
-        ensures plans { (plans : ℕ → _) → HavePlans D.plan plans self.old → HavePlans D.plan plans self.new }
-        ensures fewer { steps_left self.new < steps_left self.old }
-    {
-        self.hub.kept();
-        self.hub.bounded();
-        match mem::replace(&mut self.grips[actor as usize], None) {
-            Some(grip) => {
-                self.moment += u64::from(self.hub.takes(grip.slip().device));
-                let given = self.hub.give(grip.act(), self.moment);
-                self.hub.bounded();
-                match given {
-                    Ok(made) => made,
-                    Err((_back, _stranger)) => unreachable!(),
-                }
-            }
-            None => unreachable!(),
-        }
-    }
-
-    /// Takes the step of the run, which holds no grip.
-    fn run_takes(&mut self, r: RunNo) -> Picked
-        requires run { 0 < r.0 }
-        requires going { is_ended self.old r.0 ≡ false }
-        requires empty { is_full self.old r.0 ≡ false }
-        ensures picked { (acts : ℕ) → (later : ℕ) × IsPicked self.old.rounds r.0 (play_of self.old acts) (picked_of result) (play_of self.new later) }
-        ensures window { SameWindow self.old.hub self.new.hub }
-        ensures rounds { self.new.rounds ≡ self.old.rounds }
-        ensures plans { (plans : ℕ → _) → HavePlans D.plan plans self.old → HavePlans D.plan plans self.new }
-        ensures fewer { waits (picked_of result) ≡ false → steps_left self.new < steps_left self.old }
-    {
-        let turn = self.hub.take(r, self.moment);
-        self.hub.bounded();
-        match turn {
-            Turn::Go(grip) => {
-                let d = grip.slip().device;
-                match mem::replace(&mut self.grips[r.0 as usize], Some(grip)) {
-                    None => Picked::Took(d),
-                    Some(_held) => unreachable!(),
-                }
-            }
-            Turn::Moved(made) => Picked::Made(made),
-            Turn::Over(_, made) => Picked::Made(made),
-            Turn::Wait(why) => Picked::Waits(why),
-            Turn::Absent => Picked::Passed,
-        }
-    }
-
     /// Does nothing. Its contract is what is kept of every player and of its hub, and that its window is never stuck.
     pub(crate) fn kept(&self)
         ensures player { PlayerStands self.now }
         ensures hub { HubStands D.stands D.turns D.probes self.now.hub }
     {
-        self.hub.kept();
-        self.hub.progress();
+        self.hands.kept();
     }
 }

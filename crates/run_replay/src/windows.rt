@@ -5,6 +5,7 @@ ghost use Rattle.hub_core.specs.Steps.{not_quiet, opened};
 ghost use Rattle.run_replay.specs.Players.{IsOpened};
 ghost use Rattle.run_replay.specs.ReplayedWindows.{IsReplayed};
 
+use crate::hands::Hands;
 use crate::players::Player;
 use device_states::Steady;
 use history_book::WindowRecord;
@@ -22,23 +23,27 @@ impl<D: Steady> Player<D> {
         ensures opened { IfOk result (λ player. IsOpened hub rounds player) }
         ensures refused { IfErr result (λ refused. refused.0 ≡ hub) }
     {
-        hub.kept();
-        let mut grips = Vec::new(alloc);
-        let actors = hub.run_count() as usize + 1;
-        if grips.reserve(actors).is_err() {
-            grips.destroy_empty();
+        let count = hub.run_count() + 1;
+        let mut actors = Vec::new(alloc);
+        if actors.reserve(count as usize).is_err() {
+            actors.destroy_empty();
             return Err((hub, NoMemory));
         }
-        'actors: while grips.len() < actors {
-            grips.push_reserved(None);
+        match Hands::open(alloc, hub, rounds) {
+            Ok(hands) => {
+                hands.kept();
+                'actors: for actor in 0..count {
+                    if !hands.has_ended(actor) {
+                        actors.push_reserved(actor);
+                    }
+                }
+                Ok(Player { hands, actors })
+            }
+            Err(refused) => {
+                actors.destroy_empty();
+                Err(refused)
+            }
         }
-        Ok(Player {
-            hub,
-            grips,
-            rounds,
-            moment: 0,
-            place: 0,
-        })
     }
 
     /// Closes the window.
@@ -50,35 +55,10 @@ impl<D: Steady> Player<D> {
         ensures same { IfErr result (λ refused. refused.0 ≡ self) }
         ensures refused { IfErr result (λ refused. not_quiet (configuration_of self.hub) ≡ Some refused.1) }
     {
-        let Player {
-            hub,
-            mut grips,
-            rounds,
-            moment,
-            place,
-        } = self;
-        hub.kept();
-        match hub.close_window() {
-            Ok(closed) => {
-                'hands: while let Some(hand) = grips.pop() {
-                    match hand {
-                        None => {}
-                        Some(_held) => unreachable!(),
-                    }
-                }
-                grips.destroy_empty();
-                Ok(closed)
-            }
-            Err((hub, why)) => Err((
-                Player {
-                    hub,
-                    grips,
-                    rounds,
-                    moment,
-                    place,
-                },
-                why,
-            )),
+        let Player { hands, actors } = self;
+        match hands.close() {
+            Ok(closed) => Ok(closed),
+            Err((hands, why)) => Err((Player { hands, actors }, why)),
         }
     }
 }

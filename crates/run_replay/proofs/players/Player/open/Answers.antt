@@ -1,18 +1,41 @@
-use Rattle.run_replay.proofs.Hands.{HoldNothing, more_hands}
-use Rattle.run_replay.proofs.Opening.{is_opened, opens_kept}
+use Rattle.run_replay.proofs.Counting.{none_passes, one_passes}
 use Rattle.run_replay.proofs.players.Player.open.Goals as goal
-use Rattle.std.proofs.Common.{arith, subst, sym}
+use Rattle.run_replay.proofs.players.Player.open.Goals.{else-not-has_ended, then-not-has_ended}
+use Rattle.run_replay.specs.Players.{is_ended}
+use Rattle.hub_core.specs.OpenHubs.{OpenHub}
+use Rattle.std.proofs.Common.{ap, arith, rules, sym, ◌∙◌}
+use Rattle.std.specs.List.{range_with_len}
+use Rattle.std.specs.Prelude.{filter, length, not, vec_capacity, vec_len, ◌≡◌}
 
--- one empty hand more
+pub push_reserved-requires : goal.push_reserved-requires
+push_reserved-requires g c = omega (arith, c.actors.invariant.1, c.actors.invariant.2, c.actors-test.true)
+
+-- the actor stands behind those before it, where it has not ended
 pub actors-preserved : goal.actors-preserved
-actors-preserved g c = (
-  subst HoldNothing (sym c.push_reserved.ensures.items) (more_hands c.actors.grips.items c.actors.invariant.0),
-  omega (arith, c.push_reserved.ensures.len, c.len.ensures, c.actors-test.true),
-  omega (arith, c.push_reserved.ensures.capacity, c.actors.invariant.2),
-)
+actors-preserved g c = elim c.if-not-has_ended.branch [
+  | then-not-has_ended w ↦
+      let size = ap (λ v. vec_len v) w.actors-is ∙ w.push_reserved.ensures.len in
+      let room = ap (λ v. vec_capacity v) w.actors-is ∙ w.push_reserved.ensures.capacity in (
+        one_passes (λ a. not (is_ended c.in-Ok.hands a)) c.actors.actor c.actors.actors.items c.if-not-has_ended.actors.items c.actors.invariant.0 (ap not (sym c.has_ended.ensures ∙ w.if-not-has_ended.true)) (ap (λ v. v.items) w.actors-is ∙ w.push_reserved.ensures.items),
+        omega (arith, size, c.actors.invariant.1),
+        omega (arith, room, c.actors.invariant.2),
+      )
+  | else-not-has_ended w ↦
+      let size = ap (λ v. vec_len v) w.actors-is in
+      let room = ap (λ v. vec_capacity v) w.actors-is in (
+        ap (λ v. v.items) w.actors-is ∙ none_passes (λ a. not (is_ended c.in-Ok.hands a)) c.actors.actor c.actors.actors.items c.actors.invariant.0 (ap not (sym c.has_ended.ensures ∙ w.if-not-has_ended.false)),
+        omega (arith, size, c.actors.invariant.1),
+        omega (arith, room, c.actors.invariant.2),
+      )
+]
 
+pub actors-init : goal.actors-init
+actors-init g c = (c.reserve.ensures.items ∙ c.new-actors.ensures.items, search rules, search rules)
+
+-- every actor was looked at
 pub invariant_of-result : goal.invariant_of-result
-invariant_of-result g c = opens_kept c.args.hub c.actors.grips.items c.args.rounds c.requires.fresh c.requires.rounds c.kept.ensures.no_probes c.ranges.rounds.fits c.actors.invariant.0 (omega (arith, c.actors.grips.ok, c.actors.invariant.1, c.len.ensures, c.run_count.ensures, c.actors-test.false))
-
-pub returns-clause-opened : goal.returns-clause-opened
-returns-clause-opened g c = is_opened c.args.hub c.actors.grips.items c.args.rounds c.requires.fresh c.actors.invariant.0
+invariant_of-result g c =
+    let hands = c.kept.ensures.player.kept.actors in
+    let own = ap (λ (h : OpenHub _). length h.setting.runs) c.in-Ok.ensures.opened.own in
+    let all : c.actors.actor ≡ length c.in-Ok.hands.grips = omega (arith, c.actors-test.false, c.actors.auto.actor-end, c.run_count-count.ensures, hands, own) in
+    c.actors.invariant.0 ∙ ap (λ n. filter (λ a. not (is_ended c.in-Ok.hands a)) (range_with_len 0 n)) all

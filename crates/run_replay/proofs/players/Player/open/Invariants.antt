@@ -1,10 +1,8 @@
-use Rattle.run_replay.proofs.Hands.{HoldNothing}
 use Rattle.run_replay.proofs.players.Player.open.Given as goal
-use Rattle.std.specs.Prelude.{vec_capacity, vec_len, ◌-◌, ◌≤◌}
+use Rattle.run_replay.specs.Players.{is_ended}
+use Rattle.std.specs.List.{range_with_len}
+use Rattle.std.specs.Prelude.{filter, not, vec_capacity, vec_len, ◌≡◌, ◌≤◌}
 
--- as many empty hands as fit
+-- the actors up to here that have not ended
 abbrev pub invariant-actors : goal.invariant-actors
-invariant-actors g l = HoldNothing l.grips.items × (vec_len l.grips ≤ l.actors) × (l.actors ≤ vec_capacity l.grips)
-
-abbrev pub decreases-actors : goal.decreases-actors
-decreases-actors g l = l.actors - vec_len l.grips
+invariant-actors g l = (l.actors.items ≡ filter (λ a. not (is_ended l.hands a)) (range_with_len 0 l.actor)) × (vec_len l.actors ≤ l.actor) × (l.count ≤ vec_capacity l.actors)

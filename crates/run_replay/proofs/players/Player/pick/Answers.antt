@@ -1,6 +1,28 @@
-use Rattle.run_replay.proofs.Taking.{passed_now}
+use Rattle.run_replay.proofs.Leaving.{kept_in, picked_now, plans_now, taken_out}
 use Rattle.run_replay.proofs.players.Player.pick.Goals as goal
-use Rattle.std.proofs.Common.{sym}
+use Rattle.run_replay.specs.Players.{picked_of}
+use Rattle.std.proofs.Common.{sym, ◌∙◌}
 
-pub returns-then-has_ended-clause-picked : goal.returns-then-has_ended-clause-picked
-returns-then-has_ended-clause-picked g c acts = passed_now c.args.self.now (record { hub = c.self.inside.hub; grips = c.self.inside.grips.items; rounds = c.self.inside.rounds; moment = c.self.inside.moment; place = c.self.inside.place }) c.args.actor acts c.self.view_is c.self.invariant c.kept.ensures.size (sym c.if-has_ended.ensures)
+pub invariant_of-self : goal.invariant_of-self
+invariant_of-self g c = kept_in c.self.inside.hands c.pick-picked.new.self c.self.inside.actors.items c.args.actor c.self.invariant c.pick-picked.ensures.hands c.pick-picked.ensures.others (c.pick-picked.ensures.waiting (sym c.has_waited.ensures ∙ c.if-has_waited.true))
+
+pub returns-then-has_waited-clause-picked : goal.returns-then-has_waited-clause-picked
+returns-then-has_waited-clause-picked g c = picked_now c.args.self.now c.self.inside.hands c.pick-picked.new.self c.args.actor (picked_of c.pick-picked.result) c.self.view_is c.pick-picked.ensures.picked
+
+pub returns-then-has_waited-clause-plans : goal.returns-then-has_waited-clause-plans
+returns-then-has_waited-clause-plans g c = plans_now g.D.Device.plan c.args.self.now c.self.inside.hands c.pick-picked.new.self c.self.view_is c.pick-picked.ensures.plans
+
+pub returns-then-not-has_ended-clause-picked : goal.returns-then-not-has_ended-clause-picked
+returns-then-not-has_ended-clause-picked g c = picked_now c.args.self.now c.self.inside.hands c.pick-picked.new.self c.args.actor (picked_of c.pick-picked.result) c.self.view_is c.pick-picked.ensures.picked
+
+pub returns-then-not-has_ended-clause-plans : goal.returns-then-not-has_ended-clause-plans
+returns-then-not-has_ended-clause-plans g c = plans_now g.D.Device.plan c.args.self.now c.self.inside.hands c.pick-picked.new.self c.self.view_is c.pick-picked.ensures.plans
+
+pub invariant_of-self-2 : goal.invariant_of-self-2
+invariant_of-self-2 g c = taken_out c.self.inside.hands c.pick-picked.new.self c.self.inside.actors.items c.take_out.new.actors.items c.args.actor c.self.invariant c.take_out.ensures c.pick-picked.ensures.hands c.pick-picked.ensures.others (sym c.has_ended.ensures ∙ c.if-not-has_ended.false)
+
+pub returns-clause-picked : goal.returns-clause-picked
+returns-clause-picked g c = picked_now c.args.self.now c.self.inside.hands c.pick-picked.new.self c.args.actor (picked_of c.pick-picked.result) c.self.view_is c.pick-picked.ensures.picked
+
+pub returns-clause-plans : goal.returns-clause-plans
+returns-clause-plans g c = plans_now g.D.Device.plan c.args.self.now c.self.inside.hands c.pick-picked.new.self c.self.view_is c.pick-picked.ensures.plans

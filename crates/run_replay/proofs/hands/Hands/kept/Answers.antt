@@ -1,4 +1,4 @@
-use Rattle.run_replay.proofs.players.Player.kept.Goals as goal
+use Rattle.run_replay.proofs.hands.Hands.kept.Goals as goal
 use Rattle.run_replay.specs.Players.{PlayerStands}
 use Rattle.std.proofs.Common.{subst}
 

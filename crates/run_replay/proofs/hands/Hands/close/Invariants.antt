@@ -1,5 +1,5 @@
-use Rattle.run_replay.proofs.Hands.{HoldNothing}
-use Rattle.run_replay.proofs.players.Player.close.Given as goal
+use Rattle.run_replay.proofs.EmptyHands.{HoldNothing}
+use Rattle.run_replay.proofs.hands.Hands.close.Given as goal
 use Rattle.std.specs.Prelude.{vec_len}
 
 -- the hands that are left hold nothing

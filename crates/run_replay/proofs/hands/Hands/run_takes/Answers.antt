@@ -1,5 +1,6 @@
+use Rattle.run_replay.proofs.Leaving.{answered_others, waited_ends, went_others}
 use Rattle.run_replay.proofs.Taking.{IsFree, answered_fewer_now, answered_keeps, answered_picked_now, answered_plans_now, never_absent, went_fewer_now, went_keeps, went_picked_now, went_plans_now}
-use Rattle.run_replay.proofs.players.Player.run_takes.Goals as goal
+use Rattle.run_replay.proofs.hands.Hands.run_takes.Goals as goal
 use Rattle.run_replay.specs.Players.{PlayerIsKept, PlayerState, is_ended, is_full}
 use Rattle.std.proofs.Common.{ap, refl, subst, sym}
 use Rattle.std.specs.Prelude.{false, slice_set, ℕ, ◌<◌, ◌≡◌}
@@ -64,3 +65,21 @@ returns-in-None-clause-plans g c = went_plans_now g.D.Device.plan _ _ _ c.args.r
 
 pub returns-in-None-clause-fewer : goal.returns-in-None-clause-fewer
 returns-in-None-clause-fewer g c moves = went_fewer_now _ _ _ c.args.r.0 c.in-Go.grip c.self.view_is (record { free = free_of _ _ c.args.r.0 c.self.view_is c.self.invariant c.requires.run c.requires.going c.requires.empty; out = c.in-Go.ensures.turn; window = c.in-Go.ensures.window; grips = ap (λ x. slice_set c.self.inside.grips.items c.args.r.0 x) c.replace.ensures.after; rounds = refl; moment = refl; place = refl })
+
+pub returns-in-Moved-clause-others : goal.returns-in-Moved-clause-others
+returns-in-Moved-clause-others g c = answered_others _ _ _ c.args.r.0 _ c.self.view_is (record { free = free_of _ _ c.args.r.0 c.self.view_is c.self.invariant c.requires.run c.requires.going c.requires.empty; answers = c.in-Moved.ensures.turn; window = c.in-Moved.ensures.window; grips = refl; rounds = refl; moment = refl; place = refl })
+
+pub returns-in-Over-clause-others : goal.returns-in-Over-clause-others
+returns-in-Over-clause-others g c = answered_others _ _ _ c.args.r.0 _ c.self.view_is (record { free = free_of _ _ c.args.r.0 c.self.view_is c.self.invariant c.requires.run c.requires.going c.requires.empty; answers = c.in-Over.ensures.turn; window = c.in-Over.ensures.window; grips = refl; rounds = refl; moment = refl; place = refl })
+
+pub returns-in-Wait-clause-others : goal.returns-in-Wait-clause-others
+returns-in-Wait-clause-others g c = answered_others _ _ _ c.args.r.0 _ c.self.view_is (record { free = free_of _ _ c.args.r.0 c.self.view_is c.self.invariant c.requires.run c.requires.going c.requires.empty; answers = c.in-Wait.ensures.turn; window = c.in-Wait.ensures.window; grips = refl; rounds = refl; moment = refl; place = refl })
+
+pub returns-in-Wait-clause-waiting : goal.returns-in-Wait-clause-waiting
+returns-in-Wait-clause-waiting g c waits = waited_ends _ _ _ c.args.r.0 _ c.self.view_is (record { free = free_of _ _ c.args.r.0 c.self.view_is c.self.invariant c.requires.run c.requires.going c.requires.empty; answers = c.in-Wait.ensures.turn; window = c.in-Wait.ensures.window; grips = refl; rounds = refl; moment = refl; place = refl })
+
+pub returns-in-Absent-clause-others : goal.returns-in-Absent-clause-others
+returns-in-Absent-clause-others g c = answered_others _ _ _ c.args.r.0 _ c.self.view_is (record { free = free_of _ _ c.args.r.0 c.self.view_is c.self.invariant c.requires.run c.requires.going c.requires.empty; answers = c.in-Absent.ensures.turn; window = c.in-Absent.ensures.window; grips = refl; rounds = refl; moment = refl; place = refl })
+
+pub returns-in-None-clause-others : goal.returns-in-None-clause-others
+returns-in-None-clause-others g c = went_others _ _ _ c.args.r.0 c.in-Go.grip c.self.view_is (record { free = free_of _ _ c.args.r.0 c.self.view_is c.self.invariant c.requires.run c.requires.going c.requires.empty; out = c.in-Go.ensures.turn; window = c.in-Go.ensures.window; grips = ap (λ x. slice_set c.self.inside.grips.items c.args.r.0 x) c.replace.ensures.after; rounds = refl; moment = refl; place = refl })

@@ -1,0 +1,216 @@
+-- Which actors have ended after a step: those of before, and the run that was stepped where it has its end.
+use Rattle.device_gate.specs.Grips.{Gripped}
+use Rattle.device_gate.specs.declared.grips.Done.{Done}
+use Rattle.device_gate.specs.declared.grips.Ready.{Ready}
+use Rattle.device_gate.specs.declared.slips.Told.{Told}
+use Rattle.device_gate.specs.declared.slips.Told.TheVariants.{Died, Sensed, Worked}
+use Rattle.history_book.proofs.Snoc.{entries_on, put_keeps, put_other, reading_on}
+use Rattle.history_book.specs.Histories.{entries_of, entry, kept_by, reading}
+use Rattle.history_book.specs.Readings.{Reading, did, is_doomed}
+use Rattle.history_book.specs.Settings.{Setting, is_weak}
+use Rattle.history_book.specs.declared.entries.Cause.{Cause}
+use Rattle.history_book.specs.declared.entries.Entry.TheVariants.{Arrived, Did, Doomed, Ended, Fell, Placed, Rose, Undid}
+use Rattle.history_book.specs.declared.entries.Entry.{Entry}
+use Rattle.hub_core.proofs.Choices.{decide_is}
+use Rattle.hub_core.specs.OpenHubs.{configuration_of}
+use Rattle.hub_core.specs.HubCalls.{SameWindow}
+use Rattle.hub_core.specs.Steps.{Absent, Choice, HandsOut, Moves, Over, Waits, after_choice, after_give, after_take, at_moment, choice_of, give_entries}
+use Rattle.hub_core.specs.declared.waits.Why.{Why}
+use Rattle.home_types.specs.Commands.{fails}
+use Rattle.home_types.specs.declared.commands.Answer.TheVariants.{Found}
+use Rattle.command_rules.specs.Rosters.{command_at, is_run, run_no}
+use Rattle.lock_leasing.specs.Configurations.{Commands, Configuration, Probes, Purpose, Undoes, is_command, is_undo, read_of}
+use Rattle.run_replay.proofs.Acting.{IsGivenBack, entries_are, given_keeps, out_of_hand, purpose_at, runs_purpose}
+use Rattle.run_replay.proofs.Taking.{GoesToHand, IsAnswered, after, answered_keeps, chosen, went_after, went_keeps}
+use Rattle.run_replay.specs.Players.{HavePlans, PlayerIsKept, PlayerState, are_live, is_ended, play_of}
+use Rattle.run_replay.specs.Playing.{IsPicked}
+use Rattle.run_replay.specs.Replays.{Picked}
+use Rattle.std.proofs.Common.{ap, arith, refl, subst, sym, ◌∙◌}
+use Rattle.std.proofs.lemmas.Grind.{common_steps}
+use Rattle.std.specs.List.{range_with_len}
+use Rattle.std.specs.Prelude.{Bool, List, [], false, filter, fold, if◌then◌else◌, is_some, length, nat_le, not, suc, true, zero, ℕ, ⊤, ◌&&◌, ◌++◌, ◌+◌, ◌==◌, ◌∷◌, ◌≡◌, ◌≢◌, ◌||◌}
+
+-- Entries that end at most one run
+
+-- the entry is the end of no other run than this one
+abbrev pub EndsAtMost : ℕ → Entry → Type 0
+EndsAtMost r (Ended q e) = q.0 ≡ r
+EndsAtMost r (Arrived q m) = ⊤
+EndsAtMost r (Placed q at m) = ⊤
+EndsAtMost r (Did q c a) = ⊤
+EndsAtMost r (Undid q d drove) = ⊤
+EndsAtMost r (Fell d) = ⊤
+EndsAtMost r (Rose d) = ⊤
+EndsAtMost r (Doomed q cause) = ⊤
+
+abbrev pub EndAtMost : ℕ → List Entry → Type 0
+EndAtMost r [] = ⊤
+EndAtMost r (e ∷ es) = EndsAtMost r e × EndAtMost r es
+
+one_ended : (w : Setting) (n : Reading) (r q : ℕ) (e : Entry) → EndsAtMost r e → q ≢ r → ((entry w n e).run q).ended ≡ (n.run q).ended
+one_ended w n r q (Ended x e) own other = ap (λ o. o.ended) (put_other n.run x.0 _ q (λ same. other (same ∙ own)))
+one_ended w n r q (Arrived x m) own other = put_keeps (λ o. o.ended) n.run x.0 _ refl q
+one_ended w n r q (Placed x at m) own other = put_keeps (λ o. o.ended) n.run x.0 _ refl q
+one_ended w n r q (Did x c a) own other = put_keeps (λ o. o.ended) n.run x.0 _ refl q
+one_ended w n r q (Undid x d drove) own other = put_keeps (λ o. o.ended) n.run x.0 _ refl q
+one_ended w n r q (Fell d) own other = refl
+one_ended w n r q (Rose d) own other = refl
+one_ended w n r q (Doomed x cause) own other = put_keeps (λ o. o.ended) n.run x.0 _ refl q
+
+all_ended : (w : Setting) (n : Reading) (r q : ℕ) (es : List Entry) → EndAtMost r es → q ≢ r → ((fold (entry w) n es).run q).ended ≡ (n.run q).ended
+all_ended w n r q [] own other = refl
+all_ended w n r q (e ∷ es) own other = all_ended w (entry w n e) r q es own.1 other ∙ one_ended w n r q e own.0 other
+
+-- a configuration with such entries more
+more_ended : (s : Configuration) (maker r q : ℕ) (es : List Entry) → EndAtMost r es → q ≢ r → ((reading s.setting (entries_of (s.history ++ kept_by maker es))).run q).ended ≡ ((read_of s).run q).ended
+more_ended s maker r q es own other =
+    ap (λ h. ((reading s.setting h).run q).ended) (entries_on s.history maker es)
+    ∙ ap (λ n. (n.run q).ended) (reading_on s.setting (entries_of s.history) es)
+    ∙ all_ended s.setting (read_of s) r q es own other
+
+-- What a run's step makes
+
+-- the step ends no other run
+abbrev pub EndsOwn : ℕ → Choice → Type 0
+EndsOwn r Absent = ⊤
+EndsOwn r (Over e entries) = EndAtMost r entries
+EndsOwn r (Moves entries) = EndAtMost r entries
+EndsOwn r (Waits why) = ⊤
+EndsOwn r (HandsOut d purpose) = ⊤
+
+if_none : (r : ℕ) (b : Bool) (x : Entry) → EndsAtMost r x → EndAtMost r (if b then x ∷ [] else [])
+if_none r true x own = (own, tt)
+if_none r false x own = tt
+
+choice_ends : (s : Configuration) (r m : ℕ) → EndsOwn r (choice_of s r m)
+choice_ends s r m = decide_is (EndsOwn r) s.setting (read_of s) s.grips r _ (record {
+  absent = λ e. tt;
+  over = λ e at. tt;
+  waits = λ why. tt;
+  arrives = λ run e. (tt, tt);
+  enters = λ split known. (tt, tt);
+  aborted = λ cause act doomed over. (refl, tt);
+  drops = λ cause d undoing down. (tt, tt);
+  undoes = λ cause d undoing up. tt;
+  revokes = λ c x run strong at. (tt, tt);
+  downs = λ c run next home down. (tt, if_none r c.must _ tt);
+  goes = λ c run next home up. tt;
+  fails_at_end = λ d all at. (tt, tt);
+  commits = λ all up. (refl, tt);
+})
+
+after_ends : (s : Configuration) (r q : ℕ) (c : Choice) → EndsOwn r c → q ≢ r → ((read_of (after_choice s r c)).run q).ended ≡ ((read_of s).run q).ended
+after_ends s r q Absent own other = refl
+after_ends s r q (Over e entries) own other = more_ended s r r q entries own other
+after_ends s r q (Moves entries) own other = more_ended s r r q entries own other
+after_ends s r q (Waits why) own other = refl
+after_ends s r q (HandsOut d purpose) own other = refl
+
+take_ends : (s : Configuration) (r q m : ℕ) → q ≢ r → ((read_of (after_take s r m)).run q).ended ≡ ((read_of s).run q).ended
+take_ends s r q m other = after_ends (at_moment s m) r q (choice_of s r m) (choice_ends s r m) other
+
+-- What a step back makes: no end
+
+give_ends : (w : Setting) (n : Reading) (x d r : ℕ) (purpose : Purpose) (told : Told) → (is_command purpose || is_undo purpose) ≡ true → EndAtMost x (give_entries w n d (record { maker = r; purpose = purpose }) told)
+give_ends w n x d r (Commands k) Worked e = (tt, tt)
+give_ends w n x d r (Commands k) (Sensed v) e = (tt, if_none x (fails (command_at w.runs r k) (Found v) && not (is_doomed n r)) _ tt)
+give_ends w n x d r (Commands k) Died e = (tt, (tt, dooms _ _ (is_doomed n r) (did n r (command_at w.runs r k).device.0 && not (is_weak w.mode)) (command_at w.runs r k).must))
+  where
+    dooms : (y z : Cause) (a b c : Bool) → EndAtMost x (if a then [] else (if b then Doomed (run_no r) y ∷ [] else (if c then Doomed (run_no r) z ∷ [] else [])))
+    dooms y z true b c = tt
+    dooms y z false true c = (tt, tt)
+    dooms y z false false true = (tt, tt)
+    dooms y z false false false = tt
+give_ends w n x d r (Undoes v) Worked e = (tt, tt)
+give_ends w n x d r (Undoes v) (Sensed y) e = (tt, tt)
+give_ends w n x d r (Undoes v) Died e = (tt, (tt, tt))
+give_ends w n x d r (Probes v) told e = absurd (cc)
+
+give_ended : (s : Configuration) (d r q : ℕ) (purpose : Purpose) (told : Told) → (is_command purpose || is_undo purpose) ≡ true → ((read_of (after_give s d (record { maker = r; purpose = purpose }) told)).run q).ended ≡ ((read_of s).run q).ended
+give_ended s d r q purpose told e = more_ended s r (suc q) q (give_entries s.setting (read_of s) d (record { maker = r; purpose = purpose }) told) (give_ends s.setting (read_of s) (suc q) d r purpose told e) (λ same. absurd (omega (arith, same)))
+
+-- The same of the actors
+
+-- in this stage the detector has ended
+detector_is : {D : Type 0} (s : PlayerState D) → PlayerIsKept s → is_ended s 0 ≡ true
+detector_is s kept = rw (kept.detector, kept.still) (least s.place)
+  where
+    least : (n : ℕ) → nat_le 0 n ≡ true
+    least n = grind (arith, common_steps)
+
+same_ends : {D : Type 0} (s t : PlayerState D) (q : ℕ) → PlayerIsKept s → PlayerIsKept t → SameWindow s.hub t.hub → ((read_of (configuration_of t.hub)).run q).ended ≡ ((read_of (configuration_of s.hub)).run q).ended → is_ended t q ≡ is_ended s q
+same_ends s t zero before after window same = detector_is t after ∙ sym (detector_is s before)
+same_ends s t (suc r) before after window same = λ i. not (is_run (window.setting i).runs (suc r)) || is_some (same i)
+
+-- a run's step ends no other actor
+pub answered_others : {D : Type 0} (now s t : PlayerState D) (r : ℕ) (choice : Choice) → s ≡ now → IsAnswered s t r choice → (q : ℕ) → q ≢ r → is_ended t q ≡ is_ended now q
+answered_others {D = D} now s t r choice same is q other =
+    let ends = ap (λ (c : Configuration). ((read_of c).run q).ended) (after s t r choice is.answers) ∙ take_ends (configuration_of s.hub) r q s.moment other in
+    same_ends s t q is.free.kept (answered_keeps s t r choice is) is.window ends ∙ ap (λ (x : PlayerState D). is_ended x q) same
+
+-- .. and where it waits not even its own
+pub waited_ends : {D : Type 0} (now s t : PlayerState D) (r : ℕ) (why : Why) → s ≡ now → IsAnswered s t r (Waits why) → is_ended t r ≡ is_ended now r
+waited_ends {D = D} now s t r why same is =
+    let ends = ap (λ (c : Configuration). ((read_of c).run r).ended) (after s t r (Waits why) is.answers) ∙ ap (λ c. ((read_of (after_choice (at_moment (configuration_of s.hub) s.moment) r c)).run r).ended) (sym (chosen s t r (Waits why) is.answers)) in
+    same_ends s t r is.free.kept (answered_keeps s t r (Waits why) is) is.window ends ∙ ap (λ (x : PlayerState D). is_ended x r) same
+
+pub went_others : {D : Type 0} (now s t : PlayerState D) (r : ℕ) (grip : Gripped D Ready) → s ≡ now → GoesToHand s t r grip → (q : ℕ) → q ≢ r → is_ended t q ≡ is_ended now q
+went_others {D = D} now s t r grip same is q other =
+    let ends = ap (λ (c : Configuration). ((read_of c).run q).ended) (went_after s t r grip is) ∙ take_ends (configuration_of s.hub) r q s.moment other in
+    same_ends s t q is.free.kept (went_keeps s t r grip is) is.window ends ∙ ap (λ (x : PlayerState D). is_ended x q) same
+
+-- a step back ends no actor
+pub given_ends : {D : Type 0} (now s t : PlayerState D) (a : ℕ) (grip : Gripped D Ready) (done : Gripped D Done) (entries : List Entry) → s ≡ now → IsGivenBack s t a grip done entries → (q : ℕ) → is_ended t q ≡ is_ended now q
+given_ends {D = D} now s t a grip done entries same by q =
+    let ends = ap (λ (c : Configuration). ((read_of c).run q).ended) (entries_are s t a grip done entries by).1 ∙ give_ended (at_moment (configuration_of s.hub) t.moment) grip.slip.device.0 a q (purpose_at s grip) done.stage.told (runs_purpose s a grip.slip.device.0 (purpose_at s grip) by.is.run by.is.fit (out_of_hand s a grip by.is.kept by.is.hand)) in
+    same_ends s t q by.is.kept (given_keeps s t a grip done entries by) by.window ends ∙ ap (λ (x : PlayerState D). is_ended x q) same
+
+-- The list of those that have not ended
+
+apart : (x a : ℕ) → (x == a) ≡ false → x ≢ a
+apart x a is same = let no : (x == a) ≡ true = grind (arith, common_steps) in let both : true ≡ false = sym no ∙ is in cc
+
+-- the actor that has ended is taken out, and no other
+pub actors_left : {D : Type 0} (s t : PlayerState D) (a : ℕ) → length t.grips ≡ length s.grips → ((q : ℕ) → q ≢ a → is_ended t q ≡ is_ended s q) → is_ended t a ≡ true → filter (λ q. not (q == a)) (are_live s) ≡ are_live t
+actors_left s t a size others over = left (range_with_len 0 (length s.grips)) ∙ ap (λ n. filter (λ q. not (is_ended t q)) (range_with_len 0 n)) (sym size)
+  where
+    step : (x : ℕ) (xs : List ℕ) → filter (λ q. not (q == a)) (filter (λ q. not (is_ended s q)) xs) ≡ filter (λ q. not (is_ended t q)) xs → (own : Bool) → (x == a) ≡ own → (ended : Bool) → is_ended s x ≡ ended
+        → filter (λ q. not (q == a)) (filter (λ q. not (is_ended s q)) (x ∷ xs)) ≡ filter (λ q. not (is_ended t q)) (x ∷ xs)
+    step x xs rest true is true was = let same : x ≡ a = grind (arith, common_steps) in let gone : is_ended t x ≡ true = ap (is_ended t) same ∙ over in rw (was, gone) rest
+    step x xs rest true is false was = let same : x ≡ a = grind (arith, common_steps) in let gone : is_ended t x ≡ true = ap (is_ended t) same ∙ over in rw (was, gone, is) rest
+    step x xs rest false is true was = let stays : is_ended t x ≡ true = others x (apart x a is) ∙ was in rw (was, stays) rest
+    step x xs rest false is false was = let stays : is_ended t x ≡ false = others x (apart x a is) ∙ was in rw (was, stays, is) (ap (λ ys. x ∷ ys) rest)
+
+    left : (xs : List ℕ) → filter (λ q. not (q == a)) (filter (λ q. not (is_ended s q)) xs) ≡ filter (λ q. not (is_ended t q)) xs
+    left [] = refl
+    left (x ∷ xs) = step x xs (left xs) (x == a) refl (is_ended s x) refl
+
+-- .. where none has, the list stays
+pub actors_stay : {D : Type 0} (s t : PlayerState D) (a : ℕ) → length t.grips ≡ length s.grips → ((q : ℕ) → q ≢ a → is_ended t q ≡ is_ended s q) → is_ended t a ≡ is_ended s a → are_live s ≡ are_live t
+actors_stay s t a size others own = same_filter (range_with_len 0 (length s.grips)) ∙ ap (λ n. filter (λ q. not (is_ended t q)) (range_with_len 0 n)) (sym size)
+  where
+    each : (q : ℕ) → is_ended t q ≡ is_ended s q
+    each q = by_actor (q == a) refl
+      where
+        by_actor : (b : Bool) → (q == a) ≡ b → is_ended t q ≡ is_ended s q
+        by_actor true is = let same : q ≡ a = grind (arith, common_steps) in ap (is_ended t) same ∙ own ∙ ap (is_ended s) (sym same)
+        by_actor false is = others q (apart q a is)
+
+    same_filter : (xs : List ℕ) → filter (λ q. not (is_ended s q)) xs ≡ filter (λ q. not (is_ended t q)) xs
+    same_filter [] = refl
+    same_filter (x ∷ xs) = rw (each x, same_filter xs) refl
+
+-- The same of the player as callers see it
+
+pub taken_out : {D : Type 0} (s t : PlayerState D) (old new : List ℕ) (a : ℕ) → old ≡ are_live s → new ≡ filter (λ q. not (q == a)) old → length t.grips ≡ length s.grips → ((q : ℕ) → q ≢ a → is_ended t q ≡ is_ended s q) → is_ended t a ≡ true → new ≡ are_live t
+taken_out s t old new a before less size others over = less ∙ ap (λ xs. filter (λ q. not (q == a)) xs) before ∙ actors_left s t a size others over
+
+-- an actor that waited, or has not ended, leaves the list as it is
+pub kept_in : {D : Type 0} (s t : PlayerState D) (old : List ℕ) (a : ℕ) → old ≡ are_live s → length t.grips ≡ length s.grips → ((q : ℕ) → q ≢ a → is_ended t q ≡ is_ended s q) → is_ended t a ≡ is_ended s a → old ≡ are_live t
+kept_in s t old a before size others own = before ∙ actors_stay s t a size others own
+
+pub picked_now : {D : Type 0} (now s t : PlayerState D) (a : ℕ) (picked : Picked) → s ≡ now → ((acts : ℕ) → (later : ℕ) × IsPicked s.rounds a (play_of s acts) picked (play_of t later)) → (acts : ℕ) → (later : ℕ) × IsPicked now.rounds a (play_of now acts) picked (play_of t later)
+picked_now {D = D} now s t a picked same is = subst (λ (x : PlayerState D). (acts : ℕ) → (later : ℕ) × IsPicked x.rounds a (play_of x acts) picked (play_of t later)) same is
+
+pub plans_now : {D P : Type 0} (plan : D → P) (now s t : PlayerState D) → s ≡ now → ((plans : ℕ → P) → HavePlans plan plans s → HavePlans plan plans t) → (plans : ℕ → P) → HavePlans plan plans now → HavePlans plan plans t
+plans_now {D = D} plan now s t same is plans have = is plans (subst (λ (x : PlayerState D). HavePlans plan plans x) (sym same) have)

@@ -1,0 +1,228 @@
+ghost use Rattle.std.specs.Prelude.{◌≡◌, ◌≢◌, ◌<◌, ◌≤◌, None, Some, IfErr, IfOk, false, length, true, ℕ};
+ghost use Rattle.hub_core.specs.HubCalls.{HubStands, IsClosed, SameWindow};
+ghost use Rattle.hub_core.specs.OpenHubs.{configuration_of};
+ghost use Rattle.hub_core.specs.Steps.{not_quiet, opened};
+ghost use Rattle.run_replay.specs.Players.{HavePlans, IsOpened, PlayerStands, is_ended, is_full, picked_of, play_of, steps_left};
+ghost use Rattle.run_replay.specs.Playing.{IsPicked};
+ghost use Rattle.run_replay.specs.Replays.{waits};
+
+use crate::picked::Picked;
+use device_states::{Device, Steady};
+use history_book::{Made, WindowRecord};
+use home_types::{NoMemory, RunNo};
+use hub_core::{Grip, Home, Hub, NotQuiet, Ready, Turn};
+use std::alloc::Global;
+use std::marker::Model;
+use std::mem;
+
+/// A hub with the grips that its actors hold: its runs, and the detector, which is the actor 0.
+///
+/// An actor is stepped where it is picked: one that holds a grip acts and gives it back, any other one takes.
+pub(crate) struct Hands<D: Device> {
+    hub: Hub<D>,
+    /// The grip of each actor that holds one.
+    grips: Vec<Option<Grip<D, Ready>>>,
+    /// How often the detector comes to each device.
+    rounds: u32,
+    /// The moment, in ms: it rises by the time that the commands take.
+    moment: u64,
+    /// How many devices the detector has come to.
+    place: u64,
+}
+
+impl<D: Device> Model for Hands<D> {
+    ghost use Rattle.run_replay.specs.Players.{PlayerIsKept, PlayerState};
+
+    ghost Value = { PlayerState D };
+
+    ghost view = { λ p. record { hub = p.hub; grips = p.grips.items; rounds = p.rounds; moment = p.moment; place = p.place } };
+
+    ghost invariant = { λ p. PlayerIsKept (record { hub = p.hub; grips = p.grips.items; rounds = p.rounds; moment = p.moment; place = p.place }) };
+}
+
+impl<D: Steady> Hands<D> {
+    /// The hands of a hub in which nothing was done yet, whose detector comes so often to each device: all are empty.
+    ///
+    /// Answers `NoMemory` where there is none to be had, and gives the hub back.
+    pub(crate) fn open(
+        alloc: Global,
+        hub: Hub<D>,
+        rounds: u32,
+    ) -> Result<Hands<D>, (Hub<D>, NoMemory)>
+        requires fresh { configuration_of hub ≡ opened hub.setting hub.rounds }
+        requires rounds { (d : ℕ) → d < length hub.setting.first → rounds ≤ (configuration_of hub).probes d }
+        ensures opened { IfOk result (λ player. IsOpened hub rounds player) }
+        ensures refused { IfErr result (λ refused. refused.0 ≡ hub) }
+    {
+        hub.kept();
+        let mut grips = Vec::new(alloc);
+        let actors = hub.run_count() as usize + 1;
+        if grips.reserve(actors).is_err() {
+            grips.destroy_empty();
+            return Err((hub, NoMemory));
+        }
+        'actors: while grips.len() < actors {
+            grips.push_reserved(None);
+        }
+        Ok(Hands {
+            hub,
+            grips,
+            rounds,
+            moment: 0,
+            place: 0,
+        })
+    }
+
+    /// Steps the actor, a run or 0 for the detector.
+    pub(crate) fn pick(&mut self, actor: u32) -> Picked
+        ensures picked { (acts : ℕ) → (later : ℕ) × IsPicked self.old.rounds actor (play_of self.old acts) (picked_of result) (play_of self.new later) }
+        ensures window { SameWindow self.old.hub self.new.hub }
+        ensures rounds { self.new.rounds ≡ self.old.rounds }
+        ensures plans { (plans : ℕ → _) → HavePlans D.plan plans self.old → HavePlans D.plan plans self.new }
+        ensures fewer { waits (picked_of result) ≡ false → is_ended self.old actor ≡ false → steps_left self.new < steps_left self.old }
+        ensures hands { length self.new.grips ≡ length self.old.grips }
+        ensures others { (q : ℕ) → q ≢ actor → is_ended self.new q ≡ is_ended self.old q }
+        ensures over { is_ended self.old actor ≡ true → is_ended self.new actor ≡ true }
+        ensures waiting { waits (picked_of result) ≡ true → is_ended self.new actor ≡ is_ended self.old actor }
+    {
+        self.hub.kept();
+        if self.has_ended(actor) {
+            return Picked::Passed;
+        }
+        // In this stage the detector has no rounds, so it has ended and the actor is a run.
+        if self.holds(actor) {
+            Picked::Made(self.act(actor))
+        } else {
+            self.run_takes(RunNo(actor))
+        }
+    }
+
+    /// Whether the actor holds a grip.
+    fn holds(&self, actor: u32) -> bool
+        ensures { result ≡ is_full self.now actor }
+    {
+        matches!(self.grips.get(actor as usize), Some(Some(_)))
+    }
+
+    /// Whether the actor has ended: the detector when its rounds are over and it holds no grip, a run when it has its
+    /// end, and where it is none of the window.
+    pub(crate) fn has_ended(&self, actor: u32) -> bool
+        ensures { result ≡ is_ended self.now actor }
+    {
+        if actor == 0 {
+            let all = u64::from(self.rounds) * self.hub.device_count();
+            return !self.holds(0) && all <= self.place;
+        }
+        self.hub.is_over(RunNo(actor))
+    }
+
+    /// Makes the call of the grip that the run holds, and gives the grip back.
+    fn act(&mut self, actor: u32) -> Made
+        requires run { 0 < actor }
+        requires going { is_ended self.old actor ≡ false }
+        requires holds { is_full self.old actor ≡ true }
+        ensures picked { (acts : ℕ) → (later : ℕ) × IsPicked self.old.rounds actor (play_of self.old acts) (picked_of (Picked.Made result)) (play_of self.new later) }
+        ensures window { SameWindow self.old.hub self.new.hub }
+        ensures rounds { self.new.rounds ≡ self.old.rounds }
+        ensures plans { (plans : ℕ → _) → HavePlans D.plan plans self.old → HavePlans D.plan plans self.new }
+        ensures fewer { steps_left self.new < steps_left self.old }
+        ensures hands { length self.new.grips ≡ length self.old.grips }
+        ensures ended { (q : ℕ) → is_ended self.new q ≡ is_ended self.old q }
+    {
+        self.hub.kept();
+        self.hub.bounded();
+        match mem::replace(&mut self.grips[actor as usize], None) {
+            Some(grip) => {
+                self.moment += u64::from(self.hub.takes(grip.slip().device));
+                let given = self.hub.give(grip.act(), self.moment);
+                self.hub.bounded();
+                match given {
+                    Ok(made) => made,
+                    Err((_back, _stranger)) => unreachable!(),
+                }
+            }
+            None => unreachable!(),
+        }
+    }
+
+    /// Takes the step of the run, which holds no grip.
+    fn run_takes(&mut self, r: RunNo) -> Picked
+        requires run { 0 < r.0 }
+        requires going { is_ended self.old r.0 ≡ false }
+        requires empty { is_full self.old r.0 ≡ false }
+        ensures picked { (acts : ℕ) → (later : ℕ) × IsPicked self.old.rounds r.0 (play_of self.old acts) (picked_of result) (play_of self.new later) }
+        ensures window { SameWindow self.old.hub self.new.hub }
+        ensures rounds { self.new.rounds ≡ self.old.rounds }
+        ensures plans { (plans : ℕ → _) → HavePlans D.plan plans self.old → HavePlans D.plan plans self.new }
+        ensures fewer { waits (picked_of result) ≡ false → steps_left self.new < steps_left self.old }
+        ensures hands { length self.new.grips ≡ length self.old.grips }
+        ensures others { (q : ℕ) → q ≢ r.0 → is_ended self.new q ≡ is_ended self.old q }
+        ensures waiting { waits (picked_of result) ≡ true → is_ended self.new r.0 ≡ is_ended self.old r.0 }
+    {
+        let turn = self.hub.take(r, self.moment);
+        self.hub.bounded();
+        match turn {
+            Turn::Go(grip) => {
+                let d = grip.slip().device;
+                match mem::replace(&mut self.grips[r.0 as usize], Some(grip)) {
+                    None => Picked::Took(d),
+                    Some(_held) => unreachable!(),
+                }
+            }
+            Turn::Moved(made) => Picked::Made(made),
+            Turn::Over(_, made) => Picked::Made(made),
+            Turn::Wait(why) => Picked::Waits(why),
+            Turn::Absent => Picked::Passed,
+        }
+    }
+
+    /// Does nothing. Its contract is what is kept of every player and of its hub, and that its window is never stuck.
+    pub(crate) fn kept(&self)
+        ensures player { PlayerStands self.now }
+        ensures hub { HubStands D.stands D.turns D.probes self.now.hub }
+    {
+        self.hub.kept();
+        self.hub.progress();
+    }
+
+    /// Closes the window.
+    ///
+    /// Refused, and the hands are given back, where a run has not ended or a device is out.
+    pub(crate) fn close(self) -> Result<(Home<D>, WindowRecord), (Hands<D>, NotQuiet)>
+        ensures closed { IfOk result (λ closed. IsClosed D.turns D.probes D.faults self.hub closed.0 closed.1) }
+        ensures quiet { IfOk result (λ closed. not_quiet (configuration_of self.hub) ≡ None) }
+        ensures same { IfErr result (λ refused. refused.0 ≡ self) }
+        ensures refused { IfErr result (λ refused. not_quiet (configuration_of self.hub) ≡ Some refused.1) }
+    {
+        let Hands {
+            hub,
+            mut grips,
+            rounds,
+            moment,
+            place,
+        } = self;
+        hub.kept();
+        match hub.close_window() {
+            Ok(closed) => {
+                'hands: while let Some(hand) = grips.pop() {
+                    match hand {
+                        None => {}
+                        Some(_held) => unreachable!(),
+                    }
+                }
+                grips.destroy_empty();
+                Ok(closed)
+            }
+            Err((hub, why)) => Err((
+                Hands {
+                    hub,
+                    grips,
+                    rounds,
+                    moment,
+                    place,
+                },
+                why,
+            )),
+        }
+    }
+}
