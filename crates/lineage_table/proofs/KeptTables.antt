@@ -5,7 +5,7 @@ use Rattle.lineage_table.specs.Lineages.{IsTable, LineageState, accesses_at, no_
 use Rattle.std.proofs.Common.{List, arith, get_or, length, refl, set, subst, sym, ℕ, ◌<◌, ◌≡◌, ◌≢◌, ◌∙◌}
 use Rattle.std.proofs.lemmas.Grind.{common_steps}
 use Rattle.std.proofs.lemmas.List.{get_or-set_other, get_or-set_same, length-set}
-use Rattle.std.specs.Prelude.{Bool, false, true, ◌==◌, ◌^◌, ◌≤◌}
+use Rattle.std.specs.Prelude.{Bool, false, true, ◌==◌, ◌≤◌}
 
 -- the lineage that is there afterwards keeps its accesses in turn, as each lineage does
 pub table_set : (table now : List LineageState) (d : ℕ) (s x : LineageState) → IsTable table → table ≡ now → d < length now → x ≡ get_or (set table d s) d x → IsDisciplined x.accesses → IsTable (set table d s)

@@ -7,3 +7,4 @@ pub mod Undoing
 pub mod KeptTables
 pub mod RunSets
 pub mod RunAccesses
+pub mod DeviceCounts

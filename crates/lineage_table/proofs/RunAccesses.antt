@@ -1,12 +1,12 @@
 -- Which runs have an access, as the accesses to a device change.
 use Rattle.home_types.specs.declared.numbers.RunNo.{RunNo}
+use Rattle.lineage_table.proofs.DeviceCounts.{any_next}
 use Rattle.lineage_table.proofs.Keeping.{none_behind}
-use Rattle.lineage_table.proofs.Pairs.{Pairs, pairs_back, pairs_from_all}
+use Rattle.lineage_table.proofs.Pairs.{Pairs, pairs_from_all}
 use Rattle.lineage_table.specs.Accesses.{AreOfTwoRuns, IsDisciplined, access_of, before, behind, has_access, is_of, put_before, put_before_run, with_change, without}
 use Rattle.lineage_table.specs.declared.accesses.Access.{Access}
-use Rattle.std.proofs.Common.{List, None, Option, Some, [], add-one, ap, arith, get_or, length, refl, subst, suc, sym, take, zero, ℕ, ◌++◌, ◌+◌, ◌<◌, ◌∙◌, ◌∷◌, ◌≡◌}
+use Rattle.std.proofs.Common.{List, None, Option, Some, [], ap, arith, get_or, length, refl, sym, take, ℕ, ◌++◌, ◌+◌, ◌<◌, ◌∙◌, ◌∷◌, ◌≡◌}
 use Rattle.std.proofs.lemmas.Grind.{common_steps}
-use Rattle.std.specs.List.{AllByRecursion}
 use Rattle.std.specs.Prelude.{Bool, IsTrue, false, if◌then◌else◌, is_some, not, true, ◌&&◌, ◌==◌, ◌||◌}
 
 -- an access is changed, and stays its run's
@@ -74,21 +74,8 @@ without_has q r (x ∷ xs) = at_ (is_of r x) refl (without_has q r xs)
     at_ false e rest = ap (λ b. is_of q x || b) rest ∙ stays (q == r) (is_of q x) (has_access q xs) (λ f. kept x.run.0 q r e f)
 
 -- one access further
-next_has : (q : ℕ) (i : ℕ) (xs : List Access) (d : Access) → i < length xs → has_access q (take (suc i) xs) ≡ (has_access q (take i xs) || (q == (get_or xs i d).run.0))
-next_has q i [] d within = absurd (omega (arith, within))
-next_has q zero (x ∷ xs) d within = either (is_of q x) ∙ same_run q x
-  where
-    either : (b : Bool) → (b || false) ≡ b
-    either true = refl
-    either false = refl
-next_has q (suc i) (x ∷ xs) d within = ap (λ b. is_of q x || b) (next_has q i xs d (omega (arith, within))) ∙ assoc (is_of q x) (has_access q (take i xs)) (q == (get_or xs i d).run.0)
-  where
-    assoc : (a b c : Bool) → (a || (b || c)) ≡ ((a || b) || c)
-    assoc true b c = refl
-    assoc false b c = refl
-
 pub take_has : (q : ℕ) (i : ℕ) (xs : List Access) (d : Access) → i < length xs → has_access q (take (i + 1) xs) ≡ (has_access q (take i xs) || (q == (get_or xs i d).run.0))
-take_has q i xs d within = ap (λ k. has_access q (take k xs)) (add-one i) ∙ next_has q i xs d within
+take_has q i xs d within = any_next (is_of q) xs i d within ∙ ap (λ b. has_access q (take i xs) || b) (same_run q (get_or xs i d))
 
 -- a run has an access where one is found
 pub found_has : (r : ℕ) (xs : List Access) → has_access r xs ≡ is_some (access_of r xs)

@@ -4,19 +4,18 @@ use Rattle.home_types.proofs.DeviceBits.{contains_insert, contains_remove}
 use Rattle.lineage_table.proofs.KeptTables.{table_set}
 use Rattle.lineage_table.specs.Accesses.{IsDisciplined, has_access}
 use Rattle.lineage_table.specs.Lineages.{LineageState, accesses_at, lineage_at, no_lineage}
-use Rattle.lineage_table.specs.RunDevices.{AreOfAccesses, HasLess, HasMore, IsSound, is_in}
-use Rattle.lineage_table.specs.declared.accesses.Access.{Access}
-use Rattle.std.proofs.Common.{List, [], ap, arith, get_or, length, refl, set as set_at, subst, suc, sym, take, zero, ℕ, ◌++◌, ◌+◌, ◌<◌, ◌∙◌, ◌∷◌, ◌≡◌, ◌≢◌}
+use Rattle.lineage_table.specs.RunDevices.{HasLess, HasMore, IsSound, is_in}
+use Rattle.std.proofs.Common.{List, [], ap, arith, get_or, length, refl, set as set_at, subst, suc, sym, zero, ℕ, ◌++◌, ◌+◌, ◌<◌, ◌∙◌, ◌∷◌, ◌≡◌, ◌≢◌}
 use Rattle.std.proofs.lemmas.Grind.{common_steps}
 use Rattle.std.proofs.lemmas.List.{get_or-set_other, get_or-set_same, length-set}
 use Rattle.std.specs.FinSet as set
 use Rattle.std.specs.Ordering.{nat_cmp}
 use Rattle.std.specs.Prelude.{Bool, false, if◌then◌else◌, not, true, ◌&&◌, ◌==◌, ◌||◌, ◌≤◌}
 
-equal : (x y : ℕ) → (x == y) ≡ true → x ≡ y
+pub equal : (x y : ℕ) → (x == y) ≡ true → x ≡ y
 equal x y h = grind (arith, common_steps)
 
-differ : (x y : ℕ) → (x == y) ≡ false → x ≢ y
+pub differ : (x y : ℕ) → (x == y) ≡ false → x ≢ y
 differ x y h k = grind (arith, common_steps)
 
 itself : (k : ℕ) → (k == k) ≡ true

@@ -9,7 +9,7 @@ use Rattle.lineage_table.specs.Accesses.{IsDisciplined, access_of, behind, put_b
 use Rattle.lineage_table.specs.declared.accesses.Access.{Access}
 use Rattle.lineage_table.specs.declared.accesses.Status.TheVariants.{Acquired, Released}
 use Rattle.std.specs.List.{list_any}
-use Rattle.std.specs.Prelude.{Bool, List, None, Option, Some, [], count_by, false, length, slice_index_or, slice_set, unwrap_or, ℕ, ◌+◌, ◌-◌, ◌<◌, ◌^◌, ◌≡◌, ◌≤◌}
+use Rattle.std.specs.Prelude.{Bool, List, None, Option, Some, [], count_by, false, length, slice_index_or, slice_set, unwrap_or, ℕ, ◌+◌, ◌-◌, ◌<◌, ◌≡◌, ◌≤◌}
 
 -- a device's committed value, its accesses in line order, how many more it takes, and whether it is counted up
 pub record LineageState : Type 0 where

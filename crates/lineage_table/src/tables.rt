@@ -1,4 +1,5 @@
-ghost use Rattle.std.specs.Prelude.{◌≡◌, ◌<◌, ◌≤◌, ◌==◌, ◌||◌, ◌^◌, [], false, IfOk, IfSome, IsSome, IsTrue, Some, length, option_map, ℕ};
+ghost use Rattle.std.specs.Prelude.{◌≡◌, ◌+◌, ◌<◌, ◌≤◌, ◌==◌, ◌||◌, ◌^◌, [], false, if◌then◌else◌, IfOk, IfSome, IsSome, IsTrue, Some, length, option_map, slice_index_or, ℕ};
+ghost use Rattle.std.specs.List.{list_any};
 ghost use Rattle.std.specs.Option.{ForSome};
 ghost use Rattle.command_rules.specs.Rosters.{is_on, runs_of};
 ghost use Rattle.lineage_table.specs.Accesses.{IsDisciplined, IsFirstBefore, access_of, before, effective_writer, has_access, some_acquired, some_scheduled, standing_value, status_of, without, written_by};
@@ -11,9 +12,8 @@ use crate::accesses::{Access, Status};
 use crate::lineages::Lineage;
 use crate::run_devices::RunDevices;
 use command_rules::Roster;
-use command_rules::footprints::has_command_on;
 use home_types::limits::RUNS;
-use home_types::{DeviceNo, NoMemory, RunNo, Value, View, World};
+use home_types::{Command, DeviceNo, DeviceSet, NoMemory, RunNo, Value, View, World};
 use std::alloc::Global;
 use std::marker::Model;
 
@@ -53,9 +53,9 @@ impl Table {
             return Err(NoMemory);
         };
         let devices = RunDevices::open(alloc, roster.runs.len().min(RUNS as u64) as usize + 1)?;
+        let runs = count_runs(roster);
         'devices: for d in 0..stands.len() {
-            let runs = count_runs_on(roster, DeviceNo(d as u16));
-            lineages.push_reserved(Lineage::open(alloc, stands[d], runs)?);
+            lineages.push_reserved(Lineage::open(alloc, stands[d], runs[d])?);
         }
         Ok(Table { lineages, devices })
     }
@@ -288,14 +288,29 @@ fn take_out_through(devices: &mut RunDevices, lineage: &Lineage, d: DeviceNo, r:
     devices.remove(r, d);
 }
 
-/// How many runs of the roster have the device in their footprint.
-fn count_runs_on(roster: &Roster, d: DeviceNo) -> usize
-    ensures { result ≡ runs_on (runs_of roster.now) d.0 }
+/// For each device that a home may have, how many runs of the roster have it in their footprint. Goes over the commands
+/// once.
+fn count_runs(roster: &Roster) -> [usize; 256]
+    ensures { (d : ℕ) → d < most_devices → slice_index_or result d 0 ≡ runs_on (runs_of roster.now) d }
 {
-    roster
-        .runs
-        .as_slice()
-        .iter()
-        .filter(|run| has_command_on(run.routine.commands.as_slice(), d))
-        .count()
+    let mut counts = [0; 256];
+    'runs: for run in roster.runs.as_slice() {
+        count_run(&mut counts, run.routine.commands.as_slice());
+    }
+    counts
+}
+
+/// Counts one run more for each device of its commands.
+fn count_run(counts: &mut [usize; 256], commands: &[Command])
+    requires room { (d : ℕ) → d < most_devices → slice_index_or counts.old d 0 + 1 < 2 ^ 64 }
+    ensures { (d : ℕ) → d < most_devices → slice_index_or counts.new d 0 ≡ slice_index_or counts.old d 0 + (if list_any (is_on d) commands.now then 1 else 0) }
+{
+    let mut seen = DeviceSet::none();
+    'commands: for command in commands {
+        let device = command.device;
+        if device.0 < 256 && !seen.has(device) {
+            seen.add(device);
+            counts[device.0 as usize] += 1;
+        }
+    }
 }
