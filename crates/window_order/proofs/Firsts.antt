@@ -14,7 +14,7 @@ use Rattle.history_book.proofs.Shapes.{did_touches}
 use Rattle.history_book.proofs.Snoc.{put_keeps, put_other, put_same}
 use Rattle.history_book.specs.Histories.{answered, entry, more_if}
 use Rattle.history_book.specs.Lines.{of_run}
-use Rattle.history_book.specs.Readings.{First, Last, OfRun, OnDevice, Reading, did, is_access, is_doomed, put, view_by, view_of}
+use Rattle.history_book.specs.Readings.{First, Last, OfRun, OnDevice, Reading, did, is_access, is_doomed, is_first, put, view_by, view_of}
 use Rattle.history_book.specs.Settings.{Setting, is_device}
 use Rattle.history_book.specs.declared.entries.Entry.TheVariants.{Did}
 use Rattle.home_types.specs.Commands.{register_after}
@@ -70,7 +70,7 @@ none_seen w n g held d (Ran q ∷ is) read none = let parts = neither (at_device
 none_seen w n g held d (Failed e k ∷ is) read none = none_seen w n g held d is read none
 none_seen w n g held d (Back e k ∷ is) read none = none_seen w n g held d is read none
 
-none_marked : (w : Setting) (n : Reading) (g : Grips) (held : ℕ → ℕ) (d : ℕ) (is : List Item) → IsRead w n → is_calm_line w.kinds (window_of w n g held).states d is ≡ true → list_any (is_marked n d) is ≡ false
+pub none_marked : (w : Setting) (n : Reading) (g : Grips) (held : ℕ → ℕ) (d : ℕ) (is : List Item) → IsRead w n → is_calm_line w.kinds (window_of w n g held).states d is ≡ true → list_any (is_marked n d) is ≡ false
 unfolding is_calm_line
 none_marked w n g held d [] read calm = refl
 none_marked w n g held d (Ran q ∷ is) read calm = let parts = split (at_device w.kinds (window_of w n g held).states d has_touched q.0) (is_calm_line w.kinds (window_of w n g held).states d is) calm in λ i. (false || (untouched_unseen w n g held d q.0 read parts.0 i && not (is_late n q.0 d))) || none_marked w n g held d is read parts.1 i
@@ -115,7 +115,7 @@ some_view None (Found x) = refl
 some_view None Down = refl
 
 -- a later answer changes no view
-same_view : (v : Option Bool) (a : Answer) → is_none v ≡ false → option_or v (view_by a) ≡ v
+pub same_view : (v : Option Bool) (a : Answer) → is_none v ≡ false → option_or v (view_by a) ≡ v
 same_view None a h = absurd (cc)
 same_view (Some u) a h = refl
 
@@ -129,9 +129,10 @@ pub record IsNewest (n : Reading) (d r : ℕ) (back : List Item) : Type 0 where
   pub unseen : did n r d ≡ false → list_any (of_run (λ q. did n q d)) back ≡ false
   pub calm : did n r d ≡ false → is_doomed n r ≡ false → list_any (is_marked n d) back ≡ false
 
--- an answer of a run keeps the order of the history
-pub did_history : (w : Setting) (n : Reading) (r k : ℕ) (a : Answer) (cut : CutAt r n.line) → IsRead w n → IsNewest n (command_at w.runs r k).device.0 r cut.back → (e : ℕ) → InHistoryOrder n e → InHistoryOrder (entry w n (Did (run_no r) k a)) e
-did_history w n r k a cut read newest e = two_places (λ x. InHistoryOrder n x → InHistoryOrder next x) e d at_device_of elsewhere
+-- an answer of a run keeps the order of the history, where the log of its device has the run's first answer exactly if there was one
+pub logged_did_history : (w : Setting) (n : Reading) (r k : ℕ) (a : Answer) (cut : CutAt r n.line) → list_any (is_first r) (n.log (command_at w.runs r k).device.0) ≡ did n r (command_at w.runs r k).device.0 → IsNewest n (command_at w.runs r k).device.0 r cut.back
+    → (e : ℕ) → InHistoryOrder n e → InHistoryOrder (entry w n (Did (run_no r) k a)) e
+logged_did_history w n r k a cut logged newest e = two_places (λ x. InHistoryOrder n x → InHistoryOrder next x) e d at_device_of elsewhere
   where
     c : Command
     c = command_at w.runs r k
@@ -187,7 +188,7 @@ did_history w n r k a cut read newest e = two_places (λ x. InHistoryOrder n x �
       doomed = sound;
       was = was;
       is = ap (λ x. is_some x.view) own ∙ some_view (old.on d).view a;
-      unlogged = read.logged.firsts r d ∙ was;
+      unlogged = logged ∙ was;
       behind = newest.unseen was;
       calm = λ late. newest.calm was (counts (old.on d).late (is_some old.doomed) (is_access a) (is_none (old.on d).view) (access a) none (sym (ap (λ x. x.late) own) ∙ late));
     })
@@ -214,3 +215,7 @@ did_history w n r k a cut read newest e = two_places (λ x. InHistoryOrder n x �
 
     at_device_of : InHistoryOrder n d → InHistoryOrder next d
     at_device_of h = at_last last refl (at_first (is_none (old.on d).view) refl h)
+
+-- .. as it does after a well-formed history
+pub did_history : (w : Setting) (n : Reading) (r k : ℕ) (a : Answer) (cut : CutAt r n.line) → IsRead w n → IsNewest n (command_at w.runs r k).device.0 r cut.back → (e : ℕ) → InHistoryOrder n e → InHistoryOrder (entry w n (Did (run_no r) k a)) e
+did_history w n r k a cut read newest e = logged_did_history w n r k a cut (read.logged.firsts r (command_at w.runs r k).device.0) newest e

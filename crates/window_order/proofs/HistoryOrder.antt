@@ -125,13 +125,13 @@ span_quiet r (y ∷ xs) x plain quiet = at_ (λ h. span_quiet r xs x plain h) (i
 neither : (a b : Bool) → (a || b) ≡ false → (a ≡ false) × (b ≡ false)
 neither a b h = (grind (arith, common_steps), grind (arith, common_steps))
 
-three : (a b c : Bool) → IsTrue (a && b && c) → (a ≡ true) × (b ≡ true) × (c ≡ true)
+pub three : (a b c : Bool) → IsTrue (a && b && c) → (a ≡ true) × (b ≡ true) × (c ≡ true)
 three a b c h = (grind (arith, common_steps), grind (arith, common_steps), grind (arith, common_steps))
 
-all_three : (a b c : Bool) → a ≡ true → b ≡ true → c ≡ true → IsTrue (a && b && c)
+pub all_three : (a b c : Bool) → a ≡ true → b ≡ true → c ≡ true → IsTrue (a && b && c)
 all_three a b c h k e = grind (arith, common_steps)
 
-sound : (a b : Bool) → (a ≡ false → b ≡ false) → not a ≡ true → not b ≡ true
+pub sound : (a b : Bool) → (a ≡ false → b ≡ false) → not a ≡ true → not b ≡ true
 sound a b h k = grind (arith, common_steps)
 
 -- the device's first accesses and its log are as they were, and no doom is taken back
@@ -178,11 +178,11 @@ same_history n m d s log h = record {
   spans = λ q facts. ap (λ l. list_any is_event (span_of q l)) log ∙ h.spans q (same_spans n m d s q facts);
 }
 
-marks_unkept : {B : Type 0} (f : Mark → Option B) (xs : List Mark) (x : Mark) → f x ≡ None → filter_map f (xs ++ x ∷ []) ≡ filter_map f xs
+pub marks_unkept : {B : Type 0} (f : Mark → Option B) (xs : List Mark) (x : Mark) → f x ≡ None → filter_map f (xs ++ x ∷ []) ≡ filter_map f xs
 marks_unkept f [] x none = ap (λ o. cons_option o []) none
 marks_unkept f (y ∷ xs) x none = ap (cons_option (f y)) (marks_unkept f xs x none)
 
-marks_kept : {B : Type 0} (f : Mark → Option B) (xs : List Mark) (x : Mark) (new : B) → f x ≡ Some new → filter_map f (xs ++ x ∷ []) ≡ filter_map f xs ++ new ∷ []
+pub marks_kept : {B : Type 0} (f : Mark → Option B) (xs : List Mark) (x : Mark) (new : B) → f x ≡ Some new → filter_map f (xs ++ x ∷ []) ≡ filter_map f xs ++ new ∷ []
 marks_kept f xs x new some = filter_map-append f xs (x ∷ []) ∙ ap (λ o. filter_map f xs ++ cons_option o []) some
 
 -- the answer to a run's last command on the device adds nothing
@@ -200,7 +200,7 @@ last_history n m d r s log h = record {
     marks = ap (filter_map _) log ∙ marks_unkept _ (n.log d) (Last r) refl ∙ same_marks _ _ (n.log d) (λ q i. if list_any (is_ran q) (s.line i) && not (s.late q i) then Some (Ran (run_no q)) else None) (λ e. refl) (λ q. refl)
 
 -- what no item passes keeps nothing
-none_items : {B : Type 0} (f : Item → Option B) (p : Item → Bool) (xs : List Item) → list_any p xs ≡ false → ((r : RunNo) → p (Ran r) ≡ false → f (Ran r) ≡ None) → ((e : DeviceNo) (j : ℕ) → p (Failed e j) ≡ false → f (Failed e j) ≡ None) → ((e : DeviceNo) (j : ℕ) → p (Back e j) ≡ false → f (Back e j) ≡ None) → filter_map f xs ≡ []
+pub none_items : {B : Type 0} (f : Item → Option B) (p : Item → Bool) (xs : List Item) → list_any p xs ≡ false → ((r : RunNo) → p (Ran r) ≡ false → f (Ran r) ≡ None) → ((e : DeviceNo) (j : ℕ) → p (Failed e j) ≡ false → f (Failed e j) ≡ None) → ((e : DeviceNo) (j : ℕ) → p (Back e j) ≡ false → f (Back e j) ≡ None) → filter_map f xs ≡ []
 none_items f p [] none runs failures backs = refl
 none_items f p (Ran r ∷ xs) none runs failures backs = let parts = neither (p (Ran r)) (list_any p xs) none in λ i. cons_option (runs r parts.0 i) (none_items f p xs parts.1 runs failures backs i)
 none_items f p (Failed e j ∷ xs) none runs failures backs = let parts = neither (p (Failed e j)) (list_any p xs) none in λ i. cons_option (failures e j parts.0 i) (none_items f p xs parts.1 runs failures backs i)
@@ -334,7 +334,7 @@ pub record IsInserted (n m : Reading) (d r : ℕ) (front back : List Item) : Typ
   pub none : did n r d ≡ false
   pub unlogged : list_any (is_first r) (n.log d) ≡ false
 
-skipped : {B : Type 0} (f : Item → Option B) (front back : List Item) (x : Item) → f x ≡ None → filter_map f (front ++ x ∷ back) ≡ filter_map f (front ++ back)
+pub skipped : {B : Type 0} (f : Item → Option B) (front back : List Item) (x : Item) → f x ≡ None → filter_map f (front ++ x ∷ back) ≡ filter_map f (front ++ back)
 skipped f [] back x none = ap (λ o. cons_option o (filter_map f back)) none
 skipped f (y ∷ front) back x none = ap (cons_option (f y)) (skipped f front back x none)
 

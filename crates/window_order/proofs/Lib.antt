@@ -1,3 +1,4 @@
+pub mod ClosedSpans
 pub mod ReadFacts
 pub mod PromisedWords
 pub mod StandingValues
@@ -8,9 +9,12 @@ pub mod Promises
 pub mod CleanValues
 pub mod Grips
 pub mod HistoryOrder
+pub mod EventHistory
 pub mod Runs
 pub mod Firsts
 pub mod Goes
+pub mod EventPlaces
+pub mod TurnedOrders
 pub mod Steps
 pub mod Rollbacks
 pub mod AccessLists
@@ -28,3 +32,4 @@ pub mod AbortedTables
 pub mod TableSteps
 pub mod TouchedLines
 pub mod FewAccesses
+pub mod DeadAccesses

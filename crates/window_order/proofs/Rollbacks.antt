@@ -22,6 +22,7 @@ use Rattle.history_book.specs.declared.entries.Entry.TheVariants.{Did, Doomed, E
 use Rattle.home_types.specs.Commands.{reads}
 use Rattle.home_types.specs.HomeStates.{stand_at}
 use Rattle.home_types.specs.declared.commands.Answer.TheVariants.{Found}
+use Rattle.home_types.specs.declared.commands.Answer.{Answer}
 use Rattle.home_types.specs.declared.commands.Command.{Command}
 use Rattle.home_types.specs.declared.items.Item.TheVariants.{Back, Failed, Ran}
 use Rattle.home_types.specs.declared.items.Item.{Item}
@@ -53,11 +54,11 @@ equal x y h = grind (arith, common_steps)
 -- A run is doomed
 
 -- what is known of a run after its doom
-abbrev doomed_of : OfRun → Cause → OfRun
+abbrev pub doomed_of : OfRun → Cause → OfRun
 doomed_of o cause = record o { doomed = Some cause }
 
 -- the grips that may be out may be out after a doom: a command's is out as before, and an undo's is that of a doomed run
-fits_doomed : (w : Setting) (n : Reading) (g : Grips) (r : ℕ) (cause : Cause) → GripsFit w n g → GripsFit w (entry w n (Doomed (run_no r) cause)) g
+pub fits_doomed : (w : Setting) (n : Reading) (g : Grips) (r : ℕ) (cause : Cause) → GripsFit w n g → GripsFit w (entry w n (Doomed (run_no r) cause)) g
 fits_doomed w n g r cause f = fits_from w next g f.homed (λ d q p at. still d q p at) f.runs.one
   where
     next : Reading
@@ -79,7 +80,7 @@ fits_doomed w n g r cause f = fits_from w next g f.homed (λ d q p at. still d q
     still d q (Probes v) at = all_may w n g f d q (Probes v) at
 
 -- no doom is taken back
-sound_before : (w : Setting) (n : Reading) (r : ℕ) (cause : Cause) (q : ℕ) → is_doomed (entry w n (Doomed (run_no r) cause)) q ≡ false → is_doomed n q ≡ false
+pub sound_before : (w : Setting) (n : Reading) (r : ℕ) (cause : Cause) (q : ℕ) → is_doomed (entry w n (Doomed (run_no r) cause)) q ≡ false → is_doomed n q ≡ false
 sound_before w n r cause q h = at_ (q == r) h
   where
     at_ : (b : Bool) → is_some (if b then doomed_of (n.run r) cause else n.run q).doomed ≡ false → is_doomed n q ≡ false
@@ -118,9 +119,9 @@ doomed_kept w n g held r cause read live kept = record {
 -- A must command finds another value, and its run is doomed
 
 -- the run gets its answer, is doomed, and its grip comes home
-gets_refuted : (w : Setting) (n : Reading) (g : Grips) (r k x : ℕ) (cause : Cause) → k ≡ next_of n r → length (n.run r).answers < length (commands_of w.runs r)
-    → GetsAnswer (run_state w n g r) (run_state w (entry w (entry w n (Did (run_no r) k (Found x))) (Doomed (run_no r) cause)) (put g (command_at w.runs r k).device.0 None) r) (command_at w.runs r k) (drop (next_of n r + 1) (commands_of w.runs r)) (Found x) true
-gets_refuted w n g r k x cause number more = record {
+pub gets_and_doomed : (w : Setting) (n : Reading) (g : Grips) (r k : ℕ) (answer : Answer) (cause : Cause) → k ≡ next_of n r → length (n.run r).answers < length (commands_of w.runs r)
+    → GetsAnswer (run_state w n g r) (run_state w (entry w (entry w n (Did (run_no r) k answer)) (Doomed (run_no r) cause)) (put g (command_at w.runs r k).device.0 None) r) (command_at w.runs r k) (drop (next_of n r + 1) (commands_of w.runs r)) answer true
+gets_and_doomed w n g r k answer cause number more = record {
   next = a.next;
   commands = refl;
   answers = ap (λ o. o.answers) own ∙ a.answers;
@@ -135,10 +136,10 @@ gets_refuted w n g r k x cause number more = record {
     h = put g (command_at w.runs r k).device.0 None
 
     did : Reading
-    did = entry w n (Did (run_no r) k (Found x))
+    did = entry w n (Did (run_no r) k answer)
 
-    a : GetsAnswer (run_state w n g r) (run_state w did h r) (command_at w.runs r k) (drop (next_of n r + 1) (commands_of w.runs r)) (Found x) (is_doomed n r)
-    a = gets_answer w n g r k (Found x) number more
+    a : GetsAnswer (run_state w n g r) (run_state w did h r) (command_at w.runs r k) (drop (next_of n r + 1) (commands_of w.runs r)) answer (is_doomed n r)
+    a = gets_answer w n g r k answer number more
 
     own : (entry w did (Doomed (run_no r) cause)).run r ≡ doomed_of (did.run r) cause
     own = put_same did.run r (doomed_of (did.run r) cause)
@@ -153,7 +154,7 @@ refuted_at w n g held r k cause read at reading out kept = record {
   grips = home_fits w n next g d r (Commands k) others (live_run w n r read out.live) at kept.grips;
   window = read_answered w.kinds (window_of w n g held) (window_of w next (put g d None) held) r c (drop (next_of n r + 1) (commands_of w.runs r)) x true (record {
     place = in_place w n next g (put g d None) held held r cut refl others (λ q e ne. put_keeps (held_by w q) g d None (sym (ap (held_by w q) at ∙ held_other w r q (Commands k) ne)) e);
-    answer = gets_refuted w n g r k x cause out.number out.more;
+    answer = gets_and_doomed w n g r k (Found x) cause out.number out.more;
     live = live_uncommitted n r out.live;
     out = ap (held_by w r) at ∙ held_own w r (Commands k) ∙ ap (λ b. if b then Reads else Writes) reading;
     job = reading;
@@ -255,7 +256,7 @@ may_be_undone w n g held r d read live doomed effective home = record {
   home = record { free = none_hold w n g held d n.line home; unprobed = ap probe_of home };
 }
 
-none_out : (g : Grips) (d : ℕ) → is_out g d ≡ false → g d ≡ None
+pub none_out : (g : Grips) (d : ℕ) → is_out g d ≡ false → g d ≡ None
 none_out g d in' = at_ (g d) in'
   where
     at_ : (o : Option Grip) → is_some o ≡ false → o ≡ None
@@ -306,7 +307,7 @@ undo_goes_kept w n g held r d read live doomed free next in' up kept = record {
         ∙ (λ i. unwrap_or (option_map (λ e. e.value) (last_some (write_of n g d) (sym (ap (without r) cut.at ∙ without_cut r cut.front cut.back cut.before cut.behind) i))) (stand_at w.first d).value)
 
 -- a run that is undone on a device keeps all else
-undone_elsewhere : (w : Setting) (n : Reading) (g h : Grips) (r d : ℕ) (drove : Bool) → ((e : ℕ) → e ≢ d → held_by w r (h e) ≡ held_by w r (g e)) → KeepsElsewhere (run_state w n g r) (run_state w (entry w n (Undid (run_no r) (device_no d) drove)) h r) d
+pub undone_elsewhere : (w : Setting) (n : Reading) (g h : Grips) (r d : ℕ) (drove : Bool) → ((e : ℕ) → e ≢ d → held_by w r (h e) ≡ held_by w r (g e)) → KeepsElsewhere (run_state w n g r) (run_state w (entry w n (Undid (run_no r) (device_no d) drove)) h r) d
 undone_elsewhere w n g h r d drove grips = record {
   commands = refl;
   answers = ap (λ o. o.answers) own;
@@ -322,11 +323,11 @@ undone_elsewhere w n g h r d drove grips = record {
     own : (entry w n (Undid (run_no r) (device_no d) drove)).run r ≡ record (n.run r) { on = put (n.run r).on d on_device }
     own = put_same n.run r _
 
-undone_there : (w : Setting) (n : Reading) (r d : ℕ) (drove : Bool) → (((entry w n (Undid (run_no r) (device_no d) drove)).run r).on d).undid ≡ true
+pub undone_there : (w : Setting) (n : Reading) (r d : ℕ) (drove : Bool) → (((entry w n (Undid (run_no r) (device_no d) drove)).run r).on d).undid ≡ true
 undone_there w n r d drove = ap (λ o. (o.on d).undid) (put_same n.run r _) ∙ ap (λ x. x.undid) (put_same (n.run r).on d (record ((n.run r).on d) { undid = true }))
 
 -- it stays where it stood among the first accesses and events
-undone_history : (w : Setting) (n : Reading) (r d : ℕ) (drove : Bool) (e : ℕ) → InHistoryOrder n e → InHistoryOrder (entry w n (Undid (run_no r) (device_no d) drove)) e
+pub undone_history : (w : Setting) (n : Reading) (r d : ℕ) (drove : Bool) (e : ℕ) → InHistoryOrder n e → InHistoryOrder (entry w n (Undid (run_no r) (device_no d) drove)) e
 undone_history w n r d drove e = same_history n (entry w n (Undid (run_no r) (device_no d) drove)) e (record {
   line = refl;
   view = λ q. put_keeps (λ o. (o.on e).view) n.run r _ (put_keeps (λ x. x.view) (n.run r).on d _ refl e) q;
