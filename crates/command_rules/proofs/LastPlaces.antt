@@ -1,47 +1,99 @@
--- The last place that passes, by what holds at each place.
-use Rattle.command_rules.specs.Rosters.{last_position}
-use Rattle.std.proofs.Common.{Bool, IfNone, IfSome, List, None, Option, Some, [], arith, false, length, refl, slice_index_or, suc, sym, true, zero, ℕ, ◌+◌, ◌<◌, ◌||◌, ◌≡◌, ◌≤◌, ◌∷◌}
+-- The last place of which a test holds.
+use Rattle.command_rules.specs.Searches.{last_place}
+use Rattle.std.proofs.Common.{ap, arith, refl, subst, sym, ◌∙◌}
+use Rattle.std.proofs.lemmas.Grind.{common_steps}
 use Rattle.std.specs.List.{list_any}
+use Rattle.std.specs.Option.{option_or}
+use Rattle.std.specs.Prelude.{Bool, IfNone, IfSome, List, None, Option, Some, [], drop, false, get_or, if◌then◌else◌, length, option_map, slice_index_or, suc, true, unwrap_or, zero, ℕ, ◌+◌, ◌-◌, ◌<◌, ◌∷◌, ◌≡◌, ◌≤◌, ◌||◌}
 
-or_true : (a b : Bool) → b ≡ true → (a || b) ≡ true
-or_true true b h = refl
-or_true false b h = h
+-- where nothing passes there is none
+pub last_none : {A : Type 0} (test : A → Bool) (xs : List A) → list_any test xs ≡ false → last_place test xs ≡ None
+last_none test [] none = refl
+last_none test (x ∷ xs) none = let here : test x ≡ false = grind (arith, common_steps) in rw (last_none test xs (grind (arith, common_steps)), here) refl
 
-module _ {T : Type 0} (test : T → Bool) where
-  -- no item from the place i on passes
-  abbrev pub NonePasses : List T → ℕ → Type 0
-  NonePasses xs i = (k : ℕ) (d : T) → i ≤ k → k < length xs → test (slice_index_or xs k d) ≡ false
+-- .. and nothing passes where there is none
+pub last_unfound : {A : Type 0} (test : A → Bool) (xs : List A) → last_place test xs ≡ None → list_any test xs ≡ false
+last_unfound test [] none = refl
+last_unfound test (x ∷ xs) none =
+    let behind : last_place test xs ≡ None = tail_none (last_place test xs) (if test x then Some 0 else None) none in
+    rw (last_unfound test xs behind) (head_none (last_place test xs) (test x) none)
+  where
+    tail_none : (o h : Option ℕ) → option_or (option_map (λ k. k + 1) o) h ≡ None → o ≡ None
+    tail_none None h e = refl
+    tail_none (Some k) h e = absurd (cc)
 
-  none_passes : (xs : List T) → NonePasses xs 0 → list_any test xs ≡ false
-  none_passes [] none = refl
-  none_passes (x ∷ xs) none =
-      let here : test x ≡ false = none 0 x (omega arith) (omega arith) in
-      rw here (none_passes xs (λ k d low high. none (suc k) d (omega arith) (omega (arith, high))))
+    head_none : (o : Option ℕ) (b : Bool) → option_or (option_map (λ k. k + 1) o) (if b then Some 0 else None) ≡ None → (b || false) ≡ false
+    head_none o false e = refl
+    head_none None true e = absurd (cc)
+    head_none (Some k) true e = absurd (cc)
 
-  one_passes : (xs : List T) (i : ℕ) → i < length xs → ((d : T) → test (slice_index_or xs i d) ≡ true) → list_any test xs ≡ true
-  one_passes [] i within passes = let no_place : ⊥ = omega (arith, within) in absurd no_place
-  one_passes (x ∷ xs) zero within passes = rw (passes x) refl
-  one_passes (x ∷ xs) (suc i) within passes = or_true (test x) (list_any test xs) (one_passes xs i (omega (arith, within)) passes)
+-- one passes where there is one
+pub last_found : {A : Type 0} (test : A → Bool) (xs : List A) (k : ℕ) → last_place test xs ≡ Some k → list_any test xs ≡ true
+last_found {A} test xs k found = by_cases (list_any test xs) refl
+  where
+    by_cases : (b : Bool) → list_any test xs ≡ b → b ≡ true
+    by_cases true e = refl
+    by_cases false e = absurd (cc (sym found ∙ last_none test xs e))
 
-  none : (xs : List T) → NonePasses xs 0 → last_position test xs ≡ None
-  none [] nothing = refl
-  none (x ∷ xs) nothing =
-      let here : test x ≡ false = nothing 0 x (omega arith) (omega arith) in
-      let later : list_any test xs ≡ false = none_passes xs (λ k d low high. nothing (suc k) d (omega arith) (omega (arith, high))) in
-      rw (later, here) refl
+-- the last place is one of the list
+pub last_within : {A : Type 0} (test : A → Bool) (xs : List A) (k : ℕ) → last_place test xs ≡ Some k → k < length xs
+last_within test [] k found = absurd (cc)
+last_within {A} test (x ∷ xs) k found = at (last_place test xs) refl found (λ j e. last_within test xs j e)
+  where
+    here : (b : Bool) → (if b then Some 0 else None) ≡ Some k → k ≡ 0
+    here true e = sym (ap (λ o. unwrap_or o 0) e)
+    here false e = absurd (cc)
 
-  some : (xs : List T) (i : ℕ) → i < length xs → ((d : T) → test (slice_index_or xs i d) ≡ true) → NonePasses xs (i + 1) → last_position test xs ≡ Some i
-  some [] i within passes after = let no_place : ⊥ = omega (arith, within) in absurd no_place
-  some (x ∷ xs) zero within passes after =
-      let later : list_any test xs ≡ false = none_passes xs (λ k d low high. after (suc k) d (omega arith) (omega (arith, high))) in
-      rw (later, passes x) refl
-  some (x ∷ xs) (suc i) within passes after =
-      let inside : i < length xs = omega (arith, within) in
-      let later : list_any test xs ≡ true = one_passes xs i inside passes in
-      let place : last_position test xs ≡ Some i = some xs i inside passes (λ k d low high. after (suc k) d (omega (arith, low)) (omega (arith, high))) in
-      rw (later, place) refl
+    at : (o : Option ℕ) → last_place test xs ≡ o → option_or (option_map (λ j. j + 1) o) (if test x then Some 0 else None) ≡ Some k → ((j : ℕ) → last_place test xs ≡ Some j → j < length xs) → k < suc (length xs)
+    at (Some j) e told before = let less : j < length xs = before j e in let next : j + 1 ≡ k = ap (λ o. unwrap_or o 0) told in omega (arith, less, next)
+    at None e told before = let none : k ≡ 0 = here (test x) told in omega (arith, none)
 
-  -- the last place, by what holds at each place
-  pub last_position-places : (xs : List T) (r : Option ℕ) → IfNone r (NonePasses xs 0) → IfSome r (λ i. (i < length xs) × ((d : T) → test (slice_index_or xs i d) ≡ true) × NonePasses xs (i + 1)) → r ≡ last_position test xs
-  last_position-places xs None nothing last = sym (none xs nothing)
-  last_position-places xs (Some i) nothing last = sym (some xs i last.0 last.1 last.2)
+-- .. and what stands there passes
+pub last_told : {A : Type 0} (test : A → Bool) (xs : List A) (k : ℕ) (d : A) → last_place test xs ≡ Some k → test (get_or xs k d) ≡ true
+last_told test [] k d found = absurd (cc)
+last_told {A} test (x ∷ xs) k d found = at (last_place test xs) refl found (λ j e. last_told test xs j d e)
+  where
+    here : (b : Bool) → test x ≡ b → (if b then Some 0 else None) ≡ Some k → test (get_or (x ∷ xs) k d) ≡ true
+    here true e first = let none : k ≡ 0 = sym (ap (λ o. unwrap_or o 0) first) in ap (λ j. test (get_or (x ∷ xs) j d)) none ∙ e
+    here false e first = absurd (cc)
+
+    at : (o : Option ℕ) → last_place test xs ≡ o → option_or (option_map (λ j. j + 1) o) (if test x then Some 0 else None) ≡ Some k → ((j : ℕ) → last_place test xs ≡ Some j → test (get_or xs j d) ≡ true) → test (get_or (x ∷ xs) k d) ≡ true
+    at (Some j) e told before = let next : k ≡ suc j = sym (ap (λ o. unwrap_or o 0) told) ∙ add_one j in ap (λ i. test (get_or (x ∷ xs) i d)) next ∙ before j e
+      where
+        add_one : (j : ℕ) → j + 1 ≡ suc j
+        add_one j = omega arith
+    at None e told before = here (test x) refl told
+
+-- where a place passes and nothing behind it, it is the last place
+pub last_is : {A : Type 0} (test : A → Bool) (xs : List A) (k : ℕ) (x : A) → k < length xs → test (get_or xs k x) ≡ true → last_place test (drop (suc k) xs) ≡ None → last_place test xs ≡ Some k
+last_is test [] k x within passes none = absurd (omega (arith, within))
+last_is test (y ∷ ys) zero x within passes none = rw (none, passes) refl
+last_is test (y ∷ ys) (suc k) x within passes none = let e : suc k ≡ k + 1 = omega arith in rw (last_is test ys k x (omega (arith, within)) passes none, e) refl
+
+-- .. for the place just before another
+pub last_before : {A : Type 0} (test : A → Bool) (xs : List A) (k : ℕ) (x : A) → 0 < k → k ≤ length xs → test (get_or xs (k - 1) x) ≡ true → last_place test (drop k xs) ≡ None → last_place test xs ≡ Some (k - 1)
+last_before test xs zero x some within passes none = absurd (omega (arith, some))
+last_before test xs (suc k) x some within passes none = let e : suc k - 1 ≡ k = omega arith in last_is test xs k x (omega (arith, within)) (subst (λ j. test (get_or xs j x) ≡ true) e passes) none ∙ ap Some (sym e)
+
+-- By what holds at each place
+
+-- no item from the place i on passes
+abbrev pub NonePasses : {A : Type 0} → (A → Bool) → List A → ℕ → Type 0
+NonePasses {A} test xs i = (k : ℕ) (d : A) → i ≤ k → k < length xs → test (slice_index_or xs k d) ≡ false
+
+none_passes : {A : Type 0} (test : A → Bool) (xs : List A) → NonePasses test xs 0 → list_any test xs ≡ false
+none_passes test [] none = refl
+none_passes test (x ∷ xs) none =
+    let here : test x ≡ false = none 0 x (omega arith) (omega arith) in
+    rw here (none_passes test xs (λ k d low high. none (suc k) d (omega arith) (omega (arith, high))))
+
+none_from : {A : Type 0} (test : A → Bool) (xs : List A) (i : ℕ) → NonePasses test xs i → last_place test (drop i xs) ≡ None
+none_from test [] zero none = refl
+none_from test [] (suc i) none = refl
+none_from test (x ∷ xs) zero none = last_none test (x ∷ xs) (none_passes test (x ∷ xs) none)
+none_from test (x ∷ xs) (suc i) none = none_from test xs i (λ k d low high. none (suc k) d (omega (arith, low)) (omega (arith, high)))
+
+pub last_place-places : {A : Type 0} (test : A → Bool) (xs : List A) (r : Option ℕ) → IfNone r (NonePasses test xs 0) → IfSome r (λ i. (i < length xs) × ((d : A) → test (slice_index_or xs i d) ≡ true) × NonePasses test xs (i + 1)) → r ≡ last_place test xs
+last_place-places test xs None nothing last = sym (last_none test xs (none_passes test xs nothing))
+last_place-places test [] (Some i) nothing last = absurd (omega (arith, last.0))
+last_place-places test (x ∷ xs) (Some i) nothing last = sym (last_is test (x ∷ xs) i x last.0 (last.1 x) (none_from test (x ∷ xs) (suc i) (λ k d low high. last.2 k d (omega (arith, low)) high)))

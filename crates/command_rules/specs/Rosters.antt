@@ -1,4 +1,5 @@
 -- Words on the runs of a window. Runs count from 1, devices and commands from 0.
+use Rattle.command_rules.specs.Searches.{last_place}
 use Rattle.command_rules.specs.declared.rosters.Roster.{Roster}
 use Rattle.command_rules.specs.declared.rosters.RosterRun.{RosterRun}
 use Rattle.home_types.specs.Commands.{reads, writes}
@@ -7,7 +8,7 @@ use Rattle.home_types.specs.declared.commands.Job.TheVariants.{Load}
 use Rattle.home_types.specs.declared.numbers.DeviceNo.{DeviceNo}
 use Rattle.home_types.specs.declared.numbers.RunNo.{RunNo}
 use Rattle.std.specs.List.{list_any}
-use Rattle.std.specs.Prelude.{Bool, List, None, Option, Some, [], drop, false, find, if◌then◌else◌, is_some, map, not, option_and_then, option_map, position, slice_get, slice_index_or, suc, unwrap_or, zero, ℕ, ◌&&◌, ◌+◌, ◌==◌, ◌∷◌}
+use Rattle.std.specs.Prelude.{Bool, List, None, Option, [], drop, false, find, if◌then◌else◌, is_some, map, not, option_and_then, option_map, position, slice_get, slice_index_or, suc, unwrap_or, zero, ℕ, ◌&&◌, ◌+◌, ◌==◌, ◌∷◌}
 
 abbrev pub run_no : ℕ → RunNo
 run_no r = record { 0 = r }
@@ -64,14 +65,9 @@ touches_from runs r d c = list_any (is_on d) (drop c (commands_of runs r))
 abbrev pub first_on : List Run → ℕ → ℕ → Option ℕ
 first_on runs r d = position (is_on d) (commands_of runs r)
 
--- the number of the last item that passes
-abbrev pub last_position : {T : Type 0} → (T → Bool) → List T → Option ℕ
-last_position test [] = None
-last_position test (x ∷ xs) = if list_any test xs then option_map suc (last_position test xs) else (if test x then Some 0 else None)
-
 -- the number of its last command on the device
 abbrev pub last_on : List Run → ℕ → ℕ → Option ℕ
-last_on runs r d = last_position (is_on d) (commands_of runs r)
+last_on runs r d = last_place (is_on d) (commands_of runs r)
 
 -- the command is the run's last one on its device
 abbrev pub is_last : List Run → ℕ → ℕ → Bool

@@ -1,6 +1,7 @@
 ghost use Rattle.std.specs.Prelude.{◌≡◌, ◌<◌, ◌^◌, length, position, IfSome};
 ghost use Rattle.std.specs.List.{list_any};
-ghost use Rattle.command_rules.specs.Rosters.{estimate_to_last, is_on, last_position};
+ghost use Rattle.command_rules.specs.Rosters.{estimate_to_last, is_on};
+ghost use Rattle.command_rules.specs.Searches.{last_place};
 
 use home_types::{Command, DeviceNo};
 
@@ -20,7 +21,7 @@ pub fn first_command_on(commands: &[Command], d: DeviceNo) -> Option<usize>
 
 /// The place of the last command on the device `d`.
 pub fn last_command_on(commands: &[Command], d: DeviceNo) -> Option<usize>
-    ensures last { result ≡ last_position (is_on d.0) commands.now }
+    ensures last { result ≡ last_place (is_on d.0) commands.now }
     ensures within { IfSome result (λ place. place < length commands.now) }
 {
     commands.iter().rposition(|command| command.device == d)

@@ -23,7 +23,7 @@ use Rattle.lock_leasing.specs.Words.{has_touched}
 use Rattle.serial_line.proofs.Searches.{last_counted, up_to_either}
 use Rattle.serial_line.proofs.Ties.{last_in_line}
 use Rattle.serial_line.specs.Marks.{Mark, items_of, last_on}
-use Rattle.serial_line.specs.Searches.{last_place}
+use Rattle.command_rules.specs.Searches.{last_place}
 use Rattle.serial_line.specs.Ties.{IsLineOf}
 use Rattle.std.proofs.Common.{ap, ap₂, arith, cond, refl, sym, ◌∙◌}
 use Rattle.std.proofs.lemmas.Grind.{common_steps}

@@ -8,7 +8,7 @@ use Rattle.home_types.specs.declared.commands.Command.{Command}
 use Rattle.home_types.specs.declared.numbers.RunNo.{RunNo}
 use Rattle.lock_leasing.specs.Places.{up_to_first}
 use Rattle.serial_line.specs.Marks.{Mark, items_of, last_on}
-use Rattle.serial_line.specs.Searches.{last_place}
+use Rattle.command_rules.specs.Searches.{last_place}
 use Rattle.std.specs.Prelude.{Bool, List, None, Option, Some, false, fold, if◌then◌else◌, is_none, max, option_map, unwrap_or, ℕ, ◌+◌}
 
 -- the number of items up to and with this place, none where there is none

@@ -1,22 +1,12 @@
--- What a search from the end finds.
-use Rattle.serial_line.specs.Searches.{last_place}
-use Rattle.std.proofs.Common.{ap, arith, cond, refl, subst, sym, ◌∙◌}
+-- What searches in a list find.
+use Rattle.command_rules.proofs.LastPlaces.{last_found, last_unfound}
+use Rattle.command_rules.specs.Searches.{last_place}
+use Rattle.std.proofs.Common.{ap, arith, cond, refl, subst}
 use Rattle.std.proofs.lemmas.Grind.{common_steps}
 use Rattle.std.proofs.lemmas.List.Sums.{prefix_len_stops}
 use Rattle.std.specs.List.{list_any, prefix_len}
 use Rattle.std.specs.Option.{option_or}
-use Rattle.std.specs.Prelude.{Bool, List, None, Option, Some, [], drop, false, get_or, if◌then◌else◌, length, max, nat_lt, not, option_map, position, suc, take, true, unwrap_or, zero, ℕ, ◌+◌, ◌-◌, ◌++◌, ◌<◌, ◌∷◌, ◌≡◌, ◌≤◌, ◌||◌}
-
--- where a place passes and nothing behind it, it is the last place
-last_is : {A : Type 0} (test : A → Bool) (xs : List A) (k : ℕ) (x : A) → k < length xs → test (get_or xs k x) ≡ true → last_place test (drop (suc k) xs) ≡ None → last_place test xs ≡ Some k
-last_is test [] k x within passes none = absurd (omega (arith, within))
-last_is test (y ∷ ys) zero x within passes none = rw (none, passes) refl
-last_is test (y ∷ ys) (suc k) x within passes none = let e : suc k ≡ k + 1 = omega arith in rw (last_is test ys k x (omega (arith, within)) passes none, e) refl
-
--- .. for the place just before another
-pub last_before : {A : Type 0} (test : A → Bool) (xs : List A) (k : ℕ) (x : A) → 0 < k → k ≤ length xs → test (get_or xs (k - 1) x) ≡ true → last_place test (drop k xs) ≡ None → last_place test xs ≡ Some (k - 1)
-last_before test xs zero x some within passes none = absurd (omega (arith, some))
-last_before test xs (suc k) x some within passes none = let e : suc k - 1 ≡ k = omega arith in last_is test xs k x (omega (arith, within)) (subst (λ j. test (get_or xs j x) ≡ true) e passes) none ∙ ap Some (sym e)
+use Rattle.std.specs.Prelude.{Bool, List, None, Option, Some, [], drop, false, get_or, if◌then◌else◌, length, max, nat_lt, not, option_map, position, suc, take, true, unwrap_or, zero, ℕ, ◌+◌, ◌++◌, ◌<◌, ◌∷◌, ◌≡◌, ◌≤◌, ◌||◌}
 
 -- what stands at a place is among the list
 pub any_at : {A : Type 0} (p : A → Bool) (xs : List A) (k : ℕ) (d : A) → k < length xs → p (get_or xs k d) ≡ true → list_any p xs ≡ true
@@ -61,22 +51,6 @@ none_len p (x ∷ xs) absent =
 pub position_none : {A : Type 0} (p : A → Bool) (xs : List A) → list_any p xs ≡ false → position p xs ≡ None
 position_none p xs absent = rw (none_len p xs absent) (grind (arith, common_steps))
 
--- what a search from the end does not find is not there
-pub last_unfound : {A : Type 0} (test : A → Bool) (xs : List A) → last_place test xs ≡ None → list_any test xs ≡ false
-last_unfound test [] none = refl
-last_unfound test (x ∷ xs) none =
-    let behind : last_place test xs ≡ None = tail_none (last_place test xs) (if test x then Some 0 else None) none in
-    rw (last_unfound test xs behind) (head_none (last_place test xs) (test x) none)
-  where
-    tail_none : (o h : Option ℕ) → option_or (option_map (λ k. k + 1) o) h ≡ None → o ≡ None
-    tail_none None h e = refl
-    tail_none (Some k) h e = absurd (cc)
-
-    head_none : (o : Option ℕ) (b : Bool) → option_or (option_map (λ k. k + 1) o) (if b then Some 0 else None) ≡ None → (b || false) ≡ false
-    head_none o false e = refl
-    head_none None true e = absurd (cc)
-    head_none (Some k) true e = absurd (cc)
-
 -- the number of items up to and with the last one of which the test holds
 abbrev pub up_to_last : {A : Type 0} → (A → Bool) → List A → ℕ
 up_to_last test [] = 0
@@ -85,17 +59,6 @@ up_to_last test (x ∷ xs) = if list_any test (x ∷ xs) then up_to_last test xs
 up_to_none : {A : Type 0} (test : A → Bool) (xs : List A) → list_any test xs ≡ false → up_to_last test xs ≡ 0
 up_to_none test [] none = refl
 up_to_none test (x ∷ xs) none = rw none refl
-
-last_found : {A : Type 0} (test : A → Bool) (xs : List A) (k : ℕ) → last_place test xs ≡ Some k → list_any test xs ≡ true
-last_found {A} test xs k found = by_cases (list_any test xs) refl
-  where
-    none_of : (ys : List A) → list_any test ys ≡ false → last_place test ys ≡ None
-    none_of [] none = refl
-    none_of (y ∷ ys) none = let here : test y ≡ false = grind (arith, common_steps) in rw (none_of ys (grind (arith, common_steps)), here) refl
-
-    by_cases : (b : Bool) → list_any test xs ≡ b → b ≡ true
-    by_cases true e = refl
-    by_cases false e = absurd (cc (sym found ∙ none_of xs e))
 
 -- it is one more than the last place, and nought where there is none
 pub last_counted : {A : Type 0} (test : A → Bool) (xs : List A) → up_to_last test xs ≡ unwrap_or (option_map (λ k. k + 1) (last_place test xs)) 0

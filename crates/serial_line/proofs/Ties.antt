@@ -5,7 +5,7 @@ use Rattle.home_types.specs.declared.items.Item.{Item}
 use Rattle.home_types.specs.declared.numbers.RunNo.{RunNo}
 use Rattle.home_types.proofs.DeviceBits.{contains_insert}
 use Rattle.serial_line.specs.Marks.{Mark, has_touched, is_item, is_ran, items_of, last_on, touching, untouched, with_item, with_touch, without}
-use Rattle.serial_line.specs.Searches.{last_place}
+use Rattle.command_rules.specs.Searches.{last_place}
 use Rattle.serial_line.specs.Ties.{Each, IsLineOf, TouchesAs}
 use Rattle.std.proofs.Common.{ap, arith, cond, refl, sym, ◌∙◌}
 use Rattle.std.proofs.lemmas.Grind.{common_steps}

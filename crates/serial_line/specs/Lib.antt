@@ -1,4 +1,3 @@
-pub mod Searches
 pub mod Marks
 pub mod Lines
 pub mod Ties

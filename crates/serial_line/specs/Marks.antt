@@ -2,7 +2,7 @@
 use Rattle.home_types.specs.declared.items.Item.{Item}
 use Rattle.home_types.specs.declared.items.Item.TheVariants.{Back, Failed, Ran}
 use Rattle.home_types.specs.contracts.items.Item as the_item
-use Rattle.serial_line.specs.Searches.{last_place}
+use Rattle.command_rules.specs.Searches.{last_place}
 use Rattle.home_types.specs.DeviceSets.{Devices}
 use Rattle.std.specs.Coded.{Coded, code_by, coded_list, coded×, coded_ℕ}
 use Rattle.std.specs.FinSet as set

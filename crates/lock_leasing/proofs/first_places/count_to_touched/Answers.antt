@@ -1,4 +1,4 @@
-use Rattle.lock_leasing.proofs.Floors.{last_within}
+use Rattle.command_rules.proofs.LastPlaces.{last_within}
 use Rattle.lock_leasing.proofs.first_places.count_to_touched.Goals as goal
 use Rattle.std.proofs.Common.{sym, ◌∙◌}
 

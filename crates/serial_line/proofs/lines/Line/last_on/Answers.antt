@@ -1,4 +1,4 @@
-use Rattle.serial_line.proofs.Searches.{last_before}
+use Rattle.command_rules.proofs.LastPlaces.{last_before}
 use Rattle.serial_line.proofs.lines.Line.last_on.Goals as goal
 use Rattle.std.proofs.Common.{ap, sym, ◌∙◌}
 use Rattle.std.specs.FinSet as set

@@ -1,4 +1,4 @@
-use Rattle.serial_line.specs.Searches.{last_place}
+use Rattle.command_rules.specs.Searches.{last_place}
 use Rattle.serial_line.proofs.lines.Line.last_on.Given as goal
 use Rattle.std.proofs.Common.{None, drop, length, ◌≡◌, ◌≤◌}
 use Rattle.std.specs.FinSet as set

@@ -1,7 +1,7 @@
 use Rattle.serial_line.proofs.Once.{place_is, place_unfound, told_there}
 use Rattle.serial_line.proofs.lines.Line.place_of.Goals as goal
 use Rattle.serial_line.specs.Marks.{is_item}
-use Rattle.serial_line.specs.Searches.{last_place}
+use Rattle.command_rules.specs.Searches.{last_place}
 use Rattle.std.proofs.Common.{None, Some, ap, arith, drop, length, rules, subst, sym, ◌-◌, ◌<◌, ◌∙◌, ◌≡◌, ◌≤◌}
 
 pub returns-then-is-clause-place : goal.returns-then-is-clause-place
