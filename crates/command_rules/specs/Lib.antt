@@ -1,3 +1,4 @@
+pub mod Items
 pub mod Searches
 pub mod Rosters
 pub mod Serial

@@ -1,5 +1,6 @@
 -- Who stands in the line.
-use Rattle.history_book.specs.Lines.{is_ran, put_before, without}
+use Rattle.command_rules.specs.Items.{is_ran}
+use Rattle.history_book.specs.Lines.{put_before, without}
 use Rattle.home_types.specs.declared.items.Item.{Item}
 use Rattle.home_types.specs.declared.items.Item.TheVariants.{Back, Failed, Ran}
 use Rattle.std.proofs.Common.{ap, arith, cond, refl, sym, ◌∙◌}

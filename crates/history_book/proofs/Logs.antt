@@ -1,8 +1,8 @@
 -- What the log of a device holds of each run.
+use Rattle.command_rules.specs.Items.{is_ran}
 use Rattle.command_rules.specs.Rosters.{command_at, commands_of, is_on, touches_from}
 use Rattle.history_book.proofs.Snoc.{put_keeps, put_other, put_same}
 use Rattle.history_book.specs.Histories.{entry, more_if, reading, with_turn}
-use Rattle.history_book.specs.Lines.{is_ran}
 use Rattle.history_book.specs.Readings.{Event, First, Last, Mark, OfRun, Reading, is_access, is_first, is_last, next_of, nothing_read, pends, put, span_of, view_by}
 use Rattle.history_book.specs.Settings.{Setting}
 use Rattle.history_book.specs.WellFormed.{IsWellFormed, along, may_follow}

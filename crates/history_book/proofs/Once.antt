@@ -1,11 +1,12 @@
 -- In a well-formed history a run stands in the line once where it is placed and no abort of it has ended, else not.
+use Rattle.command_rules.specs.Items.{is_ran, of_run}
 use Rattle.history_book.proofs.Lines.{same_run}
 use Rattle.history_book.proofs.Shapes.{Shaped, shapes_step, unread_shape}
 use Rattle.history_book.proofs.Snoc.{put_keeps}
 use Rattle.history_book.proofs.Splits.{split_count}
 use Rattle.history_book.proofs.Standing.{is_abort, stands_in}
 use Rattle.history_book.specs.Histories.{entry, reading, with_turn}
-use Rattle.history_book.specs.Lines.{Split, is_ran, of_run, put_before, without}
+use Rattle.history_book.specs.Lines.{Split, put_before, without}
 use Rattle.history_book.specs.Plans.{planned_times, split_of}
 use Rattle.history_book.specs.Readings.{OfRun, Reading, did, is_open, nothing_read, put}
 use Rattle.history_book.specs.Settings.{Setting, is_weak}

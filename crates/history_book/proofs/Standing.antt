@@ -1,9 +1,9 @@
 -- In a well-formed history a run stands in the line exactly where it is placed and no abort of it has ended.
+use Rattle.command_rules.specs.Items.{is_ran, of_run}
 use Rattle.history_book.proofs.Lines.{any_insert, any_other, any_put_before, any_without}
 use Rattle.history_book.proofs.Snoc.{put_keeps}
 use Rattle.history_book.proofs.Splits.{split_any}
 use Rattle.history_book.specs.Histories.{entry, reading, with_turn}
-use Rattle.history_book.specs.Lines.{is_ran, of_run}
 use Rattle.history_book.specs.Plans.{planned_times, split_of}
 use Rattle.history_book.specs.Readings.{OfRun, Reading, did, is_open, nothing_read, put}
 use Rattle.history_book.specs.Settings.{Setting, is_weak}

@@ -1,7 +1,8 @@
 -- The reading of a history: one fold over its entries.
+use Rattle.command_rules.specs.Items.{of_run}
 use Rattle.command_rules.specs.Rosters.{command_at, touches_from}
 use Rattle.command_rules.specs.Serial.{SerialRun, Served, serial_execution}
-use Rattle.history_book.specs.Lines.{Split, of_run, put_before, with_run_in, without}
+use Rattle.history_book.specs.Lines.{Split, put_before, with_run_in, without}
 use Rattle.history_book.specs.Plans.{planned_times, split_of}
 use Rattle.history_book.specs.Readings.{Event, First, Last, OfRun, OnDevice, Reading, did, is_access, is_fine, is_open, nothing_read, put, view_by}
 use Rattle.history_book.specs.Settings.{Setting, is_weak}

@@ -1,18 +1,10 @@
 -- Words on a list of items.
+use Rattle.command_rules.specs.Items.{is_ran}
 use Rattle.command_rules.specs.Rosters.{Run, touches}
 use Rattle.home_types.specs.declared.items.Item.{Item}
 use Rattle.home_types.specs.declared.items.Item.TheVariants.{Back, Failed, Ran}
 use Rattle.home_types.specs.declared.numbers.RunNo.{RunNo}
 use Rattle.std.specs.Prelude.{Bool, List, [], drop, false, filter, if◌then◌else◌, not, take, take_while, ℕ, ◌++◌, ◌==◌, ◌∷◌}
-
--- the item is a run of which the test holds
-abbrev pub of_run : (ℕ → Bool) → Item → Bool
-of_run test (Ran r) = test r.0
-of_run test (Failed d k) = false
-of_run test (Back d k) = false
-
-abbrev pub is_ran : ℕ → Item → Bool
-is_ran r = of_run (λ q. q == r)
 
 -- the item is a failure or a restart of the device
 abbrev pub is_event_on : ℕ → Item → Bool

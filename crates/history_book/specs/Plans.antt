@@ -1,6 +1,7 @@
 -- Planned times, and where a run that is placed stands in the line.
+use Rattle.command_rules.specs.Items.{of_run}
 use Rattle.command_rules.specs.Rosters.{commands_of, reads_first, writes_on}
-use Rattle.history_book.specs.Lines.{Split, behind, of_run, split_at}
+use Rattle.history_book.specs.Lines.{Split, behind, split_at}
 use Rattle.history_book.specs.Readings.{Planned, Reading, has_written, is_committed, is_live, is_open, passed_by}
 use Rattle.history_book.specs.Settings.{Setting, devices_of, scheduler_of}
 use Rattle.home_types.specs.declared.commands.Command.{Command}

@@ -1,4 +1,5 @@
 -- What is kept of a history and the grips, with one entry more.
+use Rattle.command_rules.specs.Items.{is_ran}
 use Rattle.command_rules.specs.Rosters.{device_no, run_no, touches}
 use Rattle.history_book.proofs.Frames.{did_live, doomed_live}
 use Rattle.history_book.proofs.Lines.{any_taken}
@@ -7,7 +8,7 @@ use Rattle.history_book.proofs.Shapes.{shapes}
 use Rattle.history_book.proofs.Snoc.{Along_more, each_more, entries_on, put_keeps, put_other, put_same}
 use Rattle.history_book.proofs.Standing.{Standing, standing, stands_in}
 use Rattle.history_book.specs.Histories.{entries_of, entry, kept_by, moment_of, reading}
-use Rattle.history_book.specs.Lines.{before, is_ran, without}
+use Rattle.history_book.specs.Lines.{before, without}
 use Rattle.history_book.specs.Plans.{planned_times, split_of}
 use Rattle.history_book.specs.Readings.{OfRun, PlacedAt, Reading, did, is_live, nothing_read, put}
 use Rattle.history_book.specs.Settings.{Setting, devices_of, is_device, is_strict}

@@ -1,8 +1,9 @@
 -- The order of a line in which each run was placed before the runs behind it.
+use Rattle.command_rules.specs.Items.{is_ran}
 use Rattle.command_rules.specs.Rosters.{Run, run_no, shares}
 use Rattle.history_book.proofs.Shapes.{put_all}
 use Rattle.history_book.specs.Histories.{entry, reading}
-use Rattle.history_book.specs.Lines.{before, is_ran, without}
+use Rattle.history_book.specs.Lines.{before, without}
 use Rattle.history_book.specs.Plans.{split_of}
 use Rattle.history_book.specs.Readings.{OfRun, PlacedAt, Reading, is_live, nothing_read, put}
 use Rattle.history_book.specs.Settings.{Setting}

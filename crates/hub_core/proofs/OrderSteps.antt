@@ -1,4 +1,5 @@
 -- Each entry of this stage, and each device that goes out, keeps the line and the table of a window.
+use Rattle.command_rules.specs.Items.{is_ran}
 use Rattle.command_rules.specs.Rosters.{command_at, commands_of, device_no, is_run, run_no}
 use Rattle.device_order.specs.LineWords.{CutAt}
 use Rattle.history_book.proofs.Snoc.{each_at, entries_on, reading_more}
@@ -24,7 +25,7 @@ use Rattle.lineage_table.specs.Accesses.{is_scheduled, status_of}
 use Rattle.lineage_table.specs.Lineages.{IsOpened, LineageState, committed_lineage, lineage_at, removed, undone, with_lineage}
 use Rattle.lineage_table.specs.declared.accesses.Status.TheVariants.{Acquired, Scheduled}
 use Rattle.lock_leasing.specs.Configurations.{Commands, Grip, Grips, Purpose, Undoes, grips_command, is_command, no_grips}
-use Rattle.serial_line.specs.Marks.{Mark, Marked, is_ran, items_of, touching, untouched, with_item, with_touch, without}
+use Rattle.serial_line.specs.Marks.{Mark, Marked, items_of, touching, untouched, with_item, with_touch, without}
 use Rattle.std.proofs.Common.{ap, arith, cond, length-append, refl, subst, sym, ◌∙◌}
 use Rattle.std.proofs.lemmas.List.{length-map, take-append-drop}
 use Rattle.std.specs.Prelude.{Bool, IsTrue, List, None, Option, Some, [], drop, false, if◌then◌else◌, length, not, option_map, suc, take, true, unwrap_or, ℕ, ◌&&◌, ◌*◌, ◌++◌, ◌+◌, ◌<◌, ◌==◌, ◌∷◌, ◌≡◌, ◌≤◌}

@@ -1,10 +1,11 @@
 -- Where no device is out and a run has not ended, some run goes on.
+use Rattle.command_rules.specs.Items.{is_ran}
 use Rattle.command_rules.specs.Rosters.{Run, device_no, is_run, run_no, shares}
 use Rattle.history_book.proofs.Searches.{none_is, some_is}
 use Rattle.history_book.proofs.Shapes.{Shaped, shapes}
 use Rattle.history_book.proofs.Standing.{Standing, standing}
 use Rattle.history_book.specs.Histories.{entries_of}
-use Rattle.history_book.specs.Lines.{before, is_ran}
+use Rattle.history_book.specs.Lines.{before}
 use Rattle.history_book.specs.Readings.{PlacedAt, Reading, has_written, is_live, next_command, next_of, sees_down}
 use Rattle.history_book.specs.Settings.{Setting, device_numbers, run_numbers}
 use Rattle.history_book.specs.declared.entries.Cause.{Cause}

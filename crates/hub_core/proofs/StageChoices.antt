@@ -1,9 +1,10 @@
 -- The step of a run in this stage.
+use Rattle.command_rules.specs.Items.{is_ran}
 use Rattle.command_rules.specs.Rosters.{commands_of, device_no, followed_by, is_run, run_no, touches}
 use Rattle.history_book.proofs.Searches.{Each, each_found, own_devices}
 use Rattle.history_book.proofs.Standing.{Standing, is_abort, standing}
 use Rattle.history_book.specs.Histories.{entries_of}
-use Rattle.history_book.specs.Lines.{Split, before, is_ran}
+use Rattle.history_book.specs.Lines.{Split, before}
 use Rattle.history_book.specs.Readings.{PlacedAt, Reading, is_live, next_command, next_of, sees_down}
 use Rattle.history_book.specs.Settings.{Setting, devices_of, is_device, is_strict, is_weak, scheduler_of}
 use Rattle.history_book.specs.declared.entries.Cause.{Cause}

@@ -1,11 +1,11 @@
 -- What a history of this stage says: no device is down, no run sees one down, and a run is doomed by a must `check` alone.
+use Rattle.command_rules.specs.Items.{is_ran, of_run}
 use Rattle.command_rules.specs.Rosters.{command_at, run_no, touches_from}
 use Rattle.history_book.proofs.Lines.{any_insert}
 use Rattle.history_book.proofs.Shapes.{put_all}
 use Rattle.history_book.proofs.Snoc.{put_keeps}
 use Rattle.history_book.proofs.Splits.{split_any}
 use Rattle.history_book.specs.Histories.{answered, entry, more_if, reading}
-use Rattle.history_book.specs.Lines.{is_ran, of_run}
 use Rattle.history_book.specs.Plans.{split_of}
 use Rattle.history_book.specs.Readings.{First, Last, Mark, OfRun, OnDevice, Reading, events_of, is_access, nothing_read, put, view_by}
 use Rattle.history_book.specs.Settings.{Setting}

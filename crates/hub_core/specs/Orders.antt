@@ -1,7 +1,8 @@
 -- Serial orders for a history.
+use Rattle.command_rules.specs.Items.{is_ran}
 use Rattle.command_rules.specs.Rosters.{follows}
 use Rattle.history_book.specs.Histories.{reading}
-use Rattle.history_book.specs.Lines.{behind, is_event_on, is_ran}
+use Rattle.history_book.specs.Lines.{behind, is_event_on}
 use Rattle.history_book.specs.Readings.{events_of, is_committed}
 use Rattle.history_book.specs.Settings.{Setting}
 use Rattle.history_book.specs.declared.entries.Entry.{Entry}

@@ -1,9 +1,9 @@
 -- The first place, as parts that belong to one window tell it.
+use Rattle.command_rules.specs.Items.{is_ran, of_run}
 use Rattle.command_rules.specs.Rosters.{Run, commands_of, followed_by, follows, is_on, touches}
 use Rattle.history_book.proofs.Told.{end_is}
 use Rattle.history_book.proofs.Standing.{stands_in}
 use Rattle.history_book.specs.Books.{end_of}
-use Rattle.history_book.specs.Lines.{is_ran, of_run}
 use Rattle.history_book.specs.Readings.{OfRun, Reading, is_committed, is_committing, is_live}
 use Rattle.history_book.specs.Settings.{Setting, device_numbers, devices_of}
 use Rattle.history_book.specs.declared.entries.Kept.{Kept}

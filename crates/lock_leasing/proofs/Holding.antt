@@ -1,7 +1,7 @@
 -- The runs that hold a device, or wrote it, before a run: the accesses tell them as the history does.
+use Rattle.command_rules.specs.Items.{is_ran, of_run}
 use Rattle.command_rules.specs.Rosters.{touches}
 use Rattle.history_book.specs.Books.{doom_of}
-use Rattle.history_book.specs.Lines.{is_ran, of_run}
 use Rattle.history_book.specs.Lines as lines
 use Rattle.history_book.specs.Readings.{Reading, did, has_written, is_doomed, is_live, is_open, pends, sees_down, view_of}
 use Rattle.history_book.specs.Settings.{Setting}

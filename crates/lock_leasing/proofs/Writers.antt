@@ -1,5 +1,5 @@
 -- The effective writer that the accesses to a device tell is the run of its effective write, where that run is live.
-use Rattle.history_book.specs.Lines.{is_ran}
+use Rattle.command_rules.specs.Items.{is_ran}
 use Rattle.history_book.specs.Readings.{Reading, has_written, is_committed, is_live}
 use Rattle.history_book.specs.Settings.{Setting}
 use Rattle.home_types.specs.declared.items.Item.TheVariants.{Back, Failed, Ran}

@@ -1,7 +1,7 @@
 -- Places in the line, as the line's touches and the history's ends tell them.
+use Rattle.command_rules.specs.Items.{is_ran, of_run}
 use Rattle.command_rules.specs.Rosters.{Run, followed_by}
 use Rattle.history_book.specs.Books.{end_of}
-use Rattle.history_book.specs.Lines.{is_ran, of_run}
 use Rattle.history_book.specs.Readings.{is_committing}
 use Rattle.history_book.specs.declared.entries.Kept.{Kept}
 use Rattle.home_types.specs.declared.commands.Command.{Command}

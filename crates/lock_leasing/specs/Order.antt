@@ -1,7 +1,8 @@
 -- The serial order invariant: the four promised clauses, for a reading and the grips that are out.
+use Rattle.command_rules.specs.Items.{is_ran, of_run}
 use Rattle.command_rules.specs.Rosters.{run_no}
 use Rattle.history_book.specs.Histories.{answers_in, executed}
-use Rattle.history_book.specs.Lines.{is_event_on, is_ran, of_run}
+use Rattle.history_book.specs.Lines.{is_event_on}
 use Rattle.history_book.specs.Readings.{Event, First, Last, Mark, Reading, did, has_written, is_committed, is_doomed, is_event, is_live, is_open, sees_up, span_of}
 use Rattle.history_book.specs.Settings.{Setting, device_numbers}
 use Rattle.home_types.specs.HomeStates.{stand_at}

@@ -1,6 +1,7 @@
 -- Where the schedulers place a run.
+use Rattle.command_rules.specs.Items.{of_run}
 use Rattle.command_rules.specs.Rosters.{follows, reads_first, touches}
-use Rattle.history_book.specs.Lines.{Split, of_run, split_at}
+use Rattle.history_book.specs.Lines.{Split, split_at}
 use Rattle.history_book.specs.Plans.{planned_end, planned_start, planned_times, split_of}
 use Rattle.history_book.specs.Readings.{Planned, Reading, has_written, is_committed, is_doomed, is_live, is_next_on, next_of, nothing_read, passed_by}
 use Rattle.history_book.specs.Settings.{Setting, devices_of, is_device, scheduler_of}

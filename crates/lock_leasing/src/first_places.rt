@@ -1,7 +1,7 @@
 ghost use Rattle.std.specs.Prelude.{◌≡◌, ◌+◌, ◌<◌, IsTrue, is_none, length};
+ghost use Rattle.command_rules.specs.Items.{of_run};
 ghost use Rattle.command_rules.specs.Rosters.{commands_of, followed_by, is_run, runs_of};
 ghost use Rattle.history_book.specs.Books.{end_of};
-ghost use Rattle.history_book.specs.Lines.{of_run};
 ghost use Rattle.lock_leasing.specs.Counts.{before_unended, has_committed, up_to_followed, up_to_run, up_to_touched};
 ghost use Rattle.lock_leasing.specs.FirstPlaces.{IsFirstPlaceOf};
 

@@ -1,9 +1,10 @@
 -- A line in which no item stands twice.
 use Rattle.command_rules.proofs.LastPlaces.{last_unfound}
+use Rattle.command_rules.specs.Items.{is_ran}
 use Rattle.home_types.specs.declared.items.Item.TheVariants.{Back, Failed, Ran}
 use Rattle.home_types.specs.declared.items.Item.{Item}
 use Rattle.serial_line.proofs.Searches.{any_at, position_none, position_told, position_untold}
-use Rattle.serial_line.specs.Marks.{Mark, all_differ, is_failure, is_item, is_restart, is_ran, items_of, place_of, stands, untouched}
+use Rattle.serial_line.specs.Marks.{Mark, all_differ, is_failure, is_item, is_restart, items_of, place_of, stands, untouched}
 use Rattle.command_rules.specs.Searches.{last_place}
 use Rattle.std.proofs.Common.{ap, ap₂, arith, cond, refl, sym, ◌∙◌}
 use Rattle.std.proofs.lemmas.Grind.{common_steps}

@@ -1,10 +1,11 @@
 -- How each call of a line keeps it the line that a layer above means, and what its answers then say.
 -- The words on items are those of the reading of a history, written alike, so that these lemmas are about its words too.
+use Rattle.command_rules.specs.Items.{is_ran}
 use Rattle.home_types.specs.declared.items.Item.TheVariants.{Back, Failed, Ran}
 use Rattle.home_types.specs.declared.items.Item.{Item}
 use Rattle.home_types.specs.declared.numbers.RunNo.{RunNo}
 use Rattle.home_types.proofs.DeviceBits.{contains_insert}
-use Rattle.serial_line.specs.Marks.{Mark, has_touched, is_item, is_ran, items_of, last_on, touching, untouched, with_item, with_touch, without}
+use Rattle.serial_line.specs.Marks.{Mark, has_touched, is_item, items_of, last_on, touching, untouched, with_item, with_touch, without}
 use Rattle.command_rules.specs.Searches.{last_place}
 use Rattle.serial_line.specs.Ties.{Each, IsLineOf, TouchesAs}
 use Rattle.std.proofs.Common.{ap, arith, cond, refl, sym, ◌∙◌}

@@ -1,4 +1,5 @@
 -- The items of a line, each with the devices that it has touched.
+use Rattle.command_rules.specs.Items.{is_ran}
 use Rattle.home_types.specs.declared.items.Item.{Item}
 use Rattle.home_types.specs.declared.items.Item.TheVariants.{Back, Failed, Ran}
 use Rattle.home_types.specs.contracts.items.Item as the_item
@@ -28,12 +29,6 @@ marked_code = code_by (List Mark × ℕ) (coded× (coded_list mark_code) coded_�
 
 abbrev pub items_of : List Mark → List Item
 items_of marks = map (λ m. m.item) marks
-
--- the item is the run
-abbrev pub is_ran : ℕ → Item → Bool
-is_ran r (Ran q) = q.0 == r
-is_ran r (Failed d k) = false
-is_ran r (Back d k) = false
 
 -- the item is the device's failure of this number
 abbrev pub is_failure : ℕ → ℕ → Item → Bool

@@ -1,7 +1,8 @@
 ghost use Rattle.std.specs.Prelude.{◌≡◌, ◌<◌, true};
+ghost use Rattle.command_rules.specs.Items.{is_ran};
 ghost use Rattle.std.specs.FinSet as set;
 ghost use Rattle.home_types.specs.Limits.{most_devices};
-ghost use Rattle.serial_line.specs.Marks.{is_item, is_ran, untouched};
+ghost use Rattle.serial_line.specs.Marks.{is_item, untouched};
 
 use home_types::{DeviceNo, DeviceSet, Item, RunNo};
 use std::marker::Model;

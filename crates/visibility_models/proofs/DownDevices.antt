@@ -1,4 +1,5 @@
 -- The device for which a strict model aborts a run is the one that the table, the line and the roster tell.
+use Rattle.command_rules.specs.Items.{is_ran}
 use Rattle.command_rules.specs.Rosters.{Run, touches}
 use Rattle.history_book.specs.Readings.{Reading}
 use Rattle.history_book.specs.Settings.{Setting}
@@ -13,7 +14,7 @@ use Rattle.lock_leasing.specs.Standings.{IsStandingOf, item_has_touched}
 use Rattle.lock_leasing.specs.Waits.{down_at_end}
 use Rattle.lock_leasing.specs.Words.{has_touched}
 use Rattle.serial_line.proofs.Ties.{touched_in_line}
-use Rattle.serial_line.specs.Marks.{Mark, is_ran, items_of, stands}
+use Rattle.serial_line.specs.Marks.{Mark, items_of, stands}
 use Rattle.serial_line.specs.Marks.{has_touched as mark_has_touched}
 use Rattle.std.proofs.Common.{ap, arith, refl, sym, ◌∙◌}
 use Rattle.std.proofs.lemmas.Grind.{common_steps}

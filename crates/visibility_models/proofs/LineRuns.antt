@@ -1,11 +1,11 @@
 -- What the parts of one window say of the runs of their line.
+use Rattle.command_rules.specs.Items.{is_ran}
 use Rattle.command_rules.specs.Rosters.{Run, is_run}
 use Rattle.history_book.proofs.Shapes.{Shaped, shapes}
 use Rattle.history_book.proofs.Standing.{Standing, is_abort, standing, stands_in}
 use Rattle.history_book.proofs.Told.{end_is}
 use Rattle.history_book.specs.Books.{end_of}
 use Rattle.history_book.specs.Histories.{entries_of}
-use Rattle.history_book.specs.Lines.{is_ran}
 use Rattle.history_book.specs.Readings.{OfRun, Reading, is_live}
 use Rattle.history_book.specs.declared.entries.End.{End}
 use Rattle.history_book.specs.declared.entries.Kept.{Kept}
@@ -18,7 +18,6 @@ use Rattle.lineage_table.specs.Lineages.{LineageState}
 use Rattle.lock_leasing.specs.Configurations.{Configuration, read_of}
 use Rattle.lock_leasing.specs.Standings.{IsStandingOf}
 use Rattle.serial_line.specs.Marks.{Mark, items_of, stands}
-use Rattle.serial_line.specs.Marks.{is_ran as is_mark_of}
 use Rattle.std.proofs.Common.{ap, arith, refl, subst, sym, ◌∙◌}
 use Rattle.std.proofs.lemmas.Grind.{common_steps}
 use Rattle.std.specs.List.{list_any}
@@ -64,12 +63,6 @@ pub record IsOnItsWay (line : List Mark) (runs : List Run) (r : RunNo) : Type 0 
   pub placed : stands (Ran r) line ≡ true
   pub others : AreRunsOf runs (items_of line)
 
-same_run : (r : ℕ) (items : List Item) → list_any (is_mark_of r) items ≡ list_any (is_ran r) items
-same_run r [] = refl
-same_run r (Ran x ∷ items) = ap (λ b. (x.0 == r) || b) (same_run r items)
-same_run r (Failed d k ∷ items) = same_run r items
-same_run r (Back d k ∷ items) = same_run r items
-
 in_order : (s : Configuration) (table : List LineageState) (line : List Mark) (history : List Kept) (runs : List Run) (r : RunNo) → IsStandingOf s table line history runs → IsUnderWay (read_of s) r.0 → IsOnItsWay line runs r
 in_order s table line history runs r is turn =
     let n : Reading = read_of s in
@@ -78,7 +71,7 @@ in_order s table line history runs r is turn =
     let among : list_any (is_ran r.0) n.line ≡ true = (standing s.setting (entries_of s.history) is.well_formed).line r.0 ∙ live_stands (n.run r.0) turn.live in
     record {
       run = subst (λ rs. IsTrue (is_run rs r.0)) is.its_roster ((shaped r.0).known ((shaped r.0).arrived placed));
-      placed = same_run r.0 (items_of line) ∙ ap (list_any (is_ran r.0)) is.its_line.items ∙ among;
+      placed = ap (list_any (is_ran r.0)) is.its_line.items ∙ among;
       others = runs_of_line s table line history runs is;
     }
   where

@@ -1,8 +1,9 @@
 -- The run for which a model lets a run wait is the one that the line, the ends and the roster tell.
+use Rattle.command_rules.specs.Items.{is_ran}
 use Rattle.command_rules.specs.Rosters.{Run, is_run, run_no, shares}
 use Rattle.history_book.specs.Books.{end_of}
 use Rattle.history_book.specs.Histories.{entries_of}
-use Rattle.history_book.specs.Lines.{before, is_ran}
+use Rattle.history_book.specs.Lines.{before}
 use Rattle.history_book.specs.Readings.{Reading, is_live}
 use Rattle.history_book.specs.Settings.{Setting}
 use Rattle.history_book.specs.declared.entries.Kept.{Kept}

@@ -1,4 +1,5 @@
 -- What the line, the ends in the history and the table tell of the runs before a run, and of the devices that it has touched.
+use Rattle.command_rules.specs.Items.{is_ran}
 use Rattle.command_rules.specs.Rosters.{Run, is_run, shares, touches}
 use Rattle.history_book.specs.Books.{end_of}
 use Rattle.history_book.specs.declared.entries.Kept.{Kept}
@@ -8,7 +9,7 @@ use Rattle.home_types.specs.declared.modes.Visibility.TheVariants.{Eventual, Glo
 use Rattle.home_types.specs.declared.modes.Visibility.{Visibility}
 use Rattle.home_types.specs.declared.numbers.RunNo.{RunNo}
 use Rattle.lineage_table.specs.Lineages.{LineageState, lineage_at}
-use Rattle.serial_line.specs.Marks.{Mark, has_touched, is_ran}
+use Rattle.serial_line.specs.Marks.{Mark, has_touched}
 use Rattle.std.specs.List.{range_with_len}
 use Rattle.std.specs.Option.{option_or}
 use Rattle.std.specs.Prelude.{Bool, IsTrue, List, None, Option, Some, [], false, find, if◌then◌else◌, is_none, length, not, slice_get, true, ℕ, ⊤, ◌&&◌, ◌∷◌, ◌≡◌}

@@ -1,6 +1,7 @@
 ghost use Rattle.std.specs.Prelude.{◌≡◌, IsTrue, None};
+ghost use Rattle.command_rules.specs.Items.{is_ran};
 ghost use Rattle.command_rules.specs.Rosters.{is_run, runs_of};
-ghost use Rattle.serial_line.specs.Marks.{is_ran, items_of};
+ghost use Rattle.serial_line.specs.Marks.{items_of};
 ghost use Rattle.visibility_models.specs.Models.{IsStrictWaitOf, MayAsk};
 ghost use Rattle.visibility_models.specs.Searches.{AreRunsOf, IsRunOf, bars, first_unended_before, unended_run};
 

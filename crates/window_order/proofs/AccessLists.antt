@@ -1,8 +1,9 @@
 -- The accesses along a line, by three plain functions: which runs have one, which runs cover those before them, and what the access is.
+use Rattle.command_rules.specs.Items.{is_ran, of_run}
 use Rattle.command_rules.specs.Rosters.{run_no}
 use Rattle.device_order.specs.LineChanges.{Lacks}
 use Rattle.device_order.specs.LineWords.{RunsAreDistinct}
-use Rattle.history_book.specs.Lines.{is_ran, of_run, without as line_without}
+use Rattle.history_book.specs.Lines.{without as line_without}
 use Rattle.home_types.specs.declared.items.Item.TheVariants.{Back, Failed, Ran}
 use Rattle.home_types.specs.declared.items.Item.{Item}
 use Rattle.lineage_table.proofs.Splits.{put_at}

@@ -1,10 +1,10 @@
 -- An answer keeps the lineages, with the access of its run changed on the command's device alone.
+use Rattle.command_rules.specs.Items.{is_ran, of_run}
 use Rattle.command_rules.specs.Rosters.{command_at, commands_of, is_on, no_command, run_no, touches, touches_from}
 use Rattle.device_order.specs.LineWords.{CutAt}
 use Rattle.history_book.proofs.Shapes.{never_passed_by, put_all}
 use Rattle.history_book.proofs.Snoc.{put_other, put_same}
 use Rattle.history_book.specs.Histories.{answered, entry}
-use Rattle.history_book.specs.Lines.{is_ran, of_run}
 use Rattle.history_book.specs.Plans.{planned_end, planned_start}
 use Rattle.history_book.specs.Readings.{OfRun, OnDevice, Reading, did, is_committed, is_doomed, is_fine, is_live, is_told, is_committing, next_of, pends, put, view_by}
 use Rattle.history_book.specs.Settings.{Setting}

@@ -1,4 +1,5 @@
 -- What a read finds, while it is out: its run's own last write, else the last committed write before the run in the line; and no live run before it has the effective write.
+use Rattle.command_rules.specs.Items.{is_ran}
 use Rattle.command_rules.specs.Rosters.{command_at, run_no, touches}
 use Rattle.device_order.proofs.Claims.{reads as read_finds}
 use Rattle.device_order.proofs.LineEntries.{used_at}
@@ -21,7 +22,7 @@ use Rattle.device_order.specs.declared.records.OrderEntry.TheVariants.{Used}
 use Rattle.device_order.specs.declared.records.OrderEntry.{OrderEntry}
 use Rattle.device_order.specs.declared.records.Usage.{Usage}
 use Rattle.history_book.proofs.Once.{count_append, count_insert}
-use Rattle.history_book.specs.Lines.{before, behind, is_ran}
+use Rattle.history_book.specs.Lines.{before, behind}
 use Rattle.history_book.specs.Readings.{Reading, is_committed, is_committing, is_doomed, is_live}
 use Rattle.history_book.specs.Settings.{Setting, is_device}
 use Rattle.home_types.specs.Commands.{reads}

@@ -1,11 +1,11 @@
 -- The lineages as a run commits.
+use Rattle.command_rules.specs.Items.{of_run}
 use Rattle.command_rules.specs.Rosters.{run_no, touches, touches_from}
 use Rattle.device_order.specs.LineChanges.{Lacks}
 use Rattle.device_order.specs.LineWords.{CutAt}
 use Rattle.history_book.proofs.Shapes.{did_touches, never_passed_by}
 use Rattle.history_book.proofs.Snoc.{put_other, put_same}
 use Rattle.history_book.specs.Histories.{entry}
-use Rattle.history_book.specs.Lines.{of_run}
 use Rattle.history_book.specs.Readings.{OfRun, Reading, has_written, is_committed, is_doomed, is_live, passed_by}
 use Rattle.history_book.specs.Settings.{Setting}
 use Rattle.history_book.specs.WellFormed.{may_follow}

@@ -1,4 +1,5 @@
 -- The answer Down keeps the order of a window: where the device fails at a command that is out, and where it is given with no call.
+use Rattle.command_rules.specs.Items.{of_run}
 use Rattle.command_rules.specs.Rosters.{command_at, commands_of, run_no, touches, touches_from}
 use Rattle.device_order.proofs.InPlace.{next_used}
 use Rattle.device_order.proofs.Losses.{down_unseen}
@@ -14,7 +15,7 @@ use Rattle.device_order.specs.declared.records.Grip.TheVariants.{Free, Reads, Wr
 use Rattle.history_book.proofs.Snoc.{put_keeps, put_other, put_same}
 use Rattle.history_book.proofs.Lines.{any_put_before}
 use Rattle.history_book.specs.Histories.{answered, entry, more_if, with_event}
-use Rattle.history_book.specs.Lines.{is_event_on, of_run, put_before}
+use Rattle.history_book.specs.Lines.{is_event_on, put_before}
 use Rattle.history_book.specs.Readings.{Event, First, Last, OfRun, OnDevice, Reading, did, is_access, is_doomed, is_first, is_live, is_open, next_command, next_of, pends, put, sees_down, sees_up, view_of}
 use Rattle.history_book.specs.Settings.{Setting, is_device, is_weak}
 use Rattle.history_book.specs.declared.entries.Cause.{Cause}

@@ -1,4 +1,5 @@
 -- Where the event of a device stands in the line, and what that means for the runs around it.
+use Rattle.command_rules.specs.Items.{is_ran, of_run}
 use Rattle.command_rules.specs.Rosters.{commands_of, device_no, run_no, touches}
 use Rattle.device_order.proofs.Claims.{waits_calm}
 use Rattle.device_order.proofs.LineEntries.{used_at, uses_rest}
@@ -14,7 +15,7 @@ use Rattle.history_book.proofs.Lines.{any_put_before}
 use Rattle.history_book.proofs.Shapes.{did_touches}
 use Rattle.history_book.proofs.Standing.{stands_in}
 use Rattle.history_book.specs.Histories.{with_event}
-use Rattle.history_book.specs.Lines.{is_ran, of_run, put_before}
+use Rattle.history_book.specs.Lines.{put_before}
 use Rattle.history_book.specs.Readings.{Reading, did, is_committed, is_doomed, is_live, is_open, pends, sees_up, view_of}
 use Rattle.history_book.specs.Settings.{Setting, is_device, is_weak}
 use Rattle.home_types.specs.declared.items.Item.TheVariants.{Back, Failed, Ran}

@@ -1,4 +1,5 @@
 -- A device has at most one access for each run of the window.
+use Rattle.command_rules.specs.Items.{of_run}
 use Rattle.command_rules.specs.Rosters.{Run, touches}
 use Rattle.history_book.specs.Settings.{Setting}
 use Rattle.history_book.specs.Readings.{Reading}
@@ -19,7 +20,6 @@ use Rattle.std.proofs.lemmas.Option.{slice_get_within}
 use Rattle.std.specs.List.{AllByRecursion, AllPairs, list_any}
 use Rattle.std.specs.Prelude.{Bool, List, None, Option, Some, [], false, if◌then◌else◌, length, not, slice_get, suc, true, zero, ℕ, ◌&&◌, ◌+◌, ◌<◌, ◌==◌, ◌∷◌, ◌≡◌, ◌≤◌}
 use Rattle.window_order.specs.TableKept.{LineageIsKept, access_read, accesses_along, commits_write}
-use Rattle.history_book.specs.Lines.{of_run}
 
 -- without the access of one run at most one is gone
 one_gone : (r : ℕ) (xs : List Access) → Pairs AreOfTwoRuns xs → length xs ≤ length (without r xs) + 1

@@ -1,4 +1,5 @@
 -- A run's first answer on a device is the newest there, and so it keeps the order of the history.
+use Rattle.command_rules.specs.Items.{of_run}
 use Rattle.command_rules.specs.Rosters.{command_at, commands_of, run_no, touches, touches_from}
 use Rattle.device_order.proofs.Claims.{alone_behind, waits_calm}
 use Rattle.device_order.proofs.InPlace.{two_places}
@@ -13,7 +14,6 @@ use Rattle.device_order.specs.declared.records.OrderEntry.TheVariants.{Used}
 use Rattle.history_book.proofs.Shapes.{did_touches}
 use Rattle.history_book.proofs.Snoc.{put_keeps, put_other, put_same}
 use Rattle.history_book.specs.Histories.{answered, entry, more_if}
-use Rattle.history_book.specs.Lines.{of_run}
 use Rattle.history_book.specs.Readings.{First, Last, OfRun, OnDevice, Reading, did, is_access, is_doomed, is_first, put, view_by, view_of}
 use Rattle.history_book.specs.Settings.{Setting, is_device}
 use Rattle.history_book.specs.declared.entries.Entry.TheVariants.{Did}

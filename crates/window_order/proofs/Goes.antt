@@ -1,4 +1,5 @@
 -- A run that waits for nothing may have the grip of its next command's device.
+use Rattle.command_rules.specs.Items.{is_ran, of_run}
 use Rattle.command_rules.specs.Rosters.{commands_of, run_no, touches}
 use Rattle.device_order.proofs.LineEntries.{used_at}
 use Rattle.device_order.proofs.LineWords.{has_entries}
@@ -17,7 +18,7 @@ use Rattle.device_order.specs.declared.records.OrderEntry.{OrderEntry}
 use Rattle.device_order.specs.declared.records.Usage.{Usage}
 use Rattle.history_book.proofs.Searches.{some_is}
 use Rattle.history_book.proofs.Standing.{is_abort, stands_in}
-use Rattle.history_book.specs.Lines.{before, is_ran, of_run}
+use Rattle.history_book.specs.Lines.{before}
 use Rattle.history_book.specs.Readings.{PlacedAt, Reading, did, is_committed, is_committing, is_doomed, is_live, pends}
 use Rattle.history_book.specs.Settings.{Setting, is_device}
 use Rattle.history_book.specs.declared.entries.End.TheVariants.{Aborted, Committed}

@@ -1,8 +1,8 @@
 -- Accesses are passed: those of doomed runs before a run that touches the device for the first time.
+use Rattle.command_rules.specs.Items.{is_ran}
 use Rattle.command_rules.specs.Rosters.{run_no, touches}
 use Rattle.device_order.specs.LineWords.{CutAt, RunsAreDistinct}
 use Rattle.history_book.proofs.Shapes.{answered_did}
-use Rattle.history_book.specs.Lines.{is_ran}
 use Rattle.history_book.specs.Plans.{planned_end, planned_start}
 use Rattle.history_book.specs.Readings.{Reading, did, is_doomed, is_live, pends, view_of}
 use Rattle.history_book.specs.Settings.{Setting}

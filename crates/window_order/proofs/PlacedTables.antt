@@ -1,4 +1,5 @@
 -- The lineages as a window opens, as a run arrives, and as one is placed in the line.
+use Rattle.command_rules.specs.Items.{is_ran, of_run}
 use Rattle.command_rules.specs.Rosters.{Run, commands_of, is_on, is_run, run_no, touches, touches_from}
 use Rattle.device_order.specs.LineChanges.{Lacks}
 use Rattle.device_order.specs.LineWords.{RunsAreDistinct}
@@ -7,7 +8,6 @@ use Rattle.history_book.proofs.Shapes.{IsShaped}
 use Rattle.history_book.proofs.Snoc.{put_other, put_same}
 use Rattle.history_book.proofs.Standing.{aborted}
 use Rattle.history_book.specs.Histories.{entry}
-use Rattle.history_book.specs.Lines.{is_ran, of_run}
 use Rattle.history_book.specs.Plans.{planned_end, planned_start, planned_times, split_of}
 use Rattle.history_book.specs.Readings.{OfRun, PlacedAt, Planned, Reading, did, is_committing, is_doomed, nothing_read, put}
 use Rattle.history_book.specs.Settings.{Setting}

@@ -1,4 +1,5 @@
 -- Words of the reading and of the grips that are out, as the window that they make has them.
+use Rattle.command_rules.specs.Items.{is_ran}
 use Rattle.command_rules.specs.Rosters.{run_no, touches}
 use Rattle.device_order.specs.LineEntries.{entries, entry_if, usage, with_entry}
 use Rattle.device_order.specs.RunStates.{RunStates, uses}
@@ -9,7 +10,6 @@ use Rattle.device_order.specs.declared.records.Grip.TheVariants.{Free, Reads, Wr
 use Rattle.device_order.specs.declared.records.OrderEntry.TheVariants.{Occurred, Used}
 use Rattle.device_order.specs.declared.records.Usage.{Usage}
 use Rattle.history_book.proofs.Shapes.{did_touches}
-use Rattle.history_book.specs.Lines.{is_ran}
 use Rattle.history_book.specs.Readings.{Reading, has_written}
 use Rattle.history_book.specs.Settings.{Setting, is_device}
 use Rattle.home_types.specs.declared.items.Item.TheVariants.{Back, Failed, Ran}

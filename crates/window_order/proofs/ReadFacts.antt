@@ -1,4 +1,5 @@
 -- What the reading of a well-formed history says of each run and of the line, together.
+use Rattle.command_rules.specs.Items.{is_ran}
 use Rattle.command_rules.specs.Rosters.{command_at, commands_of, no_command}
 use Rattle.device_order.proofs.NewAnswers.{pair_more}
 use Rattle.device_order.proofs.Runs.{summary_more}
@@ -12,7 +13,6 @@ use Rattle.history_book.proofs.Shapes.{Shaped, put_all, shapes}
 use Rattle.history_book.proofs.Snoc.{put_keeps}
 use Rattle.history_book.proofs.Standing.{Standing, standing, stands_in}
 use Rattle.history_book.specs.Histories.{answered, entry, reading}
-use Rattle.history_book.specs.Lines.{is_ran}
 use Rattle.history_book.specs.Readings.{OfRun, OnDevice, Reading, nothing_read, put, unread}
 use Rattle.history_book.specs.Settings.{Setting}
 use Rattle.history_book.specs.WellFormed.{IsWellFormed, along, may_follow}

@@ -1,4 +1,5 @@
 -- What the reading says of the runs of the line.
+use Rattle.command_rules.specs.Items.{is_ran}
 use Rattle.command_rules.specs.Rosters.{commands_of, is_run}
 use Rattle.device_order.proofs.LineWords.{cut_at}
 use Rattle.device_order.specs.LineChanges.{Lacks}
@@ -6,7 +7,6 @@ use Rattle.device_order.specs.LineWords.{CutAt, any_run}
 use Rattle.device_order.specs.RunStates.{RunState}
 use Rattle.history_book.proofs.Once.{count_append}
 use Rattle.history_book.proofs.Standing.{is_abort}
-use Rattle.history_book.specs.Lines.{is_ran}
 use Rattle.history_book.specs.Readings.{OfRun, Reading, is_committed, is_committing, is_live}
 use Rattle.history_book.specs.Settings.{Setting}
 use Rattle.history_book.specs.declared.entries.End.{End}

@@ -1,4 +1,5 @@
 -- Where a device stands: at its standing value, where it is home and up, and where a command's grip of it is out.
+use Rattle.command_rules.specs.Items.{is_ran}
 use Rattle.command_rules.specs.Rosters.{commands_of, is_on, touches}
 use Rattle.device_order.proofs.Claims.{effect}
 use Rattle.device_order.proofs.LineEntries.{used_at}
@@ -16,7 +17,6 @@ use Rattle.device_order.specs.declared.records.Event.TheVariants.{Failure, Resta
 use Rattle.device_order.specs.declared.records.OrderEntry.TheVariants.{Occurred, Used}
 use Rattle.device_order.specs.declared.records.Usage.{Usage}
 use Rattle.history_book.proofs.Standing.{stands_in}
-use Rattle.history_book.specs.Lines.{is_ran}
 use Rattle.history_book.specs.Readings.{OfRun, Reading, has_written, is_doomed, is_live, is_next_on, next_of}
 use Rattle.history_book.specs.Settings.{Setting, is_device, is_weak}
 use Rattle.home_types.specs.HomeStates.{stand_at}

@@ -1,4 +1,5 @@
 -- Each kind of change keeps the order of a window.
+use Rattle.command_rules.specs.Items.{is_ran}
 use Rattle.command_rules.specs.Rosters.{command_at, commands_of, is_on, is_run, no_command, run_no, touches}
 use Rattle.device_order.proofs.InPlace.{next_used}
 use Rattle.device_order.proofs.WindowAnswers.{read_answered, write_answered}
@@ -18,7 +19,6 @@ use Rattle.history_book.proofs.Shapes.{IsShaped}
 use Rattle.history_book.proofs.Snoc.{put_keeps, put_other, put_same}
 use Rattle.history_book.proofs.Standing.{aborted}
 use Rattle.history_book.specs.Histories.{answered, entry}
-use Rattle.history_book.specs.Lines.{is_ran}
 use Rattle.history_book.specs.Plans.{planned_times, split_of}
 use Rattle.history_book.specs.Readings.{OfRun, OnDevice, PlacedAt, Reading, did, is_committed, is_committing, is_doomed, is_live, is_next_on, next_command, next_of, nothing_read, put, sees_down, view_of}
 use Rattle.history_book.specs.Settings.{Setting, is_device}

@@ -1,4 +1,5 @@
 -- What the calls of a lineage table ask for, where a command that was out is answered.
+use Rattle.command_rules.specs.Items.{is_ran, of_run}
 use Rattle.command_rules.specs.Rosters.{commands_of, run_no, touches}
 use Rattle.device_order.proofs.Parts.{cut as use_cut}
 use Rattle.device_order.specs.LineEntries.{entries, usage}
@@ -9,7 +10,6 @@ use Rattle.device_order.specs.Walks.{GripFits as HoldsFit, WalkHolds}
 use Rattle.device_order.specs.declared.records.Grip.TheVariants.{Free, Reads, Undoes as ToUndo, Writes}
 use Rattle.device_order.specs.declared.records.Grip.{Grip as HeldGrip}
 use Rattle.device_order.specs.declared.records.Usage.{Usage}
-use Rattle.history_book.specs.Lines.{is_ran, of_run}
 use Rattle.history_book.specs.Readings.{Reading, did, is_doomed, is_live, is_next_on, is_open, next_of, pends}
 use Rattle.history_book.specs.Settings.{Setting, is_device}
 use Rattle.home_types.specs.HomeStates.{stand_at}

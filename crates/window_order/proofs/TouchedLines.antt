@@ -1,9 +1,9 @@
 -- The items of a line with what each has touched, step by step.
+use Rattle.command_rules.specs.Items.{is_ran}
 use Rattle.command_rules.specs.Rosters.{command_at, device_no, is_run, run_no}
 use Rattle.history_book.proofs.Snoc.{put_keeps, put_other, put_same}
 use Rattle.history_book.proofs.Standing.{aborted, is_abort}
 use Rattle.history_book.specs.Histories.{answered, entry}
-use Rattle.history_book.specs.Lines.{is_ran}
 use Rattle.history_book.specs.Plans.{planned_times, split_of}
 use Rattle.history_book.specs.Readings.{OfRun, OnDevice, PlacedAt, Reading, did, is_live, nothing_read, put, view_by}
 use Rattle.history_book.specs.Settings.{Setting}

@@ -1,4 +1,5 @@
 -- A device fails or comes back, and no run that counts is left that sees it up and has more to do there: first accesses and events stay in history order.
+use Rattle.command_rules.specs.Items.{is_ran, of_run}
 use Rattle.command_rules.specs.Rosters.{commands_of, device_no, is_on, run_no, touches}
 use Rattle.device_order.proofs.InPlace.{two_places}
 use Rattle.device_order.proofs.LineEntries.{used_at}
@@ -15,7 +16,7 @@ use Rattle.device_order.specs.declared.records.Probe.TheVariants.{Restores}
 use Rattle.history_book.proofs.Searches.{some_is}
 use Rattle.history_book.proofs.Standing.{stands_in}
 use Rattle.history_book.specs.Histories.{with_event}
-use Rattle.history_book.specs.Lines.{is_event_on, is_ran, of_run}
+use Rattle.history_book.specs.Lines.{is_event_on}
 use Rattle.history_book.specs.Readings.{Event, Reading, did, is_committed, is_doomed, is_live, is_open, pends, sees_up, view_of}
 use Rattle.history_book.specs.Settings.{Setting, is_device, is_weak}
 use Rattle.home_types.specs.declared.items.Item.TheVariants.{Back, Failed, Ran}

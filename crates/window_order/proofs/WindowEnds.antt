@@ -1,9 +1,10 @@
 -- The end of a window, where no run is live: its line is a serial order for its history, and its last state agrees with the serial execution of the line.
+use Rattle.command_rules.specs.Items.{is_ran, of_run}
 use Rattle.command_rules.specs.Rosters.{command_at, followed_by, follows, is_run, touches_from}
 use Rattle.history_book.proofs.Shapes.{put_all}
 use Rattle.history_book.proofs.Standing.{is_abort, stands_in}
 use Rattle.history_book.specs.Histories.{answers_in, entry, executed, more_if, reading}
-use Rattle.history_book.specs.Lines.{behind, is_event_on, is_ran, of_run}
+use Rattle.history_book.specs.Lines.{behind, is_event_on}
 use Rattle.history_book.specs.Readings.{Event, First, Last, Mark, OfRun, PlacedAt, Reading, did, events_of, is_access, nothing_read, is_committed, is_committing, is_live}
 use Rattle.history_book.specs.Settings.{Setting, is_weak}
 use Rattle.history_book.specs.declared.entries.Entry.TheVariants.{Arrived, Did, Doomed, Ended, Fell, Placed, Rose, Undid}

@@ -1,6 +1,6 @@
 -- What is kept of the lineage table of a window: it is what the reading of the history and the grips that are out make it, but for the accesses of doomed runs that never touched the device, of which some were passed.
+use Rattle.command_rules.specs.Items.{of_run}
 use Rattle.command_rules.specs.Rosters.{Run, is_on, run_no}
-use Rattle.history_book.specs.Lines.{of_run}
 use Rattle.history_book.specs.Plans.{planned_end, planned_start}
 use Rattle.history_book.specs.Readings.{Reading, has_written, is_committed, view_of}
 use Rattle.history_book.specs.Settings.{Setting}

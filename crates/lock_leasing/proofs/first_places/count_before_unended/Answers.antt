@@ -1,5 +1,5 @@
+use Rattle.command_rules.specs.Items.{of_run}
 use Rattle.history_book.specs.Books.{end_of}
-use Rattle.history_book.specs.Lines.{of_run}
 use Rattle.lock_leasing.proofs.Floors.{count_goes_on, count_stops}
 use Rattle.lock_leasing.proofs.first_places.count_before_unended.Goals as goal
 use Rattle.serial_line.specs.Marks.{items_of}

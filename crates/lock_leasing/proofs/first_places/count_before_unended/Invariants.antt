@@ -1,5 +1,5 @@
+use Rattle.command_rules.specs.Items.{of_run}
 use Rattle.history_book.specs.Books.{end_of}
-use Rattle.history_book.specs.Lines.{of_run}
 use Rattle.lock_leasing.proofs.first_places.count_before_unended.Given as goal
 use Rattle.lock_leasing.specs.Counts.{before_unended}
 use Rattle.lock_leasing.specs.Places.{up_to_first}
