@@ -1,4 +1,4 @@
-ghost use Rattle.std.specs.Prelude.{◌≡◌, ◌+◌, ◌<◌, ◌≤◌, [], ◌∷◌, ◌++◌, length, OnOk, OnErr, slice_get};
+ghost use Rattle.std.specs.Prelude.{◌≡◌, ◌+◌, ◌<◌, ◌≤◌, [], ◌∷◌, ◌++◌, length, max, OnOk, OnErr, slice_get};
 ghost use Rattle.history_book.specs.BookParts.{entry_at, noted};
 ghost use Rattle.history_book.specs.Books.{doom_in, doom_of, end_in, end_of};
 
@@ -45,11 +45,11 @@ impl Book {
         }
     }
 
-    /// Makes room for `n` more entries, or answers `NoMemory`. The entries stay in both cases, and so
-    /// does the room that there was.
+    /// Makes room for `n` more entries and for no more than these, or answers `NoMemory`. The entries stay in both cases,
+    /// and so does the room that there was.
     pub fn reserve(&mut self, n: u64) -> Result<(), NoMemory>
         ensures items { self.new.items ≡ self.old.items }
-        ensures room { OnOk result (n ≤ self.new.spare) }
+        ensures room { OnOk result (self.new.spare ≡ max self.old.spare n) }
         ensures kept { self.old.spare ≤ self.new.spare }
         ensures refused { OnErr result (self.new ≡ self.old) }
     {

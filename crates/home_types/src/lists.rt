@@ -1,4 +1,4 @@
-ghost use Rattle.std.specs.Prelude.{◌≡◌, ◌+◌, ◌<◌, ◌≤◌, ◌^◌, ◌↔◌, [], ◌∷◌, ◌++◌, length, IsOk, IsSome, IfOk, OnOk, OnErr, IfSome, IfNone, slice_get, slice_set};
+ghost use Rattle.std.specs.Prelude.{◌≡◌, ◌+◌, ◌<◌, ◌≤◌, ◌^◌, ◌↔◌, [], ◌∷◌, ◌++◌, length, IsOk, IsSome, IfOk, OnOk, OnErr, IfSome, IfNone, max, slice_get, slice_set};
 ghost use Rattle.std.specs.Option.{option_copied};
 
 use crate::memory::NoMemory;
@@ -31,15 +31,15 @@ impl<T> List<T> {
         }
     }
 
-    /// Makes room for `n` more items, or answers `NoMemory`. The items stay in both cases, and so
-    /// does the room that there was.
+    /// Makes room for `n` more items and for no more than these, or answers `NoMemory`. The items stay in both cases, and
+    /// so does the room that there was.
     pub fn reserve(&mut self, n: u64) -> Result<(), NoMemory>
         ensures items { self.new.items ≡ self.old.items }
-        ensures room { OnOk result (n ≤ self.new.spare) }
+        ensures room { OnOk result (self.new.spare ≡ max self.old.spare n) }
         ensures kept { self.old.spare ≤ self.new.spare }
         ensures spare { OnErr result (self.new.spare ≡ self.old.spare) }
     {
-        match self.items.reserve(n as usize) {
+        match self.items.reserve_exact(n as usize) {
             Ok(()) => Ok(()),
             Err(_) => Err(NoMemory),
         }

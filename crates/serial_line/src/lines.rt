@@ -1,4 +1,4 @@
-ghost use Rattle.std.specs.Prelude.{◌≡◌, true, false, if◌then◌else◌, ◌+◌, ◌<◌, ◌≤◌, ◌^◌, [], is_some, length, slice_get, OnOk, OnErr};
+ghost use Rattle.std.specs.Prelude.{◌≡◌, true, false, if◌then◌else◌, ◌+◌, ◌<◌, ◌≤◌, ◌^◌, [], is_some, length, max, slice_get, OnOk, OnErr};
 ghost use Rattle.home_types.specs.Limits.{most_devices};
 ghost use Rattle.home_types.specs.declared.items.Item.TheVariants.{Ran};
 ghost use Rattle.serial_line.specs.Marks.{all_differ, has_touched, items_of, last_on, place_of, stands, touching, with_item, without};
@@ -43,21 +43,21 @@ impl Line {
         }
     }
 
-    /// Makes room for `n` more items, or answers `NoMemory`. The items stay in both cases, and so
-    /// does the room that there was.
+    /// Makes room for `n` more items and for no more than these, or answers `NoMemory`. The items stay in both cases, and
+    /// so does the room that there was.
     ///
     /// Asks that the items and the `n` together are below 2^32.
     pub fn reserve(&mut self, n: u64) -> Result<(), NoMemory>
         requires few { length self.old.marks + n < 2 ^ 32 }
         ensures marks { self.new.marks ≡ self.old.marks }
-        ensures room { OnOk result (n ≤ self.new.spare) }
+        ensures room { OnOk result (self.new.spare ≡ max self.old.spare n) }
         ensures kept { self.old.spare ≤ self.new.spare }
         ensures refused { OnErr result (self.new ≡ self.old) }
         ensures few { length self.new.marks + self.new.spare < 2 ^ 32 }
     {
         let more = n as u32;
         if self.spare < more {
-            match self.entries.reserve(n as usize) {
+            match self.entries.reserve_exact(n as usize) {
                 Ok(()) => self.spare = more,
                 Err(_) => return Err(NoMemory),
             }
