@@ -18,7 +18,7 @@ use Rattle.std.proofs.lemmas.List.Folds.{list_any-append}
 use Rattle.std.proofs.lemmas.List.Sums.{take_while-cons}
 use Rattle.std.proofs.lemmas.List.{append_assoc, drop_more}
 use Rattle.std.specs.List.{list_any}
-use Rattle.std.specs.Prelude.{Bool, IsTrue, List, [], drop, false, fold, if◌then◌else◌, is_none, is_some, length, not, take_while, true, ℕ, ◌&&◌, ◌++◌, ◌+◌, ◌<◌, ◌==◌, ◌||◌, ◌∷◌, ◌≡◌, ◌≢◌}
+use Rattle.std.specs.Prelude.{Bool, IsTrue, List, [], false, fold, if◌then◌else◌, is_none, is_some, length, not, take_while, true, ℕ, ◌&&◌, ◌++◌, ◌+◌, ◌<◌, ◌==◌, ◌||◌, ◌∷◌, ◌≡◌, ◌≢◌}
 
 -- nothing that comes later is in the span
 abbrev pub IsClosed : ℕ → List Mark → Type 0

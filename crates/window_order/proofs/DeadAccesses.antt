@@ -1,22 +1,16 @@
 -- The answer Down keeps the order of a window: where the device fails at a command that is out, and where it is given with no call.
 use Rattle.command_rules.specs.Items.{of_run}
 use Rattle.command_rules.specs.Rosters.{command_at, commands_of, run_no, touches, touches_from}
-use Rattle.device_order.proofs.InPlace.{next_used}
-use Rattle.device_order.proofs.Losses.{down_unseen}
-use Rattle.device_order.proofs.WindowAnswers.{access_died, down_answered}
-use Rattle.device_order.specs.LineChanges.{line_with_event}
-use Rattle.device_order.specs.LineEntries.{entries, stage_of, usage}
+use Rattle.device_order.proofs.WindowAnswers.{access_died}
 use Rattle.device_order.specs.LineWords.{CutAt}
-use Rattle.device_order.specs.RunStates.{device_summary, rest, uses}
-use Rattle.device_order.specs.Usages.{awaits_first, is_command as holds_command, is_open as stage_is_open, is_up}
-use Rattle.device_order.specs.WindowSteps.{ChangesInPlace, GetsAnswer, MayAnswerDown, with_event_in}
-use Rattle.device_order.specs.Windows.{device_of}
-use Rattle.device_order.specs.declared.records.Grip.TheVariants.{Free, Reads, Writes}
+use Rattle.device_order.specs.Usages.{is_command as holds_command}
+use Rattle.device_order.specs.WindowSteps.{ChangesInPlace, with_event_in}
+use Rattle.device_order.specs.declared.records.Grip.TheVariants.{Reads, Writes}
 use Rattle.history_book.proofs.Snoc.{put_keeps, put_other, put_same}
 use Rattle.history_book.proofs.Lines.{any_put_before}
 use Rattle.history_book.specs.Histories.{answered, entry, more_if, with_event}
 use Rattle.history_book.specs.Lines.{is_event_on, put_before}
-use Rattle.history_book.specs.Readings.{Event, First, Last, OfRun, OnDevice, Reading, did, is_access, is_doomed, is_first, is_live, is_open, next_command, next_of, pends, put, sees_down, sees_up, view_of}
+use Rattle.history_book.specs.Readings.{Event, First, Last, OfRun, OnDevice, Reading, did, is_access, is_doomed, is_first, is_live, is_open, next_of, pends, put, sees_up, view_of}
 use Rattle.history_book.specs.Settings.{Setting, is_device, is_weak}
 use Rattle.history_book.specs.declared.entries.Cause.{Cause}
 use Rattle.history_book.specs.declared.entries.Entry.TheVariants.{Did, Doomed, Fell}
@@ -25,32 +19,29 @@ use Rattle.home_types.specs.declared.commands.Answer.TheVariants.{Down}
 use Rattle.home_types.specs.declared.commands.Answer.{Answer}
 use Rattle.home_types.specs.Kinds.{kind_at}
 use Rattle.home_types.specs.declared.commands.Command.{Command}
-use Rattle.home_types.specs.declared.commands.View.TheVariants.{Down as SeenDown}
 use Rattle.home_types.specs.declared.items.Item.TheVariants.{Failed, Ran}
 use Rattle.home_types.specs.declared.items.Item.{Item}
-use Rattle.lock_leasing.specs.Configurations.{Commands, Grip, Grips, is_out}
+use Rattle.lock_leasing.specs.Configurations.{Commands, Grips}
 use Rattle.lock_leasing.specs.Order.{InHistoryOrder, is_in_line, is_late}
-use Rattle.lock_leasing.specs.Waits.{behind_wait, grip_wait}
 use Rattle.std.proofs.Common.{ap, arith, inl, inr, refl, subst, sym, ◌∙◌}
 use Rattle.std.proofs.lemmas.Grind.{common_steps}
 use Rattle.std.proofs.lemmas.List.Folds.{list_any-append}
 use Rattle.std.specs.List.{list_any}
-use Rattle.std.specs.Prelude.{Bool, List, None, Option, Some, [], drop, false, if◌then◌else◌, is_none, is_some, length, not, option_map, true, unwrap_or, ℕ, ◌&&◌, ◌++◌, ◌+◌, ◌<◌, ◌==◌, ◌||◌, ◌∷◌, ◌≡◌, ◌≢◌, ◌⊎◌}
-use Rattle.window_order.proofs.EventPlaces.{CutWith, awaits_there, cut_with, event_place}
-use Rattle.window_order.proofs.Firsts.{IsNewest, calm_behind, did_history, logged_did_history, same_view, seen_view}
-use Rattle.window_order.proofs.Goes.{none_before, none_hold, open_behind}
-use Rattle.window_order.proofs.Grips.{fits_other, held_none, held_other, held_own, holds_none, in_place}
+use Rattle.std.specs.Prelude.{Bool, List, None, Option, Some, [], drop, false, if◌then◌else◌, is_none, is_some, not, true, unwrap_or, ℕ, ◌&&◌, ◌+◌, ◌==◌, ◌||◌, ◌∷◌, ◌≡◌, ◌≢◌, ◌⊎◌}
+use Rattle.window_order.proofs.EventPlaces.{CutWith, awaits_there, cut_with, event_window}
+use Rattle.window_order.proofs.Firsts.{IsNewest, logged_did_history, same_view, seen_view}
+use Rattle.window_order.proofs.Grips.{held_other, held_own}
 use Rattle.window_order.proofs.HistoryOrder.{is_marked, same_history}
-use Rattle.window_order.proofs.ReadFacts.{IsRead, rest_drop, rest_next, view_from}
-use Rattle.window_order.proofs.Rollbacks.{doomed_of, gets_and_doomed, none_out, sound_before}
+use Rattle.window_order.proofs.ReadFacts.{IsRead}
+use Rattle.window_order.proofs.Rollbacks.{doomed_history, doomed_of, gets_and_doomed, sound_before}
 use Rattle.window_order.proofs.Representing.{gripped_pends}
 use Rattle.window_order.proofs.GripWords.{own_command}
 use Rattle.window_order.proofs.AnsweredTables.{pending_touches}
-use Rattle.window_order.proofs.Runs.{cut_live, live_run, live_uncommitted, state_by}
-use Rattle.window_order.proofs.Steps.{IsOut, gets_answer, home_fits, next_is, out_is, out_newest}
+use Rattle.window_order.proofs.Runs.{cut_live, live_run, live_uncommitted}
+use Rattle.window_order.proofs.Steps.{IsOut, gets_answer, home_fits, out_is, out_newest}
 use Rattle.window_order.proofs.TurnedOrders.{Turns, out_spans_none, turned_history}
 use Rattle.window_order.specs.OrderKept.{OrderIsKept}
-use Rattle.window_order.specs.ReadWindows.{held_by, probe_of, run_state, window_of}
+use Rattle.window_order.specs.ReadWindows.{held_by, probe_of, window_of}
 
 -- A later answer, and a doom
 
@@ -288,15 +279,8 @@ falls_doomed w n g held r k s cause = record {
 -- the window, with the failure in its line
 failed_window : (w : Setting) (n m : Reading) (g : Grips) (held after : ℕ → ℕ) (r k : ℕ) (s : IsCalled w n g held r k) → m.line ≡ with_event w n (command_at w.runs r k).device (failure_of w n r k) → ((q : ℕ) → q ≢ r → m.run q ≡ n.run q)
     → ChangesInPlace (with_event_in w.kinds (window_of w n g held) (command_at w.runs r k).device.0 (failure_of w n r k)) (window_of w m (put g (command_at w.runs r k).device.0 None) after) r
-failed_window w n m g held after r k s line others = in_place w (record n { line = line_with_event w.kinds (window_of w n g held).states d (failure_of w n r k) n.line }) m g (put g d None) held after r
-    (record { front = with_it.front; back = with_it.back; at = sym (event_place w n g held d (failure_of w n r k) s.read s.strong) ∙ with_it.at; before = with_it.before; behind = with_it.behind })
-    (line ∙ event_place w n g held d (failure_of w n r k) s.read s.strong) others (λ q e ne. put_keeps (held_by w q) g d None (sym (ap (held_by w q) s.at ∙ held_other w r q (Commands k) ne)) e)
-  where
-    d : ℕ
-    d = (command_at w.runs r k).device.0
-
-    with_it : CutAt r (put_before (of_run (awaits_there w n d)) (failure_of w n r k) n.line)
-    with_it = (failed_cut w n g held r k s).new
+failed_window w n m g held after r k s line others = event_window w n m g (put g (command_at w.runs r k).device.0 None) held after (command_at w.runs r k).device.0 r (failure_of w n r k) (called_cut w n g held r k s) s.read s.strong (λ p. refl) line others
+    (λ q e ne. put_keeps (held_by w q) g (command_at w.runs r k).device.0 None (sym (ap (held_by w q) s.at ∙ held_other w r q (Commands k) ne)) e)
 
 -- the device fails at the command of a run that is not doomed by it
 died_at : (w : Setting) (n : Reading) (g : Grips) (held after : ℕ → ℕ) (r k : ℕ) → IsCalled w n g held r k → (did n r (command_at w.runs r k).device.0 ≡ true → is_doomed n r ≡ true) → (fails (command_at w.runs r k) Down ≡ true → is_doomed n r ≡ true)
@@ -365,12 +349,7 @@ died_doomed_at w n g held after r k cause s still = record {
 
     by_view : (e : ℕ) (b : Bool) → did n r d ≡ b → InHistoryOrder next e
     by_view e true has = doom_first w fell r k Down cause has e (failed_history w n (entry w fell (Doomed (run_no r) cause)) g held r k s (falls_doomed w n g held r k s cause) e)
-    by_view e false none = same_history did_ next e (record {
-      line = refl;
-      view = λ q. put_keeps (λ o. (o.on e).view) did_.run r (doomed_of (did_.run r) cause) refl q;
-      late = λ q. put_keeps (λ o. (o.on e).late) did_.run r (doomed_of (did_.run r) cause) refl q;
-      doomed = λ q h. sound_before w did_ r cause q h;
-    }) refl (failed_history w n fell g held r k s (falls w n g held r k s (λ has. absurd (clash (did n r d) has none))) e)
+    by_view e false none = doomed_history w did_ r cause e (failed_history w n fell g held r k s (falls w n g held r k s (λ has. absurd (clash (did n r d) has none))) e)
 
 -- the command of the run that is out on the device
 called : (w : Setting) (n : Reading) (g : Grips) (held : ℕ → ℕ) (d r k : ℕ) → IsRead w n → is_weak w.mode ≡ false → g d ≡ Some (record { maker = r; purpose = Commands k }) → OrderIsKept w n g held → IsCalled w n g held r k

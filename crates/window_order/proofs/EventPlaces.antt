@@ -3,15 +3,15 @@ use Rattle.command_rules.specs.Items.{is_ran, of_run}
 use Rattle.command_rules.specs.Rosters.{commands_of, device_no, run_no, touches}
 use Rattle.device_order.proofs.Claims.{waits_calm}
 use Rattle.device_order.proofs.LineEntries.{used_at, uses_rest}
-use Rattle.device_order.proofs.LineWords.{calm_entries, has_entries}
-use Rattle.device_order.proofs.WindowTimes.{EventCut, event_cut}
+use Rattle.device_order.proofs.LineWords.{calm_entries}
+use Rattle.device_order.proofs.WindowTimes.{EventCut}
 use Rattle.device_order.specs.LineChanges.{Lacks, line_with_event, waits_at}
 use Rattle.device_order.specs.LineEntries.{entries, stage_of, usage}
-use Rattle.device_order.specs.LineWords.{CutAt, any_run, at_device, is_calm_line}
+use Rattle.device_order.specs.LineWords.{CutAt, at_device, is_calm_line}
 use Rattle.device_order.specs.RunStates.{device_summary, rest, uses}
 use Rattle.device_order.specs.Usages.{is_open as stage_is_open, is_up, spans_up}
+use Rattle.device_order.specs.WindowSteps.{ChangesInPlace, with_event_in}
 use Rattle.device_order.specs.Windows.{device_of}
-use Rattle.history_book.proofs.Lines.{any_put_before}
 use Rattle.history_book.proofs.Shapes.{did_touches}
 use Rattle.history_book.proofs.Standing.{stands_in}
 use Rattle.history_book.specs.Histories.{with_event}
@@ -20,7 +20,6 @@ use Rattle.history_book.specs.Readings.{Reading, did, is_committed, is_doomed, i
 use Rattle.history_book.specs.Settings.{Setting, is_device, is_weak}
 use Rattle.home_types.specs.declared.items.Item.TheVariants.{Back, Failed, Ran}
 use Rattle.home_types.specs.declared.items.Item.{Item}
-use Rattle.home_types.specs.declared.numbers.RunNo.{RunNo}
 use Rattle.lock_leasing.specs.Configurations.{Grips}
 use Rattle.std.proofs.Common.{ap, arith, inl, inr, refl, subst, sym, ◌∙◌}
 use Rattle.std.proofs.lemmas.Grind.{common_steps}
@@ -28,11 +27,12 @@ use Rattle.std.specs.List.{list_any}
 use Rattle.std.specs.Prelude.{Bool, List, None, Option, Some, [], false, if◌then◌else◌, is_some, not, option_map, true, unwrap_or, ℕ, ◌&&◌, ◌++◌, ◌==◌, ◌||◌, ◌∷◌, ◌≡◌, ◌≢◌, ◌⊎◌}
 use Rattle.window_order.proofs.Firsts.{below_home, none_marked, seen_view}
 use Rattle.window_order.proofs.Goes.{StandIn, stands_committed}
+use Rattle.window_order.proofs.Grips.{in_place}
 use Rattle.window_order.proofs.HistoryOrder.{is_marked}
 use Rattle.window_order.proofs.ReadFacts.{IsRead, rest_drop, view_from}
 use Rattle.window_order.proofs.Runs.{live_uncommitted}
 use Rattle.window_order.specs.OrderKept.{OrderIsKept}
-use Rattle.window_order.specs.ReadWindows.{run_state, window_of}
+use Rattle.window_order.specs.ReadWindows.{held_by, run_state, window_of}
 
 -- The place
 
@@ -173,6 +173,15 @@ cut_with t x line r old event = elim (put_in_two t x old.front old.back (Ran (ru
       new = record { front = old.front; back = put_before t x old.back; at = ap (put_before t x) old.at ∙ at; before = old.before; behind = lacks_event t x r old.back event old.behind };
       back = inr (off, refl);
     }
+
+-- .. and so the run changes in its place in the line with the event
+pub event_window : (w : Setting) (n m : Reading) (g h : Grips) (held after : ℕ → ℕ) (d r : ℕ) (x : Item) → CutAt r n.line → IsRead w n → is_weak w.mode ≡ false → ((p : ℕ → Bool) → of_run p x ≡ false) → m.line ≡ with_event w n (device_no d) x → ((q : ℕ) → q ≢ r → m.run q ≡ n.run q)
+    → ((q e : ℕ) → q ≢ r → held_by w q (h e) ≡ held_by w q (g e)) → ChangesInPlace (with_event_in w.kinds (window_of w n g held) d x) (window_of w m h after) r
+event_window w n m g h held after d r x cut read strong event line others grips = in_place w (record n { line = line_with_event w.kinds (window_of w n g held).states d x n.line }) m g h held after r
+    (record { front = with_it.front; back = with_it.back; at = sym (event_place w n g held d x read strong) ∙ with_it.at; before = with_it.before; behind = with_it.behind }) (line ∙ event_place w n g held d x read strong) others grips
+  where
+    with_it : CutAt r (put_before (of_run (awaits_there w n d)) x n.line)
+    with_it = (cut_with (of_run (awaits_there w n d)) x n.line r cut event).new
 
 -- Runs that see the device up
 

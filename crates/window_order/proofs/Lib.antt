@@ -33,3 +33,6 @@ pub mod TableSteps
 pub mod TouchedLines
 pub mod FewAccesses
 pub mod DeadAccesses
+pub mod AnsweredDowns
+pub mod ProbedOrders
+pub mod OutDevices

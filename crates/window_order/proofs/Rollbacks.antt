@@ -87,6 +87,15 @@ sound_before w n r cause q h = at_ (q == r) h
     at_ true h = absurd (cc)
     at_ false h = h
 
+-- a doom keeps the order of the history
+pub doomed_history : (w : Setting) (n : Reading) (r : ℕ) (cause : Cause) (e : ℕ) → InHistoryOrder n e → InHistoryOrder (entry w n (Doomed (run_no r) cause)) e
+doomed_history w n r cause e = same_history n (entry w n (Doomed (run_no r) cause)) e (record {
+  line = refl;
+  view = λ q. put_keeps (λ o. (o.on e).view) n.run r _ refl q;
+  late = λ q. put_keeps (λ o. (o.on e).late) n.run r _ refl q;
+  doomed = λ q h. sound_before w n r cause q h;
+}) refl
+
 -- a live run is doomed, whatever it holds
 pub doomed_kept : (w : Setting) (n : Reading) (g : Grips) (held : ℕ → ℕ) (r : ℕ) (cause : Cause) → IsRead w n → is_live n r ≡ true → OrderIsKept w n g held → OrderIsKept w (entry w n (Doomed (run_no r) cause)) g held
 doomed_kept w n g held r cause read live kept = record {
@@ -99,12 +108,7 @@ doomed_kept w n g held r cause read live kept = record {
     doomed = ap (λ o. is_some o.doomed) own;
     still = λ d. record { up = refl; held = refl; probe = refl };
   }) kept.window;
-  history = λ d. same_history n next d (record {
-    line = refl;
-    view = λ q. put_keeps (λ o. (o.on d).view) n.run r new refl q;
-    late = λ q. put_keeps (λ o. (o.on d).late) n.run r new refl q;
-    doomed = λ q h. sound_before w n r cause q h;
-  }) refl (kept.history d);
+  history = λ d. doomed_history w n r cause d (kept.history d);
 }
   where
     next : Reading
@@ -162,12 +166,7 @@ refuted_at w n g held r k cause read at reading out kept = record {
     found = refl;
     still = λ e. record { up = refl; held = refl; probe = put_keeps probe_of g d None (sym (ap probe_of at)) e };
   }) kept.window;
-  history = λ e. same_history did next e (record {
-    line = refl;
-    view = λ q. put_keeps (λ o. (o.on e).view) did.run r (doomed_of (did.run r) cause) refl q;
-    late = λ q. put_keeps (λ o. (o.on e).late) did.run r (doomed_of (did.run r) cause) refl q;
-    doomed = λ q h. sound_before w did r cause q h;
-  }) refl (did_history w n r k (Found x) cut read (out_newest w n g held d r k cut read kept at out) e (kept.history e));
+  history = λ e. doomed_history w did r cause e (did_history w n r k (Found x) cut read (out_newest w n g held d r k cut read kept at out) e (kept.history e));
 }
   where
     c : Command

@@ -2,7 +2,6 @@
 use Rattle.command_rules.specs.Items.{is_ran, of_run}
 use Rattle.command_rules.specs.Rosters.{commands_of, device_no, is_on, run_no, touches}
 use Rattle.device_order.proofs.InPlace.{two_places}
-use Rattle.device_order.proofs.LineEntries.{used_at}
 use Rattle.device_order.proofs.LineWords.{has_entries}
 use Rattle.device_order.proofs.Losses.{one_spans, restart_loses_none, undo_loses_none}
 use Rattle.device_order.proofs.WindowTimes.{EventCut, event_cut}
@@ -11,33 +10,29 @@ use Rattle.device_order.specs.LineWords.{CutAt, any_run, at_device}
 use Rattle.device_order.specs.Usages.{is_command as holds_command, spans_up}
 use Rattle.device_order.specs.Walks.{has}
 use Rattle.device_order.specs.Windows.{device_of}
-use Rattle.device_order.specs.declared.records.Grip.TheVariants.{Undoes as HeldToUndo}
-use Rattle.device_order.specs.declared.records.Probe.TheVariants.{Restores}
 use Rattle.history_book.proofs.Searches.{some_is}
-use Rattle.history_book.proofs.Standing.{stands_in}
 use Rattle.history_book.specs.Histories.{with_event}
 use Rattle.history_book.specs.Lines.{is_event_on}
-use Rattle.history_book.specs.Readings.{Event, Reading, did, is_committed, is_doomed, is_live, is_open, pends, sees_up, view_of}
+use Rattle.history_book.specs.Readings.{Event, Reading, is_committed, is_doomed, is_live, is_open, pends, sees_up, view_of}
 use Rattle.history_book.specs.Settings.{Setting, is_device, is_weak}
 use Rattle.home_types.specs.declared.items.Item.TheVariants.{Back, Failed, Ran}
 use Rattle.home_types.specs.declared.items.Item.{Item}
-use Rattle.lock_leasing.specs.Configurations.{Commands, Grip, Grips, Probes, Purpose, Undoes}
+use Rattle.lock_leasing.specs.Configurations.{Grips, Probes, Undoes}
 use Rattle.lock_leasing.specs.Order.{InHistoryOrder, is_in_line, is_late}
 use Rattle.lock_leasing.specs.Waits.{lost_by}
 use Rattle.lock_leasing.specs.Words.{live_runs}
-use Rattle.std.proofs.Common.{ap, arith, cond, refl, subst, sym, ◌∙◌}
+use Rattle.std.proofs.Common.{ap, arith, cond, refl, sym, ◌∙◌}
 use Rattle.std.proofs.lemmas.Grind.{common_steps}
 use Rattle.std.proofs.lemmas.List.Folds.{list_any-append}
 use Rattle.std.proofs.lemmas.List.{drop_all}
 use Rattle.std.specs.List.{list_any}
-use Rattle.std.specs.Prelude.{Bool, List, None, Option, Some, [], drop, false, find, if◌then◌else◌, is_some, length, not, option_map, true, unwrap_or, ℕ, ◌&&◌, ◌++◌, ◌==◌, ◌||◌, ◌∷◌, ◌≡◌, ◌≢◌}
+use Rattle.std.specs.Prelude.{Bool, List, None, Option, Some, [], drop, false, find, if◌then◌else◌, is_some, length, not, true, unwrap_or, ℕ, ◌&&◌, ◌++◌, ◌==◌, ◌||◌, ◌∷◌, ◌≡◌, ◌≢◌}
 use Rattle.window_order.proofs.EventHistory.{EventComes, event_history, passing_history}
 use Rattle.window_order.proofs.EventPlaces.{event_calm, event_place, line_stands, spans_same}
 use Rattle.window_order.proofs.Firsts.{below_home, device_order_at}
 use Rattle.window_order.proofs.Goes.{found_live, stands_committed}
 use Rattle.window_order.proofs.Grips.{held_own}
 use Rattle.window_order.proofs.ReadFacts.{IsRead}
-use Rattle.window_order.proofs.Runs.{cut_live, live_uncommitted}
 use Rattle.window_order.specs.OrderKept.{OrderIsKept}
 use Rattle.window_order.specs.ReadWindows.{held_by, probe_of, run_state, window_of}
 

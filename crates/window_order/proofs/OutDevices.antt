@@ -1,0 +1,100 @@
+-- How a device is counted that is out: up for a command and an undo and where it is asked, down where it is restored.
+use Rattle.command_rules.specs.Rosters.{touches}
+use Rattle.device_order.proofs.Effects.{held_end}
+use Rattle.device_order.proofs.Parts.{Cut, cut as use_cut}
+use Rattle.device_order.specs.Invariant.{DeviceFits}
+use Rattle.device_order.specs.LineEntries.{entries, usage}
+use Rattle.device_order.specs.LineWords.{CutAt}
+use Rattle.device_order.specs.Records.{walk_start}
+use Rattle.device_order.specs.Usages.{has_grip as usage_has_grip, is_command as holds_command, is_free}
+use Rattle.device_order.specs.Walks.{WalkHolds, after_usage, is_home, walk_end}
+use Rattle.device_order.specs.Windows.{device_of}
+use Rattle.device_order.specs.declared.records.Grip.TheVariants.{Free, Reads, Undoes as HeldToUndo, Writes}
+use Rattle.device_order.specs.declared.records.Grip.{Grip as HeldGrip}
+use Rattle.device_order.specs.declared.records.OrderEntry.TheVariants.{Used}
+use Rattle.device_order.specs.declared.records.OrderEntry.{OrderEntry}
+use Rattle.device_order.specs.declared.records.Probe.TheVariants.{Asks, Restores}
+use Rattle.device_order.specs.declared.records.Probe.{Probe}
+use Rattle.device_order.specs.declared.records.Usage.{Usage}
+use Rattle.device_order.specs.declared.walks.WalkState.{WalkState}
+use Rattle.history_book.specs.Readings.{Reading, has_written, is_doomed, is_live}
+use Rattle.history_book.specs.Settings.{Setting, is_device}
+use Rattle.home_types.specs.HomeStates.{stand_at}
+use Rattle.lock_leasing.specs.Configurations.{Commands, Grips, Probes, Undoes}
+use Rattle.std.proofs.Common.{ap, arith, refl, subst, ◌∙◌}
+use Rattle.std.proofs.lemmas.Grind.{common_steps}
+use Rattle.std.specs.Prelude.{Bool, List, None, Some, false, is_some, not, true, ℕ, ◌&&◌, ◌++◌, ◌∷◌, ◌≡◌}
+use Rattle.window_order.proofs.Firsts.{below_home, device_order_at}
+use Rattle.window_order.proofs.GripWords.{own_command}
+use Rattle.window_order.proofs.Grips.{held_own}
+use Rattle.window_order.proofs.PromisedWords.{command_held, written_touches}
+use Rattle.window_order.proofs.ReadFacts.{IsRead}
+use Rattle.window_order.proofs.Runs.{cut_live}
+use Rattle.window_order.proofs.StandingValues.{ActsOn, acts_on}
+use Rattle.window_order.proofs.Steps.{out_is}
+use Rattle.window_order.specs.OrderKept.{OrderIsKept}
+use Rattle.window_order.specs.ReadWindows.{held_by, probe_of, run_state, window_of}
+
+out_up : (e : WalkState) (up : Bool) (held : ℕ) (p : Probe) → is_home e.out ≡ false → DeviceFits e up held p → up ≡ true
+out_up e up held p h x = grind (arith, common_steps)
+
+asks_up : (e : WalkState) (up : Bool) (held : ℕ) (p : Probe) → p ≡ Asks → DeviceFits e up held p → up ≡ true
+asks_up e up held p h x = grind (arith, common_steps)
+
+restores_down : (e : WalkState) (up : Bool) (held : ℕ) (p : Probe) (v : ℕ) → p ≡ Restores v → DeviceFits e up held p → up ≡ false
+restores_down e up held p v h x = grind (arith, common_steps)
+
+held_out : (s : WalkState) (u : Usage) → usage_has_grip u ≡ true → is_home (after_usage s u).out ≡ false
+held_out s u h = grind (arith, common_steps)
+
+-- a run that stands in the line holds the grip
+held_up : (w : Setting) (n : Reading) (g : Grips) (held : ℕ → ℕ) (d r : ℕ) → CutAt r n.line → OrderIsKept w n g held → is_device w d ≡ true → touches w.runs r d ≡ true → is_free (held_by w r (g d)) ≡ false → n.up d ≡ true
+held_up w n g held d r at kept device used holds = out_up (walk_end z (a ++ Used u ∷ b)) (n.up d) (held d) (probe_of (g d)) (ap (λ (s : WalkState). is_home s.out) k.ends ∙ held_end (after_usage (walk_end z a) u) b (held_out (walk_end z a) u (ap not holds))) (subst (λ l. DeviceFits (walk_end z l) (n.up d) (held d) (probe_of (g d))) order (kept.window.devices d (below_home w d device)).ends)
+  where
+    z : WalkState
+    z = walk_start (stand_at w.first d).up (stand_at w.first d).value
+
+    u : Usage
+    u = usage w.kinds (run_state w n g r) d
+
+    a : List OrderEntry
+    a = entries w.kinds (window_of w n g held).states d at.front
+
+    b : List OrderEntry
+    b = entries w.kinds (window_of w n g held).states d at.back
+
+    order : (device_of w.kinds (window_of w n g held) d).order ≡ a ++ Used u ∷ b
+    order = device_order_at w n g held d r at used
+
+    k : Cut z a u b
+    k = use_cut z a u b (subst (λ l. WalkHolds z l) order (kept.window.devices d (below_home w d device)).walk)
+
+-- it is counted up while a command of it is out, ..
+pub called_up : (w : Setting) (n : Reading) (g : Grips) (held : ℕ → ℕ) (d r k : ℕ) → IsRead w n → g d ≡ Some (record { maker = r; purpose = Commands k }) → OrderIsKept w n g held → n.up d ≡ true
+called_up w n g held d r k read at kept = held_up w n g held d r (cut_live w n r read (out_is w n g d r k kept.grips at).live) kept (kept.grips.homed d (ap is_some at)) (touches_is (acts_on w n g held r d kept (own_command g d r (Commands k) at))) (unfree (held_by w r (g d)) (command_held w g r d ∙ own_command g d r (Commands k) at))
+  where
+    touches_is : ActsOn w n r d → touches w.runs r d ≡ true
+    touches_is a = a.uses
+
+    unfree : (x : HeldGrip) → holds_command x ≡ true → is_free x ≡ false
+    unfree Free h = absurd (cc)
+    unfree Reads h = refl
+    unfree Writes h = refl
+    unfree (HeldToUndo v) h = refl
+
+-- .. and an undo
+pub undo_up : (w : Setting) (n : Reading) (g : Grips) (held : ℕ → ℕ) (d r v : ℕ) → IsRead w n → g d ≡ Some (record { maker = r; purpose = Undoes v }) → OrderIsKept w n g held → n.up d ≡ true
+undo_up w n g held d r v read at kept = held_up w n g held d r (cut_live w n r read may.0) kept (kept.grips.homed d (ap is_some at)) (written_touches w n r d read may.1) (ap is_free (ap (held_by w r) at ∙ held_own w r (Undoes v)))
+  where
+    parts : (a b c e : Bool) → (a && b && c && e) ≡ true → (a ≡ true) × (c ≡ true)
+    parts a b c e h = (grind (arith, common_steps), grind (arith, common_steps))
+
+    may : (is_live n r ≡ true) × (has_written n r d ≡ true)
+    may = parts (is_live n r) (is_doomed n r) (has_written n r d) (not ((n.run r).on d).undid) (kept.grips.runs.undos d r v at)
+
+-- a device that a probe asks is counted up, and one that it restores down
+pub asked_up : (w : Setting) (n : Reading) (g : Grips) (held : ℕ → ℕ) (d m : ℕ) → g d ≡ Some (record { maker = m; purpose = Probes None }) → OrderIsKept w n g held → n.up d ≡ true
+asked_up w n g held d m at kept = asks_up _ (n.up d) (held d) (probe_of (g d)) (ap probe_of at) (kept.window.devices d (below_home w d (kept.grips.homed d (ap is_some at)))).ends
+
+pub restored_down : (w : Setting) (n : Reading) (g : Grips) (held : ℕ → ℕ) (d m v : ℕ) → g d ≡ Some (record { maker = m; purpose = Probes (Some v) }) → OrderIsKept w n g held → n.up d ≡ false
+restored_down w n g held d m v at kept = restores_down _ (n.up d) (held d) (probe_of (g d)) v (ap probe_of at) (kept.window.devices d (below_home w d (kept.grips.homed d (ap is_some at)))).ends
