@@ -36,3 +36,4 @@ pub mod DeadAccesses
 pub mod AnsweredDowns
 pub mod ProbedOrders
 pub mod OutDevices
+pub mod TurnedLines

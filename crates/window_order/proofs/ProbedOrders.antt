@@ -1,4 +1,5 @@
 -- A probe keeps the order of a window, whether it works or dies, and an undo that dies.
+use Rattle.command_rules.specs.Items.{is_ran}
 use Rattle.command_rules.specs.Rosters.{device_no, run_no, touches}
 use Rattle.device_order.proofs.WindowGrips.{device_restarted, probe_died, probe_found_down, probe_found_up, probe_out, undo_died}
 use Rattle.device_order.proofs.WindowRuns.{probe_died_under_run}

@@ -1,0 +1,168 @@
+-- The items of a line with what each has touched, where a device fails or comes back, is answered for with no call, or is probed.
+use Rattle.command_rules.specs.Items.{is_ran, of_run}
+use Rattle.command_rules.specs.Rosters.{command_at, device_no, run_no}
+use Rattle.history_book.proofs.Snoc.{put_keeps, put_other, put_same}
+use Rattle.history_book.specs.Histories.{answered, entry}
+use Rattle.history_book.specs.Lines.{put_before}
+use Rattle.history_book.specs.Readings.{OfRun, OnDevice, Reading, did, put, view_by}
+use Rattle.history_book.specs.Settings.{Setting}
+use Rattle.history_book.specs.declared.entries.Entry.TheVariants.{Did, Fell, Rose}
+use Rattle.home_types.proofs.DeviceBits.{contains_insert}
+use Rattle.home_types.specs.Kinds.{kind_at}
+use Rattle.home_types.specs.declared.commands.Answer.TheVariants.{Down, Fine, Found}
+use Rattle.home_types.specs.declared.commands.Answer.{Answer}
+use Rattle.home_types.specs.declared.commands.Command.{Command}
+use Rattle.home_types.specs.declared.items.Item.TheVariants.{Back, Failed, Ran}
+use Rattle.home_types.specs.declared.items.Item.{Item}
+use Rattle.home_types.specs.declared.numbers.DeviceNo.{DeviceNo}
+use Rattle.lock_leasing.specs.Configurations.{Commands, Grip, Grips, Probes, grips_command, is_command}
+use Rattle.lock_leasing.specs.Places.{up_to_first}
+use Rattle.lock_leasing.specs.Standings.{item_has_touched}
+use Rattle.lock_leasing.specs.Words.{has_touched}
+use Rattle.serial_line.proofs.Ties.{line_inserted, line_retold, line_touching}
+use Rattle.serial_line.specs.Marks.{Mark, touching, untouched, with_item}
+use Rattle.serial_line.specs.Ties.{IsLineOf, TouchesAs}
+use Rattle.std.proofs.Common.{ap, arith, refl, subst, sym, ◌∙◌}
+use Rattle.std.proofs.lemmas.Grind.{common_steps}
+use Rattle.std.specs.FinSet as set
+use Rattle.std.specs.Option.{option_or}
+use Rattle.std.specs.Ordering.{nat_cmp}
+use Rattle.std.specs.Prelude.{Bool, List, None, Option, Some, [], drop, false, if◌then◌else◌, is_some, option_map, suc, take, true, unwrap_or, ℕ, ◌&&◌, ◌++◌, ◌+◌, ◌==◌, ◌||◌, ◌∷◌, ◌≡◌, ◌≢◌}
+use Rattle.window_order.proofs.EventPlaces.{awaits_there}
+use Rattle.window_order.proofs.Steps.{IsOut}
+use Rattle.window_order.proofs.TouchedLines.{marks_answered, marks_same}
+use Rattle.window_order.specs.MarksKept.{MarksAreKept}
+
+-- The place of an event
+
+-- what stands before the first item of which the test holds stands at this place
+put_at : (t : Item → Bool) (x : Item) (line : List Item) → put_before t x line ≡ take (up_to_first t line) line ++ x ∷ drop (up_to_first t line) line
+put_at t x [] = refl
+put_at t x (i ∷ is) = by_test (t i) (put_at t x is)
+  where
+    next : (k : ℕ) → k + 1 ≡ suc k
+    next k = omega arith
+
+    by_test : (b : Bool) → put_before t x is ≡ take (up_to_first t is) is ++ x ∷ drop (up_to_first t is) is
+        → (if b then x ∷ i ∷ is else i ∷ put_before t x is) ≡ take (if b then 0 else up_to_first t is + 1) (i ∷ is) ++ x ∷ drop (if b then 0 else up_to_first t is + 1) (i ∷ is)
+    by_test true rest = refl
+    by_test false rest = ap (λ l. i ∷ l) rest ∙ ap (λ k. take k (i ∷ is) ++ x ∷ drop k (i ∷ is)) (sym (next (up_to_first t is)))
+
+-- the place of the device's event: before the first run that is open there and has done nothing there, else at the end
+abbrev pub event_place_of : Setting → Reading → ℕ → ℕ
+event_place_of w n d = up_to_first (of_run (awaits_there w n d)) n.line
+
+-- an event has touched its device as it comes
+event_touches : (touched : Item → ℕ → Bool) (x : Item) (e : DeviceNo) → (untouched x).touched ≡ set.insert set.empty e.0 → ((d : ℕ) → touched x d ≡ (e.0 == d)) → TouchesAs touched (untouched x)
+event_touches touched x e own tells d = ap (λ s. set.contains s d) own ∙ contains_insert set.empty e.0 d ∙ ap (λ b. (d == e.0) || b) (set.contains-empty nat_cmp d) ∙ turned d e.0 ∙ sym (tells d)
+  where
+    turned : (y z : ℕ) → ((y == z) || false) ≡ (z == y)
+    turned y z = grind (arith, common_steps)
+
+-- the runs have touched what they had
+same_runs : (n m : Reading) (g : Grips) (marks : List Mark) → m.run ≡ n.run → MarksAreKept n g marks → IsLineOf n.line (item_has_touched m g) marks
+same_runs n m g marks run kept = line_retold kept (λ i d there. each i d)
+  where
+    each : (i : Item) (d : ℕ) → item_has_touched n g i d ≡ item_has_touched m g i d
+    each (Ran q) d = λ i. is_some (((sym run i) q.0).on d).view || grips_command g q.0 d
+    each (Failed e k) d = refl
+    each (Back e k) d = refl
+
+-- a device fails
+pub marks_fell : (w : Setting) (n : Reading) (g : Grips) (d : DeviceNo) (marks : List Mark) → MarksAreKept n g marks → MarksAreKept (entry w n (Fell d)) g (with_item (event_place_of w n d.0) (Failed d (n.fell d.0 + 1)) marks)
+marks_fell w n g d marks kept =
+    subst (λ l. IsLineOf l (item_has_touched (entry w n (Fell d)) g) (with_item (event_place_of w n d.0) x marks)) (sym (put_at (of_run (awaits_there w n d.0)) x n.line))
+    (line_inserted (event_place_of w n d.0) x (same_runs n (entry w n (Fell d)) g marks refl kept) (event_touches (item_has_touched (entry w n (Fell d)) g) x d refl (λ e. refl)))
+  where
+    x : Item
+    x = Failed d (n.fell d.0 + 1)
+
+-- .. or comes back
+pub marks_rose : (w : Setting) (n : Reading) (g : Grips) (d : DeviceNo) (marks : List Mark) → MarksAreKept n g marks → MarksAreKept (entry w n (Rose d)) g (with_item (event_place_of w n d.0) (Back d (n.rose d.0 + 1)) marks)
+marks_rose w n g d marks kept =
+    subst (λ l. IsLineOf l (item_has_touched (entry w n (Rose d)) g) (with_item (event_place_of w n d.0) x marks)) (sym (put_at (of_run (awaits_there w n d.0)) x n.line))
+    (line_inserted (event_place_of w n d.0) x (same_runs n (entry w n (Rose d)) g marks refl kept) (event_touches (item_has_touched (entry w n (Rose d)) g) x d refl (λ e. refl)))
+  where
+    x : Item
+    x = Back d (n.rose d.0 + 1)
+
+-- the device fails at a command that is out: its run has touched it as before
+pub marks_died : (w : Setting) (n : Reading) (g : Grips) (d r k : ℕ) (e : DeviceNo) (a : Answer) (marks : List Mark) → IsOut w n d r k → g d ≡ Some (record { maker = r; purpose = Commands k }) → MarksAreKept n g marks
+    → MarksAreKept (entry w (entry w n (Fell e)) (Did (run_no r) k a)) (put g d None) (with_item (event_place_of w n e.0) (Failed e (n.fell e.0 + 1)) marks)
+marks_died w n g d r k e a marks out at kept = marks_answered w (entry w n (Fell e)) g d r k a (with_item (event_place_of w n e.0) (Failed e (n.fell e.0 + 1)) marks) (record { live = out.live; number = out.number; more = out.more; device = out.device }) at (marks_fell w n g e marks kept)
+
+-- An answer with no call
+
+-- the run touches the device of its command by the answer
+pub marks_told : (w : Setting) (n : Reading) (g : Grips) (r k : ℕ) (a : Answer) (marks : List Mark) → MarksAreKept n g marks → MarksAreKept (entry w n (Did (run_no r) k a)) g (touching r (command_at w.runs r k).device.0 marks)
+marks_told w n g r k a marks kept = line_touching r d kept also
+  where
+    c : Command
+    c = command_at w.runs r k
+
+    d : ℕ
+    d = c.device.0
+
+    next : Reading
+    next = entry w n (Did (run_no r) k a)
+
+    on_device : OnDevice
+    on_device = answered (kind_at w.kinds d) c (is_some (n.run r).doomed) (n.run r).register a ((n.run r).on d)
+
+    equal : (y z : ℕ) → (y == z) ≡ true → y ≡ z
+    equal y z h = grind (arith, common_steps)
+
+    differ : (y z : ℕ) → (y == z) ≡ false → y ≢ z
+    differ y z h = grind (arith, common_steps)
+
+    some_view : (v : Option Bool) (x : Answer) → is_some (option_or v (view_by x)) ≡ true
+    some_view (Some u) x = refl
+    some_view None Fine = refl
+    some_view None (Found x) = refl
+    some_view None Down = refl
+
+    own : (e : ℕ) → did next r e ≡ is_some (put (n.run r).on d on_device e).view
+    own e = ap (λ (o : OfRun). is_some (o.on e).view) (put_same n.run r _)
+
+    tells : (x y b : Bool) (z : Bool) → x ≡ (z || b) → (x || y) ≡ ((true && z) || (b || y))
+    tells x y b z h = grind (arith, common_steps)
+
+    stays : (x y b z : Bool) → x ≡ b → (x || y) ≡ ((false && z) || (b || y))
+    stays x y b z h = grind (arith, common_steps)
+
+    own_told : (e : ℕ) (b : Bool) → (e == d) ≡ b → is_some (if b then on_device else (n.run r).on e).view ≡ (b || did n r e)
+    own_told e true h = some_view ((n.run r).on d).view a
+    own_told e false h = refl
+
+    ran : (q e : ℕ) (b : Bool) → (q == r) ≡ b → (did next q e || grips_command g q e) ≡ ((b && (e == d)) || (did n q e || grips_command g q e))
+    ran q e true h = tells (did next q e) (grips_command g q e) (did n q e) (e == d) (ap (λ y. did next y e) (equal q r h) ∙ own e ∙ own_told e (e == d) refl ∙ ap (λ y. (e == d) || did n y e) (sym (equal q r h)))
+    ran q e false h = stays (did next q e) (grips_command g q e) (did n q e) (e == d) (ap (λ (o : OfRun). is_some (o.on e).view) (put_other n.run r _ q (differ q r h)))
+
+    also : (i : Item) (e : ℕ) → item_has_touched next g i e ≡ ((is_ran r i && (e == d)) || item_has_touched n g i e)
+    also (Ran q) e = ran q.0 e (q.0 == r) refl
+    also (Failed y j) e = refl
+    also (Back y j) e = refl
+
+-- A probe
+
+-- it is no touch that a device goes out for a probe, ..
+pub marks_probe_out : (n : Reading) (g : Grips) (d m : ℕ) (v : Option ℕ) (marks : List Mark) → g d ≡ None → MarksAreKept n g marks → MarksAreKept n (put g d (Some (record { maker = m; purpose = Probes v }))) marks
+marks_probe_out n g d m v marks home kept = marks_same n n g (put g d (Some (record { maker = m; purpose = Probes v }))) marks refl (λ q e. ap (λ b. did n q e || b) (put_keeps (for_command q) g d _ (off (m == q) ∙ sym (ap (for_command q) home)) e)) kept
+  where
+    for_command : ℕ → Option Grip → Bool
+    for_command q o = unwrap_or (option_map (λ p. (p.maker == q) && is_command p.purpose) o) false
+
+    off : (b : Bool) → (b && false) ≡ false
+    off true = refl
+    off false = refl
+
+-- .. and that it comes home from one
+pub marks_probe_home : (n : Reading) (g : Grips) (d m : ℕ) (v : Option ℕ) (marks : List Mark) → g d ≡ Some (record { maker = m; purpose = Probes v }) → MarksAreKept n g marks → MarksAreKept n (put g d None) marks
+marks_probe_home n g d m v marks out kept = marks_same n n g (put g d None) marks refl (λ q e. ap (λ b. did n q e || b) (put_keeps (for_command q) g d None (sym (ap (for_command q) out ∙ off (m == q))) e)) kept
+  where
+    for_command : ℕ → Option Grip → Bool
+    for_command q o = unwrap_or (option_map (λ p. (p.maker == q) && is_command p.purpose) o) false
+
+    off : (b : Bool) → (b && false) ≡ false
+    off true = refl
+    off false = refl
