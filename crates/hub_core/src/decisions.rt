@@ -105,12 +105,7 @@ impl<D: Device> Hub<D> {
             Touch::Dirty(d, x) => return Chosen::Waits(Why::Dirty(d, x)),
             Touch::Free => {}
         }
-        if let Some(x) = may_go(
-            self.history.model(),
-            &standing,
-            self.history.indexed_roster(),
-            r,
-        ) {
+        if let Some(x) = may_go(self.history.model(), &standing, r) {
             return Chosen::Waits(Why::Strict(x));
         }
         if self.is_out(command.device) {

@@ -115,7 +115,7 @@ impl<D: Device> Hub<D> {
             table: &self.order.table,
             line: &self.order.line,
             book: self.history.book(),
-            roster: self.history.roster(),
+            roster: self.history.indexed_roster(),
         }
     }
 

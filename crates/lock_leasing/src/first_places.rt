@@ -6,7 +6,7 @@ ghost use Rattle.lock_leasing.specs.Counts.{before_unended, has_committed, up_to
 ghost use Rattle.lock_leasing.specs.FirstPlaces.{IsFirstPlaceOf};
 
 use crate::standings::Standing;
-use command_rules::Roster;
+use command_rules::IndexedRoster;
 use history_book::{Book, End};
 use home_types::{Item, RunNo};
 use serial_line::Line;
@@ -29,7 +29,7 @@ pub fn first_place(s: &Standing, r: RunNo) -> u32
 }
 
 /// The number of items up to and with the last one that has touched a device of `r`.
-fn count_to_touched(line: &Line, roster: &Roster, r: RunNo) -> u32
+fn count_to_touched(line: &Line, roster: &IndexedRoster, r: RunNo) -> u32
     requires { IsTrue (is_run (runs_of roster.now) r.0) }
     ensures { result ≡ up_to_touched (commands_of (runs_of roster.now) r.0) line.now.marks }
 {
@@ -80,11 +80,12 @@ fn count_through(line: &Line, at: u32) -> u32
 }
 
 /// The run that `r` follows.
-fn followed_by(roster: &Roster, r: RunNo) -> Option<RunNo>
+fn followed_by(roster: &IndexedRoster, r: RunNo) -> Option<RunNo>
     requires { IsTrue (is_run (runs_of roster.now) r.0) }
     ensures { result ≡ followed_by (runs_of roster.now) r.0 }
 {
-    roster.runs.get(r.0 as u64 - 1).unwrap().follows
+    let run = roster.roster().runs.get(r.0 as u64 - 1).unwrap();
+    run.follows
 }
 
 /// The number of items before the first run that has not ended: all where each has.

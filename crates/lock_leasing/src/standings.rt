@@ -1,9 +1,10 @@
-use command_rules::Roster;
+use command_rules::IndexedRoster;
 use history_book::Book;
 use lineage_table::Table;
 use serial_line::Line;
 
-/// What the steps of a window are decided by: its lineage table, its line, its history and its roster.
+/// What the steps of a window are decided by: its lineage table, its line, its history and its roster,
+/// with the footprints of its runs.
 ///
 /// A call that takes one asks that the four belong to one window.
 #[derive(Clone, Copy)]
@@ -11,5 +12,5 @@ pub struct Standing<'a> {
     pub table: &'a Table,
     pub line: &'a Line,
     pub book: &'a Book,
-    pub roster: &'a Roster,
+    pub roster: &'a IndexedRoster,
 }

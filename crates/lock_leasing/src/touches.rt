@@ -6,7 +6,7 @@ ghost use Rattle.lock_leasing.specs.Standings.{MayTouch};
 ghost use Rattle.lock_leasing.specs.Touches.{IsTouchOf};
 
 use crate::standings::Standing;
-use command_rules::Roster;
+use command_rules::IndexedRoster;
 use command_rules::jobs::reads;
 use history_book::Book;
 use home_types::{Command, DeviceNo, RunNo};
@@ -43,7 +43,7 @@ pub fn test_touch(s: &Standing, r: RunNo, c: u32) -> Touch
 }
 
 /// The command of `r` with this number, counted from 0.
-fn command_at(roster: &Roster, r: RunNo, c: u32) -> Command
+fn command_at(roster: &IndexedRoster, r: RunNo, c: u32) -> Command
     requires run { IsTrue (is_run (runs_of roster.now) r.0) }
     requires command { c < length (commands_of (runs_of roster.now) r.0) }
     ensures { result ≡ command_at (runs_of roster.now) r.0 c }

@@ -14,16 +14,14 @@ use lock_leasing::Standing;
 ///
 /// Under the global model it is the first live run before `r` in the line, under the partitioned one the first that
 /// shares a device with `r`; there is none under the eventual and the weak model. The four parts belong to one window,
-/// `indexed` is its roster with the footprints of the runs, and `r` is placed, neither doomed nor ended. Takes no
-/// memory, and reads of the history no more than the ends of runs.
-pub fn may_go(model: Visibility, s: &Standing, indexed: &IndexedRoster, r: RunNo) -> Option<RunNo>
-    requires may { MayAsk model s.now.table.now s.now.line.now.marks s.now.book.now.items (runs_of s.now.roster.now) r.0 }
-    requires indexed { runs_of indexed.now ≡ runs_of s.now.roster.now }
+/// and `r` is placed, neither doomed nor ended. Takes no memory, and reads of the history no more than the ends of runs.
+pub fn may_go(model: Visibility, s: &Standing, r: RunNo) -> Option<RunNo>
+    requires { MayAsk model s.now.table.now s.now.line.now.marks s.now.book.now.items (runs_of s.now.roster.now) r.0 }
     ensures wait { IsStrictWaitOf model s.now.table.now s.now.line.now.marks s.now.book.now.items (runs_of s.now.roster.now) r.0 result }
     ensures weak { model ≡ Visibility.Weak → result ≡ None }
 {
     if is_strict(model) {
-        find_unended(model, s, indexed, r)
+        find_unended(model, s, r)
     } else {
         None
     }
@@ -31,17 +29,17 @@ pub fn may_go(model: Visibility, s: &Standing, indexed: &IndexedRoster, r: RunNo
 
 /// The first run before `r` in the line that has not ended, and for which the model lets `r` wait.
 #[tactic(auto, using(crate::proofs::Found::left_at))]
-fn find_unended(model: Visibility, s: &Standing, indexed: &IndexedRoster, r: RunNo) -> Option<RunNo>
-    requires run { IsTrue (is_run (runs_of indexed.now) r.0) }
-    requires known { AreRunsOf (runs_of indexed.now) (items_of s.now.line.now.marks) }
-    ensures { result ≡ first_unended_before (bars model (runs_of indexed.now) r.0) s.now.book.now.items r.0 (items_of s.now.line.now.marks) }
+fn find_unended(model: Visibility, s: &Standing, r: RunNo) -> Option<RunNo>
+    requires run { IsTrue (is_run (runs_of s.now.roster.now) r.0) }
+    requires known { AreRunsOf (runs_of s.now.roster.now) (items_of s.now.line.now.marks) }
+    ensures { result ≡ first_unended_before (bars model (runs_of s.now.roster.now) r.0) s.now.book.now.items r.0 (items_of s.now.line.now.marks) }
 {
     'items: for at in 0..s.line.len() {
         let item = s.line.get(at).unwrap();
         if is_ran(r, item) {
             return None;
         }
-        if let Some(x) = unended_run(model, s, indexed, r, item) {
+        if let Some(x) = unended_run(model, s, r, item) {
             return Some(x);
         }
     }
@@ -59,32 +57,26 @@ fn is_ran(r: RunNo, item: Item) -> bool
 }
 
 /// The item's run, where it has not ended and the model lets `r` wait for it.
-fn unended_run(
-    model: Visibility,
-    s: &Standing,
-    indexed: &IndexedRoster,
-    r: RunNo,
-    item: Item,
-) -> Option<RunNo>
-    requires run { IsTrue (is_run (runs_of indexed.now) r.0) }
-    requires known { IsRunOf (runs_of indexed.now) item }
-    ensures { result ≡ unended_run (bars model (runs_of indexed.now) r.0) s.now.book.now.items item }
+fn unended_run(model: Visibility, s: &Standing, r: RunNo, item: Item) -> Option<RunNo>
+    requires run { IsTrue (is_run (runs_of s.now.roster.now) r.0) }
+    requires known { IsRunOf (runs_of s.now.roster.now) item }
+    ensures { result ≡ unended_run (bars model (runs_of s.now.roster.now) r.0) s.now.book.now.items item }
 {
     match item {
-        Item::Ran(x) if s.book.end_of(x).is_none() && bars(model, indexed, r, x) => Some(x),
+        Item::Ran(x) if s.book.end_of(x).is_none() && bars(model, s.roster, r, x) => Some(x),
         _ => None,
     }
 }
 
 /// Whether `r` does not go on under the model while `x` is live before it.
-fn bars(model: Visibility, indexed: &IndexedRoster, r: RunNo, x: RunNo) -> bool
-    requires run { IsTrue (is_run (runs_of indexed.now) r.0) }
-    requires other { IsTrue (is_run (runs_of indexed.now) x.0) }
-    ensures { result ≡ bars model (runs_of indexed.now) r.0 x.0 }
+fn bars(model: Visibility, roster: &IndexedRoster, r: RunNo, x: RunNo) -> bool
+    requires run { IsTrue (is_run (runs_of roster.now) r.0) }
+    requires other { IsTrue (is_run (runs_of roster.now) x.0) }
+    ensures { result ≡ bars model (runs_of roster.now) r.0 x.0 }
 {
     match model {
         Visibility::Global => true,
-        Visibility::Partitioned => indexed.shares(x, r),
+        Visibility::Partitioned => roster.shares(x, r),
         Visibility::Weak | Visibility::Eventual => false,
     }
 }

@@ -8,6 +8,6 @@ use Rattle.visibility_models.specs.Searches.{bars, first_unended_before}
 abbrev pub invariant-items : goal.invariant-items
 invariant-items l = record {
   size : l.at-end ≡ length l.s.line.now.marks;
-  left : first_unended_before (bars l.model (runs_of l.indexed) l.r.0) l.s.book.now.items l.r.0 (items_of l.s.line.now.marks)
-      ≡ first_unended_before (bars l.model (runs_of l.indexed) l.r.0) l.s.book.now.items l.r.0 (drop l.at (items_of l.s.line.now.marks));
+  left : first_unended_before (bars l.model (runs_of l.s.roster.now) l.r.0) l.s.book.now.items l.r.0 (items_of l.s.line.now.marks)
+      ≡ first_unended_before (bars l.model (runs_of l.s.roster.now) l.r.0) l.s.book.now.items l.r.0 (drop l.at (items_of l.s.line.now.marks));
 }

@@ -1,19 +1,15 @@
 use Rattle.command_rules.specs.Rosters.{runs_of}
-use Rattle.serial_line.specs.Marks.{items_of}
-use Rattle.std.proofs.Common.{ap, sym, ◌∙◌}
+use Rattle.std.proofs.Common.{sym, ◌∙◌}
 use Rattle.visibility_models.proofs.LineRuns.{on_its_way}
 use Rattle.visibility_models.proofs.StrictWaits.{wait_is}
 use Rattle.visibility_models.proofs.waits.may_go.Goals as goal
-use Rattle.visibility_models.specs.Searches.{bars, first_unended_before}
 
 pub find_unended-requires-clause-run : goal.find_unended-requires-clause-run
-find_unended-requires-clause-run c = rw c.requires.indexed ((on_its_way c.args.model c.args.s.now.table.now c.args.s.now.line.now.marks c.args.s.now.book.now.items (runs_of c.args.s.now.roster.now) c.args.r c.requires.may (sym c.is_strict.ensures ∙ c.if-is_strict.true)).run)
+find_unended-requires-clause-run c = (on_its_way c.args.model c.args.s.now.table.now c.args.s.now.line.now.marks c.args.s.now.book.now.items (runs_of c.args.s.now.roster.now) c.args.r c.requires (sym c.is_strict.ensures ∙ c.if-is_strict.true)).run
 
 pub find_unended-requires-clause-known : goal.find_unended-requires-clause-known
-find_unended-requires-clause-known c = rw c.requires.indexed ((on_its_way c.args.model c.args.s.now.table.now c.args.s.now.line.now.marks c.args.s.now.book.now.items (runs_of c.args.s.now.roster.now) c.args.r c.requires.may (sym c.is_strict.ensures ∙ c.if-is_strict.true)).others)
+find_unended-requires-clause-known c = (on_its_way c.args.model c.args.s.now.table.now c.args.s.now.line.now.marks c.args.s.now.book.now.items (runs_of c.args.s.now.roster.now) c.args.r c.requires (sym c.is_strict.ensures ∙ c.if-is_strict.true)).others
 
 pub returns-then-is_strict-clause-wait : goal.returns-then-is_strict-clause-wait
 returns-then-is_strict-clause-wait c = λ s is.
-    c.find_unended.ensures
-    ∙ ap (λ rs. first_unended_before (bars c.args.model rs c.args.r.0) c.args.s.now.book.now.items c.args.r.0 (items_of c.args.s.now.line.now.marks)) c.requires.indexed
-    ∙ wait_is c.args.model s c.args.r.0 c.args.s.now.table.now c.args.s.now.line.now.marks c.args.s.now.book.now.items (runs_of c.args.s.now.roster.now) is
+    c.find_unended.ensures ∙ wait_is c.args.model s c.args.r.0 c.args.s.now.table.now c.args.s.now.line.now.marks c.args.s.now.book.now.items (runs_of c.args.s.now.roster.now) is

@@ -15,11 +15,8 @@ returns-in-Behind g c = λ m. command_behind c.args.self.now.setting (read_of (c
 pub returns-in-Dirty : goal.returns-in-Dirty
 returns-in-Dirty g c = λ m. command_dirty c.args.self.now.setting (read_of (configuration_of c.args.self.now)) (configuration_of c.args.self.now).grips c.args.r.0 c.args.k c.args.command c.in-Dirty.d c.in-Dirty.x (touch_said (configuration_of c.args.self.now) _ _ _ _ c.args.r.0 c.args.k c.args.command _ c.standing-standing.ensures c.requires.turn c.requires.command c.in-Dirty.ensures)
 
-pub may_go-requires-clause-indexed : goal.may_go-requires-clause-indexed
-may_go-requires-clause-indexed g c = c.indexed_roster.ensures ∙ ap (λ s. s.setting.runs) c.self.view_is ∙ c.standing-standing.ensures.its_roster
-
-pub may_go-requires-clause-may : goal.may_go-requires-clause-may
-may_go-requires-clause-may g c = InOrder (configuration_of c.args.self.now) c.standing-standing.ensures (record { live = c.requires.turn.live; sound = c.requires.turn.sound })
+pub may_go-requires : goal.may_go-requires
+may_go-requires g c = InOrder (configuration_of c.args.self.now) c.standing-standing.ensures (record { live = c.requires.turn.live; sound = c.requires.turn.sound })
 
 pub returns-in-Some : goal.returns-in-Some
 returns-in-Some g c = λ m. command_strict c.args.self.now.setting (read_of (configuration_of c.args.self.now)) (configuration_of c.args.self.now).grips c.args.r.0 c.args.k c.args.command c.in-Some.x (touch_said (configuration_of c.args.self.now) _ _ _ _ c.args.r.0 c.args.k c.args.command _ c.standing-standing.ensures c.requires.turn c.requires.command c.in-Free.ensures)

@@ -7,5 +7,5 @@ use Rattle.std.proofs.Common.{subst}
 
 pub returns : goal.returns
 returns g c =
-    subst (λ (t : OpenHub g.row.D.Denot). IsStandingOf (configuration_of t) c.self.inside.order.table c.self.inside.order.line.marks c.book.result.now.items (runs_of c.roster.result.now)) c.self.view_is
-    (rw (c.book.ensures, c.roster.ensures) (standing_whole c.self.inside c.kept.ensures c.self.invariant))
+    subst (λ (t : OpenHub g.row.D.Denot). IsStandingOf (configuration_of t) c.self.inside.order.table c.self.inside.order.line.marks c.book.result.now.items (runs_of c.indexed_roster.result.now)) c.self.view_is
+    (rw (c.book.ensures, c.indexed_roster.ensures) (standing_whole c.self.inside c.kept.ensures c.self.invariant))
