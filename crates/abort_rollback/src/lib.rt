@@ -1,8 +1,8 @@
 // How a run that is aborted takes back what it wrote: its next undo, and the end of its accesses.
 #![tactic(auto)]
 
-pub mod undos;
-pub mod withdrawals;
+mod undos;
+mod withdrawals;
 
 pub use undos::{Undo, next_undo};
 pub use withdrawals::withdraw;

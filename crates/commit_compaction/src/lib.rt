@@ -1,6 +1,6 @@
 // What the lineage table becomes when a run commits.
 #![tactic(auto)]
 
-pub mod commits;
+mod commits;
 
 pub use commits::commit;

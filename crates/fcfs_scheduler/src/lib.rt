@@ -1,6 +1,6 @@
 // Where a run is put that is served when it comes: at the end of the line.
 #![tactic(auto)]
 
-pub mod places;
+mod places;
 
 pub use places::place;

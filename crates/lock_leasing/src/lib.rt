@@ -1,11 +1,11 @@
 // Who may use a device next: accesses, holding, waits, leases, and the places of the schedulers.
 #![tactic(auto)]
 
-pub mod first_places;
-pub mod standings;
+mod first_places;
+mod standings;
 #[cfg(test)]
 mod tests;
-pub mod touches;
+mod touches;
 
 pub use first_places::first_place;
 pub use standings::Standing;

@@ -4,7 +4,7 @@ ghost use Rattle.visibility_models.specs.Searches.{is_strict_model};
 use home_types::Visibility;
 
 /// Whether runs do not overlap under the model: all of them, or those that share a device.
-pub fn is_strict(model: Visibility) -> bool
+pub(crate) fn is_strict(model: Visibility) -> bool
     ensures { result ≡ is_strict_model model }
 {
     match model {
