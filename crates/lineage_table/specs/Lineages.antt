@@ -24,7 +24,7 @@ pub record LineageState : Type 0 where
 abbrev pub scheduled : Option RunNo → Access → LineageState → LineageState
 scheduled before access s = record s { accesses = put_before before access s.accesses; room = s.room - 1 }
 
--- the run touches the device, and sees it so
+-- the run has its first answer on the device, and sees it so from then on
 abbrev pub acquired : ℕ → View → LineageState → LineageState
 acquired r view s = record s { accesses = with_change r (λ x. record x { status = Acquired; view = Some view }) s.accesses }
 

@@ -5,9 +5,10 @@ use home_types::{RunNo, Value, View};
 pub enum Status {
     /// The run is done with the device.
     Released,
-    /// The run has touched the device, and has more to do there.
+    /// The run has an answer on the device, and has more to do there.
     Acquired,
-    /// The run has not touched the device yet.
+    /// The run has no answer on the device yet. It has touched the device all the same where the grip of its first
+    /// command there is out.
     Scheduled,
 }
 

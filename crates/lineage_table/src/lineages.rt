@@ -61,7 +61,7 @@ impl Lineage {
         }
     }
 
-    /// The run touches the device, and sees it so.
+    /// The run has its first answer on the device, and sees it so from then on.
     pub fn acquire(&mut self, r: RunNo, view: View)
         requires scheduled { status_of r.0 self.old.accesses ≡ Some Status.Scheduled }
         requires none_acquired { some_acquired self.old.accesses ≡ false }

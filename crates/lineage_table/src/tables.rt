@@ -76,7 +76,7 @@ impl Table {
         self.devices.add(access.run, d);
     }
 
-    /// Marks that the run touches the device, and sees it so.
+    /// Marks that the run has its first answer on the device, and sees it so from then on.
     ///
     /// Its access is scheduled, none is acquired, and no scheduled one stands before it.
     pub fn acquire(&mut self, d: DeviceNo, r: RunNo, view: View)
