@@ -6,7 +6,5 @@ mod lines;
 mod lookups;
 mod numerals;
 mod words;
-#[cfg(test)]
-mod worked_days;
 
 pub use days::{head_text, total_text, window_text};
