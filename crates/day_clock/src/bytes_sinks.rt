@@ -97,26 +97,3 @@ impl Sink for BytesSink {
         Ok(count)
     }
 }
-
-#[cfg(test)]
-mod tests {
-    use super::*;
-    use std::test::Fail;
-
-    #[test]
-    fn takes_piece_by_piece(rt: HostRuntime) -> Result<(), Fail> {
-        let mut fails = List::new(rt.alloc());
-        fails.push(2)?;
-        let mut sink = BytesSink::new(rt.alloc(), 5, fails, 3)?;
-        for (answer, held) in [
-            (Ok(3), "abc"),
-            (Err(Failed), "abc"),
-            (Ok(2), "abcab"),
-            (Ok(0), "abcab"),
-        ] {
-            assert!(rt; sink.write(b"abcd") == answer);
-            assert!(rt; sink.held() == held.as_bytes());
-        }
-        Ok(())
-    }
-}

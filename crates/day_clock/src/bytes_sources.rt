@@ -81,28 +81,3 @@ impl Source for BytesSource {
         Ok(self.give(into))
     }
 }
-
-#[cfg(test)]
-mod tests {
-    use super::*;
-    use std::test::Fail;
-
-    #[test]
-    fn gives_piece_by_piece(rt: HostRuntime) -> Result<(), Fail> {
-        let mut fails = List::new(rt.alloc());
-        fails.push(2)?;
-        let mut source = BytesSource::new(Bytes::of(rt.alloc(), b"abcdefg")?, fails, 3);
-        let mut into = *b"....";
-        for (answer, bytes) in [
-            (Ok(3), b"abc."),
-            (Err(Failed), b"abc."),
-            (Ok(3), b"def."),
-            (Ok(1), b"gef."),
-            (Ok(0), b"gef."),
-        ] {
-            assert!(rt; source.read(&mut into) == answer);
-            assert!(rt; into == *bytes);
-        }
-        Ok(())
-    }
-}

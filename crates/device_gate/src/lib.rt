@@ -5,8 +5,6 @@ pub mod gates;
 pub mod grips;
 pub mod slips;
 pub mod strangers;
-#[cfg(test)]
-mod tests;
 
 pub use gates::{Gate, Place};
 pub use grips::{Done, Grip, Ready, Stage};

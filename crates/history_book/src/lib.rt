@@ -4,8 +4,6 @@
 mod books;
 pub mod entries;
 mod records;
-#[cfg(test)]
-mod tests;
 
 pub use books::Book;
 pub use entries::{Cause, End, Entry, Kept, Made};

@@ -94,28 +94,3 @@ fn has_bit(word: u64) -> bool
 {
     word != 0
 }
-
-#[cfg(test)]
-mod tests {
-    use super::*;
-    use std::test::Fail;
-
-    #[test]
-    fn goes_over_its_devices(rt: HostRuntime) -> Result<(), Fail> {
-        let mut devices = DeviceSet::none();
-        for d in [3, 63, 64, 255] {
-            devices.add(DeviceNo(d));
-        }
-        assert!(rt; devices.next(DeviceNo(0)) == Some(DeviceNo(3)));
-        assert!(rt; devices.next(DeviceNo(4)) == Some(DeviceNo(63)));
-        assert!(rt; devices.next(DeviceNo(64)) == Some(DeviceNo(64)));
-        assert!(rt; devices.next(DeviceNo(65)) == Some(DeviceNo(255)));
-        assert!(rt; devices.next(DeviceNo(256)) == None);
-        let mut others = DeviceSet::none();
-        others.add(DeviceNo(65));
-        assert!(rt; !devices.meets(&others));
-        others.add(DeviceNo(255));
-        assert!(rt; devices.meets(&others));
-        Ok(())
-    }
-}

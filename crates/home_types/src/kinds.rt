@@ -35,30 +35,3 @@ impl Kind {
         }
     }
 }
-
-#[cfg(test)]
-mod tests {
-    use super::*;
-    use std::test::Fail;
-
-    #[test]
-    fn values_and_their_nearest(rt: HostRuntime) -> Result<(), Fail> {
-        let states = Kind::States(3);
-        let heat = Kind::Range(10, 30);
-        for (kind, v, has, nearest) in [
-            (states, 0, true, 0),
-            (states, 2, true, 2),
-            (states, 3, false, 2),
-            (heat, 9, false, 10),
-            (heat, 10, true, 10),
-            (heat, 30, true, 30),
-            (heat, 31, false, 30),
-            (Kind::States(0), 5, false, 0),
-            (Kind::Range(8, 3), 5, false, 8),
-        ] {
-            assert!(rt; kind.has(v) == has, "{kind:?} has {v}");
-            assert!(rt; kind.nearest(v) == nearest, "{kind:?} nearest {v}");
-        }
-        Ok(())
-    }
-}

@@ -125,32 +125,3 @@ impl<T: Drop> List<T> {
         }
     }
 }
-
-#[cfg(test)]
-mod tests {
-    use super::*;
-    use std::test::Fail;
-
-    #[test]
-    fn is_made_of_a_slice(rt: HostRuntime) -> Result<(), Fail> {
-        let list = List::of(rt.alloc(), &[3, 1, 2]);
-        assert!(rt; list.is_ok_and(|list| list.as_slice() == [3, 1, 2].as_slice()));
-        Ok(())
-    }
-
-    #[test]
-    fn grows_and_gives_back(rt: HostRuntime) -> Result<(), Fail> {
-        let mut list = List::new(rt.alloc());
-        assert!(rt; list.pop() == None);
-        assert!(rt; list.reserve(2) == Ok(()));
-        for n in 0..3u32 {
-            assert!(rt; list.push(n + 10) == Ok(()));
-        }
-        assert!(rt; list.len() == 3);
-        list.set(1, 7);
-        assert!(rt; list.get(2) == Some(&12) && list.get(3) == None);
-        assert!(rt; list.as_slice() == [10, 7, 12].as_slice());
-        assert!(rt; list.pop() == Some(12));
-        Ok(())
-    }
-}

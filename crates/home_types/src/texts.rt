@@ -69,18 +69,3 @@ impl Bytes {
         self.bytes.as_slice()
     }
 }
-
-#[cfg(test)]
-mod tests {
-    use super::*;
-    use std::test::Fail;
-
-    #[test]
-    fn keep_what_they_are_made_of(rt: HostRuntime) -> Result<(), Fail> {
-        let text = Text::of(rt.alloc(), "hall_lamp");
-        assert!(rt; text.is_ok_and(|text| text.as_str() == "hall_lamp"));
-        let bytes = Bytes::of(rt.alloc(), &[0, 255, 10]);
-        assert!(rt; bytes.is_ok_and(|bytes| bytes.as_slice() == [0, 255, 10].as_slice()));
-        Ok(())
-    }
-}

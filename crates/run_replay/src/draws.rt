@@ -46,20 +46,3 @@ impl Draws {
         self.state / STATES_OF_A_NUMBER % k
     }
 }
-
-#[cfg(test)]
-mod tests {
-    use super::*;
-
-    #[test]
-    fn draws_the_worked_numbers(rt: HostRuntime) {
-        let mut two = Draws::new(1);
-        let mut three = Draws::new(1);
-        assert!(rt; two.below(2) == 0 && three.below(3) == 2);
-        assert!(rt; two.state == 7_806_831_264_735_756_412);
-        let mut thousand = Draws::new(1);
-        assert!(rt; thousand.below(1000) == 774 && thousand.below(1000) == 153);
-        let mut last = Draws::new(u64::MAX);
-        assert!(rt; last.below(u64::MAX) == 1_574_552_488);
-    }
-}
