@@ -4,8 +4,6 @@
 pub mod command_lines;
 mod option_words;
 mod readers;
-#[cfg(test)]
-mod tests;
 mod trial_numbers;
 
 pub use command_lines::{CommandLine, Options, WordFault};
