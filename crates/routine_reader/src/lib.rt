@@ -10,8 +10,6 @@ mod readers;
 mod rosters;
 mod routines;
 pub mod scripts;
-#[cfg(test)]
-mod tests;
 mod windows;
 
 pub use faults::{Count, Part, ReadFault, Spot};

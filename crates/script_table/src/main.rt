@@ -1,10 +1,11 @@
-// Reads each line of the input as a script, and writes what it says or why it is refused.
+// Reads each line of the input as a script, and writes what it says or why it is refused; at the end it writes the text of
+// the one refusal that no script has, want of memory.
 #![tactic(auto)]
 
 mod shown;
 
 use day_clock::{InputFault, StdSource, read_to_end};
-use routine_reader::read_script;
+use routine_reader::{ReadFault, read_script};
 use shown::script_text;
 use std::io::{self, Write};
 use std::process::ExitCode;
@@ -32,5 +33,6 @@ fn run(rt: &HostRuntime) -> io::Result<()> {
             Err(fault) => println!(rt; "{fault}")?,
         }
     }
+    println!(rt; "{}", ReadFault::NoMemory)?;
     Ok(())
 }
