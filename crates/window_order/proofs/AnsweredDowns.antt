@@ -52,17 +52,17 @@ pub told_next : (w : Setting) (n : Reading) (g : Grips) (held : ℕ → ℕ) (r 
 told_next w n g held r c s = subst (IsToldDown w n g held r) (sym (next_is (commands_of w.runs r) (next_of n r) c s.next).1) s
 
 -- the run holds no grip, and the command is the first of those that it has left
-told_holds : (w : Setting) (n : Reading) (g : Grips) (held : ℕ → ℕ) (r : ℕ) (c : Command) → IsToldDown w n g held r c → HoldsNone g r
+pub told_holds : (w : Setting) (n : Reading) (g : Grips) (held : ℕ → ℕ) (r : ℕ) (c : Command) → IsToldDown w n g held r c → HoldsNone g r
 told_holds w n g held r c s = holds_none w g r s.kept.grips.homed s.free
 
-told_left : (w : Setting) (n : Reading) (g : Grips) (held : ℕ → ℕ) (r : ℕ) (c : Command) → IsToldDown w n g held r c → rest (run_state w n g r) ≡ c ∷ drop (next_of n r + 1) (commands_of w.runs r)
+pub told_left : (w : Setting) (n : Reading) (g : Grips) (held : ℕ → ℕ) (r : ℕ) (c : Command) → IsToldDown w n g held r c → rest (run_state w n g r) ≡ c ∷ drop (next_of n r + 1) (commands_of w.runs r)
 told_left w n g held r c s = let is = next_is (commands_of w.runs r) (next_of n r) c s.next in rest_next (commands_of w.runs r) (n.run r).answers is.0 ∙ ap (λ x. x ∷ drop (next_of n r + 1) (commands_of w.runs r)) is.1
 
 pub told_touches : (w : Setting) (n : Reading) (g : Grips) (held : ℕ → ℕ) (r : ℕ) (c : Command) → IsToldDown w n g held r c → touches w.runs r c.device.0 ≡ true
 told_touches w n g held r c s = next_used (run_state w n g r) c (drop (next_of n r + 1) (commands_of w.runs r)) (told_left w n g held r c s)
 
 -- it is open there
-told_open : (w : Setting) (n : Reading) (g : Grips) (held : ℕ → ℕ) (r : ℕ) (c : Command) → IsToldDown w n g held r c → stage_is_open (usage w.kinds (run_state w n g r) c.device.0).stage ≡ true
+pub told_open : (w : Setting) (n : Reading) (g : Grips) (held : ℕ → ℕ) (r : ℕ) (c : Command) → IsToldDown w n g held r c → stage_is_open (usage w.kinds (run_state w n g r) c.device.0).stage ≡ true
 told_open w n g held r c s = λ i. stage_is_open (stage_of (live_uncommitted n r s.live i) (is_some (s.sound i)) ((ap (uses c.device.0) (told_left w n g held r c s) ∙ self c.device.0 (uses c.device.0 (drop (next_of n r + 1) (commands_of w.runs r)))) i))
   where
     self : (x : ℕ) (b : Bool) → ((x == x) || b) ≡ true

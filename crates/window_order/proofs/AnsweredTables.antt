@@ -150,13 +150,14 @@ some_view : (v : Option Bool) (u : Bool) → is_some (option_or v (Some u)) ≡ 
 some_view None u = refl
 some_view (Some x) u = refl
 
--- What has to be so before it: a command of the live run is out on the device, where it is not undone; no run before it that is not doomed has a command left there, and no run behind it has touched the device
+-- What has to be so before it: the live run has a command left on the device, counts or has its command out there, and is not undone there; no other run has a command out there, no run before it that is not doomed has one left there, and no run behind it has touched the device
 pub record TouchesNow (w : Setting) (n : Reading) (g : Grips) (d r : ℕ) (cut : CutAt r n.line) : Type 0 where
-  pub number : ℕ
-  pub out : g d ≡ Some (record { maker = r; purpose = Commands number })
   pub live : is_live n r ≡ true
   pub pending : pends w n r d ≡ true
+  pub acts : (not (is_doomed n r) || grips_command g r d) ≡ true
   pub kept : ((n.run r).on d).undid ≡ false
+  pub undoes_none : grips_undo g r d ≡ false
+  pub alone : (q : ℕ) → q ≢ r → grips_command g q d ≡ false
   pub front : (x : ℕ) → list_any (is_ran x) cut.front ≡ true → is_live n x ≡ true → is_doomed n x ≡ false → pends w n x d ≡ false
   pub back : list_any (of_run (λ q. did n q d)) cut.back ≡ false
 
@@ -210,16 +211,23 @@ accesses_around w n g passed d r cut read now =
 pub none_in_front : (w : Setting) (n : Reading) (g : Grips) (passed : ℕ → Bool) (d r : ℕ) (cut : CutAt r n.line) → has_access r (front_accesses (uses w n d) (commits_write n d) (access_read w n g passed d) false cut.front) ≡ false
 none_in_front w n g passed d r cut = front_lacks (uses w n d) (commits_write n d) (access_read w n g passed d) false r cut.front (λ x. refl) cut.before
 
--- a run that has touched the device was not passed there
-pub never_passed : (n : Reading) (g : Grips) (d r : ℕ) (passed : ℕ → Bool) → ((q : ℕ) → passed q ≡ true → may_be_passed n g q d ≡ true) → grips_command g r d ≡ true → passed r ≡ false
-never_passed n g d r passed may gripped = at_ (passed r) refl
+-- a run that counts, or has touched the device, was not passed there
+pub never_passed : (n : Reading) (g : Grips) (d r : ℕ) (passed : ℕ → Bool) → ((q : ℕ) → passed q ≡ true → may_be_passed n g q d ≡ true) → (not (is_doomed n r) || grips_command g r d) ≡ true → passed r ≡ false
+never_passed n g d r passed may acts = at_ (passed r) refl
   where
-    clash : (a b c : Bool) → c ≡ true → (a && not (b || c)) ≡ true → ⊥
+    clash : (a b c : Bool) → (not a || c) ≡ true → (a && not (b || c)) ≡ true → ⊥
     clash a b c h k = grind (arith, common_steps)
 
     at_ : (b : Bool) → passed r ≡ b → passed r ≡ false
-    at_ true e = absurd (clash (is_doomed n r) (did n r d) (grips_command g r d) gripped (may r e))
+    at_ true e = absurd (clash (is_doomed n r) (did n r d) (grips_command g r d) acts (may r e))
     at_ false e = e
+
+-- .. and is at work there
+pub works_now : (w : Setting) (n : Reading) (g : Grips) (d r : ℕ) (cut : CutAt r n.line) → TouchesNow w n g d r cut → ((not (is_doomed n r) && pends w n r d) || grips_command g r d) ≡ true
+works_now w n g d r cut now = at_ (is_doomed n r) (pends w n r d) (grips_command g r d) now.pending now.acts
+  where
+    at_ : (a b c : Bool) → b ≡ true → (not a || c) ≡ true → ((not a && b) || c) ≡ true
+    at_ a b c h k = grind (arith, common_steps)
 
 -- The answer
 
@@ -240,9 +248,9 @@ pub left_after : (w : Setting) (n : Reading) (r k : ℕ) (a : Answer) (e : ℕ) 
 left_after w n r k a e number = ap (touches_from w.runs r e) (length-append (n.run r).answers (a ∷ []) ∙ ap (λ x. x + 1) (sym number))
 
 -- on another device nothing changes
-pub answered_elsewhere : (w : Setting) (n : Reading) (g : Grips) (r k : ℕ) (a : Answer) (e : ℕ) (s : LineageState) → k ≡ next_of n r → next_of n r < length (commands_of w.runs r) → e ≢ (command_at w.runs r k).device.0 → LineageIsKept w n g e s
-    → LineageIsKept w (entry w n (Did (run_no r) k a)) (put g (command_at w.runs r k).device.0 None) e s
-answered_elsewhere w n g r k a e s number more ne kept = lineage_same w n m g h e s (record {
+pub answered_elsewhere : (w : Setting) (n : Reading) (g h : Grips) (r k : ℕ) (a : Answer) (e : ℕ) (s : LineageState) → k ≡ next_of n r → next_of n r < length (commands_of w.runs r) → e ≢ (command_at w.runs r k).device.0 → ((q : ℕ) → SameGrip g h e q) → LineageIsKept w n g e s
+    → LineageIsKept w (entry w n (Did (run_no r) k a)) h e s
+answered_elsewhere w n g h r k a e s number more ne home kept = lineage_same w n m g h e s (record {
   line = refl;
   has_one = put_says (uses_by w e) n.run r new (λ i. (is_some old.placed && is_none old.ended) && touches w.runs r e && not (touches w.runs r e && not (pend i) && not (is_some (there i).view)));
   covering = put_says (λ q. commits_by e) n.run r new (λ i. unwrap_or (option_map is_committing old.ended) false && is_some (there i).wrote);
@@ -262,17 +270,11 @@ answered_elsewhere w n g r k a e s number more ne kept = lineage_same w n m g h 
     m : Reading
     m = entry w n (Did (run_no r) k a)
 
-    h : Grips
-    h = put g (command_at w.runs r k).device.0 None
-
     old : OfRun
     old = n.run r
 
     new : OfRun
     new = answered_run w n r k a
-
-    home : (q : ℕ) → SameGrip g h e q
-    home q = grip_elsewhere g (command_at w.runs r k).device.0 e q None ne
 
     there : new.on e ≡ old.on e
     there = put_other old.on (command_at w.runs r k).device.0 _ e ne
@@ -283,12 +285,18 @@ answered_elsewhere w n g r k a e s number more ne kept = lineage_same w n m g h 
     pend : touches_from w.runs r e (length new.answers) ≡ touches_from w.runs r e (length old.answers)
     pend = left_after w n r k a e number ∙ sym (ap (list_any (is_on e)) (left_now w n r k number more) ∙ differ (command_at w.runs r k).device.0 e (list_any (is_on e) (drop (k + 1) (commands_of w.runs r))) ne)
 
+-- the grips after the answer: the run has none of the device, and the others have what they had
+pub record HomeFrom (g h : Grips) (d r : ℕ) : Type 0 where
+  pub command : grips_command h r d ≡ false
+  pub undo : grips_undo h r d ≡ false
+  pub others : (q : ℕ) → q ≢ r → SameGrip g h d q
+
 -- on its own device the access of the run changes
-pub answered_there : (w : Setting) (n : Reading) (g : Grips) (r k : ℕ) (a : Answer) (cut : CutAt r n.line) → IsRead w n → k ≡ next_of n r → TouchesNow w n g (command_at w.runs r k).device.0 r cut → (s : LineageState) → LineageIsKept w n g (command_at w.runs r k).device.0 s
-    → LineageIsKept w (entry w n (Did (run_no r) k a)) (put g (command_at w.runs r k).device.0 None) (command_at w.runs r k).device.0
+pub answered_there : (w : Setting) (n : Reading) (g h : Grips) (r k : ℕ) (a : Answer) (cut : CutAt r n.line) → IsRead w n → k ≡ next_of n r → TouchesNow w n g (command_at w.runs r k).device.0 r cut → HomeFrom g h (command_at w.runs r k).device.0 r → (s : LineageState) → LineageIsKept w n g (command_at w.runs r k).device.0 s
+    → LineageIsKept w (entry w n (Did (run_no r) k a)) h (command_at w.runs r k).device.0
     (noted r (not (did n r (command_at w.runs r k).device.0)) (view_when (is_told a)) (told_write w n r (command_at w.runs r k) a) (is_done_there w n r k) s)
-answered_there w n g r k a cut read number now s kept = subst (LineageIsKept w m h d) (sym (noted_is r first view wrote last s)) (lineage_changed w n m g h d r (answered_access first view wrote last) s (runs_distinct n read.once) same kept changed
-    (λ q ne. access_gripped w g h kept.passed d q (m.run q) (grip_home g d r q (Commands now.number) now.out ne) ∙ ap (access_by w g kept.passed d q) (put_other n.run r new q ne)))
+answered_there w n g h r k a cut read number now home s kept = subst (LineageIsKept w m h d) (sym (noted_is r first view wrote last s)) (lineage_changed w n m g h d r (answered_access first view wrote last) s (runs_distinct n read.once) same kept changed
+    (λ q ne. access_gripped w g h kept.passed d q (m.run q) (home.others q ne) ∙ ap (access_by w g kept.passed d q) (put_other n.run r new q ne)))
   where
     c : Command
     c = command_at w.runs r k
@@ -298,9 +306,6 @@ answered_there w n g r k a cut read number now s kept = subst (LineageIsKept w m
 
     m : Reading
     m = entry w n (Did (run_no r) k a)
-
-    h : Grips
-    h = put g d None
 
     old : OfRun
     old = n.run r
@@ -335,17 +340,11 @@ answered_there w n g r k a cut read number now s kept = subst (LineageIsKept w m
     uncommitted : is_committed n r ≡ false
     uncommitted = live_uncommitted n r now.live
 
-    gripped : grips_command g r d ≡ true
-    gripped = own_command g d r (Commands now.number) now.out
-
-    none_undone : grips_undo g r d ≡ false
-    none_undone = own_undo g d r (Commands now.number) now.out
-
-    home : h d ≡ None
-    home = put_same g d None
+    works : ((not (is_doomed n r) && pends w n r d) || grips_command g r d) ≡ true
+    works = works_now w n g d r cut now
 
     unpassed : kept.passed r ≡ false
-    unpassed = never_passed n g d r kept.passed kept.may_pass gripped
+    unpassed = never_passed n g d r kept.passed kept.may_pass now.acts
 
     seen : is_some (new.on d).view ≡ true
     seen = ap is_some viewed ∙ some_view (old.on d).view (is_told a)
@@ -356,17 +355,25 @@ answered_there w n g r k a cut read number now s kept = subst (LineageIsKept w m
     used : uses_by w d r new ≡ true
     used = on_it (is_some old.placed && is_none old.ended) (touches w.runs r d) (touches w.runs r d) (touches_from w.runs r d (length new.answers)) (is_some (new.on d).view) now.live (pending_touches d (commands_of w.runs r) (next_of n r) now.pending) seen
 
-    untouched : (x : Bool) → (x && not (did n r d || grips_command g r d)) ≡ false
-    untouched x = none x (did n r d) (grips_command g r d) gripped
+    untouched : may_be_passed n g r d ≡ false
+    untouched = none (is_doomed n r) (did n r d) (grips_command g r d) now.acts
       where
-        none : (x y z : Bool) → z ≡ true → (x && not (y || z)) ≡ false
+        none : (x y z : Bool) → (not x || z) ≡ true → (x && not (y || z)) ≡ false
         none x y z h = grind (arith, common_steps)
-
-    still_may : (x y z v : Bool) → v ≡ false → (x && not (y || z)) ≡ true → (x && not (y || v)) ≡ true
-    still_may x y z v h k = grind (arith, common_steps)
 
     clash : (x : Bool) → x ≡ true → x ≡ false → ⊥
     clash x h k = grind (arith, common_steps)
+
+    equal : (x y : ℕ) → (x == y) ≡ true → x ≡ y
+    equal x y h = grind (arith, common_steps)
+
+    differ : (x y : ℕ) → (x == y) ≡ false → x ≢ y
+    differ x y h = grind (arith, common_steps)
+
+    -- a run that may be passed is another, and still may
+    still_may : (q : ℕ) (b : Bool) → (q == r) ≡ b → may_be_passed n g q d ≡ true → may_be_passed n h q d ≡ true
+    still_may q true e may = absurd (clash (may_be_passed n g r d) (ap (λ x. may_be_passed n g x d) (sym (equal q r e)) ∙ may) untouched)
+    still_may q false e may = may_gripped g h d q (n.run q) (home.others q (differ q r e)).command ∙ may
 
     same : SameUses w n m g h d
     same = record {
@@ -376,21 +383,20 @@ answered_there w n g r k a cut read number now s kept = subst (LineageIsKept w m
       write = put_says (λ q. write_by d) n.run r new ((λ i. if uncommitted i then (new.on d).wrote else None) ∙ sym (λ i. if uncommitted i then (old.on d).wrote else None));
       unplaced = put_says (λ q o. is_none o.placed) n.run r new refl;
       up = refl;
-      may = put_all (λ q o. may_be_passed n g q d ≡ true → may_by h d q o ≡ true) n.run r new (λ q may. still_may (is_doomed n q) (did n q d) (grips_command g q d) (grips_command h q d) (home_command h d q home) may) (λ may. absurd (clash (may_be_passed n g r d) may (untouched (is_doomed n r))));
+      may = put_all (λ q o. may_be_passed n g q d ≡ true → may_by h d q o ≡ true) n.run r new (λ q may. still_may q (q == r) refl may) (λ may. absurd (clash (may_be_passed n g r d) may untouched));
     }
 
-    status_is : (x t y z : Bool) → (if (not x && t) || false then Acquired else Released) ≡ (if x || not t then Released else (if not y then Acquired else (if y then (if z || true then Acquired else Released) else Scheduled)))
-    status_is true t y z = refl
-    status_is false false y z = refl
-    status_is false true false z = refl
-    status_is false true true true = refl
-    status_is false true true false = refl
+    status_is : (x t y : Bool) → (if (not x && t) || false then Acquired else Released) ≡ (if x || not t then Released else (if not y then Acquired else (if y then Acquired else Scheduled)))
+    status_is true t y = refl
+    status_is false false y = refl
+    status_is false true false = refl
+    status_is false true true = refl
 
     status : (access_by w h kept.passed d r new).status ≡ (if last then Released else (if first then Acquired else (access_by w g kept.passed d r old).status))
     status =
-        (λ i. if unpassed i then Released else (if seen i then (if (not (is_doomed n r) && left_after w n r k a d number i) || home_command h d r home i then Acquired else Released) else Scheduled))
-        ∙ status_is (is_doomed n r) (touches_from w.runs r d (k + 1)) (did n r d) (not (is_doomed n r) && pends w n r d)
-        ∙ (λ i. if last then Released else (if first then Acquired else (if sym unpassed i then Released else (if did n r d then (if (not (is_doomed n r) && pends w n r d) || sym gripped i then Acquired else Released) else Scheduled))))
+        (λ i. if unpassed i then Released else (if seen i then (if (not (is_doomed n r) && left_after w n r k a d number i) || home.command i then Acquired else Released) else Scheduled))
+        ∙ status_is (is_doomed n r) (touches_from w.runs r d (k + 1)) (did n r d)
+        ∙ (λ i. if last then Released else (if first then Acquired else (if sym unpassed i then Released else (if did n r d then (if sym works i then Acquired else Released) else Scheduled))))
 
     views : (access_by w h kept.passed d r new).view ≡ (if first then Some view else (access_by w g kept.passed d r old).view)
     views =
@@ -403,9 +409,9 @@ answered_there w n g r k a cut read number now s kept = subst (LineageIsKept w m
 
     writes : (access_by w h kept.passed d r new).wrote ≡ option_or wrote (access_by w g kept.passed d r old).wrote
     writes =
-        (λ i. if undid i || home_undo h d r home i then None else (new.on d).wrote)
+        (λ i. if undid i || home.undo i then None else (new.on d).wrote)
         ∙ ap (λ x. x.wrote) here ∙ wrote_then (kind_at w.kinds d) c (is_some old.doomed) old.register a (old.on d)
-        ∙ (λ i. option_or wrote (if sym now.kept i || sym none_undone i then None else (old.on d).wrote))
+        ∙ (λ i. option_or wrote (if sym now.kept i || sym now.undoes_none i then None else (old.on d).wrote))
 
     changed : access_by w h kept.passed d r (m.run r) ≡ answered_access first view wrote last (access_by w g kept.passed d r old)
     changed = ap (access_by w h kept.passed d r) own ∙ (λ i. record { run = run_no r; status = status i; view = views i; wrote = writes i; from = planned_start old.planned d; to = planned_end old.planned d })

@@ -186,11 +186,11 @@ undid_own w n g h passed r d same = λ i. record {
     there = put_same (n.run r).on d (record ((n.run r).on d) { undid = true })
 
 -- an undo that was out comes home: it was undone as it went out
-pub undid_kept : (w : Setting) (n : Reading) (g : Grips) (d r v : ℕ) → g d ≡ Some (record { maker = r; purpose = Undoes v }) → (e : ℕ) (s : LineageState) → LineageIsKept w n g e s → LineageIsKept w (entry w n (Undid (run_no r) (device_no d) true)) (put g d None) e s
-undid_kept w n g d r v at e = two_places (λ x. (s : LineageState) → LineageIsKept w n g x s → LineageIsKept w m h x s) e d there (λ ne s kept. undid_elsewhere w n g h r d e true s (λ q. grip_elsewhere g d e q None ne) ne kept)
+pub undid_kept : (w : Setting) (n : Reading) (g : Grips) (d r v : ℕ) (drove : Bool) → g d ≡ Some (record { maker = r; purpose = Undoes v }) → (e : ℕ) (s : LineageState) → LineageIsKept w n g e s → LineageIsKept w (entry w n (Undid (run_no r) (device_no d) drove)) (put g d None) e s
+undid_kept w n g d r v drove at e = two_places (λ x. (s : LineageState) → LineageIsKept w n g x s → LineageIsKept w m h x s) e d there (λ ne s kept. undid_elsewhere w n g h r d e drove s (λ q. grip_elsewhere g d e q None ne) ne kept)
   where
     m : Reading
-    m = entry w n (Undid (run_no r) (device_no d) true)
+    m = entry w n (Undid (run_no r) (device_no d) drove)
 
     h : Grips
     h = put g d None
@@ -208,7 +208,7 @@ undid_kept w n g d r v at e = two_places (λ x. (s : LineageState) → LineageIs
     already passed = λ i. record (access_by w g passed d r (n.run r)) { wrote = if either ((n.run r).on d).undid (grips_undo g r d) (own_undo g d r (Undoes v) at) i then None else ((n.run r).on d).wrote }
 
     there : (s : LineageState) → LineageIsKept w n g d s → LineageIsKept w m h d s
-    there s kept = lineage_same w n m g h d s (undid_uses w n g h r d d true none_out) kept (λ q. two_places (λ x. access_by w h kept.passed d x (m.run x) ≡ access_by w g kept.passed d x (n.run x)) q r
+    there s kept = lineage_same w n m g h d s (undid_uses w n g h r d d drove none_out) kept (λ q. two_places (λ x. access_by w h kept.passed d x (m.run x) ≡ access_by w g kept.passed d x (n.run x)) q r
         (ap (access_by w h kept.passed d r) (put_same n.run r (undone_run n r d)) ∙ undid_own w n g h kept.passed r d (none_out r) ∙ already kept.passed)
         (λ ne. access_gripped w g h kept.passed d q (m.run q) (grip_home g d r q (Undoes v) at ne) ∙ ap (access_by w g kept.passed d q) (put_other n.run r (undone_run n r d) q ne)))
 

@@ -37,3 +37,5 @@ pub mod AnsweredDowns
 pub mod ProbedOrders
 pub mod OutDevices
 pub mod TurnedLines
+pub mod TurnedTables
+pub mod ToldTables

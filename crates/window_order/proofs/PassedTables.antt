@@ -69,7 +69,7 @@ may_pass_before w n g d r cut read now x there used none = λ i. doomed i && not
     other equal = lacks_none r cut.front cut.before x there (sym equal)
 
     unheld : grips_command g x d ≡ false
-    unheld = other_command g d r x (Commands now.number) now.out other
+    unheld = now.alone x other
 
 -- no access before it is acquired
 pub unacquired_before : (w : Setting) (n : Reading) (g : Grips) (d r : ℕ) (cut : CutAt r n.line) → TouchesNow w n g d r cut → (x : ℕ) → list_any (is_ran x) cut.front ≡ true → is_live n x ≡ true → is_acquired (status_by_answers w n g x d) ≡ false
@@ -79,7 +79,7 @@ unacquired_before w n g d r cut now x there live = at_ (did n x d) (is_doomed n 
     other equal = lacks_none r cut.front cut.before x there (sym equal)
 
     unheld : grips_command g x d ≡ false
-    unheld = other_command g d r x (Commands now.number) now.out other
+    unheld = now.alone x other
 
     at_ : (a b : Bool) → is_doomed n x ≡ b → is_acquired (if a then (if (not (is_doomed n x) && pends w n x d) || grips_command g x d then Acquired else Released) else Scheduled) ≡ false
     at_ true true e = λ i. is_acquired (if (not (e i) && pends w n x d) || unheld i then Acquired else Released)

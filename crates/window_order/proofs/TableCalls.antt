@@ -30,9 +30,9 @@ use Rattle.std.proofs.lemmas.List.Folds.{list_any-append}
 use Rattle.std.specs.List.{list_any}
 use Rattle.std.specs.Prelude.{Bool, List, Some, [], false, if◌then◌else◌, is_some, not, true, ℕ, ◌&&◌, ◌++◌, ◌==◌, ◌||◌, ◌∷◌, ◌≡◌}
 use Rattle.window_order.proofs.AccessLists.{along_none, front_accesses, front_none}
-use Rattle.window_order.proofs.AnsweredTables.{TouchesNow, accesses_around, never_passed, none_in_front, pending_touches}
+use Rattle.window_order.proofs.AnsweredTables.{TouchesNow, accesses_around, never_passed, none_in_front, pending_touches, works_now}
 use Rattle.window_order.proofs.Firsts.{below_home, device_order_at, unseen_behind}
-use Rattle.window_order.proofs.GripWords.{own_command}
+use Rattle.window_order.proofs.GripWords.{other_command, own_command, own_undo}
 use Rattle.window_order.proofs.PassedTables.{unacquired_before}
 use Rattle.window_order.proofs.PromisedClauses.{open_runs_last}
 use Rattle.window_order.proofs.PromisedWords.{command_held}
@@ -50,7 +50,7 @@ self x = grind (arith, common_steps)
 -- The order of the runs around a command that is out
 
 -- no run before one that has touched the device is open there
-closed_before : (w : Setting) (n : Reading) (g : Grips) (d : ℕ) (front back : List Item) (i : Item) → is_touched n g d i ≡ true → open_runs_are_last w n g d (front ++ i ∷ back) ≡ true → (x : ℕ) → list_any (is_ran x) front ≡ true → is_open w n x d ≡ false
+pub closed_before : (w : Setting) (n : Reading) (g : Grips) (d : ℕ) (front back : List Item) (i : Item) → is_touched n g d i ≡ true → open_runs_are_last w n g d (front ++ i ∷ back) ≡ true → (x : ℕ) → list_any (is_ran x) front ≡ true → is_open w n x d ≡ false
 closed_before w n g d [] back i touched last x there = absurd (cc)
 closed_before w n g d (Ran q ∷ front) back i touched last x there = at_ (closed_before w n g d front back i touched rest.1 x) (q.0 == x) refl there
   where
@@ -88,10 +88,11 @@ command_kept u command fits = at_ u.grip command fits
 -- while the run's command is out on the device, it is the run's turn there
 pub touches_now : (w : Setting) (n : Reading) (g : Grips) (held : ℕ → ℕ) (d r k : ℕ) (cut : CutAt r n.line) → IsRead w n → OrderIsKept w n g held → g d ≡ Some (record { maker = r; purpose = Commands k }) → TouchesNow w n g d r cut
 touches_now w n g held d r k cut read order at = record {
-  number = k;
-  out = at;
   live = live;
   pending = pending;
+  acts = either (not (is_doomed n r)) (grips_command g r d) gripped;
+  undoes_none = own_undo g d r (Commands k) at;
+  alone = λ q ne. other_command g d r q (Commands k) at ne;
   kept = command_kept (usage w.kinds (run_state w n g r) d) command (use_cut (walk_start (stand_at w.first d).up (stand_at w.first d).value) (entries w.kinds (window_of w n g held).states d cut.front) (usage w.kinds (run_state w n g r) d) (entries w.kinds (window_of w n g held).states d cut.back)
       (subst (WalkHolds (walk_start (stand_at w.first d).up (stand_at w.first d).value)) (device_order_at w n g held d r cut used) (order.window.devices d (below_home w d device)).walk)).fits.grip;
   front = λ x there lives sound. no_more (is_live n x) (is_doomed n x) (pends w n x d) lives sound (closed_before w n g d cut.front cut.back (Ran (run_no r)) touched along x there);
@@ -135,19 +136,10 @@ pub status_there : (w : Setting) (n : Reading) (g : Grips) (d r : ℕ) (cut : Cu
 status_there w n g d r cut s read now kept =
     ap (status_of r) (kept.accesses ∙ accesses_around w n g kept.passed d r cut read now)
     ∙ status_at r (front_accesses (uses w n d) (commits_write n d) (access_read w n g kept.passed d) false cut.front) (access_read w n g kept.passed d r) (accesses_along (uses w n d) (commits_write n d) (access_read w n g kept.passed d) cut.back) (none_in_front w n g kept.passed d r cut) (self r)
-    ∙ (λ i. Some (if never_passed n g d r kept.passed kept.may_pass gripped i then Released else (if did n r d then (if (not (is_doomed n r) && pends w n r d) || gripped i then Acquired else Released) else Scheduled)))
-    ∙ at_work (did n r d) (not (is_doomed n r) && pends w n r d)
-  where
-    gripped : grips_command g r d ≡ true
-    gripped = own_command g d r (Commands now.number) now.out
-
-    at_work : (a b : Bool) → Some (if a then (if b || true then Acquired else Released) else Scheduled) ≡ Some (if a then Acquired else Scheduled)
-    at_work true true = refl
-    at_work true false = refl
-    at_work false b = refl
+    ∙ (λ i. Some (if never_passed n g d r kept.passed kept.may_pass now.acts i then Released else (if did n r d then (if works_now w n g d r cut now i then Acquired else Released) else Scheduled)))
 
 -- a run that stands among these has no answer where none of them has
-found : (n : Reading) (d x : ℕ) (is : List Item) → list_any (of_run (λ q. did n q d)) is ≡ false → list_any (is_ran x) is ≡ true → did n x d ≡ false
+pub found : (n : Reading) (d x : ℕ) (is : List Item) → list_any (of_run (λ q. did n q d)) is ≡ false → list_any (is_ran x) is ≡ true → did n x d ≡ false
 found n d x [] none there = absurd (cc)
 found n d x (Ran q ∷ is) none there = at_ (found n d x is) (q.0 == x) refl none there
   where
@@ -172,7 +164,7 @@ waits_there w n g d r cut s read now none kept = record {
   scheduled = scheduled;
   none_acquired =
       ap some_acquired around ∙ list_any-append (λ (x : Access). is_acquired x.status) front (access_read w n g kept.passed d r ∷ back)
-      ∙ (λ i. none_front i || (is_acquired (if never_passed n g d r kept.passed kept.may_pass gripped i then Released else (if none i then (if (not (is_doomed n r) && pends w n r d) || grips_command g r d then Acquired else Released) else Scheduled)) || none_back i));
+      ∙ (λ i. none_front i || (is_acquired (if never_passed n g d r kept.passed kept.may_pass now.acts i then Released else (if none i then (if (not (is_doomed n r) && pends w n r d) || grips_command g r d then Acquired else Released) else Scheduled)) || none_back i));
 }
   where
     front : List Access
@@ -183,9 +175,6 @@ waits_there w n g d r cut s read now none kept = record {
 
     around : s.accesses ≡ front ++ access_read w n g kept.passed d r ∷ back
     around = kept.accesses ∙ accesses_around w n g kept.passed d r cut read now
-
-    gripped : grips_command g r d ≡ true
-    gripped = own_command g d r (Commands now.number) now.out
 
     scheduled : status_of r s.accesses ≡ Some Scheduled
     scheduled = status_there w n g d r cut s read now kept ∙ (λ i. Some (if none i then Acquired else Scheduled))

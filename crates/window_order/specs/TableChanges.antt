@@ -14,7 +14,7 @@ use Rattle.home_types.specs.declared.items.Item.{Item}
 use Rattle.home_types.specs.declared.numbers.RunNo.{RunNo}
 use Rattle.home_types.specs.declared.numbers.DeviceNo.{DeviceNo}
 use Rattle.lineage_table.specs.Accesses.{before, has_access, is_acquired, is_of, is_scheduled, some_acquired, some_scheduled, status_of}
-use Rattle.lineage_table.specs.Lineages.{LineageState, acquired, lineage_at, released, scheduled, undone, written}
+use Rattle.lineage_table.specs.Lineages.{LineageState, acquired, counted_up, lineage_at, released, scheduled, undone, written}
 use Rattle.lineage_table.specs.declared.accesses.Access.{Access}
 use Rattle.lineage_table.specs.declared.accesses.Status.TheVariants.{Released, Scheduled}
 use Rattle.lock_leasing.specs.Configurations.{Grips, grips_command}
@@ -143,3 +143,9 @@ doomed_change g r d s = if grips_command g r d then s else doomed_lineage r s
 -- the run is undone on the device
 abbrev pub undone_change : ℕ → ℕ → ℕ → LineageState → LineageState
 undone_change r d e s = if e == d then undone r s else s
+
+-- A device fails or comes back
+
+-- it is counted so
+abbrev pub turned_change : ℕ → Bool → ℕ → LineageState → LineageState
+turned_change d up e s = if e == d then counted_up up s else s
