@@ -7,8 +7,6 @@ mod run_devices;
 mod tables;
 #[cfg(test)]
 mod tests;
-#[cfg(test)]
-mod windows;
 
 pub use accesses::{Access, Status};
 pub use home_types::View;

@@ -1,23 +1,23 @@
 -- What the accesses to a device tell of an undo: whether the run has the effective write there, and the value that would stand if it had not written.
 use Rattle.command_rules.specs.Rosters.{run_no}
 use Rattle.history_book.specs.Lines.{without as line_without}
-use Rattle.history_book.specs.Readings.{Reading, has_written, is_committed, is_live}
-use Rattle.history_book.specs.Settings.{Setting, device_numbers, devices_of, is_device}
+use Rattle.history_book.specs.Readings.{Reading, is_committed, is_live}
+use Rattle.history_book.specs.Settings.{Setting, device_numbers, is_device}
 use Rattle.home_types.specs.HomeStates.{stand_at}
 use Rattle.home_types.specs.declared.items.Item.TheVariants.{Back, Failed, Ran}
 use Rattle.home_types.specs.declared.items.Item.{Item}
 use Rattle.home_types.specs.declared.numbers.RunNo.{RunNo}
 use Rattle.command_rules.specs.Rosters.{touches}
-use Rattle.lineage_table.specs.Accesses.{effective_writer, is_of, standing_value, without}
+use Rattle.lineage_table.specs.Accesses.{effective_writer, standing_value, without}
 use Rattle.lineage_table.specs.declared.accesses.Access.{Access}
 use Rattle.lock_leasing.proofs.AccessRuns.{EachTail, last_from}
 use Rattle.lock_leasing.proofs.Effects.{effect_is}
 use Rattle.lock_leasing.proofs.Facts.{Facts, committed_stays, live_uncommitted, written_touches}
-use Rattle.lock_leasing.proofs.Writers.{Stays, all_stay, live_writer, no_write, run_in, writer_is, write_by}
+use Rattle.lock_leasing.proofs.Writers.{Stays, all_stay, live_writer, no_write, writer_is, write_by}
 use Rattle.lock_leasing.specs.Configurations.{Grips}
 use Rattle.lock_leasing.specs.Order.{committed_value, covers}
 use Rattle.lock_leasing.specs.Tables.{EachTellsOfRun, TellsOfRun, runs_with_access, uses}
-use Rattle.lock_leasing.specs.Words.{Write, committed_write, effective_write, effective_writer_of, has_effect, is_undone, last_some, next_undo_of, value_without, write_of}
+use Rattle.lock_leasing.specs.Words.{Write, committed_write, effective_write, has_effect, is_undone, next_undo_of, value_without, write_of}
 use Rattle.std.proofs.Common.{ap, arith, cond, refl, subst, sym, ◌∙◌}
 use Rattle.std.proofs.lemmas.Grind.{common_steps}
 use Rattle.std.specs.List.{list_any, range_with_len}

@@ -1,10 +1,10 @@
-//! The first places of three runs: in the line, run 2 is live and has touched the oven, and run 1, behind it, is
-//! committed and has touched the lamp.
-ghost use Rattle.std.specs.Prelude.{◌≡◌, IfOk, IsTrue};
+//! The first place of a run: right behind a committed run that has touched its device.
+ghost use Rattle.std.specs.Prelude.{◌≡◌, ◌∷◌, [], IfOk, IsTrue};
+ghost use Rattle.command_rules.specs.Footprints.{FitsIndex};
 ghost use Rattle.command_rules.specs.Rosters.{is_run, runs_of};
 
 use crate::{Standing, first_place};
-use command_rules::{Roster, RosterRun};
+use command_rules::{IndexedRoster, Roster, RosterRun};
 use history_book::{Book, End, Entry, Kept};
 use home_types::{Command, DeviceNo, Item, Job, List, NoMemory, Routine, RunNo, Stand, World};
 use lineage_table::Table;
@@ -13,65 +13,59 @@ use std::alloc::Global;
 
 const LAMP: DeviceNo = DeviceNo(0);
 
-const OVEN: DeviceNo = DeviceNo(1);
-
-const FAN: DeviceNo = DeviceNo(2);
-
 const A: RunNo = RunNo(1);
 
 const B: RunNo = RunNo(2);
 
-fn run(alloc: Global, device: DeviceNo, follows: Option<RunNo>) -> Result<RosterRun, NoMemory> {
+fn run(alloc: Global, command: Command) -> Result<RosterRun, NoMemory>
+    ensures { IfOk result (λ run. run.routine.commands.items ≡ command ∷ []) }
+{
+    Ok(RosterRun {
+        routine: Routine {
+            commands: List::of(alloc, &[command])?,
+        },
+        follows: None,
+    })
+}
+
+/// Two runs that drive the lamp.
+fn roster(alloc: Global) -> Result<Roster, NoMemory>
+    ensures two { IfOk result (λ roster. IsTrue (is_run (runs_of roster) 2)) }
+    ensures fits { IfOk result (λ roster. FitsIndex (runs_of roster)) }
+{
     let command = Command {
-        device,
+        device: LAMP,
         job: Job::Set(1),
         must: true,
         ms: 100,
         takes: 100,
     };
-    Ok(RosterRun {
-        routine: Routine {
-            commands: List::of(alloc, &[command])?,
-        },
-        follows,
-    })
-}
-
-/// Run 1 drives the lamp and run 2 the oven. Run 3 drives the lamp too, run 4 the fan behind run 1, run 5 the fan.
-fn roster(alloc: Global) -> Result<Roster, NoMemory>
-    ensures three { IfOk result (λ roster. IsTrue (is_run (runs_of roster) 3)) }
-    ensures four { IfOk result (λ roster. IsTrue (is_run (runs_of roster) 4)) }
-    ensures five { IfOk result (λ roster. IsTrue (is_run (runs_of roster) 5)) }
-{
     let mut runs = List::new(alloc);
-    runs.push(run(alloc, LAMP, None)?)?;
-    runs.push(run(alloc, OVEN, None)?)?;
-    runs.push(run(alloc, LAMP, None)?)?;
-    runs.push(run(alloc, FAN, Some(A))?)?;
-    runs.push(run(alloc, FAN, None)?)?;
+    runs.push(run(alloc, command)?)?;
+    runs.push(run(alloc, command)?)?;
     Ok(Roster { runs })
 }
 
-/// Puts a run at the end of a line that it is not in yet, and marks what it has touched.
-fn put(line: &mut Line, run: RunNo, touched: DeviceNo) -> Result<(), NoMemory> {
-    if line.len() >= 64 || line.place_of(Item::Ran(run)).is_some() {
-        return Err(NoMemory);
-    }
+/// A line with run 1 alone, which has touched the lamp.
+fn line(alloc: Global) -> Result<Line, NoMemory> {
+    let mut line = Line::new(alloc);
     line.reserve(1)?;
-    line.insert(line.len(), Item::Ran(run));
-    if line.place_of(Item::Ran(run)).is_some() && touched.0 < 256 {
-        line.mark(run, touched);
+    line.insert(0, Item::Ran(A));
+    if line.place_of(Item::Ran(A)).is_some() {
+        line.mark(A, LAMP);
     }
-    Ok(())
+    Ok(line)
 }
 
-fn end(book: &mut Book, run: RunNo) -> Result<(), NoMemory> {
+/// The history's one entry: run 1 has committed.
+fn book(alloc: Global) -> Result<Book, NoMemory> {
+    let mut book = Book::new(alloc);
     book.reserve(1)?;
     book.push(Kept {
-        maker: run.0,
-        entry: Entry::Ended(run, End::Committed),
+        maker: A.0,
+        entry: Entry::Ended(A, End::Committed),
     });
-    Ok(())
+    Ok(book)
 }
 
 #[test]
@@ -80,23 +74,18 @@ fn floor_counts_ended_runs(rt: HostRuntime) -> Result<(), NoMemory> {
     let roster = roster(alloc)?;
     let stand = Stand { value: 0, up: true };
     let world = World {
-        devices: List::of(alloc, &[stand, stand, stand])?,
+        devices: List::of(alloc, &[stand])?,
     };
     let table = Table::open(alloc, &world, &roster)?;
-    let mut line = Line::new(alloc);
-    put(&mut line, B, OVEN)?;
-    put(&mut line, A, LAMP)?;
-    let mut book = Book::new(alloc);
-    end(&mut book, A)?;
-
+    let line = line(alloc)?;
+    let book = book(alloc)?;
+    let roster = IndexedRoster::open(alloc, roster)?;
     let s = Standing {
         table: &table,
         line: &line,
         book: &book,
         roster: &roster,
     };
-    assert!(rt; first_place(&s, RunNo(3)) == 2);
-    assert!(rt; first_place(&s, RunNo(4)) == 2);
-    assert!(rt; first_place(&s, RunNo(5)) == 0);
+    assert!(rt; first_place(&s, B) == 1);
     Ok(())
 }
