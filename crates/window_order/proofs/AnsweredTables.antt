@@ -24,7 +24,7 @@ use Rattle.lineage_table.specs.Accesses.{has_access, is_of, with_change}
 use Rattle.lineage_table.specs.Lineages.{LineageState}
 use Rattle.lineage_table.specs.declared.accesses.Access.{Access}
 use Rattle.lineage_table.specs.declared.accesses.Status.TheVariants.{Acquired, Released, Scheduled}
-use Rattle.lock_leasing.specs.Configurations.{Commands, Grips, grips_command, grips_undo}
+use Rattle.lock_leasing.specs.Configurations.{Grips, grips_command, grips_undo}
 use Rattle.lock_leasing.specs.Tables.{may_be_passed, uses, view_when}
 use Rattle.std.proofs.Common.{ap, arith, length-append, refl, subst, sym, ◌∙◌}
 use Rattle.std.proofs.lemmas.Grind.{common_steps}
@@ -33,7 +33,7 @@ use Rattle.std.specs.List.{list_any}
 use Rattle.std.specs.Option.{option_or}
 use Rattle.std.specs.Prelude.{Bool, List, None, Option, Some, [], drop, false, if◌then◌else◌, is_none, is_some, length, not, option_map, suc, true, unwrap_or, zero, ℕ, ◌&&◌, ◌++◌, ◌+◌, ◌<◌, ◌==◌, ◌||◌, ◌∷◌, ◌≡◌, ◌≢◌}
 use Rattle.window_order.proofs.AccessLists.{along_there, front_accesses, front_lacks}
-use Rattle.window_order.proofs.GripWords.{SameGrip, grip_elsewhere, grip_home, home_command, home_undo, own_command, own_undo}
+use Rattle.window_order.proofs.GripWords.{SameGrip}
 use Rattle.window_order.proofs.ReadFacts.{IsRead, runs_distinct}
 use Rattle.window_order.proofs.Runs.{live_uncommitted}
 use Rattle.window_order.proofs.TableFrames.{SameUses, access_by, access_gripped, commits_by, lineage_changed, lineage_same, may_by, may_gripped, put_says, uses_by, write_by}
@@ -175,7 +175,7 @@ pub uses_now : (w : Setting) (n : Reading) (d r : ℕ) → IsRead w n → is_liv
 uses_now w n d r read live pending = λ i. live i && pending_touches d (commands_of w.runs r) (next_of n r) pending i && not (never_passed_by w n r d read.shaped i)
 
 -- no run that stands there commits a write behind it
-none_commits : (w : Setting) (n : Reading) (d : ℕ) (is : List Item) → IsRead w n → list_any (of_run (λ q. did n q d)) is ≡ false → list_any (of_run (commits_write n d)) is ≡ false
+pub none_commits : (w : Setting) (n : Reading) (d : ℕ) (is : List Item) → IsRead w n → list_any (of_run (λ q. did n q d)) is ≡ false → list_any (of_run (commits_write n d)) is ≡ false
 none_commits w n d [] read none = refl
 none_commits w n d (Ran q ∷ is) read none = let parts = neither (did n q.0 d) (list_any (of_run (λ x. did n x d)) is) none in λ i. unwritten q.0 parts.0 i || none_commits w n d is read parts.1 i
   where

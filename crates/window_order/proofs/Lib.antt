@@ -39,3 +39,4 @@ pub mod OutDevices
 pub mod TurnedLines
 pub mod TurnedTables
 pub mod ToldTables
+pub mod LostReads

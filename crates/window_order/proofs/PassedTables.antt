@@ -13,7 +13,7 @@ use Rattle.lineage_table.specs.Lineages.{LineageState}
 use Rattle.lineage_table.specs.declared.accesses.Access.{Access}
 use Rattle.lineage_table.specs.declared.accesses.Status.TheVariants.{Acquired, Released, Scheduled}
 use Rattle.lineage_table.specs.declared.accesses.Status.{Status}
-use Rattle.lock_leasing.specs.Configurations.{Commands, Grips, grips_command}
+use Rattle.lock_leasing.specs.Configurations.{Grips, grips_command}
 use Rattle.lock_leasing.specs.Tables.{may_be_passed, status_by_answers, uses, view_when}
 use Rattle.lock_leasing.specs.Words.{is_undone}
 use Rattle.std.proofs.Common.{ap, arith, refl, subst, sym, ◌∙◌}
@@ -22,7 +22,6 @@ use Rattle.std.specs.List.{list_any}
 use Rattle.std.specs.Prelude.{Bool, List, None, Option, Some, [], false, if◌then◌else◌, map, not, option_map, true, ℕ, ◌&&◌, ◌++◌, ◌==◌, ◌||◌, ◌∷◌, ◌≡◌, ◌≢◌}
 use Rattle.window_order.proofs.AccessLists.{along_each, apart, front_accesses, front_each, lacks_none, lacks_ran}
 use Rattle.window_order.proofs.AnsweredTables.{TouchesNow, accesses_around, none_in_front}
-use Rattle.window_order.proofs.GripWords.{other_command}
 use Rattle.window_order.proofs.ReadFacts.{IsRead, runs_distinct}
 use Rattle.window_order.specs.TableChanges.{pass_access, passed, with_passed}
 use Rattle.window_order.specs.TableKept.{LineageIsKept, access_read, accesses_along, commits_write}

@@ -1,9 +1,8 @@
 -- A command is answered Down with no call, and the lineage table is kept: the access is acquired by a run that sees the device down, or stays as it was.
-use Rattle.command_rules.specs.Items.{is_ran, of_run}
-use Rattle.command_rules.specs.Rosters.{command_at, commands_of, run_no, touches}
+use Rattle.command_rules.specs.Items.{is_ran}
+use Rattle.command_rules.specs.Rosters.{command_at, commands_of, run_no}
 use Rattle.device_order.specs.LineWords.{CutAt}
 use Rattle.device_order.specs.RunStates.{uses as uses_device}
-use Rattle.device_order.specs.Usages.{is_command as holds_command}
 use Rattle.history_book.specs.Histories.{entry}
 use Rattle.history_book.specs.Lines.{before}
 use Rattle.history_book.specs.Readings.{Reading, did, is_doomed, is_live, is_open, next_of, pends, sees_down, view_of}
@@ -13,10 +12,10 @@ use Rattle.home_types.specs.declared.commands.Answer.TheVariants.{Down}
 use Rattle.home_types.specs.declared.commands.Command.{Command}
 use Rattle.home_types.specs.declared.items.Item.TheVariants.{Ran}
 use Rattle.lineage_table.specs.Lineages.{LineageState}
-use Rattle.lock_leasing.specs.Configurations.{Grip, Grips, Purpose, grips_command, grips_undo, is_command, is_out, is_undo}
-use Rattle.lock_leasing.specs.Order.{is_touched, open_runs_are_last}
-use Rattle.lock_leasing.specs.Words.{has_effect, holds_device, live_before, live_runs}
-use Rattle.std.proofs.Common.{ap, arith, refl, subst, sym, ◌∙◌}
+use Rattle.lock_leasing.specs.Configurations.{Grip, Grips, grips_command, is_command, is_out, is_undo}
+use Rattle.lock_leasing.specs.Order.{open_runs_are_last}
+use Rattle.lock_leasing.specs.Words.{holds_device, live_runs}
+use Rattle.std.proofs.Common.{ap, arith, refl, sym, ◌∙◌}
 use Rattle.std.proofs.lemmas.Grind.{common_steps}
 use Rattle.std.proofs.lemmas.List.Folds.{list_any-append}
 use Rattle.std.specs.List.{list_any}
@@ -26,7 +25,6 @@ use Rattle.window_order.proofs.AnsweredTables.{TouchesNow}
 use Rattle.window_order.proofs.Firsts.{unseen_behind}
 use Rattle.window_order.proofs.Goes.{before_cut, found_live, open_behind}
 use Rattle.window_order.proofs.GripWords.{home_command}
-use Rattle.window_order.proofs.Grips.{HoldsNone}
 use Rattle.window_order.proofs.PromisedClauses.{open_runs_last}
 use Rattle.window_order.proofs.PromisedWords.{command_held}
 use Rattle.window_order.proofs.ReadFacts.{IsRead, rest_drop}

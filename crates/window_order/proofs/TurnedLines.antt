@@ -1,6 +1,6 @@
 -- The items of a line with what each has touched, where a device fails or comes back, is answered for with no call, or is probed.
 use Rattle.command_rules.specs.Items.{is_ran, of_run}
-use Rattle.command_rules.specs.Rosters.{command_at, device_no, run_no}
+use Rattle.command_rules.specs.Rosters.{command_at, run_no}
 use Rattle.history_book.proofs.Snoc.{put_keeps, put_other, put_same}
 use Rattle.history_book.specs.Histories.{answered, entry}
 use Rattle.history_book.specs.Lines.{put_before}
@@ -18,7 +18,6 @@ use Rattle.home_types.specs.declared.numbers.DeviceNo.{DeviceNo}
 use Rattle.lock_leasing.specs.Configurations.{Commands, Grip, Grips, Probes, grips_command, is_command}
 use Rattle.lock_leasing.specs.Places.{up_to_first}
 use Rattle.lock_leasing.specs.Standings.{item_has_touched}
-use Rattle.lock_leasing.specs.Words.{has_touched}
 use Rattle.serial_line.proofs.Ties.{line_inserted, line_retold, line_touching}
 use Rattle.serial_line.specs.Marks.{Mark, touching, untouched, with_item}
 use Rattle.serial_line.specs.Ties.{IsLineOf, TouchesAs}

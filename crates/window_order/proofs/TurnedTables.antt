@@ -1,6 +1,6 @@
 -- A device fails or comes back, and the lineage table is kept: it is counted so, and the accesses stay.
 use Rattle.command_rules.specs.Items.{of_run}
-use Rattle.command_rules.specs.Rosters.{command_at, device_no, run_no}
+use Rattle.command_rules.specs.Rosters.{device_no, run_no}
 use Rattle.history_book.proofs.Lines.{any_put_before}
 use Rattle.history_book.specs.Histories.{entry}
 use Rattle.history_book.specs.Lines.{put_before}
@@ -23,7 +23,6 @@ use Rattle.std.specs.Prelude.{Bool, List, None, Option, Some, [], false, fold, i
 use Rattle.window_order.proofs.EventPlaces.{awaits_there}
 use Rattle.window_order.proofs.GrippedTables.{undid_kept}
 use Rattle.window_order.proofs.ReadFacts.{IsRead}
-use Rattle.window_order.proofs.Steps.{out_is}
 use Rattle.window_order.proofs.TableSteps.{answered_each, changed_table}
 use Rattle.window_order.specs.OrderKept.{OrderIsKept}
 use Rattle.window_order.specs.TableChanges.{ChangesEach, answered_change, turned_change}

@@ -3,3 +3,4 @@ pub mod OrderKept
 pub mod TableKept
 pub mod TableChanges
 pub mod MarksKept
+pub mod LostRuns

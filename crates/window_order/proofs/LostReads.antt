@@ -1,0 +1,141 @@
+-- The run that is lost where a device fails that is out for no command is the one whose access is acquired with the device seen up.
+use Rattle.command_rules.specs.Items.{is_ran, of_run}
+use Rattle.command_rules.specs.Rosters.{commands_of, run_no, touches}
+use Rattle.device_order.specs.LineChanges.{Lacks}
+use Rattle.device_order.specs.LineEntries.{stage_of, usage}
+use Rattle.device_order.specs.LineWords.{CutAt, RunsAreDistinct}
+use Rattle.device_order.specs.RunStates.{uses as uses_device}
+use Rattle.device_order.specs.Usages.{is_open as stage_is_open, is_up}
+use Rattle.history_book.proofs.Shapes.{did_touches}
+use Rattle.history_book.specs.Readings.{Reading, is_doomed, is_live, is_open, pends, sees_up, view_of}
+use Rattle.history_book.specs.Settings.{Setting, is_device, is_weak}
+use Rattle.home_types.specs.declared.commands.View.TheVariants.{Down}
+use Rattle.home_types.specs.declared.items.Item.TheVariants.{Back, Failed, Ran}
+use Rattle.home_types.specs.declared.items.Item.{Item}
+use Rattle.lineage_table.specs.Accesses.{is_acquired}
+use Rattle.lineage_table.specs.Lineages.{LineageState}
+use Rattle.lineage_table.specs.declared.accesses.Access.{Access}
+use Rattle.lineage_table.specs.declared.accesses.Status.TheVariants.{Acquired, Released, Scheduled}
+use Rattle.lock_leasing.specs.Configurations.{Grips, grips_command}
+use Rattle.lock_leasing.specs.Tables.{may_be_passed, status_by_answers, uses, view_when}
+use Rattle.lock_leasing.specs.Waits.{lost_by}
+use Rattle.lock_leasing.specs.Words.{live_runs}
+use Rattle.std.proofs.Common.{ap, arith, cond, refl, subst, sym, ◌∙◌}
+use Rattle.std.proofs.lemmas.Grind.{common_steps}
+use Rattle.std.specs.List.{cons_option, list_any}
+use Rattle.std.specs.Prelude.{Bool, List, None, Option, Some, [], false, find, if◌then◌else◌, is_some, not, option_map, true, unwrap_or, ℕ, ◌&&◌, ◌++◌, ◌==◌, ◌||◌, ◌∷◌, ◌≡◌}
+use Rattle.window_order.proofs.AccessLists.{distinct_parts}
+use Rattle.window_order.proofs.AnsweredTables.{none_commits, uses_now}
+use Rattle.window_order.proofs.Goes.{open_behind}
+use Rattle.window_order.proofs.ReadFacts.{IsRead, rest_drop, runs_distinct}
+use Rattle.window_order.proofs.Runs.{live_uncommitted}
+use Rattle.window_order.specs.LostRuns.{is_lost, lost_on}
+use Rattle.window_order.specs.OrderKept.{OrderIsKept}
+use Rattle.window_order.specs.ReadWindows.{run_state}
+use Rattle.window_order.specs.TableKept.{LineageIsKept, access_read, accesses_along, commits_write}
+
+-- the run is live and not doomed, sees the device up, and has more to do there
+abbrev spans_there : Setting → Reading → ℕ → ℕ → Bool
+spans_there w n d r = is_open w n r d && sees_up n r d
+
+-- of a run that uses the device its access says so too
+lost_same : (w : Setting) (n : Reading) (g : Grips) (passed : ℕ → Bool) (d r : ℕ) → ((q : ℕ) → passed q ≡ true → may_be_passed n g q d ≡ true) → grips_command g r d ≡ false → uses w n d r ≡ true → is_lost (access_read w n g passed d r) ≡ spans_there w n d r
+lost_same w n g passed d r may free used = by_passed (passed r) refl
+  where
+    lives : (l t x : Bool) → (l && t && x) ≡ true → l ≡ true
+    lives l t x h = grind (arith, common_steps)
+
+    doomed_off : (l x p u y : Bool) → (x && y) ≡ true → false ≡ ((l && not x && p) && u)
+    doomed_off l x p u y h = grind (arith, common_steps)
+
+    counted : (l x p u c : Bool) → l ≡ true → c ≡ false → (((not x && p) || c) && u) ≡ ((l && not x && p) && u)
+    counted l x p u c h k = grind (arith, common_steps)
+
+    by_view : (v : Option Bool) (k : Bool) → (is_acquired (if is_some v then (if k then Acquired else Released) else Scheduled) && is_up (option_map view_when v)) ≡ (k && unwrap_or v false)
+    by_view None true = refl
+    by_view None false = refl
+    by_view (Some true) true = refl
+    by_view (Some true) false = refl
+    by_view (Some false) true = refl
+    by_view (Some false) false = refl
+
+    by_passed : (b : Bool) → passed r ≡ b → (is_acquired (if b then Released else status_by_answers w n g r d) && is_up (if b then Some Down else option_map view_when (view_of n r d))) ≡ spans_there w n d r
+    by_passed true e = doomed_off (is_live n r) (is_doomed n r) (pends w n r d) (sees_up n r d) _ (may r e)
+    by_passed false e =
+        by_view (view_of n r d) ((not (is_doomed n r) && pends w n r d) || grips_command g r d)
+        ∙ counted (is_live n r) (is_doomed n r) (pends w n r d) (sees_up n r d) (grips_command g r d) (lives (is_live n r) (touches w.runs r d) _ used) free
+
+-- along a part of the line
+lost_along : (w : Setting) (n : Reading) (g : Grips) (passed : ℕ → Bool) (d : ℕ) (is : List Item) → IsRead w n → ((q : ℕ) → passed q ≡ true → may_be_passed n g q d ≡ true) → ((q : ℕ) → grips_command g q d ≡ false)
+    → ((front back : List Item) (r : ℕ) → is ≡ front ++ Ran (run_no r) ∷ back → spans_there w n d r ≡ true → list_any (of_run (commits_write n d)) back ≡ false)
+    → find (spans_there w n d) (live_runs n is) ≡ option_map (λ (x : Access). x.run.0) (find is_lost (accesses_along (uses w n d) (commits_write n d) (access_read w n g passed d) is))
+lost_along w n g passed d [] read may free clear = refl
+lost_along w n g passed d (Failed e k ∷ is) read may free clear = lost_along w n g passed d is read may free (λ front back r at h. clear (Failed e k ∷ front) back r (ap (λ l. Failed e k ∷ l) at) h)
+lost_along w n g passed d (Back e k ∷ is) read may free clear = lost_along w n g passed d is read may free (λ front back r at h. clear (Back e k ∷ front) back r (ap (λ l. Back e k ∷ l) at) h)
+lost_along w n g passed d (Ran q ∷ is) read may free clear = by_spans (lost_along w n g passed d is read may free (λ front back y at h. clear (Ran q ∷ front) back y (ap (λ l. Ran q ∷ l) at) h)) (spans_there w n d q.0) refl
+  where
+    r : ℕ
+    r = q.0
+
+    rest_ : List Access
+    rest_ = accesses_along (uses w n d) (commits_write n d) (access_read w n g passed d) is
+
+    lives : (l x p u : Bool) → ((l && not x && p) && u) ≡ true → l ≡ true
+    lives l x p u h = grind (arith, common_steps)
+
+    left : (l x p u : Bool) → ((l && not x && p) && u) ≡ true → p ≡ true
+    left l x p u h = grind (arith, common_steps)
+
+    live_is : (b : Bool) → is_live n r ≡ b → spans_there w n d r ≡ false → find (spans_there w n d) (cons_option (if b then Some r else None) (live_runs n is)) ≡ find (spans_there w n d) (live_runs n is)
+    live_is true e h = ap (λ b. cond b (Some r) (find (spans_there w n d) (live_runs n is))) h
+    live_is false e h = refl
+
+    none_here : (b c : Bool) → uses w n d r ≡ b → spans_there w n d r ≡ false → find is_lost rest_ ≡ find is_lost (if b && not c then (access_read w n g passed d r ∷ rest_) else rest_)
+    none_here true false used h = sym (ap (λ b. cond b (Some (access_read w n g passed d r)) (find is_lost rest_)) (lost_same w n g passed d r may (free r) used ∙ h))
+    none_here true true used h = refl
+    none_here false c used h = refl
+
+    by_spans : find (spans_there w n d) (live_runs n is) ≡ option_map (λ (x : Access). x.run.0) (find is_lost rest_) → (b : Bool) → spans_there w n d r ≡ b
+        → find (spans_there w n d) (cons_option (if is_live n r then Some r else None) (live_runs n is)) ≡ option_map (λ (x : Access). x.run.0) (find is_lost (if uses w n d r && not (list_any (of_run (commits_write n d)) is) then (access_read w n g passed d r ∷ rest_) else rest_))
+    by_spans later false h = live_is (is_live n r) refl h ∙ later ∙ ap (option_map (λ (x : Access). x.run.0)) (none_here (uses w n d r) (list_any (of_run (commits_write n d)) is) refl h)
+    by_spans later true h =
+        let live : is_live n r ≡ true = lives (is_live n r) (is_doomed n r) (pends w n r d) (sees_up n r d) h in
+        let used : uses w n d r ≡ true = uses_now w n d r read live (left (is_live n r) (is_doomed n r) (pends w n r d) (sees_up n r d) h) in
+        let mine : is_lost (access_read w n g passed d r) ≡ true = lost_same w n g passed d r may (free r) used ∙ h in
+        (λ i. find (spans_there w n d) (cons_option (if live i then Some r else None) (live_runs n is))) ∙ ap (λ b. cond b (Some r) (find (spans_there w n d) (live_runs n is))) h
+        ∙ sym ((λ i. option_map (λ (x : Access). x.run.0) (find is_lost (if used i && not (clear [] is r refl h i) then (access_read w n g passed d r ∷ rest_) else rest_)))
+        ∙ ap (λ b. option_map (λ (x : Access). x.run.0) (cond b (Some (access_read w n g passed d r)) (find is_lost rest_))) mine)
+
+-- behind a run that is open there no committed run has written
+none_wrote : (w : Setting) (n : Reading) (g : Grips) (held : ℕ → ℕ) (d r : ℕ) (front back : List Item) → IsRead w n → OrderIsKept w n g held → is_device w d ≡ true → n.line ≡ front ++ Ran (run_no r) ∷ back → spans_there w n d r ≡ true → list_any (of_run (commits_write n d)) back ≡ false
+unfolding RunsAreDistinct
+none_wrote w n g held d r front back read kept device at spans = none_commits w n d back read (open_behind w n g held d r cut read kept device (did_touches w n r d read.shaped (seen (view_of n r d) (parts.2))) (stage parts.0 parts.1))
+  where
+    of : (l x p u : Bool) → ((l && not x && p) && u) ≡ true → (l ≡ true) × ((x ≡ false) × (p ≡ true)) × (u ≡ true)
+    of l x p u h = (grind (arith, common_steps), (grind (arith, common_steps), grind (arith, common_steps)), grind (arith, common_steps))
+
+    parts : (is_live n r ≡ true) × ((is_doomed n r ≡ false) × (pends w n r d ≡ true)) × (sees_up n r d ≡ true)
+    parts = of (is_live n r) (is_doomed n r) (pends w n r d) (sees_up n r d) spans
+
+    seen : (v : Option Bool) → unwrap_or v false ≡ true → is_some v ≡ true
+    seen None h = absurd (cc)
+    seen (Some b) h = refl
+
+    self : (x : ℕ) (b : Bool) → ((x == x) || b) ≡ true
+    self x b = grind (arith, common_steps)
+
+    distinct : RunsAreDistinct (Ran (run_no r) ∷ back) × ((x : ℕ) → list_any (is_ran x) (Ran (run_no r) ∷ back) ≡ true → Lacks x front)
+    distinct = distinct_parts front (Ran (run_no r) ∷ back) (subst RunsAreDistinct at (runs_distinct n read.once))
+
+    cut : CutAt r n.line
+    cut = record { front = front; back = back; at = at; before = distinct.1 r (self r (list_any (is_ran r) back)); behind = distinct.0.0 }
+
+    stage : is_live n r ≡ true → (is_doomed n r ≡ false) × (pends w n r d ≡ true) → stage_is_open (usage w.kinds (run_state w n g r) d).stage ≡ true
+    stage live counts = λ i. stage_is_open (stage_of (live_uncommitted n r live i) (counts.0 i) ((ap (uses_device d) (rest_drop (commands_of w.runs r) (n.run r).answers) ∙ counts.1) i))
+
+-- the rule's lost run, read off the lineage of a device that is out for no command
+pub lost_read : (w : Setting) (n : Reading) (g : Grips) (held : ℕ → ℕ) (d : ℕ) (s : LineageState) → IsRead w n → is_weak w.mode ≡ false → is_device w d ≡ true → ((q : ℕ) → grips_command g q d ≡ false) → OrderIsKept w n g held → LineageIsKept w n g d s → lost_by w n d ≡ lost_on s
+lost_read w n g held d s read strong device free kept own =
+    ap (λ b. if b then None else find (spans_there w n d) (live_runs n n.line)) strong
+    ∙ lost_along w n g own.passed d n.line read own.may_pass free (λ front back r at h. none_wrote w n g held d r front back read kept device at h)
+    ∙ ap (λ xs. option_map (λ (x : Access). x.run.0) (find is_lost xs)) (sym own.accesses)
