@@ -1,4 +1,5 @@
 pub mod ClosedSpans
+pub mod NumberedEvents
 pub mod ReadFacts
 pub mod PromisedWords
 pub mod StandingValues

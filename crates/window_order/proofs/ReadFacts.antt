@@ -35,6 +35,7 @@ use Rattle.std.proofs.lemmas.List.Sums.{sum_by-cons}
 use Rattle.std.specs.Option.{option_or}
 use Rattle.std.specs.Prelude.{Bool, IsTrue, List, None, Option, Some, [], count_by, drop, false, fold, if◌then◌else◌, is_some, length, option_map, slice_index_or, true, ℕ, ◌++◌, ◌+◌, ◌<◌, ◌==◌, ◌||◌, ◌≡◌, ◌≤◌, ◌∷◌}
 use Rattle.window_order.proofs.ClosedSpans.{SpansClose, closed_spans}
+use Rattle.window_order.proofs.NumberedEvents.{EventsAreNumbered, events_numbered}
 
 -- how a run sees a device that is up, or is not
 abbrev pub view_from : Bool → View
@@ -63,6 +64,7 @@ pub record IsRead (w : Setting) (n : Reading) : Type 0 where
   pub logged : Logged w n
   pub summarized : Summarized w n
   pub closed : SpansClose w n
+  pub numbered : EventsAreNumbered n
 
 -- The answers of a run
 
@@ -179,7 +181,7 @@ pub summarized : (w : Setting) (h : List Entry) → IsWellFormed w h → Summari
 summarized w h ok = summed_from w (nothing_read w) h (none_summed w) ok
 
 pub read_facts : (w : Setting) (h : List Entry) → IsWellFormed w h → IsRead w (reading w h)
-read_facts w h ok = record { shaped = shapes w h ok; standing = standing w h ok; once = stands_once w h ok; logged = logged w h ok; summarized = summarized w h ok; closed = closed_spans w h ok }
+read_facts w h ok = record { shaped = shapes w h ok; standing = standing w h ok; once = stands_once w h ok; logged = logged w h ok; summarized = summarized w h ok; closed = closed_spans w h ok; numbered = events_numbered w h }
 
 -- Each run stands in the line once
 

@@ -19,15 +19,18 @@ use Rattle.lock_leasing.specs.Configurations.{Commands, Grip, Grips, Probes, gri
 use Rattle.lock_leasing.specs.Places.{up_to_first}
 use Rattle.lock_leasing.specs.Standings.{item_has_touched}
 use Rattle.serial_line.proofs.Ties.{line_inserted, line_retold, line_touching}
-use Rattle.serial_line.specs.Marks.{Mark, touching, untouched, with_item}
+use Rattle.serial_line.specs.Marks.{Mark, is_item, stands, touching, untouched, with_item}
 use Rattle.serial_line.specs.Ties.{IsLineOf, TouchesAs}
 use Rattle.std.proofs.Common.{ap, arith, refl, subst, sym, ◌∙◌}
 use Rattle.std.proofs.lemmas.Grind.{common_steps}
+use Rattle.std.proofs.lemmas.List.{length-map}
 use Rattle.std.specs.FinSet as set
+use Rattle.std.specs.List.{list_any}
 use Rattle.std.specs.Option.{option_or}
 use Rattle.std.specs.Ordering.{nat_cmp}
-use Rattle.std.specs.Prelude.{Bool, List, None, Option, Some, [], drop, false, if◌then◌else◌, is_some, option_map, suc, take, true, unwrap_or, ℕ, ◌&&◌, ◌++◌, ◌+◌, ◌==◌, ◌||◌, ◌∷◌, ◌≡◌, ◌≢◌}
+use Rattle.std.specs.Prelude.{Bool, List, None, Option, Some, [], drop, false, if◌then◌else◌, is_some, length, option_map, suc, take, true, unwrap_or, ℕ, ◌&&◌, ◌++◌, ◌+◌, ◌==◌, ◌||◌, ◌∷◌, ◌≡◌, ◌≢◌, ◌≤◌}
 use Rattle.window_order.proofs.EventPlaces.{awaits_there}
+use Rattle.window_order.proofs.ReadFacts.{IsRead}
 use Rattle.window_order.proofs.Steps.{IsOut}
 use Rattle.window_order.proofs.TouchedLines.{marks_answered, marks_same}
 use Rattle.window_order.specs.MarksKept.{MarksAreKept}
@@ -89,6 +92,27 @@ marks_rose w n g d marks kept =
 pub marks_died : (w : Setting) (n : Reading) (g : Grips) (d r k : ℕ) (e : DeviceNo) (a : Answer) (marks : List Mark) → IsOut w n d r k → g d ≡ Some (record { maker = r; purpose = Commands k }) → MarksAreKept n g marks
     → MarksAreKept (entry w (entry w n (Fell e)) (Did (run_no r) k a)) (put g d None) (with_item (event_place_of w n e.0) (Failed e (n.fell e.0 + 1)) marks)
 marks_died w n g d r k e a marks out at kept = marks_answered w (entry w n (Fell e)) g d r k a (with_item (event_place_of w n e.0) (Failed e (n.fell e.0 + 1)) marks) (record { live = out.live; number = out.number; more = out.more; device = out.device }) at (marks_fell w n g e marks kept)
+
+-- What the line asks for, where an event is put in
+
+-- its place is one of the line, or the end, ..
+pub event_within : (w : Setting) (n : Reading) (g : Grips) (d : ℕ) (marks : List Mark) → MarksAreKept n g marks → event_place_of w n d ≤ length marks
+event_within w n g d marks kept = subst (λ k. event_place_of w n d ≤ k) (ap length (sym kept.items) ∙ length-map marks (λ m. m.item)) (first_within (of_run (awaits_there w n d)) n.line)
+  where
+    first_within : (t : Item → Bool) (line : List Item) → up_to_first t line ≤ length line
+    first_within t [] = omega arith
+    first_within t (i ∷ is) = by_test (t i) (first_within t is)
+      where
+        by_test : (b : Bool) → up_to_first t is ≤ length is → (if b then 0 else up_to_first t is + 1) ≤ length (i ∷ is)
+        by_test true h = omega arith
+        by_test false h = omega (arith, h)
+
+-- .. and the device's next failure, or restart, does not stand there yet
+pub failure_absent : (w : Setting) (n : Reading) (g : Grips) (d : DeviceNo) (marks : List Mark) → IsRead w n → MarksAreKept n g marks → stands (Failed d (n.fell d.0 + 1)) marks ≡ false
+failure_absent w n g d marks read kept = ap (list_any (is_item (Failed d (n.fell d.0 + 1)))) kept.items ∙ read.numbered.failures d.0 (n.fell d.0 + 1) (omega arith)
+
+pub restart_absent : (w : Setting) (n : Reading) (g : Grips) (d : DeviceNo) (marks : List Mark) → IsRead w n → MarksAreKept n g marks → stands (Back d (n.rose d.0 + 1)) marks ≡ false
+restart_absent w n g d marks read kept = ap (list_any (is_item (Back d (n.rose d.0 + 1)))) kept.items ∙ read.numbered.restarts d.0 (n.rose d.0 + 1) (omega arith)
 
 -- An answer with no call
 

@@ -1,0 +1,82 @@
+-- The failures of a device in the line have numbers up to how often it failed, and its restarts up to how often it came back.
+use Rattle.command_rules.specs.Items.{is_ran, of_run}
+use Rattle.history_book.proofs.Lines.{any_insert, any_put_before}
+use Rattle.history_book.proofs.Splits.{split_any}
+use Rattle.history_book.specs.Histories.{entry, reading}
+use Rattle.history_book.specs.Lines.{without}
+use Rattle.history_book.specs.Plans.{split_of}
+use Rattle.history_book.specs.Readings.{Reading, nothing_read, put}
+use Rattle.history_book.specs.Settings.{Setting}
+use Rattle.history_book.specs.declared.entries.End.TheVariants.{Aborted, Committed}
+use Rattle.history_book.specs.declared.entries.Entry.TheVariants.{Arrived, Did, Doomed, Ended, Fell, Placed, Rose, Undid}
+use Rattle.history_book.specs.declared.entries.Entry.{Entry}
+use Rattle.home_types.specs.declared.items.Item.TheVariants.{Back, Failed, Ran}
+use Rattle.home_types.specs.declared.items.Item.{Item}
+use Rattle.serial_line.specs.Marks.{is_failure, is_restart}
+use Rattle.std.proofs.Common.{ap, arith, cond, refl, subst, sym, ◌∙◌}
+use Rattle.std.proofs.lemmas.Grind.{common_steps}
+use Rattle.std.specs.List.{list_any}
+use Rattle.std.specs.Prelude.{Bool, List, [], false, filter, fold, if◌then◌else◌, not, true, ℕ, ◌&&◌, ◌++◌, ◌+◌, ◌<◌, ◌==◌, ◌||◌, ◌∷◌, ◌≡◌}
+
+-- no event of the device stands in the line with a greater number
+pub record EventsAreNumbered (n : Reading) : Type 0 where
+  pub failures : (d k : ℕ) → n.fell d < k → list_any (is_failure d k) n.line ≡ false
+  pub restarts : (d k : ℕ) → n.rose d < k → list_any (is_restart d k) n.line ≡ false
+
+any_filtered : (p q : Item → Bool) (is : List Item) → list_any p is ≡ false → list_any p (filter q is) ≡ false
+any_filtered p q [] none = refl
+any_filtered p q (i ∷ is) none = at_ (q i) (any_filtered p q is (parts (p i) (list_any p is) none).1)
+  where
+    parts : (a b : Bool) → (a || b) ≡ false → (a ≡ false) × (b ≡ false)
+    parts a b h = (grind (arith, common_steps), grind (arith, common_steps))
+
+    at_ : (b : Bool) → list_any p (filter q is) ≡ false → list_any p (cond b (i ∷ filter q is) (filter q is)) ≡ false
+    at_ true rest = λ j. (parts (p i) (list_any p is) none).0 j || rest j
+    at_ false rest = rest
+
+-- a number above the raised one is above the old one, and is not the new one
+above : (f : ℕ → ℕ) (d e k : ℕ) → put f d (f d + 1) e < k → (f e < k) × (((d == e) && (f d + 1 == k)) ≡ false)
+above f d e k more = at_ (e == d) refl more
+  where
+    equal : (x y : ℕ) → (x == y) ≡ true → x ≡ y
+    equal x y h = grind (arith, common_steps)
+
+    differ : (x y : ℕ) (b : Bool) → (x == y) ≡ false → ((y == x) && b) ≡ false
+    differ x y b h = grind (arith, common_steps)
+
+    not_it : (b : Bool) (x y : ℕ) → x < y → (b && (x == y)) ≡ false
+    not_it b x y h = grind (arith, common_steps)
+
+    at_ : (b : Bool) → (e == d) ≡ b → (if b then f d + 1 else f e) < k → (f e < k) × (((d == e) && (f d + 1 == k)) ≡ false)
+    at_ true here h = (subst (λ x. f x < k) (sym (equal e d here)) (omega (arith, h)), not_it (d == e) (f d + 1) k h)
+    at_ false there h = (h, differ e d (f d + 1 == k) there)
+
+numbered_step : (w : Setting) (n : Reading) (e : Entry) → EventsAreNumbered n → EventsAreNumbered (entry w n e)
+numbered_step w n (Arrived r m) s = record { failures = s.failures; restarts = s.restarts }
+numbered_step w n (Placed r at m) s = record {
+  failures = λ d k more. any_insert (is_failure d k) (split_of w n r.0 at m).front (split_of w n r.0 at m).back (Ran r) ∙ split_any w n r.0 at m (is_failure d k) ∙ s.failures d k more;
+  restarts = λ d k more. any_insert (is_restart d k) (split_of w n r.0 at m).front (split_of w n r.0 at m).back (Ran r) ∙ split_any w n r.0 at m (is_restart d k) ∙ s.restarts d k more;
+}
+numbered_step w n (Did r c a) s = record { failures = s.failures; restarts = s.restarts }
+numbered_step w n (Undid r d drove) s = record { failures = s.failures; restarts = s.restarts }
+numbered_step w n (Fell d) s = record {
+  failures = λ e k more. let over = above n.fell d.0 e k more in any_put_before (is_failure e k) _ (Failed d (n.fell d.0 + 1)) n.line ∙ (λ i. over.1 i || s.failures e k over.0 i);
+  restarts = λ e k more. any_put_before (is_restart e k) _ (Failed d (n.fell d.0 + 1)) n.line ∙ s.restarts e k more;
+}
+numbered_step w n (Rose d) s = record {
+  failures = λ e k more. any_put_before (is_failure e k) _ (Back d (n.rose d.0 + 1)) n.line ∙ s.failures e k more;
+  restarts = λ e k more. let over = above n.rose d.0 e k more in any_put_before (is_restart e k) _ (Back d (n.rose d.0 + 1)) n.line ∙ (λ i. over.1 i || s.restarts e k over.0 i);
+}
+numbered_step w n (Doomed r cause) s = record { failures = s.failures; restarts = s.restarts }
+numbered_step w n (Ended r Committed) s = record { failures = s.failures; restarts = s.restarts }
+numbered_step w n (Ended r (Aborted cause)) s = record {
+  failures = λ d k more. any_filtered (is_failure d k) (λ i. not (is_ran r.0 i)) n.line (s.failures d k more);
+  restarts = λ d k more. any_filtered (is_restart d k) (λ i. not (is_ran r.0 i)) n.line (s.restarts d k more);
+}
+
+numbered_from : (w : Setting) (n : Reading) (h : List Entry) → EventsAreNumbered n → EventsAreNumbered (fold (entry w) n h)
+numbered_from w n [] s = s
+numbered_from w n (e ∷ h) s = numbered_from w (entry w n e) h (numbered_step w n e s)
+
+pub events_numbered : (w : Setting) (h : List Entry) → EventsAreNumbered (reading w h)
+events_numbered w h = numbered_from w (nothing_read w) h (record { failures = λ d k more. refl; restarts = λ d k more. refl })
