@@ -129,7 +129,7 @@ goes_on {D = D} tag plan stands turns probes faults script mode before after rec
   kinds = is.kinds ∙ day.kinds;
   world = is.last ∙ sym (state_last script records closed);
   opened = let n = length_more records closed in omega (arith, n, is.opened, day.opened);
-  up = is.up;
+  stage_up = is.stage_up;
 }
   where
     device_before : (d : ℕ) (y : D) → slice_get after.devices d ≡ Some y → (x : D) × (slice_get before.devices d ≡ Some x)
@@ -163,7 +163,7 @@ starts {D = D} tag plan stands turns probes faults script mode home are kinds wo
   kinds = kinds;
   world = world;
   opened = opened;
-  up = starts_up script home world;
+  stage_up = starts_up script home world;
 }
   where
     text_of : (d : ℕ) (device : D) → slice_get home.devices d ≡ Some device → (text : DeviceText) × (slice_get script.devices.items d ≡ Some text)

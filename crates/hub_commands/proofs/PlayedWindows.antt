@@ -36,7 +36,7 @@ as_played {D = D} tag plan turns probes faults script mode k window w home after
   kinds = is.kinds ∙ ap (λ v. v.kinds) here;
   last = is.last;
   opened = is.opened ∙ ap (λ n. n + 1) opened.windows;
-  up = is.up;
+  stage_up = is.up is.ends.stage_calm;
   size = is.size ∙ ap (λ ps. length ps) opened.places ∙ length-map home.devices (λ device. Home device);
   devices = λ d x y x_at y_at. let out = placed d x x_at in record {
     same_tag = is.numbered d y y_at ∙ sym (numbered d x x_at);

@@ -54,7 +54,7 @@ pub record IsUnderWay {D : Type 0} (tag : D → ℕ) (plan : D → Option (List 
   pub world : home.world ≡ state_after script records (length records)
   pub opened : home.opened ≡ length records
   -- in this stage each device is up when a window has ended
-  pub up : (d : ℕ) → d < length home.world → (stand_at home.world d).up ≡ true
+  pub stage_up : (d : ℕ) → d < length home.world → (stand_at home.world d).up ≡ true
 
 -- the device after a window: the same one, whose calls rose as the record says, and its probes by those that the replay took
 pub record IsPlayedOn {D : Type 0} (tag : D → ℕ) (plan : D → Option (List (ℕ × ℕ))) (turns probes faults : D → ℕ) (called failed probed : ℕ) (before after : D) : Type 0 where

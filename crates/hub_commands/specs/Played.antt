@@ -29,7 +29,8 @@ pub record IsPlayed {D : Type 0} (tag : D → ℕ) (plan : D → Option (List (�
   pub kinds : after.kinds ≡ before.kinds
   pub last : after.world ≡ closed.last.devices.items
   pub opened : after.opened ≡ before.opened + 1
-  pub up : (d : ℕ) → d < length after.world → (stand_at after.world d).up ≡ true
+  -- in this stage each device is up then
+  pub stage_up : (d : ℕ) → d < length after.world → (stand_at after.world d).up ≡ true
   pub size : length after.devices ≡ length before.devices
   pub devices : (d : ℕ) (x y : D) → slice_get before.devices d ≡ Some x → slice_get after.devices d ≡ Some y
       → IsPlayedOn tag plan turns probes faults (slice_index_or closed.turns.items d 0) (slice_index_or closed.faults.items d 0) (window.probes - play.configuration.probes d) x y

@@ -1,4 +1,5 @@
 ghost use Rattle.std.specs.Prelude.{◌≡◌, ◌<◌, ◌≤◌, ◌++◌, ◌∷◌, [], None, IfErr, IfOk, false, length, true};
+ghost use Rattle.home_types.specs.Limits.{most_windows};
 ghost use Rattle.home_types.specs.HomeStates.{stand_at};
 ghost use Rattle.hub_commands.specs.Days.{IsUnderWay};
 ghost use Rattle.hub_commands.specs.Played.{HasGoneOn, IsPlayed};
@@ -41,7 +42,8 @@ pub fn play_next<Dev: Steady>(
     ensures starved { IfErr result (λ windows. windows.items ≡ day.windows.items) }
 {
     let DayUnderWay { home, mut windows } = day;
-    if windows.reserve(1).is_err() {
+    let left = script.windows.len() - windows.len();
+    if windows.reserve(left).is_err() {
         return Err(windows);
     }
     let number = windows.len() as u32;
@@ -69,7 +71,7 @@ fn play_window<Dev: Steady>(
     requires mode { is_later_mode mode ≡ false }
     requires there { number < length script.now.windows.items }
     requires kinds { home.kinds ≡ kinds_of script.now }
-    requires few { home.opened ≤ 288 }
+    requires few { home.opened ≤ most_windows }
     requires up { (d : _) → d < length home.world → (stand_at home.world d).up ≡ true }
     ensures { IfOk result (λ done. IsPlayed Dev.tag Dev.plan Dev.turns Dev.probes Dev.faults script.now mode number home done.0 done.1) }
 {

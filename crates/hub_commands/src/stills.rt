@@ -1,4 +1,5 @@
 ghost use Rattle.std.specs.Prelude.{◌≡◌, ◌<◌, ◌≤◌, ◌++◌, ◌∷◌, [], IfOk, IfSome, None, Some, false, length, map, string_bytes};
+ghost use Rattle.home_types.specs.Limits.{most_windows};
 ghost use Rattle.command_words.specs.CommandLines.{command_line_of};
 ghost use Rattle.day_report.specs.Days.{window_text as window_lines_of};
 ghost use Rattle.hub_commands.specs.Finishes.{CallEnds, ReplayEnds, read_off, shown_by, written};
@@ -82,7 +83,7 @@ fn last_lines(
     windows: &List<WindowRecord>,
 ) -> Result<Bytes, NoMemory>
     requires some { 0 < length windows.now.items }
-    requires few { length windows.now.items ≤ 288 }
+    requires few { length windows.now.items ≤ most_windows }
     ensures { (before : _) (closed : _) → windows.now.items ≡ before ++ closed ∷ []
         → IfOk result (λ lines. lines ≡ window_lines_of script.now (length before) closed options.mode options.trace) }
 {

@@ -4,9 +4,9 @@ use Rattle.hub_core.specs.OpenHubs.{device_at}
 use Rattle.hub_core.specs.declared.known.DeviceProgress.{DeviceProgress}
 use Rattle.std.specs.Prelude.{List, Some, length, slice_get, slice_index_or, true, ℕ, ◌+◌, ◌<◌, ◌≡◌, ◌≤◌}
 
--- a device stands where it is known to, and is up
-abbrev pub known_stand : DeviceProgress → Stand
-known_stand known = record { value = known.held; up = true }
+-- in this stage a device stands where it is known to, and is up
+abbrev pub stage_stand : DeviceProgress → Stand
+stage_stand known = record { value = known.held; up = true }
 
 -- each device is known, and its count is not below that of the opening
 pub record NoneFell {D : Type 0} (count : D → ℕ) (count_then : DeviceProgress → ℕ) (known : List DeviceProgress) (devices : List D) : Type 0 where

@@ -5,6 +5,7 @@ use Rattle.device_gate.specs.Places.{AreNumbered}
 use Rattle.history_book.specs.Settings.{Setting}
 use Rattle.home_types.specs.HomeStates.{stand_at}
 use Rattle.home_types.specs.Kinds.{has_value, kind_at}
+use Rattle.home_types.specs.Limits.{most_devices}
 use Rattle.home_types.specs.declared.kinds.Kind.{Kind}
 use Rattle.home_types.specs.declared.modes.Mode.{Mode}
 use Rattle.home_types.specs.declared.worlds.Stand.{Stand}
@@ -35,7 +36,7 @@ pub record HomeIsKept {D : Type 0} (tag stands turns probes faults : D → ℕ) 
   pub numbered : AreNumbered tag s.devices
   pub kinds : length s.kinds ≡ length s.world
   pub size : length s.devices ≡ length s.world
-  pub few : length s.world ≤ 256
+  pub few : length s.world ≤ most_devices
   pub opened : s.opened ≤ 2 ^ 31
   pub values : (d : ℕ) → d < length s.world → IsTrue (has_value (kind_at s.kinds d) (stand_at s.world d).value)
   pub stand : UpDevicesStand stands s.devices s.world

@@ -7,19 +7,22 @@ use Rattle.device_gate.specs.declared.grips.Ready.{Ready}
 use Rattle.device_gate.specs.declared.slips.Slip.{Slip}
 use Rattle.device_gate.specs.declared.strangers.Stranger.{Stranger}
 use Rattle.history_book.specs.Histories.{entries_made, entries_of, reading}
-use Rattle.history_book.specs.Settings.{Setting}
+use Rattle.history_book.specs.Settings.{Setting, is_weak}
+use Rattle.history_book.specs.WellFormed.{IsWellFormed}
 use Rattle.history_book.specs.declared.entries.End.TheVariants.{Committed}
 use Rattle.history_book.specs.declared.entries.Made.{Made}
 use Rattle.history_book.specs.declared.records.WindowRecord.{WindowRecord}
 use Rattle.home_types.specs.HomeStates.{stand_at}
-use Rattle.hub_core.specs.AccountedCalls.{told_calls}
+use Rattle.home_types.specs.Limits.{most_runs}
+use Rattle.home_types.specs.declared.modes.Scheduler.TheVariants.{Fcfs}
+use Rattle.hub_core.specs.AccountedCalls.{told_calls, told_falls}
 use Rattle.hub_core.specs.CleanReads.{ReadsAreClean}
 use Rattle.hub_core.specs.Homes.{HomeState}
 use Rattle.hub_core.specs.HubSteps.{Carried, Chose, Give, GiveProbe, Gave, HubStep, Probed, Refused, Returned, Take, TakeProbe, task_of}
 use Rattle.hub_core.specs.JustifiedAborts.{IsJustified}
 use Rattle.hub_core.specs.LegalWindows.{IsLegalWindow}
 use Rattle.hub_core.specs.OpenHubs.{OpenHub, configuration_of, device_at, state_of}
-use Rattle.hub_core.specs.Stage.{has_must_check}
+use Rattle.hub_core.specs.Stage.{StageAllows, has_must_check}
 use Rattle.hub_core.specs.Steps.{Absent as IsAbsent, Choice, HandsOut, Moves, Over as IsOver, Waits, choice_of, opened}
 use Rattle.hub_core.specs.declared.turns.Turn.TheVariants.{Absent, Go, Moved, Over, Wait}
 use Rattle.hub_core.specs.declared.turns.Turn.{Turn}
@@ -29,7 +32,7 @@ use Rattle.lock_leasing.specs.Order.{OrderStands}
 use Rattle.lock_leasing.specs.Places.{GripsFit, PlacesAreScheduled}
 use Rattle.lock_leasing.specs.Words.{standing_value}
 use Rattle.command_rules.specs.Rosters.{command_at, is_run}
-use Rattle.std.specs.Prelude.{Bool, Err, None, Ok, Option, Result, Some, false, is_some, length, not, slice_get, slice_index_or, slice_set, true, ℕ, ◌*◌, ◌+◌, ◌-◌, ◌<◌, ◌≡◌, ◌≢◌, ◌≤◌, ◌||◌}
+use Rattle.std.specs.Prelude.{Bool, Err, List, None, Ok, Option, Result, Some, false, is_some, length, not, slice_get, slice_index_or, slice_set, true, ℕ, ◌*◌, ◌+◌, ◌-◌, ◌<◌, ◌≡◌, ◌≢◌, ◌≤◌, ◌||◌}
 
 -- the hub is in the same window, with the same counts of its devices at the opening
 pub record SameWindow {D : Type 0} (s t : OpenHub D) : Type 0 where
@@ -99,6 +102,11 @@ pub record IsOpened {D : Type 0} (turns probes faults : D → ℕ) (w : Setting)
   pub probes_then : (d : ℕ) (device : D) → slice_get home.devices d ≡ Some device → (device_at hub.devices d).at_opening.probes ≡ probes device
   pub faults_then : (d : ℕ) (device : D) → slice_get home.devices d ≡ Some device → (device_at hub.devices d).at_opening.faults ≡ faults device
 
+-- no device fails in the window: each is up as it opens, and its faults do not rise
+pub record NoneFails (w : Setting) (faults : List ℕ) : Type 0 where
+  pub up : (d : ℕ) → d < length w.first → (stand_at w.first d).up ≡ true
+  pub steady : (d : ℕ) → d < length w.first → slice_index_or faults d 0 ≡ 0
+
 -- the window was closed with this record, and leaves this home: its devices are those of the hub, and their counts rose as the record says, the probes by those that were taken
 pub record IsClosed {D : Type 0} (turns probes faults : D → ℕ) (s : OpenHub D) (home : HomeState D) (closed : WindowRecord) : Type 0 where
   pub legal : IsLegalWindow s.setting closed
@@ -107,10 +115,10 @@ pub record IsClosed {D : Type 0} (turns probes faults : D → ℕ) (s : OpenHub 
   pub last : home.world ≡ closed.last.devices.items
   pub opened : home.opened ≡ s.opened + 1
   pub places : s.places ≡ all_home home.devices
-  -- in this stage every run that has no must `check` commits
-  pub commits : (r : ℕ) → is_run s.setting.runs r ≡ true → has_must_check s.setting.runs r ≡ false → ((reading s.setting (entries_of closed.history.items)).run r).ended ≡ Some Committed
-  -- and each device is up
-  pub up : (d : ℕ) → d < length home.world → (stand_at home.world d).up ≡ true
+  -- where runs are served as they come and no device fails, every run that has no must `check` commits
+  pub commits : s.setting.mode.scheduler ≡ Fcfs → NoneFails s.setting closed.faults.items → (r : ℕ) → is_run s.setting.runs r ≡ true → has_must_check s.setting.runs r ≡ false → ((reading s.setting (entries_of closed.history.items)).run r).ended ≡ Some Committed
+  -- and where no device fails, each is up
+  pub up : NoneFails s.setting closed.faults.items → (d : ℕ) → d < length home.world → (stand_at home.world d).up ≡ true
   pub turns_rose : (d : ℕ) (device : D) → slice_get home.devices d ≡ Some device → turns device ≡ (device_at s.devices d).at_opening.turns + slice_index_or closed.turns.items d 0
   pub probes_rose : (d : ℕ) (device : D) → slice_get home.devices d ≡ Some device → probes device ≡ (device_at s.devices d).at_opening.probes + (s.rounds - (device_at s.devices d).probes_left)
   pub faults_rose : (d : ℕ) (device : D) → slice_get home.devices d ≡ Some device → faults device ≡ (device_at s.devices d).at_opening.faults + slice_index_or closed.faults.items d 0
@@ -138,33 +146,38 @@ abbrev pub DevicesStand : {D : Type 0} → (D → ℕ) → OpenHub D → Type 0
 DevicesStand {D} stands s = (d : ℕ) (device : D) → slice_get s.places d ≡ Some (Home device) → (read_of (configuration_of s)).up d ≡ true
     → stands device ≡ standing_value s.setting (read_of (configuration_of s)) (configuration_of s).grips d
 
--- the calls of a device that is home rose since the opening by those that the history tells of, and its probes by those that were taken
-pub record CallsAreTold {D : Type 0} (turns probes : D → ℕ) (s : OpenHub D) : Type 0 where
-  pub turns_rose : (d : ℕ) (device : D) → slice_get s.places d ≡ Some (Home device) → turns device ≡ (device_at s.devices d).at_opening.turns + told_calls s.setting.runs (entries_of s.history) d
-  pub probes_rose : (d : ℕ) (device : D) → slice_get s.places d ≡ Some (Home device) → probes device ≡ (device_at s.devices d).at_opening.probes + (s.rounds - (device_at s.devices d).probes_left)
+-- how many probes of the device were taken
+abbrev pub probes_taken : {D : Type 0} → OpenHub D → ℕ → ℕ
+probes_taken s d = s.rounds - (device_at s.devices d).probes_left
 
--- in every hub each device has a place, the grips that are out fit the history, the four clauses of the order hold, reads are clean, places are the scheduler's, aborts are justified, devices stand where they should, and their calls are told
-pub record HubStands {D : Type 0} (stands turns probes : D → ℕ) (s : OpenHub D) : Type 0 where
+-- how often it has failed up to now at least: its faults at the opening, and the failures that the history tells of
+abbrev pub faults_told : {D : Type 0} → OpenHub D → ℕ → ℕ
+faults_told s d = (device_at s.devices d).at_opening.faults + told_falls (entries_of s.history) d
+
+-- the calls of a device that is home rose since the opening by those that the history tells of, its probes by those that were taken, and its faults by its failures at least, and at most by these and its probes
+pub record CallsAreTold {D : Type 0} (turns probes faults : D → ℕ) (s : OpenHub D) : Type 0 where
+  pub turns_rose : (d : ℕ) (device : D) → slice_get s.places d ≡ Some (Home device) → turns device ≡ (device_at s.devices d).at_opening.turns + told_calls s.setting.runs (entries_of s.history) d
+  pub probes_rose : (d : ℕ) (device : D) → slice_get s.places d ≡ Some (Home device) → probes device ≡ (device_at s.devices d).at_opening.probes + probes_taken s d
+  pub falls_told : (d : ℕ) (device : D) → slice_get s.places d ≡ Some (Home device) → faults_told s d ≤ faults device
+  pub few_faults : (d : ℕ) (device : D) → slice_get s.places d ≡ Some (Home device) → faults device ≤ faults_told s d + probes_taken s d
+
+-- in every hub each device has a place, the history is well formed, the grips that are out fit it, aborts are justified, devices stand where they should, and their calls are told;
+-- and outside the weak model the four clauses of the order hold, reads are clean, and places are the scheduler's
+pub record HubStands {D : Type 0} (stands turns probes faults : D → ℕ) (s : OpenHub D) : Type 0 where
   pub size : length s.places ≡ length s.setting.first
-  pub few_runs : length s.setting.runs ≤ 64
+  pub few_runs : length s.setting.runs ≤ most_runs
+  pub well_formed : IsWellFormed s.setting (entries_of s.history)
   pub grips : GripsFit s.setting (read_of (configuration_of s)) (configuration_of s).grips
-  pub order : OrderStands s.setting (read_of (configuration_of s)) (configuration_of s).grips
-  pub clean : ReadsAreClean s.setting (entries_of s.history)
-  pub places : PlacesAreScheduled s.setting (entries_of s.history)
+  pub order : is_weak s.setting.mode ≡ false → OrderStands s.setting (read_of (configuration_of s)) (configuration_of s).grips
+  pub clean : is_weak s.setting.mode ≡ false → ReadsAreClean s.setting (entries_of s.history)
+  pub places : is_weak s.setting.mode ≡ false → PlacesAreScheduled s.setting (entries_of s.history)
   pub justified : IsJustified s.setting (entries_of s.history)
   pub stand : DevicesStand stands s
-  pub told : CallsAreTold turns probes s
-  -- in this stage there are no probes
-  pub no_probes : s.rounds ≡ 0
+  pub told : CallsAreTold turns probes faults s
+  -- the window is one of those that this stage works
+  pub stage : StageAllows s.setting s.rounds
 
 -- where no device is out and some run has not ended, some run that has not ended does not wait, at any moment
 abbrev pub SomeRunMoves : Configuration → Type 0
 SomeRunMoves s = (r : ℕ) → is_run s.setting.runs r ≡ true → ((read_of s).run r).ended ≡ None → ((d : ℕ) → s.grips d ≡ None)
     → (q : ℕ) × (is_run s.setting.runs q ≡ true) × (((read_of s).run q).ended ≡ None) × ((m : ℕ) (why : Why) → choice_of s q m ≢ Waits why)
-
--- how many entries a history of one run has at most, failures and restarts apart: its arrival, its placing, an answer to each of 64 commands, a doom, an undo on each of 64 devices, and its end
-abbrev pub entries_of_a_run : ℕ
-entries_of_a_run = 132
-
-abbrev pub HistoryIsBounded : {D : Type 0} → OpenHub D → Type 0
-HistoryIsBounded s = length s.history ≤ entries_of_a_run * length s.setting.runs

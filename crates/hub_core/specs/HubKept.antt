@@ -12,6 +12,7 @@ use Rattle.home_types.specs.declared.commands.Answer.TheVariants.{Down, Fine, Fo
 use Rattle.home_types.specs.declared.items.Item.{Item}
 use Rattle.home_types.specs.declared.items.Item.TheVariants.{Back, Failed, Ran}
 use Rattle.home_types.specs.declared.kinds.Kind.{Kind}
+use Rattle.home_types.specs.declared.modes.Scheduler.TheVariants.{Fcfs}
 use Rattle.hub_core.specs.CleanReads.{ReadsAreClean}
 use Rattle.hub_core.specs.Isolation.{IsStrict}
 use Rattle.hub_core.specs.JustifiedAborts.{IsJustified}
@@ -95,7 +96,7 @@ pub record HistoryIsKept (s : Configuration) : Type 0 where
   pub justified : IsJustified s.setting (entries_of s.history)
   pub places : PlacesAreScheduled s.setting (entries_of s.history)
   pub isolated : IsTrue (is_strict s.setting.mode) → IsStrict s.setting (entries_of s.history)
-  pub in_order : IsTrue (placed_in_order (read_of s) (read_of s).line)
+  pub in_order : s.setting.mode.scheduler ≡ Fcfs → IsTrue (placed_in_order (read_of s) (read_of s).line)
   pub in_turn : ActsInTurn s.setting (read_of s) s.grips
   pub first : NoneAnsweredDoomed (read_of s) s.grips
 

@@ -11,7 +11,8 @@ use Rattle.home_types.specs.Listed.{Listed}
 use Rattle.home_types.specs.declared.numbers.DeviceNo.{DeviceNo}
 use Rattle.hub_core.specs.AccountedCalls.{told_calls}
 use Rattle.hub_core.specs.Homes.{CountsAreLow}
-use Rattle.hub_core.specs.HubCalls.{entries_of_a_run}
+use Rattle.hub_core.specs.Bounds.{most_entries, most_items}
+use Rattle.hub_core.specs.HubCalls.{faults_told, probes_taken}
 use Rattle.hub_core.specs.HubKept.{ConfigurationIsKept}
 use Rattle.hub_core.specs.HubSteps.{task_of}
 use Rattle.hub_core.specs.OpenHubs.{OpenHub, configuration_of, device_at, held_in, purpose_of}
@@ -21,25 +22,26 @@ use Rattle.hub_core.specs.declared.hubs.ClosingLists.{ClosingLists}
 use Rattle.hub_core.specs.declared.hubs.Hub.TheInside.{Inside}
 use Rattle.lock_leasing.specs.Configurations.{Grips, read_of}
 use Rattle.lock_leasing.specs.Waits.{grip_wait}
-use Rattle.std.specs.Prelude.{Bool, IsTrue, List, Option, Some, [], count_by, false, length, option_map, slice_get, suc, true, ℕ, ◌*◌, ◌+◌, ◌-◌, ◌<◌, ◌≡◌, ◌≤◌}
+use Rattle.std.specs.Prelude.{Bool, IsTrue, List, Option, Some, [], count_by, false, length, option_map, slice_get, suc, sum_by, true, ℕ, ◌*◌, ◌+◌, ◌-◌, ◌<◌, ◌≡◌, ◌≤◌}
 
 -- how often the device was called up to now: its counts at the opening, and what the window made of them
 abbrev pub turns_now : {D : Type 0} → OpenHub D → ℕ → ℕ
 turns_now s d = (device_at s.devices d).at_opening.turns + told_calls s.setting.runs (entries_of s.history) d
 
 abbrev pub probes_now : {D : Type 0} → OpenHub D → ℕ → ℕ
-probes_now s d = (device_at s.devices d).at_opening.probes + (s.rounds - (device_at s.devices d).probes_left)
+probes_now s d = (device_at s.devices d).at_opening.probes + probes_taken s d
 
--- in this stage no device fails
-abbrev pub faults_now : {D : Type 0} → OpenHub D → ℕ → ℕ
-faults_now s d = (device_at s.devices d).at_opening.faults
+-- how many probes were taken of all devices
+abbrev pub all_probes_taken : {D : Type 0} → OpenHub D → ℕ
+all_probes_taken s = sum_by (λ known. s.rounds - known.probes_left) s.devices
 
 -- a device that is home stands at its value if it is counted up, and its calls are told
 pub record FitsAtHome {D : Type 0} (stands turns probes faults : D → ℕ) (s : OpenHub D) (d : ℕ) (device : D) : Type 0 where
   pub stand : (read_of (configuration_of s)).up d ≡ true → stands device ≡ held_in s d
   pub turns_are : turns device ≡ turns_now s d
   pub probes_are : probes device ≡ probes_now s d
-  pub faults_are : faults device ≡ faults_now s d
+  pub falls_told : faults_told s d ≤ faults device
+  pub few_faults : faults device ≤ faults_told s d + probes_taken s d
 
 -- a slip says the same of a device that is out, whose task is that of its purpose
 pub record FitsOut {D : Type 0} (s : OpenHub D) (d : ℕ) (slip : Slip) (task : Task) : Type 0 where
@@ -47,7 +49,8 @@ pub record FitsOut {D : Type 0} (s : OpenHub D) (d : ℕ) (slip : Slip) (task : 
   pub stand : IsTrue (is_counted_up task) → slip.stood ≡ held_in s d
   pub turns_are : slip.turns ≡ turns_now s d
   pub probes_are : slip.probes + probed task ≡ probes_now s d
-  pub faults_are : slip.faults ≡ faults_now s d
+  pub falls_told : faults_told s d ≤ slip.faults
+  pub few_faults : slip.faults + probed task ≤ faults_told s d + probes_taken s d
   pub does : task ≡ task_of (configuration_of s) slip.maker (purpose_of (device_at s.devices d).purpose)
 
 abbrev pub is_away : {D : Type 0} → Place D → Bool
@@ -63,17 +66,17 @@ pub record HubIsKept {D : Type 0} (stands turns probes faults : D → ℕ) (s : 
   pub out : (d : ℕ) (slip : Slip) (task : Task) → slice_get s.places d ≡ Some (Out slip task) → FitsOut s d slip task
   pub low : (d : ℕ) → CountsAreLow s.opened (device_at s.devices d).at_opening.turns (device_at s.devices d).at_opening.probes (device_at s.devices d).at_opening.faults
   pub values : (d : ℕ) → d < length s.setting.first → IsTrue (has_value (kind_at s.setting.kinds d) (held_in s d))
-  -- each ticket is of a call that is told, or of a device that is out
-  pub few_tickets : s.tickets ≤ length s.history + count_by is_away s.places
+  -- each ticket is of a call that is told, of a device that is out, or of a probe
+  pub few_tickets : s.tickets ≤ length s.history + count_by is_away s.places + all_probes_taken s
 
 -- an empty list with so much room
 abbrev pub IsEmptyFor : {T : Type 0} → Listed T → ℕ → Type 0
 IsEmptyFor list n = (list.items ≡ []) × (n ≤ list.spare)
 
 -- a window has room for every entry of its history, and for every item and every device in the lists that its closing fills
-pub record HasRoomLeft (h : HistoryState) (closing : ClosingLists) : Type 0 where
-  pub history : entries_of_a_run * length h.setting.runs ≤ h.spare + length h.history
-  pub order : IsEmptyFor closing.order (entries_of_a_run * length h.setting.runs)
+pub record HasRoomLeft (rounds : ℕ) (h : HistoryState) (closing : ClosingLists) : Type 0 where
+  pub history : most_entries (length h.setting.runs) (length h.setting.first) rounds ≤ h.spare + length h.history
+  pub order : IsEmptyFor closing.order (most_items (length h.setting.runs) (length h.setting.first) rounds)
   pub last : IsEmptyFor closing.last (length h.setting.first)
   pub world : IsEmptyFor closing.world (length h.setting.first)
   pub turns : IsEmptyFor closing.turns (length h.setting.first)
@@ -100,6 +103,6 @@ pub record HandsAre (w : Setting) (g : Grips) (hands : List (Option DeviceNo)) :
 -- what the type of a hub keeps of its parts
 pub record IsWhole {D : Type 0} (stands turns probes faults : D → ℕ) (h : Inside D) : Type 0 where
   pub shown : HubIsKept stands turns probes faults (open_of h)
-  pub room : HasRoomLeft h.history h.closing
-  pub order : OrderIsBeside h.history (configuration_of (open_of h)).grips h.order.line h.order.table
+  pub room : HasRoomLeft h.rounds h.history h.closing
+  pub order : OrderIsBeside h.rounds h.history (configuration_of (open_of h)).grips h.order.line h.order.table
   pub hands : HandsAre h.history.setting (configuration_of (open_of h)).grips h.hands.items

@@ -1,7 +1,7 @@
 -- What the line and the table of a window ask for, and what is kept of them.
 use Rattle.history_book.specs.Readings.{Reading}
 use Rattle.history_book.specs.Settings.{Setting}
-use Rattle.hub_core.specs.HubCalls.{entries_of_a_run}
+use Rattle.hub_core.specs.Bounds.{most_items}
 use Rattle.hub_core.specs.ReadHistories.{HistoryState, read_in}
 use Rattle.lineage_table.specs.Accesses.{is_scheduled, status_of}
 use Rattle.lineage_table.specs.Lineages.{LineageState}
@@ -31,13 +31,12 @@ acquired_first first r view s = acquired_if first r view (passed_if first r s)
 abbrev pub noted_first : ℕ → Bool → View → Option ℕ → Bool → LineageState → LineageState
 noted_first r first view wrote last s = noted r first view wrote last (passed_if first r s)
 
--- the table is that of the reading and the grips, and the line too, each item with what it has touched; after so many entries the line has no more items, and room for one with each entry to come
-pub record IsOrderOf (w : Setting) (n : Reading) (g : Grips) (entries : ℕ) (line : Marked) (table : List LineageState) : Type 0 where
+-- the table is that of the reading and the grips, and the line too, each item with what it has touched; and it has room for all its items, where there are so many rounds of probes
+pub record IsOrderOf (rounds : ℕ) (w : Setting) (n : Reading) (g : Grips) (line : Marked) (table : List LineageState) : Type 0 where
   pub table_is : TableIsKept w n g table
   pub line_is : MarksAreKept n g line.marks
-  pub short : length line.marks ≤ entries
-  pub room : entries_of_a_run * length w.runs ≤ line.spare + entries
+  pub room : most_items (length w.runs) (length w.first) rounds ≤ line.spare + length line.marks
 
 -- the line and the table of a history
-abbrev pub OrderIsBeside : HistoryState → Grips → Marked → List LineageState → Type 0
-OrderIsBeside h g line table = IsOrderOf h.setting (read_in h) g (length h.history) line table
+abbrev pub OrderIsBeside : ℕ → HistoryState → Grips → Marked → List LineageState → Type 0
+OrderIsBeside rounds h g line table = IsOrderOf rounds h.setting (read_in h) g line table

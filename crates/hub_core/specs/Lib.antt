@@ -12,6 +12,7 @@ pub mod Openings
 pub mod Stage
 pub mod HubKept
 pub mod OpenHubs
+pub mod Bounds
 pub mod Homes
 pub mod HubCalls
 pub mod ReadHistories

@@ -5,39 +5,41 @@ use Rattle.home_types.specs.Listed.{Listed}
 use Rattle.home_types.specs.declared.worlds.Stand.{Stand}
 use Rattle.history_book.specs.declared.entries.Kept.{Kept}
 use Rattle.hub_core.specs.Homes.{HomeState}
-use Rattle.hub_core.specs.HubCalls.{entries_of_a_run}
-use Rattle.hub_core.specs.HubsKept.{IsEmptyFor}
 use Rattle.hub_core.specs.declared.hubs.ClosingLists.{ClosingLists}
 use Rattle.hub_core.specs.declared.known.DeviceProgress.{DeviceProgress}
 use Rattle.hub_core.specs.declared.known.RunProgress.{RunProgress}
 use Rattle.hub_core.specs.declared.purposes.Purpose.TheVariants.{Command}
 use Rattle.lineage_table.specs.Lineages.{IsOpened, LineageState}
 use Rattle.serial_line.specs.Marks.{Marked}
-use Rattle.std.specs.Prelude.{List, None, Some, [], length, replicate, slice_get, ℕ, ◌*◌, ◌<◌, ◌≡◌, ◌≤◌}
+use Rattle.std.specs.Prelude.{List, None, Some, [], length, replicate, slice_get, ℕ, ◌<◌, ◌≡◌, ◌≤◌}
 
 -- nothing has happened to a run
 abbrev pub no_progress : RunProgress
 no_progress = record { arrived = None; placed = None; answered = 0; register = 0; doomed = None; ended = None }
 
--- no entry and no progress of so many runs, with room for all entries of the runs
-pub record IsHistoryRoom (runs : ℕ) (book : Listed Kept) (progress : List RunProgress) : Type 0 where
+-- an empty list with room for so many items and no more
+abbrev pub IsRoomFor : {T : Type 0} → Listed T → ℕ → Type 0
+IsRoomFor list n = (list.items ≡ []) × (list.spare ≡ n)
+
+-- no entry and no progress of so many runs, with room for so many entries
+pub record IsHistoryRoom (entries runs : ℕ) (book : Listed Kept) (progress : List RunProgress) : Type 0 where
   pub no_entry : book.items ≡ []
-  pub enough : entries_of_a_run * runs ≤ book.spare
+  pub room : book.spare ≡ entries
   pub nothing_done : progress ≡ replicate runs no_progress
 
--- an empty line with room for an item for each entry of the runs, and the table of a window that opens
-pub record IsOrderRoom (runs : List Run) (first : List Stand) (line : Marked) (table : List LineageState) : Type 0 where
+-- an empty line with room for so many items, and the table of a window that opens
+pub record IsOrderRoom (items : ℕ) (runs : List Run) (first : List Stand) (line : Marked) (table : List LineageState) : Type 0 where
   pub no_item : line.marks ≡ []
-  pub enough : entries_of_a_run * length runs ≤ line.spare
+  pub room : line.spare ≡ items
   pub opened : IsOpened runs first table
 
--- empty lists with room for the items of so many runs, and for so many devices
-pub record IsClosingRoom (devices runs : ℕ) (closing : ClosingLists) : Type 0 where
-  pub order : IsEmptyFor closing.order (entries_of_a_run * runs)
-  pub last : IsEmptyFor closing.last devices
-  pub world : IsEmptyFor closing.world devices
-  pub turns : IsEmptyFor closing.turns devices
-  pub faults : IsEmptyFor closing.faults devices
+-- empty lists with room for so many items of the order and no more, and for so many devices
+pub record IsClosingRoom (items devices : ℕ) (closing : ClosingLists) : Type 0 where
+  pub order : IsRoomFor closing.order items
+  pub last : IsRoomFor closing.last devices
+  pub world : IsRoomFor closing.world devices
+  pub turns : IsRoomFor closing.turns devices
+  pub faults : IsRoomFor closing.faults devices
 
 -- as a window opens, a device stands at this value, so many probes of it may be taken, and these are its counts
 abbrev pub known_first : ℕ → ℕ → ℕ → ℕ → ℕ → DeviceProgress

@@ -1,5 +1,5 @@
 ghost use Rattle.std.specs.Prelude.{◌≡◌, ◌≤◌, ◌+◌, IfErr, IfOk, None, Some, length, map, ℕ};
-ghost use Rattle.hub_core.specs.ClosedHomes.{HaveRisen, NoneFell, known_stand};
+ghost use Rattle.hub_core.specs.ClosedHomes.{HaveRisen, NoneFell, stage_stand};
 ghost use Rattle.hub_core.specs.HubCalls.{IsClosed};
 ghost use Rattle.hub_core.specs.HubsKept.{IsEmptyFor};
 ghost use Rattle.hub_core.specs.OpenHubs.{configuration_of};
@@ -103,7 +103,7 @@ fn items_in(empty: List<Item>, line: &Line) -> List<Item>
 /// Where the devices stand, all of them up, in a list that has room for them.
 fn stands_in(empty: List<Stand>, known: &List<DeviceProgress>) -> List<Stand>
     requires room { IsEmptyFor empty (length known.now.items) }
-    ensures { result.items ≡ map known_stand known.now.items }
+    ensures { result.items ≡ map stage_stand known.now.items }
 {
     let mut stands = empty;
     'known: for device in known.as_slice() {

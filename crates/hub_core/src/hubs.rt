@@ -1,6 +1,8 @@
-ghost use Rattle.std.specs.Prelude.{◌≡◌, ◌+◌, ◌-◌, ◌<◌, ◌≤◌, ◌↔◌, IsTrue, None, [], length, true, ℕ};
+ghost use Rattle.std.specs.Prelude.{◌≡◌, ◌+◌, ◌-◌, ◌<◌, ◌≤◌, ◌↔◌, IsTrue, None, [], false, length, true, ℕ};
 ghost use Rattle.command_rules.specs.Rosters.{runs_of};
-ghost use Rattle.hub_core.specs.HubCalls.{HistoryIsBounded, HubStands, SomeRunMoves, grip_takes, is_past};
+ghost use Rattle.history_book.specs.Settings.{is_weak};
+ghost use Rattle.hub_core.specs.Bounds.{IsBounded};
+ghost use Rattle.hub_core.specs.HubCalls.{HubStands, SomeRunMoves, grip_takes, is_past};
 ghost use Rattle.hub_core.specs.OpenHubs.{configuration_of, device_at};
 ghost use Rattle.hub_core.specs.Steps.{not_quiet, opened};
 ghost use Rattle.lineage_table.specs.Accesses.{IsDisciplined};
@@ -36,7 +38,7 @@ const NOT_KNOWN: DeviceProgress = DeviceProgress {
 /// The lists that closing a window fills: empty, each with room for every device, but for the order.
 #[derive(Drop)]
 pub(crate) struct ClosingLists {
-    /// For the order of the record, with room for an item for each entry that the window may have.
+    /// For the order of the record, with room for each item that the line may have.
     pub(crate) order: List<Item>,
     /// For the state of the record.
     pub(crate) last: List<Stand>,
@@ -78,7 +80,7 @@ impl<D: Device> Model for Hub<D> {
 impl<D: Device> Hub<D> {
     /// Does nothing. Its contract is what holds of every hub.
     pub fn kept(&self)
-        ensures { HubStands D.stands D.turns D.probes self.now }
+        ensures { HubStands D.stands D.turns D.probes D.faults self.now }
     {
         let _ = &self.moment;
     }
@@ -90,16 +92,18 @@ impl<D: Device> Hub<D> {
         let _ = &self.moment;
     }
 
-    /// Does nothing. Its contract is how long a history becomes.
+    /// Does nothing. Its contract is how long history and line become.
     pub fn bounded(&self)
-        ensures { HistoryIsBounded self.now }
+        ensures { IsBounded self.now }
     {
         let _ = &self.moment;
     }
 
-    /// The lineage table of the window, which represents the configuration.
+    /// The lineage table of the window. It has at most one access of each run on a device, and outside the weak model it
+    /// represents the configuration.
     pub fn table(&self) -> &Table
-        ensures represents { Represents self.now.setting (read_of (configuration_of self.now)) (configuration_of self.now).grips result.now }
+        ensures represents { is_weak self.now.setting.mode ≡ false → Represents self.now.setting (read_of (configuration_of self.now)) (configuration_of self.now).grips result.now }
+        ensures few { (d : ℕ) → length (accesses_at result.now d) ≤ length self.now.setting.runs }
         ensures disciplined { (d : ℕ) → IsDisciplined (accesses_at result.now d) }
     {
         self.order.table.kept();
@@ -129,7 +133,18 @@ impl<D: Device> Hub<D> {
         if self.moment != 0 {
             return false;
         }
-        self.gate.first_out().is_none()
+        if self.gate.first_out().is_some() {
+            return false;
+        }
+        self.has_all_probes()
+    }
+
+    /// Whether no probe of a device was taken.
+    fn has_all_probes(&self) -> bool
+        ensures { IsTrue result ↔ ((d : ℕ) → d < length self.now.devices → (device_at self.now.devices d).probes_left ≡ self.now.rounds) }
+    {
+        let known = self.devices.as_slice();
+        known.iter().all(|device| device.probes_left == self.rounds)
     }
 
     /// How many probes of the device may still be taken, 0 for no device of the home.

@@ -45,7 +45,7 @@ pub(crate) struct Noted {
 }
 
 impl KeptOrder {
-    /// Opens the line and the table of a window of these runs, with room for so many items of the line.
+    /// Opens the line and the table of a window of these runs, with room for so many items of the line and no more.
     ///
     /// Answers `NoMemory` where there is none to be had.
     pub(crate) fn open(
@@ -57,7 +57,7 @@ impl KeptOrder {
         requires devices { length world.now.devices.items ≤ most_devices }
         requires items { items < 2 ^ 32 }
         ensures marks { IfOk result (λ order. order.line.marks ≡ []) }
-        ensures room { IfOk result (λ order. items ≤ order.line.spare) }
+        ensures room { IfOk result (λ order. order.line.spare ≡ items) }
         ensures table { IfOk result (λ order. IsOpened (runs_of roster.now) world.now.devices.items order.table) }
     {
         let mut line = Line::new(alloc);
@@ -71,7 +71,7 @@ impl KeptOrder {
     /// memory.
     pub(crate) fn join(&mut self, roster: &Roster, r: RunNo, at: u32, moment: u64)
         requires run { IsTrue (is_run (runs_of roster.now) r.0) }
-        requires few { length self.old.table ≤ 256 }
+        requires few { length self.old.table ≤ most_devices }
         requires homed { All (λ c. c.device.0 < length self.old.table) (commands_of (runs_of roster.now) r.0) }
         requires room { 0 < self.old.line.spare }
         requires place { at ≤ length self.old.line.marks }
@@ -89,7 +89,7 @@ impl KeptOrder {
     /// is undone where that is an undo.
     pub(crate) fn touch(&mut self, r: RunNo, d: DeviceNo, purpose: Purpose)
         requires run { stands (Ran r) self.old.line.marks ≡ true }
-        requires device { d.0 < 256 }
+        requires device { d.0 < most_devices }
         requires homed { d.0 < length self.old.table }
         ensures marks { self.new.line.marks ≡ (if is_command (purpose_of purpose) then touching r.0 d.0 self.old.line.marks else self.old.line.marks) }
         ensures spare { self.new.line.spare ≡ self.old.line.spare }
@@ -189,7 +189,7 @@ impl KeptOrder {
 /// The run, which is placed in the line at this place and moment, has an access on each of its devices.
 fn schedule(table: &mut Table, line: &Line, at: u32, roster: &Roster, r: RunNo, moment: u64)
     requires run { IsTrue (is_run (runs_of roster.now) r.0) }
-    requires few { length table.old ≤ 256 }
+    requires few { length table.old ≤ most_devices }
     requires homed { All (λ c. c.device.0 < length table.old) (commands_of (runs_of roster.now) r.0) }
     requires new { (d : ℕ) → d < length table.old → touches (runs_of roster.now) r.0 d ≡ true → IsNewOn r.0 (drop at (items_of line.now.marks)) (lineage_at table.old d) }
     ensures { ChangesEach (scheduled_on (runs_of roster.now) r.0 (planned_in_turn moment (commands_of (runs_of roster.now) r.0)) (drop at (items_of line.now.marks))) table.old table.new }

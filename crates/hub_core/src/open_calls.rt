@@ -1,10 +1,11 @@
-ghost use Rattle.std.specs.Prelude.{◌≡◌, ◌<◌, ◌≤◌, IfErr, IfOk, None, [], length, replicate, slice_get, ℕ};
+ghost use Rattle.std.specs.Prelude.{◌≡◌, ◌<◌, ◌≤◌, ◌^◌, IfErr, IfOk, None, [], length, replicate, slice_get, ℕ};
 ghost use Rattle.command_rules.specs.Rosters.{runs_of};
 ghost use Rattle.home_types.specs.HomeStates.{stand_at};
+ghost use Rattle.home_types.specs.Limits.{most_devices, most_probes, most_runs};
+ghost use Rattle.hub_core.specs.Bounds.{most_entries, most_items};
 ghost use Rattle.hub_core.specs.HubCalls.{IsOpened};
 ghost use Rattle.hub_core.specs.Homes.{setting_for};
-ghost use Rattle.hub_core.specs.HubsKept.{IsEmptyFor};
-ghost use Rattle.hub_core.specs.OpeningRooms.{AreKnown, IsClosingRoom, IsHistoryRoom, IsOrderRoom, known_first, no_progress};
+ghost use Rattle.hub_core.specs.OpeningRooms.{AreKnown, IsClosingRoom, IsHistoryRoom, IsOrderRoom, IsRoomFor, known_first, no_progress};
 ghost use Rattle.hub_core.specs.Openings.{MayOpen};
 ghost use Rattle.hub_core.specs.Stage.{StageAllows};
 
@@ -40,6 +41,13 @@ struct Room {
 
 /// How many entries a history of one run has at most.
 const ENTRIES_OF_A_RUN: u64 = 132;
+
+/// How many entries a window may have, and how many items its line.
+#[derive(Clone, Copy, Debug, PartialEq, Eq)]
+struct Bounds {
+    entries: u64,
+    items: u64,
+}
 
 impl<D: Device> Home<D> {
     /// Opens a window of these runs on the home: its history is empty, and the home's state is its first one.
@@ -96,21 +104,23 @@ impl<D: Device> Home<D> {
 
     /// Takes the memory of a window of these runs.
     fn room(&self, alloc: Global, roster: &Roster, rounds: u32) -> Result<Room, NoMemory>
-        requires few { length roster.now.runs.items ≤ 64 }
-        requires devices { length self.now.world ≤ 256 }
-        ensures history { IfOk result (λ room. IsHistoryRoom (length roster.now.runs.items) room.history.book room.history.progress.items) }
-        ensures order { IfOk result (λ room. IsOrderRoom (runs_of roster.now) self.now.world room.order.line room.order.table) }
+        requires few { length roster.now.runs.items ≤ most_runs }
+        requires devices { length self.now.world ≤ most_devices }
+        requires rounds { rounds ≤ most_probes }
+        ensures history { IfOk result (λ room. IsHistoryRoom (most_entries (length roster.now.runs.items) (length self.now.world) rounds) (length roster.now.runs.items) room.history.book room.history.progress.items) }
+        ensures order { IfOk result (λ room. IsOrderRoom (most_items (length roster.now.runs.items) (length self.now.world) rounds) (runs_of roster.now) self.now.world room.order.line room.order.table) }
         ensures devices { IfOk result (λ room. AreKnown D.turns D.probes D.faults self.now rounds (length self.now.devices) room.devices.items) }
         ensures hands { IfOk result (λ room. room.hands.items ≡ replicate (length roster.now.runs.items) None) }
-        ensures closing { IfOk result (λ room. IsClosingRoom (length self.now.devices) (length roster.now.runs.items) room.closing) }
+        ensures closing { IfOk result (λ room. IsClosingRoom (most_items (length roster.now.runs.items) (length self.now.world) rounds) (length self.now.devices) room.closing) }
     {
         let runs = roster.runs.len();
+        let bounds = bounds_of(runs, self.world.devices.len(), rounds);
         Ok(Room {
-            history: history_room(alloc, runs)?,
-            order: KeptOrder::open(alloc, &self.world, roster, ENTRIES_OF_A_RUN * runs)?,
+            history: history_room(alloc, bounds.entries, runs)?,
+            order: KeptOrder::open(alloc, &self.world, roster, bounds.items)?,
             devices: self.known_devices(alloc, rounds)?,
             hands: no_hands(alloc, runs)?,
-            closing: closing_lists(alloc, self.devices.len(), runs)?,
+            closing: closing_lists(alloc, bounds.items, self.devices.len())?,
         })
     }
 
@@ -153,7 +163,8 @@ fn empty_history(
     first: World,
     room: HistoryRoom,
 ) -> ReadHistory
-    requires room { IsHistoryRoom (length roster.runs.items) room.book room.progress.items }
+    requires no_entry { room.book.items ≡ [] }
+    requires nothing_done { room.progress.items ≡ replicate (length roster.runs.items) no_progress }
     ensures setting { result.setting ≡ record { runs = runs_of roster; mode = mode; kinds = kinds.items; first = first.devices.items } }
     ensures history { result.history ≡ [] }
     ensures spare { result.spare ≡ room.book.spare }
@@ -169,13 +180,28 @@ fn empty_history(
     }
 }
 
-/// Takes the memory of a history of so many runs.
-fn history_room(alloc: Global, runs: u64) -> Result<HistoryRoom, NoMemory>
-    requires few { runs ≤ 64 }
-    ensures { IfOk result (λ room. IsHistoryRoom runs room.book room.progress.items) }
+/// The bounds of a window of so many runs, on a home of so many devices, with so many rounds of probes.
+fn bounds_of(runs: u64, devices: u64, rounds: u32) -> Bounds
+    requires runs { runs ≤ most_runs }
+    requires devices { devices ≤ most_devices }
+    requires rounds { rounds ≤ most_probes }
+    ensures entries { result.entries ≡ most_entries runs devices rounds }
+    ensures items { result.items ≡ most_items runs devices rounds }
+    ensures few { result.items < 2 ^ 32 }
+{
+    let events = 2 * (rounds as u64 * devices) + devices;
+    Bounds {
+        entries: ENTRIES_OF_A_RUN * runs + events,
+        items: runs + events,
+    }
+}
+
+/// Takes the memory of a history of so many entries and runs.
+fn history_room(alloc: Global, entries: u64, runs: u64) -> Result<HistoryRoom, NoMemory>
+    ensures { IfOk result (λ room. IsHistoryRoom entries runs room.book room.progress.items) }
 {
     let mut book = Book::new(alloc);
-    book.reserve(ENTRIES_OF_A_RUN * runs)?;
+    book.reserve(entries)?;
     let progress = no_progress(alloc, runs)?;
     Ok(HistoryRoom { book, progress })
 }
@@ -209,13 +235,12 @@ fn no_hands(alloc: Global, runs: u64) -> Result<List<Option<DeviceNo>>, NoMemory
     Ok(hands)
 }
 
-/// The lists that closing fills, with room for so many devices and for the items of so many runs.
-fn closing_lists(alloc: Global, devices: u64, runs: u64) -> Result<ClosingLists, NoMemory>
-    requires few { runs ≤ 64 }
-    ensures { IfOk result (λ closing. IsClosingRoom devices runs closing) }
+/// The lists that closing fills, with room for so many items of the order and for so many devices.
+fn closing_lists(alloc: Global, items: u64, devices: u64) -> Result<ClosingLists, NoMemory>
+    ensures { IfOk result (λ closing. IsClosingRoom items devices closing) }
 {
     Ok(ClosingLists {
-        order: roomy_list(alloc, ENTRIES_OF_A_RUN * runs)?,
+        order: roomy_list(alloc, items)?,
         last: roomy_list(alloc, devices)?,
         world: roomy_list(alloc, devices)?,
         turns: roomy_list(alloc, devices)?,
@@ -223,9 +248,9 @@ fn closing_lists(alloc: Global, devices: u64, runs: u64) -> Result<ClosingLists,
     })
 }
 
-/// An empty list with room for so many items.
+/// An empty list with room for so many items and no more.
 fn roomy_list<T: Drop>(alloc: Global, n: u64) -> Result<List<T>, NoMemory>
-    ensures { IfOk result (λ list. IsEmptyFor list n) }
+    ensures { IfOk result (λ list. IsRoomFor list n) }
 {
     let mut list = List::new(alloc);
     list.reserve(n)?;

@@ -1,6 +1,7 @@
 //! The planned times of a run that is placed first come first served: its commands follow one another.
 ghost use Rattle.std.specs.Prelude.{◌≡◌, ◌<◌, Some, slice_get, ℕ};
 ghost use Rattle.std.specs.List.{All};
+ghost use Rattle.home_types.specs.Limits.{most_devices};
 ghost use Rattle.hub_core.specs.PlansInTurn.{planned_in_turn, planned_use, used_again};
 
 use home_types::Command;
@@ -15,8 +16,8 @@ pub(crate) struct PlannedUse {
 /// For how long the run is planned to use each of the 256 devices that a home may have, where it is placed at this
 /// moment. `None` where it has no command.
 pub(crate) fn planned_uses(commands: &[Command], moment: u64) -> [Option<PlannedUse>; 256]
-    requires { All (λ c. c.device.0 < 256) commands.now }
-    ensures { (d : ℕ) → d < 256 → slice_get result d ≡ Some (planned_use (planned_in_turn moment commands.now) d) }
+    requires { All (λ c. c.device.0 < most_devices) commands.now }
+    ensures { (d : ℕ) → d < most_devices → slice_get result d ≡ Some (planned_use (planned_in_turn moment commands.now) d) }
 {
     let mut uses = [None; 256];
     let mut clock = moment;

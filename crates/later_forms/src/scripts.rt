@@ -1,4 +1,5 @@
 ghost use Rattle.std.specs.Prelude.{◌≡◌, ◌<◌, ◌≤◌, ◌-◌, All, IfSome, length, option_map, position};
+ghost use Rattle.home_types.specs.Limits.{most_devices, most_runs, most_windows};
 ghost use Rattle.later_forms.specs.Scripts.{down_spot, first_later as first_later_of, follows_another as follows_it, follows_some as some_follows, has_downs as is_down, has_later_form as has_form, window_spot, within_window as spot_of_window};
 ghost use Rattle.routine_reader.specs.Scripts.{plain_script};
 ghost use Rattle.routine_reader.specs.Sound.{IsSound};
@@ -18,7 +19,7 @@ pub fn first_later(script: &Script) -> Option<Spot>
 
 /// The first device with a plan of failures.
 fn down_device(devices: &[DeviceText]) -> Option<Spot>
-    requires { length devices.now ≤ 256 }
+    requires { length devices.now ≤ most_devices }
     ensures { result ≡ down_spot devices.now }
 {
     let place = first_down(devices)?;
@@ -40,8 +41,8 @@ fn has_downs(device: &DeviceText) -> bool
 
 /// The first window with probes, or with a run that follows another.
 fn later_window(windows: &[WindowText]) -> Option<Spot>
-    requires few { length windows.now ≤ 288 }
-    requires few_runs { All (λ window. length window.runs.items ≤ 64) windows.now }
+    requires few { length windows.now ≤ most_windows }
+    requires few_runs { All (λ window. length window.runs.items ≤ most_runs) windows.now }
     ensures { result ≡ window_spot windows.now }
 {
     let place = first_later_window(windows)?;
@@ -69,8 +70,8 @@ fn some_run_follows(runs: &[RunText]) -> bool
 
 /// The window with this number, from 0, where it has probes; else its first run that follows another.
 fn form_in(number: u32, window: &WindowText) -> Option<Spot>
-    requires window { number < 288 }
-    requires few { length window.now.runs.items ≤ 64 }
+    requires window { number < most_windows }
+    requires few { length window.now.runs.items ≤ most_runs }
     ensures { result ≡ spot_of_window number window.now }
 {
     if window.probes > 0 {

@@ -6,7 +6,7 @@ use Rattle.device_gate.specs.declared.grips.Ready.{Ready}
 use Rattle.device_gate.specs.declared.slips.Slip.{Slip}
 use Rattle.device_gate.specs.declared.strangers.Stranger.{Stranger}
 use Rattle.history_book.specs.declared.entries.Entry.{Entry}
-use Rattle.hub_core.specs.HubCalls.{SameWindow, carried_by, entries_of_a_run, grip_takes}
+use Rattle.hub_core.specs.HubCalls.{SameWindow, carried_by, grip_takes}
 use Rattle.hub_core.specs.HubSteps.{Gave, Give, HubStep, Refused, Returned}
 use Rattle.hub_core.specs.OpenHubs.{OpenHub, carried_in, configuration_of, device_at, grip_in, purpose_of, state_of}
 use Rattle.hub_core.specs.Steps.{after_give, at_moment, give_entries}
@@ -18,7 +18,7 @@ use Rattle.run_replay.proofs.Making.{give_makes}
 use Rattle.run_replay.proofs.Picking.{acted_is_picked, full_is, met}
 use Rattle.run_replay.proofs.Stepping.{gave_fewer}
 use Rattle.run_replay.proofs.Taking.{grown, stays_by}
-use Rattle.run_replay.specs.Players.{HavePlans, PlayerIsKept, PlayerState, is_ended, is_full, play_of, steps_left}
+use Rattle.run_replay.specs.Players.{HavePlans, PlayerIsKept, PlayerState, is_ended, is_full, most_made, play_of, steps_left}
 use Rattle.run_replay.specs.Playing.{IsPicked}
 use Rattle.run_replay.specs.Replays.{Made, takes_of}
 use Rattle.std.proofs.Common.{ap, arith, refl, subst, sym, ◌∙◌}
@@ -135,7 +135,7 @@ given_picked_now {D = D} now s t a grip done entries same by acts = (acts + 1, s
 pub given_plans_now : {D P : Type 0} (plan : D → P) (now s t : PlayerState D) (a : ℕ) (grip : Gripped D Ready) (done : Gripped D Done) (entries : List Entry) → s ≡ now → IsGivenBack s t a grip done entries → plan done.device ≡ plan grip.device → (plans : ℕ → P) → HavePlans plan plans now → HavePlans plan plans t
 given_plans_now {D = D} plan now s t a grip done entries same by own plans have = gives_plans plan plans s t a grip done.device (gives_of s t a grip done entries by) by.is.kept own (subst (λ (x : PlayerState D). HavePlans plan plans x) (sym same) have)
 
-pub given_fewer_now : {D : Type 0} (now s t : PlayerState D) (a : ℕ) (grip : Gripped D Ready) (done : Gripped D Done) (entries : List Entry) → s ≡ now → IsGivenBack s t a grip done entries → length t.hub.history ≤ entries_of_a_run * length t.hub.setting.runs → steps_left t < steps_left now
+pub given_fewer_now : {D : Type 0} (now s t : PlayerState D) (a : ℕ) (grip : Gripped D Ready) (done : Gripped D Done) (entries : List Entry) → s ≡ now → IsGivenBack s t a grip done entries → length t.hub.history ≤ most_made t → steps_left t < steps_left now
 given_fewer_now now s t zero grip done entries same by bound = absurd (let run = by.is.run in omega (arith, run))
 given_fewer_now {D = D} now s t (suc r) grip done entries same by bound = subst (λ (x : PlayerState D). steps_left t < steps_left x) same (gave_fewer s t r (stays_by s t by.window by.rounds) by.grips by.place (grows s t (suc r) grip done entries by) bound)
 

@@ -3,13 +3,9 @@ use Rattle.device_gate.specs.Places.{all_home}
 use Rattle.device_gate.specs.declared.gates.Place.TheVariants.{Out}
 use Rattle.device_gate.specs.declared.slips.Slip.{Slip}
 use Rattle.device_gate.specs.declared.slips.Task.{Task}
-use Rattle.run_replay.specs.Players.{PlayerIsKept, PlayerState}
+use Rattle.run_replay.specs.Players.{HoldNothing, PlayerIsKept, PlayerState}
 use Rattle.std.proofs.Common.{ap, arith, refl, sym, ◌∙◌}
 use Rattle.std.specs.Prelude.{List, None, Option, Some, [], length, slice_get, suc, zero, ℕ, ◌++◌, ◌<◌, ◌∷◌, ◌≡◌}
-
--- none of these hands holds a thing
-abbrev pub HoldNothing : {A : Type 0} → List (Option A) → Type 0
-HoldNothing {A} hands = (a : ℕ) (x : A) → slice_get hands a ≡ Some (Some x) → ⊥
 
 no_hands : {A : Type 0} → HoldNothing {A = A} []
 no_hands a x at = absurd (cc)

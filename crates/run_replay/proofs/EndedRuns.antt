@@ -3,7 +3,7 @@ use Rattle.command_rules.specs.Rosters.{is_run}
 use Rattle.history_book.specs.Histories.{reading}
 use Rattle.history_book.specs.Settings.{Setting, is_weak, run_numbers}
 use Rattle.history_book.specs.declared.records.WindowRecord.{WindowRecord}
-use Rattle.hub_core.proofs.Sizes.{run_within}
+use Rattle.hub_core.proofs.kept.Sizes.{run_within}
 use Rattle.hub_core.specs.LegalWindows.{IsLegalWindow, IsSeriallyLegal, IsWeaklyLegal, all_ended, history_of}
 use Rattle.std.proofs.Common.{arith, get_or, subst, ◌∙◌}
 use Rattle.std.proofs.lemmas.List.Elements.{All-get_or}

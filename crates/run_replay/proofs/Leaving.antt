@@ -11,7 +11,7 @@ use Rattle.history_book.specs.Settings.{Setting, is_weak}
 use Rattle.history_book.specs.declared.entries.Cause.{Cause}
 use Rattle.history_book.specs.declared.entries.Entry.TheVariants.{Arrived, Did, Doomed, Ended, Fell, Placed, Rose, Undid}
 use Rattle.history_book.specs.declared.entries.Entry.{Entry}
-use Rattle.hub_core.proofs.Choices.{decide_is}
+use Rattle.hub_core.proofs.steps.Choices.{decide_is}
 use Rattle.hub_core.specs.OpenHubs.{configuration_of}
 use Rattle.hub_core.specs.HubCalls.{SameWindow}
 use Rattle.hub_core.specs.Steps.{Absent, Choice, HandsOut, Moves, Over, Waits, after_choice, after_give, after_take, at_moment, choice_of, give_entries}

@@ -9,8 +9,8 @@ use Rattle.hub_core.specs.Homes.{HomeState}
 use Rattle.hub_core.specs.HubCalls.{IsOpened as IsOpenedOn}
 use Rattle.hub_core.specs.OpenHubs.{OpenHub, configuration_of, device_at, grip_in}
 use Rattle.hub_core.specs.Steps.{opened}
-use Rattle.run_replay.proofs.EmptyHands.{HoldNothing, empty_there}
-use Rattle.run_replay.specs.Players.{IsOpened, PlayerIsKept, PlayerState}
+use Rattle.run_replay.proofs.EmptyHands.{empty_there}
+use Rattle.run_replay.specs.Players.{HoldNothing, IsOpened, PlayerIsKept, PlayerState}
 use Rattle.std.proofs.Common.{ap, arith, refl, subst, sym, ◌∙◌}
 use Rattle.std.proofs.lemmas.Grind.{common_steps}
 use Rattle.std.specs.Prelude.{Bool, List, Option, Some, false, if◌then◌else◌, length, slice_get, suc, true, zero, ℕ, ◌*◌, ◌+◌, ◌<◌, ◌^◌, ◌≡◌, ◌≤◌}

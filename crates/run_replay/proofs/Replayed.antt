@@ -5,7 +5,8 @@ use Rattle.device_gate.specs.declared.gates.Place.{Place}
 use Rattle.device_gate.specs.declared.slips.Told.TheVariants.{Worked}
 use Rattle.history_book.specs.declared.records.WindowRecord.{WindowRecord}
 use Rattle.hub_core.specs.Homes.{HomeState}
-use Rattle.hub_core.specs.HubCalls.{HubStands, IsClosed, SameWindow}
+use Rattle.hub_core.proofs.calls.HubCloses.{at_place}
+use Rattle.hub_core.specs.HubCalls.{HubStands, IsClosed, NoneFails, SameWindow}
 use Rattle.hub_core.specs.LegalWindows.{IsLegalWindow}
 use Rattle.hub_core.specs.OpenHubs.{OpenHub, configuration_of, device_at}
 use Rattle.hub_core.specs.Steps.{not_quiet}
@@ -17,10 +18,10 @@ use Rattle.run_replay.specs.Players.{HavePlans, IsOpened, PlayerIsKept, PlayerSt
 use Rattle.run_replay.specs.Playing.{IsFinished, IsPlayed}
 use Rattle.run_replay.specs.ReplayedWindows.{IsReplayed, RunsHaveEnded}
 use Rattle.run_replay.specs.Replays.{Course, IsReplay}
-use Rattle.std.proofs.Common.{ap, inl, inr, refl, subst, sym, ◌∙◌}
+use Rattle.std.proofs.Common.{ap, arith, inl, inr, refl, subst, sym, ◌∙◌}
 use Rattle.std.proofs.lemmas.List.{length-map}
 use Rattle.std.proofs.lemmas.Option.{slice_get-map}
-use Rattle.std.specs.Prelude.{List, None, Option, Some, length, option_map, slice_get, slice_index_or, ℕ, ◌+◌, ◌-◌, ◌≡◌}
+use Rattle.std.specs.Prelude.{List, None, Option, Some, length, option_map, slice_get, slice_index_or, ℕ, ◌+◌, ◌-◌, ◌<◌, ◌≡◌}
 
 -- from the opening over the picks to the end, what the player's calls answer
 pub record Went {D : Type 0} (hub : OpenHub D) (picks : List ℕ) (seed rounds : ℕ) (first played last : PlayerState D) : Type 0 where
@@ -60,8 +61,8 @@ is_replay hub picks seed rounds first played last went =
     between = (went.plays 0).0
 
 -- the hub is quiet then
-pub quiet_then : {D : Type 0} (stands turns probes : D → ℕ) (hub : OpenHub D) (picks : List ℕ) (seed rounds : ℕ) (first played last : PlayerState D) → Went hub picks seed rounds first played last → PlayerIsKept last → HubStands stands turns probes last.hub → not_quiet (configuration_of last.hub) ≡ None
-quiet_then stands turns probes hub picks seed rounds first played last went kept stand =
+pub quiet_then : {D : Type 0} (stands turns probes faults : D → ℕ) (hub : OpenHub D) (picks : List ℕ) (seed rounds : ℕ) (first played last : PlayerState D) → Went hub picks seed rounds first played last → PlayerIsKept last → HubStands stands turns probes faults last.hub → not_quiet (configuration_of last.hub) ≡ None
+quiet_then stands turns probes faults hub picks seed rounds first played last went kept stand =
     quiet_at_end last kept stand.grips (sym (actors_are course last later kept stand.size (sym went.rounds_last)) ∙ (went.finishes between).1.over course refl)
   where
     between : ℕ
@@ -90,19 +91,19 @@ home_at : {D : Type 0} (places : List (Place D)) (devices : List D) (d : ℕ) (d
 home_at places devices d device all at = ap (λ ps. slice_get ps d) all ∙ slice_get-map (λ x. Home x) devices d ∙ ap (option_map (λ x. Home x)) at
 
 pub replayed_so : {D : Type 0} (tag : D → ℕ) (plan : D → Option (List (ℕ × ℕ))) (stands turns probes faults : D → ℕ) (hub : OpenHub D) (picks : List ℕ) (seed rounds : ℕ) (first played last : PlayerState D) (home : HomeState D) (closed : WindowRecord)
-    → Went hub picks seed rounds first played last → HubStands stands turns probes hub → HubStands stands turns probes last.hub → HavePlans plan (plans_of plan hub) last → IsClosed turns probes faults last.hub home closed → AreNumbered tag home.devices
+    → Went hub picks seed rounds first played last → HubStands stands turns probes faults hub → HubStands stands turns probes faults last.hub → HavePlans plan (plans_of plan hub) last → IsClosed turns probes faults last.hub home closed → AreNumbered tag home.devices → ((d : ℕ) (device : D) → slice_get home.devices d ≡ Some device → faults device ≡ 0)
     → IsReplayed tag plan turns probes faults hub picks seed rounds home closed
-replayed_so {D = D} tag plan stands turns probes faults hub picks seed rounds first played last home closed went before after plans closes numbered = record {
+replayed_so {D = D} tag plan stands turns probes faults hub picks seed rounds first played last home closed went before after plans closes numbered calm = record {
   legal = subst (λ w. IsLegalWindow w closed) window.setting closes.legal;
   play = play_of last (acts_of hub picks seed rounds first played last went);
   is_replay = is_replay hub picks seed rounds first played last went;
   history = closes.history;
-  ends = subst (λ w. RunsHaveEnded w closed) window.setting (record { ended = each_has_ended last.hub.setting closed closes.legal; commits = closes.commits });
+  ends = subst (λ w. RunsHaveEnded w closed) window.setting (record { ended = each_has_ended last.hub.setting closed closes.legal; commits = closes.commits; stage_calm = calm_then });
   kinds = closes.kinds ∙ ap (λ w. w.kinds) window.setting;
   last = closes.last;
   opened = closes.opened ∙ ap (λ n. n + 1) window.opened;
-  up = closes.up;
-  size = sym (length-map home.devices (λ x. Home x)) ∙ ap (λ ps. length ps) (sym closes.places) ∙ after.size ∙ ap (λ w. length w.first) window.setting ∙ sym before.size;
+  up = λ calm. closes.up (subst (λ w. NoneFails w closed.faults.items) (sym window.setting) calm);
+  size = sizes ∙ ap (λ w. length w.first) window.setting ∙ sym before.size;
   numbered = numbered;
   plans = λ d x y x_at y_at. plans d y (inl (home_at last.hub.places home.devices d y closes.places y_at)) ∙ ap (plan_in plan) x_at;
   turns_rose = λ d y y_at. closes.turns_rose d y y_at ∙ ap (λ c. c.turns + slice_index_or closed.turns.items d 0) (window.at_opening d);
@@ -112,3 +113,13 @@ replayed_so {D = D} tag plan stands turns probes faults hub picks seed rounds fi
   where
     window : SameWindow hub last.hub
     window = window_of hub picks seed rounds first played last went
+
+    sizes : length home.devices ≡ length last.hub.setting.first
+    sizes = sym (length-map home.devices (λ x. Home x)) ∙ ap (λ ps. length ps) (sym closes.places) ∙ after.size
+
+    -- a device that has never failed did not fail in the window
+    steady : (d : ℕ) → (device : D) × (slice_get home.devices d ≡ Some device) → slice_index_or closed.faults.items d 0 ≡ 0
+    steady d (device, at) = let rose = closes.faults_rose d device at in let none = calm d device at in omega (arith, rose, none)
+
+    calm_then : NoneFails last.hub.setting closed.faults.items
+    calm_then = record { up = after.stage.up; steady = λ d within. steady d (at_place home.devices d (omega (arith, within, sizes))) }

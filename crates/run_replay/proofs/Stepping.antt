@@ -1,9 +1,9 @@
 -- Each step that is no wait leaves fewer steps.
 use Rattle.device_gate.specs.Grips.{Gripped}
 use Rattle.device_gate.specs.declared.grips.Ready.{Ready}
-use Rattle.hub_core.specs.HubCalls.{entries_of_a_run}
+use Rattle.hub_core.specs.Bounds.{most_entries}
 use Rattle.run_replay.proofs.Settings.{fill_place, free_place}
-use Rattle.run_replay.specs.Players.{PlayerState, empty_places, first_is_full, steps_left}
+use Rattle.run_replay.specs.Players.{PlayerState, empty_places, first_is_full, most_made, steps_left}
 use Rattle.std.proofs.Common.{ap, arith, refl, subst, sym, ◌∙◌}
 use Rattle.std.specs.Prelude.{List, None, Option, Some, [], drop, length, slice_get, slice_set, suc, ℕ, ◌*◌, ◌+◌, ◌-◌, ◌<◌, ◌∷◌, ◌≡◌, ◌≤◌}
 
@@ -26,6 +26,14 @@ pub record StaysBy {D : Type 0} (s t : PlayerState D) : Type 0 where
   pub runs : length t.hub.setting.runs ≡ length s.hub.setting.runs
   pub devices : length t.hub.setting.first ≡ length s.hub.setting.first
   pub rounds : t.rounds ≡ s.rounds
+  pub probes : t.hub.rounds ≡ s.hub.rounds
+
+-- its history has as many entries at most
+pub same_most : {D : Type 0} (s t : PlayerState D) → length t.hub.setting.runs ≡ length s.hub.setting.runs → length t.hub.setting.first ≡ length s.hub.setting.first → t.hub.rounds ≡ s.hub.rounds → most_made t ≡ most_made s
+same_most s t runs devices probes =
+    ap (λ n. most_entries n (length t.hub.setting.first) t.hub.rounds) runs
+    ∙ ap (λ n. most_entries (length s.hub.setting.runs) n t.hub.rounds) devices
+    ∙ ap (λ n. most_entries (length s.hub.setting.runs) (length s.hub.setting.first) n) probes
 
 rounds_left : {D : Type 0} (s t : PlayerState D) → StaysBy s t → t.place ≡ s.place → t.rounds * length t.hub.setting.first - t.place ≡ s.rounds * length s.hub.setting.first - s.place
 rounds_left s t same place = ap (λ n. n * length t.hub.setting.first - t.place) same.rounds ∙ ap (λ n. s.rounds * n - t.place) same.devices ∙ ap (λ n. s.rounds * length s.hub.setting.first - n) place
@@ -34,18 +42,18 @@ fewer : (bound h h' e e' c c' f f' : ℕ) → h < h' → h' ≤ bound → e' ≤
 fewer bound h h' e e' c c' f f' more low most same full = omega (arith, more, low, most, same, full)
 
 -- entries were made, and at most one run gave its grip back
-made_by : {D : Type 0} (s t : PlayerState D) → StaysBy s t → empty_places (drop 1 t.grips) ≤ empty_places (drop 1 s.grips) + 1 → first_is_full t.grips ≡ first_is_full s.grips → t.place ≡ s.place → length s.hub.history < length t.hub.history → length t.hub.history ≤ entries_of_a_run * length t.hub.setting.runs → steps_left t < steps_left s
+made_by : {D : Type 0} (s t : PlayerState D) → StaysBy s t → empty_places (drop 1 t.grips) ≤ empty_places (drop 1 s.grips) + 1 → first_is_full t.grips ≡ first_is_full s.grips → t.place ≡ s.place → length s.hub.history < length t.hub.history → length t.hub.history ≤ most_made t → steps_left t < steps_left s
 made_by s t same most full place more bound =
-    let runs : entries_of_a_run * length t.hub.setting.runs ≡ entries_of_a_run * length s.hub.setting.runs = ap (λ n. entries_of_a_run * n) same.runs in
-    let left = fewer (entries_of_a_run * length t.hub.setting.runs) (length s.hub.history) (length t.hub.history) (empty_places (drop 1 s.grips)) (empty_places (drop 1 t.grips)) (s.rounds * length s.hub.setting.first - s.place) (t.rounds * length t.hub.setting.first - t.place) (first_is_full s.grips) (first_is_full t.grips) more bound most (rounds_left s t same place) full in
+    let runs = same_most s t same.runs same.devices same.probes in
+    let left = fewer (most_made t) (length s.hub.history) (length t.hub.history) (empty_places (drop 1 s.grips)) (empty_places (drop 1 t.grips)) (s.rounds * length s.hub.setting.first - s.place) (t.rounds * length t.hub.setting.first - t.place) (first_is_full s.grips) (first_is_full t.grips) more bound most (rounds_left s t same place) full in
     subst (λ n. steps_left t < 2 * (n - length s.hub.history) + empty_places (drop 1 s.grips) + 2 * (s.rounds * length s.hub.setting.first - s.place) + first_is_full s.grips) runs left
 
 -- entries were made
-pub made_fewer : {D : Type 0} (s t : PlayerState D) → StaysBy s t → t.grips ≡ s.grips → t.place ≡ s.place → length s.hub.history < length t.hub.history → length t.hub.history ≤ entries_of_a_run * length t.hub.setting.runs → steps_left t < steps_left s
+pub made_fewer : {D : Type 0} (s t : PlayerState D) → StaysBy s t → t.grips ≡ s.grips → t.place ≡ s.place → length s.hub.history < length t.hub.history → length t.hub.history ≤ most_made t → steps_left t < steps_left s
 made_fewer s t same grips place more bound = made_by s t same (let e : empty_places (drop 1 t.grips) ≡ empty_places (drop 1 s.grips) = ap (λ g. empty_places (drop 1 g)) grips in omega (arith, e)) (ap first_is_full grips) place more bound
 
 -- a run gave its grip back
-pub gave_fewer : {D : Type 0} (s t : PlayerState D) (r : ℕ) → StaysBy s t → t.grips ≡ slice_set s.grips (suc r) None → t.place ≡ s.place → length s.hub.history < length t.hub.history → length t.hub.history ≤ entries_of_a_run * length t.hub.setting.runs → steps_left t < steps_left s
+pub gave_fewer : {D : Type 0} (s t : PlayerState D) (r : ℕ) → StaysBy s t → t.grips ≡ slice_set s.grips (suc r) None → t.place ≡ s.place → length s.hub.history < length t.hub.history → length t.hub.history ≤ most_made t → steps_left t < steps_left s
 gave_fewer s t r same grips place more bound = made_by s t same
     (let e : empty_places (drop 1 t.grips) ≡ empty_places (slice_set (drop 1 s.grips) r None) = ap (λ g. empty_places (drop 1 g)) grips ∙ ap empty_places (behind_set s.grips r None) in let f = free_place (drop 1 s.grips) r in omega (arith, e, f))
     (ap first_is_full grips ∙ first_kept s.grips r None) place more bound
@@ -56,8 +64,8 @@ fewer_free b b' e e' c c' f f' same less places full = omega (arith, same, less,
 -- a run took a device
 pub took_fewer : {D : Type 0} (s t : PlayerState D) (r : ℕ) (x : Gripped D Ready) → StaysBy s t → slice_get s.grips (suc r) ≡ Some None → t.grips ≡ slice_set s.grips (suc r) (Some x) → t.place ≡ s.place → t.hub.history ≡ s.hub.history → steps_left t < steps_left s
 took_fewer s t r x same free grips place history =
-    fewer_free (entries_of_a_run * length s.hub.setting.runs - length s.hub.history) (entries_of_a_run * length t.hub.setting.runs - length t.hub.history) (empty_places (drop 1 s.grips)) (empty_places (drop 1 t.grips)) (s.rounds * length s.hub.setting.first - s.place) (t.rounds * length t.hub.setting.first - t.place) (first_is_full s.grips) (first_is_full t.grips)
-    (ap (λ n. entries_of_a_run * n - length t.hub.history) same.runs ∙ ap (λ h. entries_of_a_run * length s.hub.setting.runs - length h) history)
+    fewer_free (most_made s - length s.hub.history) (most_made t - length t.hub.history) (empty_places (drop 1 s.grips)) (empty_places (drop 1 t.grips)) (s.rounds * length s.hub.setting.first - s.place) (t.rounds * length t.hub.setting.first - t.place) (first_is_full s.grips) (first_is_full t.grips)
+    (ap (λ n. n - length t.hub.history) (same_most s t same.runs same.devices same.probes) ∙ ap (λ h. most_made s - length h) history)
     (ap (λ g. empty_places (drop 1 g) + 1) grips ∙ ap (λ g. empty_places g + 1) (behind_set s.grips r (Some x)) ∙ fill_place (drop 1 s.grips) r x (behind_get s.grips r ∙ free))
     (rounds_left s t same place)
     (ap first_is_full grips ∙ first_kept s.grips r (Some x))
@@ -93,10 +101,10 @@ fewer_devices b b' e e' all place f f' less same low full = omega (arith, less, 
 pub came_fewer : {D : Type 0} (s t : PlayerState D) → StaysBy s t → drop 1 t.grips ≡ drop 1 s.grips → first_is_full t.grips ≤ first_is_full s.grips + 1 → s.place < s.rounds * length s.hub.setting.first → t.place ≡ s.place + 1 → t.hub.history ≡ s.hub.history → steps_left t < steps_left s
 came_fewer s t same grips full low place history =
     let all : t.rounds * length t.hub.setting.first ≡ s.rounds * length s.hub.setting.first = ap (λ n. n * length t.hub.setting.first) same.rounds ∙ ap (λ n. s.rounds * n) same.devices in
-    let bound : entries_of_a_run * length t.hub.setting.runs - length t.hub.history ≡ entries_of_a_run * length s.hub.setting.runs - length s.hub.history = ap (λ n. entries_of_a_run * n - length t.hub.history) same.runs ∙ ap (λ h. entries_of_a_run * length s.hub.setting.runs - length h) history in
-    subst (λ n. 2 * (entries_of_a_run * length t.hub.setting.runs - length t.hub.history) + empty_places (drop 1 t.grips) + 2 * n + first_is_full t.grips < steps_left s)
+    let bound : most_made t - length t.hub.history ≡ most_made s - length s.hub.history = ap (λ n. n - length t.hub.history) (same_most s t same.runs same.devices same.probes) ∙ ap (λ h. most_made s - length h) history in
+    subst (λ n. 2 * (most_made t - length t.hub.history) + empty_places (drop 1 t.grips) + 2 * n + first_is_full t.grips < steps_left s)
     (ap (λ n. n - (s.place + 1)) (sym all) ∙ ap (λ n. t.rounds * length t.hub.setting.first - n) (sym place))
-    (fewer_devices (entries_of_a_run * length s.hub.setting.runs - length s.hub.history) (entries_of_a_run * length t.hub.setting.runs - length t.hub.history) (empty_places (drop 1 s.grips)) (empty_places (drop 1 t.grips)) (s.rounds * length s.hub.setting.first) s.place (first_is_full s.grips) (first_is_full t.grips)
+    (fewer_devices (most_made s - length s.hub.history) (most_made t - length t.hub.history) (empty_places (drop 1 s.grips)) (empty_places (drop 1 t.grips)) (s.rounds * length s.hub.setting.first) s.place (first_is_full s.grips) (first_is_full t.grips)
     (omega (arith, bound)) (ap empty_places grips) low full)
 
 fewer_held : (b b' e e' c c' f f' : ℕ) → b' ≤ b → e' ≡ e → c' ≡ c → f' + 1 ≡ f → 2 * b' + e' + 2 * c' + f' < 2 * b + e + 2 * c + f
@@ -105,8 +113,8 @@ fewer_held b b' e e' c c' f f' less same places held = omega (arith, less, same,
 -- the detector gave its grip back
 pub returned_fewer : {D : Type 0} (s t : PlayerState D) (x : Gripped D Ready) → StaysBy s t → slice_get s.grips 0 ≡ Some (Some x) → t.grips ≡ slice_set s.grips 0 None → t.place ≡ s.place → length s.hub.history ≤ length t.hub.history → steps_left t < steps_left s
 returned_fewer s t x same hand grips place more =
-    let bound : entries_of_a_run * length t.hub.setting.runs ≡ entries_of_a_run * length s.hub.setting.runs = ap (λ n. entries_of_a_run * n) same.runs in
+    let bound = same_most s t same.runs same.devices same.probes in
     let before : first_is_full s.grips ≡ 1 = first_full s.grips x hand in
     let after : first_is_full t.grips ≡ 0 = ap first_is_full grips ∙ first_none s.grips in
-    fewer_held (entries_of_a_run * length s.hub.setting.runs - length s.hub.history) (entries_of_a_run * length t.hub.setting.runs - length t.hub.history) (empty_places (drop 1 s.grips)) (empty_places (drop 1 t.grips)) (s.rounds * length s.hub.setting.first - s.place) (t.rounds * length t.hub.setting.first - t.place) (first_is_full s.grips) (first_is_full t.grips)
+    fewer_held (most_made s - length s.hub.history) (most_made t - length t.hub.history) (empty_places (drop 1 s.grips)) (empty_places (drop 1 t.grips)) (s.rounds * length s.hub.setting.first - s.place) (t.rounds * length t.hub.setting.first - t.place) (first_is_full s.grips) (first_is_full t.grips)
     (omega (arith, bound, more)) (ap (λ g. empty_places (drop 1 g)) grips ∙ ap empty_places (behind_first s.grips None)) (rounds_left s t same place) (omega (arith, before, after))

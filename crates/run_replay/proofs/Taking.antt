@@ -6,8 +6,8 @@ use Rattle.device_gate.specs.declared.slips.Slip.{Slip}
 use Rattle.history_book.specs.Histories.{kept_by}
 use Rattle.history_book.specs.declared.entries.Entry.{Entry}
 use Rattle.history_book.specs.declared.entries.Kept.{Kept}
-use Rattle.hub_core.proofs.Choices.{decide_is}
-use Rattle.hub_core.specs.HubCalls.{Answers, GoesOut, SameWindow, entries_of_a_run}
+use Rattle.hub_core.proofs.steps.Choices.{decide_is}
+use Rattle.hub_core.specs.HubCalls.{Answers, GoesOut, SameWindow}
 use Rattle.hub_core.specs.HubSteps.{IsSlipOf, SlipFits}
 use Rattle.hub_core.specs.OpenHubs.{configuration_of, state_of}
 use Rattle.hub_core.specs.Steps.{Absent, Choice, HandsOut, Moves, Over, Waits, after_choice, after_take, at_moment, choice_of}
@@ -17,7 +17,7 @@ use Rattle.run_replay.proofs.HubSteps.{took_after, took_choice}
 use Rattle.run_replay.proofs.Making.{Makes, choice_makes}
 use Rattle.run_replay.proofs.Picking.{IsGoing, empty_is, passed_is_picked, taken_is_picked}
 use Rattle.run_replay.proofs.Stepping.{StaysBy, made_fewer, took_fewer}
-use Rattle.run_replay.specs.Players.{HavePlans, PlayerIsKept, PlayerState, is_ended, is_full, play_of, steps_left}
+use Rattle.run_replay.specs.Players.{HavePlans, PlayerIsKept, PlayerState, is_ended, is_full, most_made, play_of, steps_left}
 use Rattle.run_replay.specs.Playing.{IsPicked}
 use Rattle.run_replay.specs.Replays.{Passed, Took, picked_by}
 use Rattle.std.proofs.Common.{ap, arith, refl, subst, sym, ◌∙◌}
@@ -124,7 +124,7 @@ longer : {D : Type 0} (s t : PlayerState D) (r : ℕ) → configuration_of t.hub
 longer s t r is = subst (λ (c : Configuration). length s.hub.history ≤ length c.history) (sym is) (history_by (at_moment (configuration_of s.hub) s.moment) r (choice_of (configuration_of s.hub) r s.moment))
 
 pub stays_by : {D : Type 0} (s t : PlayerState D) → SameWindow s.hub t.hub → t.rounds ≡ s.rounds → StaysBy s t
-stays_by s t window rounds = record { runs = ap (λ w. length w.runs) window.setting; devices = ap (λ w. length w.first) window.setting; rounds = rounds }
+stays_by s t window rounds = record { runs = ap (λ w. length w.runs) window.setting; devices = ap (λ w. length w.first) window.setting; rounds = rounds; probes = window.rounds }
 
 moved : {D : Type 0} (s t : PlayerState D) (r : ℕ) (choice : Choice) → IsAnswered s t r choice → MovesOn s t
 moved s t r choice is = record {
@@ -166,7 +166,7 @@ there_is s r free = decide_is (λ c. c ≢ Absent) s.hub.setting (read_of (confi
 })
 
 -- what is no wait and hands nothing out leaves fewer steps
-pub answered_fewer : {D : Type 0} (s t : PlayerState D) (r : ℕ) (choice : Choice) → makes choice ≡ true → IsAnswered s t r choice → length t.hub.history ≤ entries_of_a_run * length t.hub.setting.runs → steps_left t < steps_left s
+pub answered_fewer : {D : Type 0} (s t : PlayerState D) (r : ℕ) (choice : Choice) → makes choice ≡ true → IsAnswered s t r choice → length t.hub.history ≤ most_made t → steps_left t < steps_left s
 answered_fewer s t r choice yes' is bound =
     let same = chosen s t r choice is.answers in
     let more : length s.hub.history < length t.hub.history = subst (λ (c : Configuration). length s.hub.history < length c.history) (sym (after s t r choice is.answers))
@@ -235,7 +235,7 @@ answered_picked_now {D = D} now s t r choice same is acts = (acts, subst (λ (x 
 pub answered_plans_now : {D P : Type 0} (plan : D → P) (now s t : PlayerState D) (r : ℕ) (choice : Choice) → s ≡ now → IsAnswered s t r choice → (plans : ℕ → P) → HavePlans plan plans now → HavePlans plan plans t
 answered_plans_now {D = D} plan now s t r choice same is plans have = answered_plans plan plans s t r choice is (subst (λ (x : PlayerState D). HavePlans plan plans x) (sym same) have)
 
-pub answered_fewer_now : {D : Type 0} (now s t : PlayerState D) (r : ℕ) (choice : Choice) → s ≡ now → makes choice ≡ true → IsAnswered s t r choice → length t.hub.history ≤ entries_of_a_run * length t.hub.setting.runs → steps_left t < steps_left now
+pub answered_fewer_now : {D : Type 0} (now s t : PlayerState D) (r : ℕ) (choice : Choice) → s ≡ now → makes choice ≡ true → IsAnswered s t r choice → length t.hub.history ≤ most_made t → steps_left t < steps_left now
 answered_fewer_now {D = D} now s t r choice same yes' is bound = subst (λ (x : PlayerState D). steps_left t < steps_left x) same (answered_fewer s t r choice yes' is bound)
 
 pub went_picked_now : {D : Type 0} (now s t : PlayerState D) (r d : ℕ) (grip : Gripped D Ready) → s ≡ now → d ≡ grip.slip.device.0 → GoesToHand s t r grip → (acts : ℕ) → (later : ℕ) × IsPicked now.rounds r (play_of now acts) (Took d) (play_of t later)

@@ -2,7 +2,7 @@
 use Rattle.device_gate.specs.declared.slips.Told.TheVariants.{Worked}
 use Rattle.device_gate.specs.declared.slips.Told.{Told}
 use Rattle.history_book.proofs.Searches.{Each}
-use Rattle.hub_core.specs.HubCalls.{SameWindow, entries_of_a_run}
+use Rattle.hub_core.specs.HubCalls.{SameWindow}
 use Rattle.hub_core.specs.OpenHubs.{OpenHub}
 use Rattle.run_replay.proofs.Counting.{of_filter}
 use Rattle.run_replay.proofs.Drawn.{none_tried, tried_more, tried_moves}
@@ -12,7 +12,8 @@ use Rattle.run_replay.proofs.Picking.{empty_is, ended_is, full_is}
 use Rattle.run_replay.proofs.Progress.{each_from_place, not_all_wait}
 use Rattle.run_replay.proofs.Settings.{at_or_past}
 use Rattle.run_replay.proofs.Waiting.{same_actors, same_waits, wait_keeps, waited}
-use Rattle.run_replay.specs.Players.{PlayerIsKept, PlayerStands, PlayerState, are_live, empty_places, first_is_full, is_ended, is_full, play_of, steps_left}
+use Rattle.run_replay.proofs.Stepping.{same_most}
+use Rattle.run_replay.specs.Players.{PlayerIsKept, PlayerStands, PlayerState, are_live, empty_places, first_is_full, is_ended, is_full, most_made, play_of, steps_left}
 use Rattle.run_replay.specs.Playing.{GoesOn, IsPicked, IsTried, Tells}
 use Rattle.run_replay.specs.Replays.{Course, Pick, Picked, Play, actors, from_place, gripped, pick, pick_first, waits}
 use Rattle.std.proofs.Common.{ap, arith, inl, inr, refl, subst, sym, ◌∙◌}
@@ -85,6 +86,7 @@ pub record Stays {D : Type 0} (s t : PlayerState D) : Type 0 where
   pub before : PlayerStands s
   pub after : PlayerStands t
   pub rounds : t.rounds ≡ s.rounds
+  pub probes : t.hub.rounds ≡ s.hub.rounds
   pub play : (acts : ℕ) → play_of t acts ≡ waited (play_of s acts)
 
 same_live : {D : Type 0} (s t : PlayerState D) → Stays s t → are_live t ≡ are_live s
@@ -96,14 +98,15 @@ same_live s t stays =
 
 same_left : {D : Type 0} (s t : PlayerState D) → Stays s t → steps_left t ≡ steps_left s
 same_left s t stays =
-    let history : entries_of_a_run * length t.hub.setting.runs - length t.hub.history ≡ entries_of_a_run * length s.hub.setting.runs - length s.hub.history = ap (λ (x : Play). entries_of_a_run * length x.configuration.setting.runs - length x.configuration.history) (stays.play 0) in
+    let most = same_most s t (ap (λ (x : Play). length x.configuration.setting.runs) (stays.play 0)) (ap (λ (x : Play). length x.configuration.setting.first) (stays.play 0)) stays.probes in
+    let history : most_made t - length t.hub.history ≡ most_made s - length s.hub.history = ap (λ n. n - length t.hub.history) most ∙ ap (λ (x : Play). most_made s - length x.configuration.history) (stays.play 0) in
     let place : t.rounds * length t.hub.setting.first - t.place ≡ s.rounds * length s.hub.setting.first - s.place = ap (λ n. n * length t.hub.setting.first - t.place) stays.rounds ∙ ap (λ (x : Play). s.rounds * length x.configuration.setting.first - x.place) (stays.play 0) in
     let first : first_is_full t.grips ≡ first_is_full s.grips = no_first t.grips stays.after.kept.detector ∙ sym (no_first s.grips stays.before.kept.detector) in
     let hands : empty_places (drop 1 t.grips) ≡ empty_places (drop 1 s.grips) = same_behind t.grips s.grips size hand in
     ap (λ n. 2 * n + empty_places (drop 1 t.grips) + 2 * (t.rounds * length t.hub.setting.first - t.place) + first_is_full t.grips) history
-    ∙ ap (λ n. 2 * (entries_of_a_run * length s.hub.setting.runs - length s.hub.history) + n + 2 * (t.rounds * length t.hub.setting.first - t.place) + first_is_full t.grips) hands
-    ∙ ap (λ n. 2 * (entries_of_a_run * length s.hub.setting.runs - length s.hub.history) + empty_places (drop 1 s.grips) + 2 * n + first_is_full t.grips) place
-    ∙ ap (λ n. 2 * (entries_of_a_run * length s.hub.setting.runs - length s.hub.history) + empty_places (drop 1 s.grips) + 2 * (s.rounds * length s.hub.setting.first - s.place) + n) first
+    ∙ ap (λ n. 2 * (most_made s - length s.hub.history) + n + 2 * (t.rounds * length t.hub.setting.first - t.place) + first_is_full t.grips) hands
+    ∙ ap (λ n. 2 * (most_made s - length s.hub.history) + empty_places (drop 1 s.grips) + 2 * n + first_is_full t.grips) place
+    ∙ ap (λ n. 2 * (most_made s - length s.hub.history) + empty_places (drop 1 s.grips) + 2 * (s.rounds * length s.hub.setting.first - s.place) + n) first
   where
     size : length t.grips ≡ length s.grips
     size = stays.after.kept.actors ∙ ap (λ (x : Play). length x.configuration.setting.runs + 1) (stays.play 0) ∙ sym stays.before.kept.actors
@@ -134,8 +137,8 @@ pub record HaveWaited {D : Type 0} (old now : PlayerState D) (all : List ℕ) (s
 abbrev pub PickedNext : {D : Type 0} → PlayerState D → ℕ → Picked → PlayerState D → Type 0
 PickedNext s a picked t = (acts : ℕ) → (later : ℕ) × IsPicked s.rounds a (play_of s acts) picked (play_of t later)
 
-stays_by_wait : {D : Type 0} (s t : PlayerState D) (a : ℕ) (picked : Picked) → PlayerStands s → PlayerStands t → t.rounds ≡ s.rounds → PickedNext s a picked t → waits picked ≡ true → Stays s t
-stays_by_wait s t a picked before after rounds picks wait = record { before = before; after = after; rounds = rounds; play = play }
+stays_by_wait : {D : Type 0} (s t : PlayerState D) (a : ℕ) (picked : Picked) → PlayerStands s → PlayerStands t → t.rounds ≡ s.rounds → t.hub.rounds ≡ s.hub.rounds → PickedNext s a picked t → waits picked ≡ true → Stays s t
+stays_by_wait s t a picked before after rounds probes picks wait = record { before = before; after = after; rounds = rounds; probes = probes; play = play }
   where
     play : (acts : ℕ) → play_of t acts ≡ waited (play_of s acts)
     play acts =
@@ -144,8 +147,8 @@ stays_by_wait s t a picked before after rounds picks wait = record { before = be
         let later : pick.0 ≡ acts = ap (λ (x : Play). x.acts) same in
         ap (play_of t) (sym later) ∙ same
 
-pub one_more_waits : {D : Type 0} (old now next : PlayerState D) (all : List ℕ) (step after a : ℕ) (picked : Picked) → HaveWaited old now all step → PlayerStands next → next.rounds ≡ now.rounds → slice_get all step ≡ Some a → PickedNext now a picked next → waits picked ≡ true → after ≡ step + 1 → HaveWaited old next all after
-one_more_waits old now next all step after a picked before stands rounds at picks wait is = record {
+pub one_more_waits : {D : Type 0} (old now next : PlayerState D) (all : List ℕ) (step after a : ℕ) (picked : Picked) → HaveWaited old now all step → PlayerStands next → next.rounds ≡ now.rounds → next.hub.rounds ≡ now.hub.rounds → slice_get all step ≡ Some a → PickedNext now a picked next → waits picked ≡ true → after ≡ step + 1 → HaveWaited old next all after
+one_more_waits old now next all step after a picked before stands rounds probes at picks wait is = record {
   stands = stands;
   rounds = rounds ∙ before.rounds;
   live = same_live now next stays ∙ before.live;
@@ -164,7 +167,7 @@ one_more_waits old now next all step after a picked before stands rounds at pick
 }
   where
     stays : Stays now next
-    stays = stays_by_wait now next a picked before.stands stands rounds picks wait
+    stays = stays_by_wait now next a picked before.stands stands rounds probes picks wait
 
     newest : (b : ℕ) → a ≡ b → (course : Course) → course.rounds ≡ old.rounds → (acts : ℕ) → waits (pick course (play_of now acts) b).picked ≡ true
     newest b own course same acts = ap (λ n. waits (pick course (play_of now acts) n).picked) (sym own) ∙ (waits_ever now.rounds a (play_of now acts) (play_of next (picks acts).0) picked (picks acts).1 wait).1 course (same ∙ sym before.rounds)

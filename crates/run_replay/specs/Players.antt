@@ -6,7 +6,9 @@ use Rattle.device_gate.specs.declared.grips.Ready.{Ready}
 use Rattle.device_gate.specs.declared.slips.Slip.{Slip}
 use Rattle.device_gate.specs.declared.slips.Task.{Task}
 use Rattle.history_book.specs.Histories.{entries_made}
-use Rattle.hub_core.specs.HubCalls.{SomeRunMoves, entries_of_a_run}
+use Rattle.home_types.specs.Limits.{most_runs}
+use Rattle.hub_core.specs.Bounds.{most_entries}
+use Rattle.hub_core.specs.HubCalls.{SomeRunMoves}
 use Rattle.hub_core.specs.OpenHubs.{OpenHub, configuration_of}
 use Rattle.lock_leasing.specs.Configurations.{read_of}
 use Rattle.lock_leasing.specs.Places.{GripsFit}
@@ -87,27 +89,35 @@ first_is_full [] = 0
 first_is_full (None ∷ xs) = 0
 first_is_full (Some x ∷ xs) = 1
 
+-- how many entries its hub's history has at most
+abbrev pub most_made : {D : Type 0} → PlayerState D → ℕ
+most_made s = most_entries (length s.hub.setting.runs) (length s.hub.setting.first) s.hub.rounds
+
 -- how many steps are left at most: two for each entry that the hub may still make, one for each run without a grip, two for each device that the detector has still to come to, and one for the grip that it holds
 abbrev pub steps_left : {D : Type 0} → PlayerState D → ℕ
 steps_left s =
-    2 * (entries_of_a_run * length s.hub.setting.runs - length s.hub.history) + empty_places (drop 1 s.grips)
+    2 * (most_made s - length s.hub.history) + empty_places (drop 1 s.grips)
     + 2 * (s.rounds * length s.hub.setting.first - s.place) + first_is_full s.grips
 
 -- the actors that have not ended, ascending
 abbrev pub are_live : {D : Type 0} → PlayerState D → List ℕ
 are_live s = filter (λ a. not (is_ended s a)) (range_with_len 0 (length s.grips))
 
+-- none of these hands holds a thing
+abbrev pub HoldNothing : {A : Type 0} → List (Option A) → Type 0
+HoldNothing {A} hands = (a : ℕ) (x : A) → slice_get hands a ≡ Some (Some x) → ⊥
+
 -- a player of the hub, with an empty hand for each actor, at the start of its play
 pub record IsOpened {D : Type 0} (hub : OpenHub D) (rounds : ℕ) (s : PlayerState D) : Type 0 where
   pub own : s.hub ≡ hub
   pub detector : s.rounds ≡ rounds
   pub start : play_of s 0 ≡ start_of hub.setting hub.rounds
-  pub hands : (a : ℕ) (grip : Gripped D Ready) → slice_get s.grips a ≡ Some (Some grip) → ⊥
+  pub hands : HoldNothing s.grips
 
 -- what stands of every player: what is kept of it, and what its hub tells
 pub record PlayerStands {D : Type 0} (s : PlayerState D) : Type 0 where
   pub kept : PlayerIsKept s
   pub size : length s.hub.places ≡ length s.hub.setting.first
-  pub few_runs : length s.hub.setting.runs ≤ 64
+  pub few_runs : length s.hub.setting.runs ≤ most_runs
   pub grips : GripsFit s.hub.setting (read_of (configuration_of s.hub)) (configuration_of s.hub).grips
   pub moves : SomeRunMoves (configuration_of s.hub)

@@ -1,8 +1,8 @@
-ghost use Rattle.std.specs.Prelude.{◌≡◌, ◌≢◌, ◌<◌, ◌≤◌, None, Some, IfErr, IfOk, false, length, true, ℕ};
+ghost use Rattle.std.specs.Prelude.{◌≡◌, ◌≢◌, ◌<◌, ◌≤◌, None, Some, IfErr, IfOk, false, length, true, vec_capacity, ℕ};
 ghost use Rattle.hub_core.specs.HubCalls.{HubStands, IsClosed, SameWindow};
 ghost use Rattle.hub_core.specs.OpenHubs.{configuration_of};
 ghost use Rattle.hub_core.specs.Steps.{not_quiet, opened};
-ghost use Rattle.run_replay.specs.Players.{HavePlans, IsOpened, PlayerStands, is_ended, is_full, picked_of, play_of, steps_left};
+ghost use Rattle.run_replay.specs.Players.{HavePlans, HoldNothing, IsOpened, PlayerStands, is_ended, is_full, picked_of, play_of, steps_left};
 ghost use Rattle.run_replay.specs.Playing.{IsPicked};
 ghost use Rattle.run_replay.specs.Replays.{waits};
 
@@ -55,15 +55,9 @@ impl<D: Steady> Hands<D> {
         ensures refused { IfErr result (λ refused. refused.0 ≡ hub) }
     {
         hub.kept();
-        let mut grips = Vec::new(alloc);
-        let actors = hub.run_count() as usize + 1;
-        if grips.reserve(actors).is_err() {
-            grips.destroy_empty();
+        let Ok(grips) = empty_hands(alloc, hub.run_count() as usize + 1) else {
             return Err((hub, NoMemory));
-        }
-        'actors: while grips.len() < actors {
-            grips.push_reserved(None);
-        }
+        };
         Ok(Hands {
             hub,
             grips,
@@ -179,7 +173,7 @@ impl<D: Steady> Hands<D> {
     /// Does nothing. Its contract is what is kept of every player and of its hub, and that its window is never stuck.
     pub(crate) fn kept(&self)
         ensures player { PlayerStands self.now }
-        ensures hub { HubStands D.stands D.turns D.probes self.now.hub }
+        ensures hub { HubStands D.stands D.turns D.probes D.faults self.now.hub }
     {
         self.hub.kept();
         self.hub.progress();
@@ -225,4 +219,22 @@ impl<D: Steady> Hands<D> {
             )),
         }
     }
+}
+
+/// An empty hand for each of so many actors, and room for no more.
+fn empty_hands<D: Device>(
+    alloc: Global,
+    actors: usize,
+) -> Result<Vec<Option<Grip<D, Ready>>>, NoMemory>
+    ensures empty { IfOk result (λ hands. HoldNothing hands.items) }
+    ensures count { IfOk result (λ hands. length hands.items ≡ actors) }
+    ensures room { IfOk result (λ hands. vec_capacity hands ≡ actors) }
+{
+    let Ok(mut hands) = Vec::with_capacity(alloc, actors) else {
+        return Err(NoMemory);
+    };
+    'actors: while hands.len() < actors {
+        hands.push_reserved(None);
+    }
+    Ok(hands)
 }

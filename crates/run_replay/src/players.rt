@@ -69,7 +69,7 @@ impl<D: Steady> Player<D> {
     /// Does nothing. Its contract is what is kept of every player and of its hub, and that its window is never stuck.
     pub(crate) fn kept(&self)
         ensures player { PlayerStands self.now }
-        ensures hub { HubStands D.stands D.turns D.probes self.now.hub }
+        ensures hub { HubStands D.stands D.turns D.probes D.faults self.now.hub }
     {
         self.hands.kept();
     }

@@ -24,11 +24,9 @@ impl<D: Steady> Player<D> {
         ensures refused { IfErr result (λ refused. refused.0 ≡ hub) }
     {
         let count = hub.run_count() + 1;
-        let mut actors = Vec::new(alloc);
-        if actors.reserve(count as usize).is_err() {
-            actors.destroy_empty();
+        let Ok(mut actors) = Vec::with_capacity(alloc, count as usize) else {
             return Err((hub, NoMemory));
-        }
+        };
         match Hands::open(alloc, hub, rounds) {
             Ok(hands) => {
                 hands.kept();
@@ -89,6 +87,7 @@ pub fn replay_window<D: Steady>(
     match player.close() {
         Ok(closed) => {
             closed.0.kept();
+            closed.0.calm();
             Ok(closed)
         }
         Err((_player, _why)) => unreachable!(),

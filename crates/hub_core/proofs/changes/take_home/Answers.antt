@@ -1,6 +1,6 @@
 use Rattle.device_gate.specs.Calls.{has_died, value_after}
-use Rattle.hub_core.proofs.HubOuts.{at_index}
-use Rattle.hub_core.proofs.HubReturns.{has_lived, home_again, same_home}
+use Rattle.hub_core.proofs.calls.HubOuts.{at_index}
+use Rattle.hub_core.proofs.calls.HubReturns.{has_lived, home_again, same_home}
 use Rattle.hub_core.proofs.changes.take_home.Goals as goal
 use Rattle.hub_core.specs.OpenHubs.{device_at}
 use Rattle.hub_core.specs.declared.known.DeviceProgress.{DeviceProgress}

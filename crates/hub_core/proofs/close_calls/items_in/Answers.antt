@@ -1,4 +1,4 @@
-use Rattle.hub_core.proofs.HubCloses.{took_next}
+use Rattle.hub_core.proofs.calls.HubCloses.{took_next}
 use Rattle.hub_core.proofs.close_calls.items_in.Goals as goal
 use Rattle.serial_line.specs.Marks.{items_of}
 use Rattle.std.proofs.Common.{ap, arith, length, sym, ◌<◌, ◌∷◌, ◌++◌, [], ◌∙◌}

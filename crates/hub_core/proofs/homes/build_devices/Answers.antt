@@ -1,4 +1,4 @@
-use Rattle.hub_core.proofs.NewDevices.{new_next}
+use Rattle.hub_core.proofs.calls.NewDevices.{new_next}
 use Rattle.hub_core.proofs.homes.build_devices.Goals as goal
 use Rattle.hub_core.specs.Homes.{AreNew}
 use Rattle.routine_reader.specs.declared.scripts.DeviceText.{DeviceText}

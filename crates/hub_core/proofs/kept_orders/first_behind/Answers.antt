@@ -1,4 +1,4 @@
-use Rattle.hub_core.proofs.Scheduling.{found_first, found_none}
+use Rattle.hub_core.proofs.calls.Scheduling.{found_first, found_none}
 use Rattle.hub_core.proofs.kept_orders.first_behind.Goals as goal
 use Rattle.lineage_table.specs.Lineages.{accesses_at}
 use Rattle.serial_line.specs.Marks.{items_of}

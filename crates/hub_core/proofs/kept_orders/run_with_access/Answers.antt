@@ -1,4 +1,4 @@
-use Rattle.hub_core.proofs.Scheduling.{ran_found}
+use Rattle.hub_core.proofs.calls.Scheduling.{ran_found}
 use Rattle.hub_core.proofs.kept_orders.run_with_access.Goals as goal
 use Rattle.lineage_table.specs.Lineages.{accesses_at}
 use Rattle.std.specs.Prelude.{false, true}

@@ -1,5 +1,5 @@
 use Rattle.home_types.specs.declared.commands.Command.{Command}
-use Rattle.hub_core.proofs.Scheduling.{schedules, schedules_no_more}
+use Rattle.hub_core.proofs.calls.Scheduling.{schedules, schedules_no_more}
 use Rattle.hub_core.proofs.kept_orders.schedule.Goals as goal
 use Rattle.hub_core.proofs.kept_orders.schedule.Goals.{in-Some, in_default}
 use Rattle.std.proofs.Common.{arith, length, subst, sym, ◌<◌}

@@ -1,4 +1,4 @@
-use Rattle.hub_core.proofs.Scheduling.{IsScheduledTo}
+use Rattle.hub_core.proofs.calls.Scheduling.{IsScheduledTo}
 use Rattle.hub_core.proofs.kept_orders.schedule.Given as goal
 use Rattle.hub_core.specs.PlansInTurn.{planned_in_turn}
 use Rattle.serial_line.specs.Marks.{items_of}

@@ -1,5 +1,5 @@
 use Rattle.home_types.specs.declared.numbers.DeviceNo.{DeviceNo}
-use Rattle.hub_core.proofs.HubOpens.{replicate_more}
+use Rattle.hub_core.proofs.calls.HubOpens.{replicate_more}
 use Rattle.hub_core.proofs.open_calls.no_hands.Goals as goal
 use Rattle.std.proofs.Common.{None, Option, [], ap, ◌++◌, ◌∙◌, ◌∷◌}
 

@@ -1,4 +1,4 @@
-use Rattle.hub_core.proofs.HubOpens.{replicate_more}
+use Rattle.hub_core.proofs.calls.HubOpens.{replicate_more}
 use Rattle.hub_core.proofs.open_calls.no_progress.Goals as goal
 use Rattle.hub_core.specs.OpeningRooms.{no_progress}
 use Rattle.std.proofs.Common.{[], ap, ◌++◌, ◌∙◌, ◌∷◌}

@@ -1,4 +1,4 @@
-use Rattle.hub_core.proofs.PlannedUses.{use_from, use_is}
+use Rattle.hub_core.proofs.calls.PlannedUses.{use_from, use_is}
 use Rattle.hub_core.proofs.plans.planned_uses.Goals as goal
 use Rattle.hub_core.specs.PlansInTurn.{planned_in_turn}
 use Rattle.std.proofs.Common.{ap, arith, refl, sym, ◌∙◌}

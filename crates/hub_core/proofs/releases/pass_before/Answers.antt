@@ -1,5 +1,5 @@
-use Rattle.hub_core.proofs.NotedAnswers.{acquired_now, lineage_set}
-use Rattle.hub_core.proofs.PassedRuns.{passed_all, passed_one, passes_run}
+use Rattle.hub_core.proofs.calls.NotedAnswers.{acquired_now, lineage_set}
+use Rattle.hub_core.proofs.calls.PassedRuns.{passed_all, passed_one, passes_run}
 use Rattle.hub_core.proofs.releases.pass_before.Goals as goal
 use Rattle.home_types.specs.declared.commands.View.TheVariants.{Down}
 use Rattle.lineage_table.specs.Accesses.{status_of}

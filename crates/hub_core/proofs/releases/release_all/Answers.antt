@@ -1,4 +1,4 @@
-use Rattle.hub_core.proofs.PassedRuns.{dooms_nothing}
+use Rattle.hub_core.proofs.calls.PassedRuns.{dooms_nothing}
 use Rattle.hub_core.proofs.releases.release_all.Goals as goal
 use Rattle.lineage_laws.proofs.Sweeps.{changed_all, changed_more, changed_none}
 use Rattle.window_order.specs.TableChanges.{doomed_unless}

@@ -1,4 +1,4 @@
-use Rattle.hub_core.proofs.NewHomes.{new_home}
+use Rattle.hub_core.proofs.calls.NewHomes.{new_home}
 use Rattle.hub_core.proofs.homes.Home.build.Goals as goal
 
 -- src/homes.rt:54:9

@@ -1,4 +1,4 @@
-use Rattle.hub_core.proofs.HubOpens.{known_more}
+use Rattle.hub_core.proofs.calls.HubOpens.{known_more}
 use Rattle.hub_core.proofs.homes.Home.known_devices.Goals as goal
 
 -- one more

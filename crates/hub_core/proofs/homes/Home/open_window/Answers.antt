@@ -1,12 +1,13 @@
-use Rattle.hub_core.proofs.HubOpens.{Opens, first_order, first_hands, first_kept, first_opened, first_room, is_first_hub, setting_of_indexed}
-use Rattle.hub_core.proofs.HubOrders.{index_fits}
+use Rattle.hub_core.proofs.calls.HubOpens.{Opens, first_order, first_hands, first_kept, first_opened, first_room, is_first_hub, setting_of_indexed}
+use Rattle.hub_core.proofs.calls.HubOrders.{index_fits}
 use Rattle.hub_core.proofs.homes.Home.open_window.Goals as goal
 use Rattle.hub_core.specs.Homes.{HomeIsKept, HomeState, setting_for}
-use Rattle.hub_core.specs.HubCalls.{IsOpened, entries_of_a_run}
+use Rattle.hub_core.specs.Bounds.{most_entries}
+use Rattle.hub_core.specs.HubCalls.{IsOpened}
 use Rattle.hub_core.specs.HubsKept.{HandsAre, HasRoomLeft, HubIsKept}
 use Rattle.hub_core.specs.KeptOrders.{OrderIsBeside}
 use Rattle.hub_core.specs.OpenHubs.{OpenHub, configuration_of}
-use Rattle.std.proofs.Common.{length, subst, sym, ◌*◌, ◌≤◌}
+use Rattle.std.proofs.Common.{arith, length, subst, sym, ◌*◌, ◌≤◌}
 
 pub open-requires : goal.open-requires
 open-requires g c = index_fits (setting_for c.args.self c.args.roster c.args.mode) c.args.rounds c.args.self.opened c.requires.may
@@ -17,11 +18,11 @@ invariant_of-result g c =
     let same = is_first_hub c.args.self c.args.roster c.args.mode c.args.rounds c.in-Ok.room.devices.items _ _ _ _ _ _ _ _ c.self.view_is (setting_of_indexed _ _ _ _ _ _ c.empty_history.ensures.setting c.in-Ok-open.ensures) c.empty_history.ensures.history c.in-Ok-open-2.ensures.home c.in-Ok-open-2.ensures.tickets in
     let kept : HomeIsKept g.D.Device.tag g.D.Device.stands g.D.Device.turns g.D.Device.probes g.D.Device.faults c.args.self = subst (λ (h : HomeState g.row.D.Denot). HomeIsKept g.D.Device.tag g.D.Device.stands g.D.Device.turns g.D.Device.probes g.D.Device.faults h) c.self.view_is c.self.invariant in
     let opens : Opens g.D.Device.tag g.D.Device.stands g.D.Device.turns g.D.Device.probes g.D.Device.faults c.args.self c.args.roster c.args.mode c.args.rounds c.in-Ok.room.devices.items = record { kept = kept; may = c.requires.may; stage = c.requires.stage; knows = c.in-Ok.ensures.devices } in
-    let enough : entries_of_a_run * length c.args.roster.runs.items ≤ c.empty_history.result.spare = rw c.empty_history.ensures.spare c.in-Ok.ensures.history.enough in
+    let enough : most_entries (length c.args.roster.runs.items) (length c.args.self.world) c.args.rounds ≤ c.empty_history.result.spare = omega (arith, c.empty_history.ensures.spare, c.in-Ok.ensures.history.room) in
     record {
       shown = subst (λ (t : OpenHub g.row.D.Denot). HubIsKept g.D.Device.stands g.D.Device.turns g.D.Device.probes g.D.Device.faults t) (sym same) (first_kept _ _ _ _ _ c.args.self c.args.roster c.args.mode _ _ opens);
-      room = subst (λ (t : OpenHub g.row.D.Denot). HasRoomLeft (record { setting = t.setting; history = t.history; spare = c.empty_history.result.spare }) c.in-Ok.room.closing) (sym same) (first_room c.args.self c.args.roster c.args.mode _ _ kept.size enough c.in-Ok.ensures.closing);
-      order = subst (λ (t : OpenHub g.row.D.Denot). OrderIsBeside (record { setting = t.setting; history = t.history; spare = c.empty_history.result.spare }) (configuration_of t).grips c.in-Ok.room.order.line c.in-Ok.room.order.table) (sym same)
+      room = subst (λ (t : OpenHub g.row.D.Denot). HasRoomLeft c.args.rounds (record { setting = t.setting; history = t.history; spare = c.empty_history.result.spare }) c.in-Ok.room.closing) (sym same) (first_room c.args.self c.args.roster c.args.mode c.args.rounds _ _ kept.size enough c.in-Ok.ensures.closing);
+      order = subst (λ (t : OpenHub g.row.D.Denot). OrderIsBeside c.args.rounds (record { setting = t.setting; history = t.history; spare = c.empty_history.result.spare }) (configuration_of t).grips c.in-Ok.room.order.line c.in-Ok.room.order.table) (sym same)
           (first_order _ _ _ _ _ c.args.self c.args.roster c.args.mode c.args.rounds c.empty_history.result.spare _ _ _ opens c.in-Ok.ensures.order);
       hands = subst (λ (t : OpenHub g.row.D.Denot). HandsAre t.setting (configuration_of t).grips c.in-Ok.room.hands.items) (sym same) (first_hands _ _ _ _ _ c.args.self c.args.roster c.args.mode c.args.rounds _ _ opens c.in-Ok.ensures.hands);
     }

@@ -1,8 +1,8 @@
 use Rattle.history_book.specs.declared.entries.End.TheVariants.{Aborted}
-use Rattle.hub_core.proofs.HubChanges.{Ending, chosen_here, has_place}
-use Rattle.hub_core.proofs.HubChoices.{aborting, finished_is}
-use Rattle.hub_core.proofs.HubOrders.{aborts_whole, read_whole, standing_whole}
-use Rattle.hub_core.proofs.NextUndos.{next_undo_is}
+use Rattle.hub_core.proofs.calls.HubChanges.{Ending, chosen_here, has_place}
+use Rattle.hub_core.proofs.calls.HubChoices.{aborting, finished_is}
+use Rattle.hub_core.proofs.calls.HubOrders.{aborts_whole, read_whole, standing_whole}
+use Rattle.hub_core.proofs.calls.NextUndos.{next_undo_is}
 use Rattle.hub_core.proofs.hubs.Hub.abort.Goals as goal
 use Rattle.hub_core.specs.ReadHistories.{with_entry}
 use Rattle.hub_core.specs.declared.decisions.Chosen.TheVariants.{Aborts}

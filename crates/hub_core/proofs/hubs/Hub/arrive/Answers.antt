@@ -1,5 +1,5 @@
-use Rattle.hub_core.proofs.HubChanges.{Going, chosen_here, has_place}
-use Rattle.hub_core.proofs.HubOrders.{arrives_whole}
+use Rattle.hub_core.proofs.calls.HubChanges.{Going, chosen_here, has_place}
+use Rattle.hub_core.proofs.calls.HubOrders.{arrives_whole}
 use Rattle.history_book.specs.declared.entries.Entry.TheVariants.{Arrived}
 use Rattle.hub_core.proofs.hubs.Hub.arrive.Goals as goal
 use Rattle.hub_core.specs.ReadHistories.{with_entry}

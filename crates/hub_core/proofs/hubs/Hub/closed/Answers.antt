@@ -1,7 +1,7 @@
 use Rattle.home_types.specs.Listed.{Listed}
 use Rattle.history_book.specs.declared.entries.Kept.{Kept}
 use Rattle.history_book.specs.declared.records.WindowRecord.{WindowRecord}
-use Rattle.hub_core.proofs.HubCloses.{Closes, Tells, all_are_home, faults_fell, home_left, items_fit, turns_fell, window_closed}
+use Rattle.hub_core.proofs.calls.HubCloses.{Closes, Tells, all_are_home, faults_fell, home_left, items_fit, turns_fell, window_closed}
 use Rattle.hub_core.proofs.hubs.Hub.closed.Goals as goal
 use Rattle.hub_core.specs.HubCalls.{IsClosed}
 use Rattle.hub_core.specs.HubsKept.{open_of}

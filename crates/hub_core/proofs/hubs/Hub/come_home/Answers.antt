@@ -1,5 +1,5 @@
-use Rattle.hub_core.proofs.HubOuts.{at_index}
-use Rattle.hub_core.proofs.HubReturns.{probe_back}
+use Rattle.hub_core.proofs.calls.HubOuts.{at_index}
+use Rattle.hub_core.proofs.calls.HubReturns.{probe_back}
 use Rattle.hub_core.proofs.hubs.Hub.come_home.Goals as goal
 use Rattle.hub_core.specs.OpenHubs.{device_at, purpose_of}
 use Rattle.hub_core.specs.declared.known.DeviceProgress.{DeviceProgress}

@@ -1,6 +1,6 @@
 use Rattle.history_book.specs.declared.entries.End.TheVariants.{Committed}
-use Rattle.hub_core.proofs.HubChanges.{Ending, chosen_here, has_place}
-use Rattle.hub_core.proofs.HubOrders.{commits_whole}
+use Rattle.hub_core.proofs.calls.HubChanges.{Ending, chosen_here, has_place}
+use Rattle.hub_core.proofs.calls.HubOrders.{commits_whole}
 use Rattle.hub_core.proofs.hubs.Hub.commit.Goals as goal
 use Rattle.hub_core.specs.ReadHistories.{with_entry}
 use Rattle.hub_core.specs.declared.decisions.Chosen.TheVariants.{Commits}

@@ -1,5 +1,5 @@
 use Rattle.command_rules.specs.Rosters.{is_run}
-use Rattle.hub_core.proofs.HubChoices.{hub_at_command, hub_commands, hub_commits, hub_dooms, hub_is_live, hub_is_up}
+use Rattle.hub_core.proofs.calls.HubChoices.{hub_at_command, hub_commands, hub_commits, hub_dooms, hub_is_live, hub_is_up}
 use Rattle.hub_core.proofs.hubs.Hub.decide.Goals as goal
 use Rattle.std.proofs.Common.{ap, sym, ◌∙◌}
 

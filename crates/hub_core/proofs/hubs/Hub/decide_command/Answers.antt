@@ -1,4 +1,4 @@
-use Rattle.hub_core.proofs.HubChoices.{command_behind, command_busy, command_dirty, command_goes, command_strict, strict_said, touch_said}
+use Rattle.hub_core.proofs.calls.HubChoices.{command_behind, command_busy, command_dirty, command_goes, command_strict, strict_said, touch_said}
 use Rattle.hub_core.proofs.hubs.Hub.decide_command.Goals as goal
 use Rattle.hub_core.specs.OpenHubs.{configuration_of}
 use Rattle.lock_leasing.specs.Configurations.{read_of}

@@ -1,5 +1,5 @@
-use Rattle.hub_core.proofs.HubChoices.{doomed_busy, doomed_ends, doomed_goes, never_dropped}
-use Rattle.hub_core.proofs.NextUndos.{next_undo_is}
+use Rattle.hub_core.proofs.calls.HubChoices.{doomed_busy, doomed_ends, doomed_goes, never_dropped}
+use Rattle.hub_core.proofs.calls.NextUndos.{next_undo_is}
 use Rattle.hub_core.proofs.hubs.Hub.decide_doomed.Goals as goal
 use Rattle.hub_core.specs.OpenHubs.{configuration_of}
 use Rattle.lock_leasing.specs.Configurations.{read_of}

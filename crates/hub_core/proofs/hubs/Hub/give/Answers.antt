@@ -1,5 +1,5 @@
 use Rattle.device_gate.specs.Places.{slip_of}
-use Rattle.hub_core.proofs.HubRefusals.{not_a_run, not_out, refused_given}
+use Rattle.hub_core.proofs.calls.HubRefusals.{not_a_run, not_out, refused_given}
 use Rattle.hub_core.proofs.hubs.Hub.give.Goals as goal
 use Rattle.hub_core.proofs.hubs.Hub.give.Goals.{then-slip-eq0-via-else-slip-eq0+then-not-is_kept, then-slip-eq0-via-then-slip-eq0}
 use Rattle.std.proofs.Common.{ap, refl, sym, ◌∙◌}

@@ -1,5 +1,5 @@
 use Rattle.device_gate.specs.Places.{slip_of}
-use Rattle.hub_core.proofs.HubRefusals.{refused_probe}
+use Rattle.hub_core.proofs.calls.HubRefusals.{refused_probe}
 use Rattle.hub_core.proofs.hubs.Hub.give_probe.Goals as goal
 use Rattle.std.proofs.Common.{ap, ◌∙◌}
 use Rattle.std.specs.Prelude.{slice_get}

@@ -1,4 +1,4 @@
-use Rattle.hub_core.proofs.HubChoices.{out_by_slip}
+use Rattle.hub_core.proofs.calls.HubChoices.{out_by_slip}
 use Rattle.hub_core.proofs.hubs.Hub.is_out.Goals as goal
 use Rattle.hub_core.specs.OpenHubs.{configuration_of, device_at}
 use Rattle.lock_leasing.specs.Configurations.{is_out}

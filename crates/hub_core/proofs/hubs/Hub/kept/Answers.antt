@@ -1,4 +1,4 @@
-use Rattle.hub_core.proofs.HubLaws.{kept_at, stands_hub}
+use Rattle.hub_core.proofs.calls.HubLaws.{kept_at, stands_hub}
 use Rattle.hub_core.proofs.hubs.Hub.kept.Goals as goal
 
 pub returns : goal.returns

@@ -1,8 +1,8 @@
 use Rattle.command_rules.specs.Rosters.{commands_of}
 use Rattle.history_book.specs.declared.entries.Entry.TheVariants.{Placed}
 use Rattle.home_types.specs.declared.items.Item.TheVariants.{Ran}
-use Rattle.hub_core.proofs.HubChanges.{Going, chosen_here, has_place}
-use Rattle.hub_core.proofs.HubOrders.{hub_joins, joins_whole, line_place, standing_size}
+use Rattle.hub_core.proofs.calls.HubChanges.{Going, chosen_here, has_place}
+use Rattle.hub_core.proofs.calls.HubOrders.{hub_joins, joins_whole, line_place, standing_size}
 use Rattle.hub_core.proofs.hubs.Hub.place.Goals as goal
 use Rattle.hub_core.specs.OpenHubs.{configuration_of}
 use Rattle.hub_core.specs.PlansInTurn.{planned_in_turn}
@@ -15,7 +15,7 @@ use Rattle.std.specs.Prelude.{drop, length, ◌≡◌}
 use Rattle.window_order.specs.TableChanges.{ChangesEach, scheduled_on}
 
 pub join-requires-clause-room : goal.join-requires-clause-room
-join-requires-clause-room g c = line_place c.self.inside c.args.r.0 c.args.moment _ Going (chosen_here c.self.inside c.args.self.now c.args.r.0 c.args.moment Joins c.self.view_is c.requires) c.self.invariant
+join-requires-clause-room g c = line_place c.self.inside c.args.r.0 c.args.moment (chosen_here c.self.inside c.args.self.now c.args.r.0 c.args.moment Joins c.self.view_is c.requires) c.self.invariant
 
 pub join-requires-clause-absent : goal.join-requires-clause-absent
 join-requires-clause-absent g c = (hub_joins c.self.inside c.args.r.0 c.args.moment (chosen_here c.self.inside c.args.self.now c.args.r.0 c.args.moment Joins c.self.view_is c.requires) c.self.invariant).absent

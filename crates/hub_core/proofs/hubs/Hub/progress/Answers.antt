@@ -1,4 +1,4 @@
-use Rattle.hub_core.proofs.HubLaws.{kept_at, moves_hub}
+use Rattle.hub_core.proofs.calls.HubLaws.{kept_at, moves_hub}
 use Rattle.hub_core.proofs.hubs.Hub.progress.Goals as goal
 
 pub returns : goal.returns

@@ -1,4 +1,4 @@
-use Rattle.hub_core.proofs.HubLaws.{quiet_hub}
+use Rattle.hub_core.proofs.calls.HubLaws.{quiet_hub}
 use Rattle.hub_core.proofs.hubs.Hub.quiet.Goals as goal
 use Rattle.std.specs.Prelude.{None, Some}
 

@@ -1,4 +1,4 @@
-use Rattle.hub_core.proofs.HubChanges.{reached_whole}
+use Rattle.hub_core.proofs.calls.HubChanges.{reached_whole}
 use Rattle.hub_core.proofs.hubs.Hub.reach.Goals as goal
 
 pub invariant_of-self : goal.invariant_of-self

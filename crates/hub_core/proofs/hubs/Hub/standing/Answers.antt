@@ -1,5 +1,5 @@
 use Rattle.command_rules.specs.Rosters.{runs_of}
-use Rattle.hub_core.proofs.HubOrders.{standing_whole}
+use Rattle.hub_core.proofs.calls.HubOrders.{standing_whole}
 use Rattle.hub_core.proofs.hubs.Hub.standing.Goals as goal
 use Rattle.hub_core.specs.OpenHubs.{OpenHub, configuration_of}
 use Rattle.lock_leasing.specs.Standings.{IsStandingOf}

@@ -1,4 +1,4 @@
-use Rattle.hub_core.proofs.HubRefusals.{none_probed}
+use Rattle.hub_core.proofs.calls.HubRefusals.{none_probed}
 use Rattle.hub_core.proofs.hubs.Hub.take_probe.Goals as goal
 
 pub returns-clause-probed : goal.returns-clause-probed

@@ -1,4 +1,4 @@
-use Rattle.hub_core.proofs.HubLaws.{command_out}
+use Rattle.hub_core.proofs.calls.HubLaws.{command_out}
 use Rattle.hub_core.proofs.hubs.Hub.takes.Goals as goal
 use Rattle.hub_core.specs.OpenHubs.{device_at}
 use Rattle.hub_core.specs.declared.known.DeviceProgress.{DeviceProgress}

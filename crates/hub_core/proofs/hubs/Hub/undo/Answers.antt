@@ -1,5 +1,5 @@
-use Rattle.hub_core.proofs.HubReturns.{IsBack, back_given, back_place, grip_back, hand_back, undo_run, undone_back, undone_value}
-use Rattle.hub_core.proofs.ReturnedOrders.{undone_whole}
+use Rattle.hub_core.proofs.calls.HubReturns.{IsBack, back_given, back_place, grip_back, hand_back, undo_run, undone_back, undone_value}
+use Rattle.hub_core.proofs.calls.ReturnedOrders.{undone_whole}
 use Rattle.hub_core.proofs.hubs.Hub.undo.Goals as goal
 use Rattle.hub_core.specs.OpenHubs.{device_at}
 use Rattle.hub_core.specs.ReadHistories.{with_entry}

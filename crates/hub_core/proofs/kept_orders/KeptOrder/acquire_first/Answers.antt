@@ -1,4 +1,4 @@
-use Rattle.hub_core.proofs.NotedAnswers.{acquired_now, length_set, lineage_set}
+use Rattle.hub_core.proofs.calls.NotedAnswers.{acquired_now, length_set, lineage_set}
 use Rattle.hub_core.proofs.kept_orders.KeptOrder.acquire_first.Goals as goal
 use Rattle.hub_core.specs.KeptOrders.{acquired_first}
 use Rattle.lineage_table.specs.Accesses.{status_of}

@@ -1,4 +1,4 @@
-use Rattle.hub_core.proofs.NotedAnswers.{noted_all, with_same}
+use Rattle.hub_core.proofs.calls.NotedAnswers.{noted_all, with_same}
 use Rattle.hub_core.proofs.kept_orders.KeptOrder.note.Goals as goal
 use Rattle.lineage_table.specs.Lineages.{with_lineage}
 use Rattle.std.proofs.Common.{ap, sym, ◌∙◌}

@@ -1,4 +1,4 @@
-use Rattle.hub_core.proofs.NotedAnswers.{lineage_set, written_now}
+use Rattle.hub_core.proofs.calls.NotedAnswers.{lineage_set, written_now}
 use Rattle.hub_core.proofs.kept_orders.KeptOrder.note_write.Goals as goal
 use Rattle.lineage_table.specs.Accesses.{status_of}
 use Rattle.lineage_table.specs.Lineages.{LineageState, accesses_at, lineage_at, written}

@@ -1,6 +1,6 @@
 use Rattle.command_rules.specs.Rosters.{is_run}
 use Rattle.history_book.specs.declared.entries.End.TheVariants.{Aborted}
-use Rattle.hub_core.proofs.HubReads.{ends_beside}
+use Rattle.hub_core.proofs.kept.HubReads.{ends_beside}
 use Rattle.hub_core.proofs.read_histories.ReadHistory.abort.Goals as goal
 use Rattle.std.proofs.Common.{ap, sym, ◌∙◌}
 use Rattle.std.specs.Option.{option_copied}

@@ -1,6 +1,6 @@
 use Rattle.command_rules.specs.Rosters.{command_at, is_run, runs_of}
 use Rattle.history_book.specs.Readings.{next_of}
-use Rattle.hub_core.proofs.HubReads.{progress_is, run_place, answers_beside}
+use Rattle.hub_core.proofs.kept.HubReads.{progress_is, run_place, answers_beside}
 use Rattle.hub_core.proofs.read_histories.ReadHistory.answer.Goals as goal
 use Rattle.std.proofs.Common.{ap, arith, sym, ◌∙◌}
 use Rattle.hub_core.specs.ReadHistories.{read_in}

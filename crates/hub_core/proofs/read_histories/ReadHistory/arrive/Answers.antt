@@ -1,5 +1,5 @@
 use Rattle.command_rules.specs.Rosters.{is_run}
-use Rattle.hub_core.proofs.HubReads.{arrives_beside}
+use Rattle.hub_core.proofs.kept.HubReads.{arrives_beside}
 use Rattle.hub_core.proofs.read_histories.ReadHistory.arrive.Goals as goal
 use Rattle.std.proofs.Common.{ap, sym, ◌∙◌}
 use Rattle.std.specs.Option.{option_copied}

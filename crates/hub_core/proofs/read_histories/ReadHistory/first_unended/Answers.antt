@@ -1,5 +1,5 @@
-use Rattle.hub_core.proofs.HubReads.{ended_at}
-use Rattle.hub_core.proofs.Searching.{here_number, no_number, past_number}
+use Rattle.hub_core.proofs.kept.HubReads.{ended_at}
+use Rattle.hub_core.proofs.calls.Searching.{here_number, no_number, past_number}
 use Rattle.hub_core.proofs.read_histories.ReadHistory.first_unended.Goals as goal
 use Rattle.hub_core.specs.ReadHistories.{read_in}
 use Rattle.std.proofs.Common.{ap, arith, sym, ◌∙◌}

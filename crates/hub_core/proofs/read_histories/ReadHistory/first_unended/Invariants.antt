@@ -1,4 +1,4 @@
-use Rattle.hub_core.proofs.Searching.{numbers}
+use Rattle.hub_core.proofs.calls.Searching.{numbers}
 use Rattle.hub_core.proofs.read_histories.ReadHistory.first_unended.Given as goal
 use Rattle.hub_core.specs.ReadHistories.{read_in}
 use Rattle.std.specs.Prelude.{is_none, length, ◌+◌, ◌-◌, ◌≡◌}

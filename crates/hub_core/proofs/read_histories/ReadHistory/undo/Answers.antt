@@ -1,4 +1,4 @@
-use Rattle.hub_core.proofs.HubReads.{undoes_beside}
+use Rattle.hub_core.proofs.kept.HubReads.{undoes_beside}
 use Rattle.hub_core.proofs.read_histories.ReadHistory.undo.Goals as goal
 use Rattle.std.specs.Prelude.{true}
 

@@ -1,4 +1,5 @@
-use Rattle.run_replay.proofs.EmptyHands.{HoldNothing, front_hands, hands_at_close, last_hand}
+use Rattle.run_replay.proofs.EmptyHands.{front_hands, hands_at_close, last_hand}
+use Rattle.run_replay.specs.Players.{HoldNothing}
 use Rattle.run_replay.proofs.hands.Hands.close.Goals as goal
 use Rattle.std.proofs.Common.{ap, subst, ◌∙◌}
 use Rattle.std.specs.Prelude.{[], ◌∷◌, ◌++◌}

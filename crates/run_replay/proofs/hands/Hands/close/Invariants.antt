@@ -1,4 +1,4 @@
-use Rattle.run_replay.proofs.EmptyHands.{HoldNothing}
+use Rattle.run_replay.specs.Players.{HoldNothing}
 use Rattle.run_replay.proofs.hands.Hands.close.Given as goal
 use Rattle.std.specs.Prelude.{vec_len}
 

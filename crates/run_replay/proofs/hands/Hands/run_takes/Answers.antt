@@ -46,10 +46,10 @@ pub returns-in-Absent-clause-plans : goal.returns-in-Absent-clause-plans
 returns-in-Absent-clause-plans g c = answered_plans_now g.D.Device.plan _ _ _ c.args.r.0 _ c.self.view_is (record { free = free_of _ _ c.args.r.0 c.self.view_is c.self.invariant c.requires.run c.requires.going c.requires.empty; answers = c.in-Absent.ensures.turn; window = c.in-Absent.ensures.window; grips = refl; rounds = refl; moment = refl; place = refl })
 
 pub returns-in-Moved-clause-fewer : goal.returns-in-Moved-clause-fewer
-returns-in-Moved-clause-fewer g c moves = answered_fewer_now _ _ _ c.args.r.0 _ c.self.view_is refl (record { free = free_of _ _ c.args.r.0 c.self.view_is c.self.invariant c.requires.run c.requires.going c.requires.empty; answers = c.in-Moved.ensures.turn; window = c.in-Moved.ensures.window; grips = refl; rounds = refl; moment = refl; place = refl }) c.bounded.ensures
+returns-in-Moved-clause-fewer g c moves = answered_fewer_now _ _ _ c.args.r.0 _ c.self.view_is refl (record { free = free_of _ _ c.args.r.0 c.self.view_is c.self.invariant c.requires.run c.requires.going c.requires.empty; answers = c.in-Moved.ensures.turn; window = c.in-Moved.ensures.window; grips = refl; rounds = refl; moment = refl; place = refl }) c.bounded.ensures.history
 
 pub returns-in-Over-clause-fewer : goal.returns-in-Over-clause-fewer
-returns-in-Over-clause-fewer g c moves = answered_fewer_now _ _ _ c.args.r.0 _ c.self.view_is refl (record { free = free_of _ _ c.args.r.0 c.self.view_is c.self.invariant c.requires.run c.requires.going c.requires.empty; answers = c.in-Over.ensures.turn; window = c.in-Over.ensures.window; grips = refl; rounds = refl; moment = refl; place = refl }) c.bounded.ensures
+returns-in-Over-clause-fewer g c moves = answered_fewer_now _ _ _ c.args.r.0 _ c.self.view_is refl (record { free = free_of _ _ c.args.r.0 c.self.view_is c.self.invariant c.requires.run c.requires.going c.requires.empty; answers = c.in-Over.ensures.turn; window = c.in-Over.ensures.window; grips = refl; rounds = refl; moment = refl; place = refl }) c.bounded.ensures.history
 
 pub returns-in-Absent-clause-fewer : goal.returns-in-Absent-clause-fewer
 returns-in-Absent-clause-fewer g c moves = absurd (never_absent _ _ c.args.r.0 (record { free = free_of _ _ c.args.r.0 c.self.view_is c.self.invariant c.requires.run c.requires.going c.requires.empty; answers = c.in-Absent.ensures.turn; window = c.in-Absent.ensures.window; grips = refl; rounds = refl; moment = refl; place = refl }))

@@ -16,26 +16,26 @@ actors-preserved g c = elim c.if-not-has_ended.branch [
   | then-not-has_ended w ↦
       let size = ap (λ v. vec_len v) w.actors-is ∙ w.push_reserved.ensures.len in
       let room = ap (λ v. vec_capacity v) w.actors-is ∙ w.push_reserved.ensures.capacity in (
-        one_passes (λ a. not (is_ended c.in-Ok.hands a)) c.actors.actor c.actors.actors.items c.if-not-has_ended.actors.items c.actors.invariant.0 (ap not (sym c.has_ended.ensures ∙ w.if-not-has_ended.true)) (ap (λ v. v.items) w.actors-is ∙ w.push_reserved.ensures.items),
+        one_passes (λ a. not (is_ended c.in-Ok-open.hands a)) c.actors.actor c.actors.actors.items c.if-not-has_ended.actors.items c.actors.invariant.0 (ap not (sym c.has_ended.ensures ∙ w.if-not-has_ended.true)) (ap (λ v. v.items) w.actors-is ∙ w.push_reserved.ensures.items),
         omega (arith, size, c.actors.invariant.1),
         omega (arith, room, c.actors.invariant.2),
       )
   | else-not-has_ended w ↦
       let size = ap (λ v. vec_len v) w.actors-is in
       let room = ap (λ v. vec_capacity v) w.actors-is in (
-        ap (λ v. v.items) w.actors-is ∙ none_passes (λ a. not (is_ended c.in-Ok.hands a)) c.actors.actor c.actors.actors.items c.actors.invariant.0 (ap not (sym c.has_ended.ensures ∙ w.if-not-has_ended.false)),
+        ap (λ v. v.items) w.actors-is ∙ none_passes (λ a. not (is_ended c.in-Ok-open.hands a)) c.actors.actor c.actors.actors.items c.actors.invariant.0 (ap not (sym c.has_ended.ensures ∙ w.if-not-has_ended.false)),
         omega (arith, size, c.actors.invariant.1),
         omega (arith, room, c.actors.invariant.2),
       )
 ]
 
 pub actors-init : goal.actors-init
-actors-init g c = (c.reserve.ensures.items ∙ c.new-actors.ensures.items, search rules, search rules)
+actors-init g c = (c.in-Ok.ensures.items, search rules, search rules)
 
 -- every actor was looked at
 pub invariant_of-result : goal.invariant_of-result
 invariant_of-result g c =
     let hands = c.kept.ensures.player.kept.actors in
-    let own = ap (λ (h : OpenHub _). length h.setting.runs) c.in-Ok.ensures.opened.own in
-    let all : c.actors.actor ≡ length c.in-Ok.hands.grips = omega (arith, c.actors-test.false, c.actors.auto.actor-end, c.run_count-count.ensures, hands, own) in
-    c.actors.invariant.0 ∙ ap (λ n. filter (λ a. not (is_ended c.in-Ok.hands a)) (range_with_len 0 n)) all
+    let own = ap (λ (h : OpenHub _). length h.setting.runs) c.in-Ok-open.ensures.opened.own in
+    let all : c.actors.actor ≡ length c.in-Ok-open.hands.grips = omega (arith, c.actors-test.false, c.actors.auto.actor-end, c.run_count-count.ensures, hands, own) in
+    c.actors.invariant.0 ∙ ap (λ n. filter (λ a. not (is_ended c.in-Ok-open.hands a)) (range_with_len 0 n)) all

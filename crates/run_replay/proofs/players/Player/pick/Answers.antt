@@ -1,7 +1,7 @@
 use Rattle.run_replay.proofs.Leaving.{kept_in, picked_now, plans_now, taken_out}
 use Rattle.run_replay.proofs.players.Player.pick.Goals as goal
-use Rattle.run_replay.specs.Players.{picked_of}
-use Rattle.std.proofs.Common.{sym, ◌∙◌}
+use Rattle.run_replay.specs.Players.{is_ended, picked_of}
+use Rattle.std.proofs.Common.{Bool, false, refl, sym, true, ◌≡◌, ◌∙◌}
 
 pub invariant_of-self : goal.invariant_of-self
 invariant_of-self g c = kept_in c.self.inside.hands c.pick-picked.new.self c.self.inside.actors.items c.args.actor c.self.invariant c.pick-picked.ensures.hands c.pick-picked.ensures.others (c.pick-picked.ensures.waiting (sym c.has_waited.ensures ∙ c.if-has_waited.true))
@@ -11,6 +11,16 @@ returns-then-has_waited-clause-picked g c = picked_now c.args.self.now c.self.in
 
 pub returns-then-has_waited-clause-plans : goal.returns-then-has_waited-clause-plans
 returns-then-has_waited-clause-plans g c = plans_now g.D.Device.plan c.args.self.now c.self.inside.hands c.pick-picked.new.self c.self.view_is c.pick-picked.ensures.plans
+
+-- an actor that goes on did so before
+pub invariant_of-self-then-not-has_ended : goal.invariant_of-self-then-not-has_ended
+invariant_of-self-then-not-has_ended g c =
+    kept_in c.self.inside.hands c.pick-picked.new.self c.self.inside.actors.items c.args.actor c.self.invariant c.pick-picked.ensures.hands c.pick-picked.ensures.others
+    (going (is_ended c.self.inside.hands c.args.actor) (is_ended c.pick-picked.new.self c.args.actor) (sym c.has_ended.ensures ∙ c.if-not-has_ended.true) c.pick-picked.ensures.over)
+  where
+    going : (before after : Bool) → after ≡ false → (before ≡ true → after ≡ true) → after ≡ before
+    going true after on over = over refl
+    going false after on over = on
 
 pub returns-then-not-has_ended-clause-picked : goal.returns-then-not-has_ended-clause-picked
 returns-then-not-has_ended-clause-picked g c = picked_now c.args.self.now c.self.inside.hands c.pick-picked.new.self c.args.actor (picked_of c.pick-picked.result) c.self.view_is c.pick-picked.ensures.picked

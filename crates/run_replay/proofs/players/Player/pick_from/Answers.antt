@@ -10,7 +10,7 @@ actors-init g c = (none_waited c.args.self.now (from_place c.args.place (are_liv
 pub actors-preserved : goal.actors-preserved
 actors-preserved g c =
     let at = next_is c.args.self.now c.actors.self c.args.place c.actors.step c.place_on.result c.args.live c.live_at-actor.result c.actors.invariant.0 c.requires.live c.place_on.ensures.place c.live_at-actor.ensures in (
-      one_more_waits c.args.self.now c.actors.self c.pick-picked.new.self (from_place c.args.place (are_live c.args.self.now)) c.actors.step _ c.live_at-actor.result (picked_of c.pick-picked.result) c.actors.invariant.0 c.kept-in-actors.ensures.player c.pick-picked.ensures.rounds at c.pick-picked.ensures.picked (sym c.has_waited.ensures ∙ c.if-not-has_waited.false) refl,
+      one_more_waits c.args.self.now c.actors.self c.pick-picked.new.self (from_place c.args.place (are_live c.args.self.now)) c.actors.step _ c.live_at-actor.result (picked_of c.pick-picked.result) c.actors.invariant.0 c.kept-in-actors.ensures.player c.pick-picked.ensures.rounds c.pick-picked.ensures.window.rounds at c.pick-picked.ensures.picked (sym c.has_waited.ensures ∙ c.if-not-has_waited.false) refl,
       same_window c.args.self.now.hub c.actors.self.hub c.pick-picked.new.self.hub c.actors.invariant.1 c.pick-picked.ensures.window,
       λ plans have. c.pick-picked.ensures.plans plans (c.actors.invariant.2 plans have),
     )

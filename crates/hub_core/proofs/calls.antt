@@ -1,0 +1,21 @@
+-- The calls of a hub, over its parts.
+pub mod NewDevices
+pub mod NewHomes
+pub mod HubOpens
+pub mod Searching
+pub mod HubStates
+pub mod NextUndos
+pub mod HubChoices
+pub mod HubCloses
+pub mod HubLaws
+pub mod HubChanges
+pub mod HubOuts
+pub mod HubReturns
+pub mod HubRefusals
+pub mod PlannedInTurn
+pub mod PlannedUses
+pub mod Scheduling
+pub mod NotedAnswers
+pub mod PassedRuns
+pub mod HubOrders
+pub mod ReturnedOrders

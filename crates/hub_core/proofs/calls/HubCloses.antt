@@ -1,0 +1,217 @@
+-- A window that closes: its devices are home, its record is legal, and the home that is left is as every home is kept.
+use Rattle.device_gate.specs.Places.{AllHome, AreNumbered, all_home}
+use Rattle.device_gate.specs.declared.gates.Place.TheVariants.{Home, Out}
+use Rattle.device_gate.specs.declared.gates.Place.{Place}
+use Rattle.history_book.specs.Histories.{entries_of, is_fall_of, reading}
+use Rattle.history_book.specs.declared.entries.Entry.{Entry}
+use Rattle.history_book.specs.declared.records.WindowRecord.{WindowRecord}
+use Rattle.home_types.specs.HomeStates.{nowhere, stand_at}
+use Rattle.home_types.specs.Kinds.{has_value, kind_at}
+use Rattle.home_types.specs.declared.kinds.Kind.{Kind}
+use Rattle.home_types.specs.declared.worlds.Stand.{Stand}
+use Rattle.hub_core.proofs.calls.HubChanges.{few_entries}
+use Rattle.hub_core.proofs.stage.Closings.{ended_committed, legal_window, none_out, quiet_is}
+use Rattle.hub_core.proofs.kept.Sizes.{line_fits}
+use Rattle.hub_core.proofs.stage.StageChoices.{StageSteps, stage_steps}
+use Rattle.hub_core.specs.AccountedCalls.{CallsAreAccounted, tells_call, told_calls, told_falls}
+use Rattle.hub_core.specs.Agreement.{UpDevicesStand}
+use Rattle.hub_core.specs.ClosedHomes.{HaveRisen, NoneFell, stage_stand}
+use Rattle.hub_core.specs.Homes.{CountsAreLow, HomeIsKept}
+use Rattle.hub_core.specs.HubCalls.{IsClosed, probes_taken}
+use Rattle.hub_core.specs.HubsKept.{FitsAtHome, HubIsKept, IsEmptyFor, IsWhole}
+use Rattle.hub_core.specs.OpenHubs.{OpenHub, configuration_of, device_at, grip_in, held_in, no_device}
+use Rattle.hub_core.specs.Steps.{not_quiet}
+use Rattle.hub_core.specs.declared.hubs.Hub.TheInside.{Inside}
+use Rattle.lock_leasing.specs.Configurations.{read_of}
+use Rattle.serial_line.specs.Marks.{Mark}
+use Rattle.std.proofs.Common.{ap, arith, inl, inr, refl, sym, ◌∙◌}
+use Rattle.std.proofs.lemmas.List.{get_or-map, length-map}
+use Rattle.std.proofs.lemmas.List.Sums.{count_by-le-length}
+use Rattle.std.proofs.lemmas.Option.{slice_get-map, slice_get_cases, slice_get_within}
+use Rattle.std.specs.Prelude.{Bool, IsTrue, List, None, Some, [], count_by, length, map, option_map, slice_get, slice_index_or, suc, take, true, zero, ℕ, ◌*◌, ◌++◌, ◌+◌, ◌<◌, ◌^◌, ◌∷◌, ◌≡◌, ◌≤◌}
+
+-- what is within a list is at its place
+pub at_place : {X : Type 0} (xs : List X) (i : ℕ) → i < length xs → (x : X) × (slice_get xs i ≡ Some x)
+at_place xs i lt = elim (slice_get_cases xs i).1 [
+  | inl p ↦ (p.0, p.2)
+  | inr p ↦ absurd (let past = p.0 in omega (arith, lt, past))
+]
+
+-- where nothing is left to do, every device is home
+pub all_are_home : {D : Type 0} (stands turns probes faults : D → ℕ) (s : OpenHub D) → HubIsKept stands turns probes faults s → not_quiet (configuration_of s) ≡ None → AllHome s.places
+all_are_home {D = D} stands turns probes faults s kept quiet d lt = by (at_place s.places d lt)
+  where
+    away : grip_in (slice_get s.places d) (device_at s.devices d).purpose ≡ None
+    away = none_out (configuration_of s) s.rounds s.opened (held_in s) d kept.configuration (quiet_is (configuration_of s) quiet)
+
+    by : (x : Place D) × (slice_get s.places d ≡ Some x) → (device : D) × (slice_get s.places d ≡ Some (Home device))
+    by (Home device, at) = (device, at)
+    by (Out slip task, at) = absurd (let gone = ap (λ p. grip_in p (device_at s.devices d).purpose) at in cc (sym gone ∙ away))
+
+-- what a window that closes has: nothing is left to do, and these are its devices, each of its number
+pub record Closes {D : Type 0} (tag stands turns probes faults : D → ℕ) (s : OpenHub D) (devices : List D) : Type 0 where
+  pub kept : HubIsKept stands turns probes faults s
+  pub quiet : not_quiet (configuration_of s) ≡ None
+  pub places : all_home devices ≡ s.places
+  pub numbered : AreNumbered tag devices
+
+fits_at_home : {D : Type 0} (tag stands turns probes faults : D → ℕ) (s : OpenHub D) (devices : List D) (d : ℕ) (device : D) → Closes tag stands turns probes faults s devices → slice_get devices d ≡ Some device → FitsAtHome stands turns probes faults s d device
+fits_at_home tag stands turns probes faults s devices d device c at =
+    c.kept.home d device (ap (λ l. slice_get l d) (sym c.places) ∙ slice_get-map (λ x. Home x) devices d ∙ ap (option_map (λ x. Home x)) at)
+
+sizes : {D : Type 0} (tag stands turns probes faults : D → ℕ) (s : OpenHub D) (devices : List D) → Closes tag stands turns probes faults s devices → length devices ≡ length s.setting.first
+sizes tag stands turns probes faults s devices c = sym (length-map devices (λ x. Home x)) ∙ ap (λ l. length l) c.places ∙ c.kept.places_size
+
+pub turns_fell : {D : Type 0} (tag stands turns probes faults : D → ℕ) (s : OpenHub D) (devices : List D) → Closes tag stands turns probes faults s devices → NoneFell turns (λ k. k.at_opening.turns) s.devices devices
+turns_fell tag stands turns probes faults s devices c = record {
+  size = sizes tag stands turns probes faults s devices c ∙ sym c.kept.devices_size;
+  each = λ d device at. (let is = (fits_at_home tag stands turns probes faults s devices d device c at).turns_are in omega (arith, is));
+}
+
+pub faults_fell : {D : Type 0} (tag stands turns probes faults : D → ℕ) (s : OpenHub D) (devices : List D) → Closes tag stands turns probes faults s devices → NoneFell faults (λ k. k.at_opening.faults) s.devices devices
+faults_fell tag stands turns probes faults s devices c = record {
+  size = sizes tag stands turns probes faults s devices c ∙ sym c.kept.devices_size;
+  each = λ d device at. (let is = (fits_at_home tag stands turns probes faults s devices d device c at).falls_told in omega (arith, is));
+}
+
+-- each device stands where it is known to, and is up
+known_there : {D : Type 0} (s : OpenHub D) (d : ℕ) → d < length s.devices → stand_at (map stage_stand s.devices) d ≡ stage_stand (device_at s.devices d)
+known_there s d lt = get_or-map stage_stand s.devices d no_device nowhere lt
+
+is_up : {D : Type 0} (stands turns probes faults : D → ℕ) (s : OpenHub D) (d : ℕ) → HubIsKept stands turns probes faults s → d < length s.setting.first → (read_of (configuration_of s)).up d ≡ true
+is_up stands turns probes faults s d kept lt =
+    let staged : StageSteps s.setting (read_of (configuration_of s)) = stage_steps (configuration_of s) s.rounds s.opened (held_in s) kept.configuration in
+    staged.read.up d ∙ kept.configuration.stage.up d lt
+
+-- a window makes few calls
+few_calls : {D : Type 0} (stands turns probes faults : D → ℕ) (s : OpenHub D) (told : Entry → Bool) → HubIsKept stands turns probes faults s → count_by told (entries_of s.history) ≤ 59904
+few_calls stands turns probes faults s told kept =
+    let few = few_entries stands turns probes faults s kept in
+    let counted : count_by told (entries_of s.history) ≤ length (entries_of s.history) = count_by-le-length told (entries_of s.history) in
+    let same : length (entries_of s.history) ≡ length s.history = length-map s.history (λ k. k.entry) in
+    omega (arith, few, counted, same)
+
+-- so a count stays low
+still_low : (opened count then rise : ℕ) → then ≤ opened * 2 ^ 17 → count ≤ then + rise → rise ≤ 60004 → count ≤ (opened + 1) * 2 ^ 17
+still_low opened count then rise low is few = omega arith
+
+-- the home that is left is as every home is kept
+pub home_left : {D : Type 0} (tag stands turns probes faults : D → ℕ) (s : OpenHub D) (devices : List D) (kinds : List Kind) (world : List Stand) → Closes tag stands turns probes faults s devices → kinds ≡ s.setting.kinds → world ≡ map stage_stand s.devices
+    → HomeIsKept tag stands turns probes faults (record { kinds = kinds; world = world; devices = devices; opened = s.opened + 1 })
+home_left {D = D} tag stands turns probes faults s devices kinds world c kinds_are world_is =
+    record {
+      numbered = c.numbered;
+      kinds = ap (λ l. length l) kinds_are ∙ c.kept.configuration.kinds ∙ sym size;
+      size = sizes tag stands turns probes faults s devices c ∙ sym size;
+      few = rw size c.kept.configuration.opens.few_devices;
+      opened = let few = c.kept.configuration.opens.few_windows in omega (arith, few);
+      values = value_at;
+      stand = stand;
+      counts = λ d device at. counts d device (fits_at_home tag stands turns probes faults s devices d device c at);
+    }
+  where
+    size : length world ≡ length s.setting.first
+    size = ap (λ l. length l) world_is ∙ length-map s.devices stage_stand ∙ c.kept.devices_size
+
+    stand_of : (d : ℕ) → d < length s.setting.first → stand_at world d ≡ stage_stand (device_at s.devices d)
+    stand_of d lt = ap (λ l. stand_at l d) world_is ∙ known_there s d (let known = c.kept.devices_size in omega (arith, lt, known))
+
+    value_at : (d : ℕ) → d < length world → IsTrue (has_value (kind_at kinds d) (stand_at world d).value)
+    value_at d lt = let within : d < length s.setting.first = omega (arith, lt, size) in rw (kinds_are, stand_of d within) (c.kept.values d within)
+
+    stand : UpDevicesStand stands devices world
+    stand d device at up =
+        let within : d < length s.setting.first = (let there = slice_get_within devices d device at in let same = sizes tag stands turns probes faults s devices c in omega (arith, there, same)) in
+        (fits_at_home tag stands turns probes faults s devices d device c at).stand (is_up stands turns probes faults s d c.kept within) ∙ sym (ap (λ (x : Stand). x.value) (stand_of d within))
+
+    counts : (d : ℕ) (device : D) → FitsAtHome stands turns probes faults s d device → CountsAreLow (s.opened + 1) (turns device) (probes device) (faults device)
+    counts d device fits = record {
+      few_turns = still_low s.opened (turns device) (device_at s.devices d).at_opening.turns (told_calls s.setting.runs (entries_of s.history) d) (c.kept.low d).few_turns (omega (arith, fits.turns_are)) (let few = few_calls stands turns probes faults s (tells_call s.setting.runs d) c.kept in omega (arith, few));
+      few_probes = still_low s.opened (probes device) (device_at s.devices d).at_opening.probes (probes_taken s d) (c.kept.low d).few_probes (omega (arith, fits.probes_are)) (let few = c.kept.configuration.opens.few_rounds in omega (arith, few));
+      few_faults = still_low s.opened (faults device) (device_at s.devices d).at_opening.faults (told_falls (entries_of s.history) d + probes_taken s d) (c.kept.low d).few_faults (omega (arith, fits.few_faults))
+          (let few = c.kept.configuration.opens.few_rounds in let falls = few_calls stands turns probes faults s (is_fall_of d) c.kept in omega (arith, few, falls));
+    }
+
+-- what the record tells
+pub record Tells {D : Type 0} (turns faults : D → ℕ) (s : OpenHub D) (devices : List D) (closed : WindowRecord) : Type 0 where
+  pub mode : closed.mode ≡ s.setting.mode
+  pub first : closed.first.devices.items ≡ s.setting.first
+  pub history : closed.history.items ≡ s.history
+  pub order : closed.order.items ≡ (read_of (configuration_of s)).line
+  pub last : closed.last.devices.items ≡ map stage_stand s.devices
+  pub turns_rose : HaveRisen turns (λ k. k.at_opening.turns) s.devices devices (length s.devices) closed.turns.items
+  pub faults_rose : HaveRisen faults (λ k. k.at_opening.faults) s.devices devices (length s.devices) closed.faults.items
+
+-- it accounts for the calls
+accounted : {D : Type 0} (tag stands turns probes faults : D → ℕ) (s : OpenHub D) (devices : List D) (closed : WindowRecord) → Closes tag stands turns probes faults s devices → Tells turns faults s devices closed
+    → CallsAreAccounted s.setting (entries_of s.history) closed.turns.items closed.faults.items
+accounted {D = D} tag stands turns probes faults s devices closed c tells =
+    record {
+      turns_size = tells.turns_rose.size ∙ c.kept.devices_size;
+      faults_size = tells.faults_rose.size ∙ c.kept.devices_size;
+      turns_of = λ d lt. turns_of d lt (at_place devices d (let same = sizes tag stands turns probes faults s devices c in omega (arith, lt, same)));
+      faults_of = λ d lt. falls_of d lt (at_place devices d (let same = sizes tag stands turns probes faults s devices c in omega (arith, lt, same)));
+    }
+  where
+    falls_of : (d : ℕ) → d < length s.setting.first → (device : D) × (slice_get devices d ≡ Some device) → told_falls (entries_of s.history) d ≤ slice_index_or closed.faults.items d 0
+    falls_of d lt (device, at) =
+        let rose = tells.faults_rose.each d device (let known = c.kept.devices_size in omega (arith, lt, known)) at in
+        let told = (fits_at_home tag stands turns probes faults s devices d device c at).falls_told in
+        omega (arith, rose, told)
+
+    turns_of : (d : ℕ) → d < length s.setting.first → (device : D) × (slice_get devices d ≡ Some device) → slice_index_or closed.turns.items d 0 ≡ told_calls s.setting.runs (entries_of s.history) d
+    turns_of d lt (device, at) =
+        let rose = tells.turns_rose.each d device (let known = c.kept.devices_size in omega (arith, lt, known)) at in
+        let told = (fits_at_home tag stands turns probes faults s devices d device c at).turns_are in
+        omega (arith, rose, told)
+
+-- the window was closed with this record
+pub window_closed : {D : Type 0} (tag stands turns probes faults : D → ℕ) (s : OpenHub D) (devices : List D) (kinds : List Kind) (world : List Stand) (closed : WindowRecord) → Closes tag stands turns probes faults s devices → Tells turns faults s devices closed
+    → kinds ≡ s.setting.kinds → world ≡ map stage_stand s.devices
+    → IsClosed turns probes faults s (record { kinds = kinds; world = world; devices = devices; opened = s.opened + 1 }) closed
+window_closed {D = D} tag stands turns probes faults s devices kinds world closed c tells kinds_are world_is =
+    record {
+      legal = legal_window (configuration_of s) s.rounds s.opened (held_in s) closed c.kept.configuration (quiet_is (configuration_of s) c.quiet) (record {
+        mode = tells.mode;
+        first = tells.first;
+        history = tells.history;
+        order = tells.order;
+        last = record { size = ap (λ l. length l) tells.last ∙ size; each = λ d lt. ap (λ l. stand_at l d) tells.last ∙ stand_of d lt ∙ up_as_counted d lt };
+        accounted = accounted tag stands turns probes faults s devices closed c tells;
+      });
+      history = tells.history;
+      kinds = kinds_are;
+      last = world_is ∙ sym tells.last;
+      opened = refl;
+      commits = λ first none_fails r run none. ap (λ h. ((reading s.setting (entries_of h)).run r).ended) tells.history ∙ ended_committed (configuration_of s) s.rounds s.opened (held_in s) r c.kept.configuration (quiet_is (configuration_of s) c.quiet) run none;
+      places = sym c.places;
+      up = λ none_fails d lt. ap (λ l. (stand_at l d).up) world_is ∙ ap (λ (x : Stand). x.up) (stand_of d (let same = ap (λ l. length l) world_is in omega (arith, lt, same, size)));
+      turns_rose = λ d device at. tells.turns_rose.each d device (known d device at) at;
+      probes_rose = λ d device at. (fits_at_home tag stands turns probes faults s devices d device c at).probes_are;
+      faults_rose = λ d device at. tells.faults_rose.each d device (known d device at) at;
+    }
+  where
+    size : length (map stage_stand s.devices) ≡ length s.setting.first
+    size = length-map s.devices stage_stand ∙ c.kept.devices_size
+
+    stand_of : (d : ℕ) → d < length s.setting.first → stand_at (map stage_stand s.devices) d ≡ stage_stand (device_at s.devices d)
+    stand_of d lt = known_there s d (let all = c.kept.devices_size in omega (arith, lt, all))
+
+    up_as_counted : (d : ℕ) → d < length s.setting.first → stage_stand (device_at s.devices d) ≡ record { value = held_in s d; up = (read_of (configuration_of s)).up d }
+    up_as_counted d lt = λ i. record { value = held_in s d; up = sym (is_up stands turns probes faults s d c.kept lt) i }
+
+    known : (d : ℕ) (device : D) → slice_get devices d ≡ Some device → d < length s.devices
+    known d device at = (let there = slice_get_within devices d device at in let same = sizes tag stands turns probes faults s devices c in let all = c.kept.devices_size in omega (arith, there, same, all))
+
+-- one item more of a list
+pub took_next : {A : Type 0} (xs : List A) (i : ℕ) (x : A) → slice_get xs i ≡ Some x → take (i + 1) xs ≡ take i xs ++ x ∷ []
+took_next [] i x at = absurd (cc)
+took_next (y ∷ xs) zero x at = let same : y ≡ x = cc in ap (λ z. z ∷ []) same
+took_next (y ∷ xs) (suc i) x at = let more : suc i + 1 ≡ suc (i + 1) = omega arith in ap (λ k. take k (y ∷ xs)) more ∙ ap (λ zs. y ∷ zs) (took_next xs i x at)
+
+-- the line of a window that closes has a place in the record's list for each item
+pub items_fit : {D : Type 0} {stands turns probes faults : D → ℕ} (h : Inside D) → IsWhole stands turns probes faults h → IsEmptyFor h.closing.order (length h.order.line.marks)
+items_fit h k =
+    let fits = line_fits _ h.rounds h.opened _ k.shown.configuration in
+    let size = sym (length-map h.order.line.marks (λ (x : Mark). x.item)) ∙ ap length k.order.line_is.items in
+    (k.room.order.0, omega (arith, fits, size, k.room.order.1))

@@ -1,0 +1,305 @@
+-- A window that opens: what the hub knows, and that it is as every hub is kept.
+use Rattle.command_rules.specs.Rosters.{plain_run, runs_of}
+use Rattle.command_rules.specs.declared.rosters.Roster.{Roster}
+use Rattle.device_gate.specs.Places.{all_home}
+use Rattle.device_gate.specs.declared.gates.Place.TheVariants.{Home, Out}
+use Rattle.device_gate.specs.declared.gates.Place.{Place}
+use Rattle.device_gate.specs.declared.slips.Slip.{Slip}
+use Rattle.device_gate.specs.declared.slips.Task.{Task}
+use Rattle.history_book.specs.Settings.{Setting}
+use Rattle.home_types.specs.Kinds.{has_value, kind_at}
+use Rattle.home_types.specs.declared.kinds.Kind.{Kind}
+use Rattle.history_book.specs.declared.entries.Kept.{Kept}
+use Rattle.home_types.specs.declared.modes.Mode.{Mode}
+use Rattle.hub_core.proofs.kept.Hands.{no_hands}
+use Rattle.home_types.specs.declared.numbers.DeviceNo.{DeviceNo}
+use Rattle.hub_core.proofs.kept.Kept.{starts}
+use Rattle.hub_core.specs.Bounds.{most_entries, most_items}
+use Rattle.hub_core.specs.HubCalls.{IsOpened}
+use Rattle.hub_core.specs.HubKept.{ConfigurationIsKept}
+use Rattle.hub_core.specs.HubsKept.{HandsAre, FitsAtHome, HasRoomLeft, HubIsKept}
+use Rattle.hub_core.specs.OpenHubs.{OpenHub, configuration_of, device_at, grip_in, held_in, no_device}
+use Rattle.hub_core.specs.Openings.{MayOpen}
+use Rattle.hub_core.specs.Stage.{StageAllows}
+use Rattle.hub_core.specs.Steps.{opened}
+use Rattle.hub_core.specs.declared.purposes.Purpose.{Purpose}
+use Rattle.hub_core.specs.Homes.{CountsAreLow, HomeIsKept, HomeState, setting_for}
+use Rattle.hub_core.specs.OpeningRooms.{AreKnown, IsClosingRoom, IsOrderRoom, known_first}
+use Rattle.home_types.specs.declared.worlds.Stand.{Stand}
+use Rattle.hub_core.specs.declared.hubs.ClosingLists.{ClosingLists}
+use Rattle.hub_core.specs.declared.known.DeviceProgress.{DeviceProgress}
+use Rattle.home_types.specs.HomeStates.{nowhere, stand_at}
+use Rattle.hub_core.proofs.kept.OrderSteps.{order_begins}
+use Rattle.hub_core.specs.KeptOrders.{OrderIsBeside}
+use Rattle.lineage_table.specs.Lineages.{LineageState}
+use Rattle.lock_leasing.specs.Configurations.{Configuration, Grips}
+use Rattle.serial_line.specs.Marks.{Marked}
+use Rattle.std.proofs.Common.{ap, arith, inl, inr, refl, subst, sym, ◌∙◌}
+use Rattle.std.proofs.lemmas.Grind.{common_steps}
+use Rattle.std.proofs.lemmas.List.{length-append, length-map, replicate-append-replicate}
+use Rattle.std.proofs.lemmas.Option.{get_or_from_slice_get, slice_get_cases, slice_get_within}
+use Rattle.std.specs.Prelude.{Bool, IsTrue, List, None, Option, Some, [], false, if◌then◌else◌, length, nat_lt, replicate, slice_get, slice_index_or, suc, true, zero, ℕ, ◌*◌, ◌++◌, ◌+◌, ◌<◌, ◌∷◌, ◌≡◌, ◌≤◌, ◌⊎◌}
+
+pub replicate_more : {A : Type 0} (n : ℕ) (x : A) → replicate n x ++ x ∷ [] ≡ replicate (n + 1) x
+replicate_more n x = replicate-append-replicate n 1 x
+
+-- the places of a list with one item more
+get_front : {A : Type 0} (xs : List A) (x : A) (i : ℕ) → i < length xs → slice_get (xs ++ x ∷ []) i ≡ slice_get xs i
+get_front [] x i lt = absurd (omega arith)
+get_front (y ∷ ys) x zero lt = refl
+get_front (y ∷ ys) x (suc i) lt = get_front ys x i (omega arith)
+
+get_last : {A : Type 0} (xs : List A) (x : A) → slice_get (xs ++ x ∷ []) (length xs) ≡ Some x
+get_last [] x = refl
+get_last (y ∷ ys) x = get_last ys x
+
+some_is : {A : Type 0} (x y : A) → Some x ≡ Some y → x ≡ y
+some_is x y e = cc
+
+-- one device more is known
+pub known_more : {D : Type 0} (turns probes faults : D → ℕ) (home : HomeState D) (rounds n : ℕ) (known after : List DeviceProgress) (progress : DeviceProgress)
+    → AreKnown turns probes faults home rounds n known → after ≡ known ++ progress ∷ []
+    → ((device : D) → slice_get home.devices n ≡ Some device → progress ≡ known_first rounds (stand_at home.world n).value (turns device) (probes device) (faults device))
+    → AreKnown turns probes faults home rounds (n + 1) after
+known_more {D = D} turns probes faults home rounds n known after progress are more is = rw more (record {
+  size = omega (arith, length-append known (progress ∷ []), are.size);
+  each = each;
+})
+  where
+    each : (d : ℕ) (device : D) → d < n + 1 → slice_get home.devices d ≡ Some device → slice_get (known ++ progress ∷ []) d ≡ Some (known_first rounds (stand_at home.world d).value (turns device) (probes device) (faults device))
+    each d device lt at = elim (split d n lt) [
+      | inl before ↦ get_front known progress d (omega (arith, before, are.size)) ∙ are.each d device before at
+      | inr here ↦ (let P : ℕ → Type 0 = λ k. slice_get home.devices k ≡ Some device → slice_get (known ++ progress ∷ []) k ≡ Some (known_first rounds (stand_at home.world k).value (turns device) (probes device) (faults device)) in
+          subst P (sym here) (λ there. ap (λ k. slice_get (known ++ progress ∷ []) k) (sym are.size) ∙ get_last known progress ∙ ap Some (is device there)) at)
+    ]
+      where
+        split : (a b : ℕ) → a < b + 1 → (a < b) ⊎ (a ≡ b)
+        split a b h = grind (arith, common_steps)
+
+-- A window that opens
+
+-- past the end of a list
+past_end : {A : Type 0} (xs : List A) (i : ℕ) (x : A) → length xs ≤ i → slice_index_or xs i x ≡ x
+past_end [] i x le = refl
+past_end (y ∷ ys) zero x le = absurd (omega arith)
+past_end (y ∷ ys) (suc i) x le = past_end ys i x (omega arith)
+
+-- the hub of a window that opens
+abbrev pub first_hub : {D : Type 0} → HomeState D → Roster → Mode → ℕ → List DeviceProgress → OpenHub D
+first_hub home roster mode rounds known = record {
+  setting = setting_for home roster mode;
+  rounds = rounds;
+  opened = home.opened;
+  history = [];
+  moment = 0;
+  devices = known;
+  places = all_home home.devices;
+  tickets = 0;
+}
+
+-- what a window needs of a home to open
+pub record Opens {D : Type 0} (tag stands turns probes faults : D → ℕ) (home : HomeState D) (roster : Roster) (mode : Mode) (rounds : ℕ) (known : List DeviceProgress) : Type 0 where
+  pub kept : HomeIsKept tag stands turns probes faults home
+  pub may : MayOpen (setting_for home roster mode) rounds home.opened
+  pub stage : StageAllows (setting_for home roster mode) rounds
+  pub knows : AreKnown turns probes faults home rounds (length home.devices) known
+
+-- a device of the home, and what is known of it
+known_there : {D : Type 0} (turns probes faults : D → ℕ) (home : HomeState D) (rounds : ℕ) (known : List DeviceProgress) (d : ℕ) (device : D)
+    → AreKnown turns probes faults home rounds (length home.devices) known → slice_get home.devices d ≡ Some device
+    → device_at known d ≡ known_first rounds (stand_at home.world d).value (turns device) (probes device) (faults device)
+known_there turns probes faults home rounds known d device are at =
+    get_or_from_slice_get known d _ no_device (are.each d device (slice_get_within home.devices d device at) at)
+
+-- no device of the home
+unknown_there : {D : Type 0} (turns probes faults : D → ℕ) (home : HomeState D) (rounds : ℕ) (known : List DeviceProgress) (d : ℕ)
+    → AreKnown turns probes faults home rounds (length home.devices) known → length home.devices ≤ d → device_at known d ≡ no_device
+unknown_there turns probes faults home rounds known d are past = past_end known d no_device (omega (arith, are.size, past))
+
+-- each device of the home, or none
+data There {D : Type 0} (turns probes faults : D → ℕ) (home : HomeState D) (rounds : ℕ) (known : List DeviceProgress) (d : ℕ) : Type 0 where
+  known_as : (device : D) → slice_get home.devices d ≡ Some device → d < length home.world → device_at known d ≡ known_first rounds (stand_at home.world d).value (turns device) (probes device) (faults device) → There turns probes faults home rounds known d
+  unknown : length home.world ≤ d → device_at known d ≡ no_device → There turns probes faults home rounds known d
+
+there : {D : Type 0} (turns probes faults : D → ℕ) (home : HomeState D) (rounds : ℕ) (known : List DeviceProgress) (d : ℕ) → length home.devices ≡ length home.world
+    → AreKnown turns probes faults home rounds (length home.devices) known → There turns probes faults home rounds known d
+there turns probes faults home rounds known d size are = elim (slice_get_cases home.devices d).1 [
+  | inl p ↦ known_as p.0 p.2 (let lt = p.1 in omega (arith, lt, size)) (known_there turns probes faults home rounds known d p.0 are p.2)
+  | inr p ↦ unknown (let le = p.0 in omega (arith, le, size)) (unknown_there turns probes faults home rounds known d are p.0)
+]
+
+-- every place holds a device that is home
+none_out : {D : Type 0} (devices : List D) (d : ℕ) (purpose : Purpose) → grip_in (slice_get (all_home devices) d) purpose ≡ None
+none_out [] d purpose = refl
+none_out (x ∷ xs) zero purpose = refl
+none_out (x ∷ xs) (suc d) purpose = none_out xs d purpose
+
+home_there : {D : Type 0} (devices : List D) (d : ℕ) (device : D) → slice_get (all_home devices) d ≡ Some (Home device) → slice_get devices d ≡ Some device
+home_there [] d device at = absurd (cc)
+home_there (x ∷ xs) zero device at = (let same : x ≡ device = cc in ap Some same)
+home_there (x ∷ xs) (suc d) device at = home_there xs d device at
+
+not_out : {D : Type 0} (devices : List D) (d : ℕ) (slip : Slip) (task : Task) → slice_get (all_home devices) d ≡ Some (Out slip task) → ⊥
+not_out [] d slip task at = absurd (cc)
+not_out (x ∷ xs) zero slip task at = absurd (cc)
+not_out (x ∷ xs) (suc d) slip task at = not_out xs d slip task at
+
+-- the configuration of a window that opens
+pub first_configuration : {D : Type 0} (tag stands turns probes faults : D → ℕ) (home : HomeState D) (roster : Roster) (mode : Mode) (rounds : ℕ) (known : List DeviceProgress)
+    → Opens tag stands turns probes faults home roster mode rounds known → configuration_of (first_hub home roster mode rounds known) ≡ opened (setting_for home roster mode) rounds
+first_configuration tag stands turns probes faults home roster mode rounds known opens = λ i. record {
+  setting = setting_for home roster mode;
+  history = [];
+  moment = 0;
+  probes = λ d. left d i;
+  grips = λ d. none_out home.devices d (device_at known d).purpose i;
+}
+  where
+    in_home : (b : Bool) (lt : ℕ) → b ≡ true → (if b then lt else 0) ≡ lt
+    in_home true lt e = refl
+    in_home false lt e = absurd (cc)
+
+    out_home : (b : Bool) (lt : ℕ) → b ≡ false → (if b then lt else 0) ≡ 0
+    out_home false lt e = refl
+    out_home true lt e = absurd (cc)
+
+    within : (a b : ℕ) → a < b → nat_lt a b ≡ true
+    within a b lt = grind (arith, common_steps)
+
+    beyond : (a b : ℕ) → b ≤ a → nat_lt a b ≡ false
+    beyond a b le = grind (arith, common_steps)
+
+    left_by : (d : ℕ) → There turns probes faults home rounds known d → (device_at known d).probes_left ≡ (if nat_lt d (length home.world) then rounds else 0)
+    left_by d (known_as device at lt is) = ap (λ (k : DeviceProgress). k.probes_left) is ∙ sym (in_home (nat_lt d (length home.world)) rounds (within d (length home.world) lt))
+    left_by d (unknown le is) = ap (λ (k : DeviceProgress). k.probes_left) is ∙ sym (out_home (nat_lt d (length home.world)) rounds (beyond d (length home.world) le))
+
+    left : (d : ℕ) → (device_at known d).probes_left ≡ (if nat_lt d (length home.world) then rounds else 0)
+    left d = left_by d (there turns probes faults home rounds known d opens.kept.size opens.knows)
+
+-- where the devices stand as the window opens
+pub first_held : {D : Type 0} (tag stands turns probes faults : D → ℕ) (home : HomeState D) (roster : Roster) (mode : Mode) (rounds : ℕ) (known : List DeviceProgress) (d : ℕ)
+    → Opens tag stands turns probes faults home roster mode rounds known → (stand_at home.world d).value ≡ held_in (first_hub home roster mode rounds known) d
+first_held tag stands turns probes faults home roster mode rounds known d opens = by (there turns probes faults home rounds known d opens.kept.size opens.knows)
+  where
+    by : There turns probes faults home rounds known d → (stand_at home.world d).value ≡ (device_at known d).held
+    by (known_as device at lt is) = sym (ap (λ (k : DeviceProgress). k.held) is)
+    by (unknown le is) = ap (λ (s : Stand). s.value) (past_end home.world d nowhere le) ∙ sym (ap (λ (k : DeviceProgress). k.held) is)
+
+-- a hub is kept as its window opens
+pub first_kept : {D : Type 0} (tag stands turns probes faults : D → ℕ) (home : HomeState D) (roster : Roster) (mode : Mode) (rounds : ℕ) (known : List DeviceProgress)
+    → Opens tag stands turns probes faults home roster mode rounds known → HubIsKept stands turns probes faults (first_hub home roster mode rounds known)
+first_kept {D = D} tag stands turns probes faults home roster mode rounds known opens = record {
+  configuration = configuration;
+  devices_size = opens.knows.size ∙ opens.kept.size;
+  places_size = length-map home.devices (λ device. Home device) ∙ opens.kept.size;
+  home = λ d device at. at_home d device (home_there home.devices d device at);
+  out = λ d slip task at. absurd (not_out home.devices d slip task at);
+  low = λ d. low d (there turns probes faults home rounds known d opens.kept.size opens.knows);
+  values = λ d lt. subst (λ v. IsTrue (has_value (kind_at home.kinds d) v)) (held d) (opens.kept.values d lt);
+  few_tickets = omega arith;
+}
+  where
+    s : OpenHub D
+    s = first_hub home roster mode rounds known
+
+    w : Setting
+    w = setting_for home roster mode
+
+    held : (d : ℕ) → (stand_at home.world d).value ≡ held_in s d
+    held d = first_held tag stands turns probes faults home roster mode rounds known d opens
+
+    all_held : (λ d. (stand_at w.first d).value) ≡ held_in s
+    all_held i d = held d i
+
+    configuration : ConfigurationIsKept (configuration_of s) rounds home.opened (held_in s)
+    configuration =
+        subst (λ h. ConfigurationIsKept (configuration_of s) rounds home.opened h) all_held
+        (subst (λ c. ConfigurationIsKept c rounds home.opened (λ d. (stand_at w.first d).value)) (sym (first_configuration tag stands turns probes faults home roster mode rounds known opens))
+        (starts w rounds home.opened opens.may opens.stage opens.kept.kinds opens.kept.values))
+
+    at_home : (d : ℕ) (device : D) → slice_get home.devices d ≡ Some device → FitsAtHome stands turns probes faults s d device
+    at_home d device at =
+        let is = known_there turns probes faults home rounds known d device opens.knows at in
+        record {
+          stand = λ up. opens.kept.stand d device at up ∙ held d;
+          turns_are = let same : (device_at known d).at_opening.turns ≡ turns device = ap (λ (k : DeviceProgress). k.at_opening.turns) is in omega (arith, same);
+          probes_are =
+              let same : (device_at known d).at_opening.probes ≡ probes device = ap (λ (k : DeviceProgress). k.at_opening.probes) is in
+              let left : (device_at known d).probes_left ≡ rounds = ap (λ (k : DeviceProgress). k.probes_left) is in omega (arith, same, left);
+          falls_told = let same : (device_at known d).at_opening.faults ≡ faults device = ap (λ (k : DeviceProgress). k.at_opening.faults) is in omega (arith, same);
+          few_faults = let same : (device_at known d).at_opening.faults ≡ faults device = ap (λ (k : DeviceProgress). k.at_opening.faults) is in omega (arith, same);
+        }
+
+    low : (d : ℕ) → There turns probes faults home rounds known d → CountsAreLow home.opened (device_at known d).at_opening.turns (device_at known d).at_opening.probes (device_at known d).at_opening.faults
+    low d (known_as device at lt is) = rw is (opens.kept.counts d device at)
+    low d (unknown le is) = rw is (record { few_turns = omega arith; few_probes = omega arith; few_faults = omega arith })
+
+-- .. and has its room
+pub first_room : {D : Type 0} (home : HomeState D) (roster : Roster) (mode : Mode) (rounds spare : ℕ) (closing : ClosingLists)
+    → length home.devices ≡ length home.world → most_entries (length roster.runs.items) (length home.world) rounds ≤ spare → IsClosingRoom (most_items (length roster.runs.items) (length home.world) rounds) (length home.devices) closing
+    → HasRoomLeft rounds (record { setting = setting_for home roster mode; history = []; spare = spare }) closing
+first_room home roster mode rounds spare closing size enough room = record {
+  history = let same : length (runs_of roster) ≡ length roster.runs.items = length-map roster.runs.items plain_run in rw same (omega (arith, enough));
+  order = let same : length (runs_of roster) ≡ length roster.runs.items = length-map roster.runs.items plain_run in rw same (room.order.0, omega (arith, room.order.1));
+  last = rw (← size) (room.last.0, omega (arith, room.last.1));
+  world = rw (← size) (room.world.0, omega (arith, room.world.1));
+  turns = rw (← size) (room.turns.0, omega (arith, room.turns.1));
+  faults = rw (← size) (room.faults.0, omega (arith, room.faults.1));
+}
+
+-- the window was opened on the home
+pub first_opened : {D : Type 0} (tag stands turns probes faults : D → ℕ) (home : HomeState D) (roster : Roster) (mode : Mode) (rounds : ℕ) (known : List DeviceProgress)
+    → Opens tag stands turns probes faults home roster mode rounds known → IsOpened turns probes faults (setting_for home roster mode) rounds home (first_hub home roster mode rounds known)
+first_opened tag stands turns probes faults home roster mode rounds known opens = record {
+  configuration = first_configuration tag stands turns probes faults home roster mode rounds known opens;
+  places = refl;
+  rounds_are = refl;
+  windows = refl;
+  turns_then = λ d device at. ap (λ (k : DeviceProgress). k.at_opening.turns) (known_there turns probes faults home rounds known d device opens.knows at);
+  probes_then = λ d device at. ap (λ (k : DeviceProgress). k.at_opening.probes) (known_there turns probes faults home rounds known d device opens.knows at);
+  faults_then = λ d device at. ap (λ (k : DeviceProgress). k.at_opening.faults) (known_there turns probes faults home rounds known d device opens.knows at);
+}
+
+-- a setting with the roster that was indexed
+pub setting_of_indexed : (s : Setting) (indexed roster : Roster) (mode : Mode) (kinds : List Kind) (world : List Stand)
+    → ◌≡◌ {A = Setting} s (record { runs = runs_of indexed; mode = mode; kinds = kinds; first = world })
+    → indexed ≡ roster
+    → ◌≡◌ {A = Setting} s (record { runs = runs_of roster; mode = mode; kinds = kinds; first = world })
+setting_of_indexed s indexed roster mode kinds world is same = subst (λ (q : Roster). ◌≡◌ {A = Setting} s (record { runs = runs_of q; mode = mode; kinds = kinds; first = world })) same is
+
+-- what was put together is the hub of a window that opens
+pub is_first_hub : {D : Type 0} (home : HomeState D) (roster : Roster) (mode : Mode) (rounds : ℕ) (known : List DeviceProgress) (kinds : List Kind) (world : List Stand) (devices : List D) (opened' : ℕ) (setting : Setting) (history : List Kept) (places : List (Place D)) (tickets : ℕ)
+    → ◌≡◌ {A = HomeState D} (record { kinds = kinds; world = world; devices = devices; opened = opened' }) home
+    → ◌≡◌ {A = Setting} setting (record { runs = runs_of roster; mode = mode; kinds = kinds; first = world })
+    → history ≡ [] → places ≡ all_home devices → tickets ≡ 0
+    → ◌≡◌ {A = OpenHub D} (record { setting = setting; rounds = rounds; opened = opened'; history = history; moment = 0; devices = known; places = places; tickets = tickets }) (first_hub home roster mode rounds known)
+is_first_hub {D = D} home roster mode rounds known kinds world devices opened' setting history places tickets seen fixed none at_home no_ticket = λ i. record {
+  setting = settings i;
+  rounds = rounds;
+  opened = ap (λ (h : HomeState D). h.opened) seen i;
+  history = none i;
+  moment = 0;
+  devices = known;
+  places = all_places i;
+  tickets = no_ticket i;
+}
+  where
+    settings : setting ≡ setting_for home roster mode
+    settings = fixed ∙ ap (λ (h : HomeState D). setting_for h roster mode) seen
+
+    all_places : places ≡ all_home home.devices
+    all_places = at_home ∙ ap (λ (h : HomeState D). all_home h.devices) seen
+
+-- the line and the table of a window that opens
+pub first_order : {D : Type 0} (tag stands turns probes faults : D → ℕ) (home : HomeState D) (roster : Roster) (mode : Mode) (rounds spare : ℕ) (known : List DeviceProgress) (line : Marked) (table : List LineageState)
+    → Opens tag stands turns probes faults home roster mode rounds known → IsOrderRoom (most_items (length roster.runs.items) (length home.world) rounds) (runs_of roster) home.world line table → OrderIsBeside rounds (record { setting = setting_for home roster mode; history = []; spare = spare }) (configuration_of (first_hub home roster mode rounds known)).grips line table
+first_order tag stands turns probes faults home roster mode rounds spare known line table opens room =
+    subst (λ (g : Grips). OrderIsBeside rounds (record { setting = setting_for home roster mode; history = []; spare = spare }) g line table) (sym (ap (λ (c : Configuration). c.grips) (first_configuration tag stands turns probes faults home roster mode rounds known opens)))
+    (order_begins rounds (setting_for home roster mode) line table room.no_item (let same : length (runs_of roster) ≡ length roster.runs.items = length-map roster.runs.items plain_run in rw same (omega (arith, room.room))) room.opened)
+
+-- no run holds a grip
+pub first_hands : {D : Type 0} (tag stands turns probes faults : D → ℕ) (home : HomeState D) (roster : Roster) (mode : Mode) (rounds : ℕ) (known : List DeviceProgress) (hands : List (Option DeviceNo))
+    → Opens tag stands turns probes faults home roster mode rounds known → hands ≡ replicate (length roster.runs.items) None → HandsAre (setting_for home roster mode) (configuration_of (first_hub home roster mode rounds known)).grips hands
+first_hands tag stands turns probes faults home roster mode rounds known hands opens none =
+    subst (λ (x : List (Option DeviceNo)). HandsAre (setting_for home roster mode) (configuration_of (first_hub home roster mode rounds known)).grips x) (sym (none ∙ ap (λ n. replicate n None) (sym (length-map roster.runs.items plain_run))))
+    (no_hands (setting_for home roster mode) _ (λ d. ap (λ (c : Configuration). c.grips d) (first_configuration tag stands turns probes faults home roster mode rounds known opens)))

@@ -1,0 +1,287 @@
+-- The line and the table of a hub, in its steps.
+use Rattle.command_rules.specs.Footprints.{FitsIndex}
+use Rattle.command_rules.specs.Rosters.{Run, commands_of, device_no, is_on, run_no, touches}
+use Rattle.device_gate.specs.Grips.{Gripped}
+use Rattle.device_gate.specs.declared.gates.Place.TheVariants.{Home, Out}
+use Rattle.device_gate.specs.declared.grips.Ready.{Ready}
+use Rattle.device_gate.specs.declared.slips.Task.{Task}
+use Rattle.history_book.specs.Histories.{entries_of, kept_by}
+use Rattle.history_book.specs.Readings.{Reading, is_doomed, next_of, pends, put}
+use Rattle.history_book.specs.Settings.{Setting}
+use Rattle.history_book.specs.WellFormed.{may_follow}
+use Rattle.history_book.specs.declared.entries.Cause.{Cause}
+use Rattle.history_book.specs.declared.entries.End.TheVariants.{Aborted, Committed}
+use Rattle.history_book.specs.declared.entries.Entry.TheVariants.{Arrived, Ended, Placed}
+use Rattle.history_book.specs.declared.entries.Entry.{Entry}
+use Rattle.history_book.specs.declared.entries.Kept.{Kept}
+use Rattle.home_types.specs.declared.commands.Command.{Command}
+use Rattle.home_types.specs.declared.items.Item.TheVariants.{Ran}
+use Rattle.hub_core.proofs.kept.Hands.{hand_goes}
+use Rattle.hub_core.proofs.calls.HubChanges.{Ending, Going, IsEntered, Making, entered_whole, entry_made, making}
+use Rattle.hub_core.proofs.calls.HubOuts.{GoesFor, IsHanded, IsHandedOut, device_within, handed_out, went_out}
+use Rattle.hub_core.proofs.kept.HubReads.{run_place}
+use Rattle.hub_core.proofs.calls.HubStates.{grips_set}
+use Rattle.hub_core.proofs.kept.LineOrder.{end_line}
+use Rattle.hub_core.proofs.kept.Sizes.{line_fits}
+use Rattle.hub_core.proofs.kept.OrderSteps.{last_follows, order_aborted, order_arrived, order_committed, order_out, order_placed, order_undo_out, read_more}
+use Rattle.hub_core.specs.HubKept.{ConfigurationIsKept}
+use Rattle.hub_core.specs.HubsKept.{HandsAre, HubIsKept, IsWhole, open_of}
+use Rattle.hub_core.specs.KeptOrders.{OrderIsBeside}
+use Rattle.hub_core.specs.OpenHubs.{configuration_of, device_at, grip_in, held_in, purpose_of}
+use Rattle.hub_core.specs.Openings.{MayOpen, names_values_of}
+use Rattle.hub_core.specs.PlansInTurn.{planned_in_turn}
+use Rattle.hub_core.specs.Steps.{HandsOut, Moves, choice_of}
+use Rattle.hub_core.specs.declared.hubs.Hub.TheInside.{Inside}
+use Rattle.hub_core.specs.declared.kept_orders.KeptOrder.{KeptOrder}
+use Rattle.hub_core.specs.declared.known.DeviceProgress.{DeviceProgress}
+use Rattle.hub_core.specs.declared.purposes.Purpose.{Purpose as KeptPurpose}
+use Rattle.hub_core.specs.ReadHistories.{HistoryState, read_in, with_entry}
+use Rattle.home_types.specs.Kinds.{kind_at}
+use Rattle.lineage_table.specs.Accesses.{IsDisciplined}
+use Rattle.lineage_table.specs.Lineages.{LineageState, accesses_at, committed_lineage, lineage_at, removed, undone, with_lineage}
+use Rattle.lock_leasing.specs.Configurations.{Commands, Configuration, Grip, Grips, Probes, Purpose, Undoes, is_command, is_undo, read_of}
+use Rattle.lock_leasing.specs.Standings.{IsRosterFor, IsStandingOf}
+use Rattle.serial_line.specs.Marks.{Mark, Marked, items_of, stands, touching, with_item, without}
+use Rattle.std.proofs.Common.{ap, ap₂, arith, length-append, refl, subst, sym, ◌∙◌}
+use Rattle.std.proofs.lemmas.Grind.{common_steps}
+use Rattle.std.proofs.lemmas.List.{length-map}
+use Rattle.std.proofs.lemmas.Option.{slice_get-get_or, slice_get_within}
+use Rattle.std.specs.List.{All}
+use Rattle.std.specs.Prelude.{Bool, List, None, Option, Some, [], drop, false, get_or, if◌then◌else◌, is_none, is_some, length, max, nat_lt, option_map, slice_get, suc, true, unwrap_or, zero, ℕ, ◌&&◌, ◌*◌, ◌++◌, ◌+◌, ◌-◌, ◌<◌, ◌==◌, ◌∷◌, ◌≡◌, ◌≤◌}
+use Rattle.window_order.proofs.FewAccesses.{few_accesses}
+use Rattle.window_order.proofs.PlacedTables.{new_at_end, none_wrote_behind}
+use Rattle.window_order.proofs.Promises.{order_stands}
+use Rattle.window_order.proofs.ReadFacts.{IsRead, read_facts}
+use Rattle.window_order.proofs.Representing.{represents}
+use Rattle.window_order.specs.MarksKept.{MarksAreKept}
+use Rattle.window_order.proofs.TouchedLines.{live_stands, unplaced_absent}
+use Rattle.window_order.specs.TableChanges.{ChangesEach, IsNewOn, scheduled_on}
+use Rattle.window_order.specs.TableKept.{TableIsKept}
+use Rattle.lock_leasing.proofs.Facts.{next_is_left}
+
+-- What is kept of the hub's history
+
+pub read_hub : (s : Configuration) (rounds opened : ℕ) (held : ℕ → ℕ) → ConfigurationIsKept s rounds opened held → IsRead s.setting (read_of s)
+read_hub s rounds opened held k = read_facts s.setting (entries_of s.history) k.history.well_formed
+
+roster_allowed : (w : Setting) (rounds opened : ℕ) → MayOpen w rounds opened → IsRosterFor (length w.first) w.runs
+roster_allowed w rounds opened may = record {
+  few_devices = may.few_devices;
+  few_runs = may.few_runs;
+  few_commands = may.few_commands;
+  homed = λ r k c at. below c.device.0 (length w.first) (names_values_of (kind_at w.kinds c.device.0) c.job) (may.homed r k c at);
+  follows_earlier = λ r f at. earlier 0 f.0 r (may.follows r f at);
+}
+  where
+    below : (a b : ℕ) (x : Bool) → (nat_lt a b && x) ≡ true → a < b
+    below a b x h = grind (arith, common_steps)
+
+    earlier : (z a b : ℕ) → (nat_lt z a && nat_lt a b) ≡ true → a < b
+    earlier z a b h = grind (arith, common_steps)
+
+-- .. and its footprints may be made
+pub index_fits : (w : Setting) (rounds opened : ℕ) → MayOpen w rounds opened → FitsIndex w.runs
+index_fits w rounds opened may =
+    let allowed = roster_allowed w rounds opened may in
+    record { few_commands = allowed.few_commands; low_devices = λ r k c at. let inside = allowed.homed r k c at in let few = allowed.few_devices in omega (arith, inside, few) }
+
+-- table, line, history and roster of a hub belong to its window, where the accesses in the table are in turn, as those of every table are
+pub hub_standing : (s : Configuration) (rounds opened : ℕ) (held : ℕ → ℕ) (spare : ℕ) (line : Marked) (table : List LineageState) → ((d : ℕ) → IsDisciplined (accesses_at table d)) → ConfigurationIsKept s rounds opened held → OrderIsBeside rounds (record { setting = s.setting; history = s.history; spare = spare }) s.grips line table
+    → IsStandingOf s table line.marks s.history s.setting.runs
+hub_standing s rounds opened held spare line table disciplined k order = record {
+  ordered = k.stage.strong;
+  allowed = roster_allowed s.setting rounds opened k.opens;
+  grips = k.order.grips.runs;
+  well_formed = k.history.well_formed;
+  order = order_stands s.setting (read_of s) s.grips held (read_hub s rounds opened held k) k.order;
+  its_roster = refl;
+  its_history = refl;
+  its_line = order.line_is;
+  disciplined = disciplined;
+  its_table = represents s.setting (read_of s) s.grips table disciplined order.table_is;
+}
+
+-- What is kept of the parts of a hub
+
+pub read_whole : {D : Type 0} {stands turns probes faults : D → ℕ} (h : Inside D) → IsWhole stands turns probes faults h → IsRead h.history.setting (read_in h.history)
+read_whole h k = read_hub _ h.rounds h.opened _ k.shown.configuration
+
+pub standing_whole : {D : Type 0} {stands turns probes faults : D → ℕ} (h : Inside D) → ((d : ℕ) → IsDisciplined (accesses_at h.order.table d)) → IsWhole stands turns probes faults h → IsStandingOf (configuration_of (open_of h)) h.order.table h.order.line.marks h.history.history h.history.setting.runs
+standing_whole h disciplined k = hub_standing _ h.rounds h.opened _ h.history.spare h.order.line h.order.table disciplined k.shown.configuration k.order
+
+-- a device has at most one access for each run
+pub few_whole : {D : Type 0} {stands turns probes faults : D → ℕ} (h : Inside D) → ((d : ℕ) → IsDisciplined (accesses_at h.order.table d)) → IsWhole stands turns probes faults h → (d : ℕ) → length (accesses_at h.order.table d) ≤ length h.history.setting.runs
+few_whole h disciplined k d = by_place (nat_lt d (length h.history.setting.first)) refl
+  where
+    none_beyond : (table : List LineageState) (e : ℕ) → length table ≤ e → length (accesses_at table e) ≡ 0
+    none_beyond [] e past = refl
+    none_beyond (s ∷ table) zero past = absurd (omega (arith, past))
+    none_beyond (s ∷ table) (suc e) past = none_beyond table e (omega (arith, past))
+
+    by_place : (b : Bool) → nat_lt d (length h.history.setting.first) ≡ b → length (accesses_at h.order.table d) ≤ length h.history.setting.runs
+    by_place true within = few_accesses h.history.setting (read_in h.history) (configuration_of (open_of h)).grips d (lineage_at h.order.table d) (k.order.table_is.each d (grind (arith, common_steps))) (disciplined d)
+    by_place false beyond = let none = none_beyond h.order.table d (let size = k.order.table_is.devices in let past : length h.history.setting.first ≤ d = grind (arith, common_steps) in omega (arith, size, past)) in omega (arith, none)
+
+-- A run arrives
+
+pub arrives_whole : {D : Type 0} {stands turns probes faults : D → ℕ} (h t : Inside D) (r m : ℕ) → IsEntered h t r m (Arrived (run_no r) (max h.moment m)) Going → t.order ≡ h.order → IsWhole stands turns probes faults h → IsWhole stands turns probes faults t
+arrives_whole h t r m enters same k = entered_whole h t r m _ Going enters (λ formed.
+    subst (λ (o : KeptOrder). OrderIsBeside h.rounds (with_entry h.history r (Arrived (run_no r) (max h.moment m))) (configuration_of (open_of h)).grips o.line o.table) (sym same) (order_arrived h.history _ _ r (max h.moment m) _ _ refl k.order)) k
+
+-- A run is placed
+
+-- the line has room for the run
+pub line_place : {D : Type 0} {stands turns probes faults : D → ℕ} (h : Inside D) (r m : ℕ) → choice_of (configuration_of (open_of h)) r m ≡ Moves (Placed (run_no r) (length (read_in h.history).line) (max h.moment m) ∷ []) → IsWhole stands turns probes faults h → 0 < h.order.line.spare
+line_place h r m is k =
+    let n = read_in h.history in
+    let fits = line_fits _ h.rounds h.opened _ (entry_made _ _ _ _ (open_of h) r m _ Going is k.shown).configuration in
+    let longer = ap (λ (x : Reading). length x.line) (read_more h.history.setting h.history.history r (Placed (run_no r) (length n.line) (max h.moment m))) ∙ ap length (end_line h.history.setting n r (max h.moment m)) ∙ length-append n.line (Ran (run_no r) ∷ []) in
+    let size = sym (length-map h.order.line.marks (λ (x : Mark). x.item)) ∙ ap length k.order.line_is.items in
+    omega (arith, fits, longer, size, k.order.room)
+
+-- a run that may be placed here has its devices in the home, does not stand in the line, and is new on each of its devices
+pub record MayJoin (w : Setting) (r at : ℕ) (marks : List Mark) (table : List LineageState) : Type 0 where
+  pub few : length table ≤ 256
+  pub homed : All (λ (c : Command). c.device.0 < length table) (commands_of w.runs r)
+  pub absent : stands (Ran (run_no r)) marks ≡ false
+  pub new : (d : ℕ) → d < length table → touches w.runs r d ≡ true → IsNewOn r (drop at (items_of marks)) (lineage_at table d)
+
+-- .. as it may at the end of the line
+pub may_join : (w : Setting) (n : Reading) (g : Grips) (r m : ℕ) (marks : List Mark) (table : List LineageState) → IsRead w n → IsRosterFor (length w.first) w.runs → may_follow w n (Placed (run_no r) (length n.line) m) ≡ true → MarksAreKept n g marks → TableIsKept w n g table → MayJoin w r (length n.line) marks table
+may_join w n g r m marks table read allowed may line_is table_is = record {
+  few = subst (λ k. k ≤ 256) (sym table_is.devices) allowed.few_devices;
+  homed = λ k c within. subst (λ x. (get_or (commands_of w.runs r) k c).device.0 < x) (sym table_is.devices) (allowed.homed r k (get_or (commands_of w.runs r) k c) (slice_get-get_or (commands_of w.runs r) k c within));
+  absent = unplaced_absent w n g r marks read none line_is;
+  new = λ d lt used. subst (λ is. IsNewOn r (drop (length n.line) is) (lineage_at table d)) (sym line_is.items) (new_at_end w n g r m read may d (lineage_at table d) used (table_is.each d (subst (λ x. d < x) table_is.devices lt)));
+}
+  where
+    none : is_none (n.run r).placed ≡ true
+    none = grind (arith, common_steps)
+
+-- .. as the step of the hub does
+pub hub_joins : {D : Type 0} {stands turns probes faults : D → ℕ} (h : Inside D) (r m : ℕ) → choice_of (configuration_of (open_of h)) r m ≡ Moves (Placed (run_no r) (length (read_in h.history).line) (max h.moment m) ∷ [])
+    → IsWhole stands turns probes faults h → MayJoin h.history.setting r (length (read_in h.history).line) h.order.line.marks h.order.table
+hub_joins h r m is k =
+    may_join h.history.setting (read_in h.history) _ r (max h.moment m) h.order.line.marks h.order.table (read_whole h k) (roster_allowed h.history.setting h.rounds h.opened k.shown.configuration.opens)
+    (last_follows h.history.setting h.history.history r (Placed (run_no r) (length (read_in h.history).line) (max h.moment m)) (entry_made _ _ _ _ (open_of h) r m _ Going is k.shown).configuration.history.well_formed) k.order.line_is k.order.table_is
+
+-- the run stands at the end of the line, and is scheduled on its devices
+pub record IsJoined {D : Type 0} (h t : Inside D) (r m : ℕ) : Type 0 where
+  pub marks : t.order.line.marks ≡ with_item (length (read_in h.history).line) (Ran (run_no r)) h.order.line.marks
+  pub spare : t.order.line.spare + 1 ≡ h.order.line.spare
+  pub table : ChangesEach (scheduled_on h.history.setting.runs r (planned_in_turn (max h.moment m) (commands_of h.history.setting.runs r)) (drop (length (read_in h.history).line) (items_of h.order.line.marks))) h.order.table t.order.table
+
+pub joins_whole : {D : Type 0} {stands turns probes faults : D → ℕ} (h t : Inside D) (r m : ℕ) → IsEntered h t r m (Placed (run_no r) (length (read_in h.history).line) (max h.moment m)) Going → IsJoined h t r m → IsWhole stands turns probes faults h → IsWhole stands turns probes faults t
+joins_whole h t r m enters joined k = entered_whole h t r m _ Going enters (λ formed.
+    order_placed h.history _ _ r (length (read_in h.history).line) (max h.moment m) h.order.line t.order.line h.order.table t.order.table (read_whole h k) k.shown.configuration.order.grips k.shown.configuration.stage.scheduler (none_wrote_behind h.history.setting (read_in h.history) r) refl formed joined.marks joined.spare joined.table k.order) k
+
+-- A run ends
+
+pub commits_whole : {D : Type 0} {stands turns probes faults : D → ℕ} (h t : Inside D) (r m : ℕ) → IsEntered h t r m (Ended (run_no r) Committed) (Ending Committed) → t.order.line ≡ h.order.line → ChangesEach (λ d. committed_lineage r) h.order.table t.order.table
+    → IsWhole stands turns probes faults h → IsWhole stands turns probes faults t
+commits_whole h t r m enters line table k = entered_whole h t r m _ (Ending Committed) enters (λ formed.
+    order_committed h.history _ _ r h.order.line t.order.line h.order.table t.order.table (read_whole h k) k.shown.configuration.order.grips refl formed line table k.order) k
+
+-- the run has left the line, and has no access any more
+pub record IsWithdrawn {D : Type 0} (h t : Inside D) (r : ℕ) : Type 0 where
+  pub marks : t.order.line.marks ≡ without r h.order.line.marks
+  pub spare : t.order.line.spare ≡ h.order.line.spare + 1
+  pub table : ChangesEach (λ d. removed r) h.order.table t.order.table
+
+pub aborts_whole : {D : Type 0} {stands turns probes faults : D → ℕ} (h t : Inside D) (r m : ℕ) (cause : Cause) → IsEntered h t r m (Ended (run_no r) (Aborted cause)) (Ending (Aborted cause)) → IsWithdrawn h t r → IsWhole stands turns probes faults h → IsWhole stands turns probes faults t
+aborts_whole h t r m cause enters left k = entered_whole h t r m _ (Ending (Aborted cause)) enters (λ formed.
+    order_aborted h.history _ _ r cause h.order.line t.order.line h.order.table t.order.table (read_whole h k) refl formed left.marks left.spare left.table k.order) k
+
+-- the line of a window has as many items as its marks
+pub standing_size : (s : Configuration) (table : List LineageState) (line : List Mark) (history : List Kept) (runs : List Run) → IsStandingOf s table line history runs → length line ≡ length (read_of s).line
+standing_size s table line history runs parts = sym (length-map line (λ (x : Mark). x.item)) ∙ ap length parts.its_line.items
+
+-- A device goes out
+
+-- the line's run that is handed the device out, one of the 256 that a home may have
+pub record MayMark (r d : ℕ) (marks : List Mark) (table : List LineageState) : Type 0 where
+  pub stands : stands (Ran (run_no r)) marks ≡ true
+  pub device : d < 256
+  pub homed : d < length table
+
+pub may_mark : (s : Configuration) (rounds opened : ℕ) (held : ℕ → ℕ) (r m d : ℕ) (purpose : Purpose) (marks : List Mark) (table : List LineageState) → ConfigurationIsKept s rounds opened held → choice_of s r m ≡ HandsOut d purpose → MarksAreKept (read_of s) s.grips marks → length table ≡ length s.setting.first → MayMark r d marks table
+may_mark s rounds opened held r m d purpose marks table k chose line_is size = record {
+  stands = live_stands s.setting (read_of s) s.grips r marks (read_hub s rounds opened held k) out.live line_is;
+  device = let few : length s.setting.first ≤ 256 = k.opens.few_devices in omega (arith, within, few);
+  homed = omega (arith, within, size);
+}
+  where
+    out : IsHandedOut s r d purpose
+    out = handed_out s rounds opened held r m d purpose k chose
+
+    within : d < length s.setting.first
+    within = device_within s.setting d out.device
+
+-- line and table when a device has gone out for this purpose
+went_for : {rounds : ℕ} (h : HistoryState) (s : Configuration) (g f : Grips) (r d : ℕ) (purpose : Purpose) (line after : Marked) (table later : List LineageState) → s.setting ≡ h.setting → read_of s ≡ read_in h → IsRead h.setting (read_in h) → g d ≡ None → d < length table → GoesFor s r d purpose → f ≡ put g d (Some (record { maker = r; purpose = purpose }))
+    → after.marks ≡ (if is_command purpose then touching r d line.marks else line.marks) → after.spare ≡ line.spare → later ≡ (if is_undo purpose then with_lineage table d (undone r) else table) → OrderIsBeside rounds h g line table → OrderIsBeside rounds h f after later
+went_for h s g f r d (Commands k) line after table later setting same read home below for out marks spare changed order =
+    order_out h g f r d k line after table later home (ap (λ n. is_doomed n r) (sym same) ∙ for.sound) (ap₂ (λ w n. pends w n r d) (sym setting) (sym same) ∙ next_is_left d (commands_of s.setting.runs r) (next_of (read_of s) r) (ap (λ o. unwrap_or (option_map (is_on d) o) false) for.next ∙ equal for.command.device.0 d for.on)) out marks spare changed order
+  where
+    equal : (x y : ℕ) → x ≡ y → (x == y) ≡ true
+    equal x y e = grind (arith, common_steps)
+went_for h s g f r d (Undoes v) line after table later setting same read home below for out marks spare changed order = order_undo_out h g f r d v line after table later read home below out marks spare changed order
+went_for h s g f r d (Probes v) line after table later setting same read home below for out marks spare changed order = absurd for
+
+-- .. as the step of the hub does
+pub record IsTouched {D : Type 0} (h t : Inside D) (r d : ℕ) (purpose : Purpose) : Type 0 where
+  pub marks : t.order.line.marks ≡ (if is_command purpose then touching r d h.order.line.marks else h.order.line.marks)
+  pub spare : t.order.line.spare ≡ h.order.line.spare
+  pub table : t.order.table ≡ (if is_undo purpose then with_lineage h.order.table d (undone r) else h.order.table)
+
+unheld : (o : Option Grip) → is_some o ≡ false → o ≡ None
+unheld None e = refl
+unheld (Some x) e = absurd (cc)
+
+gone_grips : {D : Type 0} {turns probes faults : D → ℕ} (h t : Inside D) (r m d : ℕ) (purpose : KeptPurpose) (known : DeviceProgress) (task : Task) (grip : Gripped D Ready) → IsHanded turns probes faults h t r m d purpose known task grip
+    → ◌≡◌ {A = Grips} (configuration_of (open_of t)).grips (put (configuration_of (open_of h)).grips d (Some (record { maker = r; purpose = purpose_of purpose })))
+gone_grips h t r m d purpose known task grip handed =
+    (λ i e. grip_in (slice_get (handed.sent.after_is i) e) (device_at (handed.devices_are i) e).purpose)
+    ∙ grips_set h.gate.places h.devices.items d (Out grip.slip task) (record known { purpose = purpose }) (slice_get_within h.gate.places d (Home grip.device) handed.sent.at) (slice_get_within h.devices.items d known handed.known_is)
+    ∙ (λ i. put (configuration_of (open_of h)).grips d (Some (record { maker = handed.sent.maker i; purpose = purpose_of purpose })))
+
+order_went : {D : Type 0} {stands turns probes faults : D → ℕ} (h t : Inside D) (r m d : ℕ) (purpose : KeptPurpose) (known : DeviceProgress) (task : Task) (grip : Gripped D Ready) → IsHanded turns probes faults h t r m d purpose known task grip → IsTouched h t r d (purpose_of purpose)
+    → IsWhole stands turns probes faults h → OrderIsBeside h.rounds h.history (configuration_of (open_of t)).grips t.order.line t.order.table
+order_went {D = D} h t r m d purpose known task grip handed touched k =
+    went_for h.history s g (configuration_of (open_of t)).grips r d (purpose_of purpose) h.order.line t.order.line h.order.table t.order.table refl refl (read_whole h k) (unheld (g d) out.home)
+    (let first : d < length h.history.setting.first = device_within h.history.setting d out.device in let size : length h.order.table ≡ length h.history.setting.first = k.order.table_is.devices in omega (arith, first, size)) out.for gone touched.marks touched.spare touched.table k.order
+  where
+    s : Configuration
+    s = configuration_of (open_of h)
+
+    g : Grips
+    g = s.grips
+
+    out : IsHandedOut s r d (purpose_of purpose)
+    out = handed_out s h.rounds h.opened (held_in (open_of h)) r m d (purpose_of purpose) k.shown.configuration handed.chosen
+
+    gone : ◌≡◌ {A = Grips} (configuration_of (open_of t)).grips (put g d (Some (record { maker = r; purpose = purpose_of purpose })))
+    gone = gone_grips h t r m d purpose known task grip handed
+
+-- its run's hand is one of those that are known
+pub hand_place : {D : Type 0} {stands turns probes faults : D → ℕ} (h : Inside D) (r m d : ℕ) (purpose : Purpose) → choice_of (configuration_of (open_of h)) r m ≡ HandsOut d purpose → IsWhole stands turns probes faults h → r - 1 < length h.hands.items
+hand_place h r m d purpose chosen k =
+    let place = run_place h.history.setting.runs r (handed_out (configuration_of (open_of h)) h.rounds h.opened (held_in (open_of h)) r m d purpose k.shown.configuration chosen).run in
+    omega (arith, place.1, k.hands.size)
+
+hands_went : {D : Type 0} {stands turns probes faults : D → ℕ} (h t : Inside D) (r m d : ℕ) (purpose : KeptPurpose) (known : DeviceProgress) (task : Task) (grip : Gripped D Ready) → IsHanded turns probes faults h t r m d purpose known task grip
+    → IsWhole stands turns probes faults h → HandsAre h.history.setting (configuration_of (open_of t)).grips t.hands.items
+hands_went h t r m d purpose known task grip handed k =
+    let out = handed_out (configuration_of (open_of h)) h.rounds h.opened (held_in (open_of h)) r m d (purpose_of purpose) k.shown.configuration handed.chosen in
+    hand_goes h.history.setting (configuration_of (open_of h)).grips (configuration_of (open_of t)).grips r (device_no d) (purpose_of purpose) h.hands.items t.hands.items out.run (device_within h.history.setting d out.device) out.free (unheld _ out.home) (gone_grips h t r m d purpose known task grip handed) handed.hands_are k.hands
+
+-- the device is handed out, and touched by its run
+pub handed_whole : {D : Type 0} {stands turns probes faults : D → ℕ} (h t : Inside D) (r m d : ℕ) (purpose : KeptPurpose) (known : DeviceProgress) (task : Task) (grip : Gripped D Ready) → IsHanded turns probes faults h t r m d purpose known task grip → IsTouched h t r d (purpose_of purpose)
+    → IsWhole stands turns probes faults h → IsWhole stands turns probes faults t
+handed_whole {D = D} {stands = stands} {turns = turns} {probes = probes} {faults = faults} h t r m d purpose known task grip handed touched k =
+    subst (λ (x : Inside D). IsWhole stands turns probes faults x) (sym handed.new) (record {
+      shown = subst (λ (x : Inside D). HubIsKept stands turns probes faults (open_of x)) handed.new (went_out h t r m d purpose known task grip handed k).kept;
+      room = k.room;
+      order = subst (λ (x : Inside D). OrderIsBeside h.rounds h.history (configuration_of (open_of x)).grips t.order.line t.order.table) handed.new (order_went h t r m d purpose known task grip handed touched k);
+      hands = subst (λ (x : Inside D). HandsAre h.history.setting (configuration_of (open_of x)).grips t.hands.items) handed.new (hands_went h t r m d purpose known task grip handed k);
+    })

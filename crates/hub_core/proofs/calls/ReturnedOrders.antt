@@ -1,0 +1,213 @@
+-- The line and the table of a hub, when a device comes home.
+use Rattle.command_rules.specs.Rosters.{command_at, commands_of, is_run, run_no, touches_from}
+use Rattle.device_gate.specs.Calls.{value_after}
+use Rattle.device_gate.specs.Grips.{Gripped}
+use Rattle.device_gate.specs.declared.gates.Place.TheVariants.{Out}
+use Rattle.device_gate.specs.declared.grips.Done.{Done}
+use Rattle.device_gate.specs.declared.slips.Slip.{Slip}
+use Rattle.device_gate.specs.declared.slips.Task.TheVariants.{Drive, Sense}
+use Rattle.device_gate.specs.declared.slips.Task.{Task}
+use Rattle.history_book.proofs.Snoc.{along_on, each_at, entries_on, put_other, put_same}
+use Rattle.history_book.specs.Histories.{entries_of, entry, kept_by}
+use Rattle.history_book.specs.Readings.{OfRun, Reading, is_doomed, is_fine, is_told, next_of, nothing_read, pends, put}
+use Rattle.history_book.specs.Settings.{Setting}
+use Rattle.history_book.specs.WellFormed.{IsWellFormed, along, is_well_formed, may_act, may_follow, suits}
+use Rattle.history_book.specs.declared.entries.Entry.TheVariants.{Did, Doomed, Undid}
+use Rattle.home_types.specs.Commands.{driven, reads, writes}
+use Rattle.home_types.specs.Kinds.{kind_at}
+use Rattle.home_types.specs.declared.commands.Answer.TheVariants.{Down, Fine, Found}
+use Rattle.home_types.specs.declared.commands.Answer.{Answer}
+use Rattle.home_types.specs.declared.commands.Command.{Command}
+use Rattle.home_types.specs.declared.commands.Job.TheVariants.{Check, Load, Set, Store}
+use Rattle.home_types.specs.declared.commands.Job.{Job}
+use Rattle.home_types.specs.declared.commands.View.{View}
+use Rattle.hub_core.proofs.calls.HubOrders.{read_whole}
+use Rattle.hub_core.proofs.calls.HubReturns.{IsAnswered, IsForCommand, IsHomeAgain, IsReturned, answer_entries, answered_back, back_whole, for_command, home_grips, returned_for, undone_back}
+use Rattle.hub_core.proofs.kept.OrderSteps.{ToldOf, last_follows, may_note, none_out, order_answered, order_doomed, order_undone, read_more}
+use Rattle.hub_core.specs.HubsKept.{IsWhole, open_of}
+use Rattle.hub_core.specs.KeptOrders.{MayNote, OrderIsBeside, is_first, noted_first}
+use Rattle.hub_core.specs.OpenHubs.{configuration_of, device_at, held_in}
+use Rattle.hub_core.specs.ReadHistories.{HistoryState, read_in, with_doom, with_entry}
+use Rattle.hub_core.specs.declared.hubs.Hub.TheInside.{Inside}
+use Rattle.hub_core.specs.declared.kept_orders.KeptOrder.{KeptOrder}
+use Rattle.hub_core.specs.declared.purposes.Purpose.TheVariants.{Command as ForCommand, Undo as ForUndo}
+use Rattle.lineage_table.specs.Lineages.{LineageState, lineage_at, with_lineage}
+use Rattle.lock_leasing.specs.Configurations.{Commands, Grips, grips_command}
+use Rattle.lock_leasing.specs.Tables.{view_when}
+use Rattle.serial_line.specs.Marks.{Marked}
+use Rattle.std.proofs.Common.{ap, arith, refl, subst, sym, ◌∙◌}
+use Rattle.std.proofs.lemmas.Grind.{common_steps}
+use Rattle.std.proofs.lemmas.Option.{slice_get_within}
+use Rattle.std.specs.Prelude.{Bool, IsSome, List, None, Option, Some, [], if◌then◌else◌, is_some, length, nat_lt, not, true, ℕ, ◌&&◌, ◌++◌, ◌+◌, ◌<◌, ◌==◌, ◌||◌, ◌∷◌, ◌≡◌, false}
+use Rattle.window_order.proofs.AnsweredTables.{answered_run, left_after}
+use Rattle.window_order.specs.TableChanges.{ChangesEach, doomed_lineage, is_done_there, told_write}
+use Rattle.history_book.specs.declared.entries.Cause.{Cause}
+use Rattle.history_book.specs.declared.entries.Entry.{Entry}
+use Rattle.lock_leasing.specs.Places.{GripsFit}
+use Rattle.std.proofs.lemmas.List.{append_assoc}
+use Rattle.window_order.proofs.ReadFacts.{IsRead, read_facts}
+use Rattle.window_order.proofs.Steps.{home_fits}
+use Rattle.window_order.specs.OrderKept.{OrderIsKept}
+
+-- What the answer tells
+
+-- a write that worked has driven its device to where it stands
+drove : (job : Job) (v stood : ℕ) → writes job ≡ true → value_after (if reads job then Sense else Drive v) stood ≡ v
+drove (Set u) v stood writes = refl
+drove (Check u) v stood writes = absurd (cc)
+drove Load v stood writes = absurd (cc)
+drove Store v stood writes = refl
+
+wrote_is : (w : Setting) (n : Reading) (r : ℕ) (c : Command) (a : Answer) (task : Task) (value stood : ℕ) → suits w c a ≡ true → task ≡ (if reads c.job then Sense else Drive (driven (kind_at w.kinds c.device.0) c.job (n.run r).register)) → value ≡ value_after task stood
+    → (if is_fine a then Some value else None) ≡ told_write w n r c a
+wrote_is w n r c Fine task value stood suited does is = ap (λ v. Some v) (is ∙ ap (λ t. value_after t stood) does ∙ drove c.job (driven (kind_at w.kinds c.device.0) c.job (n.run r).register) stood suited)
+wrote_is w n r c (Found x) task value stood suited does is = refl
+wrote_is w n r c Down task value stood suited does is = refl
+
+fourth : (a b c x e : Bool) → (a && b && c && x && not e) ≡ true → x ≡ true
+fourth a b c x e h = grind (arith, common_steps)
+
+-- what is left to do on a device after an answer
+pends_after : (w : Setting) (n : Reading) (r k : ℕ) (a : Answer) (d : ℕ) → k ≡ next_of n r → pends w (entry w n (Did (run_no r) k a)) r d ≡ touches_from w.runs r d (k + 1)
+pends_after w n r k a d number = ap (λ (o : OfRun). touches_from w.runs r d (length o.answers)) (put_same n.run r (answered_run w n r k a)) ∙ left_after w n r k a d number
+
+-- the run is done there where it is doomed, or nothing is left
+done_after : (w : Setting) (n : Reading) (r k : ℕ) (a : Answer) (d : ℕ) → k ≡ next_of n r → (command_at w.runs r k).device.0 ≡ d → (is_doomed (entry w n (Did (run_no r) k a)) r || not (pends w (entry w n (Did (run_no r) k a)) r d)) ≡ is_done_there w n r k
+done_after w n r k a d number on = (λ i. ap (λ (o : OfRun). is_some o.doomed) (put_same n.run r (answered_run w n r k a)) i || not ((pends_after w n r k a d number ∙ ap (λ e. touches_from w.runs r e (k + 1)) (sym on)) i))
+
+-- the first entry of a step may stand where it stands, also where a doom follows it
+first_follows : (h h₁ h₂ : HistoryState) (r : ℕ) (e : Entry) (cause : Option Cause) → h₁ ≡ with_entry h r e → h₂ ≡ with_doom h₁ r cause → IsWellFormed h₂.setting (entries_of h₂.history) → may_follow h.setting (read_in h) e ≡ true
+first_follows h h₁ h₂ r e cause one two formed =
+    at_ cause (subst (λ (x : HistoryState). IsWellFormed (with_doom x r cause).setting (entries_of (with_doom x r cause).history)) one (subst (λ (x : HistoryState). IsWellFormed x.setting (entries_of x.history)) two formed))
+  where
+    at_ : (c : Option Cause) → IsWellFormed (with_doom (with_entry h r e) r c).setting (entries_of (with_doom (with_entry h r e) r c).history) → may_follow h.setting (read_in h) e ≡ true
+    at_ None formed = last_follows h.setting h.history r e formed
+    at_ (Some c) formed = each_at h.setting (may_follow h.setting) (nothing_read h.setting) (entries_of h.history) e (Doomed (run_no r) c ∷ [])
+        (subst (IsWellFormed h.setting) (entries_on (h.history ++ kept_by r (e ∷ [])) r (Doomed (run_no r) c ∷ []) ∙ ap (λ l. l ++ Doomed (run_no r) c ∷ []) (entries_on h.history r (e ∷ [])) ∙ append_assoc (entries_of h.history) (e ∷ []) (Doomed (run_no r) c ∷ [])) formed)
+
+-- The device that came home
+
+-- what the table asks for
+pub record MayTell (table : List LineageState) (sl : Slip) : Type 0 where
+  pub device : sl.device.0 < length table
+  pub turn : MayNote sl.maker (lineage_at table sl.device.0)
+
+pub may_tell : {D : Type 0} {stands turns probes faults : D → ℕ} (h : Inside D) (k tag : ℕ) (grip : Gripped D Done) (slip : Slip) → IsReturned stands turns probes faults h (ForCommand k) tag grip → slip ≡ grip.slip → IsWhole stands turns probes faults h → MayTell h.order.table slip
+may_tell h k tag grip slip returned same whole =
+    subst (MayTell h.order.table) (sym same) (record {
+      device = let size : length h.order.table ≡ length h.history.setting.first = whole.order.table_is.devices in omega (arith, within, size);
+      turn = (may_note h.history.setting (read_in h.history) (configuration_of (open_of h)).grips (held_in (open_of h)) grip.slip.device.0 grip.slip.maker k h.order.table (read_whole h whole) whole.shown.configuration.order for.grip within whole.order.table_is).1;
+    })
+  where
+    for : IsForCommand (open_of h) grip.slip grip.task k
+    for = for_command _ _ _ _ (open_of h) grip.slip grip.task k whole.shown returned.there returned.purpose
+
+    within : grip.slip.device.0 < length h.history.setting.first
+    within = let there : grip.slip.device.0 < length h.gate.places = slice_get_within h.gate.places grip.slip.device.0 (Out grip.slip grip.task) returned.there in let size : length h.gate.places ≡ length h.history.setting.first = whole.shown.places_size in omega (arith, there, size)
+
+-- line and table when a command is answered, and its run is then doomed where there is a cause
+order_told : {rounds : ℕ} (h h₁ h₂ : HistoryState) (g f : Grips) (held : ℕ → ℕ) (d r k : ℕ) (a : Answer) (cause : Option Cause) (view : View) (wrote : Option ℕ) (last : Bool) (line mid after : Marked) (table between later : List LineageState)
+    → IsRead h.setting (read_in h) → OrderIsKept h.setting (read_in h) g held → is_run h.setting.runs r ≡ true → g d ≡ Some (record { maker = r; purpose = Commands k }) → d < length h.setting.first
+    → h₁ ≡ with_entry h r (Did (run_no r) k a) → h₂ ≡ with_doom h₁ r cause → IsWellFormed h₂.setting (entries_of h₂.history) → f ≡ put g d None → ToldOf h.setting (read_in h) r k a view wrote last
+    → mid ≡ line → between ≡ with_lineage table d (noted_first r (is_first r (lineage_at table d)) view wrote last) → after ≡ mid → (cause ≡ None → later ≡ between) → (IsSome cause → ChangesEach (λ d. doomed_lineage r) between later)
+    → OrderIsBeside rounds h g line table → OrderIsBeside rounds h₂ f after later
+order_told {rounds = rounds} h h₁ h₂ g f held d r k a None view wrote last line mid after table between later read order run at below one two formed home told same noted kept unchanged changed beside =
+    subst (λ (x : HistoryState). OrderIsBeside rounds x f after later) (sym two) (subst (λ (x : Marked). OrderIsBeside rounds h₁ f x later) (sym kept) (subst (OrderIsBeside rounds h₁ f mid) (sym (unchanged refl))
+    (order_answered h h₁ g f held d r k a view wrote last line mid table between read order at below one home told same noted beside)))
+order_told {rounds = rounds} h h₁ h₂ g f held d r k a (Some cause) view wrote last line mid after table between later read order run at below one two formed home told same noted kept unchanged changed beside =
+    order_doomed h₁ h₂ f r cause mid after between later read₁ fit none two formed kept (changed (cc))
+    (order_answered h h₁ g f held d r k a view wrote last line mid table between read order at below one home told same noted beside)
+  where
+    did : Entry
+    did = Did (run_no r) k a
+
+    -- the history without the doom is well formed too
+    formed₁ : IsWellFormed h₁.setting (entries_of h₁.history)
+    formed₁ = front (is_well_formed h₁.setting (entries_of h₁.history)) (along h₁.setting (may_follow h₁.setting) (read_in h₁) (Doomed (run_no r) cause ∷ []))
+        (sym (along_on h₁.setting (may_follow h₁.setting) (nothing_read h₁.setting) (entries_of h₁.history) (Doomed (run_no r) cause ∷ [])) ∙ subst (IsWellFormed h₁.setting) (entries_on h₁.history r (Doomed (run_no r) cause ∷ [])) (subst (λ (x : HistoryState). IsWellFormed x.setting (entries_of x.history)) two formed))
+      where
+        front : (x y : Bool) → (x && y) ≡ true → x ≡ true
+        front x y e = grind (arith, common_steps)
+
+    read₁ : IsRead h₁.setting (read_in h₁)
+    read₁ = read_facts h₁.setting (entries_of h₁.history) formed₁
+
+    reads : (h₁.setting ≡ h.setting) × (read_in h₁ ≡ entry h.setting (read_in h) did)
+    reads = (ap (λ (x : HistoryState). x.setting) one, ap read_in one ∙ read_more h.setting h.history r did)
+
+    fit : GripsFit h₁.setting (read_in h₁) f
+    fit = subst (λ w. GripsFit w (read_in h₁) f) (sym reads.0) (subst (λ n. GripsFit h.setting n f) (sym reads.1) (subst (GripsFit h.setting (entry h.setting (read_in h) did)) (sym home)
+        (home_fits h.setting (read_in h) (entry h.setting (read_in h) did) g d r (Commands k) (λ q ne. put_other (read_in h).run r _ q ne) run at order.grips)))
+
+    none : (e : ℕ) → grips_command f r e ≡ false
+    none e = ap (λ x. grips_command x r e) home ∙ none_out h.setting (read_in h) g d r (Commands k) run at order.grips e
+
+-- what line and table note of a command that came back: what it tells of its device, and then the doom of its run where there is a cause
+pub record IsNoted {D : Type 0} (h t : Inside D) (value : ℕ) (slip : Slip) (a : Answer) (cause : Option Cause) (mid : HistoryState) (view : View) (wrote : Option ℕ) (last : Bool) (between : KeptOrder) : Type 0 where
+  pub view_is : view ≡ view_when (is_told a)
+  pub wrote_is : wrote ≡ (if is_fine a then Some value else None)
+  pub last_is : last ≡ (is_doomed (read_in mid) slip.maker || not (pends mid.setting (read_in mid) slip.maker slip.device.0))
+  pub line : between.line ≡ h.order.line
+  pub table : between.table ≡ with_lineage h.order.table slip.device.0 (noted_first slip.maker (is_first slip.maker (lineage_at h.order.table slip.device.0)) view wrote last)
+  pub line_after : t.order.line ≡ between.line
+  pub unchanged : cause ≡ None → t.order.table ≡ between.table
+  pub changed : IsSome cause → ChangesEach (λ d. doomed_lineage slip.maker) between.table t.order.table
+
+-- .. when its device is home again
+order_came : {D : Type 0} {stands turns probes faults : D → ℕ} (h t : Inside D) (m value k tag : ℕ) (grip : Gripped D Done) (slip : Slip) (a : Answer) (cause : Option Cause) (mid : HistoryState) (view : View) (wrote : Option ℕ) (last : Bool) (between : KeptOrder)
+    → IsReturned stands turns probes faults h (ForCommand k) tag grip → IsHomeAgain h t m value grip → IsAnswered h grip k slip a cause mid t.history → IsNoted h t value slip a cause mid view wrote last between
+    → IsWellFormed t.history.setting (entries_of t.history.history) → IsWhole stands turns probes faults h → OrderIsBeside h.rounds t.history (configuration_of (open_of t)).grips t.order.line t.order.table
+order_came {D = D} h t m value k tag grip slip a cause mid view wrote last between returned home answered noted formed whole =
+    order_told h.history mid t.history (configuration_of (open_of h)).grips (configuration_of (open_of t)).grips (held_in (open_of h)) d r k a cause view wrote last h.order.line between.line t.order.line h.order.table between.table t.order.table
+    (read_whole h whole) whole.shown.configuration.order for.run for.grip below new doomed formed (home_grips h t m value grip returned.there home whole) (record {
+      view_is = noted.view_is;
+      wrote_is = noted.wrote_is ∙ wrote_is w n r (command_at w.runs r k) a grip.task value (device_at h.devices.items d).held suited for.does home.value_is;
+      last_is = noted.last_is ∙ (λ i. is_doomed (read_in (new i)) (answered.same i).maker || not (pends (new i).setting (read_in (new i)) (answered.same i).maker (answered.same i).device.0)) ∙ ap (λ x. is_doomed x r || not (pends w x r d)) (read_more w h.history.history r (Did (run_no r) k a)) ∙ done_after w n r k a d for.next for.on;
+    }) noted.line (subst (λ (z : Slip). between.table ≡ with_lineage h.order.table z.device.0 (noted_first z.maker (is_first z.maker (lineage_at h.order.table z.device.0)) view wrote last)) answered.same noted.table) noted.line_after noted.unchanged
+    (λ some. subst (λ (z : Slip). ChangesEach (λ e. doomed_lineage z.maker) between.table t.order.table) answered.same (noted.changed some)) whole.order
+  where
+    w : Setting
+    w = h.history.setting
+
+    n : Reading
+    n = read_in h.history
+
+    d : ℕ
+    d = grip.slip.device.0
+
+    r : ℕ
+    r = grip.slip.maker
+
+    new : mid ≡ with_entry h.history r (Did (run_no r) k a)
+    new = answered.answered ∙ ap (λ (z : Slip). with_entry h.history z.maker (Did (run_no z.maker) k a)) answered.same
+
+    doomed : t.history ≡ with_doom mid r cause
+    doomed = answered.doomed ∙ ap (λ (z : Slip). with_doom mid z.maker cause) answered.same
+
+    for : IsForCommand (open_of h) grip.slip grip.task k
+    for = for_command _ _ _ _ (open_of h) grip.slip grip.task k whole.shown returned.there returned.purpose
+
+    below : d < length h.history.setting.first
+    below = let there : d < length h.gate.places = slice_get_within h.gate.places d (Out grip.slip grip.task) returned.there in let size : length h.gate.places ≡ length h.history.setting.first = whole.shown.places_size in omega (arith, there, size)
+
+    may : may_follow w n (Did (run_no r) k a) ≡ true
+    may = first_follows h.history mid t.history r (Did (run_no r) k a) cause new doomed formed
+
+    suited : suits w (command_at w.runs r k) a ≡ true
+    suited = fourth (may_act w n r) (k == next_of n r) (nat_lt k (length (commands_of w.runs r))) (suits w (command_at w.runs r k) a) ((n.run r).answered_doomed) may
+
+-- a command came back: what is kept is kept
+pub answered_whole : {D : Type 0} {stands turns probes faults : D → ℕ} (h t : Inside D) (m value k tag : ℕ) (grip : Gripped D Done) (slip : Slip) (a : Answer) (cause : Option Cause) (mid : HistoryState) (view : View) (wrote : Option ℕ) (last : Bool) (between : KeptOrder)
+    → IsReturned stands turns probes faults h (ForCommand k) tag grip → IsHomeAgain h t m value grip → IsAnswered h grip k slip a cause mid t.history → IsNoted h t value slip a cause mid view wrote last between → IsWhole stands turns probes faults h → IsWhole stands turns probes faults t
+answered_whole h t m value k tag grip slip a cause mid view wrote last between returned home answered noted whole =
+    back_whole h t m value (ForCommand k) tag grip (answer_entries slip.maker k a cause) (answered_back h t m value k tag grip slip a cause mid returned home answered)
+    (λ formed. order_came h t m value k tag grip slip a cause mid view wrote last between returned home answered noted formed whole) whole
+
+-- .. and an undo
+pub undone_whole : {D : Type 0} {stands turns probes faults : D → ℕ} (h t : Inside D) (m value v tag : ℕ) (grip : Gripped D Done) (slip : Slip) → IsReturned stands turns probes faults h (ForUndo v) tag grip → IsHomeAgain h t m value grip → slip ≡ grip.slip
+    → t.history ≡ with_entry h.history slip.maker (Undid (run_no slip.maker) slip.device true) → t.order ≡ h.order → IsWhole stands turns probes faults h → IsWhole stands turns probes faults t
+undone_whole h t m value v tag grip slip returned home same new order whole =
+    back_whole h t m value (ForUndo v) tag grip (Undid (run_no slip.maker) slip.device true ∷ []) (undone_back h t m value v tag grip slip returned home same new)
+    (λ formed. subst (λ (o : KeptOrder). OrderIsBeside h.rounds t.history (configuration_of (open_of t)).grips o.line o.table) (sym order)
+    (order_undone h.history t.history (configuration_of (open_of h)).grips (configuration_of (open_of t)).grips grip.slip.maker grip.slip.device.0 v h.order.line h.order.table
+    (new ∙ ap (λ (y : Slip). with_entry h.history y.maker (Undid (run_no y.maker) y.device true)) same) (returned_for h (ForUndo v) tag grip returned whole).grip (home_grips h t m value grip returned.there home whole) whole.order)) whole

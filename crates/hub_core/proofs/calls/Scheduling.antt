@@ -1,0 +1,252 @@
+-- The accesses of a run that is placed, command after command.
+use Rattle.command_rules.specs.Rosters.{device_no, is_on, run_no}
+use Rattle.history_book.specs.Plans.{planned_end, planned_start}
+use Rattle.history_book.specs.Readings.{Planned}
+use Rattle.home_types.specs.declared.commands.Command.{Command}
+use Rattle.home_types.specs.declared.items.Item.TheVariants.{Back, Failed, Ran}
+use Rattle.home_types.specs.declared.items.Item.{Item}
+use Rattle.home_types.specs.declared.numbers.RunNo.{RunNo}
+use Rattle.hub_core.proofs.kept.HubReads.{some_is}
+use Rattle.hub_core.proofs.calls.PlannedUses.{planned_devices}
+use Rattle.hub_core.specs.PlansInTurn.{planned_in_turn, planned_use}
+use Rattle.hub_core.specs.declared.plans.PlannedUse.{PlannedUse}
+use Rattle.lineage_table.specs.Accesses.{access_of, has_access, is_of}
+use Rattle.lineage_table.specs.Lineages.{LineageState, lineage_at, no_lineage, scheduled, with_lineage}
+use Rattle.lineage_table.specs.declared.accesses.Access.{Access}
+use Rattle.lineage_table.specs.declared.accesses.Status.TheVariants.{Scheduled}
+use Rattle.std.proofs.Common.{ap, arith, cond, refl, set, sym, ◌∙◌}
+use Rattle.std.proofs.lemmas.Grind.{common_steps}
+use Rattle.std.proofs.lemmas.List.Folds.{list_any-append}
+use Rattle.std.proofs.lemmas.List.{drop_all, drop_more, get_or-set_other, get_or-set_same, length-set, take-append-drop, take_more}
+use Rattle.std.proofs.lemmas.Option.{slice_get-get_or, slice_get_within}
+use Rattle.std.specs.List.{list_any}
+use Rattle.std.specs.Option.{option_or}
+use Rattle.std.specs.Prelude.{Bool, List, None, Option, Some, [], drop, false, get_or, if◌then◌else◌, is_some, length, nat_lt, option_to_list, slice_get, take, true, ℕ, ◌+◌, ◌<◌, ◌==◌, ◌||◌, ◌∷◌, ◌≡◌, ◌≢◌, ◌≤◌}
+use Rattle.window_order.specs.TableChanges.{first_with_access, waiting_access}
+
+-- one of the first so many commands is on the device
+abbrev pub is_among : ℕ → ℕ → List Command → Bool
+is_among d k commands = list_any (is_on d) (take k commands)
+
+-- the lineage with the run's access
+abbrev pub joined : ℕ → List Planned → List Item → ℕ → LineageState → LineageState
+joined r planned back d s = scheduled (first_with_access s.accesses back) (waiting_access r planned d) s
+
+-- after so many commands the uses of their devices are taken, and the run has its access there
+pub record IsScheduledTo (k : ℕ) (commands : List Command) (planned : List Planned) (r : ℕ) (back : List Item) (uses : List (Option PlannedUse)) (old new : List LineageState) : Type 0 where
+  pub size : length uses ≡ 256
+  pub devices : length new ≡ length old
+  pub left : (d : ℕ) → d < 256 → get_or uses d None ≡ (if is_among d k commands then None else planned_use planned d)
+  pub each : (d : ℕ) → lineage_at new d ≡ (if is_among d k commands then joined r planned back d (lineage_at old d) else lineage_at old d)
+
+same : (a b : ℕ) → (a == b) ≡ true → a ≡ b
+same a b h = grind (arith, common_steps)
+
+differ : (a b : ℕ) → (a == b) ≡ false → b ≢ a
+differ a b h e = grind (arith, common_steps)
+
+-- one command more
+among_more : (d k : ℕ) (commands : List Command) (e : Command) → k < length commands → is_among d (k + 1) commands ≡ (is_among d k commands || ((get_or commands k e).device.0 == d))
+among_more d k commands e within =
+    ap (list_any (is_on d)) (take_more commands k e within)
+    ∙ list_any-append (is_on d) (take k commands) (get_or commands k e ∷ [])
+    ∙ last (is_among d k commands) ((get_or commands k e).device.0 == d)
+  where
+    last : (x y : Bool) → (x || (y || false)) ≡ (x || y)
+    last x y = grind (arith, common_steps)
+
+-- a device that has its use has had no command
+pub record IsUnused (k d : ℕ) (commands : List Command) (planned : List Planned) (used : PlannedUse) : Type 0 where
+  pub among : is_among d k commands ≡ false
+  pub from : used.from ≡ planned_start planned d
+  pub to : used.to ≡ planned_end planned d
+
+pub unused : (k d : ℕ) (commands : List Command) (planned : List Planned) (used : PlannedUse) → (if is_among d k commands then None else planned_use planned d) ≡ Some used → IsUnused k d commands planned used
+unused k d commands planned used has = by_command (is_among d k commands) refl has
+  where
+    by_use : (b : Bool) → is_among d k commands ≡ false → (if b then Some (record { from = planned_start planned d; to = planned_end planned d }) else None) ≡ Some used → IsUnused k d commands planned used
+    by_use true none e = let is : ◌≡◌ {A = PlannedUse} (record { from = planned_start planned d; to = planned_end planned d }) used = cc in record { among = none; from = sym (ap (λ (u : PlannedUse). u.from) is); to = sym (ap (λ (u : PlannedUse). u.to) is) }
+    by_use false none e = absurd (cc)
+
+    by_command : (b : Bool) → is_among d k commands ≡ b → (if b then None else planned_use planned d) ≡ Some used → IsUnused k d commands planned used
+    by_command true e h = absurd (cc)
+    by_command false e h = by_use (list_any (λ p. p.device == d) planned) e h
+
+-- its lineage is as it was
+pub unused_same : (k d : ℕ) (commands : List Command) (planned : List Planned) (r : ℕ) (back : List Item) (uses : List (Option PlannedUse)) (old new : List LineageState) → IsScheduledTo k commands planned r back uses old new → is_among d k commands ≡ false → lineage_at new d ≡ lineage_at old d
+unused_same k d commands planned r back uses old new so none = so.each d ∙ (λ i. if none i then joined r planned back d (lineage_at old d) else lineage_at old d)
+
+-- the run has its access on the device of the next command
+pub schedules : (k : ℕ) (commands : List Command) (planned : List Planned) (r : ℕ) (back : List Item) (uses : List (Option PlannedUse)) (old new : List LineageState) (e : Command) (used : PlannedUse)
+    → IsScheduledTo k commands planned r back uses old new → k < length commands → ((x : Command) → (get_or commands k x).device.0 < length old) → length old ≤ 256 → get_or uses (get_or commands k e).device.0 None ≡ Some used
+    → IsScheduledTo (k + 1) commands planned r back (set uses (get_or commands k e).device.0 None) old
+    (with_lineage new (get_or commands k e).device.0 (scheduled (first_with_access (lineage_at new (get_or commands k e).device.0).accesses back) (record { run = run_no r; status = Scheduled; view = None; wrote = None; from = used.from; to = used.to })))
+schedules k commands planned r back uses old new e used so within homed few has = record {
+  size = length-set uses c.device.0 None ∙ so.size;
+  devices = length-set new c.device.0 (change (lineage_at new c.device.0)) ∙ so.devices;
+  left = λ d lt. left_at d lt (c.device.0 == d) refl;
+  each = λ d. each_at d (c.device.0 == d) refl;
+}
+  where
+    c : Command
+    c = get_or commands k e
+
+    there : c.device.0 < length old
+    there = homed e
+
+    is : IsUnused k c.device.0 commands planned used
+    is = unused k c.device.0 commands planned used (sym (so.left c.device.0 (omega (arith, there, few))) ∙ has)
+
+    access : Access
+    access = record { run = run_no r; status = Scheduled; view = None; wrote = None; from = used.from; to = used.to }
+
+    change : LineageState → LineageState
+    change = scheduled (first_with_access (lineage_at new c.device.0).accesses back) access
+
+    among : (d : ℕ) (b : Bool) → (c.device.0 == d) ≡ b → is_among d (k + 1) commands ≡ (is_among d k commands || b)
+    among d b h = among_more d k commands e within ∙ ap (λ x. is_among d k commands || x) h
+
+    with_true : (x : Bool) → (x || true) ≡ true
+    with_true true = refl
+    with_true false = refl
+
+    with_false : (x : Bool) → (x || false) ≡ x
+    with_false true = refl
+    with_false false = refl
+
+    left_at : (d : ℕ) → d < 256 → (b : Bool) → (c.device.0 == d) ≡ b → get_or (set uses c.device.0 None) d None ≡ (if is_among d (k + 1) commands then None else planned_use planned d)
+    left_at d lt true h =
+        ap (λ x. get_or (set uses c.device.0 None) x None) (sym (same c.device.0 d h))
+        ∙ get_or-set_same uses c.device.0 None None (omega (arith, there, few, so.size))
+        ∙ (λ i. if sym (among d true h ∙ with_true (is_among d k commands)) i then None else planned_use planned d)
+    left_at d lt false h =
+        get_or-set_other uses c.device.0 d None None (differ c.device.0 d h)
+        ∙ so.left d lt
+        ∙ (λ i. if sym (among d false h ∙ with_false (is_among d k commands)) i then None else planned_use planned d)
+
+    first_is : lineage_at new c.device.0 ≡ lineage_at old c.device.0
+    first_is = unused_same k c.device.0 commands planned r back uses old new so is.among
+
+    access_is : access ≡ waiting_access r planned c.device.0
+    access_is = λ i. record { run = run_no r; status = Scheduled; view = None; wrote = None; from = is.from i; to = is.to i }
+
+    each_at : (d : ℕ) (b : Bool) → (c.device.0 == d) ≡ b → lineage_at (with_lineage new c.device.0 change) d ≡ (if is_among d (k + 1) commands then joined r planned back d (lineage_at old d) else lineage_at old d)
+    each_at d true h =
+        ap (lineage_at (with_lineage new c.device.0 change)) (sym (same c.device.0 d h))
+        ∙ get_or-set_same new c.device.0 (change (lineage_at new c.device.0)) no_lineage (omega (arith, there, so.devices))
+        ∙ (λ i. scheduled (first_with_access (first_is i).accesses back) (access_is i) (first_is i))
+        ∙ ap (λ x. joined r planned back x (lineage_at old x)) (same c.device.0 d h)
+        ∙ (λ i. if sym (among d true h ∙ with_true (is_among d k commands)) i then joined r planned back d (lineage_at old d) else lineage_at old d)
+    each_at d false h =
+        get_or-set_other new c.device.0 d (change (lineage_at new c.device.0)) no_lineage (differ c.device.0 d h)
+        ∙ so.each d
+        ∙ (λ i. if sym (among d false h ∙ with_false (is_among d k commands)) i then joined r planned back d (lineage_at old d) else lineage_at old d)
+
+-- .. or has it already
+pub schedules_no_more : (k m : ℕ) (commands : List Command) (r : ℕ) (back : List Item) (uses : List (Option PlannedUse)) (old new : List LineageState) (e : Command)
+    → IsScheduledTo k commands (planned_in_turn m commands) r back uses old new → k < length commands → ((x : Command) → (get_or commands k x).device.0 < 256) → get_or uses (get_or commands k e).device.0 None ≡ None → IsScheduledTo (k + 1) commands (planned_in_turn m commands) r back uses old new
+schedules_no_more k m commands r back uses old new e so within homed none = record {
+  size = so.size;
+  devices = so.devices;
+  left = λ d lt. so.left d lt ∙ (λ i. if sym (as_before d) i then None else planned_use (planned_in_turn m commands) d);
+  each = λ d. so.each d ∙ (λ i. if sym (as_before d) i then joined r (planned_in_turn m commands) back d (lineage_at old d) else lineage_at old d);
+}
+  where
+    c : Command
+    c = get_or commands k e
+
+    on_it : list_any (is_on c.device.0) commands ≡ true
+    on_it = sym (ap (list_any (is_on c.device.0)) (take-append-drop (k + 1) commands)) ∙ list_any-append (is_on c.device.0) (take (k + 1) commands) (drop (k + 1) commands) ∙ first (is_among c.device.0 (k + 1) commands) (list_any (is_on c.device.0) (drop (k + 1) commands)) (among_more c.device.0 k commands e within ∙ self (is_among c.device.0 k commands) c.device.0)
+      where
+        first : (x y : Bool) → x ≡ true → (x || y) ≡ true
+        first x y h = grind (arith, common_steps)
+
+        self : (x : Bool) (y : ℕ) → (x || (y == y)) ≡ true
+        self x y = grind (arith, common_steps)
+
+    used_before : is_among c.device.0 k commands ≡ true
+    used_before = by_command (is_among c.device.0 k commands) refl (sym (so.left c.device.0 (homed e)) ∙ none)
+      where
+        by_use : (b : Bool) → b ≡ true → ◌≡◌ {A = Option PlannedUse} (if b then Some (record { from = planned_start (planned_in_turn m commands) c.device.0; to = planned_end (planned_in_turn m commands) c.device.0 }) else None) None → false ≡ true
+        by_use true h x = absurd (cc)
+        by_use false h x = h
+
+        by_command : (b : Bool) → is_among c.device.0 k commands ≡ b → ◌≡◌ {A = Option PlannedUse} (if b then None else planned_use (planned_in_turn m commands) c.device.0) None → b ≡ true
+        by_command true x h = refl
+        by_command false x h = by_use (list_any (λ p. p.device == c.device.0) (planned_in_turn m commands)) (planned_devices c.device.0 m commands ∙ on_it) h
+
+    as_before : (d : ℕ) → is_among d (k + 1) commands ≡ is_among d k commands
+    as_before d = among_more d k commands e within ∙ by_device (c.device.0 == d) refl
+      where
+        with_false : (x : Bool) → (x || false) ≡ x
+        with_false true = refl
+        with_false false = refl
+
+        with_true : (x : Bool) → x ≡ true → (x || true) ≡ x
+        with_true x h = grind (arith, common_steps)
+
+        by_device : (b : Bool) → (c.device.0 == d) ≡ b → (is_among d k commands || b) ≡ is_among d k commands
+        by_device true h = with_true (is_among d k commands) (ap (λ x. is_among x k commands) (sym (same c.device.0 d h)) ∙ used_before)
+        by_device false h = with_false (is_among d k commands)
+
+-- The first run behind a place
+
+-- past the end there is no item
+beyond : (items : List Item) (k : ℕ) → slice_get items k ≡ None → length items ≤ k
+beyond items k h = by_order (nat_lt k (length items)) refl
+  where
+    inside : k < length items → length items ≤ k
+    inside lt = absurd (let clash : ◌≡◌ {A = Option Item} None (Some (get_or items k (Failed (device_no 0) 0))) = sym h ∙ slice_get-get_or items k (Failed (device_no 0) 0) lt in cc)
+
+    by_order : (b : Bool) → nat_lt k (length items) ≡ b → length items ≤ k
+    by_order true e = inside (grind (arith, common_steps))
+    by_order false e = grind (arith, common_steps)
+
+-- the item of the place, and those behind it
+first_next : (accesses : List Access) (items : List Item) (k : ℕ) → first_with_access accesses (drop k items) ≡ option_or (first_with_access accesses (option_to_list (slice_get items k))) (first_with_access accesses (drop (k + 1) items))
+first_next accesses items k = by_item (slice_get items k) refl
+  where
+    one : (x : Item) (is : List Item) → first_with_access accesses (x ∷ is) ≡ option_or (first_with_access accesses (x ∷ [])) (first_with_access accesses is)
+    one (Ran r) is = by_access (has_access r.0 accesses)
+      where
+        by_access : (b : Bool) → (if b then Some r else first_with_access accesses is) ≡ option_or (if b then Some r else None) (first_with_access accesses is)
+        by_access true = refl
+        by_access false = refl
+    one (Failed d n) is = refl
+    one (Back d n) is = refl
+
+    by_item : (o : Option Item) → slice_get items k ≡ o → first_with_access accesses (drop k items) ≡ option_or (first_with_access accesses (option_to_list o)) (first_with_access accesses (drop (k + 1) items))
+    by_item None h = ap (first_with_access accesses) (drop_all k items (beyond items k h) ∙ sym (drop_all (k + 1) items (let over = beyond items k h in omega (arith, over))))
+    by_item (Some x) h =
+        let within : k < length items = slice_get_within items k x h in
+        let here : get_or items k x ≡ x = some_is (get_or items k x) x (sym (slice_get-get_or items k x within) ∙ h) in
+        ap (first_with_access accesses) (drop_more items k x within ∙ ap (λ y. y ∷ drop (k + 1) items) here) ∙ one x (drop (k + 1) items)
+
+-- the run that was found there is the first, and where none was the search goes on
+pub found_first : (accesses : List Access) (items : List Item) (k : ℕ) (found : Option RunNo) → found ≡ first_with_access accesses (option_to_list (slice_get items k)) → is_some found ≡ true → found ≡ first_with_access accesses (drop k items)
+found_first accesses items k found is some = by_found found is some ∙ sym (first_next accesses items k)
+  where
+    by_found : (o : Option RunNo) → o ≡ first_with_access accesses (option_to_list (slice_get items k)) → is_some o ≡ true → o ≡ option_or (first_with_access accesses (option_to_list (slice_get items k))) (first_with_access accesses (drop (k + 1) items))
+    by_found None h e = absurd (cc)
+    by_found (Some x) h e = ap (λ o. option_or o (first_with_access accesses (drop (k + 1) items))) h
+
+pub found_none : (accesses : List Access) (items : List Item) (k : ℕ) (found : Option RunNo) → found ≡ first_with_access accesses (option_to_list (slice_get items k)) → is_some found ≡ false → first_with_access accesses (drop (k + 1) items) ≡ first_with_access accesses (drop k items)
+found_none accesses items k found is none = by_found found is none ∙ sym (first_next accesses items k)
+  where
+    by_found : (o : Option RunNo) → o ≡ first_with_access accesses (option_to_list (slice_get items k)) → is_some o ≡ false → first_with_access accesses (drop (k + 1) items) ≡ option_or (first_with_access accesses (option_to_list (slice_get items k))) (first_with_access accesses (drop (k + 1) items))
+    by_found None h e = ap (λ o. option_or o (first_with_access accesses (drop (k + 1) items))) h
+    by_found (Some x) h e = absurd (cc)
+
+is_found : (r : ℕ) (accesses : List Access) → is_some (access_of r accesses) ≡ has_access r accesses
+is_found r [] = refl
+is_found r (x ∷ xs) = by_access (is_of r x) (is_found r xs)
+  where
+    by_access : (b : Bool) → is_some (access_of r xs) ≡ has_access r xs → is_some (cond b (Some x) (access_of r xs)) ≡ (b || has_access r xs)
+    by_access true rest = refl
+    by_access false rest = rest
+
+-- an item that is a run is found where the run has an access
+pub ran_found : (accesses : List Access) (item : Item) (r : RunNo) (access : Option Access) (found : Bool) → item ≡ Ran r → access ≡ access_of r.0 accesses → found ≡ is_some access → (if found then Some r else None) ≡ first_with_access accesses (item ∷ [])
+ran_found accesses item r access found is its so =
+    (λ i. if (so ∙ ap (λ o. is_some o) its ∙ is_found r.0 accesses) i then Some r else None)
+    ∙ ap (λ x. first_with_access accesses (x ∷ [])) (sym is)

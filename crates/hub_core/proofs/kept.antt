@@ -1,0 +1,10 @@
+-- What is kept of a hub.
+pub mod LineOrder
+pub mod WrittenValues
+pub mod HistoryKept
+pub mod Kept
+pub mod HubReads
+pub mod Sizes
+pub mod OrderSteps
+pub mod Finds
+pub mod Hands

@@ -1,0 +1,114 @@
+-- Of each run of the window, the device whose grip it holds.
+use Rattle.command_rules.specs.Rosters.{is_run}
+use Rattle.history_book.proofs.Snoc.{put_other, put_same}
+use Rattle.history_book.specs.Readings.{Reading, put}
+use Rattle.history_book.specs.Settings.{Setting}
+use Rattle.home_types.specs.declared.numbers.DeviceNo.{DeviceNo}
+use Rattle.hub_core.proofs.kept.Finds.{find_first, find_none, find_same, none_does}
+use Rattle.hub_core.proofs.kept.HubReads.{get_set, run_place}
+use Rattle.hub_core.specs.HubsKept.{HandsAre}
+use Rattle.lock_leasing.specs.Configurations.{Grip, Grips, Purpose, has_grip}
+use Rattle.lock_leasing.specs.Waits.{grip_wait}
+use Rattle.std.proofs.Common.{ap, arith, inl, inr, refl, subst, sym, ◌∙◌}
+use Rattle.std.proofs.lemmas.Grind.{common_steps}
+use Rattle.std.proofs.lemmas.List.{length-replicate, length-set}
+use Rattle.std.specs.Prelude.{List, None, Option, Some, false, if◌then◌else◌, length, option_map, replicate, slice_get, slice_set, suc, true, unwrap_or, zero, ℕ, ⊤, ◌-◌, ◌<◌, ◌==◌, ◌≡◌, ◌≢◌}
+use Rattle.window_order.proofs.Grips.{HoldsNone, none_left}
+use Rattle.lock_leasing.specs.Places.{GripsFit}
+
+-- none is out
+pub no_hands : (w : Setting) (g : Grips) → ((d : ℕ) → g d ≡ None) → HandsAre w g (replicate (length w.runs) None)
+no_hands w g none = record {
+  size = length-replicate (length w.runs) None;
+  each = λ i hand at. ap (λ o. option_map (λ (d : DeviceNo). d.0) o) (it (length w.runs) i hand at) ∙ sym (find_none (has_grip g (suc i)) 0 (length w.first) (λ y low high. ap (λ o. unwrap_or (option_map (λ p. p.maker == suc i) o) false) (none y)));
+}
+  where
+    it : (n i : ℕ) (hand : Option DeviceNo) → slice_get (replicate n None) i ≡ Some hand → hand ≡ None
+    it zero i hand at = absurd (cc)
+    it (suc n) zero hand at = cc
+    it (suc n) (suc i) hand at = it n i hand at
+
+-- the grip is the run's, where there is one
+abbrev IsOf : ℕ → Option Grip → Type 0
+IsOf r None = ⊤
+IsOf r (Some grip) = grip.maker ≡ r
+
+not_of : (o : Option Grip) (q r : ℕ) → IsOf r o → q ≢ r → unwrap_or (option_map (λ p. p.maker == q) o) false ≡ false
+not_of None q r own other = refl
+not_of (Some grip) q r own other = differ grip.maker own
+  where
+    differ : (x : ℕ) → x ≡ r → (x == q) ≡ false
+    differ x same = elim (x == q) as (λ b. (x == q) ≡ b → b ≡ false) [
+      | true ↦ (λ h. absurd (other (sym (equal x q h) ∙ same)))
+      | false ↦ (λ h. refl)
+    ] refl
+      where
+        equal : (a b : ℕ) → (a == b) ≡ true → a ≡ b
+        equal a b h = grind (arith, common_steps)
+
+-- another run holds what it held, where a grip of the run goes out or comes back
+others_hold : (g : Grips) (r d : ℕ) (o : Option Grip) → IsOf r o → IsOf r (g d) → (q e : ℕ) → q ≢ r → has_grip (put g d o) q e ≡ has_grip g q e
+others_hold g r d o own was q e other = elim (e == d) as (λ b. (e == d) ≡ b → unwrap_or (option_map (λ p. p.maker == q) (if b then o else g e)) false ≡ unwrap_or (option_map (λ p. p.maker == q) (g e)) false) [
+  | true ↦ (λ h. not_of o q r own other ∙ sym (ap (λ x. unwrap_or (option_map (λ p. p.maker == q) (g x)) false) (equal e d h) ∙ not_of (g d) q r was other))
+  | false ↦ (λ h. refl)
+] refl
+  where
+    equal : (a b : ℕ) → (a == b) ≡ true → a ≡ b
+    equal a b h = grind (arith, common_steps)
+
+-- the run's hand is set, and no other run's changes
+hand_set : (w : Setting) (g f : Grips) (r : ℕ) (hands : List (Option DeviceNo)) (hand : Option DeviceNo) → is_run w.runs r ≡ true → option_map (λ d. d.0) hand ≡ grip_wait w f r → ((q e : ℕ) → q ≢ r → has_grip f q e ≡ has_grip g q e)
+    → HandsAre w g hands → HandsAre w f (slice_set hands (r - 1) hand)
+hand_set w g f r hands hand run is others k =
+    let place = run_place w.runs r run in
+    record {
+      size = length-set hands (r - 1) hand ∙ k.size;
+      each = λ i x at. elim (get_set hands (r - 1) i hand (omega (arith, place.1, k.size))) [
+        | inl p ↦ ap (λ o. option_map (λ (d : DeviceNo). d.0) o) (same x hand (sym at ∙ p.1)) ∙ is ∙ ap (grip_wait w f) (place.0 ∙ ap (λ n. suc n) (sym p.0))
+        | inr p ↦ k.each i x (sym p.1 ∙ at) ∙ sym (find_same (has_grip f (suc i)) (has_grip g (suc i)) _ (λ e. others (suc i) e (λ is'. p.0 (omega (arith, is', place.0)))))
+      ];
+    }
+  where
+    same : (x y : Option DeviceNo) → Some x ≡ Some y → x ≡ y
+    same x y e = cc
+
+-- a device goes out to a run that holds none
+pub hand_goes : (w : Setting) (g f : Grips) (r : ℕ) (d : DeviceNo) (purpose : Purpose) (hands after : List (Option DeviceNo)) → is_run w.runs r ≡ true → d.0 < length w.first → grip_wait w g r ≡ None → g d.0 ≡ None → f ≡ put g d.0 (Some (record { maker = r; purpose = purpose })) → after ≡ slice_set hands (r - 1) (Some d)
+    → HandsAre w g hands → HandsAre w f after
+hand_goes w g f r d purpose hands after run within free home gone set k =
+    subst (λ (x : Grips). HandsAre w x after) (sym gone) (subst (HandsAre w new) (sym set) (hand_set w g new r hands (Some d) run (sym found) (λ q e other. others_hold g r d.0 (Some grip) refl (subst (IsOf r) (sym home) tt) q e other) k))
+  where
+    grip : Grip
+    grip = record { maker = r; purpose = purpose }
+
+    new : Grips
+    new = put g d.0 (Some grip)
+
+    itself : (a : ℕ) → (a == a) ≡ true
+    itself a = grind (arith, common_steps)
+
+    found : grip_wait w new r ≡ Some d.0
+    found = find_first (has_grip new r) 0 (length w.first) d.0 (omega arith) (omega (arith, within)) (ap (λ o. unwrap_or (option_map (λ p. p.maker == r) o) false) (put_same g d.0 (Some grip)) ∙ itself r)
+        (λ y before. ap (λ o. unwrap_or (option_map (λ p. p.maker == r) o) false) (put_other g d.0 (Some grip) y (λ same. absurd (omega (arith, same, before)))) ∙ none_does (has_grip g r) 0 (length w.first) free y (omega arith) (omega (arith, before, within)))
+
+-- .. and comes back to one that holds no other
+pub hand_comes : (w : Setting) (n : Reading) (g f : Grips) (r d : ℕ) (purpose : Purpose) (hands after : List (Option DeviceNo)) → is_run w.runs r ≡ true → g d ≡ Some (record { maker = r; purpose = purpose }) → GripsFit w n g → f ≡ put g d None → after ≡ slice_set hands (r - 1) None
+    → HandsAre w g hands → HandsAre w f after
+hand_comes w n g f r d purpose hands after run out fit home set k =
+    subst (λ (x : Grips). HandsAre w x after) (sym home) (subst (HandsAre w new) (sym set) (hand_set w g new r hands None run (sym (find_none (has_grip new r) 0 (length w.first) (λ y low high. unheld y (new y) refl))) (λ q e other. others_hold g r d None tt (subst (IsOf r) (sym out) refl) q e other) k))
+  where
+    new : Grips
+    new = put g d None
+
+    none : HoldsNone new r
+    none = let place = run_place w.runs r run in subst (HoldsNone new) (sym place.0) (none_left w n g d (r - 1) purpose (out ∙ ap (λ x. Some (record { maker = x; purpose = purpose })) place.0) fit)
+
+    equal : (a b : ℕ) → (a == b) ≡ true → a ≡ b
+    equal a b h = grind (arith, common_steps)
+
+    unheld : (y : ℕ) (o : Option Grip) → new y ≡ o → unwrap_or (option_map (λ p. p.maker == r) o) false ≡ false
+    unheld y None at = refl
+    unheld y (Some x) at = elim (x.maker == r) as (λ b. (x.maker == r) ≡ b → b ≡ false) [
+      | true ↦ (λ own. absurd (none y x.purpose (at ∙ ap (λ m. Some (record { maker = m; purpose = x.purpose })) (equal x.maker r own))))
+      | false ↦ (λ own. refl)
+    ] refl

@@ -1,0 +1,344 @@
+-- Each entry of this stage, and each device that goes out, keeps the line and the table of a window.
+use Rattle.command_rules.specs.Items.{is_ran}
+use Rattle.command_rules.specs.Rosters.{command_at, commands_of, device_no, is_run, run_no}
+use Rattle.device_order.specs.LineWords.{CutAt}
+use Rattle.history_book.proofs.Standing.{stands_in}
+use Rattle.history_book.proofs.Snoc.{each_at, entries_on, reading_more}
+use Rattle.history_book.specs.Histories.{entries_of, entry, kept_by, reading}
+use Rattle.history_book.specs.Readings.{Reading, did, is_doomed, nothing_read, pends, put}
+use Rattle.history_book.specs.Settings.{Setting}
+use Rattle.history_book.specs.WellFormed.{IsWellFormed, cause_fits, may_act, may_follow}
+use Rattle.history_book.specs.declared.entries.End.TheVariants.{Aborted, Committed}
+use Rattle.history_book.specs.declared.entries.Entry.TheVariants.{Arrived, Did, Doomed, Ended, Placed, Undid}
+use Rattle.history_book.specs.declared.entries.Entry.{Entry}
+use Rattle.history_book.specs.declared.entries.Kept.{Kept}
+use Rattle.home_types.specs.declared.commands.Answer.{Answer}
+use Rattle.home_types.specs.declared.commands.View.{View}
+use Rattle.home_types.specs.declared.items.Item.TheVariants.{Ran}
+use Rattle.home_types.specs.declared.items.Item.{Item}
+use Rattle.home_types.specs.declared.modes.Scheduler.TheVariants.{Fcfs}
+use Rattle.hub_core.proofs.calls.PlannedInTurn.{planned_first_come}
+use Rattle.hub_core.specs.Bounds.{most_items}
+use Rattle.hub_core.specs.KeptOrders.{IsOrderOf, MayNote, OrderIsBeside, is_first, noted_first}
+use Rattle.hub_core.specs.PlansInTurn.{planned_in_turn}
+use Rattle.hub_core.specs.ReadHistories.{HistoryState, read_in, with_entry}
+use Rattle.lineage_table.specs.Accesses.{is_scheduled, status_of}
+use Rattle.lineage_table.specs.Lineages.{IsOpened, LineageState, committed_lineage, lineage_at, removed, undone, with_lineage}
+use Rattle.lineage_table.specs.declared.accesses.Status.TheVariants.{Acquired, Scheduled}
+use Rattle.lock_leasing.specs.Configurations.{Commands, Grip, Grips, Purpose, Undoes, grips_command, is_command, no_grips}
+use Rattle.serial_line.specs.Marks.{Mark, Marked, items_of, touching, untouched, with_item, with_touch, without}
+use Rattle.std.proofs.Common.{ap, arith, cond, length-append, refl, subst, sym, ◌∙◌}
+use Rattle.hub_core.proofs.kept.Sizes.{count_cons, one_at_most}
+use Rattle.std.proofs.lemmas.List.{length-map, take-append-drop}
+use Rattle.std.specs.Prelude.{Bool, IsTrue, List, None, Option, Some, [], count_by, drop, false, if◌then◌else◌, length, not, option_map, suc, take, true, unwrap_or, ℕ, ◌&&◌, ◌*◌, ◌++◌, ◌+◌, ◌<◌, ◌==◌, ◌∷◌, ◌≡◌, ◌≤◌}
+use Rattle.window_order.proofs.AnsweredTables.{TouchesNow}
+use Rattle.window_order.proofs.PlacedTables.{arrived_table, opened_table}
+use Rattle.window_order.proofs.ReadFacts.{IsRead}
+use Rattle.window_order.proofs.Runs.{cut_live, run_positive}
+use Rattle.window_order.proofs.Steps.{IsOut, out_is}
+use Rattle.window_order.proofs.TableCalls.{status_there, touches_now, waits_there}
+use Rattle.window_order.proofs.TableSteps.{aborted_table, answered_table, changes_one, command_out_table, committed_table, doomed_each, doomed_table, placed_table, undid_table, undo_out_table}
+use Rattle.window_order.specs.MarksKept.{MarksAreKept}
+use Rattle.window_order.proofs.TouchedLines.{marks_aborted, marks_answered, marks_arrived, marks_begin, marks_committed, marks_doomed, marks_out, marks_placed, marks_undo_home, marks_undo_out, marks_undone}
+use Rattle.window_order.specs.OrderKept.{OrderIsKept}
+use Rattle.window_order.specs.TableChanges.{ChangesEach, NoneWroteBehind, answered_change, answered_lineage, doomed_lineage, is_done_there, placed_change, scheduled_on, told_write, undone_change}
+use Rattle.window_order.specs.TableKept.{TableIsKept}
+use Rattle.lock_leasing.specs.Tables.{view_when}
+use Rattle.history_book.specs.Readings.{is_told}
+use Rattle.history_book.specs.declared.entries.Cause.{Cause}
+use Rattle.lock_leasing.specs.Places.{GripsFit}
+use Rattle.std.proofs.lemmas.Grind.{common_steps}
+use Rattle.window_order.proofs.Grips.{HoldsNone, none_left}
+
+-- One entry more
+
+pub read_more : (w : Setting) (h : List Kept) (maker : ℕ) (e : Entry) → reading w (entries_of (h ++ kept_by maker (e ∷ []))) ≡ entry w (reading w (entries_of h)) e
+read_more w h maker e = ap (reading w) (entries_on h maker (e ∷ [])) ∙ reading_more w (entries_of h) e
+
+-- the last entry may stand where it stands
+pub last_follows : (w : Setting) (h : List Kept) (maker : ℕ) (e : Entry) → IsWellFormed w (entries_of (h ++ kept_by maker (e ∷ []))) → IsTrue (may_follow w (reading w (entries_of h)) e)
+last_follows w h maker e formed = each_at w (may_follow w) (nothing_read w) (entries_of h) e [] (subst (IsWellFormed w) (entries_on h maker (e ∷ [])) formed)
+
+-- what is kept after it is kept of the history with it
+entry_kept : {rounds : ℕ} (h h₂ : HistoryState) (g : Grips) (maker : ℕ) (e : Entry) (line : Marked) (table : List LineageState) → h₂ ≡ with_entry h maker e → IsOrderOf rounds h.setting (entry h.setting (read_in h) e) g line table → OrderIsBeside rounds h₂ g line table
+entry_kept {rounds = rounds} h h₂ g maker e line table new kept =
+    subst (λ (x : HistoryState). OrderIsBeside rounds x g line table) (sym new)
+    (subst (λ n. IsOrderOf rounds h.setting n g line table) (sym (read_more h.setting h.history maker e)) kept)
+
+-- The start
+
+pub order_begins : (rounds : ℕ) (w : Setting) (line : Marked) (table : List LineageState) → line.marks ≡ [] → most_items (length w.runs) (length w.first) rounds ≤ line.spare → IsOpened w.runs w.first table → IsOrderOf rounds w (nothing_read w) no_grips line table
+order_begins rounds w line table none room opened = record {
+  table_is = opened_table w no_grips table opened;
+  line_is = subst (MarksAreKept (nothing_read w) no_grips) (sym none) (marks_begin w);
+  room = omega (arith, room);
+}
+
+-- A run arrives
+
+pub order_arrived : {rounds : ℕ} (h h₂ : HistoryState) (g : Grips) (r m : ℕ) (line : Marked) (table : List LineageState) → h₂ ≡ with_entry h r (Arrived (run_no r) m) → OrderIsBeside rounds h g line table → OrderIsBeside rounds h₂ g line table
+order_arrived {rounds = rounds} h h₂ g r m line table new kept = entry_kept h h₂ g r (Arrived (run_no r) m) line table new (record {
+  table_is = arrived_table h.setting (read_in h) g r m table kept.table_is;
+  line_is = marks_arrived h.setting (read_in h) g r m line.marks kept.line_is;
+  room = omega (arith, kept.room);
+})
+
+-- A run is placed
+
+length_with : (at : ℕ) (x : Item) (marks : List Mark) → length (with_item at x marks) ≡ length marks + 1
+length_with at x marks =
+    let after : length (with_item at x marks) ≡ length (take at marks) + suc (length (drop at marks)) = length-append (take at marks) (untouched x ∷ drop at marks) in
+    let before : length (take at marks ++ drop at marks) ≡ length (take at marks) + length (drop at marks) = length-append (take at marks) (drop at marks) in
+    let whole : length (take at marks ++ drop at marks) ≡ length marks = ap length (take-append-drop at marks) in
+    omega (arith, after, before, whole)
+
+-- .. where no committed run behind its place has written one of its devices
+pub order_placed : {rounds : ℕ} (h h₂ : HistoryState) (g : Grips) (r at m : ℕ) (line after : Marked) (table later : List LineageState) → IsRead h.setting (read_in h) → GripsFit h.setting (read_in h) g → h.setting.mode.scheduler ≡ Fcfs → NoneWroteBehind h.setting (read_in h) r at
+    → h₂ ≡ with_entry h r (Placed (run_no r) at m) → IsWellFormed h₂.setting (entries_of h₂.history)
+    → after.marks ≡ with_item at (Ran (run_no r)) line.marks → after.spare + 1 ≡ line.spare → ChangesEach (scheduled_on h.setting.runs r (planned_in_turn m (commands_of h.setting.runs r)) (drop at (items_of line.marks))) table later
+    → OrderIsBeside rounds h g line table → OrderIsBeside rounds h₂ g after later
+order_placed {rounds = rounds} h h₂ g r at m line after table later read fit first_come clear new formed marks spare changes kept = entry_kept h h₂ g r (Placed (run_no r) at m) after later new (record {
+  table_is = placed_table w n g r at m table later read may clear changed kept.table_is;
+  line_is = subst (MarksAreKept (entry w n (Placed (run_no r) at m)) g) (sym marks) (marks_placed w n g r at m line.marks read fit may kept.line_is);
+  room = let size = ap (λ (x : List Mark). length x) marks ∙ length_with at (Ran (run_no r)) line.marks in omega (arith, size, spare, kept.room);
+})
+  where
+    w : Setting
+    w = h.setting
+
+    n : Reading
+    n = read_in h
+
+    may : may_follow w n (Placed (run_no r) at m) ≡ true
+    may = last_follows w h.history r (Placed (run_no r) at m) (subst (λ (x : HistoryState). IsWellFormed x.setting (entries_of x.history)) new formed)
+
+    -- first come first served its plan is the same behind any items
+    changed : ChangesEach (placed_change w n r at m) table later
+    changed = subst (λ planned. ChangesEach (scheduled_on w.runs r planned (drop at n.line)) table later) (sym (planned_first_come w n r (take at n.line) m first_come))
+        (subst (λ is. ChangesEach (scheduled_on w.runs r (planned_in_turn m (commands_of w.runs r)) (drop at is)) table later) kept.line_is.items changes)
+
+-- A run commits
+
+pub order_committed : {rounds : ℕ} (h h₂ : HistoryState) (g : Grips) (r : ℕ) (line after : Marked) (table later : List LineageState) → IsRead h.setting (read_in h) → GripsFit h.setting (read_in h) g → h₂ ≡ with_entry h r (Ended (run_no r) Committed) → IsWellFormed h₂.setting (entries_of h₂.history)
+    → after ≡ line → ChangesEach (λ d. committed_lineage r) table later → OrderIsBeside rounds h g line table → OrderIsBeside rounds h₂ g after later
+order_committed {rounds = rounds} h h₂ g r line after table later read fit new formed same changes kept = entry_kept h h₂ g r (Ended (run_no r) Committed) after later new (subst (λ (x : Marked). IsOrderOf rounds w (entry w n (Ended (run_no r) Committed)) g x later) (sym same) (record {
+  table_is = committed_table w n g r table later read fit may changes kept.table_is;
+  line_is = marks_committed w n g r line.marks kept.line_is;
+  room = omega (arith, kept.room);
+}))
+  where
+    w : Setting
+    w = h.setting
+
+    n : Reading
+    n = read_in h
+
+    may : may_follow w n (Ended (run_no r) Committed) ≡ true
+    may = last_follows w h.history r (Ended (run_no r) Committed) (subst (λ (x : HistoryState). IsWellFormed x.setting (entries_of x.history)) new formed)
+
+-- A command goes out
+
+length_touching : (r d : ℕ) (marks : List Mark) → length (touching r d marks) ≡ length marks
+length_touching r d marks = length-map marks (with_touch r d)
+
+pub order_out : {rounds : ℕ} (h : HistoryState) (g f : Grips) (r d k : ℕ) (line after : Marked) (table later : List LineageState) → g d ≡ None → is_doomed (read_in h) r ≡ false → pends h.setting (read_in h) r d ≡ true → f ≡ put g d (Some (record { maker = r; purpose = Commands k }))
+    → after.marks ≡ touching r d line.marks → after.spare ≡ line.spare → later ≡ table → OrderIsBeside rounds h g line table → OrderIsBeside rounds h f after later
+order_out {rounds = rounds} h g f r d k line after table later home sound pending out marks spare same kept = subst (λ (x : Grips). IsOrderOf rounds w n x after later) (sym out) (record {
+  table_is = subst (TableIsKept w n (put g d (Some (record { maker = r; purpose = Commands k })))) (sym same) (command_out_table w n g d r k table home sound pending kept.table_is);
+  line_is = subst (MarksAreKept n (put g d (Some (record { maker = r; purpose = Commands k })))) (sym marks) (marks_out n g r d k line.marks home kept.line_is);
+  room = let size = ap (λ (x : List Mark). length x) marks ∙ length_touching r d line.marks in omega (arith, size, spare, kept.room);
+})
+  where
+    w : Setting
+    w = h.setting
+
+    n : Reading
+    n = read_in h
+
+-- An undo goes out
+
+pub order_undo_out : {rounds : ℕ} (h : HistoryState) (g f : Grips) (r d v : ℕ) (line after : Marked) (table later : List LineageState) → IsRead h.setting (read_in h) → g d ≡ None → d < length table → f ≡ put g d (Some (record { maker = r; purpose = Undoes v }))
+    → after.marks ≡ line.marks → after.spare ≡ line.spare → later ≡ with_lineage table d (undone r) → OrderIsBeside rounds h g line table → OrderIsBeside rounds h f after later
+order_undo_out {rounds = rounds} h g f r d v line after table later read home below out marks spare changed kept = subst (λ (x : Grips). IsOrderOf rounds w n x after later) (sym out) (record {
+  table_is = undo_out_table w n g d r v table later read home (subst (ChangesEach (undone_change r d) table) (sym changed) (changes_one table d (undone r) below)) kept.table_is;
+  line_is = subst (MarksAreKept n (put g d (Some (record { maker = r; purpose = Undoes v })))) (sym marks) (marks_undo_out n g r d v line.marks home kept.line_is);
+  room = let size = ap (λ (x : List Mark). length x) marks in omega (arith, size, spare, kept.room);
+})
+  where
+    w : Setting
+    w = h.setting
+
+    n : Reading
+    n = read_in h
+
+-- A command is answered
+
+-- the run's turn on the device of its command
+pub may_note : (w : Setting) (n : Reading) (g : Grips) (held : ℕ → ℕ) (d r k : ℕ) (table : List LineageState) → IsRead w n → OrderIsKept w n g held → g d ≡ Some (record { maker = r; purpose = Commands k }) → d < length w.first → TableIsKept w n g table
+    → (is_first r (lineage_at table d) ≡ not (did n r d)) × MayNote r (lineage_at table d)
+may_note w n g held d r k table read order at below kept = (first, record { status = status; first = λ h. waits_there w n g d r cut (lineage_at table d) read turn (unseen (did n r d) (sym first ∙ h)) (kept.each d below) })
+  where
+    cut : CutAt r n.line
+    cut = cut_live w n r read (out_is w n g d r k order.grips at).live
+
+    turn : TouchesNow w n g d r cut
+    turn = touches_now w n g held d r k cut read order at
+
+    stands : status_of r (lineage_at table d).accesses ≡ Some (if did n r d then Acquired else Scheduled)
+    stands = status_there w n g d r cut (lineage_at table d) read turn (kept.each d below)
+
+    by_did : (b : Bool) → is_scheduled (if b then Acquired else Scheduled) ≡ not b
+    by_did true = refl
+    by_did false = refl
+
+    first : is_first r (lineage_at table d) ≡ not (did n r d)
+    first = ap (λ o. unwrap_or (option_map is_scheduled o) false) stands ∙ by_did (did n r d)
+
+    turned : (b : Bool) → (if b then Acquired else Scheduled) ≡ (if not b then Scheduled else Acquired)
+    turned true = refl
+    turned false = refl
+
+    status : status_of r (lineage_at table d).accesses ≡ Some (if is_first r (lineage_at table d) then Scheduled else Acquired)
+    status = stands ∙ ap (λ s. Some s) (turned (did n r d)) ∙ (λ i. Some (if sym first i then Scheduled else Acquired))
+
+    unseen : (b : Bool) → not b ≡ true → b ≡ false
+    unseen true h = absurd (cc)
+    unseen false h = refl
+
+-- what the answer tells of the device
+pub record ToldOf (w : Setting) (n : Reading) (r k : ℕ) (a : Answer) (view : View) (wrote : Option ℕ) (last : Bool) : Type 0 where
+  pub view_is : view ≡ view_when (is_told a)
+  pub wrote_is : wrote ≡ told_write w n r (command_at w.runs r k) a
+  pub last_is : last ≡ is_done_there w n r k
+
+pub order_answered : {rounds : ℕ} (h h₂ : HistoryState) (g f : Grips) (held : ℕ → ℕ) (d r k : ℕ) (a : Answer) (view : View) (wrote : Option ℕ) (last : Bool) (line after : Marked) (table later : List LineageState)
+    → IsRead h.setting (read_in h) → OrderIsKept h.setting (read_in h) g held → g d ≡ Some (record { maker = r; purpose = Commands k }) → d < length h.setting.first
+    → h₂ ≡ with_entry h r (Did (run_no r) k a) → f ≡ put g d None → ToldOf h.setting (read_in h) r k a view wrote last → after ≡ line → later ≡ with_lineage table d (noted_first r (is_first r (lineage_at table d)) view wrote last)
+    → OrderIsBeside rounds h g line table → OrderIsBeside rounds h₂ f after later
+order_answered {rounds = rounds} h h₂ g f held d r k a view wrote last line after table later read order at below new home told same changed kept =
+    entry_kept h h₂ f r (Did (run_no r) k a) after later new (subst (λ (x : Grips). IsOrderOf rounds w m x after later) (sym home) (subst (λ (x : Marked). IsOrderOf rounds w m (put g d None) x later) (sym same) (record {
+      table_is = answered_table w n g held d r k a table later read order at changes kept.table_is;
+      line_is = marks_answered w n g d r k a line.marks out at kept.line_is;
+      room = omega (arith, kept.room);
+    })))
+  where
+    w : Setting
+    w = h.setting
+
+    n : Reading
+    n = read_in h
+
+    m : Reading
+    m = entry w n (Did (run_no r) k a)
+
+    out : IsOut w n d r k
+    out = out_is w n g d r k order.grips at
+
+    first : is_first r (lineage_at table d) ≡ not (did n r (command_at w.runs r k).device.0)
+    first = (may_note w n g held d r k table read order at below kept.table_is).0 ∙ ap (λ x. not (did n r x)) out.device
+
+    one : LineageState → LineageState
+    one = noted_first r (is_first r (lineage_at table d)) view wrote last
+
+    is_answered : (s : LineageState) → one s ≡ answered_lineage w n r k a s
+    is_answered s = λ i. noted_first r (first i) (told.view_is i) (told.wrote_is i) (told.last_is i) s
+
+    single : ChangesEach (λ e s. if e == d then one s else s) table (with_lineage table d one)
+    single = changes_one table d one (subst (λ x. d < x) (sym kept.table_is.devices) below)
+
+    changes : ChangesEach (answered_change w n r k a) table later
+    changes = subst (ChangesEach (answered_change w n r k a) table) (sym changed) (record {
+      devices = single.devices;
+      each = λ e lt. single.each e lt ∙ (λ i. if e == out.device i then is_answered (lineage_at table e) i else lineage_at table e);
+    })
+
+-- A run is doomed
+
+pub order_doomed : {rounds : ℕ} (h h₂ : HistoryState) (g : Grips) (r : ℕ) (cause : Cause) (line after : Marked) (table later : List LineageState) → IsRead h.setting (read_in h) → GripsFit h.setting (read_in h) g → ((d : ℕ) → grips_command g r d ≡ false)
+    → h₂ ≡ with_entry h r (Doomed (run_no r) cause) → IsWellFormed h₂.setting (entries_of h₂.history) → after ≡ line → ChangesEach (λ d. doomed_lineage r) table later → OrderIsBeside rounds h g line table → OrderIsBeside rounds h₂ g after later
+order_doomed {rounds = rounds} h h₂ g r cause line after table later read fit none new formed same changes kept = entry_kept h h₂ g r (Doomed (run_no r) cause) after later new (subst (λ (x : Marked). IsOrderOf rounds w (entry w n (Doomed (run_no r) cause)) g x later) (sym same) (record {
+  table_is = doomed_table w n g r cause table later read fit sound (doomed_each g r None table later none changes) kept.table_is;
+  line_is = marks_doomed w n g r cause line.marks kept.line_is;
+  room = omega (arith, kept.room);
+}))
+  where
+    w : Setting
+    w = h.setting
+
+    n : Reading
+    n = read_in h
+
+    may : may_follow w n (Doomed (run_no r) cause) ≡ true
+    may = last_follows w h.history r (Doomed (run_no r) cause) (subst (λ (x : HistoryState). IsWellFormed x.setting (entries_of x.history)) new formed)
+
+    second : (a b c : Bool) → (a && not b && c) ≡ true → b ≡ false
+    second a b c h = grind (arith, common_steps)
+
+    sound : is_doomed n r ≡ false
+    sound = second (may_act w n r) (is_doomed n r) (cause_fits w n r cause) may
+
+-- a run whose only grip is that of a device has out no command once the device is home
+pub none_out : (w : Setting) (n : Reading) (g : Grips) (d r : ℕ) (p : Purpose) → is_run w.runs r ≡ true → g d ≡ Some (record { maker = r; purpose = p }) → GripsFit w n g → (e : ℕ) → grips_command (put g d None) r e ≡ false
+none_out w n g d r p run at fit e = at_ (put g d None e) refl
+  where
+    same : (x y : ℕ) → (x == y) ≡ true → x ≡ y
+    same x y h = grind (arith, common_steps)
+
+    none : HoldsNone (put g d None) r
+    none = let is = run_positive w r run in subst (HoldsNone (put g d None)) (sym is.1) (none_left w n g d is.0 p (at ∙ ap (λ x. Some (record { maker = x; purpose = p })) is.1) fit)
+
+    one : (x : Grip) → put g d None e ≡ Some x → (b : Bool) → (x.maker == r) ≡ b → (b && is_command x.purpose) ≡ false
+    one x h true own = absurd (none e x.purpose (h ∙ ap (λ y. Some (record { maker = y; purpose = x.purpose })) (same x.maker r own)))
+    one x h false own = refl
+
+    at_ : (o : Option Grip) → put g d None e ≡ o → unwrap_or (option_map (λ p. (p.maker == r) && is_command p.purpose) o) false ≡ false
+    at_ None h = refl
+    at_ (Some x) h = one x h (x.maker == r) refl
+
+-- A run is undone on a device
+
+pub order_undone : {rounds : ℕ} (h h₂ : HistoryState) (g f : Grips) (r d v : ℕ) (line : Marked) (table : List LineageState) → h₂ ≡ with_entry h r (Undid (run_no r) (device_no d) true) → g d ≡ Some (record { maker = r; purpose = Undoes v }) → f ≡ put g d None → OrderIsBeside rounds h g line table → OrderIsBeside rounds h₂ f line table
+order_undone {rounds = rounds} h h₂ g f r d v line table new out home kept = entry_kept h h₂ f r (Undid (run_no r) (device_no d) true) line table new (subst (λ (x : Grips). IsOrderOf rounds w (entry w n (Undid (run_no r) (device_no d) true)) x line table) (sym home) (record {
+  table_is = undid_table w n g d r v table out kept.table_is;
+  line_is = marks_undone w n (put g d None) r d true line.marks (marks_undo_home n g r d v line.marks out kept.line_is);
+  room = omega (arith, kept.room);
+}))
+  where
+    w : Setting
+    w = h.setting
+
+    n : Reading
+    n = read_in h
+
+-- A run is aborted
+
+-- without the run so many items are left
+length_without : (r : ℕ) (marks : List Mark) → length marks ≡ length (without r marks) + count_by (is_ran r) (items_of marks)
+length_without r [] = refl
+length_without r (m ∷ marks) = at_ (length_without r marks) (is_ran r m.item) (count_cons (is_ran r) m.item (items_of marks))
+  where
+    at_ : length marks ≡ length (without r marks) + count_by (is_ran r) (items_of marks) → (b : Bool) → count_by (is_ran r) (items_of (m ∷ marks)) ≡ cond b 1 0 + count_by (is_ran r) (items_of marks)
+        → length (m ∷ marks) ≡ length (cond (not b) (m ∷ without r marks) (without r marks)) + count_by (is_ran r) (items_of (m ∷ marks))
+    at_ ih true counted = omega (arith, ih, counted)
+    at_ ih false counted = omega (arith, ih, counted)
+
+pub order_aborted : {rounds : ℕ} (h h₂ : HistoryState) (g : Grips) (r : ℕ) (cause : Cause) (line after : Marked) (table later : List LineageState) → IsRead h.setting (read_in h) → h₂ ≡ with_entry h r (Ended (run_no r) (Aborted cause)) → IsWellFormed h₂.setting (entries_of h₂.history)
+    → after.marks ≡ without r line.marks → after.spare ≡ line.spare + 1 → ChangesEach (λ d. removed r) table later → OrderIsBeside rounds h g line table → OrderIsBeside rounds h₂ g after later
+order_aborted {rounds = rounds} h h₂ g r cause line after table later read new formed marks spare changes kept = entry_kept h h₂ g r (Ended (run_no r) (Aborted cause)) after later new (record {
+  table_is = aborted_table w n g r cause table later read may changes kept.table_is;
+  line_is = subst (MarksAreKept (entry w n (Ended (run_no r) (Aborted cause))) g) (sym marks) (marks_aborted w n g r cause line.marks kept.line_is);
+  room =
+      let size = ap (λ (x : List Mark). length x) marks in
+      let left = length_without r line.marks in
+      let once : count_by (is_ran r) (items_of line.marks) ≤ 1 = subst (λ is. count_by (is_ran r) is ≤ 1) (sym kept.line_is.items) (one_at_most (stands_in (n.run r)) (count_by (is_ran r) n.line) (read.once r)) in
+      omega (arith, size, left, once, spare, kept.room);
+})
+  where
+    w : Setting
+    w = h.setting
+
+    n : Reading
+    n = read_in h
+
+    may : may_follow w n (Ended (run_no r) (Aborted cause)) ≡ true
+    may = last_follows w h.history r (Ended (run_no r) (Aborted cause)) (subst (λ (x : HistoryState). IsWellFormed x.setting (entries_of x.history)) new formed)

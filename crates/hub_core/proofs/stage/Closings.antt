@@ -1,0 +1,219 @@
+-- What a window has to be that is closed in this stage.
+use Rattle.command_rules.specs.Rosters.{command_at, commands_of, device_no, is_run, no_command, run_no}
+use Rattle.history_book.proofs.Shapes.{shapes}
+use Rattle.history_book.proofs.Standing.{is_abort}
+use Rattle.history_book.specs.Histories.{entries_of, line_of}
+use Rattle.history_book.specs.Settings.{Setting, device_numbers, is_device, run_numbers}
+use Rattle.history_book.specs.WellFormed.{IsWellFormed}
+use Rattle.history_book.specs.declared.entries.Cause.TheVariants.{DownAtEnd, Lost, MustDown, Refuted, Revoked}
+use Rattle.history_book.specs.declared.entries.Cause.{Cause}
+use Rattle.history_book.specs.declared.entries.End.{End}
+use Rattle.history_book.specs.declared.entries.End.TheVariants.{Aborted, Committed}
+use Rattle.history_book.specs.declared.entries.Entry.{Entry}
+use Rattle.history_book.specs.declared.records.WindowRecord.{WindowRecord}
+use Rattle.home_types.specs.Commands.{fails, refutes}
+use Rattle.home_types.specs.HomeStates.{stand_at}
+use Rattle.home_types.specs.declared.commands.Answer.TheVariants.{Found}
+use Rattle.home_types.specs.declared.commands.Command.{Command}
+use Rattle.home_types.specs.declared.commands.Job.TheVariants.{Check, Load, Set, Store}
+use Rattle.home_types.specs.declared.commands.Job.{Job}
+use Rattle.home_types.specs.declared.worlds.Stand.{Stand}
+use Rattle.hub_core.proofs.kept.Sizes.{run_there, run_within}
+use Rattle.hub_core.proofs.stage.StageChoices.{StageSteps, stage_steps}
+use Rattle.hub_core.proofs.stage.StageFacts.{dooms_are_refuted, is_refuted}
+use Rattle.hub_core.specs.AccountedCalls.{CallsAreAccounted}
+use Rattle.hub_core.specs.Agreement.{AgreesWithSerial}
+use Rattle.hub_core.specs.CleanReads.{ReadsAreClean}
+use Rattle.hub_core.specs.HubKept.{ConfigurationIsKept}
+use Rattle.hub_core.specs.Isolation.{IsStrict}
+use Rattle.hub_core.specs.JustifiedAborts.{IsJustified}
+use Rattle.hub_core.specs.LegalWindows.{IsLegalWindow, IsSeriallyLegal, IsWeaklyLegal, all_ended, history_of}
+use Rattle.hub_core.specs.Orders.{IsOrderFor}
+use Rattle.hub_core.specs.Stage.{has_must_check, is_check, is_must_check}
+use Rattle.hub_core.specs.Steps.{not_quiet}
+use Rattle.hub_core.specs.declared.refusals.NotQuiet.TheVariants.{StillLive, StillOut}
+use Rattle.lock_leasing.specs.Configurations.{Configuration, Grip, is_out, read_of}
+use Rattle.lock_leasing.specs.Places.{PlacesAreScheduled}
+use Rattle.std.proofs.Common.{ap, arith, cond, refl, subst, sym, ◌∙◌}
+use Rattle.std.proofs.lemmas.Grind.{common_steps}
+use Rattle.std.specs.List.{list_all, list_any, range_with_len}
+use Rattle.std.specs.Option.{option_or}
+use Rattle.std.specs.Prelude.{Bool, IsTrue, List, None, Option, Some, [], false, find, is_none, is_some, length, nat_lt, option_map, slice_index_or, suc, true, unwrap_or, zero, ℕ, ◌&&◌, ◌+◌, ◌<◌, ◌==◌, ◌||◌, ◌∷◌, ◌≡◌, ◌≢◌, ◌≤◌}
+use Rattle.window_order.proofs.ReadFacts.{read_facts}
+use Rattle.window_order.proofs.WindowEnds.{AgreesAtEnd, NoneIsLive, agrees_where_home, logs_own_events, none_is_live, order_events, order_following_none, order_runs}
+
+-- What a quiet window is
+
+-- no number of the range passes where none is found
+none_in_range : (p : ℕ → Bool) (a k x : ℕ) → find p (range_with_len a k) ≡ None → a ≤ x → x < a + k → p x ≡ false
+none_in_range p a zero x none from to = absurd (omega (arith, from, to))
+none_in_range p a (suc k) x none from to = elim (x == a) as (λ b. (x == a) ≡ b → p x ≡ false) [
+  | true ↦ (λ e. let same : x ≡ a = grind (arith, common_steps) in subst (λ y. p y ≡ false) (sym same) (head (p a) none))
+  | false ↦ (λ e. let other : x ≢ a = grind (arith, common_steps) in none_in_range p (a + 1) k x (tail (p a) none) (omega (arith, from, other)) (omega (arith, to)))
+] refl
+  where
+    head : (b : Bool) → cond b (Some a) (find p (range_with_len (a + 1) k)) ≡ None → b ≡ false
+    head true f = absurd (cc)
+    head false f = refl
+
+    tail : (b : Bool) → cond b (Some a) (find p (range_with_len (a + 1) k)) ≡ None → find p (range_with_len (a + 1) k) ≡ None
+    tail true f = absurd (cc)
+    tail false f = f
+
+neither : (live out : Option ℕ) → option_or (option_map (λ r. StillLive (run_no r)) live) (option_map (λ d. StillOut (device_no d)) out) ≡ None → (live ≡ None) × (out ≡ None)
+neither None None e = (refl, refl)
+neither None (Some d) e = absurd (cc)
+neither (Some r) None e = absurd (cc)
+neither (Some r) (Some d) e = absurd (cc)
+
+-- each run has ended, and each device of the home is there
+pub record IsQuiet (s : Configuration) : Type 0 where
+  pub ended : (r : ℕ) → is_run s.setting.runs r ≡ true → is_some ((read_of s).run r).ended ≡ true
+  pub home : (d : ℕ) → is_device s.setting d ≡ true → is_out s.grips d ≡ false
+
+pub quiet_is : (s : Configuration) → not_quiet s ≡ None → IsQuiet s
+quiet_is s quiet =
+    record {
+      ended = λ r run. some_of ((read_of s).run r).ended (let within : (0 < r) × (r ≤ length s.setting.runs) = run_within s.setting.runs r run in none_in_range (λ q. is_none ((read_of s).run q).ended) 1 (length s.setting.runs) r none.0 (omega (arith, within.0)) (omega (arith, within.1)));
+      home = λ d device. none_in_range (is_out s.grips) 0 (length s.setting.first) d none.1 (omega arith) (below d device);
+    }
+  where
+    none : (find (λ q. is_none ((read_of s).run q).ended) (run_numbers s.setting) ≡ None) × (find (is_out s.grips) (device_numbers s.setting) ≡ None)
+    none = neither (find (λ q. is_none ((read_of s).run q).ended) (run_numbers s.setting)) (find (is_out s.grips) (device_numbers s.setting)) quiet
+
+    some_of : (o : Option End) → is_none o ≡ false → is_some o ≡ true
+    some_of None e = absurd (cc)
+    some_of (Some x) e = refl
+
+    below : (d : ℕ) → is_device s.setting d ≡ true → d < 0 + length s.setting.first
+    below d device = let less : nat_lt d (length s.setting.first) ≡ true = device in grind (arith, common_steps)
+
+-- a command that fails by what it found is a must `check`
+fails_is : (c : Command) (x : ℕ) → fails c (Found x) ≡ true → is_must_check c ≡ true
+fails_is c x e = by_job c.must c.job e
+  where
+    never : (b : Bool) → (b && false) ≡ true → ⊥
+    never true f = absurd (cc)
+    never false f = absurd (cc)
+
+    by_job : (must : Bool) (job : Job) → (must && refutes job (Found x)) ≡ true → (must && is_check job) ≡ true
+    by_job true (Check v) f = refl
+    by_job false (Check v) f = absurd (cc)
+    by_job must (Set v) f = absurd (never must f)
+    by_job must Load f = absurd (never must f)
+    by_job must Store f = absurd (never must f)
+
+-- .. of the run
+check_is : (cs : List Command) (k : ℕ) → is_must_check (slice_index_or cs k no_command) ≡ true → list_any is_must_check cs ≡ true
+check_is [] k e = absurd (cc)
+check_is (c ∷ cs) zero e = ap (λ b. b || list_any is_must_check cs) e
+check_is (c ∷ cs) (suc k) e = ap (λ b. is_must_check c || b) (check_is cs k e) ∙ either (is_must_check c)
+  where
+    either : (b : Bool) → (b || true) ≡ true
+    either true = refl
+    either false = refl
+
+-- so a run that has none is not doomed
+sound_without : (w : Setting) (r : ℕ) (doom : Option Cause) → is_refuted w r doom ≡ true → has_must_check w.runs r ≡ false → is_some doom ≡ false
+sound_without w r None shown none = refl
+sound_without w r (Some (MustDown c)) shown none = absurd (cc)
+sound_without w r (Some (Refuted c x)) shown none = absurd (let both : true ≡ false = sym (check_is (commands_of w.runs r) c (fails_is (command_at w.runs r c) x shown)) ∙ none in cc)
+sound_without w r (Some (Lost d)) shown none = absurd (cc)
+sound_without w r (Some (Revoked lender d deadline m)) shown none = absurd (cc)
+sound_without w r (Some (DownAtEnd d)) shown none = absurd (cc)
+
+-- and has ended committed
+pub ended_committed : (s : Configuration) (rounds opened : ℕ) (held : ℕ → ℕ) (r : ℕ) → ConfigurationIsKept s rounds opened held → IsQuiet s → is_run s.setting.runs r ≡ true → has_must_check s.setting.runs r ≡ false → ((read_of s).run r).ended ≡ Some Committed
+ended_committed s rounds opened held r kept quiet run none = committed ((read_of s).run r).ended (quiet.ended r run) (λ aborts. (shapes s.setting (entries_of s.history) kept.history.well_formed r).aborts aborts)
+  where
+    sound : is_some ((read_of s).run r).doomed ≡ false
+    sound = sound_without s.setting r ((read_of s).run r).doomed (dooms_are_refuted s.setting (entries_of s.history) kept.history.stage kept.history.justified r) none
+
+    committed : (o : Option End) → is_some o ≡ true → (unwrap_or (option_map is_abort o) false ≡ true → is_some ((read_of s).run r).doomed ≡ true) → o ≡ Some Committed
+    committed None e doomed = absurd (cc)
+    committed (Some Committed) e doomed = refl
+    committed (Some (Aborted cause)) e doomed = absurd (let both : true ≡ false = sym (doomed refl) ∙ sound in cc)
+
+-- and no device is out
+pub none_out : (s : Configuration) (rounds opened : ℕ) (held : ℕ → ℕ) (d : ℕ) → ConfigurationIsKept s rounds opened held → IsQuiet s → s.grips d ≡ None
+none_out s rounds opened held d kept quiet = by_grip (s.grips d) refl
+  where
+    by_grip : (o : Option Grip) → s.grips d ≡ o → o ≡ None
+    by_grip None e = refl
+    by_grip (Some p) e =
+        let out : is_out s.grips d ≡ true = ap (λ x. is_some x) e in
+        absurd (let both : true ≡ false = sym out ∙ quiet.home d (kept.order.grips.homed d out) in cc)
+
+-- What a quiet window promises
+
+-- the last state is where each device stands
+pub record IsLastState (s : Configuration) (held : ℕ → ℕ) (last : List Stand) : Type 0 where
+  pub size : length last ≡ length s.setting.first
+  pub each : (d : ℕ) → d < length s.setting.first → stand_at last d ≡ record { value = held d; up = (read_of s).up d }
+
+none_live : (s : Configuration) (rounds opened : ℕ) (held : ℕ → ℕ) → ConfigurationIsKept s rounds opened held → IsQuiet s → NoneIsLive (read_of s)
+none_live s rounds opened held kept quiet = none_is_live s.setting (read_of s) (read_facts s.setting (entries_of s.history) kept.history.well_formed) quiet.ended
+
+-- its line is an order for its history
+pub order_is : (s : Configuration) (rounds opened : ℕ) (held : ℕ → ℕ) → ConfigurationIsKept s rounds opened held → IsQuiet s → IsOrderFor s.setting (entries_of s.history) (read_of s).line
+order_is s rounds opened held kept quiet =
+    record {
+      runs = order_runs s.setting (read_of s) (read_facts s.setting (entries_of s.history) kept.history.well_formed) (none_live s rounds opened held kept quiet);
+      events = order_events s.setting (read_of s) s.grips held kept.order (logs_own_events s.setting (entries_of s.history));
+      following = order_following_none s.setting (read_of s) kept.stage.follows_none;
+    }
+
+-- and the serial execution of it gives the last state
+pub serial_is : (s : Configuration) (rounds opened : ℕ) (held : ℕ → ℕ) (last : List Stand) → ConfigurationIsKept s rounds opened held → IsQuiet s → IsLastState s held last → AgreesWithSerial s.setting (entries_of s.history) (read_of s).line last
+serial_is s rounds opened held last kept quiet at = record { applies = agrees.applies; answers = agrees.answers; home = agrees.home; counted = λ d less. ap (λ x. x.up) (at.each d less) }
+  where
+    staged : StageSteps s.setting (read_of s)
+    staged = stage_steps s rounds opened held kept
+
+    agrees : AgreesAtEnd s.setting (read_of s) last
+    agrees = agrees_where_home s.setting (read_of s) s.grips held last (read_facts s.setting (entries_of s.history) kept.history.well_formed) kept.order kept.stage.strong (none_live s rounds opened held kept quiet) at.size
+        (λ d less. none_out s rounds opened held d kept quiet) (λ d less. staged.read.up d ∙ kept.stage.up d less) at.each
+
+each_ended : (s : Configuration) (a k : ℕ) → ((r : ℕ) → a ≤ r → r < a + k → is_some ((read_of s).run r).ended ≡ true) → IsTrue (list_all (λ r. is_some ((read_of s).run r).ended) (range_with_len a k))
+each_ended s a zero each = refl
+each_ended s a (suc k) each = rw (each a (omega arith) (omega arith), each_ended s (a + 1) k (λ r from to. each r (omega (arith, from)) (omega (arith, to)))) refl
+
+pub all_have_ended : (s : Configuration) → IsQuiet s → IsTrue (all_ended s.setting (entries_of s.history))
+all_have_ended s quiet = each_ended s 1 (length s.setting.runs) (λ r from to. quiet.ended r (run_there s.setting.runs r (omega (arith, from)) (omega (arith, to))))
+
+-- what the record of a quiet window tells
+pub record IsRecordOf (s : Configuration) (held : ℕ → ℕ) (closed : WindowRecord) : Type 0 where
+  pub mode : closed.mode ≡ s.setting.mode
+  pub first : closed.first.devices.items ≡ s.setting.first
+  pub history : closed.history.items ≡ s.history
+  pub order : closed.order.items ≡ (read_of s).line
+  pub last : IsLastState s held closed.last.devices.items
+  pub accounted : CallsAreAccounted s.setting (entries_of s.history) closed.turns.items closed.faults.items
+
+-- it is a legal window
+pub legal_is : (s : Configuration) (rounds opened : ℕ) (held : ℕ → ℕ) (closed : WindowRecord) → ConfigurationIsKept s rounds opened held → IsQuiet s → IsRecordOf s held closed → IsSeriallyLegal s.setting closed
+legal_is s rounds opened held closed kept quiet told =
+    record {
+      mode = told.mode;
+      first = told.first;
+      well_formed = of_history (λ h. IsWellFormed s.setting h) kept.history.well_formed;
+      ended = of_history (λ h. IsTrue (all_ended s.setting h)) (all_have_ended s quiet);
+      line = told.order ∙ ap (λ h. line_of s.setting (entries_of h)) (sym told.history);
+      places = of_history (λ h. PlacesAreScheduled s.setting h) kept.history.places;
+      is_order = subst (λ o. IsOrderFor s.setting (history_of closed) o) (sym told.order) (of_history (λ h. IsOrderFor s.setting h (read_of s).line) (order_is s rounds opened held kept quiet));
+      agrees = subst (λ o. AgreesWithSerial s.setting (history_of closed) o closed.last.devices.items) (sym told.order) (of_history (λ h. AgreesWithSerial s.setting h (read_of s).line closed.last.devices.items) (serial_is s rounds opened held closed.last.devices.items kept quiet told.last));
+      clean = of_history (λ h. ReadsAreClean s.setting h) kept.history.clean;
+      justified = of_history (λ h. IsJustified s.setting h) kept.history.justified;
+      accounted = of_history (λ h. CallsAreAccounted s.setting h closed.turns.items closed.faults.items) told.accounted;
+      isolated = λ strict. of_history (λ h. IsStrict s.setting h) (kept.history.isolated strict);
+    }
+  where
+    of_history : (P : List Entry → Type 0) → P (entries_of s.history) → P (history_of closed)
+    of_history P p = subst (λ h. P (entries_of h)) (sym told.history) p
+
+pub legal_window : (s : Configuration) (rounds opened : ℕ) (held : ℕ → ℕ) (closed : WindowRecord) → ConfigurationIsKept s rounds opened held → IsQuiet s → IsRecordOf s held closed → IsLegalWindow s.setting closed
+legal_window s rounds opened held closed kept quiet told = subst under_weak (sym kept.stage.strong) (legal_is s rounds opened held closed kept quiet told)
+  where
+    under_weak : Bool → Type 0
+    under_weak true = IsWeaklyLegal s.setting closed
+    under_weak false = IsSeriallyLegal s.setting closed

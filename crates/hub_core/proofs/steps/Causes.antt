@@ -1,0 +1,197 @@
+-- The answers of a run's step are clean, and its dooms show their causes.
+use Rattle.command_rules.specs.Rosters.{command_at, commands_of, device_no, run_no, touches}
+use Rattle.history_book.proofs.Searches.{Each, each_filter}
+use Rattle.history_book.proofs.Snoc.{put_same}
+use Rattle.history_book.specs.Histories.{entry}
+use Rattle.history_book.specs.Plans.{free}
+use Rattle.history_book.specs.Readings.{Reading, did, next_command, next_of, same_answer, sees_down}
+use Rattle.history_book.specs.Settings.{Setting, device_numbers, devices_of, is_strict, is_weak}
+use Rattle.history_book.specs.WellFormed.{along}
+use Rattle.history_book.specs.declared.entries.Cause.TheVariants.{DownAtEnd, MustDown}
+use Rattle.history_book.specs.declared.entries.Entry.TheVariants.{Did, Doomed}
+use Rattle.home_types.specs.declared.commands.Answer.{Answer}
+use Rattle.home_types.specs.declared.commands.Answer.TheVariants.{Down, Fine, Found}
+use Rattle.home_types.specs.declared.commands.Command.{Command}
+use Rattle.home_types.specs.declared.modes.Scheduler.{Scheduler}
+use Rattle.home_types.specs.declared.modes.Visibility.{Visibility}
+use Rattle.home_types.specs.declared.modes.Visibility.TheVariants.{Eventual, Global, Partitioned, Weak}
+use Rattle.hub_core.proofs.steps.Choices.{decide_is}
+use Rattle.hub_core.proofs.steps.Gives.{command_is}
+use Rattle.hub_core.proofs.steps.Revoked.{revocation_is_shown}
+use Rattle.hub_core.proofs.steps.Takes.{made_by}
+use Rattle.hub_core.specs.CleanReads.{answer_is_clean, entry_is_clean}
+use Rattle.hub_core.specs.JustifiedAborts.{abort_is_justified, equals_some, has_answer}
+use Rattle.hub_core.specs.LegalWindows.{none_fails, weakly_allowed}
+use Rattle.hub_core.specs.Steps.{Choice, Moves, answers_down, decide, down_entries}
+use Rattle.lock_leasing.specs.Configurations.{Grip, Grips, grips_command, has_grip, is_command, no_grips}
+use Rattle.lock_leasing.specs.Waits.{down_at_end, grip_wait}
+use Rattle.lock_leasing.specs.Words.{has_touched}
+use Rattle.std.proofs.Common.{ap, arith, cond, refl, sym, ◌∙◌}
+use Rattle.std.proofs.lemmas.Grind.{common_steps}
+use Rattle.std.specs.Prelude.{Bool, IsTrue, List, None, Option, Some, [], false, find, if◌then◌else◌, is_none, length, not, option_map, slice_get, true, unwrap_or, ℕ, ◌&&◌, ◌++◌, ◌==◌, ◌||◌, ◌∷◌, ◌≡◌}
+
+-- Answers
+
+-- the run's last answer
+pub answered_last : (w : Setting) (n : Reading) (r : ℕ) (a : Answer) → has_answer (entry w n (Did (run_no r) (next_of n r) a)) r (next_of n r) a ≡ true
+answered_last w n r a = ap (λ xs. unwrap_or (option_map (same_answer a) (slice_get xs (next_of n r))) false) (answers_now r) ∙ ap (λ o. unwrap_or (option_map (same_answer a) o) false) (get_last (n.run r).answers) ∙ same_self a
+  where
+    answers_now : (q : ℕ) → ((entry w n (Did (run_no q) (next_of n q) a)).run q).answers ≡ (n.run q).answers ++ a ∷ []
+    answers_now q = ap (λ o. o.answers) (put_same n.run q _)
+
+    get_last : (xs : List Answer) → slice_get (xs ++ a ∷ []) (length xs) ≡ Some a
+    get_last [] = refl
+    get_last (x ∷ xs) = get_last xs
+
+    same_self : (b : Answer) → same_answer b b ≡ true
+    same_self Fine = refl
+    same_self (Found x) = grind (arith, common_steps)
+    same_self Down = refl
+
+-- Grips
+
+-- with no grip of the run out, what it has touched is told by its answers
+no_grip : (g : Grips) (r : ℕ) (ds : List ℕ) → find (has_grip g r) ds ≡ None → Each (λ d. has_grip g r d ≡ false) ds
+no_grip g r [] e = tt
+no_grip g r (d ∷ ds) e = elim (has_grip g r d) as (λ b. has_grip g r d ≡ b → cond b (Some d) (find (has_grip g r) ds) ≡ None → Each (λ x. has_grip g r x ≡ false) (d ∷ ds)) [
+  | true ↦ (λ h f. absurd (cc))
+  | false ↦ (λ h f. (h, no_grip g r ds f))
+] refl e
+
+no_command_grip : (g : Grips) (r d : ℕ) → has_grip g r d ≡ false → grips_command g r d ≡ false
+no_command_grip g r d none = by_grip (g d) none
+  where
+    by_grip : (o : Option Grip) → unwrap_or (option_map (λ p. p.maker == r) o) false ≡ false → unwrap_or (option_map (λ p. (p.maker == r) && is_command p.purpose) o) false ≡ false
+    by_grip None e = refl
+    by_grip (Some p) e = grind (arith, common_steps)
+
+find_each : {A : Type 0} (p q : A → Bool) (xs : List A) → Each (λ x. p x ≡ q x) xs → find p xs ≡ find q xs
+find_each p q [] same = refl
+find_each p q (x ∷ xs) same = rw (same.0, find_each p q xs same.1) refl
+
+each_is : {A : Type 0} (P Q : A → Type 0) (xs : List A) → ((x : A) → P x → Q x) → Each P xs → Each Q xs
+each_is P Q [] step all = tt
+each_is P Q (x ∷ xs) step all = (step x all.0, each_is P Q xs step all.1)
+
+end_without_grips : (w : Setting) (n : Reading) (g : Grips) (r : ℕ) → grip_wait w g r ≡ None → down_at_end w n g r ≡ down_at_end w n no_grips r
+end_without_grips w n g r free =
+    ap (λ o. if is_strict w.mode then o else None)
+    (find_each (λ d. has_touched n g r d && not (n.up d)) (λ d. has_touched n no_grips r d && not (n.up d)) (devices_of w r)
+    (each_is (λ d. (has_grip g r d ≡ false) × (touches w.runs r d ≡ true)) (λ d. (has_touched n g r d && not (n.up d)) ≡ (has_touched n no_grips r d && not (n.up d))) (devices_of w r)
+    (λ d none. ap (λ b. (did n r d || b) && not (n.up d)) (no_command_grip g r d none.0)) (each_filter (λ d. has_grip g r d ≡ false) (touches w.runs r) (device_numbers w) (no_grip g r (device_numbers w) free))))
+
+-- The step
+
+abbrev pub Shows : Setting → Reading → Choice → Type 0
+Shows w n c = IsTrue (along w (abort_is_justified w) n (made_by c))
+
+abbrev pub IsClean : Setting → Reading → Choice → Type 0
+IsClean w n c = IsTrue (along w (entry_is_clean w) n (made_by c))
+
+pub and_is : {a b : Bool} → a ≡ true → b ≡ true → (a && b) ≡ true
+and_is p q = rw (p, q) refl
+
+down_shows : (w : Setting) (n : Reading) (r : ℕ) (c : Command) → next_command w n r ≡ Some c → Shows w n (Moves (down_entries r (next_of n r) c))
+down_shows w n r c next = elim c.must as (λ b. c.must ≡ b → IsTrue (along w (abort_is_justified w) n (Did (run_no r) (next_of n r) Down ∷ (if b then Doomed (run_no r) (MustDown (next_of n r)) ∷ [] else [])))) [
+  | true ↦ (λ must. and_is (and_is (ap (λ x. x.must) (command_is w n r c next) ∙ must) (answered_last w n r Down)) refl)
+  | false ↦ (λ free. refl)
+] refl
+
+end_shows : (w : Setting) (n : Reading) (g : Grips) (r d : ℕ) → grip_wait w g r ≡ None → next_command w n r ≡ None → down_at_end w n g r ≡ Some d → Shows w n (Moves (Doomed (run_no r) (DownAtEnd (device_no d)) ∷ []))
+end_shows w n g r d free none at = and_is (and_is (ap is_none none) (ap (λ o. equals_some o d) (sym (end_without_grips w n g r free) ∙ at) ∙ grind (arith, common_steps))) refl
+
+-- but for the weak model, each doom that a run's step makes is justified
+pub take_shows : (w : Setting) (n : Reading) (g : Grips) (r m : ℕ) → is_weak w.mode ≡ false → Shows w n (decide w n g r m)
+take_shows w n g r m strong =
+    decide_is (Shows w n) w n g r m (record {
+      absent = λ none. refl;
+      over = λ e at. refl;
+      waits = λ why. refl;
+      arrives = λ run none. refl;
+      enters = λ s enters. refl;
+      aborted = λ cause act doomed over. refl;
+      drops = λ cause d undoing down. refl;
+      undoes = λ cause d undoing up. refl;
+      revokes = λ c x run e at. and_is (revocation_is_shown w n g r m x c run.act.live run.next at) refl;
+      downs = λ c run next home down. down_shows w n r c run.next;
+      goes = λ c run next home up. refl;
+      fails_at_end = λ d all at. end_shows w n g r d all.act.free all.none at;
+      commits = λ all up. refl;
+    })
+
+down_is_clean : (w : Setting) (n : Reading) (r : ℕ) (c : Command) → is_weak w.mode ≡ false → next_command w n r ≡ Some c → answers_down w n r c.device.0 ≡ true → IsClean w n (Moves (down_entries r (next_of n r) c))
+down_is_clean w n r c strong next down = elim c.must as (λ b. IsTrue (along w (entry_is_clean w) n (Did (run_no r) (next_of n r) Down ∷ (if b then Doomed (run_no r) (MustDown (next_of n r)) ∷ [] else [])))) [
+  | true ↦ and_is clean refl
+  | false ↦ and_is clean refl
+]
+  where
+    clean : answer_is_clean w n r (command_at w.runs r (next_of n r)).device.0 Down ≡ true
+    clean = ap (λ x. not (n.up x.device.0) || sees_down n r x.device.0) (command_is w n r c next) ∙ either (n.up c.device.0) (sees_down n r c.device.0) (is_weak w.mode) strong down
+      where
+        either : (up sees weak : Bool) → weak ≡ false → ((not weak && sees) || not up) ≡ true → (not up || sees) ≡ true
+        either up sees weak s d = grind (arith, common_steps)
+
+-- and each answer that it makes is clean
+pub take_is_clean : (w : Setting) (n : Reading) (g : Grips) (r m : ℕ) → is_weak w.mode ≡ false → IsClean w n (decide w n g r m)
+take_is_clean w n g r m strong =
+    decide_is (IsClean w n) w n g r m (record {
+      absent = λ none. refl;
+      over = λ e at. refl;
+      waits = λ why. refl;
+      arrives = λ run none. refl;
+      enters = λ s enters. refl;
+      aborted = λ cause act doomed over. refl;
+      drops = λ cause d undoing down. refl;
+      undoes = λ cause d undoing up. refl;
+      revokes = λ c x run e at. refl;
+      downs = λ c run next home down. down_is_clean w n r c strong run.next down;
+      goes = λ c run next home up. refl;
+      fails_at_end = λ d all at. refl;
+      commits = λ all up. refl;
+    })
+
+-- under the weak model each entry of it is allowed
+
+weakly_down : (w : Setting) (n : Reading) (r : ℕ) (c : Command) → is_weak w.mode ≡ true → next_command w n r ≡ Some c → answers_down w n r c.device.0 ≡ true → IsTrue (along w (weakly_allowed w) n (down_entries r (next_of n r) c))
+weakly_down w n r c weak next down = elim c.must as (λ b. c.must ≡ b → IsTrue (along w (weakly_allowed w) n (Did (run_no r) (next_of n r) Down ∷ (if b then Doomed (run_no r) (MustDown (next_of n r)) ∷ [] else [])))) [
+  | true ↦ (λ must. and_is down_there (and_is (and_is (ap (λ x. x.must) (command_is w n r c next) ∙ must) (answered_last w n r Down)) refl))
+  | false ↦ (λ free. and_is down_there refl)
+] refl
+  where
+    down_there : not (n.up (command_at w.runs r (next_of n r)).device.0) ≡ true
+    down_there = ap (λ x. not (n.up x.device.0)) (command_is w n r c next) ∙ either (n.up c.device.0) (sees_down n r c.device.0) (is_weak w.mode) weak down
+      where
+        either : (up sees is : Bool) → is ≡ true → ((not is && sees) || not up) ≡ true → not up ≡ true
+        either up sees is s d = grind (arith, common_steps)
+
+weak_is_not_strict : (v : Visibility) (s : Scheduler) → is_weak (record { model = v; scheduler = s }) ≡ true → is_strict (record { model = v; scheduler = s }) ≡ false
+weak_is_not_strict Weak s e = refl
+weak_is_not_strict Global s e = absurd (cc)
+weak_is_not_strict Partitioned s e = absurd (cc)
+weak_is_not_strict Eventual s e = absurd (cc)
+
+abbrev pub IsAllowed : Setting → Reading → Choice → Type 0
+IsAllowed w n c = IsTrue (along w (weakly_allowed w) n (made_by c))
+
+-- where no command of the run has failed, if it is not doomed
+pub take_is_allowed : (w : Setting) (n : Reading) (g : Grips) (r m : ℕ) → is_weak w.mode ≡ true → ((n.run r).doomed ≡ None → none_fails (commands_of w.runs r) (n.run r).answers ≡ true) → IsAllowed w n (decide w n g r m)
+take_is_allowed w n g r m weak passes =
+    decide_is (IsAllowed w n) w n g r m (record {
+      absent = λ none. refl;
+      over = λ e at. refl;
+      waits = λ why. refl;
+      arrives = λ run none. refl;
+      enters = λ s enters. refl;
+      aborted = λ cause act doomed over. refl;
+      drops = λ cause d undoing down. refl;
+      undoes = λ cause d undoing up. refl;
+      revokes = λ c x run strong at. absurd (let both' : true ≡ false = sym weak ∙ strong in cc);
+      downs = λ c run next home down. weakly_down w n r c weak run.next down;
+      goes = λ c run next home up. refl;
+      fails_at_end = λ d all at. absurd (never d (is_strict w.mode) (weak_is_not_strict w.mode.model w.mode.scheduler weak) at);
+      commits = λ all up. and_is (passes all.sound) refl;
+    })
+  where
+    never : (d : ℕ) (b : Bool) → b ≡ false → (if b then find (λ e. has_touched n g r e && not (n.up e)) (devices_of w r) else None) ≡ Some d → ⊥
+    never d true e f = absurd (cc)
+    never d false e f = absurd (cc)
