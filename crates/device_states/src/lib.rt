@@ -1,12 +1,14 @@
-// Devices and benches, known by what their calls tell, and a device that never fails.
+// Devices and benches, known by what their calls tell, a device that never fails, and one that fails by a plan.
 #![tactic(auto)]
 
 pub mod benches;
 pub mod calm_devices;
 pub mod devices;
+pub mod sim_devices;
 #[cfg(test)]
 mod tests;
 
 pub use benches::Bench;
 pub use calm_devices::{CalmBench, CalmDevice};
 pub use devices::{Dead, Device, Steady};
+pub use sim_devices::{SimBench, SimDevice};

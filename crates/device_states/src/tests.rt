@@ -1,8 +1,8 @@
-//! The calls of a steady device, through its bounds.
+//! The calls of a steady device, through its bounds, and of one that fails by its plan.
 ghost use Rattle.std.specs.Prelude.{◌≡◌, ◌+◌};
 ghost use Rattle.device_states.specs.Devices.{HasRoom};
 
-use crate::{Bench, CalmBench, Device, Steady};
+use crate::{Bench, CalmBench, Dead, Device, SimBench, Steady};
 use home_types::{DeviceNo, NoMemory, Value};
 use std::alloc::Global;
 
@@ -51,4 +51,18 @@ fn starts_where_it_is_built(rt: HostRuntime) {
     assert!(rt; device.turns() == 1);
     assert!(rt; device.probes() == 0);
     assert!(rt; device.faults() == 0);
+}
+
+#[test]
+fn dies_by_its_plan(rt: HostRuntime) {
+    let built = SimBench.build(rt.alloc(), DeviceNo(3), 18, &[(2, 4), (6, 7)]);
+    let mut device = built.expect(&rt, "memory");
+    assert!(rt; device.drive(5) == Ok(()));
+    assert!(rt; device.drive(9) == Err(Dead));
+    assert!(rt; device.probe() == Err(Dead));
+    assert!(rt; device.sense() == Ok(5));
+    assert!(rt; device.probe() == Ok(()));
+    assert!(rt; device.sense() == Err(Dead));
+    assert!(rt; device.drive(8) == Ok(()));
+    assert!(rt; (device.turns(), device.probes(), device.faults()) == (3, 2, 3));
 }
