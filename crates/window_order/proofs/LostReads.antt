@@ -1,4 +1,4 @@
--- The run that is lost where a device fails that is out for no command is the one whose access is acquired with the device seen up.
+-- The run that is lost where a device fails, and the run before which its event stands, read off the device's lineage.
 use Rattle.command_rules.specs.Items.{is_ran, of_run}
 use Rattle.command_rules.specs.Rosters.{commands_of, run_no, touches}
 use Rattle.device_order.specs.LineChanges.{Lacks}
@@ -6,13 +6,12 @@ use Rattle.device_order.specs.LineEntries.{stage_of, usage}
 use Rattle.device_order.specs.LineWords.{CutAt, RunsAreDistinct}
 use Rattle.device_order.specs.RunStates.{uses as uses_device}
 use Rattle.device_order.specs.Usages.{is_open as stage_is_open, is_up}
-use Rattle.history_book.proofs.Shapes.{did_touches}
-use Rattle.history_book.specs.Readings.{Reading, is_doomed, is_live, is_open, pends, sees_up, view_of}
+use Rattle.history_book.specs.Readings.{Reading, did, is_doomed, is_live, is_open, next_of, pends, sees_up, view_of}
 use Rattle.history_book.specs.Settings.{Setting, is_device, is_weak}
 use Rattle.home_types.specs.declared.commands.View.TheVariants.{Down}
 use Rattle.home_types.specs.declared.items.Item.TheVariants.{Back, Failed, Ran}
 use Rattle.home_types.specs.declared.items.Item.{Item}
-use Rattle.lineage_table.specs.Accesses.{is_acquired}
+use Rattle.lineage_table.specs.Accesses.{is_acquired, is_scheduled}
 use Rattle.lineage_table.specs.Lineages.{LineageState}
 use Rattle.lineage_table.specs.declared.accesses.Access.{Access}
 use Rattle.lineage_table.specs.declared.accesses.Status.TheVariants.{Acquired, Released, Scheduled}
@@ -25,11 +24,12 @@ use Rattle.std.proofs.lemmas.Grind.{common_steps}
 use Rattle.std.specs.List.{cons_option, list_any}
 use Rattle.std.specs.Prelude.{Bool, List, None, Option, Some, [], false, find, if◌then◌else◌, is_some, not, option_map, true, unwrap_or, ℕ, ◌&&◌, ◌++◌, ◌==◌, ◌||◌, ◌∷◌, ◌≡◌}
 use Rattle.window_order.proofs.AccessLists.{distinct_parts}
-use Rattle.window_order.proofs.AnsweredTables.{none_commits, uses_now}
+use Rattle.window_order.proofs.AnsweredTables.{none_commits, pending_touches, uses_now}
+use Rattle.window_order.proofs.EventPlaces.{awaits_there}
 use Rattle.window_order.proofs.Goes.{open_behind}
 use Rattle.window_order.proofs.ReadFacts.{IsRead, rest_drop, runs_distinct}
 use Rattle.window_order.proofs.Runs.{live_uncommitted}
-use Rattle.window_order.specs.LostRuns.{is_lost, lost_on}
+use Rattle.window_order.specs.LostRuns.{first_waiting, is_lost, lost_on, waits}
 use Rattle.window_order.specs.OrderKept.{OrderIsKept}
 use Rattle.window_order.specs.ReadWindows.{run_state}
 use Rattle.window_order.specs.TableKept.{LineageIsKept, access_read, accesses_along, commits_write}
@@ -65,61 +65,51 @@ lost_same w n g passed d r may free used = by_passed (passed r) refl
         by_view (view_of n r d) ((not (is_doomed n r) && pends w n r d) || grips_command g r d)
         ∙ counted (is_live n r) (is_doomed n r) (pends w n r d) (sees_up n r d) (grips_command g r d) (lives (is_live n r) (touches w.runs r d) _ used) free
 
--- along a part of the line
-lost_along : (w : Setting) (n : Reading) (g : Grips) (passed : ℕ → Bool) (d : ℕ) (is : List Item) → IsRead w n → ((q : ℕ) → passed q ≡ true → may_be_passed n g q d ≡ true) → ((q : ℕ) → grips_command g q d ≡ false)
-    → ((front back : List Item) (r : ℕ) → is ≡ front ++ Ran (run_no r) ∷ back → spans_there w n d r ≡ true → list_any (of_run (commits_write n d)) back ≡ false)
-    → find (spans_there w n d) (live_runs n is) ≡ option_map (λ (x : Access). x.run.0) (find is_lost (accesses_along (uses w n d) (commits_write n d) (access_read w n g passed d) is))
-lost_along w n g passed d [] read may free clear = refl
-lost_along w n g passed d (Failed e k ∷ is) read may free clear = lost_along w n g passed d is read may free (λ front back r at h. clear (Failed e k ∷ front) back r (ap (λ l. Failed e k ∷ l) at) h)
-lost_along w n g passed d (Back e k ∷ is) read may free clear = lost_along w n g passed d is read may free (λ front back r at h. clear (Back e k ∷ front) back r (ap (λ l. Back e k ∷ l) at) h)
-lost_along w n g passed d (Ran q ∷ is) read may free clear = by_spans (lost_along w n g passed d is read may free (λ front back y at h. clear (Ran q ∷ front) back y (ap (λ l. Ran q ∷ l) at) h)) (spans_there w n d q.0) refl
+-- the first run of a part of the line of which a test holds, and the first access of which another does, where they say the same of each run that uses the device
+first_along : (w : Setting) (n : Reading) (d : ℕ) (p : ℕ → Bool) (access : ℕ → Access) (test : Access → Bool) (is : List Item) → ((r : ℕ) → (access r).run.0 ≡ r) → ((r : ℕ) → uses w n d r ≡ true → test (access r) ≡ p r) → ((r : ℕ) → p r ≡ true → (is_live n r ≡ true) × (uses w n d r ≡ true))
+    → ((front back : List Item) (r : ℕ) → is ≡ front ++ Ran (run_no r) ∷ back → p r ≡ true → list_any (of_run (commits_write n d)) back ≡ false)
+    → find p (live_runs n is) ≡ option_map (λ (x : Access). x.run.0) (find test (accesses_along (uses w n d) (commits_write n d) access is))
+first_along w n d p access test [] own same acts clear = refl
+first_along w n d p access test (Failed e k ∷ is) own same acts clear = first_along w n d p access test is own same acts (λ front back r at h. clear (Failed e k ∷ front) back r (ap (λ l. Failed e k ∷ l) at) h)
+first_along w n d p access test (Back e k ∷ is) own same acts clear = first_along w n d p access test is own same acts (λ front back r at h. clear (Back e k ∷ front) back r (ap (λ l. Back e k ∷ l) at) h)
+first_along w n d p access test (Ran q ∷ is) own same acts clear = by_test (first_along w n d p access test is own same acts (λ front back y at h. clear (Ran q ∷ front) back y (ap (λ l. Ran q ∷ l) at) h)) (p q.0) refl
   where
     r : ℕ
     r = q.0
 
     rest_ : List Access
-    rest_ = accesses_along (uses w n d) (commits_write n d) (access_read w n g passed d) is
+    rest_ = accesses_along (uses w n d) (commits_write n d) access is
 
-    lives : (l x p u : Bool) → ((l && not x && p) && u) ≡ true → l ≡ true
-    lives l x p u h = grind (arith, common_steps)
-
-    left : (l x p u : Bool) → ((l && not x && p) && u) ≡ true → p ≡ true
-    left l x p u h = grind (arith, common_steps)
-
-    live_is : (b : Bool) → is_live n r ≡ b → spans_there w n d r ≡ false → find (spans_there w n d) (cons_option (if b then Some r else None) (live_runs n is)) ≡ find (spans_there w n d) (live_runs n is)
-    live_is true e h = ap (λ b. cond b (Some r) (find (spans_there w n d) (live_runs n is))) h
+    live_is : (b : Bool) → is_live n r ≡ b → p r ≡ false → find p (cons_option (if b then Some r else None) (live_runs n is)) ≡ find p (live_runs n is)
+    live_is true e h = ap (λ b. cond b (Some r) (find p (live_runs n is))) h
     live_is false e h = refl
 
-    none_here : (b c : Bool) → uses w n d r ≡ b → spans_there w n d r ≡ false → find is_lost rest_ ≡ find is_lost (if b && not c then (access_read w n g passed d r ∷ rest_) else rest_)
-    none_here true false used h = sym (ap (λ b. cond b (Some (access_read w n g passed d r)) (find is_lost rest_)) (lost_same w n g passed d r may (free r) used ∙ h))
+    none_here : (b c : Bool) → uses w n d r ≡ b → p r ≡ false → find test rest_ ≡ find test (if b && not c then (access r ∷ rest_) else rest_)
+    none_here true false used h = sym (ap (λ b. cond b (Some (access r)) (find test rest_)) (same r used ∙ h))
     none_here true true used h = refl
     none_here false c used h = refl
 
-    by_spans : find (spans_there w n d) (live_runs n is) ≡ option_map (λ (x : Access). x.run.0) (find is_lost rest_) → (b : Bool) → spans_there w n d r ≡ b
-        → find (spans_there w n d) (cons_option (if is_live n r then Some r else None) (live_runs n is)) ≡ option_map (λ (x : Access). x.run.0) (find is_lost (if uses w n d r && not (list_any (of_run (commits_write n d)) is) then (access_read w n g passed d r ∷ rest_) else rest_))
-    by_spans later false h = live_is (is_live n r) refl h ∙ later ∙ ap (option_map (λ (x : Access). x.run.0)) (none_here (uses w n d r) (list_any (of_run (commits_write n d)) is) refl h)
-    by_spans later true h =
-        let live : is_live n r ≡ true = lives (is_live n r) (is_doomed n r) (pends w n r d) (sees_up n r d) h in
-        let used : uses w n d r ≡ true = uses_now w n d r read live (left (is_live n r) (is_doomed n r) (pends w n r d) (sees_up n r d) h) in
-        let mine : is_lost (access_read w n g passed d r) ≡ true = lost_same w n g passed d r may (free r) used ∙ h in
-        (λ i. find (spans_there w n d) (cons_option (if live i then Some r else None) (live_runs n is))) ∙ ap (λ b. cond b (Some r) (find (spans_there w n d) (live_runs n is))) h
-        ∙ sym ((λ i. option_map (λ (x : Access). x.run.0) (find is_lost (if used i && not (clear [] is r refl h i) then (access_read w n g passed d r ∷ rest_) else rest_)))
-        ∙ ap (λ b. option_map (λ (x : Access). x.run.0) (cond b (Some (access_read w n g passed d r)) (find is_lost rest_))) mine)
+    by_test : find p (live_runs n is) ≡ option_map (λ (x : Access). x.run.0) (find test rest_) → (b : Bool) → p r ≡ b
+        → find p (cons_option (if is_live n r then Some r else None) (live_runs n is)) ≡ option_map (λ (x : Access). x.run.0) (find test (if uses w n d r && not (list_any (of_run (commits_write n d)) is) then (access r ∷ rest_) else rest_))
+    by_test later false h = live_is (is_live n r) refl h ∙ later ∙ ap (option_map (λ (x : Access). x.run.0)) (none_here (uses w n d r) (list_any (of_run (commits_write n d)) is) refl h)
+    by_test later true h =
+        let act : (is_live n r ≡ true) × (uses w n d r ≡ true) = acts r h in
+        let mine : test (access r) ≡ true = same r act.1 ∙ h in
+        (λ i. find p (cons_option (if act.0 i then Some r else None) (live_runs n is))) ∙ ap (λ b. cond b (Some r) (find p (live_runs n is))) h
+        ∙ sym ((λ i. option_map (λ (x : Access). x.run.0) (find test (if act.1 i && not (clear [] is r refl h i) then (access r ∷ rest_) else rest_)))
+        ∙ ap (λ b. option_map (λ (x : Access). x.run.0) (cond b (Some (access r)) (find test rest_))) mine
+        ∙ ap (λ x. Some x) (own r))
 
 -- behind a run that is open there no committed run has written
-none_wrote : (w : Setting) (n : Reading) (g : Grips) (held : ℕ → ℕ) (d r : ℕ) (front back : List Item) → IsRead w n → OrderIsKept w n g held → is_device w d ≡ true → n.line ≡ front ++ Ran (run_no r) ∷ back → spans_there w n d r ≡ true → list_any (of_run (commits_write n d)) back ≡ false
+none_wrote : (w : Setting) (n : Reading) (g : Grips) (held : ℕ → ℕ) (d r : ℕ) (front back : List Item) → IsRead w n → OrderIsKept w n g held → is_device w d ≡ true → n.line ≡ front ++ Ran (run_no r) ∷ back → is_open w n r d ≡ true → list_any (of_run (commits_write n d)) back ≡ false
 unfolding RunsAreDistinct
-none_wrote w n g held d r front back read kept device at spans = none_commits w n d back read (open_behind w n g held d r cut read kept device (did_touches w n r d read.shaped (seen (view_of n r d) (parts.2))) (stage parts.0 parts.1))
+none_wrote w n g held d r front back read kept device at opened = none_commits w n d back read (open_behind w n g held d r cut read kept device (pending_touches d (commands_of w.runs r) (next_of n r) parts.2) (stage parts.0 parts.1 parts.2))
   where
-    of : (l x p u : Bool) → ((l && not x && p) && u) ≡ true → (l ≡ true) × ((x ≡ false) × (p ≡ true)) × (u ≡ true)
-    of l x p u h = (grind (arith, common_steps), (grind (arith, common_steps), grind (arith, common_steps)), grind (arith, common_steps))
+    of : (l x p : Bool) → (l && not x && p) ≡ true → (l ≡ true) × (x ≡ false) × (p ≡ true)
+    of l x p h = (grind (arith, common_steps), grind (arith, common_steps), grind (arith, common_steps))
 
-    parts : (is_live n r ≡ true) × ((is_doomed n r ≡ false) × (pends w n r d ≡ true)) × (sees_up n r d ≡ true)
-    parts = of (is_live n r) (is_doomed n r) (pends w n r d) (sees_up n r d) spans
-
-    seen : (v : Option Bool) → unwrap_or v false ≡ true → is_some v ≡ true
-    seen None h = absurd (cc)
-    seen (Some b) h = refl
+    parts : (is_live n r ≡ true) × (is_doomed n r ≡ false) × (pends w n r d ≡ true)
+    parts = of (is_live n r) (is_doomed n r) (pends w n r d) opened
 
     self : (x : ℕ) (b : Bool) → ((x == x) || b) ≡ true
     self x b = grind (arith, common_steps)
@@ -130,12 +120,59 @@ none_wrote w n g held d r front back read kept device at spans = none_commits w 
     cut : CutAt r n.line
     cut = record { front = front; back = back; at = at; before = distinct.1 r (self r (list_any (is_ran r) back)); behind = distinct.0.0 }
 
-    stage : is_live n r ≡ true → (is_doomed n r ≡ false) × (pends w n r d ≡ true) → stage_is_open (usage w.kinds (run_state w n g r) d).stage ≡ true
-    stage live counts = λ i. stage_is_open (stage_of (live_uncommitted n r live i) (counts.0 i) ((ap (uses_device d) (rest_drop (commands_of w.runs r) (n.run r).answers) ∙ counts.1) i))
+    stage : is_live n r ≡ true → is_doomed n r ≡ false → pends w n r d ≡ true → stage_is_open (usage w.kinds (run_state w n g r) d).stage ≡ true
+    stage live sound left = λ i. stage_is_open (stage_of (live_uncommitted n r live i) (sound i) ((ap (uses_device d) (rest_drop (commands_of w.runs r) (n.run r).answers) ∙ left) i))
+
+-- a run that is open there uses the device
+open_uses : (w : Setting) (n : Reading) (d r : ℕ) → IsRead w n → is_open w n r d ≡ true → (is_live n r ≡ true) × (uses w n d r ≡ true)
+open_uses w n d r read opened = (lives (is_live n r) (is_doomed n r) (pends w n r d) opened, uses_now w n d r read (lives (is_live n r) (is_doomed n r) (pends w n r d) opened) (left (is_live n r) (is_doomed n r) (pends w n r d) opened))
+  where
+    lives : (l x p : Bool) → (l && not x && p) ≡ true → l ≡ true
+    lives l x p h = grind (arith, common_steps)
+
+    left : (l x p : Bool) → (l && not x && p) ≡ true → p ≡ true
+    left l x p h = grind (arith, common_steps)
 
 -- the rule's lost run, read off the lineage of a device that is out for no command
 pub lost_read : (w : Setting) (n : Reading) (g : Grips) (held : ℕ → ℕ) (d : ℕ) (s : LineageState) → IsRead w n → is_weak w.mode ≡ false → is_device w d ≡ true → ((q : ℕ) → grips_command g q d ≡ false) → OrderIsKept w n g held → LineageIsKept w n g d s → lost_by w n d ≡ lost_on s
 lost_read w n g held d s read strong device free kept own =
     ap (λ b. if b then None else find (spans_there w n d) (live_runs n n.line)) strong
-    ∙ lost_along w n g own.passed d n.line read own.may_pass free (λ front back r at h. none_wrote w n g held d r front back read kept device at h)
+    ∙ first_along w n d (spans_there w n d) (access_read w n g own.passed d) is_lost n.line (λ r. refl) (λ r used. lost_same w n g own.passed d r own.may_pass (free r) used) (λ r h. open_uses w n d r read (opens_there r h))
+    (λ front back r at h. none_wrote w n g held d r front back read kept device at (opens_there r h))
     ∙ ap (λ xs. option_map (λ (x : Access). x.run.0) (find is_lost xs)) (sym own.accesses)
+  where
+    first : (a b : Bool) → (a && b) ≡ true → a ≡ true
+    first a b h = grind (arith, common_steps)
+
+    opens_there : (r : ℕ) → spans_there w n d r ≡ true → is_open w n r d ≡ true
+    opens_there r h = first (is_open w n r d) (sees_up n r d) h
+
+-- .. and the run before which its event stands: the first with a scheduled access that is not doomed
+pub waiting_read : (w : Setting) (n : Reading) (g : Grips) (held : ℕ → ℕ) (d : ℕ) (s : LineageState) → IsRead w n → is_weak w.mode ≡ false → is_device w d ≡ true → OrderIsKept w n g held → LineageIsKept w n g d s → find (awaits_there w n d) (live_runs n n.line) ≡ first_waiting (is_doomed n) s
+waiting_read w n g held d s read strong device kept own =
+    first_along w n d (awaits_there w n d) (access_read w n g own.passed d) (waits (is_doomed n)) n.line (λ r. refl) (λ r used. same r used (own.passed r) refl) (λ r h. open_uses w n d r read (opens_there r h))
+    (λ front back r at h. none_wrote w n g held d r front back read kept device at (opens_there r h))
+    ∙ ap (λ xs. option_map (λ (x : Access). x.run.0) (find (waits (is_doomed n)) xs)) (sym own.accesses)
+  where
+    second : (a b c : Bool) → (a && b && c) ≡ true → b ≡ true
+    second a b c h = grind (arith, common_steps)
+
+    opens_there : (r : ℕ) → awaits_there w n d r ≡ true → is_open w n r d ≡ true
+    opens_there r h = second (not (is_weak w.mode)) (is_open w n r d) (not (did n r d)) h
+
+    doomed_off : (a x b : Bool) (y l p v : Bool) → (x && y) ≡ true → false ≡ (not a && (l && not x && p) && not v)
+    doomed_off a x b y l p v h = grind (arith, common_steps)
+
+    unseen : (v k : Bool) → is_scheduled (if v then (if k then Acquired else Released) else Scheduled) ≡ not v
+    unseen true true = refl
+    unseen true false = refl
+    unseen false k = refl
+
+    counted : (a l t x p v : Bool) → a ≡ false → (l && t && not (t && not p && not v)) ≡ true → (not v && not x) ≡ (not a && (l && not x && p) && not v)
+    counted a l t x p v h k = grind (arith, common_steps)
+
+    same : (r : ℕ) → uses w n d r ≡ true → (b : Bool) → own.passed r ≡ b → (is_scheduled (if b then Released else status_by_answers w n g r d) && not (is_doomed n r)) ≡ awaits_there w n d r
+    same r used true e = doomed_off (is_weak w.mode) (is_doomed n r) true _ (is_live n r) (pends w n r d) (did n r d) (own.may_pass r e)
+    same r used false e =
+        ap (λ b. b && not (is_doomed n r)) (unseen (did n r d) ((not (is_doomed n r) && pends w n r d) || grips_command g r d))
+        ∙ counted (is_weak w.mode) (is_live n r) (touches w.runs r d) (is_doomed n r) (pends w n r d) (did n r d) strong used

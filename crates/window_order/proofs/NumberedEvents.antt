@@ -1,9 +1,8 @@
 -- The failures of a device in the line have numbers up to how often it failed, and its restarts up to how often it came back.
-use Rattle.command_rules.specs.Items.{is_ran, of_run}
+use Rattle.command_rules.specs.Items.{is_ran}
 use Rattle.history_book.proofs.Lines.{any_insert, any_put_before}
 use Rattle.history_book.proofs.Splits.{split_any}
 use Rattle.history_book.specs.Histories.{entry, reading}
-use Rattle.history_book.specs.Lines.{without}
 use Rattle.history_book.specs.Plans.{split_of}
 use Rattle.history_book.specs.Readings.{Reading, nothing_read, put}
 use Rattle.history_book.specs.Settings.{Setting}
@@ -13,10 +12,10 @@ use Rattle.history_book.specs.declared.entries.Entry.{Entry}
 use Rattle.home_types.specs.declared.items.Item.TheVariants.{Back, Failed, Ran}
 use Rattle.home_types.specs.declared.items.Item.{Item}
 use Rattle.serial_line.specs.Marks.{is_failure, is_restart}
-use Rattle.std.proofs.Common.{ap, arith, cond, refl, subst, sym, ◌∙◌}
+use Rattle.std.proofs.Common.{arith, cond, refl, subst, sym, ◌∙◌}
 use Rattle.std.proofs.lemmas.Grind.{common_steps}
 use Rattle.std.specs.List.{list_any}
-use Rattle.std.specs.Prelude.{Bool, List, [], false, filter, fold, if◌then◌else◌, not, true, ℕ, ◌&&◌, ◌++◌, ◌+◌, ◌<◌, ◌==◌, ◌||◌, ◌∷◌, ◌≡◌}
+use Rattle.std.specs.Prelude.{Bool, List, [], false, filter, fold, if◌then◌else◌, not, true, ℕ, ◌&&◌, ◌+◌, ◌<◌, ◌==◌, ◌||◌, ◌∷◌, ◌≡◌}
 
 -- no event of the device stands in the line with a greater number
 pub record EventsAreNumbered (n : Reading) : Type 0 where

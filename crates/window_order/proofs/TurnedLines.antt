@@ -1,11 +1,12 @@
 -- The items of a line with what each has touched, where a device fails or comes back, is answered for with no call, or is probed.
 use Rattle.command_rules.specs.Items.{is_ran, of_run}
 use Rattle.command_rules.specs.Rosters.{command_at, run_no}
+use Rattle.history_book.proofs.Searches.{some_is}
 use Rattle.history_book.proofs.Snoc.{put_keeps, put_other, put_same}
 use Rattle.history_book.specs.Histories.{answered, entry}
 use Rattle.history_book.specs.Lines.{put_before}
-use Rattle.history_book.specs.Readings.{OfRun, OnDevice, Reading, did, put, view_by}
-use Rattle.history_book.specs.Settings.{Setting}
+use Rattle.history_book.specs.Readings.{OfRun, OnDevice, Reading, did, is_doomed, is_live, pends, put, view_by}
+use Rattle.history_book.specs.Settings.{Setting, is_weak}
 use Rattle.history_book.specs.declared.entries.Entry.TheVariants.{Did, Fell, Rose}
 use Rattle.home_types.proofs.DeviceBits.{contains_insert}
 use Rattle.home_types.specs.Kinds.{kind_at}
@@ -18,17 +19,19 @@ use Rattle.home_types.specs.declared.numbers.DeviceNo.{DeviceNo}
 use Rattle.lock_leasing.specs.Configurations.{Commands, Grip, Grips, Probes, grips_command, is_command}
 use Rattle.lock_leasing.specs.Places.{up_to_first}
 use Rattle.lock_leasing.specs.Standings.{item_has_touched}
+use Rattle.lock_leasing.specs.Words.{live_runs}
 use Rattle.serial_line.proofs.Ties.{line_inserted, line_retold, line_touching}
-use Rattle.serial_line.specs.Marks.{Mark, is_item, stands, touching, untouched, with_item}
+use Rattle.serial_line.specs.Marks.{Mark, is_item, place_of, stands, touching, untouched, with_item}
 use Rattle.serial_line.specs.Ties.{IsLineOf, TouchesAs}
-use Rattle.std.proofs.Common.{ap, arith, refl, subst, sym, ◌∙◌}
+use Rattle.std.proofs.Common.{ap, arith, cond, refl, subst, sym, ◌∙◌}
 use Rattle.std.proofs.lemmas.Grind.{common_steps}
 use Rattle.std.proofs.lemmas.List.{length-map}
+use Rattle.std.proofs.lemmas.List.Recursion.{is_position_or_len}
 use Rattle.std.specs.FinSet as set
-use Rattle.std.specs.List.{list_any}
+use Rattle.std.specs.List.{cons_option, list_any, position_or_len}
 use Rattle.std.specs.Option.{option_or}
 use Rattle.std.specs.Ordering.{nat_cmp}
-use Rattle.std.specs.Prelude.{Bool, List, None, Option, Some, [], drop, false, if◌then◌else◌, is_some, length, option_map, suc, take, true, unwrap_or, ℕ, ◌&&◌, ◌++◌, ◌+◌, ◌==◌, ◌||◌, ◌∷◌, ◌≡◌, ◌≢◌, ◌≤◌}
+use Rattle.std.specs.Prelude.{Bool, List, None, Option, Some, [], drop, false, find, if◌then◌else◌, is_some, length, nat_lt, not, option_map, position, suc, take, true, unwrap_or, ℕ, ◌&&◌, ◌++◌, ◌+◌, ◌==◌, ◌||◌, ◌∷◌, ◌≡◌, ◌≢◌, ◌≤◌}
 use Rattle.window_order.proofs.EventPlaces.{awaits_there}
 use Rattle.window_order.proofs.ReadFacts.{IsRead}
 use Rattle.window_order.proofs.Steps.{IsOut}
@@ -53,6 +56,103 @@ put_at t x (i ∷ is) = by_test (t i) (put_at t x is)
 -- the place of the device's event: before the first run that is open there and has done nothing there, else at the end
 abbrev pub event_place_of : Setting → Reading → ℕ → ℕ
 event_place_of w n d = up_to_first (of_run (awaits_there w n d)) n.line
+
+-- Where the event stands
+
+-- before that run, ..
+pub event_before : (w : Setting) (n : Reading) (d r : ℕ) → find (awaits_there w n d) (live_runs n n.line) ≡ Some r → event_place_of w n d ≡ up_to_first (is_ran r) n.line
+event_before w n d r some = along n.line some
+  where
+    equal : (x y : ℕ) → (x == y) ≡ true → x ≡ y
+    equal x y h = grind (arith, common_steps)
+
+    self : (x y : ℕ) → x ≡ y → (x == y) ≡ true
+    self x y h = grind (arith, common_steps)
+
+    lives : (a l x p v : Bool) → (not a && (l && not x && p) && not v) ≡ true → l ≡ true
+    lives a l x p v h = grind (arith, common_steps)
+
+    clash : (b : Bool) → b ≡ true → b ≡ false → ⊥
+    clash b h k = grind (arith, common_steps)
+
+    -- the run that is found passes the test
+    passes : (xs : List ℕ) → find (awaits_there w n d) xs ≡ Some r → awaits_there w n d r ≡ true
+    passes [] h = absurd (cc)
+    passes (x ∷ xs) h = at_ (passes xs) (awaits_there w n d x) refl h
+      where
+        at_ : (find (awaits_there w n d) xs ≡ Some r → awaits_there w n d r ≡ true) → (b : Bool) → awaits_there w n d x ≡ b → cond b (Some x) (find (awaits_there w n d) xs) ≡ Some r → awaits_there w n d r ≡ true
+        at_ ih true e k = ap (awaits_there w n d) (sym (some_is x r k)) ∙ e
+        at_ ih false e k = ih k
+
+    along : (is : List Item) → find (awaits_there w n d) (live_runs n is) ≡ Some r → up_to_first (of_run (awaits_there w n d)) is ≡ up_to_first (is_ran r) is
+    along [] h = absurd (cc)
+    along (Failed e k ∷ is) h = ap (λ x. x + 1) (along is h)
+    along (Back e k ∷ is) h = ap (λ x. x + 1) (along is h)
+    along (Ran q ∷ is) h = at_ (along is) (awaits_there w n d q.0) refl (is_live n q.0) refl (q.0 == r) refl h
+      where
+        at_ : (find (awaits_there w n d) (live_runs n is) ≡ Some r → up_to_first (of_run (awaits_there w n d)) is ≡ up_to_first (is_ran r) is) → (b : Bool) → awaits_there w n d q.0 ≡ b → (l : Bool) → is_live n q.0 ≡ l → (c : Bool) → (q.0 == r) ≡ c
+            → find (awaits_there w n d) (cons_option (if l then Some q.0 else None) (live_runs n is)) ≡ Some r → (if b then 0 else up_to_first (of_run (awaits_there w n d)) is + 1) ≡ (if c then 0 else up_to_first (is_ran r) is + 1)
+        at_ ih true e true live true own h = refl
+        at_ ih true e true live false own h = absurd (clash (q.0 == r) (self q.0 r (some_is q.0 r (sym (ap (λ b. cond b (Some q.0) (find (awaits_there w n d) (live_runs n is))) e) ∙ h))) own)
+        at_ ih true e false dead c own h = absurd (clash (is_live n q.0) (lives (is_weak w.mode) (is_live n q.0) (is_doomed n q.0) (pends w n q.0 d) (did n q.0 d) e) dead)
+        at_ ih false e true live true own h = absurd (clash (awaits_there w n d q.0) (ap (awaits_there w n d) (equal q.0 r own) ∙ passes (q.0 ∷ live_runs n is) h) e)
+        at_ ih false e true live false own h = ap (λ x. x + 1) (ih (sym (ap (λ b. cond b (Some q.0) (find (awaits_there w n d) (live_runs n is))) e) ∙ h))
+        at_ ih false e false dead true own h = absurd (clash (awaits_there w n d q.0) (ap (awaits_there w n d) (equal q.0 r own) ∙ passes (live_runs n is) h) e)
+        at_ ih false e false dead false own h = ap (λ x. x + 1) (ih h)
+
+-- whose place the line tells, ..
+pub run_place : (n : Reading) (g : Grips) (r : ℕ) (marks : List Mark) → list_any (is_ran r) n.line ≡ true → MarksAreKept n g marks → place_of (Ran (run_no r)) marks ≡ Some (up_to_first (is_ran r) n.line)
+run_place n g r marks there kept = ap (position (is_ran r)) kept.items ∙ (λ i. cond (nat_lt (sym counted i) (length n.line)) (Some (sym counted i)) None) ∙ ap (λ b. cond b (Some (up_to_first (is_ran r) n.line)) None) (within n.line there)
+  where
+    one_more : (b : Bool) (k : ℕ) → (if b then 0 else k + 1) ≡ cond b 0 (1 + k)
+    one_more true k = refl
+    one_more false k = omega arith
+
+    counted : up_to_first (is_ran r) n.line ≡ position_or_len (is_ran r) n.line
+    counted = is_position_or_len (up_to_first (is_ran r)) (is_ran r) refl (λ x xs. one_more (is_ran r x) (up_to_first (is_ran r) xs)) n.line
+
+    within : (is : List Item) → list_any (is_ran r) is ≡ true → nat_lt (up_to_first (is_ran r) is) (length is) ≡ true
+    within [] h = absurd (cc)
+    within (i ∷ is) h = at_ (is_ran r i) (within is) h
+      where
+        more : (k l : ℕ) → nat_lt k l ≡ true → nat_lt (k + 1) (suc l) ≡ true
+        more k l h = grind (arith, common_steps)
+
+        some : (l : ℕ) → nat_lt 0 (suc l) ≡ true
+        some l = grind (arith, common_steps)
+
+        at_ : (b : Bool) → (list_any (is_ran r) is ≡ true → nat_lt (up_to_first (is_ran r) is) (length is) ≡ true) → (b || list_any (is_ran r) is) ≡ true → nat_lt (if b then 0 else up_to_first (is_ran r) is + 1) (suc (length is)) ≡ true
+        at_ true ih k = some (length is)
+        at_ false ih k = more (up_to_first (is_ran r) is) (length is) (ih k)
+
+-- .. and at the end of the line where there is none
+pub event_last : (w : Setting) (n : Reading) (d : ℕ) → find (awaits_there w n d) (live_runs n n.line) ≡ None → event_place_of w n d ≡ length n.line
+event_last w n d none = along n.line none
+  where
+    lives : (a l x p v : Bool) → (not a && (l && not x && p) && not v) ≡ true → l ≡ true
+    lives a l x p v h = grind (arith, common_steps)
+
+    clash : (b : Bool) → b ≡ true → b ≡ false → ⊥
+    clash b h k = grind (arith, common_steps)
+
+    next : (x y : ℕ) → x ≡ y → x + 1 ≡ suc y
+    next x y h = omega (arith, h)
+
+    along : (is : List Item) → find (awaits_there w n d) (live_runs n is) ≡ None → up_to_first (of_run (awaits_there w n d)) is ≡ length is
+    along [] h = refl
+    along (Failed e k ∷ is) h = next _ _ (along is h)
+    along (Back e k ∷ is) h = next _ _ (along is h)
+    along (Ran q ∷ is) h = at_ (along is) (awaits_there w n d q.0) refl (is_live n q.0) refl h
+      where
+        at_ : (find (awaits_there w n d) (live_runs n is) ≡ None → up_to_first (of_run (awaits_there w n d)) is ≡ length is) → (b : Bool) → awaits_there w n d q.0 ≡ b → (l : Bool) → is_live n q.0 ≡ l
+            → find (awaits_there w n d) (cons_option (if l then Some q.0 else None) (live_runs n is)) ≡ None → (if b then 0 else up_to_first (of_run (awaits_there w n d)) is + 1) ≡ suc (length is)
+        at_ ih true e true live h = absurd (none_some (sym (ap (λ b. cond b (Some q.0) (find (awaits_there w n d) (live_runs n is))) e) ∙ h))
+          where
+            none_some : Some q.0 ≡ None → ⊥
+            none_some k = absurd (cc)
+        at_ ih true e false dead h = absurd (clash (is_live n q.0) (lives (is_weak w.mode) (is_live n q.0) (is_doomed n q.0) (pends w n q.0 d) (did n q.0 d) e) dead)
+        at_ ih false e true live h = next _ _ (ih (sym (ap (λ b. cond b (Some q.0) (find (awaits_there w n d) (live_runs n is))) e) ∙ h))
+        at_ ih false e false dead h = next _ _ (ih h)
 
 -- an event has touched its device as it comes
 event_touches : (touched : Item → ℕ → Bool) (x : Item) (e : DeviceNo) → (untouched x).touched ≡ set.insert set.empty e.0 → ((d : ℕ) → touched x d ≡ (e.0 == d)) → TouchesAs touched (untouched x)
