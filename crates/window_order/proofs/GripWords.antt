@@ -1,7 +1,7 @@
 -- What the grip of one device says of the runs.
-use Rattle.history_book.proofs.Snoc.{put_other, put_same}
+use Rattle.history_book.proofs.Snoc.{put_keeps, put_other, put_same}
 use Rattle.history_book.specs.Readings.{put}
-use Rattle.lock_leasing.specs.Configurations.{Grip, Grips, Purpose, grips_command, grips_undo, is_command, is_undo}
+use Rattle.lock_leasing.specs.Configurations.{Grip, Grips, Probes, Purpose, grips_command, grips_undo, is_command, is_undo}
 use Rattle.std.proofs.Common.{ap, arith, refl, sym, ◌∙◌}
 use Rattle.std.proofs.lemmas.Grind.{common_steps}
 use Rattle.std.specs.Prelude.{Bool, None, Option, Some, false, option_map, true, unwrap_or, ℕ, ◌&&◌, ◌==◌, ◌≡◌, ◌≢◌}
@@ -69,4 +69,17 @@ pub grip_out : (g : Grips) (d r q : ℕ) (p : Purpose) → g d ≡ None → q �
 grip_out g d r q p at ne = record {
   command = other_command (put g d (Some (record { maker = r; purpose = p }))) d r q p (put_same g d (Some (record { maker = r; purpose = p }))) ne ∙ sym (home_command g d q at);
   undo = other_undo (put g d (Some (record { maker = r; purpose = p }))) d r q p (put_same g d (Some (record { maker = r; purpose = p }))) ne ∙ sym (home_undo g d q at);
+}
+
+-- a device that goes out for a probe, or comes home from one, is no run's
+pub probe_out_grip : (g : Grips) (d m : ℕ) (v : Option ℕ) → g d ≡ None → (e q : ℕ) → SameGrip g (put g d (Some (record { maker = m; purpose = Probes v }))) e q
+probe_out_grip g d m v at e q = record {
+  command = put_keeps (for_command q) g d (Some (record { maker = m; purpose = Probes v })) (off (m == q) ∙ sym (ap (for_command q) at)) e;
+  undo = put_keeps (for_undo q) g d (Some (record { maker = m; purpose = Probes v })) (off (m == q) ∙ sym (ap (for_undo q) at)) e;
+}
+
+pub probe_home_grip : (g : Grips) (d m : ℕ) (v : Option ℕ) → g d ≡ Some (record { maker = m; purpose = Probes v }) → (e q : ℕ) → SameGrip g (put g d None) e q
+probe_home_grip g d m v at e q = record {
+  command = put_keeps (for_command q) g d None (sym (ap (for_command q) at ∙ off (m == q))) e;
+  undo = put_keeps (for_undo q) g d None (sym (ap (for_undo q) at ∙ off (m == q))) e;
 }

@@ -2,7 +2,7 @@
 use Rattle.command_rules.specs.Items.{is_ran, of_run}
 use Rattle.command_rules.specs.Rosters.{command_at, run_no}
 use Rattle.history_book.proofs.Searches.{some_is}
-use Rattle.history_book.proofs.Snoc.{put_keeps, put_other, put_same}
+use Rattle.history_book.proofs.Snoc.{put_other, put_same}
 use Rattle.history_book.specs.Histories.{answered, entry}
 use Rattle.history_book.specs.Lines.{put_before}
 use Rattle.history_book.specs.Readings.{OfRun, OnDevice, Reading, did, is_doomed, is_live, pends, put, view_by}
@@ -16,7 +16,7 @@ use Rattle.home_types.specs.declared.commands.Command.{Command}
 use Rattle.home_types.specs.declared.items.Item.TheVariants.{Back, Failed, Ran}
 use Rattle.home_types.specs.declared.items.Item.{Item}
 use Rattle.home_types.specs.declared.numbers.DeviceNo.{DeviceNo}
-use Rattle.lock_leasing.specs.Configurations.{Commands, Grip, Grips, Probes, grips_command, is_command}
+use Rattle.lock_leasing.specs.Configurations.{Commands, Grips, Probes, grips_command}
 use Rattle.lock_leasing.specs.Places.{up_to_first}
 use Rattle.lock_leasing.specs.Standings.{item_has_touched}
 use Rattle.lock_leasing.specs.Words.{live_runs}
@@ -31,8 +31,9 @@ use Rattle.std.specs.FinSet as set
 use Rattle.std.specs.List.{cons_option, list_any, position_or_len}
 use Rattle.std.specs.Option.{option_or}
 use Rattle.std.specs.Ordering.{nat_cmp}
-use Rattle.std.specs.Prelude.{Bool, List, None, Option, Some, [], drop, false, find, if◌then◌else◌, is_some, length, nat_lt, not, option_map, position, suc, take, true, unwrap_or, ℕ, ◌&&◌, ◌++◌, ◌+◌, ◌==◌, ◌||◌, ◌∷◌, ◌≡◌, ◌≢◌, ◌≤◌}
+use Rattle.std.specs.Prelude.{Bool, List, None, Option, Some, [], drop, false, find, if◌then◌else◌, is_some, length, nat_lt, not, position, suc, take, true, ℕ, ◌&&◌, ◌++◌, ◌+◌, ◌==◌, ◌||◌, ◌∷◌, ◌≡◌, ◌≢◌, ◌≤◌}
 use Rattle.window_order.proofs.EventPlaces.{awaits_there}
+use Rattle.window_order.proofs.GripWords.{probe_home_grip, probe_out_grip}
 use Rattle.window_order.proofs.ReadFacts.{IsRead}
 use Rattle.window_order.proofs.Steps.{IsOut}
 use Rattle.window_order.proofs.TouchedLines.{marks_answered, marks_same}
@@ -270,22 +271,8 @@ marks_told w n g r k a marks kept = line_touching r d kept also
 
 -- it is no touch that a device goes out for a probe, ..
 pub marks_probe_out : (n : Reading) (g : Grips) (d m : ℕ) (v : Option ℕ) (marks : List Mark) → g d ≡ None → MarksAreKept n g marks → MarksAreKept n (put g d (Some (record { maker = m; purpose = Probes v }))) marks
-marks_probe_out n g d m v marks home kept = marks_same n n g (put g d (Some (record { maker = m; purpose = Probes v }))) marks refl (λ q e. ap (λ b. did n q e || b) (put_keeps (for_command q) g d _ (off (m == q) ∙ sym (ap (for_command q) home)) e)) kept
-  where
-    for_command : ℕ → Option Grip → Bool
-    for_command q o = unwrap_or (option_map (λ p. (p.maker == q) && is_command p.purpose) o) false
-
-    off : (b : Bool) → (b && false) ≡ false
-    off true = refl
-    off false = refl
+marks_probe_out n g d m v marks home kept = marks_same n n g (put g d (Some (record { maker = m; purpose = Probes v }))) marks refl (λ q e. ap (λ b. did n q e || b) (probe_out_grip g d m v home e q).command) kept
 
 -- .. and that it comes home from one
 pub marks_probe_home : (n : Reading) (g : Grips) (d m : ℕ) (v : Option ℕ) (marks : List Mark) → g d ≡ Some (record { maker = m; purpose = Probes v }) → MarksAreKept n g marks → MarksAreKept n (put g d None) marks
-marks_probe_home n g d m v marks out kept = marks_same n n g (put g d None) marks refl (λ q e. ap (λ b. did n q e || b) (put_keeps (for_command q) g d None (sym (ap (for_command q) out ∙ off (m == q))) e)) kept
-  where
-    for_command : ℕ → Option Grip → Bool
-    for_command q o = unwrap_or (option_map (λ p. (p.maker == q) && is_command p.purpose) o) false
-
-    off : (b : Bool) → (b && false) ≡ false
-    off true = refl
-    off false = refl
+marks_probe_home n g d m v marks out kept = marks_same n n g (put g d None) marks refl (λ q e. ap (λ b. did n q e || b) (probe_home_grip g d m v out e q).command) kept

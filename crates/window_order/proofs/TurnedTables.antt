@@ -14,7 +14,7 @@ use Rattle.home_types.specs.declared.items.Item.{Item}
 use Rattle.home_types.specs.declared.numbers.DeviceNo.{DeviceNo}
 use Rattle.lineage_table.specs.Lineages.{LineageState, counted_up}
 use Rattle.lineage_table.specs.declared.accesses.Access.{Access}
-use Rattle.lock_leasing.specs.Configurations.{Commands, Grips, Undoes}
+use Rattle.lock_leasing.specs.Configurations.{Commands, Grips, Probes, Undoes}
 use Rattle.lock_leasing.specs.Words.{committed_write}
 use Rattle.std.proofs.Common.{ap, refl, subst, sym, ◌∙◌}
 use Rattle.std.specs.List.{list_any}
@@ -23,7 +23,9 @@ use Rattle.std.specs.Prelude.{Bool, List, None, Option, Some, [], false, fold, i
 use Rattle.window_order.proofs.EventPlaces.{awaits_there}
 use Rattle.window_order.proofs.GrippedTables.{undid_kept}
 use Rattle.window_order.proofs.ReadFacts.{IsRead}
-use Rattle.window_order.proofs.TableSteps.{answered_each, changed_table}
+use Rattle.window_order.proofs.TableSteps.{answered_each, changed_table, same_table}
+use Rattle.window_order.proofs.TableFrames.{access_gripped, lineage_same, may_gripped, uses_same}
+use Rattle.window_order.proofs.GripWords.{SameGrip, probe_home_grip, probe_out_grip}
 use Rattle.window_order.specs.OrderKept.{OrderIsKept}
 use Rattle.window_order.specs.TableChanges.{ChangesEach, answered_change, turned_change}
 use Rattle.window_order.specs.TableKept.{LineageIsKept, TableIsKept, access_read, accesses_along, commits_write}
@@ -132,3 +134,15 @@ undo_died_table w n g d r v drove old new at changes kept = changed_table w n ne
   where
     next : Reading
     next = entry w (entry w n (Fell (device_no d))) (Undid (run_no r) (device_no d) drove)
+
+-- A probe goes out, and comes home
+
+-- the table stays where the grips say the same of each run
+regripped_table : (w : Setting) (n : Reading) (g h : Grips) (table : List LineageState) → ((d q : ℕ) → SameGrip g h d q) → TableIsKept w n g table → TableIsKept w n h table
+regripped_table w n g h table same kept = same_table w n n g h table (λ d s own. lineage_same w n n g h d s (uses_same w n g h d (λ q may. may_gripped g h d q (n.run q) (same d q).command ∙ may)) own (λ q. access_gripped w g h own.passed d q (n.run q) (same d q))) kept
+
+pub probe_out_table : (w : Setting) (n : Reading) (g : Grips) (d m : ℕ) (v : Option ℕ) (table : List LineageState) → g d ≡ None → TableIsKept w n g table → TableIsKept w n (put g d (Some (record { maker = m; purpose = Probes v }))) table
+probe_out_table w n g d m v table at kept = regripped_table w n g (put g d (Some (record { maker = m; purpose = Probes v }))) table (probe_out_grip g d m v at) kept
+
+pub probe_home_table : (w : Setting) (n : Reading) (g : Grips) (d m : ℕ) (v : Option ℕ) (table : List LineageState) → g d ≡ Some (record { maker = m; purpose = Probes v }) → TableIsKept w n g table → TableIsKept w n (put g d None) table
+probe_home_table w n g d m v table at kept = regripped_table w n g (put g d None) table (probe_home_grip g d m v at) kept
