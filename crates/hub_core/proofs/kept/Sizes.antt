@@ -272,9 +272,9 @@ items_counted k (Ran q ∷ is) none each = at_run (items_counted k is none (λ r
     at_run rest (suc i) same =
         let first = own (suc i) same in
         let more = sum_more (λ j. count_by (is_ran (suc j)) is) (λ j. count_by (is_ran (suc j)) (Ran q ∷ is)) i k
-            (λ j other. let none = counted (suc j) false (differ q.0 i j same other) in omega (arith, none))
-            (let one = counted (suc i) true (equal q.0 (suc i) same) in omega (arith, one))
-            (omega (arith, first.1)) in
+        (λ j other. let none = counted (suc j) false (differ q.0 i j same other) in omega (arith, none))
+        (let one = counted (suc i) true (equal q.0 (suc i) same) in omega (arith, one))
+        (omega (arith, first.1)) in
         omega (arith, rest, more)
 
 -- a line has at most an item for each run
