@@ -1,0 +1,30 @@
+-- The first access to a device of which a test holds.
+use Rattle.home_types.specs.declared.numbers.RunNo.{RunNo}
+use Rattle.lineage_table.specs.Accesses.{before, first_before, has_access}
+use Rattle.lineage_table.specs.declared.accesses.Access.{Access}
+use Rattle.std.proofs.Common.{ap, arith, cond, refl}
+use Rattle.std.proofs.lemmas.Grind.{common_steps}
+use Rattle.std.specs.List.{list_any}
+use Rattle.std.specs.Prelude.{Bool, List, None, Option, Some, [], false, find, is_some, option_map, true, ℕ, ◌||◌, ◌∷◌, ◌≡◌}
+
+all_before : (r : ℕ) (xs : List Access) → has_access r xs ≡ false → before r xs ≡ xs
+all_before r [] none = refl
+all_before r (x ∷ xs) none = grind (arith, common_steps, all_before r xs)
+
+-- before a run that has no access stand all
+pub first_of_all : (test : Access → Bool) (r : ℕ) (xs : List Access) → has_access r xs ≡ false → first_before test r xs ≡ option_map (λ x. x.run) (find test xs)
+first_of_all test r xs none = ap (λ ys. option_map (λ (x : Access). x.run) (find test ys)) (all_before r xs none)
+
+-- one is found where some passes
+pub some_found : (test : Access → Bool) (xs : List Access) → is_some (find test xs) ≡ list_any test xs
+some_found test [] = refl
+some_found test (x ∷ xs) = by_test (test x) (some_found test xs)
+  where
+    by_test : (b : Bool) → is_some (find test xs) ≡ list_any test xs → is_some (cond b (Some x) (find test xs)) ≡ (b || list_any test xs)
+    by_test true rest = refl
+    by_test false rest = rest
+
+-- .. and its run is told
+pub some_run : (found : Option Access) → is_some (option_map {U = RunNo} (λ x. x.run) found) ≡ is_some found
+some_run None = refl
+some_run (Some x) = refl

@@ -1,0 +1,3 @@
+pub mod FirstAccesses
+pub mod ToldByTable
+pub mod WorkedEvents

@@ -1,0 +1,11 @@
+use Rattle.failure_serialization.proofs.FirstAccesses.{first_of_all}
+use Rattle.failure_serialization.proofs.losses.lost_run.Goals as goal
+use Rattle.failure_serialization.specs.Events.{is_lost}
+use Rattle.lineage_table.specs.Accesses.{first_before}
+use Rattle.lineage_table.specs.Lineages.{accesses_at}
+use Rattle.std.proofs.Common.{rules, ◌∙◌, ◌≡◌}
+
+pub returns : goal.returns
+returns c =
+    let found : c.first_before.result ≡ first_before (is_lost c.args.book.now.items) 0 (accesses_at c.args.table.now c.args.d.0) = search rules in
+    found ∙ first_of_all (is_lost c.args.book.now.items) 0 (accesses_at c.args.table.now c.args.d.0) c.requires.runs

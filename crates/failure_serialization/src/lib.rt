@@ -1,0 +1,10 @@
+// Where the failure or the restart of a device stands in the line, and which run a failure loses.
+#![tactic(auto)]
+
+mod events;
+mod losses;
+mod places;
+#[cfg(test)]
+mod tests;
+
+pub use events::{fell, rose};
