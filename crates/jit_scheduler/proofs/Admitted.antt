@@ -1,0 +1,154 @@
+-- What is answered by the first place and the first denial is what just-in-time admission says.
+use Rattle.command_rules.specs.Items.{of_run}
+use Rattle.command_rules.specs.Rosters.{Run, commands_of, device_no, is_on, is_run, run_no, touches}
+use Rattle.history_book.specs.Lines.{split_at}
+use Rattle.history_book.specs.Readings.{Reading, is_live}
+use Rattle.history_book.specs.Settings.{Setting}
+use Rattle.history_book.specs.declared.entries.Kept.{Kept}
+use Rattle.home_types.specs.Limits.{most_devices}
+use Rattle.home_types.specs.declared.commands.Command.{Command}
+use Rattle.home_types.specs.declared.items.Item.{Item}
+use Rattle.jit_scheduler.proofs.Deniers.{denial_is, plain_denial}
+use Rattle.jit_scheduler.specs.Admissions.{Admitting, IsAdmissionOf, IsPlacingOf, IsToBePlaced, IsWithin, MayAdmit, admission, answer_by, placing_of}
+use Rattle.jit_scheduler.specs.Denials.{first_denial}
+use Rattle.jit_scheduler.specs.declared.answers.Admit.TheVariants.{At, Denied, Patience}
+use Rattle.jit_scheduler.specs.declared.answers.Admit.{Admit}
+use Rattle.jit_scheduler.specs.declared.denials.Denial.{Denial as FoundDenial}
+use Rattle.lineage_table.specs.Lineages.{LineageState}
+use Rattle.lock_leasing.proofs.Facts.{facts_of}
+use Rattle.lock_leasing.specs.Configurations.{Grips, read_of}
+use Rattle.lock_leasing.specs.FirstPlaces.{IsFirstPlaceOf}
+use Rattle.lock_leasing.specs.Places.{At as PlacedAt, Denial, DeniedBy, Placing, binds, denial_of, first_place, just_in_time, patience, up_to_first, up_to_last}
+use Rattle.serial_line.specs.Marks.{Mark}
+use Rattle.std.proofs.Common.{ap, arith, refl, subst, sym, ◌∙◌}
+use Rattle.std.proofs.lemmas.Grind.{common_steps}
+use Rattle.std.proofs.lemmas.List.{length-map}
+use Rattle.std.specs.List.{list_any}
+use Rattle.std.specs.Prelude.{Bool, IsTrue, List, None, Option, Some, [], false, if◌then◌else◌, is_some, length, max, nat_le, option_map, slice_get, suc, true, unwrap_or, zero, ℕ, ◌+◌, ◌<◌, ◌==◌, ◌||◌, ◌∷◌, ◌≡◌, ◌≤◌}
+
+-- A run that is to be placed
+
+not_live : (n : Reading) (r came : ℕ) → IsToBePlaced n r came → is_live n r ≡ false
+not_live n r came turn = let unplaced = turn.unplaced in grind (arith, common_steps)
+
+-- it is one of the roster
+pub may_run : (table : List LineageState) (line : List Mark) (history : List Kept) (runs : List Run) (r came : ℕ) → MayAdmit table line history runs r came → IsTrue (is_run runs r)
+may_run table line history runs r came (Admitting s parts turn) = subst (λ xs. IsTrue (is_run xs r)) parts.its_roster known
+  where
+    known : IsTrue (is_run s.setting.runs r)
+    known = let shape = (facts_of s table line history runs parts).shaped r in shape.known (ap is_some turn.arrived)
+
+-- the table has no more devices than a home
+pub may_fit : (table : List LineageState) (line : List Mark) (history : List Kept) (runs : List Run) (r came : ℕ) → MayAdmit table line history runs r came → length table ≤ most_devices
+may_fit table line history runs r came (Admitting s parts turn) = let size = parts.its_table.devices in let few = parts.allowed.few_devices in omega (arith, size, few)
+
+-- .. and has those of the run
+device_below : (d size : ℕ) (cs : List Command) → ((k : ℕ) (c : Command) → slice_get cs k ≡ Some c → c.device.0 < size) → list_any (is_on d) cs ≡ true → d < size
+device_below d size [] homed some = absurd (cc)
+device_below d size (c ∷ cs) homed some = at (c.device.0 == d) refl some (device_below d size cs (λ k e there. homed (suc k) e there))
+  where
+    at : (b : Bool) → (c.device.0 == d) ≡ b → (b || list_any (is_on d) cs) ≡ true → (list_any (is_on d) cs ≡ true → d < size) → d < size
+    at true e some behind = let same : c.device.0 ≡ d = grind (arith, common_steps) in let here : c.device.0 < size = homed zero c refl in subst (λ k. k < size) same here
+    at false e some behind = behind some
+
+pub may_reach : (table : List LineageState) (line : List Mark) (history : List Kept) (runs : List Run) (r came : ℕ) → MayAdmit table line history runs r came → (d : ℕ) → touches runs r d ≡ true → d < length table
+may_reach table line history runs r came (Admitting s parts turn) d on =
+    let size = parts.its_table.devices in
+    let own : touches s.setting.runs r d ≡ true = ap (λ rs. touches rs r d) parts.its_roster ∙ on in
+    let below : d < length s.setting.first = device_below d (length s.setting.first) (commands_of s.setting.runs r) (λ k c there. parts.allowed.homed r k c there) own in
+    omega (arith, size, below)
+
+-- The answer
+
+module _ (table : List LineageState) (line : List Mark) (history : List Kept) (runs : List Run) (r came m place : ℕ) (first : IsFirstPlaceOf table line history runs r place) where
+  abbrev told : Setting → Reading → Grips → Option Denial → Admit
+  told w n g None = At (first_place w n g r)
+  told w n g (Some x) = if nat_le (unwrap_or (n.run r).arrived 0 + patience) m then Patience else Denied (device_no x.device) (run_no x.run)
+
+  pub answer_is : IsAdmissionOf table line history runs r came m (answer_by place (first_denial table line history runs r place) came m)
+  answer_is s parts turn =
+      ap (λ k. answer_by k (first_denial table line history runs r k) came m) (first s parts)
+      ∙ by_own (first_denial table line history runs r (first_place s.setting (read_of s) s.grips r))
+      ∙ ap (told s.setting (read_of s) s.grips) (denial_is s table line history runs r parts (not_live (read_of s) r came turn))
+    where
+      by_own : (o : Option FoundDenial) → answer_by (first_place s.setting (read_of s) s.grips r) o came m ≡ told s.setting (read_of s) s.grips (option_map (λ x. plain_denial x) o)
+      by_own None = refl
+      by_own (Some x) = ap (λ p. if nat_le (unwrap_or p 0 + patience) m then Patience else Denied x.device x.run) (sym turn.arrived)
+
+-- what the scheduler says then
+placing_is : (w : Setting) (n : Reading) (g : Grips) (r m : ℕ) → placing_of n.line (admission w n g r m) ≡ just_in_time w n g r m
+placing_is w n g r m = at (denial_of w n g r)
+  where
+    said : Option Denial → Admit
+    said None = At (first_place w n g r)
+    said (Some x) = if nat_le (unwrap_or (n.run r).arrived 0 + patience) m then Patience else Denied (device_no x.device) (run_no x.run)
+
+    placed : Option Denial → Placing
+    placed None = PlacedAt (split_at n.line (first_place w n g r))
+    placed (Some x) = if nat_le (unwrap_or (n.run r).arrived 0 + patience) m then PlacedAt (split_at n.line (length n.line)) else DeniedBy x.device x.run
+
+    at : (o : Option Denial) → placing_of n.line (said o) ≡ placed o
+    at None = refl
+    at (Some x) = waited (nat_le (unwrap_or (n.run r).arrived 0 + patience) m)
+      where
+        waited : (b : Bool) → placing_of n.line (if b then Patience else Denied (device_no x.device) (run_no x.run)) ≡ (if b then PlacedAt (split_at n.line (length n.line)) else DeniedBy x.device x.run)
+        waited true = refl
+        waited false = refl
+
+-- the place is one of the line
+
+last_within : (test : Item → Bool) (is : List Item) → up_to_last test is ≤ length is
+last_within test [] = omega arith
+last_within test (i ∷ is) = at (list_any test (i ∷ is)) (last_within test is)
+  where
+    at : (b : Bool) → up_to_last test is ≤ length is → (if b then up_to_last test is + 1 else 0) ≤ length (i ∷ is)
+    at true behind = omega (arith, behind)
+    at false behind = omega arith
+
+first_within : (test : Item → Bool) (is : List Item) → up_to_first test is ≤ length is
+first_within test [] = omega arith
+first_within test (i ∷ is) = at (test i) (first_within test is)
+  where
+    at : (b : Bool) → up_to_first test is ≤ length is → (if b then 0 else up_to_first test is + 1) ≤ length (i ∷ is)
+    at true behind = omega arith
+    at false behind = omega (arith, behind)
+
+place_within : (w : Setting) (n : Reading) (g : Grips) (r : ℕ) → first_place w n g r ≤ length n.line
+place_within w n g r =
+    let last = last_within (binds w n g r) n.line in
+    let live = first_within (of_run (is_live n)) n.line in
+    both (up_to_last (binds w n g r) n.line) (up_to_first (of_run (is_live n)) n.line) (length n.line) last live
+  where
+    both : (a b c : ℕ) → a ≤ c → b ≤ c → max a b ≤ c
+    both a b c e h = omega (arith, e, h)
+
+-- The clauses
+
+pub exact_is : (table : List LineageState) (line : List Mark) (history : List Kept) (runs : List Run) (r came m place : ℕ) (answer : Admit) → IsFirstPlaceOf table line history runs r place
+    → answer ≡ answer_by place (first_denial table line history runs r place) came m → IsAdmissionOf table line history runs r came m answer
+exact_is table line history runs r came m place answer first same s parts turn = same ∙ answer_is table line history runs r came m place first s parts turn
+
+pub placing_told : (table : List LineageState) (line : List Mark) (history : List Kept) (runs : List Run) (r came m place : ℕ) (answer : Admit) → IsFirstPlaceOf table line history runs r place
+    → answer ≡ answer_by place (first_denial table line history runs r place) came m → IsPlacingOf table line history runs r came m answer
+placing_told table line history runs r came m place answer first same s parts turn =
+    ap (placing_of (read_of s).line) (exact_is table line history runs r came m place answer first same s parts turn) ∙ placing_is s.setting (read_of s) s.grips r m
+
+pub within_told : (table : List LineageState) (line : List Mark) (history : List Kept) (runs : List Run) (r came m place : ℕ) (answer : Admit) → MayAdmit table line history runs r came → IsFirstPlaceOf table line history runs r place
+    → answer ≡ answer_by place (first_denial table line history runs r place) came m → IsWithin line answer
+within_told table line history runs r came m place answer (Admitting s parts turn) first same =
+    subst (IsWithin line) (sym same) (at (first_denial table line history runs r place))
+  where
+    inside : place ≤ length line
+    inside =
+        let own : place ≡ first_place s.setting (read_of s) s.grips r = first s parts in
+        let below : first_place s.setting (read_of s) s.grips r ≤ length (read_of s).line = place_within s.setting (read_of s) s.grips r in
+        let size : length line ≡ length (read_of s).line = sym (length-map line (λ (k : Mark). k.item)) ∙ ap length parts.its_line.items in
+        omega (arith, own, below, size)
+
+    at : (o : Option FoundDenial) → IsWithin line (answer_by place o came m)
+    at None = inside
+    at (Some x) = waited (nat_le (came + patience) m)
+      where
+        waited : (b : Bool) → IsWithin line (if b then Patience else Denied x.device x.run)
+        waited true = tt
+        waited false = tt
