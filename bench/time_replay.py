@@ -28,7 +28,8 @@ MODELS = ["gsv", "psv", "ev"]
 CALLS = {
     "whole": r"hub_main::run\b",
     "day": r"hub_commands::stills::replay\b",
-    "windows": r"run_replay::windows::replay_window\b",
+    # the compiler may have put the replay of a window into its caller: then its picks are what is left of it
+    "windows": r"run_replay::(windows::replay_window|players::Player::pick)\b",
 }
 
 
