@@ -1,4 +1,4 @@
--- How a device is counted that is out: up for a command and an undo and where it is asked, down where it is restored.
+-- How a device is counted that is out: up for a command, by a run that does not see it down, and for an undo and where it is asked, and down where it is restored.
 use Rattle.command_rules.specs.Rosters.{touches}
 use Rattle.device_order.proofs.Effects.{held_end}
 use Rattle.device_order.proofs.Parts.{Cut, cut as use_cut}
@@ -6,9 +6,8 @@ use Rattle.device_order.specs.Invariant.{DeviceFits}
 use Rattle.device_order.specs.LineEntries.{entries, usage}
 use Rattle.device_order.specs.LineWords.{CutAt}
 use Rattle.device_order.specs.Records.{walk_start}
-use Rattle.device_order.specs.Usages.{has_grip as usage_has_grip, is_command as holds_command, is_free}
-use Rattle.device_order.specs.Walks.{WalkHolds, after_usage, is_home, walk_end}
-use Rattle.device_order.specs.Windows.{device_of}
+use Rattle.device_order.specs.Usages.{has_grip as usage_has_grip, is_command as holds_command, is_down, is_free}
+use Rattle.device_order.specs.Walks.{GripFits, WalkHolds, after_usage, is_home, walk_end}
 use Rattle.device_order.specs.declared.records.Grip.TheVariants.{Free, Reads, Undoes as HeldToUndo, Writes}
 use Rattle.device_order.specs.declared.records.Grip.{Grip as HeldGrip}
 use Rattle.device_order.specs.declared.records.OrderEntry.TheVariants.{Used}
@@ -17,18 +16,18 @@ use Rattle.device_order.specs.declared.records.Probe.TheVariants.{Asks, Restores
 use Rattle.device_order.specs.declared.records.Probe.{Probe}
 use Rattle.device_order.specs.declared.records.Usage.{Usage}
 use Rattle.device_order.specs.declared.walks.WalkState.{WalkState}
-use Rattle.history_book.specs.Readings.{Reading, has_written, is_doomed, is_live}
+use Rattle.history_book.specs.Readings.{Reading, has_written, is_doomed, is_live, sees_down, view_of}
 use Rattle.history_book.specs.Settings.{Setting, is_device}
 use Rattle.home_types.specs.HomeStates.{stand_at}
 use Rattle.lock_leasing.specs.Configurations.{Commands, Grips, Probes, Undoes}
-use Rattle.std.proofs.Common.{ap, arith, refl, subst, ◌∙◌}
+use Rattle.std.proofs.Common.{ap, arith, refl, subst, sym, ◌∙◌}
 use Rattle.std.proofs.lemmas.Grind.{common_steps}
-use Rattle.std.specs.Prelude.{Bool, List, None, Some, false, is_some, not, true, ℕ, ◌&&◌, ◌++◌, ◌∷◌, ◌≡◌}
+use Rattle.std.specs.Prelude.{Bool, List, None, Option, Some, false, is_some, not, option_map, true, unwrap_or, ℕ, ◌&&◌, ◌++◌, ◌∷◌, ◌≡◌}
 use Rattle.window_order.proofs.Firsts.{below_home, device_order_at}
 use Rattle.window_order.proofs.GripWords.{own_command}
 use Rattle.window_order.proofs.Grips.{held_own}
 use Rattle.window_order.proofs.PromisedWords.{command_held, written_touches}
-use Rattle.window_order.proofs.ReadFacts.{IsRead}
+use Rattle.window_order.proofs.ReadFacts.{IsRead, view_from}
 use Rattle.window_order.proofs.Runs.{cut_live}
 use Rattle.window_order.proofs.StandingValues.{ActsOn, acts_on}
 use Rattle.window_order.proofs.Steps.{out_is}
@@ -47,9 +46,18 @@ restores_down e up held p v h x = grind (arith, common_steps)
 held_out : (s : WalkState) (u : Usage) → usage_has_grip u ≡ true → is_home (after_usage s u).out ≡ false
 held_out s u h = grind (arith, common_steps)
 
+-- what a run of the line does on the device fits what stands before it
+use_there : (w : Setting) (n : Reading) (g : Grips) (held : ℕ → ℕ) (d r : ℕ) (at : CutAt r n.line) → OrderIsKept w n g held → is_device w d ≡ true → touches w.runs r d ≡ true
+    → Cut (walk_start (stand_at w.first d).up (stand_at w.first d).value) (entries w.kinds (window_of w n g held).states d at.front) (usage w.kinds (run_state w n g r) d) (entries w.kinds (window_of w n g held).states d at.back)
+use_there w n g held d r at kept device used =
+    use_cut (walk_start (stand_at w.first d).up (stand_at w.first d).value) (entries w.kinds (window_of w n g held).states d at.front) (usage w.kinds (run_state w n g r) d) (entries w.kinds (window_of w n g held).states d at.back)
+    (subst (λ l. WalkHolds (walk_start (stand_at w.first d).up (stand_at w.first d).value) l) (device_order_at w n g held d r at used) (kept.window.devices d (below_home w d device)).walk)
+
 -- a run that stands in the line holds the grip
 held_up : (w : Setting) (n : Reading) (g : Grips) (held : ℕ → ℕ) (d r : ℕ) → CutAt r n.line → OrderIsKept w n g held → is_device w d ≡ true → touches w.runs r d ≡ true → is_free (held_by w r (g d)) ≡ false → n.up d ≡ true
-held_up w n g held d r at kept device used holds = out_up (walk_end z (a ++ Used u ∷ b)) (n.up d) (held d) (probe_of (g d)) (ap (λ (s : WalkState). is_home s.out) k.ends ∙ held_end (after_usage (walk_end z a) u) b (held_out (walk_end z a) u (ap not holds))) (subst (λ l. DeviceFits (walk_end z l) (n.up d) (held d) (probe_of (g d))) order (kept.window.devices d (below_home w d device)).ends)
+held_up w n g held d r at kept device used holds =
+    out_up (walk_end z (a ++ Used u ∷ b)) (n.up d) (held d) (probe_of (g d)) (ap (λ (s : WalkState). is_home s.out) (use_there w n g held d r at kept device used).ends ∙ held_end (after_usage (walk_end z a) u) b (held_out (walk_end z a) u (ap not holds)))
+    (subst (λ l. DeviceFits (walk_end z l) (n.up d) (held d) (probe_of (g d))) (device_order_at w n g held d r at used) (kept.window.devices d (below_home w d device)).ends)
   where
     z : WalkState
     z = walk_start (stand_at w.first d).up (stand_at w.first d).value
@@ -63,24 +71,39 @@ held_up w n g held d r at kept device used holds = out_up (walk_end z (a ++ Used
     b : List OrderEntry
     b = entries w.kinds (window_of w n g held).states d at.back
 
-    order : (device_of w.kinds (window_of w n g held) d).order ≡ a ++ Used u ∷ b
-    order = device_order_at w n g held d r at used
-
-    k : Cut z a u b
-    k = use_cut z a u b (subst (λ l. WalkHolds z l) order (kept.window.devices d (below_home w d device)).walk)
+touches_is : (w : Setting) (n : Reading) (r d : ℕ) → ActsOn w n r d → touches w.runs r d ≡ true
+touches_is w n r d a = a.uses
 
 -- it is counted up while a command of it is out, ..
 pub called_up : (w : Setting) (n : Reading) (g : Grips) (held : ℕ → ℕ) (d r k : ℕ) → IsRead w n → g d ≡ Some (record { maker = r; purpose = Commands k }) → OrderIsKept w n g held → n.up d ≡ true
-called_up w n g held d r k read at kept = held_up w n g held d r (cut_live w n r read (out_is w n g d r k kept.grips at).live) kept (kept.grips.homed d (ap is_some at)) (touches_is (acts_on w n g held r d kept (own_command g d r (Commands k) at))) (unfree (held_by w r (g d)) (command_held w g r d ∙ own_command g d r (Commands k) at))
+called_up w n g held d r k read at kept = held_up w n g held d r (cut_live w n r read (out_is w n g d r k kept.grips at).live) kept (kept.grips.homed d (ap is_some at)) (touches_is w n r d (acts_on w n g held r d kept (own_command g d r (Commands k) at))) (unfree (held_by w r (g d)) (command_held w g r d ∙ own_command g d r (Commands k) at))
   where
-    touches_is : ActsOn w n r d → touches w.runs r d ≡ true
-    touches_is a = a.uses
-
     unfree : (x : HeldGrip) → holds_command x ≡ true → is_free x ≡ false
     unfree Free h = absurd (cc)
     unfree Reads h = refl
     unfree Writes h = refl
     unfree (HeldToUndo v) h = refl
+
+-- .. by a run that does not see it down, ..
+pub called_unseen : (w : Setting) (n : Reading) (g : Grips) (held : ℕ → ℕ) (d r k : ℕ) → IsRead w n → g d ≡ Some (record { maker = r; purpose = Commands k }) → OrderIsKept w n g held → sees_down n r d ≡ false
+called_unseen w n g held d r k read at kept =
+    unseen (view_of n r d)
+    (sym (ap is_down ((read.summarized r).view d))
+    ∙ by_grip (held_by w r (g d)) (use_there w n g held d r (cut_live w n r read (out_is w n g d r k kept.grips at).live) kept (kept.grips.homed d (ap is_some at)) (touches_is w n r d (acts_on w n g held r d kept (own_command g d r (Commands k) at)))).fits.grip (command_held w g r d ∙ own_command g d r (Commands k) at))
+  where
+    u : Usage
+    u = usage w.kinds (run_state w n g r) d
+
+    by_grip : (x : HeldGrip) → GripFits x u → holds_command x ≡ true → is_down u.view ≡ false
+    by_grip Free fits h = absurd (cc)
+    by_grip Reads fits h = fits.2
+    by_grip Writes fits h = fits.2
+    by_grip (HeldToUndo v) fits h = absurd (cc)
+
+    unseen : (v : Option Bool) → is_down (option_map view_from v) ≡ false → unwrap_or (option_map not v) false ≡ false
+    unseen None h = refl
+    unseen (Some true) h = refl
+    unseen (Some false) h = absurd (cc)
 
 -- .. and an undo
 pub undo_up : (w : Setting) (n : Reading) (g : Grips) (held : ℕ → ℕ) (d r v : ℕ) → IsRead w n → g d ≡ Some (record { maker = r; purpose = Undoes v }) → OrderIsKept w n g held → n.up d ≡ true
