@@ -18,4 +18,5 @@ pub mod Scheduling
 pub mod NotedAnswers
 pub mod PassedRuns
 pub mod HubOrders
+pub mod SeenDevices
 pub mod ReturnedOrders

@@ -3,8 +3,12 @@ pub mod LineOrder
 pub mod WrittenValues
 pub mod HistoryKept
 pub mod Kept
+pub mod EventsKept
+pub mod ReturnsKept
+pub mod ProbesKept
 pub mod HubReads
 pub mod Sizes
+pub mod EndedOnce
 pub mod OrderSteps
 pub mod Finds
 pub mod Hands

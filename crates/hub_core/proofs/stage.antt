@@ -1,5 +1,5 @@
 -- Windows of this stage, over configurations.
-pub mod StageFacts
+pub mod CalmHistories
 pub mod StageChoices
 pub mod Progress
 pub mod Closings

@@ -1,12 +1,14 @@
--- What closing a window reads from the devices that are home again.
+-- What closing a window reads from the lineage table, and from the devices that are home again.
 use Rattle.home_types.specs.declared.worlds.Stand.{Stand}
 use Rattle.hub_core.specs.OpenHubs.{device_at}
 use Rattle.hub_core.specs.declared.known.DeviceProgress.{DeviceProgress}
-use Rattle.std.specs.Prelude.{List, Some, length, slice_get, slice_index_or, true, ℕ, ◌+◌, ◌<◌, ◌≡◌, ◌≤◌}
+use Rattle.lineage_table.specs.Accesses.{standing_value}
+use Rattle.lineage_table.specs.Lineages.{LineageState}
+use Rattle.std.specs.Prelude.{List, Some, length, slice_get, slice_index_or, ℕ, ◌+◌, ◌<◌, ◌≡◌, ◌≤◌}
 
--- in this stage a device stands where it is known to, and is up
-abbrev pub stage_stand : DeviceProgress → Stand
-stage_stand known = record { value = known.held; up = true }
+-- how the lineage of a device leaves it: at the value that stands, up or down as it is counted
+abbrev pub stand_left : LineageState → Stand
+stand_left s = record { value = standing_value s.committed s.accesses; up = s.up }
 
 -- each device is known, and its count is not below that of the opening
 pub record NoneFell {D : Type 0} (count : D → ℕ) (count_then : DeviceProgress → ℕ) (known : List DeviceProgress) (devices : List D) : Type 0 where

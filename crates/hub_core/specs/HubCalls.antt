@@ -13,7 +13,7 @@ use Rattle.history_book.specs.declared.entries.End.TheVariants.{Committed}
 use Rattle.history_book.specs.declared.entries.Made.{Made}
 use Rattle.history_book.specs.declared.records.WindowRecord.{WindowRecord}
 use Rattle.home_types.specs.HomeStates.{stand_at}
-use Rattle.home_types.specs.Limits.{most_runs}
+use Rattle.home_types.specs.Limits.{most_devices, most_runs}
 use Rattle.home_types.specs.declared.modes.Scheduler.TheVariants.{Fcfs}
 use Rattle.hub_core.specs.AccountedCalls.{told_calls, told_falls}
 use Rattle.hub_core.specs.CleanReads.{ReadsAreClean}
@@ -32,7 +32,7 @@ use Rattle.lock_leasing.specs.Order.{OrderStands}
 use Rattle.lock_leasing.specs.Places.{GripsFit, PlacesAreScheduled}
 use Rattle.lock_leasing.specs.Words.{standing_value}
 use Rattle.command_rules.specs.Rosters.{command_at, is_run}
-use Rattle.std.specs.Prelude.{Bool, Err, List, None, Ok, Option, Result, Some, false, is_some, length, not, slice_get, slice_index_or, slice_set, true, ℕ, ◌*◌, ◌+◌, ◌-◌, ◌<◌, ◌≡◌, ◌≢◌, ◌≤◌, ◌||◌}
+use Rattle.std.specs.Prelude.{Bool, Err, List, None, Ok, Option, Result, Some, false, is_some, length, not, slice_get, slice_index_or, slice_set, true, ℕ, ◌+◌, ◌-◌, ◌<◌, ◌≡◌, ◌≢◌, ◌≤◌, ◌||◌}
 
 -- the hub is in the same window, with the same counts of its devices at the opening
 pub record SameWindow {D : Type 0} (s t : OpenHub D) : Type 0 where
@@ -166,6 +166,7 @@ pub record CallsAreTold {D : Type 0} (turns probes faults : D → ℕ) (s : Open
 pub record HubStands {D : Type 0} (stands turns probes faults : D → ℕ) (s : OpenHub D) : Type 0 where
   pub size : length s.places ≡ length s.setting.first
   pub few_runs : length s.setting.runs ≤ most_runs
+  pub few_devices : length s.setting.first ≤ most_devices
   pub well_formed : IsWellFormed s.setting (entries_of s.history)
   pub grips : GripsFit s.setting (read_of (configuration_of s)) (configuration_of s).grips
   pub order : is_weak s.setting.mode ≡ false → OrderStands s.setting (read_of (configuration_of s)) (configuration_of s).grips

@@ -8,7 +8,6 @@ use Rattle.history_book.specs.declared.entries.Entry.{Entry}
 use Rattle.history_book.specs.declared.entries.Entry.TheVariants.{Arrived, Did, Doomed, Ended, Fell, Placed, Rose, Undid}
 use Rattle.home_types.specs.HomeStates.{stand_at}
 use Rattle.home_types.specs.Kinds.{has_value, kind_at}
-use Rattle.home_types.specs.declared.commands.Answer.TheVariants.{Down, Fine, Found}
 use Rattle.home_types.specs.declared.items.Item.{Item}
 use Rattle.home_types.specs.declared.items.Item.TheVariants.{Back, Failed, Ran}
 use Rattle.home_types.specs.declared.kinds.Kind.{Kind}
@@ -23,7 +22,7 @@ use Rattle.lock_leasing.specs.Places.{PlacesAreScheduled}
 use Rattle.lock_leasing.specs.Waits.{strict_wait}
 use Rattle.lock_leasing.specs.Words.{has_touched, stamp_of}
 use Rattle.std.specs.List.{list_all}
-use Rattle.std.specs.Prelude.{Bool, IsTrue, List, None, Some, [], false, length, nat_lt, not, true, ℕ, ◌&&◌, ◌<◌, ◌||◌, ◌∷◌, ◌≡◌, ◌≤◌}
+use Rattle.std.specs.Prelude.{Bool, IsTrue, List, None, Some, [], false, if◌then◌else◌, length, nat_lt, not, option_map, true, unwrap_or, ℕ, ◌&&◌, ◌+◌, ◌<◌, ◌||◌, ◌∷◌, ◌≡◌, ◌≤◌}
 use Rattle.window_order.specs.OrderKept.{OrderIsKept}
 
 -- the item is a run that was placed after this number of entries
@@ -43,22 +42,20 @@ placed_in_order n (Back d k ∷ is) = placed_in_order n is
 abbrev pub ActsInTurn : Setting → Reading → Grips → Type 0
 ActsInTurn w n g = (r d : ℕ) → IsTrue (is_live n r && (has_touched n g r d || has_grip g r d)) → strict_wait w n r ≡ None
 
--- in this stage no device fails: a history tells of arrivals, placings, commands that worked, dooms by a value that a must `check` found, undos that drove, and ends
-abbrev pub stage_entry : Entry → Bool
-stage_entry (Arrived r m) = true
-stage_entry (Placed r at m) = true
-stage_entry (Did r c Fine) = true
-stage_entry (Did r c (Found x)) = true
-stage_entry (Did r c Down) = false
-stage_entry (Undid r d drove) = drove
-stage_entry (Fell d) = false
-stage_entry (Rose d) = false
-stage_entry (Doomed r (MustDown c)) = false
-stage_entry (Doomed r (Refuted c x)) = true
-stage_entry (Doomed r (Lost d)) = false
-stage_entry (Doomed r (Revoked lender d deadline m)) = false
-stage_entry (Doomed r (DownAtEnd d)) = false
-stage_entry (Ended r e) = true
+-- no run is doomed for a lease that it kept too long
+abbrev pub keeps_leases : Entry → Bool
+keeps_leases (Arrived r m) = true
+keeps_leases (Placed r at m) = true
+keeps_leases (Did r c a) = true
+keeps_leases (Undid r d drove) = true
+keeps_leases (Fell d) = true
+keeps_leases (Rose d) = true
+keeps_leases (Doomed r (MustDown c)) = true
+keeps_leases (Doomed r (Refuted c x)) = true
+keeps_leases (Doomed r (Lost d)) = true
+keeps_leases (Doomed r (Revoked lender d deadline m)) = false
+keeps_leases (Doomed r (DownAtEnd d)) = true
+keeps_leases (Ended r e) = true
 
 -- the test holds of each device that is out and its grip
 abbrev pub EachOut : Grips → (ℕ → Grip → Bool) → Type 0
@@ -70,19 +67,24 @@ is_of_run (Commands k) = true
 is_of_run (Undoes v) = true
 is_of_run (Probes v) = false
 
--- in this stage a device is out for a run, and for no probe
-abbrev pub StageGrips : Grips → Type 0
-StageGrips g = EachOut g (λ d grip. is_of_run grip.purpose)
+-- a probe of the device is out
+abbrev pub is_probed : Grips → ℕ → Bool
+is_probed g d = unwrap_or (option_map (λ grip. not (is_of_run grip.purpose)) (g d)) false
+
+-- how often the device came back, its probe that is out, and those that are left
+abbrev pub probes_of : Configuration → ℕ → ℕ
+probes_of s d = (read_of s).rose d + (if is_probed s.grips d then 1 else 0) + s.probes d
 
 -- a run that has a command out has had no answer since it was doomed
 abbrev pub NoneAnsweredDoomed : Reading → Grips → Type 0
 NoneAnsweredDoomed n g = EachOut g (λ d grip. not (is_command grip.purpose && (n.run grip.maker).answered_doomed))
 
--- an undo drives a value of the device's kind
+-- an undo drives a value of the device's kind, and a probe restores one
 abbrev pub undo_fits : Kind → Purpose → Bool
 undo_fits kind (Commands k) = true
 undo_fits kind (Undoes v) = has_value kind v
-undo_fits kind (Probes v) = true
+undo_fits kind (Probes None) = true
+undo_fits kind (Probes (Some v)) = has_value kind v
 
 abbrev pub UndosFit : Setting → Grips → Type 0
 UndosFit w g = EachOut g (λ d grip. undo_fits (kind_at w.kinds d) grip.purpose)
@@ -91,11 +93,11 @@ UndosFit w g = EachOut g (λ d grip. undo_fits (kind_at w.kinds d) grip.purpose)
 pub record HistoryIsKept (s : Configuration) : Type 0 where
   pub well_formed : IsWellFormed s.setting (entries_of s.history)
   pub moment : (read_of s).moment ≤ s.moment
-  pub stage : IsTrue (list_all stage_entry (entries_of s.history))
   pub clean : ReadsAreClean s.setting (entries_of s.history)
   pub justified : IsJustified s.setting (entries_of s.history)
   pub places : PlacesAreScheduled s.setting (entries_of s.history)
   pub isolated : IsTrue (is_strict s.setting.mode) → IsStrict s.setting (entries_of s.history)
+  pub unrevoked : s.setting.mode.scheduler ≡ Fcfs → IsTrue (list_all keeps_leases (entries_of s.history))
   pub in_order : s.setting.mode.scheduler ≡ Fcfs → IsTrue (placed_in_order (read_of s) (read_of s).line)
   pub in_turn : ActsInTurn s.setting (read_of s) s.grips
   pub first : NoneAnsweredDoomed (read_of s) s.grips
@@ -105,9 +107,9 @@ pub record ConfigurationIsKept (s : Configuration) (rounds opened : ℕ) (held :
   pub opens : MayOpen s.setting rounds opened
   pub stage : StageAllows s.setting rounds
   pub kinds : length s.setting.kinds ≡ length s.setting.first
-  pub probes : (d : ℕ) → s.probes d ≤ rounds
+  -- each restart answers a probe, and no more probes of a device are taken than there are rounds
+  pub probes : (d : ℕ) → probes_of s d ≤ rounds
   pub values : (d : ℕ) → d < length s.setting.first → IsTrue (has_value (kind_at s.setting.kinds d) (stand_at s.setting.first d).value)
-  pub runs : StageGrips s.grips
   pub undos : UndosFit s.setting s.grips
   pub history : HistoryIsKept s
   pub order : OrderIsKept s.setting (read_of s) s.grips held

@@ -9,7 +9,7 @@ use Rattle.home_types.specs.declared.commands.View.{View}
 use Rattle.lineage_table.specs.declared.accesses.Status.TheVariants.{Acquired, Scheduled}
 use Rattle.lock_leasing.specs.Configurations.{Grips}
 use Rattle.serial_line.specs.Marks.{Marked}
-use Rattle.std.specs.Prelude.{Bool, List, Option, Some, false, if◌then◌else◌, length, option_map, true, unwrap_or, ℕ, ◌*◌, ◌+◌, ◌≡◌, ◌≤◌}
+use Rattle.std.specs.Prelude.{Bool, List, Option, Some, false, if◌then◌else◌, length, option_map, true, unwrap_or, ℕ, ◌+◌, ◌≡◌, ◌≤◌}
 use Rattle.window_order.specs.MarksKept.{MarksAreKept}
 use Rattle.window_order.specs.TableChanges.{IsWaiting, acquired_if, noted, passed_if}
 use Rattle.window_order.specs.TableKept.{TableIsKept}

@@ -11,7 +11,7 @@ use Rattle.hub_core.specs.declared.known.RunProgress.{RunProgress}
 use Rattle.hub_core.specs.declared.purposes.Purpose.TheVariants.{Command}
 use Rattle.lineage_table.specs.Lineages.{IsOpened, LineageState}
 use Rattle.serial_line.specs.Marks.{Marked}
-use Rattle.std.specs.Prelude.{List, None, Some, [], length, replicate, slice_get, ℕ, ◌<◌, ◌≡◌, ◌≤◌}
+use Rattle.std.specs.Prelude.{List, None, Some, [], length, replicate, slice_get, ℕ, ◌<◌, ◌≡◌}
 
 -- nothing has happened to a run
 abbrev pub no_progress : RunProgress

@@ -25,6 +25,10 @@ read_in s = reading s.setting (entries_of s.history)
 abbrev pub with_entry : HistoryState → ℕ → Entry → HistoryState
 with_entry s maker entry = record s { history = s.history ++ kept_by maker (entry ∷ []); spare = s.spare - 1 }
 
+-- .. or the entries of a step
+abbrev pub with_more : HistoryState → ℕ → List Entry → HistoryState
+with_more s maker entries = record s { history = s.history ++ kept_by maker entries; spare = s.spare - length entries }
+
 -- the run is doomed, where there is a cause
 abbrev pub with_doom : HistoryState → ℕ → Option Cause → HistoryState
 with_doom s r None = s

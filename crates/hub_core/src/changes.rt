@@ -91,6 +91,13 @@ fn noted(answer: Answer, held: Value, is_last: bool) -> Noted
     }
 }
 
+/// For what a run is doomed whose command with the number `k`, a must or not, is answered `Down`.
+fn must_down(k: u32, must: bool) -> Option<Cause>
+    ensures { result ≡ (if must then Some (Cause.MustDown k) else None) }
+{
+    if must { Some(Cause::MustDown(k)) } else { None }
+}
+
 impl<D: Steady> Hub<D> {
     /// The last moment is this one, or the one before where that is later.
     pub(crate) fn reach(&mut self, moment: u64)
@@ -119,6 +126,48 @@ impl<D: Steady> Hub<D> {
         self.moment = self.moment.max(moment);
         self.order.join(self.history.roster(), r, at, self.moment);
         one_made(self.history.place(r, at, self.moment))
+    }
+
+    /// The run's write on the device, which is counted down, is dropped: it is undone with no call.
+    pub(crate) fn drop_undo(&mut self, r: RunNo, moment: u64, d: DeviceNo) -> Made
+        requires { choice_of (configuration_of self.old) r.0 moment ≡ told_choice r.0 (max self.old.moment moment) (read_of (configuration_of self.old)) (Chosen.Drops d) }
+        ensures answer { Answers self.old r.0 moment (Moves (entries_made result)) self.new }
+        ensures window { SameWindow self.old self.new }
+    {
+        self.moment = self.moment.max(moment);
+        self.order.undone(d, r);
+        one_made(self.history.undo(r, d, false))
+    }
+
+    /// The run's command with the number `k` is answered `Down` with no call of its device, and where it is a must the
+    /// run is doomed.
+    pub(crate) fn answer_down(&mut self, r: RunNo, moment: u64, k: u32, must: bool) -> Made
+        requires { choice_of (configuration_of self.old) r.0 moment ≡ told_choice r.0 (max self.old.moment moment) (read_of (configuration_of self.old)) (Chosen.AnswersDown k must) }
+        ensures answer { Answers self.old r.0 moment (Moves (entries_made result)) self.new }
+        ensures window { SameWindow self.old self.new }
+    {
+        let d = self.history.command(r, k).device;
+        self.moment = self.moment.max(moment);
+        let entry = self.history.answer(r, k, Answer::Down);
+        let is_last = self.history.is_done(r, k, d);
+        self.order.note_down(d, r, is_last);
+        let doomed = doom_for(&mut self.history, &mut self.order, r, must_down(k, must));
+        Made {
+            a: Some(entry),
+            b: doomed,
+            c: None,
+        }
+    }
+
+    /// The run, which has all its commands answered, is doomed, since it needs the device up, which is counted down.
+    pub(crate) fn fail_at_end(&mut self, r: RunNo, moment: u64, d: DeviceNo) -> Made
+        requires { choice_of (configuration_of self.old) r.0 moment ≡ told_choice r.0 (max self.old.moment moment) (read_of (configuration_of self.old)) (Chosen.FailsAtEnd d) }
+        ensures answer { Answers self.old r.0 moment (Moves (entries_made result)) self.new }
+        ensures window { SameWindow self.old self.new }
+    {
+        self.moment = self.moment.max(moment);
+        self.order.doom(r, None);
+        one_made(self.history.doom(r, Cause::DownAtEnd(d)))
     }
 
     /// The run commits.
@@ -225,7 +274,7 @@ impl<D: Steady> Hub<D> {
         let slip = grip.slip();
         take_home(&mut self.gate, &mut self.devices, &mut self.hands, grip);
         self.moment = self.moment.max(moment);
-        one_made(self.history.undo(RunNo(slip.maker), slip.device))
+        one_made(self.history.undo(RunNo(slip.maker), slip.device, true))
     }
 }
 

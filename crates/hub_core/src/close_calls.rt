@@ -1,5 +1,5 @@
 ghost use Rattle.std.specs.Prelude.{◌≡◌, ◌≤◌, ◌+◌, IfErr, IfOk, None, Some, length, map, ℕ};
-ghost use Rattle.hub_core.specs.ClosedHomes.{HaveRisen, NoneFell, stage_stand};
+ghost use Rattle.hub_core.specs.ClosedHomes.{HaveRisen, NoneFell, stand_left};
 ghost use Rattle.hub_core.specs.HubCalls.{IsClosed};
 ghost use Rattle.hub_core.specs.HubsKept.{IsEmptyFor};
 ghost use Rattle.hub_core.specs.OpenHubs.{configuration_of};
@@ -13,7 +13,8 @@ use crate::read_histories::ReadHistory;
 use crate::refusals::NotQuiet;
 use device_states::{Device, Steady};
 use history_book::WindowRecord;
-use home_types::{Item, List, Stand, World};
+use home_types::{DeviceNo, Item, List, Stand, World};
+use lineage_table::Table;
 use serial_line::Line;
 
 impl<D: Steady> Hub<D> {
@@ -70,7 +71,7 @@ impl<D: Steady> Hub<D> {
             history: book.into_list(),
             order: items_in(items, &order.line),
             last: World {
-                devices: stands_in(last, &known),
+                devices: stands_in(last, &order.table),
             },
             turns: turns_in(turns, &known, &devices),
             faults: faults_in(faults, &known, &devices),
@@ -78,7 +79,7 @@ impl<D: Steady> Hub<D> {
         let home = Home {
             kinds,
             world: World {
-                devices: stands_in(world, &known),
+                devices: stands_in(world, &order.table),
             },
             devices,
             opened: opened + 1,
@@ -100,16 +101,17 @@ fn items_in(empty: List<Item>, line: &Line) -> List<Item>
     items
 }
 
-/// Where the devices stand, all of them up, in a list that has room for them.
-fn stands_in(empty: List<Stand>, known: &List<DeviceProgress>) -> List<Stand>
-    requires room { IsEmptyFor empty (length known.now.items) }
-    ensures { result.items ≡ map stage_stand known.now.items }
+/// How the lineages leave their devices, in a list that has room for them.
+fn stands_in(empty: List<Stand>, table: &Table) -> List<Stand>
+    requires room { IsEmptyFor empty (length table.now) }
+    ensures { result.items ≡ map stand_left table.now }
 {
     let mut stands = empty;
-    'known: for device in known.as_slice() {
+    'devices: for at in 0..table.devices() {
+        let device = DeviceNo(at as u16);
         let pushed = stands.push(Stand {
-            value: device.held,
-            up: true,
+            value: table.stand(device),
+            up: table.is_up(device),
         });
         pushed.unwrap();
     }

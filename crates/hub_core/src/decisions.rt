@@ -1,15 +1,18 @@
-ghost use Rattle.std.specs.Prelude.{◌≡◌, ◌<◌, ◌≤◌, IsTrue, None, find, length, max, option_map, true, ℕ};
+ghost use Rattle.std.specs.Prelude.{◌≡◌, ◌<◌, ◌≤◌, IsTrue, None, false, find, length, max, option_map, true, unwrap_or, ℕ};
 ghost use Rattle.command_rules.specs.Rosters.{command_at, commands_of, is_run};
 ghost use Rattle.history_book.specs.Readings.{is_live};
-ghost use Rattle.history_book.specs.Settings.{is_device};
-ghost use Rattle.hub_core.specs.Decisions.{told_choice};
+ghost use Rattle.hub_core.specs.Decisions.{told_choice, unbarred_command};
 ghost use Rattle.hub_core.specs.HubSteps.{command_task, task_of};
 ghost use Rattle.hub_core.specs.OpenHubs.{configuration_of, purpose_of};
 ghost use Rattle.hub_core.specs.Stage.{stage_command, stage_doomed};
-ghost use Rattle.hub_core.specs.Steps.{choice_of};
+ghost use Rattle.hub_core.specs.Steps.{choice_of, decide_answered};
+ghost use Rattle.lineage_table.specs.Accesses.{access_of};
+ghost use Rattle.lineage_table.specs.Lineages.{accesses_at};
 ghost use Rattle.lock_leasing.specs.Configurations.{Commands, is_out, read_of};
+ghost use Rattle.lock_leasing.specs.Holders.{sees_it_down};
 ghost use Rattle.lock_leasing.specs.Standings.{IsAtCommand};
 ghost use Rattle.lock_leasing.specs.Waits.{behind_wait, grip_wait, strict_wait};
+ghost use Rattle.visibility_models.specs.Models.{IsUnderWay};
 
 use crate::hubs::Hub;
 use crate::purposes::Purpose;
@@ -19,9 +22,10 @@ use command_rules::{driven, reads};
 use device_gate::Task;
 use device_states::Device;
 use history_book::{Cause, End};
-use home_types::{Command, DeviceNo, RunNo};
+use home_types::{Command, DeviceNo, RunNo, View};
+use lineage_table::Table;
 use lock_leasing::{Touch, test_touch};
-use visibility_models::may_go;
+use visibility_models::{down_at_end, may_go};
 
 /// What the step of a run is to do.
 #[derive(Clone, Copy, Debug, PartialEq, Eq)]
@@ -36,6 +40,12 @@ pub(crate) enum Chosen {
     Commits,
     /// It is doomed for this cause, has nothing left to undo, and ends.
     Aborts(Cause),
+    /// It is doomed, and its write on the device, which is counted down, is dropped.
+    Drops(DeviceNo),
+    /// Its next command, of this number, is answered `Down` with no call of its device, and dooms it where it is a must.
+    AnswersDown(u32, bool),
+    /// It is doomed, since all its commands are answered and the device, which it needs up, is counted down.
+    FailsAtEnd(DeviceNo),
     Waits(Why),
     HandsOut(DeviceNo, Purpose),
 }
@@ -43,7 +53,8 @@ pub(crate) enum Chosen {
 impl<D: Device> Hub<D> {
     /// What the step of the run `r` is to do, by the cases of a step in order.
     ///
-    /// In this stage no run follows another, no lease is overdue and every device is up: the cases for these are left out.
+    /// In this stage no run follows another, each is placed at the end of the line, and no lease is overdue: the cases
+    /// for these are left out.
     pub(crate) fn decide(&self, r: RunNo, moment: u64) -> Chosen
         ensures { told_choice r.0 (max self.now.moment moment) (read_of (configuration_of self.now)) result ≡ choice_of (configuration_of self.now) r.0 moment }
     {
@@ -68,14 +79,14 @@ impl<D: Device> Hub<D> {
         }
         match self.history.next_command(r) {
             Some(command) => self.decide_command(r, progress.answered, command),
-            None => Chosen::Commits,
+            None => self.decide_answered(r),
         }
     }
 
-    /// What `r` is to do, which is doomed for this cause: it undoes its effective writes, by ascending device, and then ends.
+    /// What `r` is to do, which is doomed for this cause: it undoes its effective writes, by ascending device, and then
+    /// ends. A write on a device that is counted down is dropped.
     fn decide_doomed(&self, r: RunNo, cause: Cause) -> Chosen
         requires live { is_live (read_of (configuration_of self.now)) r.0 ≡ true }
-        requires up { (d : ℕ) → is_device self.now.setting d ≡ true → (read_of (configuration_of self.now)).up d ≡ true }
         ensures { (m : ℕ) → told_choice r.0 m (read_of (configuration_of self.now)) result ≡ stage_doomed self.now.setting (read_of (configuration_of self.now)) (configuration_of self.now).grips r.0 cause }
     {
         let standing = self.standing();
@@ -87,9 +98,27 @@ impl<D: Device> Hub<D> {
                     Chosen::HandsOut(d, Purpose::Undo(value))
                 }
             }
-            // In this stage every device is counted up.
-            Undo::Drop(_) => unreachable!(),
+            Undo::Drop(d) => {
+                if self.is_out(d) {
+                    Chosen::Waits(Why::Busy(d))
+                } else {
+                    Chosen::Drops(d)
+                }
+            }
             Undo::Finished => Chosen::Aborts(cause),
+        }
+    }
+
+    /// What `r` is to do, which has all its commands answered: it commits, where the model finds no device down that it
+    /// needs up.
+    fn decide_answered(&self, r: RunNo) -> Chosen
+        requires turn { IsUnderWay (read_of (configuration_of self.now)) r.0 }
+        ensures { (m : ℕ) → told_choice r.0 m (read_of (configuration_of self.now)) result ≡ decide_answered self.now.setting (read_of (configuration_of self.now)) (configuration_of self.now).grips r.0 }
+    {
+        let standing = self.standing();
+        match down_at_end(self.history.model(), &standing, r) {
+            Some(d) => Chosen::FailsAtEnd(d),
+            None => Chosen::Commits,
         }
     }
 
@@ -108,10 +137,30 @@ impl<D: Device> Hub<D> {
         if let Some(x) = may_go(self.history.model(), &standing, r) {
             return Chosen::Waits(Why::Strict(x));
         }
-        if self.is_out(command.device) {
-            return Chosen::Waits(Why::Busy(command.device));
+        self.decide_unbarred(r, k, command)
+    }
+
+    /// What the next command of `r`, with the number `k`, is to do, where no run bars it.
+    ///
+    /// A run that sees the device down is told so, whether it is home or not. Else the run waits until it is home, and
+    /// is told that it is down where it is counted so.
+    fn decide_unbarred(&self, r: RunNo, k: u32, command: Command) -> Chosen
+        requires turn { IsAtCommand (configuration_of self.now) r.0 k }
+        requires command { command_at self.now.setting.runs r.0 k ≡ command }
+        ensures { (m : ℕ) → told_choice r.0 m (read_of (configuration_of self.now)) result ≡ unbarred_command self.now.setting (read_of (configuration_of self.now)) (configuration_of self.now).grips r.0 k command }
+    {
+        let d = command.device;
+        if sees_down(&self.order.table, r, d) {
+            return Chosen::AnswersDown(k, command.must);
         }
-        Chosen::HandsOut(command.device, Purpose::Command(k))
+        if self.is_out(d) {
+            return Chosen::Waits(Why::Busy(d));
+        }
+        if self.order.table.is_up(d) {
+            Chosen::HandsOut(d, Purpose::Command(k))
+        } else {
+            Chosen::AnswersDown(k, command.must)
+        }
     }
 
     /// The device whose grip the run holds.
@@ -154,5 +203,16 @@ impl<D: Device> Hub<D> {
         let kind = self.history.kind(command.device);
         let register = self.history.progress(r).register;
         Task::Drive(driven(kind, command.job, register))
+    }
+}
+
+/// Whether the run sees the device down, as its access tells.
+fn sees_down(table: &Table, r: RunNo, d: DeviceNo) -> bool
+    requires { d.0 < length table.now }
+    ensures { result ≡ unwrap_or (option_map sees_it_down (access_of r.0 (accesses_at table.now d.0))) false }
+{
+    match table.access(d, r) {
+        Some(access) => access.view == Some(View::Down),
+        None => false,
     }
 }

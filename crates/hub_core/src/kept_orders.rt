@@ -102,6 +102,37 @@ impl KeptOrder {
         }
     }
 
+    /// The run's write on the device is undone.
+    pub(crate) fn undone(&mut self, d: DeviceNo, r: RunNo)
+        requires { d.0 < length self.old.table }
+        ensures line { self.new.line ≡ self.old.line }
+        ensures table { self.new.table ≡ with_lineage self.old.table d.0 (undone r.0) }
+    {
+        self.table.undone(d, r);
+    }
+
+    /// The run notes that it was told of the device that it is down, with no call of it: it has touched it so.
+    pub(crate) fn note_down(&mut self, d: DeviceNo, r: RunNo, is_last: bool)
+        requires run { stands (Ran r) self.old.line.marks ≡ true }
+        requires device { d.0 < most_devices }
+        requires homed { d.0 < length self.old.table }
+        requires turn { MayNote r.0 (lineage_at self.old.table d.0) }
+        ensures marks { self.new.line.marks ≡ touching r.0 d.0 self.old.line.marks }
+        ensures spare { self.new.line.spare ≡ self.old.line.spare }
+        ensures table { self.new.table ≡ with_lineage self.old.table d.0 (noted_first r.0 (is_first r.0 (lineage_at self.old.table d.0)) View.Down None is_last) }
+    {
+        self.line.mark(r, d);
+        self.note(
+            d,
+            r,
+            Noted {
+                view: View::Down,
+                wrote: None,
+                is_last,
+            },
+        );
+    }
+
     /// The run notes an answer on the device. Where it is its first one there, the scheduled accesses before its own are
     /// passed.
     pub(crate) fn note(&mut self, d: DeviceNo, r: RunNo, told: Noted)

@@ -293,14 +293,14 @@ impl ReadHistory {
         entry
     }
 
-    /// The run's write on the device is undone, which a drive did. The progress of a run does not say so.
-    pub(crate) fn undo(&mut self, r: RunNo, d: DeviceNo) -> Entry
+    /// The run's write on the device is undone: a drive did it, or it is dropped. The progress of a run does not say so.
+    pub(crate) fn undo(&mut self, r: RunNo, d: DeviceNo, drove: bool) -> Entry
         requires run { IsTrue (is_run self.old.setting.runs r.0) }
         requires room { 0 < self.old.spare }
-        ensures entry { result ≡ Entry.Undid r d true }
+        ensures entry { result ≡ Entry.Undid r d drove }
         ensures new { self.new ≡ with_entry self.old r.0 result }
     {
-        let entry = Entry::Undid(r, d, true);
+        let entry = Entry::Undid(r, d, drove);
         self.book.push(Kept { maker: r.0, entry });
         entry
     }

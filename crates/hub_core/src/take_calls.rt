@@ -33,6 +33,9 @@ impl<D: Steady> Hub<D> {
             }
             Chosen::Arrives => Turn::Moved(self.arrive(r, moment)),
             Chosen::Joins => Turn::Moved(self.place(r, moment)),
+            Chosen::Drops(d) => Turn::Moved(self.drop_undo(r, moment, d)),
+            Chosen::AnswersDown(k, must) => Turn::Moved(self.answer_down(r, moment, k, must)),
+            Chosen::FailsAtEnd(d) => Turn::Moved(self.fail_at_end(r, moment, d)),
             Chosen::Commits => Turn::Over(End::Committed, self.commit(r, moment)),
             Chosen::Aborts(cause) => {
                 Turn::Over(End::Aborted(cause), self.abort(r, moment, cause))

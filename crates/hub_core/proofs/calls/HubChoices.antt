@@ -1,30 +1,33 @@
 -- What the code finds in each case of a step is the choice of the step.
 use Rattle.abort_rollback.specs.declared.undos.Undo.TheVariants.{Drive, Drop, Finished}
 use Rattle.abort_rollback.specs.declared.undos.Undo.{Undo}
-use Rattle.command_rules.specs.Rosters.{Run, command_at, commands_of, device_no, is_run, run_no, touches}
+use Rattle.command_rules.specs.Rosters.{Run, command_at, commands_of, device_no, is_run, run_no}
 use Rattle.device_gate.specs.Places.{slip_of}
 use Rattle.device_gate.specs.declared.gates.Place.TheVariants.{Home, Out}
 use Rattle.device_gate.specs.declared.gates.Place.{Place}
 use Rattle.device_gate.specs.declared.slips.Slip.{Slip}
-use Rattle.history_book.proofs.Searches.{each_found, own_devices}
-use Rattle.history_book.specs.Readings.{PlacedAt, Reading, is_live, next_command, next_of}
-use Rattle.history_book.specs.Settings.{Setting, devices_of, is_device}
+use Rattle.history_book.specs.Histories.{entries_of}
+use Rattle.history_book.specs.Readings.{PlacedAt, Reading, is_doomed, is_live, next_command, next_of, sees_down}
+use Rattle.history_book.specs.Settings.{Setting, is_device, is_weak}
+use Rattle.history_book.specs.declared.entries.Cause.TheVariants.{DownAtEnd, MustDown}
 use Rattle.history_book.specs.declared.entries.Cause.{Cause}
 use Rattle.history_book.specs.declared.entries.End.TheVariants.{Committed}
 use Rattle.history_book.specs.declared.entries.End.{End}
-use Rattle.history_book.specs.declared.entries.Entry.TheVariants.{Arrived, Ended, Placed}
+use Rattle.history_book.specs.declared.entries.Entry.TheVariants.{Arrived, Did, Doomed, Ended, Placed, Undid}
 use Rattle.history_book.specs.declared.entries.Kept.{Kept}
+use Rattle.home_types.specs.declared.commands.Answer.TheVariants.{Down}
 use Rattle.home_types.specs.declared.commands.Command.{Command}
 use Rattle.home_types.specs.declared.modes.Visibility.{Visibility}
 use Rattle.home_types.specs.declared.numbers.DeviceNo.{DeviceNo}
 use Rattle.home_types.specs.declared.numbers.RunNo.{RunNo}
 use Rattle.hub_core.proofs.calls.NextUndos.{undo_of}
 use Rattle.hub_core.proofs.stage.StageChoices.{StageSteps, stage_choice_is, stage_holds, stage_steps}
+use Rattle.hub_core.specs.Decisions.{unbarred_command}
 use Rattle.hub_core.specs.HubKept.{ConfigurationIsKept}
 use Rattle.hub_core.specs.HubsKept.{HubIsKept}
 use Rattle.hub_core.specs.OpenHubs.{OpenHub, configuration_of, grip_in, held_in, progress_of}
 use Rattle.hub_core.specs.Stage.{stage_choice, stage_command, stage_doomed}
-use Rattle.hub_core.specs.Steps.{Absent, Choice, HandsOut, Moves, Over, Waits, aborts, choice_of}
+use Rattle.hub_core.specs.Steps.{Absent, Choice, HandsOut, Moves, Over, Waits, aborts, choice_of, decide_answered, down_entries}
 use Rattle.hub_core.specs.declared.known.RunProgress.{RunProgress}
 use Rattle.hub_core.specs.declared.purposes.Purpose.{Purpose as KeptPurpose}
 use Rattle.hub_core.specs.declared.waits.Why.TheVariants.{Behind, Busy, Dirty, Strict}
@@ -32,14 +35,17 @@ use Rattle.lineage_table.specs.Lineages.{LineageState}
 use Rattle.lock_leasing.specs.Configurations.{Commands, Configuration, Grips, Undoes, is_out, read_of}
 use Rattle.lock_leasing.specs.Standings.{IsAtCommand, IsStandingOf}
 use Rattle.lock_leasing.specs.Touches.{IsTouchOf, touch_of}
-use Rattle.lock_leasing.specs.Waits.{behind_wait, dirty_wait, grip_wait, strict_wait}
-use Rattle.lock_leasing.specs.Words.{has_effect, next_undo_of, value_without}
+use Rattle.lock_leasing.specs.Waits.{behind_wait, dirty_wait, down_at_end, grip_wait, strict_wait}
+use Rattle.lock_leasing.specs.Words.{next_undo_of, value_without}
 use Rattle.lock_leasing.specs.declared.touches.Touch.TheVariants.{Behind as TouchBehind, Dirty as TouchDirty, Free}
 use Rattle.lock_leasing.specs.declared.touches.Touch.{Touch}
 use Rattle.serial_line.specs.Marks.{Mark}
-use Rattle.std.proofs.Common.{ap, refl, subst, sym, ◌∙◌}
-use Rattle.std.specs.Prelude.{Bool, List, None, Option, Some, [], false, if◌then◌else◌, is_none, is_some, length, max, option_map, true, unwrap_or, ℕ, ◌&&◌, ◌<◌, ◌==◌, ◌∷◌, ◌≡◌}
-use Rattle.visibility_models.specs.Models.{IsStrictWaitOf, under}
+use Rattle.std.proofs.Common.{ap, arith, refl, subst, sym, ◌∙◌}
+use Rattle.std.proofs.lemmas.Grind.{common_steps}
+use Rattle.std.specs.Prelude.{Bool, List, None, Option, Some, [], false, if◌then◌else◌, is_none, is_some, length, max, not, option_map, true, unwrap_or, ℕ, ◌&&◌, ◌<◌, ◌==◌, ◌||◌, ◌∷◌, ◌≡◌}
+use Rattle.visibility_models.specs.Models.{IsDownAtEndOf, IsStrictWaitOf, IsUnderWay, under}
+use Rattle.window_order.proofs.AnsweredDowns.{IsToldDown}
+use Rattle.window_order.proofs.ReadFacts.{read_facts}
 use Rattle.window_order.proofs.Steps.{next_is}
 
 -- The grip and the slip of a place
@@ -118,11 +124,21 @@ not_strict w n r none = at_ (strict_wait w n r) refl
     at_ None e = e
     at_ (Some y) e = absurd (let both : None ≡ Some (run_no y) = none ∙ ap (option_map run_no) e in cc)
 
-pub command_busy : (w : Setting) (n : Reading) (g : Grips) (r k : ℕ) (c : Command) → Free ≡ touch_of w n g r c → None ≡ option_map run_no (strict_wait w n r) → is_out g c.device.0 ≡ true → Waits (Busy c.device) ≡ stage_command w n g r k c
-command_busy w n g r k c touch none out = let free = free_is w n g r c touch in sym (rw (free.behind, free.dirty, not_strict w n r none, out) refl)
+-- .. so nothing bars it but its device
+pub command_unbarred : (w : Setting) (n : Reading) (g : Grips) (r k : ℕ) (c : Command) (x : Choice) → Free ≡ touch_of w n g r c → None ≡ option_map run_no (strict_wait w n r) → x ≡ unbarred_command w n g r k c → x ≡ stage_command w n g r k c
+command_unbarred w n g r k c x touch none is = let free = free_is w n g r c touch in is ∙ sym (rw (free.behind, free.dirty, not_strict w n r none) refl)
 
-pub command_goes : (w : Setting) (n : Reading) (g : Grips) (r k : ℕ) (c : Command) → Free ≡ touch_of w n g r c → None ≡ option_map run_no (strict_wait w n r) → is_out g c.device.0 ≡ false → HandsOut c.device.0 (Commands k) ≡ stage_command w n g r k c
-command_goes w n g r k c touch none home = let free = free_is w n g r c touch in sym (rw (free.behind, free.dirty, not_strict w n r none, home) refl)
+pub unbarred_seen : (w : Setting) (n : Reading) (g : Grips) (r k : ℕ) (c : Command) → is_weak w.mode ≡ false → sees_down n r c.device.0 ≡ true → Moves (down_entries r k c) ≡ unbarred_command w n g r k c
+unbarred_seen w n g r k c strong seen = sym (rw (strong, seen) refl)
+
+pub unbarred_busy : (w : Setting) (n : Reading) (g : Grips) (r k : ℕ) (c : Command) → is_weak w.mode ≡ false → sees_down n r c.device.0 ≡ false → is_out g c.device.0 ≡ true → Waits (Busy c.device) ≡ unbarred_command w n g r k c
+unbarred_busy w n g r k c strong unseen out = sym (rw (strong, unseen, out) refl)
+
+pub unbarred_down : (w : Setting) (n : Reading) (g : Grips) (r k : ℕ) (c : Command) → is_weak w.mode ≡ false → sees_down n r c.device.0 ≡ false → is_out g c.device.0 ≡ false → n.up c.device.0 ≡ false → Moves (down_entries r k c) ≡ unbarred_command w n g r k c
+unbarred_down w n g r k c strong unseen home down = sym (rw (strong, unseen, home, down) refl)
+
+pub unbarred_goes : (w : Setting) (n : Reading) (g : Grips) (r k : ℕ) (c : Command) → is_weak w.mode ≡ false → sees_down n r c.device.0 ≡ false → is_out g c.device.0 ≡ false → n.up c.device.0 ≡ true → HandsOut c.device.0 (Commands k) ≡ unbarred_command w n g r k c
+unbarred_goes w n g r k c strong unseen home up = sym (rw (strong, unseen, home, up) refl)
 
 -- what was told of the hub's own parts
 
@@ -134,35 +150,88 @@ pub strict_said : (s : Configuration) (table : List LineageState) (line : List M
     → run ≡ option_map run_no (strict_wait s.setting (read_of s) r)
 strict_said s table line history runs r model run parts same told = told s parts ∙ ap (λ m. option_map run_no (strict_wait (under m s.setting) (read_of s) r)) same
 
+pub down_said : (s : Configuration) (table : List LineageState) (line : List Mark) (history : List Kept) (runs : List Run) (r : ℕ) (model : Visibility) (device : Option DeviceNo) → IsStandingOf s table line history runs → model ≡ s.setting.mode.model → IsDownAtEndOf model table line history runs r device
+    → device ≡ option_map device_no (down_at_end s.setting (read_of s) s.grips r)
+down_said s table line history runs r model device parts same told = told s parts ∙ ap (λ m. option_map device_no (down_at_end (under m s.setting) (read_of s) s.grips r)) same
+
+-- The end of a run with all its commands answered
+
+pub answered_fails : (w : Setting) (n : Reading) (g : Grips) (r : ℕ) (d : DeviceNo) → Some d ≡ option_map device_no (down_at_end w n g r) → Moves (Doomed (run_no r) (DownAtEnd d) ∷ []) ≡ decide_answered w n g r
+answered_fails w n g r d found = at (down_at_end w n g r) found
+  where
+    at : (o : Option ℕ) → Some d ≡ option_map device_no o → Moves (Doomed (run_no r) (DownAtEnd d) ∷ []) ≡ unwrap_or (option_map (λ e. Moves (Doomed (run_no r) (DownAtEnd (device_no e)) ∷ [])) o) (Over Committed (Ended (run_no r) Committed ∷ []))
+    at None f = absurd (cc)
+    at (Some e) f = ap (λ o. unwrap_or (option_map (λ x. Moves (Doomed (run_no r) (DownAtEnd x) ∷ [])) o) Absent) f
+
+pub answered_commits : (w : Setting) (n : Reading) (g : Grips) (r : ℕ) → None ≡ option_map device_no (down_at_end w n g r) → Over Committed (Ended (run_no r) Committed ∷ []) ≡ decide_answered w n g r
+answered_commits w n g r none = at (down_at_end w n g r) none
+  where
+    at : (o : Option ℕ) → None ≡ option_map device_no o → Over Committed (Ended (run_no r) Committed ∷ []) ≡ unwrap_or (option_map (λ e. Moves (Doomed (run_no r) (DownAtEnd (device_no e)) ∷ [])) o) (Over Committed (Ended (run_no r) Committed ∷ []))
+    at None f = refl
+    at (Some e) f = absurd (cc)
+
 -- The cases of a doomed run
 
 -- what the lineage table tells, of a run in a configuration with this next device
 abbrev undo_by : Reading → (ℕ → ℕ) → Option ℕ → Undo
 undo_by n without o = unwrap_or (option_map (λ d. if n.up d then Drive (device_no d) (without d) else Drop (device_no d)) o) Finished
 
--- the device is driven
-drive_of : (n : Reading) (without : ℕ → ℕ) (o : Option ℕ) (d : DeviceNo) (v : ℕ) → Drive d v ≡ undo_by n without o → (o ≡ Some d.0) × (v ≡ without d.0)
-drive_of n without None d v told = absurd (cc)
-drive_of n without (Some e) d v told = at (n.up e) told
+-- the device is driven ..
+pub record IsDriven (w : Setting) (n : Reading) (g : Grips) (r d v : ℕ) : Type 0 where
+  pub next : next_undo_of w n g r ≡ Some d
+  pub up : n.up d ≡ true
+  pub value : v ≡ value_without w n g r d
+
+pub driven_is : (w : Setting) (n : Reading) (g : Grips) (r : ℕ) (d : DeviceNo) (v : ℕ) → Drive d v ≡ undo_of w n g r → IsDriven w n g r d.0 v
+driven_is w n g r d v told = by_next (next_undo_of w n g r) refl told
   where
-    same_device : Drive d v ≡ Drive (device_no e) (without e) → e ≡ d.0
-    same_device t = sym (ap (λ (x : DeviceNo). x.0) (first_of t))
+    same_device : (e : ℕ) → Drive d v ≡ Drive (device_no e) (value_without w n g r e) → e ≡ d.0
+    same_device e t = sym (ap (λ (x : DeviceNo). x.0) (first_of t))
       where
-        first_of : Drive d v ≡ Drive (device_no e) (without e) → d ≡ device_no e
+        first_of : Drive d v ≡ Drive (device_no e) (value_without w n g r e) → d ≡ device_no e
         first_of f = cc
 
-    same_value : Drive d v ≡ Drive (device_no e) (without e) → v ≡ without e
-    same_value t = cc
+    same_value : (e : ℕ) → Drive d v ≡ Drive (device_no e) (value_without w n g r e) → v ≡ value_without w n g r e
+    same_value e t = cc
 
-    at : (b : Bool) → Drive d v ≡ (if b then Drive (device_no e) (without e) else Drop (device_no e)) → (Some e ≡ Some d.0) × (v ≡ without d.0)
-    at true t = (ap (λ x. Some x) (same_device t), same_value t ∙ ap without (same_device t))
-    at false t = absurd (cc)
+    at : (e : ℕ) → next_undo_of w n g r ≡ Some e → (b : Bool) → n.up e ≡ b → Drive d v ≡ (if b then Drive (device_no e) (value_without w n g r e) else Drop (device_no e)) → IsDriven w n g r d.0 v
+    at e next true up t = let same = same_device e t in record { next = next ∙ ap (λ x. Some x) same; up = sym (ap n.up same) ∙ up; value = same_value e t ∙ ap (value_without w n g r) same }
+    at e next false up t = absurd (cc)
 
-pub doomed_busy : (w : Setting) (n : Reading) (g : Grips) (r : ℕ) (cause : Cause) (d : DeviceNo) (v : ℕ) → Drive d v ≡ undo_of w n g r → is_out g d.0 ≡ true → Waits (Busy d) ≡ stage_doomed w n g r cause
-doomed_busy w n g r cause d v told out = let next = drive_of n (value_without w n g r) (next_undo_of w n g r) d v told in sym (rw (next.0, out) refl)
+    by_next : (o : Option ℕ) → next_undo_of w n g r ≡ o → Drive d v ≡ undo_by n (value_without w n g r) o → IsDriven w n g r d.0 v
+    by_next None next t = absurd (cc)
+    by_next (Some e) next t = at e next (n.up e) refl t
 
-pub doomed_goes : (w : Setting) (n : Reading) (g : Grips) (r : ℕ) (cause : Cause) (d : DeviceNo) (v : ℕ) → Drive d v ≡ undo_of w n g r → is_out g d.0 ≡ false → HandsOut d.0 (Undoes v) ≡ stage_doomed w n g r cause
-doomed_goes w n g r cause d v told home = let next = drive_of n (value_without w n g r) (next_undo_of w n g r) d v told in ap (λ x. HandsOut d.0 (Undoes x)) next.1 ∙ sym (rw (next.0, home) refl)
+-- .. or is counted down, and the write there is dropped
+pub record IsDropped (w : Setting) (n : Reading) (g : Grips) (r d : ℕ) : Type 0 where
+  pub next : next_undo_of w n g r ≡ Some d
+  pub down : n.up d ≡ false
+
+pub dropped_is : (w : Setting) (n : Reading) (g : Grips) (r : ℕ) (d : DeviceNo) → Drop d ≡ undo_of w n g r → IsDropped w n g r d.0
+dropped_is w n g r d told = by_next (next_undo_of w n g r) refl told
+  where
+    same_device : (e : ℕ) → Drop d ≡ Drop (device_no e) → e ≡ d.0
+    same_device e t = sym (ap (λ (x : DeviceNo). x.0) (only_of t))
+      where
+        only_of : Drop d ≡ Drop (device_no e) → d ≡ device_no e
+        only_of f = cc
+
+    at : (e : ℕ) → next_undo_of w n g r ≡ Some e → (b : Bool) → n.up e ≡ b → Drop d ≡ (if b then Drive (device_no e) (value_without w n g r e) else Drop (device_no e)) → IsDropped w n g r d.0
+    at e next true up t = absurd (cc)
+    at e next false down t = let same = same_device e t in record { next = next ∙ ap (λ x. Some x) same; down = sym (ap n.up same) ∙ down }
+
+    by_next : (o : Option ℕ) → next_undo_of w n g r ≡ o → Drop d ≡ undo_by n (value_without w n g r) o → IsDropped w n g r d.0
+    by_next None next t = absurd (cc)
+    by_next (Some e) next t = at e next (n.up e) refl t
+
+pub doomed_busy : (w : Setting) (n : Reading) (g : Grips) (r : ℕ) (cause : Cause) (d : DeviceNo) → next_undo_of w n g r ≡ Some d.0 → is_out g d.0 ≡ true → Waits (Busy d) ≡ stage_doomed w n g r cause
+doomed_busy w n g r cause d next out = sym (rw (next, out) refl)
+
+pub doomed_goes : (w : Setting) (n : Reading) (g : Grips) (r : ℕ) (cause : Cause) (d : DeviceNo) (v : ℕ) → IsDriven w n g r d.0 v → is_out g d.0 ≡ false → HandsOut d.0 (Undoes v) ≡ stage_doomed w n g r cause
+doomed_goes w n g r cause d v driven home = ap (λ x. HandsOut d.0 (Undoes x)) driven.value ∙ sym (rw (driven.next, home, driven.up) refl)
+
+pub doomed_drops : (w : Setting) (n : Reading) (g : Grips) (r : ℕ) (cause : Cause) (d : DeviceNo) → IsDropped w n g r d.0 → is_out g d.0 ≡ false → Moves (Undid (run_no r) d false ∷ []) ≡ stage_doomed w n g r cause
+doomed_drops w n g r cause d dropped home = sym (rw (dropped.next, home, dropped.down) refl)
 
 pub doomed_ends : (w : Setting) (n : Reading) (g : Grips) (r : ℕ) (cause : Cause) → Finished ≡ undo_of w n g r → aborts r cause ≡ stage_doomed w n g r cause
 doomed_ends w n g r cause told = sym (rw (none (next_undo_of w n g r) told) refl)
@@ -174,16 +243,6 @@ doomed_ends w n g r cause told = sym (rw (none (next_undo_of w n g r) told) refl
     none : (o : Option ℕ) → Finished ≡ undo_by n (value_without w n g r) o → o ≡ None
     none None t = refl
     none (Some e) t = absurd (either (n.up e) e t)
-
--- no write is dropped where each device is counted up
-pub never_dropped : (w : Setting) (n : Reading) (g : Grips) (r : ℕ) (d : DeviceNo) → ((e : ℕ) → is_device w e ≡ true → n.up e ≡ true) → Drop d ≡ undo_of w n g r → ⊥
-never_dropped w n g r d up told = at (next_undo_of w n g r) refl told
-  where
-    at : (o : Option ℕ) → next_undo_of w n g r ≡ o → Drop d ≡ undo_by n (value_without w n g r) o → ⊥
-    at None e t = absurd (cc)
-    at (Some x) e t =
-        let device : is_device w x ≡ true = (each_found (λ k. (is_device w k ≡ true) × (touches w.runs r k ≡ true)) (has_effect n g r) (devices_of w r) x (own_devices w r) e).0.0 in
-        absurd (let driven : Drop d ≡ Drive (device_no x) (value_without w n g r x) = t ∙ ap (λ b. if b then Drive (device_no x) (value_without w n g r x) else Drop (device_no x)) (up x device) in cc)
 
 -- The cases of a run
 
@@ -203,9 +262,9 @@ pub case_joins : (w : Setting) (n : Reading) (g : Grips) (r m : ℕ) → is_run 
     → Moves (Placed (run_no r) (length n.line) m ∷ []) ≡ stage_choice w n g r m
 case_joins w n g r m run going free there outside = sym (rw (run, going, ← free, there, outside) refl)
 
-pub case_commits : (w : Setting) (n : Reading) (g : Grips) (r m : ℕ) → is_run w.runs r ≡ true → (n.run r).ended ≡ None → None ≡ grip_wait w g r → is_none (n.run r).arrived ≡ false → is_none (n.run r).placed ≡ false
-    → (n.run r).doomed ≡ None → None ≡ next_command w n r → Over Committed (Ended (run_no r) Committed ∷ []) ≡ stage_choice w n g r m
-case_commits w n g r m run going free there placed sound none = sym (rw (run, going, ← free, there, placed, sound, ← none) refl)
+pub case_answered : (w : Setting) (n : Reading) (g : Grips) (r m : ℕ) (x : Choice) → is_run w.runs r ≡ true → (n.run r).ended ≡ None → None ≡ grip_wait w g r → is_none (n.run r).arrived ≡ false → is_none (n.run r).placed ≡ false
+    → (n.run r).doomed ≡ None → None ≡ next_command w n r → x ≡ decide_answered w n g r → x ≡ stage_choice w n g r m
+case_answered w n g r m x run going free there placed sound none is = is ∙ sym (rw (run, going, ← free, there, placed, sound, ← none) refl)
 
 pub case_doomed : (w : Setting) (n : Reading) (g : Grips) (r m : ℕ) (cause : Cause) (x : Choice) → is_run w.runs r ≡ true → (n.run r).ended ≡ None → None ≡ grip_wait w g r → is_none (n.run r).arrived ≡ false → is_none (n.run r).placed ≡ false
     → (n.run r).doomed ≡ Some cause → x ≡ stage_doomed w n g r cause → x ≡ stage_choice w n g r m
@@ -234,20 +293,22 @@ was_placed : (o : Option PlacedAt) → is_some (option_map (λ p. p.stamp) o) �
 was_placed None e = absurd (cc)
 was_placed (Some p) e = refl
 
-pub hub_commits : {D : Type 0} (stands turns probes faults : D → ℕ) (s t : OpenHub D) (r m : ℕ) (p : RunProgress) → s ≡ t → HubIsKept stands turns probes faults s
+pub hub_answers : {D : Type 0} (stands turns probes faults : D → ℕ) (s t : OpenHub D) (r m : ℕ) (p : RunProgress) (x : Choice) → s ≡ t → HubIsKept stands turns probes faults s
     → true ≡ is_run s.setting.runs r → p ≡ progress_of ((read_of (configuration_of s)).run r) → p.ended ≡ None → None ≡ grip_wait t.setting (configuration_of t).grips r
     → is_some p.arrived ≡ true → is_some p.placed ≡ true → p.doomed ≡ None → None ≡ next_command s.setting (read_of (configuration_of s)) r
-    → Over Committed (Ended (run_no r) Committed ∷ []) ≡ choice_of (configuration_of t) r m
-hub_commits {D = D} stands turns probes faults s t r m p same k run known going free there placed sound none =
-    case_commits s.setting (read_of (configuration_of s)) (configuration_of s).grips r (max s.moment m) (sym run)
-    (ap (λ (x : RunProgress). x.ended) (sym known) ∙ going)
-    (free ∙ ap (λ (x : OpenHub D). grip_wait x.setting (configuration_of x).grips r) (sym same))
-    (absent ((read_of (configuration_of s)).run r).arrived (ap (λ (x : RunProgress). is_some x.arrived) (sym known) ∙ there))
-    (absent ((read_of (configuration_of s)).run r).placed (was_placed ((read_of (configuration_of s)).run r).placed (ap (λ (x : RunProgress). is_some x.placed) (sym known) ∙ placed)))
-    (ap (λ (x : RunProgress). x.doomed) (sym known) ∙ sound)
+    → x ≡ decide_answered t.setting (read_of (configuration_of t)) (configuration_of t).grips r
+    → x ≡ choice_of (configuration_of t) r m
+hub_answers {D = D} stands turns probes faults s t r m p x same k run known going free there placed sound none is =
+    case_answered s.setting (read_of (configuration_of s)) (configuration_of s).grips r (max s.moment m) x (sym run)
+    (ap (λ (y : RunProgress). y.ended) (sym known) ∙ going)
+    (free ∙ ap (λ (y : OpenHub D). grip_wait y.setting (configuration_of y).grips r) (sym same))
+    (absent ((read_of (configuration_of s)).run r).arrived (ap (λ (y : RunProgress). is_some y.arrived) (sym known) ∙ there))
+    (absent ((read_of (configuration_of s)).run r).placed (was_placed ((read_of (configuration_of s)).run r).placed (ap (λ (y : RunProgress). is_some y.placed) (sym known) ∙ placed)))
+    (ap (λ (y : RunProgress). y.doomed) (sym known) ∙ sound)
     none
+    (is ∙ ap (λ (y : OpenHub D). decide_answered y.setting (read_of (configuration_of y)) (configuration_of y).grips r) (sym same))
     ∙ sym (stage_choice_is (configuration_of s) s.rounds s.opened (held_in s) r m k.configuration)
-    ∙ ap (λ (x : OpenHub D). choice_of (configuration_of x) r m) same
+    ∙ ap (λ (y : OpenHub D). choice_of (configuration_of y) r m) same
   where
     absent : {A : Type 0} (o : Option A) → is_some o ≡ true → is_none o ≡ false
     absent None e = absurd (cc)
@@ -300,11 +361,12 @@ hub_is_live {D = D} s t r p same known going placed =
     subst (λ (x : OpenHub D). is_live (read_of (configuration_of x)) r ≡ true) same
     (λ i. (was_placed ((read_of (configuration_of s)).run r).placed (ap (λ (x : RunProgress). is_some x.placed) (sym known) ∙ placed)) i && is_none ((ap (λ (x : RunProgress). x.ended) (sym known) ∙ going) i))
 
--- each device is counted up
-pub hub_is_up : {D : Type 0} (stands turns probes faults : D → ℕ) (s t : OpenHub D) (d : ℕ) → s ≡ t → HubIsKept stands turns probes faults s → is_device t.setting d ≡ true → (read_of (configuration_of t)).up d ≡ true
-hub_is_up {D = D} stands turns probes faults s t d same k =
-    subst (λ (x : OpenHub D). is_device x.setting d ≡ true → (read_of (configuration_of x)).up d ≡ true) same
-    (λ home. (stage_steps (configuration_of s) s.rounds s.opened (held_in s) k.configuration).up d home)
+-- .. and under way, where it is not doomed
+pub hub_under_way : {D : Type 0} (s t : OpenHub D) (r : ℕ) (p : RunProgress) → s ≡ t → p ≡ progress_of ((read_of (configuration_of s)).run r) → p.ended ≡ None → is_some p.placed ≡ true → p.doomed ≡ None → IsUnderWay (read_of (configuration_of t)) r
+hub_under_way {D = D} s t r p same known going placed sound = record {
+  live = hub_is_live s t r p same known going placed;
+  sound = ap (λ (x : OpenHub D). is_doomed (read_of (configuration_of x)) r) (sym same) ∙ ap (λ (x : RunProgress). is_some x.doomed) (sym known) ∙ ap is_some sound;
+}
 
 -- A run that ends aborted
 
@@ -323,9 +385,12 @@ aborting s rounds opened held r m cause kept =
       arrives = λ run none is. absurd (cc);
       enters = λ run none is. absurd (cc);
       aborted = λ other act doomed over is. record { live = act.live; doomed = doomed ∙ ap (λ c. Some c) (same_cause other cause is); over = over };
+      drops = λ other d undoing down is. absurd (cc);
       undoes = λ other d undoing up is. absurd (cc);
-      goes = λ c run next home is. absurd (cc);
-      commits = λ all is. absurd (cc);
+      downs = λ c run next home down is. absurd (cc);
+      goes = λ c run next home up is. absurd (cc);
+      fails_at_end = λ d all at is. absurd (cc);
+      commits = λ all up is. absurd (cc);
     })
   where
     same_cause : (a b : Cause) → aborts r a ≡ aborts r b → a ≡ b
@@ -351,3 +416,111 @@ hub_at_command {D = D} stands turns probes faults s t r p c same k known going p
   where
     there : (next_of (read_of (configuration_of s)) r < length (commands_of s.setting.runs r)) × (command_at s.setting.runs r (next_of (read_of (configuration_of s)) r) ≡ c)
     there = next_is (commands_of s.setting.runs r) (next_of (read_of (configuration_of s)) r) c (sym next)
+
+-- A run whose write is dropped
+
+-- it is live, and the device is one of the home
+pub record IsDropping (s : Configuration) (r d : ℕ) : Type 0 where
+  pub live : is_live (read_of s) r ≡ true
+  pub device : is_device s.setting d ≡ true
+
+pub dropping : (s : Configuration) (rounds opened : ℕ) (held : ℕ → ℕ) (r m d : ℕ) → ConfigurationIsKept s rounds opened held → choice_of s r m ≡ Moves (Undid (run_no r) (device_no d) false ∷ []) → IsDropping s r d
+dropping s rounds opened held r m d kept =
+    stage_holds (λ c. c ≡ Moves (Undid (run_no r) (device_no d) false ∷ []) → IsDropping s r d) s.setting (read_of s) s.grips r (max s.moment m) (stage_steps s rounds opened held kept) (record {
+      absent = λ none is. absurd (cc);
+      over = λ e at is. absurd (cc);
+      waits = λ why is. absurd (cc);
+      arrives = λ run none is. absurd (cc);
+      enters = λ run none is. absurd (cc);
+      aborted = λ cause act doomed over is. absurd (cc);
+      drops = λ cause e undoing down is. record { live = undoing.act.live; device = subst (λ x. is_device s.setting x ≡ true) (same_device e is) undoing.device };
+      undoes = λ cause e undoing up is. absurd (cc);
+      downs = λ c run next home down is. absurd (cc);
+      goes = λ c run next home up is. absurd (cc);
+      fails_at_end = λ e all at is. absurd (cc);
+      commits = λ all up is. absurd (cc);
+    })
+  where
+    same_device : (e : ℕ) → Moves (Undid (run_no r) (device_no e) false ∷ []) ≡ Moves (Undid (run_no r) (device_no d) false ∷ []) → e ≡ d
+    same_device e is = ap (λ (x : DeviceNo). x.0) (number is)
+      where
+        number : Moves (Undid (run_no r) (device_no e) false ∷ []) ≡ Moves (Undid (run_no r) (device_no d) false ∷ []) → device_no e ≡ device_no d
+        number f = cc
+
+-- A run that is told Down with no call
+
+-- the command of this number is its next one, which is so answered
+pub record IsAnsweringDown (s : Configuration) (held : ℕ → ℕ) (r k : ℕ) : Type 0 where
+  pub number : k ≡ next_of (read_of s) r
+  pub within : k < length (commands_of s.setting.runs r)
+  pub told : IsToldDown s.setting (read_of s) s.grips held r (command_at s.setting.runs r k)
+
+pub answering : (s : Configuration) (rounds opened : ℕ) (held : ℕ → ℕ) (r m k : ℕ) (must : Bool) → ConfigurationIsKept s rounds opened held → choice_of s r m ≡ Moves (Did (run_no r) k Down ∷ (if must then Doomed (run_no r) (MustDown k) ∷ [] else [])) → IsAnsweringDown s held r k
+answering s rounds opened held r m k must kept =
+    let staged = stage_steps s rounds opened held kept in
+    stage_holds (λ c. c ≡ Moves (Did (run_no r) k Down ∷ (if must then Doomed (run_no r) (MustDown k) ∷ [] else [])) → IsAnsweringDown s held r k) s.setting (read_of s) s.grips r (max s.moment m) staged (record {
+      absent = λ none is. absurd (cc);
+      over = λ e at is. absurd (cc);
+      waits = λ why is. absurd (cc);
+      arrives = λ run none is. absurd (cc);
+      enters = λ run none is. absurd (cc);
+      aborted = λ cause act doomed over is. absurd (cc);
+      drops = λ cause e undoing down is. absurd (cc);
+      undoes = λ cause e undoing up is. absurd (cc);
+      downs = λ c run next home down is.
+          let same : k ≡ next_of n r = same_number c is in
+          let there = next_is (commands_of s.setting.runs r) (next_of n r) c run.next in
+          record {
+            number = same;
+            within = subst (λ x. x < length (commands_of s.setting.runs r)) (sym same) there.0;
+            told = subst (λ x. IsToldDown s.setting n s.grips held r (command_at s.setting.runs r x)) (sym same) (subst (IsToldDown s.setting n s.grips held r) (sym there.1) (record {
+              read = read_facts s.setting (entries_of s.history) kept.history.well_formed;
+              strong = staged.strong;
+              live = run.act.live;
+              sound = run.sound;
+              free = run.act.free;
+              next = run.next;
+              device = staged.homed r (next_of n r) c run.next;
+              behind = next.first;
+              busy = home;
+              down = told_by (is_weak s.setting.mode) (sees_down n r c.device.0) (not (n.up c.device.0)) down;
+              kept = kept.order;
+            }));
+          };
+      goes = λ c run next home up is. absurd (cc);
+      fails_at_end = λ e all at is. absurd (cc);
+      commits = λ all up is. absurd (cc);
+    })
+  where
+    n : Reading
+    n = read_of s
+
+    same_number : (c : Command) → Moves (down_entries r (next_of n r) c) ≡ Moves (Did (run_no r) k Down ∷ (if must then Doomed (run_no r) (MustDown k) ∷ [] else [])) → k ≡ next_of n r
+    same_number c is = cc
+
+    told_by : (weak sees down : Bool) → ((not weak && sees) || down) ≡ true → (sees || down) ≡ true
+    told_by weak sees down h = grind (arith, common_steps)
+
+-- A run that is doomed at its end
+
+-- it is live, and holds no grip
+pub record IsFailing (s : Configuration) (r : ℕ) : Type 0 where
+  pub live : is_live (read_of s) r ≡ true
+  pub free : grip_wait s.setting s.grips r ≡ None
+
+pub failing : (s : Configuration) (rounds opened : ℕ) (held : ℕ → ℕ) (r m : ℕ) (d : DeviceNo) → ConfigurationIsKept s rounds opened held → choice_of s r m ≡ Moves (Doomed (run_no r) (DownAtEnd d) ∷ []) → IsFailing s r
+failing s rounds opened held r m d kept =
+    stage_holds (λ c. c ≡ Moves (Doomed (run_no r) (DownAtEnd d) ∷ []) → IsFailing s r) s.setting (read_of s) s.grips r (max s.moment m) (stage_steps s rounds opened held kept) (record {
+      absent = λ none is. absurd (cc);
+      over = λ e at is. absurd (cc);
+      waits = λ why is. absurd (cc);
+      arrives = λ run none is. absurd (cc);
+      enters = λ run none is. absurd (cc);
+      aborted = λ cause act doomed over is. absurd (cc);
+      drops = λ cause e undoing down is. absurd (cc);
+      undoes = λ cause e undoing up is. absurd (cc);
+      downs = λ c run next home down is. absurd (cc);
+      goes = λ c run next home up is. absurd (cc);
+      fails_at_end = λ e all at is. record { live = all.act.live; free = all.act.free };
+      commits = λ all up is. absurd (cc);
+    })

@@ -3,32 +3,38 @@ use Rattle.device_gate.specs.Places.{AllHome, AreNumbered, all_home}
 use Rattle.device_gate.specs.declared.gates.Place.TheVariants.{Home, Out}
 use Rattle.device_gate.specs.declared.gates.Place.{Place}
 use Rattle.history_book.specs.Histories.{entries_of, is_fall_of, reading}
+use Rattle.history_book.specs.Settings.{is_device}
 use Rattle.history_book.specs.declared.entries.Entry.{Entry}
 use Rattle.history_book.specs.declared.records.WindowRecord.{WindowRecord}
-use Rattle.home_types.specs.HomeStates.{nowhere, stand_at}
+use Rattle.home_types.specs.HomeStates.{stand_at}
 use Rattle.home_types.specs.Kinds.{has_value, kind_at}
 use Rattle.home_types.specs.declared.kinds.Kind.{Kind}
 use Rattle.home_types.specs.declared.worlds.Stand.{Stand}
 use Rattle.hub_core.proofs.calls.HubChanges.{few_entries}
-use Rattle.hub_core.proofs.stage.Closings.{ended_committed, legal_window, none_out, quiet_is}
-use Rattle.hub_core.proofs.kept.Sizes.{line_fits}
-use Rattle.hub_core.proofs.stage.StageChoices.{StageSteps, stage_steps}
+use Rattle.hub_core.proofs.stage.CalmHistories.{NoneFailed}
+use Rattle.hub_core.proofs.stage.Closings.{IsLastState, ended_committed, legal_window, none_out, quiet_is, table_leaves}
+use Rattle.hub_core.proofs.kept.Kept.{values_fit}
+use Rattle.hub_core.proofs.kept.Sizes.{line_fits, stays_up}
+use Rattle.hub_core.proofs.kept.WrittenValues.{standing_fits, writes_fit}
 use Rattle.hub_core.specs.AccountedCalls.{CallsAreAccounted, tells_call, told_calls, told_falls}
 use Rattle.hub_core.specs.Agreement.{UpDevicesStand}
-use Rattle.hub_core.specs.ClosedHomes.{HaveRisen, NoneFell, stage_stand}
+use Rattle.hub_core.specs.ClosedHomes.{HaveRisen, NoneFell, stand_left}
 use Rattle.hub_core.specs.Homes.{CountsAreLow, HomeIsKept}
-use Rattle.hub_core.specs.HubCalls.{IsClosed, probes_taken}
-use Rattle.hub_core.specs.HubsKept.{FitsAtHome, HubIsKept, IsEmptyFor, IsWhole}
-use Rattle.hub_core.specs.OpenHubs.{OpenHub, configuration_of, device_at, grip_in, held_in, no_device}
+use Rattle.hub_core.specs.HubCalls.{IsClosed, NoneFails, probes_taken}
+use Rattle.hub_core.specs.HubsKept.{FitsAtHome, HubIsKept, IsEmptyFor, IsWhole, open_of}
+use Rattle.hub_core.specs.OpenHubs.{OpenHub, configuration_of, device_at, grip_in, held_in}
 use Rattle.hub_core.specs.Steps.{not_quiet}
 use Rattle.hub_core.specs.declared.hubs.Hub.TheInside.{Inside}
 use Rattle.lock_leasing.specs.Configurations.{read_of}
 use Rattle.serial_line.specs.Marks.{Mark}
 use Rattle.std.proofs.Common.{ap, arith, inl, inr, refl, sym, ◌∙◌}
-use Rattle.std.proofs.lemmas.List.{get_or-map, length-map}
+use Rattle.std.proofs.lemmas.Grind.{common_steps}
+use Rattle.std.proofs.lemmas.List.{length-map}
 use Rattle.std.proofs.lemmas.List.Sums.{count_by-le-length}
 use Rattle.std.proofs.lemmas.Option.{slice_get-map, slice_get_cases, slice_get_within}
-use Rattle.std.specs.Prelude.{Bool, IsTrue, List, None, Some, [], count_by, length, map, option_map, slice_get, slice_index_or, suc, take, true, zero, ℕ, ◌*◌, ◌++◌, ◌+◌, ◌<◌, ◌^◌, ◌∷◌, ◌≡◌, ◌≤◌}
+use Rattle.std.specs.Prelude.{Bool, IsTrue, List, None, Some, [], count_by, length, map, nat_lt, option_map, slice_get, slice_index_or, suc, take, true, zero, ℕ, ◌*◌, ◌++◌, ◌+◌, ◌<◌, ◌^◌, ◌∷◌, ◌≡◌, ◌≤◌}
+use Rattle.window_order.proofs.ReadFacts.{read_facts}
+use Rattle.window_order.proofs.StandingValues.{stands_home}
 
 -- what is within a list is at its place
 pub at_place : {X : Type 0} (xs : List X) (i : ℕ) → i < length xs → (x : X) × (slice_get xs i ≡ Some x)
@@ -74,15 +80,6 @@ faults_fell tag stands turns probes faults s devices c = record {
   each = λ d device at. (let is = (fits_at_home tag stands turns probes faults s devices d device c at).falls_told in omega (arith, is));
 }
 
--- each device stands where it is known to, and is up
-known_there : {D : Type 0} (s : OpenHub D) (d : ℕ) → d < length s.devices → stand_at (map stage_stand s.devices) d ≡ stage_stand (device_at s.devices d)
-known_there s d lt = get_or-map stage_stand s.devices d no_device nowhere lt
-
-is_up : {D : Type 0} (stands turns probes faults : D → ℕ) (s : OpenHub D) (d : ℕ) → HubIsKept stands turns probes faults s → d < length s.setting.first → (read_of (configuration_of s)).up d ≡ true
-is_up stands turns probes faults s d kept lt =
-    let staged : StageSteps s.setting (read_of (configuration_of s)) = stage_steps (configuration_of s) s.rounds s.opened (held_in s) kept.configuration in
-    staged.read.up d ∙ kept.configuration.stage.up d lt
-
 -- a window makes few calls
 few_calls : {D : Type 0} (stands turns probes faults : D → ℕ) (s : OpenHub D) (told : Entry → Bool) → HubIsKept stands turns probes faults s → count_by told (entries_of s.history) ≤ 59904
 few_calls stands turns probes faults s told kept =
@@ -95,34 +92,42 @@ few_calls stands turns probes faults s told kept =
 still_low : (opened count then rise : ℕ) → then ≤ opened * 2 ^ 17 → count ≤ then + rise → rise ≤ 60004 → count ≤ (opened + 1) * 2 ^ 17
 still_low opened count then rise low is few = omega arith
 
+-- the lineage table leaves each device as the last state has it
+pub hub_leaves : {D : Type 0} {stands turns probes faults : D → ℕ} (h : Inside D) (last : List Stand) → IsWhole stands turns probes faults h → not_quiet (configuration_of (open_of h)) ≡ None → last ≡ map stand_left h.order.table → IsLastState (configuration_of (open_of h)) last
+hub_leaves h last k quiet are = table_leaves (configuration_of (open_of h)) h.rounds h.opened (held_in (open_of h)) h.order.table last k.shown.configuration (quiet_is (configuration_of (open_of h)) quiet) k.order.table_is are
+
 -- the home that is left is as every home is kept
-pub home_left : {D : Type 0} (tag stands turns probes faults : D → ℕ) (s : OpenHub D) (devices : List D) (kinds : List Kind) (world : List Stand) → Closes tag stands turns probes faults s devices → kinds ≡ s.setting.kinds → world ≡ map stage_stand s.devices
+pub home_left : {D : Type 0} (tag stands turns probes faults : D → ℕ) (s : OpenHub D) (devices : List D) (kinds : List Kind) (world : List Stand) → Closes tag stands turns probes faults s devices → kinds ≡ s.setting.kinds → IsLastState (configuration_of s) world
     → HomeIsKept tag stands turns probes faults (record { kinds = kinds; world = world; devices = devices; opened = s.opened + 1 })
-home_left {D = D} tag stands turns probes faults s devices kinds world c kinds_are world_is =
+home_left {D = D} tag stands turns probes faults s devices kinds world c kinds_are left =
     record {
       numbered = c.numbered;
-      kinds = ap (λ l. length l) kinds_are ∙ c.kept.configuration.kinds ∙ sym size;
-      size = sizes tag stands turns probes faults s devices c ∙ sym size;
-      few = rw size c.kept.configuration.opens.few_devices;
+      kinds = ap (λ l. length l) kinds_are ∙ c.kept.configuration.kinds ∙ sym left.size;
+      size = sizes tag stands turns probes faults s devices c ∙ sym left.size;
+      few = rw left.size c.kept.configuration.opens.few_devices;
       opened = let few = c.kept.configuration.opens.few_windows in omega (arith, few);
       values = value_at;
       stand = stand;
       counts = λ d device at. counts d device (fits_at_home tag stands turns probes faults s devices d device c at);
     }
   where
-    size : length world ≡ length s.setting.first
-    size = ap (λ l. length l) world_is ∙ length-map s.devices stage_stand ∙ c.kept.devices_size
-
-    stand_of : (d : ℕ) → d < length s.setting.first → stand_at world d ≡ stage_stand (device_at s.devices d)
-    stand_of d lt = ap (λ l. stand_at l d) world_is ∙ known_there s d (let known = c.kept.devices_size in omega (arith, lt, known))
-
     value_at : (d : ℕ) → d < length world → IsTrue (has_value (kind_at kinds d) (stand_at world d).value)
-    value_at d lt = let within : d < length s.setting.first = omega (arith, lt, size) in rw (kinds_are, stand_of d within) (c.kept.values d within)
+    value_at d lt =
+        let within : d < length s.setting.first = omega (arith, lt, left.size) in
+        rw (kinds_are, left.each d within) (standing_fits s.setting (read_of (configuration_of s)) (configuration_of s).grips d c.kept.configuration.stage.strong (writes_fit s.setting (entries_of s.history) (values_fit (configuration_of s) s.rounds s.opened (held_in s) c.kept.configuration) c.kept.configuration.history.well_formed) (c.kept.configuration.values d within))
 
     stand : UpDevicesStand stands devices world
     stand d device at up =
         let within : d < length s.setting.first = (let there = slice_get_within devices d device at in let same = sizes tag stands turns probes faults s devices c in omega (arith, there, same)) in
-        (fits_at_home tag stands turns probes faults s devices d device c at).stand (is_up stands turns probes faults s d c.kept within) ∙ sym (ap (λ (x : Stand). x.value) (stand_of d within))
+        let here : is_device s.setting d ≡ true = is_below d (length s.setting.first) within in
+        let counted : (read_of (configuration_of s)).up d ≡ true = sym (ap (λ (x : Stand). x.up) (left.each d within)) ∙ up in
+        (fits_at_home tag stands turns probes faults s devices d device c at).stand counted
+        ∙ stands_home s.setting (read_of (configuration_of s)) (configuration_of s).grips (held_in s) d (read_facts s.setting (entries_of s.history) c.kept.configuration.history.well_formed) c.kept.configuration.order c.kept.configuration.stage.strong here
+        (none_out (configuration_of s) s.rounds s.opened (held_in s) d c.kept.configuration (quiet_is (configuration_of s) c.quiet)) counted
+        ∙ sym (ap (λ (x : Stand). x.value) (left.each d within))
+      where
+        is_below : (a b : ℕ) → a < b → nat_lt a b ≡ true
+        is_below a b lt = grind (arith, common_steps)
 
     counts : (d : ℕ) (device : D) → FitsAtHome stands turns probes faults s d device → CountsAreLow (s.opened + 1) (turns device) (probes device) (faults device)
     counts d device fits = record {
@@ -138,7 +143,7 @@ pub record Tells {D : Type 0} (turns faults : D → ℕ) (s : OpenHub D) (device
   pub first : closed.first.devices.items ≡ s.setting.first
   pub history : closed.history.items ≡ s.history
   pub order : closed.order.items ≡ (read_of (configuration_of s)).line
-  pub last : closed.last.devices.items ≡ map stage_stand s.devices
+  pub last : IsLastState (configuration_of s) closed.last.devices.items
   pub turns_rose : HaveRisen turns (λ k. k.at_opening.turns) s.devices devices (length s.devices) closed.turns.items
   pub faults_rose : HaveRisen faults (λ k. k.at_opening.faults) s.devices devices (length s.devices) closed.faults.items
 
@@ -167,7 +172,7 @@ accounted {D = D} tag stands turns probes faults s devices closed c tells =
 
 -- the window was closed with this record
 pub window_closed : {D : Type 0} (tag stands turns probes faults : D → ℕ) (s : OpenHub D) (devices : List D) (kinds : List Kind) (world : List Stand) (closed : WindowRecord) → Closes tag stands turns probes faults s devices → Tells turns faults s devices closed
-    → kinds ≡ s.setting.kinds → world ≡ map stage_stand s.devices
+    → kinds ≡ s.setting.kinds → world ≡ closed.last.devices.items
     → IsClosed turns probes faults s (record { kinds = kinds; world = world; devices = devices; opened = s.opened + 1 }) closed
 window_closed {D = D} tag stands turns probes faults s devices kinds world closed c tells kinds_are world_is =
     record {
@@ -176,29 +181,29 @@ window_closed {D = D} tag stands turns probes faults s devices kinds world close
         first = tells.first;
         history = tells.history;
         order = tells.order;
-        last = record { size = ap (λ l. length l) tells.last ∙ size; each = λ d lt. ap (λ l. stand_at l d) tells.last ∙ stand_of d lt ∙ up_as_counted d lt };
-        accounted = accounted tag stands turns probes faults s devices closed c tells;
+        last = tells.last;
+        accounted = calls;
       });
       history = tells.history;
       kinds = kinds_are;
-      last = world_is ∙ sym tells.last;
+      last = world_is;
       opened = refl;
-      commits = λ first none_fails r run none. ap (λ h. ((reading s.setting (entries_of h)).run r).ended) tells.history ∙ ended_committed (configuration_of s) s.rounds s.opened (held_in s) r c.kept.configuration (quiet_is (configuration_of s) c.quiet) run none;
+      commits = λ first none_fails r run none. ap (λ h. ((reading s.setting (entries_of h)).run r).ended) tells.history ∙ ended_committed (configuration_of s) s.rounds s.opened (held_in s) r c.kept.configuration (quiet_is (configuration_of s) c.quiet) first (none_failed none_fails) run none;
       places = sym c.places;
-      up = λ none_fails d lt. ap (λ l. (stand_at l d).up) world_is ∙ ap (λ (x : Stand). x.up) (stand_of d (let same = ap (λ l. length l) world_is in omega (arith, lt, same, size)));
+      up = λ none_fails d lt. up_at_end none_fails d (let same = ap (λ l. length l) world_is in let size = tells.last.size in omega (arith, lt, same, size));
       turns_rose = λ d device at. tells.turns_rose.each d device (known d device at) at;
       probes_rose = λ d device at. (fits_at_home tag stands turns probes faults s devices d device c at).probes_are;
       faults_rose = λ d device at. tells.faults_rose.each d device (known d device at) at;
     }
   where
-    size : length (map stage_stand s.devices) ≡ length s.setting.first
-    size = length-map s.devices stage_stand ∙ c.kept.devices_size
+    calls : CallsAreAccounted s.setting (entries_of s.history) closed.turns.items closed.faults.items
+    calls = accounted tag stands turns probes faults s devices closed c tells
 
-    stand_of : (d : ℕ) → d < length s.setting.first → stand_at (map stage_stand s.devices) d ≡ stage_stand (device_at s.devices d)
-    stand_of d lt = known_there s d (let all = c.kept.devices_size in omega (arith, lt, all))
+    none_failed : NoneFails s.setting closed.faults.items → NoneFailed (configuration_of s)
+    none_failed none_fails = record { up = none_fails.up; steady = λ d lt. (let told = calls.faults_of d lt in let none = none_fails.steady d lt in omega (arith, told, none)) }
 
-    up_as_counted : (d : ℕ) → d < length s.setting.first → stage_stand (device_at s.devices d) ≡ record { value = held_in s d; up = (read_of (configuration_of s)).up d }
-    up_as_counted d lt = λ i. record { value = held_in s d; up = sym (is_up stands turns probes faults s d c.kept lt) i }
+    up_at_end : NoneFails s.setting closed.faults.items → (d : ℕ) → d < length s.setting.first → (stand_at world d).up ≡ true
+    up_at_end none_fails d lt = ap (λ l. (stand_at l d).up) world_is ∙ ap (λ (x : Stand). x.up) (tells.last.each d lt) ∙ stays_up (configuration_of s) s.rounds s.opened d (held_in s) c.kept.configuration (none_fails.up d lt) ((none_failed none_fails).steady d lt)
 
     known : (d : ℕ) (device : D) → slice_get devices d ≡ Some device → d < length s.devices
     known d device at = (let there = slice_get_within devices d device at in let same = sizes tag stands turns probes faults s devices c in let all = c.kept.devices_size in omega (arith, there, same, all))

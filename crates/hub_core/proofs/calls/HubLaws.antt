@@ -13,8 +13,9 @@ use Rattle.home_types.specs.declared.numbers.DeviceNo.{DeviceNo}
 use Rattle.home_types.specs.declared.numbers.RunNo.{RunNo}
 use Rattle.hub_core.proofs.calls.HubChanges.{few_entries}
 use Rattle.hub_core.proofs.kept.Finds.{find_first, find_none}
-use Rattle.hub_core.proofs.kept.Kept.{out_is}
+use Rattle.hub_core.proofs.kept.ReturnsKept.{out_is}
 use Rattle.hub_core.proofs.stage.Progress.{is_wait, some_run_moves}
+use Rattle.hub_core.proofs.kept.EndedOnce.{dooms_fit, ends_fit}
 use Rattle.hub_core.proofs.kept.Sizes.{history_fits, line_fits}
 use Rattle.hub_core.proofs.steps.Takes.{live_run}
 use Rattle.hub_core.specs.Bounds.{IsBounded}
@@ -31,7 +32,7 @@ use Rattle.std.proofs.Common.{ap, arith, refl, subst, sym, ◌∙◌}
 use Rattle.std.proofs.lemmas.Grind.{common_steps}
 use Rattle.std.proofs.lemmas.Option.{slice_get_within}
 use Rattle.std.specs.Option.{option_or}
-use Rattle.std.specs.Prelude.{Bool, IfNone, IfSome, IsTrue, List, None, Option, Some, [], false, find, if◌then◌else◌, is_none, is_some, length, nat_lt, not, option_map, slice_get, suc, true, zero, ℕ, ◌+◌, ◌<◌, ◌∷◌, ◌≡◌, ◌≤◌, ◌↔◌}
+use Rattle.std.specs.Prelude.{Bool, IfNone, IfSome, IsTrue, List, None, Option, Some, [], false, find, if◌then◌else◌, is_none, is_some, length, nat_lt, option_map, slice_get, suc, true, zero, ℕ, ◌+◌, ◌<◌, ◌∷◌, ◌≡◌, ◌≤◌, ◌↔◌}
 use Rattle.window_order.proofs.Promises.{order_stands}
 use Rattle.window_order.proofs.ReadFacts.{read_facts}
 use Rattle.window_order.proofs.StandingValues.{stands_home}
@@ -43,6 +44,8 @@ pub bounded_hub : {D : Type 0} (stands turns probes faults : D → ℕ) (s : Ope
 bounded_hub stands turns probes faults s k = record {
   history = history_fits (configuration_of s) s.rounds s.opened (held_in s) k.configuration;
   few_entries = few_entries stands turns probes faults s k;
+  ends = ends_fit s.setting (entries_of s.history) k.configuration.history.well_formed;
+  dooms = dooms_fit s.setting (entries_of s.history) k.configuration.history.well_formed;
   line = line_fits (configuration_of s) s.rounds s.opened (held_in s) k.configuration;
 }
 
@@ -65,6 +68,7 @@ stands_hub {D = D} stands turns probes faults s k =
     record {
       size = k.places_size;
       few_runs = c.opens.few_runs;
+      few_devices = c.opens.few_devices;
       well_formed = c.history.well_formed;
       grips = c.order.grips;
       order = λ strong. order_stands s.setting (read_of (configuration_of s)) (configuration_of s).grips (held_in s) read c.order;

@@ -1,32 +1,38 @@
 -- The line and the table of a hub, in its steps.
 use Rattle.command_rules.specs.Footprints.{FitsIndex}
-use Rattle.command_rules.specs.Rosters.{Run, commands_of, device_no, is_on, run_no, touches}
+use Rattle.command_rules.specs.Rosters.{Run, command_at, commands_of, device_no, is_on, is_run, run_no, touches}
 use Rattle.device_gate.specs.Grips.{Gripped}
 use Rattle.device_gate.specs.declared.gates.Place.TheVariants.{Home, Out}
 use Rattle.device_gate.specs.declared.grips.Ready.{Ready}
 use Rattle.device_gate.specs.declared.slips.Task.{Task}
-use Rattle.history_book.specs.Histories.{entries_of, kept_by}
+use Rattle.history_book.specs.Histories.{entries_made, entries_of, entry}
 use Rattle.history_book.specs.Readings.{Reading, is_doomed, next_of, pends, put}
 use Rattle.history_book.specs.Settings.{Setting}
 use Rattle.history_book.specs.WellFormed.{may_follow}
+use Rattle.history_book.specs.declared.entries.Cause.TheVariants.{DownAtEnd, MustDown}
 use Rattle.history_book.specs.declared.entries.Cause.{Cause}
 use Rattle.history_book.specs.declared.entries.End.TheVariants.{Aborted, Committed}
-use Rattle.history_book.specs.declared.entries.Entry.TheVariants.{Arrived, Ended, Placed}
+use Rattle.history_book.specs.declared.entries.Entry.TheVariants.{Arrived, Did, Doomed, Ended, Placed, Undid}
 use Rattle.history_book.specs.declared.entries.Entry.{Entry}
 use Rattle.history_book.specs.declared.entries.Kept.{Kept}
+use Rattle.home_types.specs.declared.commands.Answer.TheVariants.{Down}
 use Rattle.home_types.specs.declared.commands.Command.{Command}
+use Rattle.home_types.specs.declared.commands.View.TheVariants.{Down as ViewedDown}
 use Rattle.home_types.specs.declared.items.Item.TheVariants.{Ran}
+use Rattle.home_types.specs.declared.numbers.DeviceNo.{DeviceNo}
 use Rattle.hub_core.proofs.kept.Hands.{hand_goes}
-use Rattle.hub_core.proofs.calls.HubChanges.{Ending, Going, IsEntered, Making, entered_whole, entry_made, making}
+use Rattle.hub_core.proofs.calls.HubChanges.{Ending, Going, IsEntered, answer_entries, answered_more, entered_whole, entries_kept, has_places}
+use Rattle.hub_core.proofs.calls.HubChoices.{IsAnsweringDown, IsFailing, answering, dropping, failing}
 use Rattle.hub_core.proofs.calls.HubOuts.{GoesFor, IsHanded, IsHandedOut, device_within, handed_out, went_out}
 use Rattle.hub_core.proofs.kept.HubReads.{run_place}
 use Rattle.hub_core.proofs.calls.HubStates.{grips_set}
 use Rattle.hub_core.proofs.kept.LineOrder.{end_line}
 use Rattle.hub_core.proofs.kept.Sizes.{line_fits}
-use Rattle.hub_core.proofs.kept.OrderSteps.{last_follows, order_aborted, order_arrived, order_committed, order_out, order_placed, order_undo_out, read_more}
+use Rattle.hub_core.proofs.kept.OrderSteps.{done_after, last_follows, may_note_down, none_commands, order_aborted, order_arrived, order_committed, order_doomed, order_doomed_if, order_dropped, order_out, order_placed, order_told_down, order_undo_out, read_more}
+use Rattle.hub_core.proofs.steps.Takes.{live_run}
 use Rattle.hub_core.specs.HubKept.{ConfigurationIsKept}
 use Rattle.hub_core.specs.HubsKept.{HandsAre, HubIsKept, IsWhole, open_of}
-use Rattle.hub_core.specs.KeptOrders.{OrderIsBeside}
+use Rattle.hub_core.specs.KeptOrders.{MayNote, OrderIsBeside, is_first, noted_first}
 use Rattle.hub_core.specs.OpenHubs.{configuration_of, device_at, grip_in, held_in, purpose_of}
 use Rattle.hub_core.specs.Openings.{MayOpen, names_values_of}
 use Rattle.hub_core.specs.PlansInTurn.{planned_in_turn}
@@ -35,7 +41,7 @@ use Rattle.hub_core.specs.declared.hubs.Hub.TheInside.{Inside}
 use Rattle.hub_core.specs.declared.kept_orders.KeptOrder.{KeptOrder}
 use Rattle.hub_core.specs.declared.known.DeviceProgress.{DeviceProgress}
 use Rattle.hub_core.specs.declared.purposes.Purpose.{Purpose as KeptPurpose}
-use Rattle.hub_core.specs.ReadHistories.{HistoryState, read_in, with_entry}
+use Rattle.hub_core.specs.ReadHistories.{HistoryState, read_in, with_doom, with_entry, with_more}
 use Rattle.home_types.specs.Kinds.{kind_at}
 use Rattle.lineage_table.specs.Accesses.{IsDisciplined}
 use Rattle.lineage_table.specs.Lineages.{LineageState, accesses_at, committed_lineage, lineage_at, removed, undone, with_lineage}
@@ -47,24 +53,27 @@ use Rattle.std.proofs.lemmas.Grind.{common_steps}
 use Rattle.std.proofs.lemmas.List.{length-map}
 use Rattle.std.proofs.lemmas.Option.{slice_get-get_or, slice_get_within}
 use Rattle.std.specs.List.{All}
-use Rattle.std.specs.Prelude.{Bool, List, None, Option, Some, [], drop, false, get_or, if◌then◌else◌, is_none, is_some, length, max, nat_lt, option_map, slice_get, suc, true, unwrap_or, zero, ℕ, ◌&&◌, ◌*◌, ◌++◌, ◌+◌, ◌-◌, ◌<◌, ◌==◌, ◌∷◌, ◌≡◌, ◌≤◌}
+use Rattle.std.specs.Prelude.{Bool, IsSome, List, None, Option, Some, [], drop, false, get_or, if◌then◌else◌, is_none, is_some, length, max, nat_lt, not, option_map, slice_get, suc, true, unwrap_or, zero, ℕ, ◌&&◌, ◌+◌, ◌-◌, ◌<◌, ◌==◌, ◌||◌, ◌∷◌, ◌≡◌, ◌≤◌}
 use Rattle.window_order.proofs.FewAccesses.{few_accesses}
+use Rattle.window_order.proofs.Grips.{HoldsNone, fits_other, holds_none}
 use Rattle.window_order.proofs.PlacedTables.{new_at_end, none_wrote_behind}
 use Rattle.window_order.proofs.Promises.{order_stands}
 use Rattle.window_order.proofs.ReadFacts.{IsRead, read_facts}
 use Rattle.window_order.proofs.Representing.{represents}
 use Rattle.window_order.specs.MarksKept.{MarksAreKept}
 use Rattle.window_order.proofs.TouchedLines.{live_stands, unplaced_absent}
-use Rattle.window_order.specs.TableChanges.{ChangesEach, IsNewOn, scheduled_on}
+use Rattle.window_order.specs.TableChanges.{ChangesEach, IsNewOn, doomed_lineage, is_done_there, scheduled_on}
 use Rattle.window_order.specs.TableKept.{TableIsKept}
+use Rattle.history_book.proofs.Snoc.{put_other}
 use Rattle.lock_leasing.proofs.Facts.{next_is_left}
+use Rattle.lock_leasing.specs.Places.{GripsFit}
 
 -- What is kept of the hub's history
 
 pub read_hub : (s : Configuration) (rounds opened : ℕ) (held : ℕ → ℕ) → ConfigurationIsKept s rounds opened held → IsRead s.setting (read_of s)
 read_hub s rounds opened held k = read_facts s.setting (entries_of s.history) k.history.well_formed
 
-roster_allowed : (w : Setting) (rounds opened : ℕ) → MayOpen w rounds opened → IsRosterFor (length w.first) w.runs
+pub roster_allowed : (w : Setting) (rounds opened : ℕ) → MayOpen w rounds opened → IsRosterFor (length w.first) w.runs
 roster_allowed w rounds opened may = record {
   few_devices = may.few_devices;
   few_runs = may.few_runs;
@@ -124,7 +133,7 @@ few_whole h disciplined k d = by_place (nat_lt d (length h.history.setting.first
 
 -- A run arrives
 
-pub arrives_whole : {D : Type 0} {stands turns probes faults : D → ℕ} (h t : Inside D) (r m : ℕ) → IsEntered h t r m (Arrived (run_no r) (max h.moment m)) Going → t.order ≡ h.order → IsWhole stands turns probes faults h → IsWhole stands turns probes faults t
+pub arrives_whole : {D : Type 0} {stands turns probes faults : D → ℕ} (h t : Inside D) (r m : ℕ) → IsEntered h t r m (Arrived (run_no r) (max h.moment m) ∷ []) Going → t.order ≡ h.order → IsWhole stands turns probes faults h → IsWhole stands turns probes faults t
 arrives_whole h t r m enters same k = entered_whole h t r m _ Going enters (λ formed.
     subst (λ (o : KeptOrder). OrderIsBeside h.rounds (with_entry h.history r (Arrived (run_no r) (max h.moment m))) (configuration_of (open_of h)).grips o.line o.table) (sym same) (order_arrived h.history _ _ r (max h.moment m) _ _ refl k.order)) k
 
@@ -134,7 +143,7 @@ arrives_whole h t r m enters same k = entered_whole h t r m _ Going enters (λ f
 pub line_place : {D : Type 0} {stands turns probes faults : D → ℕ} (h : Inside D) (r m : ℕ) → choice_of (configuration_of (open_of h)) r m ≡ Moves (Placed (run_no r) (length (read_in h.history).line) (max h.moment m) ∷ []) → IsWhole stands turns probes faults h → 0 < h.order.line.spare
 line_place h r m is k =
     let n = read_in h.history in
-    let fits = line_fits _ h.rounds h.opened _ (entry_made _ _ _ _ (open_of h) r m _ Going is k.shown).configuration in
+    let fits = line_fits _ h.rounds h.opened _ (entries_kept _ _ _ _ (open_of h) r m _ Going is k.shown).configuration in
     let longer = ap (λ (x : Reading). length x.line) (read_more h.history.setting h.history.history r (Placed (run_no r) (length n.line) (max h.moment m))) ∙ ap length (end_line h.history.setting n r (max h.moment m)) ∙ length-append n.line (Ran (run_no r) ∷ []) in
     let size = sym (length-map h.order.line.marks (λ (x : Mark). x.item)) ∙ ap length k.order.line_is.items in
     omega (arith, fits, longer, size, k.order.room)
@@ -163,7 +172,7 @@ pub hub_joins : {D : Type 0} {stands turns probes faults : D → ℕ} (h : Insid
     → IsWhole stands turns probes faults h → MayJoin h.history.setting r (length (read_in h.history).line) h.order.line.marks h.order.table
 hub_joins h r m is k =
     may_join h.history.setting (read_in h.history) _ r (max h.moment m) h.order.line.marks h.order.table (read_whole h k) (roster_allowed h.history.setting h.rounds h.opened k.shown.configuration.opens)
-    (last_follows h.history.setting h.history.history r (Placed (run_no r) (length (read_in h.history).line) (max h.moment m)) (entry_made _ _ _ _ (open_of h) r m _ Going is k.shown).configuration.history.well_formed) k.order.line_is k.order.table_is
+    (last_follows h.history.setting h.history.history r (Placed (run_no r) (length (read_in h.history).line) (max h.moment m)) (entries_kept _ _ _ _ (open_of h) r m _ Going is k.shown).configuration.history.well_formed) k.order.line_is k.order.table_is
 
 -- the run stands at the end of the line, and is scheduled on its devices
 pub record IsJoined {D : Type 0} (h t : Inside D) (r m : ℕ) : Type 0 where
@@ -171,13 +180,13 @@ pub record IsJoined {D : Type 0} (h t : Inside D) (r m : ℕ) : Type 0 where
   pub spare : t.order.line.spare + 1 ≡ h.order.line.spare
   pub table : ChangesEach (scheduled_on h.history.setting.runs r (planned_in_turn (max h.moment m) (commands_of h.history.setting.runs r)) (drop (length (read_in h.history).line) (items_of h.order.line.marks))) h.order.table t.order.table
 
-pub joins_whole : {D : Type 0} {stands turns probes faults : D → ℕ} (h t : Inside D) (r m : ℕ) → IsEntered h t r m (Placed (run_no r) (length (read_in h.history).line) (max h.moment m)) Going → IsJoined h t r m → IsWhole stands turns probes faults h → IsWhole stands turns probes faults t
+pub joins_whole : {D : Type 0} {stands turns probes faults : D → ℕ} (h t : Inside D) (r m : ℕ) → IsEntered h t r m (Placed (run_no r) (length (read_in h.history).line) (max h.moment m) ∷ []) Going → IsJoined h t r m → IsWhole stands turns probes faults h → IsWhole stands turns probes faults t
 joins_whole h t r m enters joined k = entered_whole h t r m _ Going enters (λ formed.
     order_placed h.history _ _ r (length (read_in h.history).line) (max h.moment m) h.order.line t.order.line h.order.table t.order.table (read_whole h k) k.shown.configuration.order.grips k.shown.configuration.stage.scheduler (none_wrote_behind h.history.setting (read_in h.history) r) refl formed joined.marks joined.spare joined.table k.order) k
 
 -- A run ends
 
-pub commits_whole : {D : Type 0} {stands turns probes faults : D → ℕ} (h t : Inside D) (r m : ℕ) → IsEntered h t r m (Ended (run_no r) Committed) (Ending Committed) → t.order.line ≡ h.order.line → ChangesEach (λ d. committed_lineage r) h.order.table t.order.table
+pub commits_whole : {D : Type 0} {stands turns probes faults : D → ℕ} (h t : Inside D) (r m : ℕ) → IsEntered h t r m (Ended (run_no r) Committed ∷ []) (Ending Committed) → t.order.line ≡ h.order.line → ChangesEach (λ d. committed_lineage r) h.order.table t.order.table
     → IsWhole stands turns probes faults h → IsWhole stands turns probes faults t
 commits_whole h t r m enters line table k = entered_whole h t r m _ (Ending Committed) enters (λ formed.
     order_committed h.history _ _ r h.order.line t.order.line h.order.table t.order.table (read_whole h k) k.shown.configuration.order.grips refl formed line table k.order) k
@@ -188,9 +197,175 @@ pub record IsWithdrawn {D : Type 0} (h t : Inside D) (r : ℕ) : Type 0 where
   pub spare : t.order.line.spare ≡ h.order.line.spare + 1
   pub table : ChangesEach (λ d. removed r) h.order.table t.order.table
 
-pub aborts_whole : {D : Type 0} {stands turns probes faults : D → ℕ} (h t : Inside D) (r m : ℕ) (cause : Cause) → IsEntered h t r m (Ended (run_no r) (Aborted cause)) (Ending (Aborted cause)) → IsWithdrawn h t r → IsWhole stands turns probes faults h → IsWhole stands turns probes faults t
+pub aborts_whole : {D : Type 0} {stands turns probes faults : D → ℕ} (h t : Inside D) (r m : ℕ) (cause : Cause) → IsEntered h t r m (Ended (run_no r) (Aborted cause) ∷ []) (Ending (Aborted cause)) → IsWithdrawn h t r → IsWhole stands turns probes faults h → IsWhole stands turns probes faults t
 aborts_whole h t r m cause enters left k = entered_whole h t r m _ (Ending (Aborted cause)) enters (λ formed.
     order_aborted h.history _ _ r cause h.order.line t.order.line h.order.table t.order.table (read_whole h k) refl formed left.marks left.spare left.table k.order) k
+
+-- The write of a run is dropped
+
+-- the device is one of those that the table has
+pub dropped_there : {D : Type 0} {stands turns probes faults : D → ℕ} (h : Inside D) (r m d : ℕ) → choice_of (configuration_of (open_of h)) r m ≡ Moves (Undid (run_no r) (device_no d) false ∷ []) → IsWhole stands turns probes faults h → d < length h.order.table
+dropped_there h r m d is k =
+    let within = device_within h.history.setting d (dropping (configuration_of (open_of h)) h.rounds h.opened (held_in (open_of h)) r m d k.shown.configuration is).device in
+    omega (arith, within, k.order.table_is.devices)
+
+pub drops_whole : {D : Type 0} {stands turns probes faults : D → ℕ} (h t : Inside D) (r m d : ℕ) → IsEntered h t r m (Undid (run_no r) (device_no d) false ∷ []) Going → t.order.line ≡ h.order.line → t.order.table ≡ with_lineage h.order.table d (undone r) → IsWhole stands turns probes faults h → IsWhole stands turns probes faults t
+drops_whole h t r m d enters line table k = entered_whole h t r m _ Going enters (λ formed.
+    order_dropped h.history _ _ r d h.order.line t.order.line h.order.table t.order.table (read_whole h k) (dropped_there h r m d enters.chosen k) refl line table k.order) k
+
+-- A run is doomed at its end
+
+pub fails_whole : {D : Type 0} {stands turns probes faults : D → ℕ} (h t : Inside D) (r m : ℕ) (d : DeviceNo) → IsEntered h t r m (Doomed (run_no r) (DownAtEnd d) ∷ []) Going → t.order.line ≡ h.order.line → ChangesEach (λ e. doomed_lineage r) h.order.table t.order.table
+    → IsWhole stands turns probes faults h → IsWhole stands turns probes faults t
+fails_whole h t r m d enters line table k = entered_whole h t r m _ Going enters (λ formed.
+    order_doomed h.history _ _ r (DownAtEnd d) h.order.line t.order.line h.order.table t.order.table (read_whole h k) k.shown.configuration.order.grips (none_commands h.history.setting _ r none) refl formed line table k.order) k
+  where
+    fails : IsFailing (configuration_of (open_of h)) r
+    fails = failing (configuration_of (open_of h)) h.rounds h.opened (held_in (open_of h)) r m d k.shown.configuration enters.chosen
+
+    none : HoldsNone (configuration_of (open_of h)).grips r
+    none = holds_none h.history.setting (configuration_of (open_of h)).grips r k.shown.configuration.order.grips.homed fails.free
+
+-- A run is told Down with no call
+
+-- what its answer makes
+pub told_entries : (r k : ℕ) (must : Bool) (cause : Option Cause) → cause ≡ (if must then Some (MustDown k) else None) → Did (run_no r) k Down ∷ (if must then Doomed (run_no r) (MustDown k) ∷ [] else []) ≡ answer_entries r k Down cause
+told_entries r k must cause is = by_must must ∙ ap (answer_entries r k Down) (sym is)
+  where
+    by_must : (b : Bool) → Did (run_no r) k Down ∷ (if b then Doomed (run_no r) (MustDown k) ∷ [] else []) ≡ answer_entries r k Down (if b then Some (MustDown k) else None)
+    by_must true = refl
+    by_must false = refl
+
+-- what the code asks for before it
+pub record MayTellDown {D : Type 0} (h : Inside D) (r k : ℕ) : Type 0 where
+  pub run : is_run h.history.setting.runs r ≡ true
+  pub number : k ≡ next_of (read_in h.history) r
+  pub within : k < length (commands_of h.history.setting.runs r)
+  pub few : k < 64
+  pub stands : stands (Ran (run_no r)) h.order.line.marks ≡ true
+  pub low : (command_at h.history.setting.runs r k).device.0 < 256
+  pub homed : (command_at h.history.setting.runs r k).device.0 < length h.order.table
+  pub turn : MayNote r (lineage_at h.order.table (command_at h.history.setting.runs r k).device.0)
+
+pub may_tell_down : {D : Type 0} {stands turns probes faults : D → ℕ} (h : Inside D) (r m k : ℕ) (must : Bool) → choice_of (configuration_of (open_of h)) r m ≡ Moves (Did (run_no r) k Down ∷ (if must then Doomed (run_no r) (MustDown k) ∷ [] else [])) → IsWhole stands turns probes faults h → MayTellDown h r k
+may_tell_down h r m k must is whole = record {
+  run = live_run w (read_in h.history) r (read_whole h whole).shaped down.told.live;
+  number = down.number;
+  within = down.within;
+  few = let least : length (commands_of w.runs r) ≤ 64 = whole.shown.configuration.opens.few_commands r in omega (arith, down.within, least);
+  stands = live_stands w (read_in h.history) (configuration_of (open_of h)).grips r h.order.line.marks (read_whole h whole) down.told.live whole.order.line_is;
+  low = let few : length w.first ≤ 256 = whole.shown.configuration.opens.few_devices in omega (arith, below, few);
+  homed = omega (arith, below, whole.order.table_is.devices);
+  turn = (may_note_down w (read_in h.history) (configuration_of (open_of h)).grips (held_in (open_of h)) r (command_at w.runs r k) h.order.table down.told below whole.order.table_is).1;
+}
+  where
+    w : Setting
+    w = h.history.setting
+
+    down : IsAnsweringDown (configuration_of (open_of h)) (held_in (open_of h)) r k
+    down = answering (configuration_of (open_of h)) h.rounds h.opened (held_in (open_of h)) r m k must whole.shown.configuration is
+
+    below : (command_at w.runs r k).device.0 < length w.first
+    below = device_within w (command_at w.runs r k).device.0 down.told.device
+
+-- what the code wrote of it: the answer, which line and table note, and the doom of the run where it is a must
+pub record IsToldSo {D : Type 0} (h t : Inside D) (r k : ℕ) (must : Bool) (c : Command) (cause : Option Cause) (mid : HistoryState) (last : Bool) (between : KeptOrder) : Type 0 where
+  pub command : c ≡ command_at h.history.setting.runs r k
+  pub because : cause ≡ (if must then Some (MustDown k) else None)
+  pub answered : mid ≡ with_entry h.history r (Did (run_no r) k Down)
+  pub doomed : t.history ≡ with_doom mid r cause
+  pub last_is : last ≡ (is_doomed (read_in mid) r || not (pends mid.setting (read_in mid) r c.device.0))
+  pub marks : between.line.marks ≡ touching r c.device.0 h.order.line.marks
+  pub spare : between.line.spare ≡ h.order.line.spare
+  pub table : between.table ≡ with_lineage h.order.table c.device.0 (noted_first r (is_first r (lineage_at h.order.table c.device.0)) ViewedDown None last)
+  pub line_after : t.order.line ≡ between.line
+  pub unchanged : cause ≡ None → t.order.table ≡ between.table
+  pub changed : IsSome cause → ChangesEach (λ d. doomed_lineage r) between.table t.order.table
+
+-- there is a place for the answer, ..
+pub down_place : {D : Type 0} {stands turns probes faults : D → ℕ} (h : Inside D) (r m k : ℕ) (must : Bool) → choice_of (configuration_of (open_of h)) r m ≡ Moves (Did (run_no r) k Down ∷ (if must then Doomed (run_no r) (MustDown k) ∷ [] else [])) → IsWhole stands turns probes faults h → 0 < h.history.spare
+down_place h r m k must is whole = at must (has_places h r m _ Going is whole)
+  where
+    at : (b : Bool) → length (Did (run_no r) k Down ∷ (if b then Doomed (run_no r) (MustDown k) ∷ [] else [])) ≤ h.history.spare → 0 < h.history.spare
+    at true places = let two : 2 ≤ h.history.spare = places in omega (arith, two)
+    at false places = let one : 1 ≤ h.history.spare = places in omega (arith, one)
+
+-- .. and behind it for the doom
+pub told_place : {D : Type 0} {stands turns probes faults : D → ℕ} (h : Inside D) (r m k : ℕ) (must : Bool) (cause : Option Cause) (mid : HistoryState) → choice_of (configuration_of (open_of h)) r m ≡ Moves (Did (run_no r) k Down ∷ (if must then Doomed (run_no r) (MustDown k) ∷ [] else []))
+    → cause ≡ (if must then Some (MustDown k) else None) → mid ≡ with_entry h.history r (Did (run_no r) k Down) → IsWhole stands turns probes faults h → IsSome cause → 0 < mid.spare
+told_place h r m k must cause mid is because answered whole some = at cause some (has_places h r m (answer_entries r k Down cause) Going (is ∙ ap (λ es. Moves es) (told_entries r k must cause because)) whole)
+  where
+    at : (c : Option Cause) → IsSome c → length (answer_entries r k Down c) ≤ h.history.spare → 0 < mid.spare
+    at None none places = absurd (cc none)
+    at (Some c) some' places =
+        let two : 2 ≤ h.history.spare = places in
+        let left : mid.spare ≡ h.history.spare - 1 = ap (λ (y : HistoryState). y.spare) answered in
+        omega (arith, two, left)
+
+-- its entries
+pub down_made : (r k : ℕ) (cause : Option Cause) (e : Entry) (o : Option Entry) → e ≡ Did (run_no r) k Down → o ≡ option_map (λ c. Doomed (run_no r) c) cause → entries_made (record { a = Some e; b = o; c = None }) ≡ answer_entries r k Down cause
+down_made r k cause e o entry_is made = ap₂ (λ x y. entries_made (record { a = Some x; b = y; c = None })) entry_is made ∙ by_cause cause
+  where
+    by_cause : (c : Option Cause) → entries_made (record { a = Some (Did (run_no r) k Down); b = option_map (λ z. Doomed (run_no r) z) c; c = None }) ≡ answer_entries r k Down c
+    by_cause None = refl
+    by_cause (Some c) = refl
+
+pub told_enters : {D : Type 0} (h t : Inside D) (r m k : ℕ) (must : Bool) (c : Command) (cause : Option Cause) (mid : HistoryState) (last : Bool) (between : KeptOrder)
+    → choice_of (configuration_of (open_of h)) r m ≡ Moves (Did (run_no r) k Down ∷ (if must then Doomed (run_no r) (MustDown k) ∷ [] else [])) → t ≡ record h { history = t.history; moment = max h.moment m; order = t.order } → IsToldSo h t r k must c cause mid last between
+    → IsEntered h t r m (answer_entries r k Down cause) Going
+told_enters h t r m k must c cause mid last between is new told = record {
+  chosen = is ∙ ap (λ l. Moves l) (told_entries r k must cause told.because);
+  new = new ∙ λ i. record h { history = (told.doomed ∙ ap (λ x. with_doom x r cause) told.answered ∙ answered_more h.history r k Down cause) i; moment = max h.moment m; order = t.order };
+}
+
+pub told_whole : {D : Type 0} {stands turns probes faults : D → ℕ} (h t : Inside D) (r m k : ℕ) (must : Bool) (c : Command) (cause : Option Cause) (mid : HistoryState) (last : Bool) (between : KeptOrder)
+    → choice_of (configuration_of (open_of h)) r m ≡ Moves (Did (run_no r) k Down ∷ (if must then Doomed (run_no r) (MustDown k) ∷ [] else [])) → t ≡ record h { history = t.history; moment = max h.moment m; order = t.order } → IsToldSo h t r k must c cause mid last between
+    → IsWhole stands turns probes faults h → IsWhole stands turns probes faults t
+told_whole {D = D} h t r m k must c cause mid last between is new told whole = entered_whole h t r m es Going enters (λ formed.
+    order_doomed_if mid (with_more h.history r es) g r cause between.line t.order.line between.table t.order.table fit (none_commands w g r none) (sym history) formed told.line_after told.unchanged told.changed
+    (order_told_down h.history mid g (held_in (open_of h)) r k last h.order.line between.line h.order.table between.table down.told below down.number told.answered last_is marks told.spare table whole.order)) whole
+  where
+    w : Setting
+    w = h.history.setting
+
+    n : Reading
+    n = read_in h.history
+
+    g : Grips
+    g = (configuration_of (open_of h)).grips
+
+    es : List Entry
+    es = answer_entries r k Down cause
+
+    history : with_doom mid r cause ≡ with_more h.history r es
+    history = ap (λ x. with_doom x r cause) told.answered ∙ answered_more h.history r k Down cause
+
+    enters : IsEntered h t r m es Going
+    enters = told_enters h t r m k must c cause mid last between is new told
+
+    down : IsAnsweringDown (configuration_of (open_of h)) (held_in (open_of h)) r k
+    down = answering (configuration_of (open_of h)) h.rounds h.opened (held_in (open_of h)) r m k must whole.shown.configuration is
+
+    below : (command_at w.runs r k).device.0 < length w.first
+    below = device_within w (command_at w.runs r k).device.0 down.told.device
+
+    none : HoldsNone g r
+    none = holds_none w g r whole.shown.configuration.order.grips.homed down.told.free
+
+    reads : (mid.setting ≡ w) × (read_in mid ≡ entry w n (Did (run_no r) k Down))
+    reads = (ap (λ (x : HistoryState). x.setting) told.answered, ap read_in told.answered ∙ read_more w h.history.history r (Did (run_no r) k Down))
+
+    fit : GripsFit mid.setting (read_in mid) g
+    fit = subst (λ x. GripsFit x (read_in mid) g) (sym reads.0) (subst (λ x. GripsFit w x g) (sym reads.1) (fits_other w n (entry w n (Did (run_no r) k Down)) g r (λ q ne. put_other n.run r _ q ne) none whole.shown.configuration.order.grips))
+
+    last_is : last ≡ is_done_there w n r k
+    last_is = told.last_is ∙ (λ i. is_doomed (reads.1 i) r || not (pends (reads.0 i) (reads.1 i) r (told.command i).device.0)) ∙ done_after w n r k Down (command_at w.runs r k).device.0 down.number refl
+
+    marks : between.line.marks ≡ touching r (command_at w.runs r k).device.0 h.order.line.marks
+    marks = told.marks ∙ ap (λ (x : Command). touching r x.device.0 h.order.line.marks) told.command
+
+    table : between.table ≡ with_lineage h.order.table (command_at w.runs r k).device.0 (noted_first r (is_first r (lineage_at h.order.table (command_at w.runs r k).device.0)) ViewedDown None last)
+    table = told.table ∙ ap (λ (x : Command). with_lineage h.order.table x.device.0 (noted_first r (is_first r (lineage_at h.order.table x.device.0)) ViewedDown None last)) told.command
 
 -- the line of a window has as many items as its marks
 pub standing_size : (s : Configuration) (table : List LineageState) (line : List Mark) (history : List Kept) (runs : List Run) → IsStandingOf s table line history runs → length line ≡ length (read_of s).line

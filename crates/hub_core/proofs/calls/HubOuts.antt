@@ -15,11 +15,11 @@ use Rattle.device_states.specs.Devices.{HasRoom}
 use Rattle.std.specs.Borrow.{Bor}
 use Rattle.history_book.specs.Histories.{entries_of, is_fall_of}
 use Rattle.command_rules.specs.Rosters.{device_no}
-use Rattle.history_book.specs.Readings.{is_doomed, is_live, next_command, next_of, put}
-use Rattle.history_book.specs.Settings.{Setting, is_device}
+use Rattle.history_book.specs.Readings.{is_doomed, is_live, next_command, next_of, put, sees_down}
+use Rattle.history_book.specs.Settings.{Setting, is_device, is_weak}
 use Rattle.history_book.specs.declared.entries.Kept.{Kept}
 use Rattle.home_types.specs.declared.commands.Command.{Command}
-use Rattle.hub_core.proofs.calls.HubChanges.{few_entries, step_is, task_same, up_first}
+use Rattle.hub_core.proofs.calls.HubChanges.{few_entries, step_is, task_same}
 use Rattle.hub_core.proofs.kept.HubReads.{get_set}
 use Rattle.hub_core.proofs.calls.HubStates.{carried_set, device_here, device_there, grips_set, known_same}
 use Rattle.hub_core.proofs.kept.Kept.{take_kept}
@@ -40,13 +40,13 @@ use Rattle.hub_core.specs.declared.purposes.Purpose.{Purpose as KeptPurpose}
 use Rattle.lock_leasing.specs.Configurations.{Commands, Configuration, Grip, Probes, Purpose, Undoes, is_out, read_of}
 use Rattle.lock_leasing.specs.Waits.{grip_wait}
 use Rattle.lock_leasing.specs.Words.{has_effect, value_without}
-use Rattle.std.proofs.Common.{ap, ap₂, arith, cond, inl, inr, refl, subst, sym, ◌∙◌}
+use Rattle.std.proofs.Common.{ap, ap₂, arith, inl, inr, refl, subst, sym, ◌∙◌}
 use Rattle.std.proofs.lemmas.Grind.{common_steps}
 use Rattle.std.proofs.lemmas.List.{length-set}
 use Rattle.std.proofs.lemmas.List.Sums.{count_by-le-length, sum_by-le, sum_by-set}
 use Rattle.std.proofs.lemmas.Nat.{mul-le}
 use Rattle.std.proofs.lemmas.Option.{slice_get_within}
-use Rattle.std.specs.Prelude.{Bool, IsTrue, List, None, Option, Some, [], count_by, false, if◌then◌else◌, is_some, length, max, slice_get, slice_set, suc, sum_by, true, zero, ℕ, ⊤, ◌*◌, ◌+◌, ◌-◌, ◌<◌, ◌∷◌, ◌≡◌, ◌≤◌}
+use Rattle.std.specs.Prelude.{Bool, IsTrue, List, None, Option, Some, [], count_by, false, if◌then◌else◌, is_some, length, max, not, slice_get, slice_set, suc, sum_by, true, zero, ℕ, ⊤, ◌&&◌, ◌*◌, ◌+◌, ◌-◌, ◌<◌, ◌||◌, ◌∷◌, ◌≡◌, ◌≤◌}
 
 -- Why it goes
 
@@ -69,11 +69,12 @@ GoesFor s r d (Commands k) = GoesToCommand s r d k
 GoesFor s r d (Undoes v) = GoesToUndo s r d v
 GoesFor s r d (Probes v) = ⊥
 
--- the step that hands a device out is of a live run of the window, whose device is home
+-- the step that hands a device out is of a live run of the window, whose device is home and counted up
 pub record IsHandedOut (s : Configuration) (r d : ℕ) (purpose : Purpose) : Type 0 where
   pub run : is_run s.setting.runs r ≡ true
   pub live : is_live (read_of s) r ≡ true
   pub home : is_out s.grips d ≡ false
+  pub up : (read_of s).up d ≡ true
   pub device : is_device s.setting d ≡ true
   pub free : grip_wait s.setting s.grips r ≡ None
   pub for : GoesFor s r d purpose
@@ -88,6 +89,10 @@ same_purpose d e p q is = cc
 handed_as : (s : Configuration) (r d e : ℕ) (p q : Purpose) → HandsOut d p ≡ HandsOut e q → IsHandedOut s r d p → IsHandedOut s r e q
 handed_as s r d e p q is out = subst (λ x. IsHandedOut s r e x) (same_purpose d e p q is) (subst (λ x. IsHandedOut s r x p) (same_device d e p q is) out)
 
+-- no command goes out but to a device that is home and counted up
+goes_when : (weak sees out up : Bool) → weak ≡ false → ((weak || not sees) && out) ≡ false → ((not weak && sees) || not up) ≡ false → (out ≡ false) × (up ≡ true)
+goes_when weak sees out up strong free seen = (grind (arith, common_steps), grind (arith, common_steps))
+
 pub handed_out : (s : Configuration) (rounds opened : ℕ) (held : ℕ → ℕ) (r m d : ℕ) (purpose : Purpose) → ConfigurationIsKept s rounds opened held → choice_of s r m ≡ HandsOut d purpose → IsHandedOut s r d purpose
 handed_out s rounds opened held r m d purpose kept =
     let staged = stage_steps s rounds opened held kept in
@@ -98,23 +103,28 @@ handed_out s rounds opened held r m d purpose kept =
       arrives = λ run none is. absurd (cc);
       enters = λ run none is. absurd (cc);
       aborted = λ cause act doomed over is. absurd (cc);
+      drops = λ cause e undoing down is. absurd (cc);
       undoes = λ cause e undoing up is. handed_as s r e d (Undoes (value_without s.setting (read_of s) s.grips r e)) purpose is (record {
         run = undoing.act.run;
         live = undoing.act.live;
         home = undoing.home;
+        up = up;
         device = undoing.device;
         free = undoing.act.free;
         for = record { doomed = ap is_some undoing.doomed; effect = undoing.effect; value = refl };
       });
-      goes = λ c run next home is. handed_as s r c.device.0 d (Commands (next_of (read_of s) r)) purpose is (record {
+      downs = λ c run next home down is. absurd (cc);
+      goes = λ c run next home up is. let goes = goes_when (is_weak s.setting.mode) (sees_down (read_of s) r c.device.0) (is_out s.grips c.device.0) ((read_of s).up c.device.0) staged.strong home up in handed_as s r c.device.0 d (Commands (next_of (read_of s) r)) purpose is (record {
         run = run.act.run;
         live = run.act.live;
-        home = home;
+        home = goes.0;
+        up = goes.1;
         device = staged.homed r (next_of (read_of s) r) c run.next;
         free = run.act.free;
         for = record { number = refl; sound = ap is_some run.sound; command = c; next = run.next; on = refl };
       });
-      commits = λ all is. absurd (cc);
+      fails_at_end = λ e all at is. absurd (cc);
+      commits = λ all up is. absurd (cc);
     })
 
 pub gone_past : {A : Type 0} (xs : List A) (i : ℕ) → slice_get xs i ≡ None → length xs ≤ i
@@ -375,12 +385,10 @@ is_known stands turns probes faults s r m d purpose o k is at =
     let out = out_home stands turns probes faults s r m d purpose k is in
     is_there s.devices d o (omega (arith, out.0, k.devices_size)) at
 
--- a device that is home stands where it is known to
-pub stands_home : {D : Type 0} (stands turns probes faults : D → ℕ) (s : OpenHub D) (d : ℕ) (device : D) (known : DeviceProgress) → HubIsKept stands turns probes faults s → slice_get s.places d ≡ Some (Home device) → slice_get s.devices d ≡ Some known → stands device ≡ known.held
-stands_home stands turns probes faults s d device known k at is =
-    let within : d < length s.places = slice_get_within s.places d (Home device) at in
-    let up = up_first (configuration_of s) s.rounds s.opened d (held_in s) k.configuration ∙ k.configuration.stage.up d (omega (arith, within, k.places_size)) in
-    (k.home d device at).stand up ∙ ap (λ (p : DeviceProgress). p.held) (at_index s.devices d known is)
+-- a device that goes out is counted up, and stands where it is known to
+pub stands_home : {D : Type 0} (stands turns probes faults : D → ℕ) (s : OpenHub D) (r m d : ℕ) (purpose : Purpose) (device : D) (known : DeviceProgress) → HubIsKept stands turns probes faults s → choice_of (configuration_of s) r m ≡ HandsOut d purpose → slice_get s.places d ≡ Some (Home device) → slice_get s.devices d ≡ Some known → stands device ≡ known.held
+stands_home stands turns probes faults s r m d purpose device known k chosen at is =
+    (k.home d device at).stand (handed_out (configuration_of s) s.rounds s.opened (held_in s) r m d purpose k.configuration chosen).up ∙ ap (λ (p : DeviceProgress). p.held) (at_index s.devices d known is)
 
 -- What the gate does as it hands the device out
 pub record IsSent {D : Type 0} (turns probes faults : D → ℕ) (places : List (Place D)) (tickets r d held : ℕ) (task : Task) (grip : Gripped D Ready) (after : List (Place D)) (number : ℕ) : Type 0 where

@@ -7,11 +7,13 @@ use Rattle.device_gate.specs.declared.slips.Task.{Task}
 use Rattle.device_gate.specs.declared.strangers.Stranger.{Stranger}
 use Rattle.command_rules.specs.Rosters.{is_run}
 use Rattle.hub_core.proofs.calls.HubStates.{is_kept_there, slip_carried}
-use Rattle.hub_core.proofs.kept.Kept.{no_probe, out_run}
+use Rattle.hub_core.proofs.calls.HubReturns.{no_probe_out}
+use Rattle.hub_core.proofs.kept.Kept.{no_probe}
+use Rattle.hub_core.proofs.kept.ReturnsKept.{out_run}
 use Rattle.hub_core.specs.HubCalls.{IsGiven, IsProbeGiven, IsProbed, carried_by}
 use Rattle.hub_core.specs.HubSteps.{Given, ProbeTaken, Probed, Refused, Returned, give, give_if, give_probe, is_kept, stranger, take_probe}
 use Rattle.hub_core.specs.HubsKept.{HubIsKept}
-use Rattle.hub_core.specs.OpenHubs.{OpenHub, configuration_of, device_at, grip_in, held_in, state_of}
+use Rattle.hub_core.specs.OpenHubs.{OpenHub, configuration_of, device_at, grip_in, held_in, purpose_of, state_of}
 use Rattle.hub_core.specs.Steps.{at_moment, may_probe}
 use Rattle.std.proofs.Common.{ap, arith, refl, subst, sym, ◌∙◌}
 use Rattle.std.proofs.lemmas.Grind.{common_steps}
@@ -54,7 +56,7 @@ not_out s grip away = ap (λ b. b && nat_lt 0 grip.slip.maker) (not_there s grip
 -- in this stage a device is out for a run alone
 out_for_run : {D : Type 0} (stands turns probes faults : D → ℕ) (s : OpenHub D) (slip : Slip) (task : Task) → HubIsKept stands turns probes faults s → IsKept s.places slip task → (slip.maker == 0) ≡ false
 out_for_run stands turns probes faults s slip task kept there =
-    not_zero slip.maker (out_run (configuration_of s) s.rounds s.opened (held_in s) slip.device.0 _ (ap (λ o. grip_in o (device_at s.devices slip.device.0).purpose) there) kept.configuration)
+    not_zero slip.maker (out_run (configuration_of s) s.rounds s.opened (held_in s) slip.device.0 (record { maker = slip.maker; purpose = purpose_of (device_at s.devices slip.device.0).purpose }) (ap (λ o. grip_in o (device_at s.devices slip.device.0).purpose) there) (no_probe_out stands turns probes faults s slip task kept there) kept.configuration)
   where
     not_zero : (n : ℕ) → is_run s.setting.runs n ≡ true → (n == 0) ≡ false
     not_zero zero run = absurd (cc)

@@ -11,6 +11,7 @@ use Rattle.device_gate.specs.declared.slips.Task.TheVariants.{Drive, Sense}
 use Rattle.device_gate.specs.declared.slips.Task.{Task}
 use Rattle.device_gate.specs.declared.slips.Told.TheVariants.{Died, Sensed, Worked}
 use Rattle.device_gate.specs.declared.slips.Told.{Told}
+use Rattle.history_book.proofs.Snoc.{put_other, put_same}
 use Rattle.history_book.specs.Histories.{entries_made, entries_of, kept_by}
 use Rattle.history_book.specs.Readings.{Reading, has_written, is_doomed, is_live, next_of, put}
 use Rattle.history_book.specs.Settings.{Setting, is_device}
@@ -28,14 +29,14 @@ use Rattle.home_types.specs.declared.commands.Command.{Command}
 use Rattle.home_types.specs.declared.commands.Job.TheVariants.{Check, Load, Set, Store}
 use Rattle.home_types.specs.declared.commands.Job.{Job}
 use Rattle.home_types.specs.declared.kinds.Kind.{Kind}
-use Rattle.hub_core.proofs.steps.Calls.{IsOutFor, calls_told, give_calls, give_others, no_falls}
+use Rattle.hub_core.proofs.steps.Calls.{IsOutFor, calls_told, give_calls, give_falls, give_others, give_ups}
 use Rattle.hub_core.proofs.steps.Gives.{command_is}
 use Rattle.hub_core.proofs.kept.Hands.{hand_comes}
-use Rattle.hub_core.proofs.calls.HubChanges.{up_first}
+use Rattle.hub_core.proofs.calls.HubChanges.{answer_entries, answered_more}
 use Rattle.hub_core.proofs.calls.HubOuts.{device_within, other_home, other_out, taken_same}
 use Rattle.hub_core.proofs.kept.HubReads.{get_set, run_place}
 use Rattle.hub_core.proofs.calls.HubStates.{carried_set, device_here, device_there, grips_set, kept_is, known_same, known_set, place_here}
-use Rattle.hub_core.proofs.kept.Kept.{BringsFor, IsOut, give_kept, out_is}
+use Rattle.hub_core.proofs.kept.ReturnsKept.{BringsFor, IsOut, give_kept, out_is}
 use Rattle.hub_core.proofs.kept.Sizes.{count_cons, history_fits}
 use Rattle.hub_core.proofs.stage.StageChoices.{StageSteps, stage_steps}
 use Rattle.hub_core.proofs.steps.Takes.{live_run}
@@ -44,24 +45,24 @@ use Rattle.hub_core.specs.AccountedCalls.{told_calls, told_falls}
 use Rattle.hub_core.specs.Homes.{CountsAreLow}
 use Rattle.hub_core.specs.HubCalls.{IsGiven, SameWindow, carried_by}
 use Rattle.hub_core.specs.Decisions.{refuted_by}
-use Rattle.hub_core.specs.HubKept.{ConfigurationIsKept, is_of_run}
+use Rattle.hub_core.specs.HubKept.{ConfigurationIsKept, is_of_run, is_probed, probes_of}
 use Rattle.hub_core.specs.HubSteps.{Carried, Gave, Given, HubState, Returned, command_task, give, give_if, is_kept, task_of}
 use Rattle.hub_core.specs.HubsKept.{FitsAtHome, FitsOut, HandsAre, HasRoomLeft, HubIsKept, IsWhole, all_probes_taken, is_away, open_of}
 use Rattle.hub_core.specs.KeptOrders.{OrderIsBeside}
 use Rattle.hub_core.specs.Openings.{names_values_of}
 use Rattle.hub_core.specs.OpenHubs.{OpenHub, configuration_of, device_at, grip_in, held_in, purpose_of, state_of}
-use Rattle.hub_core.specs.ReadHistories.{HistoryState, read_in, with_doom, with_entry}
+use Rattle.hub_core.specs.ReadHistories.{HistoryState, read_in, with_doom, with_entry, with_more}
 use Rattle.hub_core.specs.Steps.{after_give, answer_told, at_moment, give_entries, with_entries, with_grip}
 use Rattle.hub_core.specs.declared.hubs.Hub.TheInside.{Inside}
 use Rattle.hub_core.specs.declared.known.DeviceProgress.{DeviceProgress}
 use Rattle.hub_core.specs.declared.purposes.Purpose.TheVariants.{Command as ForCommand, Probe as ForProbe, Undo as ForUndo}
 use Rattle.hub_core.specs.declared.purposes.Purpose.{Purpose as KeptPurpose}
 use Rattle.lock_leasing.specs.Configurations.{Commands, Configuration, Grip, Grips, Probes, Purpose, Undoes, is_undo, read_of}
-use Rattle.std.proofs.Common.{ap, append_assoc, ap₂, arith, inl, inr, length-append, refl, subst, sym, ◌∙◌}
+use Rattle.std.proofs.Common.{ap, ap₂, arith, inl, inr, length-append, refl, subst, sym, ◌∙◌}
 use Rattle.std.proofs.lemmas.Grind.{common_steps}
 use Rattle.std.proofs.lemmas.List.{length-map, length-set}
 use Rattle.std.proofs.lemmas.Option.{slice_get_within}
-use Rattle.std.specs.Prelude.{Bool, IfSome, IsSome, IsTrue, List, None, Ok, Option, Some, [], count_by, false, if◌then◌else◌, length, max, nat_lt, not, option_map, option_to_list, slice_get, slice_set, suc, true, zero, ℕ, ⊤, ◌&&◌, ◌*◌, ◌++◌, ◌+◌, ◌-◌, ◌<◌, ◌==◌, ◌∷◌, ◌≡◌, ◌≢◌, ◌≤◌}
+use Rattle.std.specs.Prelude.{Bool, IfSome, IsSome, IsTrue, List, None, Ok, Option, Some, [], count_by, false, if◌then◌else◌, length, max, nat_lt, not, option_map, slice_get, slice_set, suc, true, unwrap_or, zero, ℕ, ⊤, ◌&&◌, ◌++◌, ◌+◌, ◌-◌, ◌<◌, ◌==◌, ◌∷◌, ◌≡◌, ◌≢◌, ◌≤◌}
 use Rattle.window_order.proofs.ReadFacts.{IsRead, read_facts}
 
 -- Why it was out
@@ -220,7 +221,15 @@ command_run s slip task k for =
 
 -- in this stage no probe is out
 pub no_probe_out : {D : Type 0} (stands turns probes faults : D → ℕ) (s : OpenHub D) (slip : Slip) (task : Task) → HubIsKept stands turns probes faults s → IsKept s.places slip task → is_of_run (purpose_of (device_at s.devices slip.device.0).purpose) ≡ true
-no_probe_out stands turns probes faults s slip task kept there = kept.configuration.runs slip.device.0 (record { maker = slip.maker; purpose = purpose_of (device_at s.devices slip.device.0).purpose }) (grip_there s slip task there)
+no_probe_out stands turns probes faults s slip task kept there = by_run (is_of_run (purpose_of (device_at s.devices slip.device.0).purpose)) refl
+  where
+    by_run : (b : Bool) → is_of_run (purpose_of (device_at s.devices slip.device.0).purpose) ≡ b → b ≡ true
+    by_run true e = refl
+    by_run false e =
+        let probed : ◌≡◌ {A = ℕ} (if is_probed (configuration_of s).grips slip.device.0 then 1 else 0) 1 = ap (λ o. if unwrap_or (option_map (λ (grip : Grip). not (is_of_run grip.purpose)) o) false then 1 else 0) (grip_there s slip task there) ∙ ap (λ b. if not b then 1 else 0) e in
+        let most : probes_of (configuration_of s) slip.device.0 ≤ s.rounds = kept.configuration.probes slip.device.0 in
+        let none : s.rounds ≡ 0 = kept.configuration.stage.no_probes in
+        absurd (omega (arith, probed, most, none))
 
 -- a device that is out is so for a run
 pub for_run : {D : Type 0} (stands turns probes faults : D → ℕ) (s : OpenHub D) (slip : Slip) (task : Task) (purpose : KeptPurpose) → HubIsKept stands turns probes faults s → IsKept s.places slip task → (device_at s.devices slip.device.0).purpose ≡ purpose → IsForRun s slip task (purpose_of purpose)
@@ -280,19 +289,22 @@ found_brings s held r k d x stood task does fits at = by_reading (reads job) ref
         (e, found ∙ at ∙ sym stays, stays)
     by_reading false e is tells = absurd (let none : false ≡ true = subst (λ y. IsTrue (may_tell y stood (Sensed x))) (is ∙ ap (λ b. if b then Sense else Drive value) e) tells in cc)
 
--- an undo has driven its device there; it finds no value
-undo_senses : (x u stood : ℕ) (task : Task) → task ≡ Drive u → IsTrue (may_tell task stood (Sensed x)) → ⊥
-undo_senses x u stood task does fits = let none : false ≡ true = subst (λ y. IsTrue (may_tell y stood (Sensed x))) does fits in absurd (cc)
+-- the cases; of a device that died nothing is known
+brings_back : {D : Type 0} (s : OpenHub D) (slip : Slip) (task : Task) (purpose : Purpose) (told : Told) → IsForRun s slip task purpose → IsTrue (may_tell task slip.stood told) → BringsFor (configuration_of s) (held_in s) slip.maker slip.device.0 (value_after task (held_in s slip.device.0)) purpose told
+brings_back s slip task (Commands k) Worked for fits = wrote_brings (configuration_of s) (held_in s) slip.maker k slip.device.0 slip.stood task for.on for.does fits
+brings_back s slip task (Commands k) (Sensed x) for fits = found_brings (configuration_of s) (held_in s) slip.maker k slip.device.0 x slip.stood task for.does fits for.stood
+brings_back s slip task (Commands k) Died for fits = tt
+brings_back s slip task (Undoes u) Worked for fits = ap (λ x. value_after x (held_in s slip.device.0)) for.does
+brings_back s slip task (Undoes u) (Sensed x) for fits = ap (λ y. value_after y (held_in s slip.device.0)) for.does
+brings_back s slip task (Undoes u) Died for fits = tt
+brings_back s slip task (Probes u) told for fits = absurd (cc (for.of_run))
 
 -- The entries of the step back
 
 abbrev pub entries_for : {D : Type 0} → OpenHub D → Slip → Purpose → Told → List Entry
 entries_for s slip purpose told = give_entries s.setting (read_of (configuration_of s)) slip.device.0 (record { maker = slip.maker; purpose = purpose }) told
 
--- a command's answer, and the doom of a run whose must check found another value
-abbrev pub answer_entries : ℕ → ℕ → Answer → Option Cause → List Entry
-answer_entries r k a cause = Did (run_no r) k a ∷ option_to_list (option_map (λ c. Doomed (run_no r) c) cause)
-
+-- a command that came back gives its answer, and the doom of a run whose must check found another value
 pub command_gives : {D : Type 0} (s : OpenHub D) (slip : Slip) (k : ℕ) (told : Told) → has_died told ≡ false → entries_for s slip (Commands k) told ≡ answer_entries slip.maker k (answer_told told) (refuted_by s.setting (read_of (configuration_of s)) slip.maker k (answer_told told))
 command_gives s slip k Worked lives = refl
 command_gives s slip k (Sensed x) lives = by_failure (fails (command_at s.setting.runs slip.maker k) (Found x) && not (is_doomed (read_of (configuration_of s)) slip.maker))
@@ -377,55 +389,47 @@ other_maker stands turns probes faults s slip task purpose e other does kept for
 
 -- What is kept of a device that came home, by what it was out for and what it told
 
--- in this stage no call dies: what is left open is a device that died
-abbrev pub StageLives : Told → Type 0
-StageLives told = has_died told ≡ false
-
 -- what the step back leaves of the configuration, where the device stands, and its faults
 record GivesBack {D : Type 0} (stands faults : D → ℕ) (s : OpenHub D) (slip : Slip) (purpose : Purpose) (told : Told) (device : D) (v m : ℕ) : Type 0 where
   configuration : ConfigurationIsKept (after_back s slip (entries_for s slip purpose told) m) s.rounds s.opened (put (held_in s) slip.device.0 v)
   stand : (read_of (after_back s slip (entries_for s slip purpose told) m)).up slip.device.0 ≡ true → stands device ≡ v
-  faults_are : faults device ≡ slip.faults
+  faults_are : faults device ≡ slip.faults + failed told
 
--- where the call lived it is as the task leaves it
-lived_back : {D : Type 0} (stands turns probes faults : D → ℕ) (s : OpenHub D) (slip : Slip) (task : Task) (purpose : Purpose) (told : Told) (device : D) (m tag : ℕ) → IsForRun s slip task purpose → WasCalled told task slip tag (stands device) (turns device) (probes device) (faults device) → has_died told ≡ false
-    → BringsFor (configuration_of s) (held_in s) slip.maker slip.device.0 (value_after task (held_in s slip.device.0)) purpose told → HubIsKept stands turns probes faults s → GivesBack stands faults s slip purpose told device (value_after task (held_in s slip.device.0)) m
-lived_back stands turns probes faults s slip task purpose told device m tag for called lives brings kept =
+-- where the call lived the device is as the task leaves it; where it died the device is counted down
+gives_back : {D : Type 0} (stands turns probes faults : D → ℕ) (s : OpenHub D) (slip : Slip) (task : Task) (purpose : Purpose) (told : Told) (device : D) (m tag : ℕ) → IsForRun s slip task purpose → WasCalled told task slip tag (stands device) (turns device) (probes device) (faults device)
+    → HubIsKept stands turns probes faults s → GivesBack stands faults s slip purpose told device (value_after task (held_in s slip.device.0)) m
+gives_back stands turns probes faults s slip task purpose told device m tag for called kept =
     record {
-      configuration = give_kept (configuration_of s) s.rounds s.opened (held_in s) slip.device.0 m (value_after task (held_in s slip.device.0)) (record { maker = slip.maker; purpose = purpose }) told for.grip brings for.value kept.configuration;
-      stand = λ up. subst (λ b. IfSome (if b then None else Some (value_after task slip.stood)) (λ v. stands device ≡ v)) lives called.stands_there ∙ ap (value_after task) for.stood;
-      faults_are = called.faults_rose ∙ ap (λ b. slip.faults + (if b then 1 else 0)) lives ∙ plus_none slip.faults;
+      configuration = give_kept (configuration_of s) s.rounds s.opened (held_in s) slip.device.0 m (value_after task (held_in s slip.device.0)) grip told for.grip (brings_back s slip task purpose told for called.fits) for.value kept.configuration;
+      stand = by_told (has_died told) refl;
+      faults_are = called.faults_rose;
     }
   where
-    plus_none : (n : ℕ) → n + 0 ≡ n
-    plus_none n = omega arith
+    grip : Grip
+    grip = record { maker = slip.maker; purpose = purpose }
 
--- the cases
-gives_back : {D : Type 0} (stands turns probes faults : D → ℕ) (s : OpenHub D) (slip : Slip) (task : Task) (purpose : Purpose) (told : Told) (device : D) (m tag : ℕ) → IsForRun s slip task purpose → WasCalled told task slip tag (stands device) (turns device) (probes device) (faults device) → StageLives told
-    → HubIsKept stands turns probes faults s → GivesBack stands faults s slip purpose told device (value_after task (held_in s slip.device.0)) m
-gives_back stands turns probes faults s slip task (Commands k) Worked device m tag for called lives kept = lived_back stands turns probes faults s slip task (Commands k) Worked device m tag for called refl (wrote_brings (configuration_of s) (held_in s) slip.maker k slip.device.0 slip.stood task for.on for.does called.fits) kept
-gives_back stands turns probes faults s slip task (Commands k) (Sensed x) device m tag for called lives kept = lived_back stands turns probes faults s slip task (Commands k) (Sensed x) device m tag for called refl (found_brings (configuration_of s) (held_in s) slip.maker k slip.device.0 x slip.stood task for.does called.fits for.stood) kept
-gives_back stands turns probes faults s slip task (Commands k) Died device m tag for called lives kept = absurd (cc)
-gives_back stands turns probes faults s slip task (Undoes u) Worked device m tag for called lives kept = lived_back stands turns probes faults s slip task (Undoes u) Worked device m tag for called refl (ap (λ x. value_after x (held_in s slip.device.0)) for.does) kept
-gives_back stands turns probes faults s slip task (Undoes u) (Sensed x) device m tag for called lives kept = absurd (undo_senses x u slip.stood task for.does called.fits)
-gives_back stands turns probes faults s slip task (Undoes u) Died device m tag for called lives kept = absurd (cc)
-gives_back stands turns probes faults s slip task (Probes u) told device m tag for called lives kept = absurd (cc (for.of_run))
+    down : has_died told ≡ true → (read_of (after_back s slip (entries_for s slip purpose told) m)).up slip.device.0 ≡ false
+    down died = give_ups (configuration_of s) slip.device.0 slip.device.0 grip told for.of_run for.on ∙ ap (λ b. if b then put (read_of (configuration_of s)).up slip.device.0 false slip.device.0 else (read_of (configuration_of s)).up slip.device.0) died ∙ put_same (read_of (configuration_of s)).up slip.device.0 false
+
+    by_told : (b : Bool) → has_died told ≡ b → (read_of (after_back s slip (entries_for s slip purpose told) m)).up slip.device.0 ≡ true → stands device ≡ value_after task (held_in s slip.device.0)
+    by_told true died up = absurd (let both : true ≡ false = sym up ∙ down died in cc)
+    by_told false lives up = subst (λ b. IfSome (if b then None else Some (value_after task slip.stood)) (λ v. stands device ≡ v)) lives called.stands_there ∙ ap (value_after task) for.stood
 
 pub back_kept : {D : Type 0} (stands turns probes faults : D → ℕ) (s : OpenHub D) (slip : Slip) (task : Task) (purpose : Purpose) (told : Told) (device : D) (m tag : ℕ)
-    → IsKept s.places slip task → IsForRun s slip task purpose → WasCalled told task slip tag (stands device) (turns device) (probes device) (faults device) → StageLives told → slip.device.0 < length s.devices
+    → IsKept s.places slip task → IsForRun s slip task purpose → WasCalled told task slip tag (stands device) (turns device) (probes device) (faults device) → slip.device.0 < length s.devices
     → HubIsKept stands turns probes faults s → HubIsKept stands turns probes faults (back s slip (entries_for s slip purpose told) device (value_after task (held_in s slip.device.0)) (max s.moment m))
-back_kept {D = D} stands turns probes faults s slip task purpose told device m tag at for called lives known kept =
+back_kept {D = D} stands turns probes faults s slip task purpose told device m tag at for called known kept =
     record {
       configuration = now;
       devices_size = length-set s.devices d known_now ∙ kept.devices_size;
       places_size = length-set s.places d (Home device) ∙ kept.places_size;
       home = λ e other there. elim (get_set s.places d e (Home device) within) [
         | inl p ↦ subst (λ (x : Place D). IsFitting e x) (same_place (Home device) (Home other) (sym p.1 ∙ there)) (subst (λ x. IsFitting x (Home device)) (sym p.0) comes)
-        | inr q ↦ other_home stands turns probes faults s t.history (max s.moment m) _ _ _ e other (device_there s.devices d e known_now q.0) (told_other e q.0) (falls e) (up_same e) (kept.home e other (sym q.1 ∙ there))
+        | inr q ↦ other_home stands turns probes faults s t.history (max s.moment m) _ _ _ e other (device_there s.devices d e known_now q.0) (told_other e q.0) (falls_other e q.0) (up_other e q.0) (kept.home e other (sym q.1 ∙ there))
       ];
       out = λ e other does there. elim (get_set s.places d e (Home device) within) [
         | inl p ↦ absurd (let both : Some (Home device) ≡ Some (Out other does) = sym p.1 ∙ there in cc)
-        | inr q ↦ other_out s t.history (max s.moment m) _ _ _ e other does (device_there s.devices d e known_now q.0) (told_other e q.0) (falls e) (register_same other.maker (other_maker stands turns probes faults s slip task purpose e other does kept for q.0 (sym q.1 ∙ there))) (kept.out e other does (sym q.1 ∙ there))
+        | inr q ↦ other_out s t.history (max s.moment m) _ _ _ e other does (device_there s.devices d e known_now q.0) (told_other e q.0) (falls_other e q.0) (register_same other.maker (other_maker stands turns probes faults s slip task purpose e other does kept for q.0 (sym q.1 ∙ there))) (kept.out e other does (sym q.1 ∙ there))
       ];
       low = λ e. subst (λ (c : _). CountsAreLow s.opened c.turns c.probes c.faults) (sym (known_same (λ (p : DeviceProgress). p.at_opening) s.devices d known_now known refl e)) (kept.low e);
       values = λ e home. elim (get_set s.places d e (Home device) within) [
@@ -471,7 +475,7 @@ back_kept {D = D} stands turns probes faults s slip task purpose told device m t
     grip = record { maker = slip.maker; purpose = purpose }
 
     given : GivesBack stands faults s slip purpose told device v m
-    given = gives_back stands turns probes faults s slip task purpose told device m tag for called lives kept
+    given = gives_back stands turns probes faults s slip task purpose told device m tag for called kept
 
     now : ConfigurationIsKept (configuration_of t) s.rounds s.opened (held_in t)
     now =
@@ -484,8 +488,12 @@ back_kept {D = D} stands turns probes faults s slip task purpose told device m t
     calls : (e : ℕ) → told_calls s.setting.runs (entries_of t.history) e ≡ told_calls s.setting.runs (entries_of s.history) e + (if d == e then calls_told told else 0)
     calls e = give_calls (configuration_of s) d e grip told for.of_run for.on
 
-    told_other : (e : ℕ) → e ≢ d → told_calls s.setting.runs (entries_of t.history) e ≡ told_calls s.setting.runs (entries_of s.history) e
-    told_other e other = calls e ∙ ap (λ b. told_calls s.setting.runs (entries_of s.history) e + (if b then calls_told told else 0)) (apart d e (λ p. other (sym p))) ∙ plus_none (told_calls s.setting.runs (entries_of s.history) e)
+    falls : (e : ℕ) → told_falls (entries_of t.history) e ≡ told_falls (entries_of s.history) e + (if d == e then failed told else 0)
+    falls e = give_falls (configuration_of s) d e grip told for.of_run for.on
+
+    -- what is more of this device alone
+    more_other : (x k e : ℕ) → e ≢ d → x + (if d == e then k else 0) ≡ x
+    more_other x k e other = ap (λ b. x + (if b then k else 0)) (apart d e (λ p. other (sym p))) ∙ plus_none x
       where
         apart : (a b : ℕ) → a ≢ b → (a == b) ≡ false
         apart a b e = grind (arith, common_steps)
@@ -493,17 +501,30 @@ back_kept {D = D} stands turns probes faults s slip task purpose told device m t
         plus_none : (n : ℕ) → n + 0 ≡ n
         plus_none n = omega arith
 
-    told_here : told_calls s.setting.runs (entries_of t.history) d ≡ told_calls s.setting.runs (entries_of s.history) d + calls_told told
-    told_here = calls d ∙ ap (λ b. told_calls s.setting.runs (entries_of s.history) d + (if b then calls_told told else 0)) (itself d)
+    more_here : (x k : ℕ) → x + (if d == d then k else 0) ≡ x + k
+    more_here x k = ap (λ b. x + (if b then k else 0)) (itself d)
       where
         itself : (a : ℕ) → (a == a) ≡ true
         itself a = grind (arith, common_steps)
 
-    falls : (e : ℕ) → told_falls (entries_of t.history) e ≡ told_falls (entries_of s.history) e
-    falls e = no_falls (entries_of t.history) e now.history.stage ∙ sym (no_falls (entries_of s.history) e kept.configuration.history.stage)
+    told_other : (e : ℕ) → e ≢ d → told_calls s.setting.runs (entries_of t.history) e ≡ told_calls s.setting.runs (entries_of s.history) e
+    told_other e other = calls e ∙ more_other (told_calls s.setting.runs (entries_of s.history) e) (calls_told told) e other
 
-    up_same : (e : ℕ) → (read_of (configuration_of t)).up e ≡ (read_of (configuration_of s)).up e
-    up_same e = up_first (configuration_of t) s.rounds s.opened e (held_in t) now ∙ sym (up_first (configuration_of s) s.rounds s.opened e (held_in s) kept.configuration)
+    told_here : told_calls s.setting.runs (entries_of t.history) d ≡ told_calls s.setting.runs (entries_of s.history) d + calls_told told
+    told_here = calls d ∙ more_here (told_calls s.setting.runs (entries_of s.history) d) (calls_told told)
+
+    falls_other : (e : ℕ) → e ≢ d → told_falls (entries_of t.history) e ≡ told_falls (entries_of s.history) e
+    falls_other e other = falls e ∙ more_other (told_falls (entries_of s.history) e) (failed told) e other
+
+    falls_here : told_falls (entries_of t.history) d ≡ told_falls (entries_of s.history) d + failed told
+    falls_here = falls d ∙ more_here (told_falls (entries_of s.history) d) (failed told)
+
+    up_other : (e : ℕ) → e ≢ d → (read_of (configuration_of t)).up e ≡ (read_of (configuration_of s)).up e
+    up_other e other = give_ups (configuration_of s) d e grip told for.of_run for.on ∙ by_told (has_died told)
+      where
+        by_told : (b : Bool) → (if b then put (read_of (configuration_of s)).up d false e else (read_of (configuration_of s)).up e) ≡ (read_of (configuration_of s)).up e
+        by_told true = put_other (read_of (configuration_of s)).up d false e other
+        by_told false = refl
 
     comes : FitsAtHome stands turns probes faults t d device
     comes =
@@ -516,8 +537,8 @@ back_kept {D = D} stands turns probes faults s slip task purpose told device m t
               let same : (device_at t.devices d).at_opening.turns ≡ (device_at s.devices d).at_opening.turns = ap (λ (p : DeviceProgress). p.at_opening.turns) here in
               omega (arith, rose, had, same, told_here);
           probes_are = called.probes_rose ∙ fits.probes_are ∙ ap (λ (p : DeviceProgress). p.at_opening.probes + (s.rounds - p.probes_left)) (sym here);
-          falls_told = subst (λ (p : DeviceProgress). p.at_opening.faults + told_falls (entries_of t.history) d ≤ faults device) (sym here) (omega (arith, fits.falls_told, given.faults_are, falls d));
-          few_faults = subst (λ (p : DeviceProgress). faults device ≤ p.at_opening.faults + told_falls (entries_of t.history) d + (s.rounds - p.probes_left)) (sym here) (omega (arith, fits.few_faults, given.faults_are, falls d));
+          falls_told = subst (λ (p : DeviceProgress). p.at_opening.faults + told_falls (entries_of t.history) d ≤ faults device) (sym here) (omega (arith, fits.falls_told, given.faults_are, falls_here));
+          few_faults = subst (λ (p : DeviceProgress). faults device ≤ p.at_opening.faults + told_falls (entries_of t.history) d + (s.rounds - p.probes_left)) (sym here) (omega (arith, fits.few_faults, given.faults_are, falls_here));
         }
 
 -- The answer
@@ -529,6 +550,10 @@ taken_in s told grip result m kept maker out =
     ap (λ b. give_if (b && nat_lt 0 told.slip.maker) s (at_moment s.configuration m) told result) kept ∙ ap (λ b. give_if (true && b) s (at_moment s.configuration m) told result) maker ∙ rw out refl
 
 -- The parts of the hub to which it came back
+
+-- in this stage no call dies
+abbrev pub StageLives : Told → Type 0
+StageLives told = has_died told ≡ false
 
 -- what is known of the grip, and of its device; in this stage no call died
 pub record IsReturned {D : Type 0} (stands turns probes faults : D → ℕ) (h : Inside D) (why : KeptPurpose) (tag : ℕ) (grip : Gripped D Done) : Type 0 where
@@ -596,7 +621,7 @@ returned_hub s grip purpose m = back s grip.slip (returned_entries s grip purpos
 
 returned_kept : {D : Type 0} {stands turns probes faults : D → ℕ} (h : Inside D) (m : ℕ) (why : KeptPurpose) (tag : ℕ) (grip : Gripped D Done) → IsReturned stands turns probes faults h why tag grip → IsWhole stands turns probes faults h → HubIsKept stands turns probes faults (returned_hub (open_of h) grip why m)
 returned_kept h m why tag grip returned k =
-    back_kept _ _ _ _ (open_of h) grip.slip grip.task (purpose_of why) grip.stage.told grip.device m tag returned.there (returned_for h why tag grip returned k) returned.called returned.stage_lives
+    back_kept _ _ _ _ (open_of h) grip.slip grip.task (purpose_of why) grip.stage.told grip.device m tag returned.there (returned_for h why tag grip returned k) returned.called
     (known_back h (open_of h) grip.slip grip.task refl returned.there k) k.shown
 
 -- The room for its entries
@@ -620,10 +645,6 @@ back_place h why tag grip returned k =
     omega (arith, some, fits)
 
 -- What came of it
-
--- the history with the entries of a step, each of which takes one place of the room
-abbrev pub with_more : HistoryState → ℕ → List Entry → HistoryState
-with_more h maker entries = record h { history = h.history ++ kept_by maker entries; spare = h.spare - length entries }
 
 -- the device is home again, and stands there: so the parts change, but for the history and the order
 pub record IsHomeAgain {D : Type 0} (h t : Inside D) (m value : ℕ) (grip : Gripped D Done) : Type 0 where
@@ -739,14 +760,6 @@ back_given {D = D} h t s₀ m value why tag grip entries made seen back made_is 
         positive n some = grind (arith, common_steps, some)
 
 -- A command came back
-
--- the answer and the doom, one after the other
-pub answered_more : (h : HistoryState) (r k : ℕ) (a : Answer) (cause : Option Cause) → with_doom (with_entry h r (Did (run_no r) k a)) r cause ≡ with_more h r (answer_entries r k a cause)
-answered_more h r k a None = refl
-answered_more h r k a (Some c) =
-    let history = append_assoc h.history (kept_by r (Did (run_no r) k a ∷ [])) (kept_by r (Doomed (run_no r) c ∷ [])) in
-    let left : h.spare - 1 - 1 ≡ h.spare - 2 = omega arith in
-    λ i. record h { history = history i; spare = left i }
 
 -- what the code wrote of it: the answer, and the doom of its run where it failed
 pub record IsAnswered {D : Type 0} (h : Inside D) (grip : Gripped D Done) (k : ℕ) (slip : Slip) (a : Answer) (cause : Option Cause) (mid after : HistoryState) : Type 0 where

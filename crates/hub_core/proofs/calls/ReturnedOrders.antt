@@ -1,5 +1,5 @@
 -- The line and the table of a hub, when a device comes home.
-use Rattle.command_rules.specs.Rosters.{command_at, commands_of, is_run, run_no, touches_from}
+use Rattle.command_rules.specs.Rosters.{command_at, commands_of, is_run, run_no}
 use Rattle.device_gate.specs.Calls.{value_after}
 use Rattle.device_gate.specs.Grips.{Gripped}
 use Rattle.device_gate.specs.declared.gates.Place.TheVariants.{Out}
@@ -7,11 +7,11 @@ use Rattle.device_gate.specs.declared.grips.Done.{Done}
 use Rattle.device_gate.specs.declared.slips.Slip.{Slip}
 use Rattle.device_gate.specs.declared.slips.Task.TheVariants.{Drive, Sense}
 use Rattle.device_gate.specs.declared.slips.Task.{Task}
-use Rattle.history_book.proofs.Snoc.{along_on, each_at, entries_on, put_other, put_same}
+use Rattle.history_book.proofs.Snoc.{each_at, entries_on, put_other}
 use Rattle.history_book.specs.Histories.{entries_of, entry, kept_by}
-use Rattle.history_book.specs.Readings.{OfRun, Reading, is_doomed, is_fine, is_told, next_of, nothing_read, pends, put}
+use Rattle.history_book.specs.Readings.{Reading, is_doomed, is_fine, is_told, next_of, nothing_read, pends, put}
 use Rattle.history_book.specs.Settings.{Setting}
-use Rattle.history_book.specs.WellFormed.{IsWellFormed, along, is_well_formed, may_act, may_follow, suits}
+use Rattle.history_book.specs.WellFormed.{IsWellFormed, may_act, may_follow, suits}
 use Rattle.history_book.specs.declared.entries.Entry.TheVariants.{Did, Doomed, Undid}
 use Rattle.home_types.specs.Commands.{driven, reads, writes}
 use Rattle.home_types.specs.Kinds.{kind_at}
@@ -22,8 +22,9 @@ use Rattle.home_types.specs.declared.commands.Job.TheVariants.{Check, Load, Set,
 use Rattle.home_types.specs.declared.commands.Job.{Job}
 use Rattle.home_types.specs.declared.commands.View.{View}
 use Rattle.hub_core.proofs.calls.HubOrders.{read_whole}
-use Rattle.hub_core.proofs.calls.HubReturns.{IsAnswered, IsForCommand, IsHomeAgain, IsReturned, answer_entries, answered_back, back_whole, for_command, home_grips, returned_for, undone_back}
-use Rattle.hub_core.proofs.kept.OrderSteps.{ToldOf, last_follows, may_note, none_out, order_answered, order_doomed, order_undone, read_more}
+use Rattle.hub_core.proofs.calls.HubChanges.{answer_entries}
+use Rattle.hub_core.proofs.calls.HubReturns.{IsAnswered, IsForCommand, IsHomeAgain, IsReturned, answered_back, back_whole, for_command, home_grips, returned_for, undone_back}
+use Rattle.hub_core.proofs.kept.OrderSteps.{ToldOf, done_after, last_follows, may_note, none_out, order_answered, order_doomed_if, order_undone, read_more}
 use Rattle.hub_core.specs.HubsKept.{IsWhole, open_of}
 use Rattle.hub_core.specs.KeptOrders.{MayNote, OrderIsBeside, is_first, noted_first}
 use Rattle.hub_core.specs.OpenHubs.{configuration_of, device_at, held_in}
@@ -38,14 +39,13 @@ use Rattle.serial_line.specs.Marks.{Marked}
 use Rattle.std.proofs.Common.{ap, arith, refl, subst, sym, ◌∙◌}
 use Rattle.std.proofs.lemmas.Grind.{common_steps}
 use Rattle.std.proofs.lemmas.Option.{slice_get_within}
-use Rattle.std.specs.Prelude.{Bool, IsSome, List, None, Option, Some, [], if◌then◌else◌, is_some, length, nat_lt, not, true, ℕ, ◌&&◌, ◌++◌, ◌+◌, ◌<◌, ◌==◌, ◌||◌, ◌∷◌, ◌≡◌, false}
-use Rattle.window_order.proofs.AnsweredTables.{answered_run, left_after}
-use Rattle.window_order.specs.TableChanges.{ChangesEach, doomed_lineage, is_done_there, told_write}
+use Rattle.std.specs.Prelude.{Bool, IsSome, List, None, Option, Some, [], if◌then◌else◌, length, nat_lt, not, true, ℕ, ◌&&◌, ◌++◌, ◌<◌, ◌==◌, ◌||◌, ◌∷◌, ◌≡◌, false}
+use Rattle.window_order.specs.TableChanges.{ChangesEach, doomed_lineage, told_write}
 use Rattle.history_book.specs.declared.entries.Cause.{Cause}
 use Rattle.history_book.specs.declared.entries.Entry.{Entry}
 use Rattle.lock_leasing.specs.Places.{GripsFit}
 use Rattle.std.proofs.lemmas.List.{append_assoc}
-use Rattle.window_order.proofs.ReadFacts.{IsRead, read_facts}
+use Rattle.window_order.proofs.ReadFacts.{IsRead}
 use Rattle.window_order.proofs.Steps.{home_fits}
 use Rattle.window_order.specs.OrderKept.{OrderIsKept}
 
@@ -66,14 +66,6 @@ wrote_is w n r c Down task value stood suited does is = refl
 
 fourth : (a b c x e : Bool) → (a && b && c && x && not e) ≡ true → x ≡ true
 fourth a b c x e h = grind (arith, common_steps)
-
--- what is left to do on a device after an answer
-pends_after : (w : Setting) (n : Reading) (r k : ℕ) (a : Answer) (d : ℕ) → k ≡ next_of n r → pends w (entry w n (Did (run_no r) k a)) r d ≡ touches_from w.runs r d (k + 1)
-pends_after w n r k a d number = ap (λ (o : OfRun). touches_from w.runs r d (length o.answers)) (put_same n.run r (answered_run w n r k a)) ∙ left_after w n r k a d number
-
--- the run is done there where it is doomed, or nothing is left
-done_after : (w : Setting) (n : Reading) (r k : ℕ) (a : Answer) (d : ℕ) → k ≡ next_of n r → (command_at w.runs r k).device.0 ≡ d → (is_doomed (entry w n (Did (run_no r) k a)) r || not (pends w (entry w n (Did (run_no r) k a)) r d)) ≡ is_done_there w n r k
-done_after w n r k a d number on = (λ i. ap (λ (o : OfRun). is_some o.doomed) (put_same n.run r (answered_run w n r k a)) i || not ((pends_after w n r k a d number ∙ ap (λ e. touches_from w.runs r e (k + 1)) (sym on)) i))
 
 -- the first entry of a step may stand where it stands, also where a doom follows it
 first_follows : (h h₁ h₂ : HistoryState) (r : ℕ) (e : Entry) (cause : Option Cause) → h₁ ≡ with_entry h r e → h₂ ≡ with_doom h₁ r cause → IsWellFormed h₂.setting (entries_of h₂.history) → may_follow h.setting (read_in h) e ≡ true
@@ -111,26 +103,12 @@ order_told : {rounds : ℕ} (h h₁ h₂ : HistoryState) (g f : Grips) (held : �
     → h₁ ≡ with_entry h r (Did (run_no r) k a) → h₂ ≡ with_doom h₁ r cause → IsWellFormed h₂.setting (entries_of h₂.history) → f ≡ put g d None → ToldOf h.setting (read_in h) r k a view wrote last
     → mid ≡ line → between ≡ with_lineage table d (noted_first r (is_first r (lineage_at table d)) view wrote last) → after ≡ mid → (cause ≡ None → later ≡ between) → (IsSome cause → ChangesEach (λ d. doomed_lineage r) between later)
     → OrderIsBeside rounds h g line table → OrderIsBeside rounds h₂ f after later
-order_told {rounds = rounds} h h₁ h₂ g f held d r k a None view wrote last line mid after table between later read order run at below one two formed home told same noted kept unchanged changed beside =
-    subst (λ (x : HistoryState). OrderIsBeside rounds x f after later) (sym two) (subst (λ (x : Marked). OrderIsBeside rounds h₁ f x later) (sym kept) (subst (OrderIsBeside rounds h₁ f mid) (sym (unchanged refl))
-    (order_answered h h₁ g f held d r k a view wrote last line mid table between read order at below one home told same noted beside)))
-order_told {rounds = rounds} h h₁ h₂ g f held d r k a (Some cause) view wrote last line mid after table between later read order run at below one two formed home told same noted kept unchanged changed beside =
-    order_doomed h₁ h₂ f r cause mid after between later read₁ fit none two formed kept (changed (cc))
+order_told {rounds = rounds} h h₁ h₂ g f held d r k a cause view wrote last line mid after table between later read order run at below one two formed home told same noted kept unchanged changed beside =
+    order_doomed_if h₁ h₂ f r cause mid after between later fit none two formed kept unchanged changed
     (order_answered h h₁ g f held d r k a view wrote last line mid table between read order at below one home told same noted beside)
   where
     did : Entry
     did = Did (run_no r) k a
-
-    -- the history without the doom is well formed too
-    formed₁ : IsWellFormed h₁.setting (entries_of h₁.history)
-    formed₁ = front (is_well_formed h₁.setting (entries_of h₁.history)) (along h₁.setting (may_follow h₁.setting) (read_in h₁) (Doomed (run_no r) cause ∷ []))
-        (sym (along_on h₁.setting (may_follow h₁.setting) (nothing_read h₁.setting) (entries_of h₁.history) (Doomed (run_no r) cause ∷ [])) ∙ subst (IsWellFormed h₁.setting) (entries_on h₁.history r (Doomed (run_no r) cause ∷ [])) (subst (λ (x : HistoryState). IsWellFormed x.setting (entries_of x.history)) two formed))
-      where
-        front : (x y : Bool) → (x && y) ≡ true → x ≡ true
-        front x y e = grind (arith, common_steps)
-
-    read₁ : IsRead h₁.setting (read_in h₁)
-    read₁ = read_facts h₁.setting (entries_of h₁.history) formed₁
 
     reads : (h₁.setting ≡ h.setting) × (read_in h₁ ≡ entry h.setting (read_in h) did)
     reads = (ap (λ (x : HistoryState). x.setting) one, ap read_in one ∙ read_more h.setting h.history r did)

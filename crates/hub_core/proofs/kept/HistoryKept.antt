@@ -1,17 +1,16 @@
 -- What is kept of a history and the grips, with one entry more.
 use Rattle.command_rules.specs.Items.{is_ran}
-use Rattle.command_rules.specs.Rosters.{device_no, run_no, touches}
+use Rattle.command_rules.specs.Rosters.{device_no, run_no}
 use Rattle.history_book.proofs.Frames.{did_live, doomed_live}
 use Rattle.history_book.proofs.Lines.{any_taken}
-use Rattle.history_book.proofs.Searches.{Each, own_devices}
 use Rattle.history_book.proofs.Shapes.{shapes}
 use Rattle.history_book.proofs.Snoc.{Along_more, each_more, entries_on, put_keeps, put_other, put_same}
 use Rattle.history_book.proofs.Standing.{Standing, standing, stands_in}
 use Rattle.history_book.specs.Histories.{entries_of, entry, kept_by, moment_of, reading}
 use Rattle.history_book.specs.Lines.{before, without}
 use Rattle.history_book.specs.Plans.{planned_times, split_of}
-use Rattle.history_book.specs.Readings.{OfRun, PlacedAt, Reading, did, is_live, nothing_read, put}
-use Rattle.history_book.specs.Settings.{Setting, devices_of, is_device, is_strict}
+use Rattle.history_book.specs.Readings.{OfRun, PlacedAt, Reading, did, has_written, is_live, nothing_read, put}
+use Rattle.history_book.specs.Settings.{Setting, devices_of, is_strict}
 use Rattle.history_book.specs.WellFormed.{each_entry, may_follow}
 use Rattle.history_book.specs.declared.entries.Cause.{Cause}
 use Rattle.history_book.specs.declared.entries.End.TheVariants.{Aborted, Committed}
@@ -24,27 +23,28 @@ use Rattle.hub_core.proofs.steps.Afters.{read_with}
 use Rattle.hub_core.proofs.kept.LineOrder.{StampsAreBelow, before_more, end_line, is_alone_by, live_before_without, order_at_end, order_without, same_order, stamps_below, strict_fewer_by}
 use Rattle.hub_core.proofs.stage.StageChoices.{live_stands}
 use Rattle.hub_core.specs.CleanReads.{entry_is_clean}
-use Rattle.hub_core.specs.HubKept.{ActsInTurn, HistoryIsKept, NoneAnsweredDoomed, stage_entry, placed_in_order}
+use Rattle.hub_core.specs.HubKept.{ActsInTurn, HistoryIsKept, NoneAnsweredDoomed, keeps_leases, placed_in_order}
 use Rattle.hub_core.specs.Isolation.{is_alone, is_isolated}
 use Rattle.hub_core.specs.JustifiedAborts.{abort_is_justified, shows}
-use Rattle.lock_leasing.specs.Configurations.{Commands, Configuration, Grip, Grips, Purpose, Undoes, grips_command, has_grip, is_command, read_of}
+use Rattle.lock_leasing.specs.Configurations.{Commands, Configuration, Grip, Grips, Purpose, grips_command, has_grip, is_command, read_of}
 use Rattle.lock_leasing.specs.Places.{IsScheduled, PlacesAreScheduled}
-use Rattle.lock_leasing.specs.Waits.{strict_wait}
+use Rattle.lock_leasing.specs.Waits.{down_at_end, strict_wait}
 use Rattle.lock_leasing.specs.Words.{has_touched, live_before, live_runs, stamp_of}
-use Rattle.std.proofs.Common.{ap, arith, refl, subst, sym, ◌∙◌}
+use Rattle.std.proofs.Common.{ap, arith, cond, refl, subst, sym, ◌∙◌}
 use Rattle.std.proofs.lemmas.Grind.{common_steps}
 use Rattle.std.proofs.lemmas.List.Folds.{list_all-append}
 use Rattle.std.specs.List.{list_all, list_any}
-use Rattle.std.specs.Prelude.{Bool, IsTrue, List, None, Option, Some, [], false, if◌then◌else◌, is_none, is_some, length, nat_lt, not, option_map, true, unwrap_or, ℕ, ◌&&◌, ◌++◌, ◌==◌, ◌||◌, ◌∷◌, ◌≡◌, ◌≢◌, ◌≤◌}
+use Rattle.std.specs.Prelude.{Bool, IsTrue, List, None, Option, Some, [], false, find, if◌then◌else◌, is_none, is_some, length, nat_lt, not, option_map, true, unwrap_or, ℕ, ◌&&◌, ◌++◌, ◌==◌, ◌||◌, ◌∷◌, ◌≡◌, ◌≢◌, ◌≤◌}
+use Rattle.window_order.proofs.Grips.{HoldsNone}
 
 -- what an entry has to be that comes at this moment, and leaves these grips out
 pub record MayAdd (s : Configuration) (e : Entry) (m : ℕ) (g : Grips) : Type 0 where
   pub follows : may_follow s.setting (read_of s) e ≡ true
-  pub stage : stage_entry e ≡ true
   pub clean : entry_is_clean s.setting (read_of s) e ≡ true
   pub justified : abort_is_justified s.setting (read_of s) e ≡ true
   pub scheduled : IsScheduled s.setting (read_of s) e
   pub isolated : IsTrue (is_strict s.setting.mode) → is_isolated s.setting (read_of s) e ≡ true
+  pub unrevoked : s.setting.mode.scheduler ≡ Fcfs → keeps_leases e ≡ true
   pub moment : (entry s.setting (read_of s) e).moment ≤ m
   pub in_order : s.setting.mode.scheduler ≡ Fcfs → IsTrue (placed_in_order (entry s.setting (read_of s) e) (entry s.setting (read_of s) e).line)
   pub in_turn : ActsInTurn s.setting (entry s.setting (read_of s) e) g
@@ -59,11 +59,11 @@ history_added s maker m g e may kept =
     record {
       well_formed = subst (λ h. IsTrue (each_entry s.setting (may_follow s.setting) h)) (sym entries) (each_more s.setting (may_follow s.setting) (entries_of s.history) e kept.well_formed may.follows);
       moment = subst (λ n. n.moment ≤ m) (sym read) may.moment;
-      stage = subst (λ h. IsTrue (list_all stage_entry h)) (sym entries) (list_all-append stage_entry (entries_of s.history) (e ∷ []) ∙ rw (kept.stage, may.stage) refl);
       clean = subst (λ h. IsTrue (each_entry s.setting (entry_is_clean s.setting) h)) (sym entries) (each_more s.setting (entry_is_clean s.setting) (entries_of s.history) e kept.clean may.clean);
       justified = subst (λ h. IsTrue (each_entry s.setting (abort_is_justified s.setting) h)) (sym entries) (each_more s.setting (abort_is_justified s.setting) (entries_of s.history) e kept.justified may.justified);
       places = subst (λ h. PlacesAreScheduled s.setting h) (sym entries) (Along_more s.setting (IsScheduled s.setting) (nothing_read s.setting) (entries_of s.history) e kept.places may.scheduled);
       isolated = λ strict. subst (λ h. IsTrue (each_entry s.setting (is_isolated s.setting) h)) (sym entries) (each_more s.setting (is_isolated s.setting) (entries_of s.history) e (kept.isolated strict) (may.isolated strict));
+      unrevoked = λ first_come. subst (λ h. IsTrue (list_all keeps_leases h)) (sym entries) (list_all-append keeps_leases (entries_of s.history) (e ∷ []) ∙ rw (kept.unrevoked first_come, may.unrevoked first_come) refl);
       in_order = λ first_come. subst (λ n. IsTrue (placed_in_order n n.line)) (sym read) (may.in_order first_come);
       in_turn = subst (λ n. ActsInTurn s.setting n g) (sym read) may.in_turn;
       first = subst (λ n. NoneAnsweredDoomed n g) (sym read) may.first;
@@ -77,15 +77,12 @@ history_added s maker m g e may kept =
 
 -- Runs that act in turn
 
--- where no run becomes live, and no other one stands before a live run
+-- where a run acts it waits for none, also when fewer runs are live and no other one stands before it
 turn_by : (w : Setting) (n m : Reading) (h : Grips) → ((q : ℕ) → is_live m q ≡ true → live_before m q ≡ live_runs m (before q n.line)) → ((q : ℕ) → is_live m q ≡ true → is_live n q ≡ true) → ((q d : ℕ) → IsTrue (is_live m q && (has_touched m h q d || has_grip h q d)) → strict_wait w n q ≡ None) → ActsInTurn w m h
 turn_by w n m h line fewer waitless q d acts = strict_fewer_by w.runs w.kinds w.first w.mode.model w.mode.scheduler n m q (line q (acting (is_live m q) (has_touched m h q d || has_grip h q d) acts)) (λ x there now. fewer x now) (waitless q d acts)
   where
     acting : (l a : Bool) → (l && a) ≡ true → l ≡ true
     acting l a e = grind (arith, common_steps)
-
-turn_kept : (w : Setting) (n m : Reading) (h : Grips) → m.line ≡ n.line → ((q : ℕ) → is_live m q ≡ true → is_live n q ≡ true) → ((q d : ℕ) → IsTrue (is_live m q && (has_touched m h q d || has_grip h q d)) → strict_wait w n q ≡ None) → ActsInTurn w m h
-turn_kept w n m h line fewer waitless = turn_by w n m h (λ q now. ap (λ l. live_runs m (before q l)) line) fewer waitless
 
 -- a run that acts with less acts with more
 acts_more : (l t c h l' t' c' h' : Bool) → (l ≡ true → l' ≡ true) → (t ≡ true → t' ≡ true) → (c ≡ true → c' ≡ true) → (h ≡ true → h' ≡ true) → (l && ((t || c) || h)) ≡ true → (l' && ((t' || c') || h')) ≡ true
@@ -113,15 +110,15 @@ fewer_pass g h test d less = by_grip (h d) refl
     by_grip None at e = absurd (cc)
     by_grip (Some p) at e = ap (λ o. unwrap_or (option_map test o) false) (less d p at) ∙ e
 
--- where runs are as live as they were and have no more answers
-turn_less : (w : Setting) (n m : Reading) (g h : Grips) → m.line ≡ n.line → ((q : ℕ) → is_live m q ≡ true → is_live n q ≡ true) → ((q d : ℕ) → did m q d ≡ did n q d) → AreFewer h g → ActsInTurn w n g → ActsInTurn w m h
-turn_less w n m g h line fewer same less turn = turn_kept w n m h line fewer (λ q d acts. turn q d (acts_more _ _ _ _ _ _ _ _ (fewer q) (same_true (same q d)) (fewer_pass g h (λ p. (p.maker == q) && is_command p.purpose) d less) (fewer_pass g h (λ p. p.maker == q) d less) acts))
+-- where no run becomes live or has an answer or a grip more, and no other one stands before a live run
+pub turn_less : (w : Setting) (n m : Reading) (g h : Grips) → ((q : ℕ) → is_live m q ≡ true → live_before m q ≡ live_runs m (before q n.line)) → ((q : ℕ) → is_live m q ≡ true → is_live n q ≡ true) → ((q d : ℕ) → did m q d ≡ did n q d) → AreFewer h g → ActsInTurn w n g → ActsInTurn w m h
+turn_less w n m g h line fewer same less turn = turn_by w n m h line fewer (λ q d acts. turn q d (acts_more _ _ _ _ _ _ _ _ (fewer q) (same_true (same q d)) (fewer_pass g h (λ p. (p.maker == q) && is_command p.purpose) d less) (fewer_pass g h (λ p. p.maker == q) d less) acts))
 
 -- a command that is out is still the first one since a doom
-first_less : (n m : Reading) (g h : Grips) → ((q : ℕ) → (m.run q).answered_doomed ≡ (n.run q).answered_doomed) → AreFewer h g → NoneAnsweredDoomed n g → NoneAnsweredDoomed m h
+pub first_less : (n m : Reading) (g h : Grips) → ((q : ℕ) → (m.run q).answered_doomed ≡ (n.run q).answered_doomed) → AreFewer h g → NoneAnsweredDoomed n g → NoneAnsweredDoomed m h
 first_less n m g h same less first d p out = ap (λ b. not (is_command p.purpose && b)) (same p.maker) ∙ first d p (less d p out)
 
-same_grips : (g : Grips) → AreFewer g g
+pub same_grips : (g : Grips) → AreFewer g g
 same_grips g d p e = e
 
 abbrev stamp_in : OfRun → ℕ
@@ -132,7 +129,7 @@ order_kept : (n m : Reading) → m.line ≡ n.line → ((q : ℕ) → stamp_of m
 order_kept n m line same ordered = ap (placed_in_order m) line ∙ same_order n m n.line same ∙ ordered
 
 arrival_turn : (w : Setting) (n : Reading) (g : Grips) (r m : ℕ) → ActsInTurn w n g → ActsInTurn w (entry w n (Arrived (run_no r) m)) g
-arrival_turn w n g r m turn = turn_less w n (entry w n (Arrived (run_no r) m)) g g refl (λ q. same_true (put_keeps (λ o. is_some o.placed && is_none o.ended) n.run r _ refl q)) (λ q d. put_keeps (λ o. is_some (o.on d).view) n.run r _ refl q) (same_grips g) turn
+arrival_turn w n g r m turn = turn_less w n (entry w n (Arrived (run_no r) m)) g g (λ q now. refl) (λ q. same_true (put_keeps (λ o. is_some o.placed && is_none o.ended) n.run r _ refl q)) (λ q d. put_keeps (λ o. is_some (o.on d).view) n.run r _ refl q) (same_grips g) turn
 
 has_none : (g : Grips) (r : ℕ) → ((d : ℕ) → has_grip g r d ≡ false) → (d : ℕ) → grips_command g r d ≡ false
 has_none g r none d = by_grip (g d) (none d)
@@ -185,10 +182,11 @@ holds_is g r d p out = ap (λ o. unwrap_or (option_map (λ x. x.maker == r) o) f
     self : (r == r) ≡ true
     self = grind (arith, common_steps)
 
-answer_turn : (w : Setting) (n : Reading) (g : Grips) (r k d : ℕ) (a : Answer) → strict_wait w n r ≡ None → ActsInTurn w n g → ActsInTurn w (entry w n (Did (run_no r) k a)) (put g d None)
-answer_turn w n g r k d a waitless turn = turn_kept w n (entry w n (Did (run_no r) k a)) (put g d None) refl (λ q. same_true (live q)) (λ q e acts. elim (q == r) as (λ b. (q == r) ≡ b → strict_wait w n q ≡ None) [
+-- a run that waits for none is answered, and fewer grips are out
+answer_turn : (w : Setting) (n : Reading) (g h : Grips) (r k : ℕ) (a : Answer) → AreFewer h g → strict_wait w n r ≡ None → ActsInTurn w n g → ActsInTurn w (entry w n (Did (run_no r) k a)) h
+answer_turn w n g h r k a less waitless turn = turn_by w n (entry w n (Did (run_no r) k a)) h (λ q now. refl) (λ q. same_true (live q)) (λ q e acts. elim (q == r) as (λ b. (q == r) ≡ b → strict_wait w n q ≡ None) [
   | true ↦ (λ at. let same : q ≡ r = grind (arith, common_steps) in subst (λ x. strict_wait w n x ≡ None) (sym same) waitless)
-  | false ↦ (λ at. turn q e (acts_more _ _ _ _ _ _ _ _ (same_true (live q)) (same_true (did_is q e (grind (arith, common_steps)))) (fewer_pass g (put g d None) (λ p. (p.maker == q) && is_command p.purpose) e (less_one g d)) (fewer_pass g (put g d None) (λ p. p.maker == q) e (less_one g d)) acts))
+  | false ↦ (λ at. turn q e (acts_more _ _ _ _ _ _ _ _ (same_true (live q)) (same_true (did_is q e (grind (arith, common_steps)))) (fewer_pass g h (λ p. (p.maker == q) && is_command p.purpose) e less) (fewer_pass g h (λ p. p.maker == q) e less) acts))
 ] refl)
   where
     live : (q : ℕ) → is_live (entry w n (Did (run_no r) k a)) q ≡ is_live n q
@@ -197,15 +195,16 @@ answer_turn w n g r k d a waitless turn = turn_kept w n (entry w n (Did (run_no 
     did_is : (q e : ℕ) → q ≢ r → did (entry w n (Did (run_no r) k a)) q e ≡ did n q e
     did_is q e other = ap (λ o. is_some (o.on e).view) (put_other n.run r _ q other)
 
--- the device of a run's one grip is home again: it has no other command out
-answer_first : (w : Setting) (n : Reading) (g : Grips) (r k d : ℕ) (a : Answer) → ((e : ℕ) (p : Purpose) → g e ≡ Some (record { maker = r; purpose = p }) → e ≡ d) → NoneAnsweredDoomed n g → NoneAnsweredDoomed (entry w n (Did (run_no r) k a)) (put g d None)
-answer_first w n g r k d a alone first e p out = elim (p.maker == r) as (λ b. (p.maker == r) ≡ b → not (is_command p.purpose && ((entry w n (Did (run_no r) k a)).run p.maker).answered_doomed) ≡ true) [
-  | true ↦ (λ at. absurd (let own : p.maker ≡ r = grind (arith, common_steps) in gone (alone e p.purpose (subst (λ x. g e ≡ Some (record { maker = x; purpose = p.purpose })) own (less_one g d e p out)))))
-  | false ↦ (λ at. let other : p.maker ≢ r = grind (arith, common_steps) in ap (λ o. not (is_command p.purpose && o.answered_doomed)) (put_other n.run r _ p.maker other) ∙ first e p (less_one g d e p out))
+-- the run has no grip out then
+answer_first : (w : Setting) (n : Reading) (g h : Grips) (r k : ℕ) (a : Answer) → AreFewer h g → HoldsNone h r → NoneAnsweredDoomed n g → NoneAnsweredDoomed (entry w n (Did (run_no r) k a)) h
+answer_first w n g h r k a less none first e p out = elim (p.maker == r) as (λ b. (p.maker == r) ≡ b → not (is_command p.purpose && ((entry w n (Did (run_no r) k a)).run p.maker).answered_doomed) ≡ true) [
+  | true ↦ (λ at. absurd (let own : p.maker ≡ r = grind (arith, common_steps) in none e p.purpose (subst (λ x. h e ≡ Some (record { maker = x; purpose = p.purpose })) own out)))
+  | false ↦ (λ at. let other : p.maker ≢ r = grind (arith, common_steps) in ap (λ o. not (is_command p.purpose && o.answered_doomed)) (put_other n.run r _ p.maker other) ∙ first e p (less e p out))
 ] refl
-  where
-    gone : e ≡ d → ⊥
-    gone same = let none : None ≡ Some p = sym (put_same g d None) ∙ ap (put g d None) (sym same) ∙ out in absurd (cc)
+
+-- a run with one grip has none when its device is home
+last_home : (g : Grips) (r d : ℕ) → ((e : ℕ) (p : Purpose) → g e ≡ Some (record { maker = r; purpose = p }) → e ≡ d) → HoldsNone (put g d None) r
+last_home g r d alone e p out = absurd (let none : None ≡ Some (record { maker = r; purpose = p }) = sym (put_same g d None) ∙ ap (put g d None) (sym (alone e p (less_one g d e (record { maker = r; purpose = p }) out))) ∙ out in cc)
 
 ends_live : (n : Reading) (r : ℕ) (o : OfRun) → is_some o.ended ≡ true → (q : ℕ) → (is_some (put n.run r o q).placed && is_none (put n.run r o q).ended) ≡ true → is_live n q ≡ true
 ends_live n r o over q = elim (q == r) as (λ b. (is_some (if b then o else n.run q).placed && is_none (if b then o else n.run q).ended) ≡ true → is_live n q ≡ true) [
@@ -214,11 +213,11 @@ ends_live n r o over q = elim (q == r) as (λ b. (is_some (if b then o else n.ru
 ]
 
 commit_turn : (w : Setting) (n : Reading) (g : Grips) (r : ℕ) → ActsInTurn w n g → ActsInTurn w (entry w n (Ended (run_no r) Committed)) g
-commit_turn w n g r turn = turn_less w n (entry w n (Ended (run_no r) Committed)) g g refl (ends_live n r (record (n.run r) { ended = Some Committed }) refl) (λ q d. put_keeps (λ o. is_some (o.on d).view) n.run r _ refl q) (same_grips g) turn
+commit_turn w n g r turn = turn_less w n (entry w n (Ended (run_no r) Committed)) g g (λ q now. refl) (ends_live n r (record (n.run r) { ended = Some Committed }) refl) (λ q d. put_keeps (λ o. is_some (o.on d).view) n.run r _ refl q) (same_grips g) turn
 
 -- a run that is aborted stands before no run
 aborted_turn : (w : Setting) (n : Reading) (g : Grips) (r : ℕ) (cause : Cause) → ActsInTurn w n g → ActsInTurn w (entry w n (Ended (run_no r) (Aborted cause))) g
-aborted_turn w n g r cause turn = turn_by w n m g (λ q now. live_before_without n m r q refl gone (stays q now)) fewer (λ q d acts. turn q d (acts_more _ _ _ _ _ _ _ _ (fewer q) (same_true (put_keeps (λ o. is_some (o.on d).view) n.run r new refl q)) (λ e. e) (λ e. e) acts))
+aborted_turn w n g r cause turn = turn_less w n m g g (λ q now. live_before_without n m r q refl gone (stays q now)) fewer (λ q d. put_keeps (λ o. is_some (o.on d).view) n.run r new refl q) (same_grips g) turn
   where
     m : Reading
     m = entry w n (Ended (run_no r) (Aborted cause))
@@ -240,20 +239,23 @@ aborted_turn w n g r cause turn = turn_by w n m g (λ q now. live_before_without
     stays q now same = let both : true ≡ false = sym now ∙ ap (is_live m) same ∙ gone in absurd (cc)
 
 doom_turn : (w : Setting) (n : Reading) (g : Grips) (r : ℕ) (cause : Cause) → ActsInTurn w n g → ActsInTurn w (entry w n (Doomed (run_no r) cause)) g
-doom_turn w n g r cause turn = turn_less w n (entry w n (Doomed (run_no r) cause)) g g refl (λ q. same_true (doomed_live w n (run_no r) cause q)) (λ q d. put_keeps (λ o. is_some (o.on d).view) n.run r _ refl q) (same_grips g) turn
+doom_turn w n g r cause turn = turn_less w n (entry w n (Doomed (run_no r) cause)) g g (λ q now. refl) (λ q. same_true (doomed_live w n (run_no r) cause q)) (λ q d. put_keeps (λ o. is_some (o.on d).view) n.run r _ refl q) (same_grips g) turn
 
-undo_turn : (w : Setting) (n : Reading) (g : Grips) (r d : ℕ) → ActsInTurn w n g → ActsInTurn w (entry w n (Undid (run_no r) (device_no d) true)) (put g d None)
-undo_turn w n g r d turn = turn_less w n (entry w n (Undid (run_no r) (device_no d) true)) g (put g d None) refl (λ q. same_true (put_keeps (λ o. is_some o.placed && is_none o.ended) n.run r _ refl q)) (λ q e. put_keeps (λ o. is_some (o.on e).view) n.run r _ (put_keeps (λ x. is_some x.view) (n.run r).on d _ refl e) q) (less_one g d) turn
+undo_turn : (w : Setting) (n : Reading) (g h : Grips) (r d : ℕ) (drove : Bool) → AreFewer h g → ActsInTurn w n g → ActsInTurn w (entry w n (Undid (run_no r) (device_no d) drove)) h
+undo_turn w n g h r d drove less turn = turn_less w n (entry w n (Undid (run_no r) (device_no d) drove)) g h (λ q now. refl) (λ q. same_true (put_keeps (λ o. is_some o.placed && is_none o.ended) n.run r _ refl q)) (λ q e. put_keeps (λ o. is_some (o.on e).view) n.run r _ (put_keeps (λ x. is_some x.view) (n.run r).on d _ refl e) q) less turn
 
--- one device more is out, for a run that waits for none
-pub grip_turn : (w : Setting) (n : Reading) (g : Grips) (r d : ℕ) (p : Purpose) → strict_wait w n r ≡ None → ActsInTurn w n g → ActsInTurn w n (put g d (Some (record { maker = r; purpose = p })))
+-- one device more is out: its maker waits for none, where it is a live run
+pub grip_turn : (w : Setting) (n : Reading) (g : Grips) (r d : ℕ) (p : Purpose) → (is_live n r ≡ true → strict_wait w n r ≡ None) → ActsInTurn w n g → ActsInTurn w n (put g d (Some (record { maker = r; purpose = p })))
 grip_turn w n g r d p alone turn q e acts = elim (q == r) as (λ b. (q == r) ≡ b → strict_wait w n q ≡ None) [
-  | true ↦ (λ at. let same : q ≡ r = grind (arith, common_steps) in subst (λ x. strict_wait w n x ≡ None) (sym same) alone)
+  | true ↦ (λ at. let same : q ≡ r = grind (arith, common_steps) in subst (λ x. strict_wait w n x ≡ None) (sym same) (alone (subst (λ x. is_live n x ≡ true) same (acting (is_live n q) (has_touched n (put g d (Some new)) q e || has_grip (put g d (Some new)) q e) acts))))
   | false ↦ (λ at. turn q e (acts_more _ _ _ _ _ _ _ _ (λ x. x) (λ x. x) (other_command (grind (arith, common_steps))) (other_grip (grind (arith, common_steps))) acts))
 ] refl
   where
     new : Grip
     new = record { maker = r; purpose = p }
+
+    acting : (l a : Bool) → (l && a) ≡ true → l ≡ true
+    acting l a e = grind (arith, common_steps)
 
     other_grip : (r == q) ≡ false → has_grip (put g d (Some new)) q e ≡ true → has_grip g q e ≡ true
     other_grip other = elim (e == d) as (λ b. unwrap_or (option_map (λ x. x.maker == q) (if b then Some new else g e)) false ≡ true → has_grip g q e ≡ true) [ true ↦ (λ f. absurd (let both : true ≡ false = sym f ∙ other in cc)) | false ↦ (λ f. f) ]
@@ -267,11 +269,11 @@ pub arrival_may : (s : Configuration) (r m : ℕ) → may_follow s.setting (read
 arrival_may s r m follows later kept =
     record {
       follows = follows;
-      stage = refl;
       clean = refl;
       justified = refl;
       scheduled = tt;
       isolated = λ strict. refl;
+      unrevoked = λ first_come. refl;
       moment = omega (arith, later);
       in_order = λ first_come. order_kept n (entry s.setting n (Arrived (run_no r) m)) refl (λ q. put_keeps stamp_in n.run r (record (n.run r) { arrived = Some m }) refl q) (kept.in_order first_come);
       in_turn = arrival_turn s.setting n s.grips r m kept.in_turn;
@@ -318,11 +320,11 @@ pub placing_may : (s : Configuration) (r m : ℕ) → may_follow s.setting (read
 placing_may s r m follows later scheduled unplaced gripless kept =
     record {
       follows = follows;
-      stage = refl;
       clean = refl;
       justified = refl;
       scheduled = scheduled;
       isolated = λ strict. refl;
+      unrevoked = λ first_come. refl;
       moment = omega (arith, later);
       in_order = λ first_come. placing_order s.setting n r m stands (stamps_below s.setting (entries_of s.history)) unplaced (kept.in_order first_come);
       in_turn = placing_turn s.setting n s.grips r m stands unplaced (λ d. ap (λ o. is_some o.view) ((shapes s.setting (entries_of s.history) kept.well_formed r).clear unplaced d)) gripless kept.in_turn;
@@ -335,7 +337,7 @@ placing_may s r m follows later scheduled unplaced gripless kept =
     stands : Standing n
     stands = standing s.setting (entries_of s.history) kept.well_formed
 
--- A run with a device out acts alone
+-- A run that waits for no run acts alone
 
 in_turn_out : (s : Configuration) (r d : ℕ) (p : Purpose) → s.grips d ≡ Some (record { maker = r; purpose = p }) → is_live (read_of s) r ≡ true → HistoryIsKept s → strict_wait s.setting (read_of s) r ≡ None
 in_turn_out s r d p out live kept = kept.in_turn r d (acting (is_live (read_of s) r) (has_touched (read_of s) s.grips r d) (has_grip s.grips r d) live (holds_is s.grips r d p out))
@@ -343,49 +345,72 @@ in_turn_out s r d p out live kept = kept.in_turn r d (acting (is_live (read_of s
     acting : (l t h : Bool) → l ≡ true → h ≡ true → IsTrue (l && (t || h))
     acting l t h el eh = grind (arith, common_steps)
 
-alone_out : (s : Configuration) (r d : ℕ) (p : Purpose) → s.setting.mode.scheduler ≡ Fcfs → s.grips d ≡ Some (record { maker = r; purpose = p }) → is_live (read_of s) r ≡ true → HistoryIsKept s → IsTrue (is_alone s.setting (read_of s) r)
-alone_out s r d p first_come out live kept = is_alone_by s.setting.runs s.setting.kinds s.setting.first s.setting.mode.model s.setting.mode.scheduler (read_of s) r (record { in_order = kept.in_order first_come; there = live_stands (read_of s) r stands live; live = λ q now. live_stands (read_of s) q stands now }) (in_turn_out s r d p out live kept)
+-- .. so does a run that has written a device
+pub in_turn_wrote : (s : Configuration) (r d : ℕ) → is_live (read_of s) r ≡ true → has_written (read_of s) r d ≡ true → HistoryIsKept s → strict_wait s.setting (read_of s) r ≡ None
+in_turn_wrote s r d live wrote kept = kept.in_turn r d (acting (is_live (read_of s) r) (did (read_of s) r d) (grips_command s.grips r d) (has_grip s.grips r d) live ((shapes s.setting (entries_of s.history) kept.well_formed r).wrote d wrote))
+  where
+    acting : (l t c h : Bool) → l ≡ true → t ≡ true → IsTrue (l && ((t || c) || h))
+    acting l t c h el et = grind (arith, common_steps)
+
+alone_now : (s : Configuration) (r : ℕ) → s.setting.mode.scheduler ≡ Fcfs → is_live (read_of s) r ≡ true → strict_wait s.setting (read_of s) r ≡ None → HistoryIsKept s → IsTrue (is_alone s.setting (read_of s) r)
+alone_now s r first_come live waitless kept = is_alone_by s.setting.runs s.setting.kinds s.setting.first s.setting.mode.model s.setting.mode.scheduler (read_of s) r (record { in_order = kept.in_order first_come; there = live_stands (read_of s) r stands live; live = λ q now. live_stands (read_of s) q stands now }) waitless
   where
     stands : Standing (read_of s)
     stands = standing s.setting (entries_of s.history) kept.well_formed
 
 -- A command is answered
 
-pub answer_may : (s : Configuration) (r k d m : ℕ) (a : Answer) → may_follow s.setting (read_of s) (Did (run_no r) k a) ≡ true → stage_entry (Did (run_no r) k a) ≡ true → entry_is_clean s.setting (read_of s) (Did (run_no r) k a) ≡ true → (read_of s).moment ≤ m → s.setting.mode.scheduler ≡ Fcfs → s.grips d ≡ Some (record { maker = r; purpose = Commands k })
-    → ((e : ℕ) (p : Purpose) → s.grips e ≡ Some (record { maker = r; purpose = p }) → e ≡ d) → is_live (read_of s) r ≡ true
-    → HistoryIsKept s → MayAdd s (Did (run_no r) k a) m (put s.grips d None)
-answer_may s r k d m a follows staged clean later first_come out alone live kept =
+answered_may : (s : Configuration) (h : Grips) (r k m : ℕ) (a : Answer) → may_follow s.setting (read_of s) (Did (run_no r) k a) ≡ true → entry_is_clean s.setting (read_of s) (Did (run_no r) k a) ≡ true → (read_of s).moment ≤ m → s.setting.mode.scheduler ≡ Fcfs → AreFewer h s.grips
+    → HoldsNone h r → is_live (read_of s) r ≡ true → strict_wait s.setting (read_of s) r ≡ None → HistoryIsKept s → MayAdd s (Did (run_no r) k a) m h
+answered_may s h r k m a follows clean later first_come less none live waitless kept =
     record {
       follows = follows;
-      stage = staged;
       clean = clean;
       justified = refl;
       scheduled = tt;
-      isolated = λ strict. alone_out s r d (Commands k) first_come out live kept;
+      isolated = λ strict. alone_now s r first_come live waitless kept;
+      unrevoked = λ first_come. refl;
       moment = later;
       in_order = λ first_come. order_kept n (entry s.setting n (Did (run_no r) k a)) refl (λ q. put_keeps stamp_in n.run r _ refl q) (kept.in_order first_come);
-      in_turn = answer_turn s.setting n s.grips r k d a (in_turn_out s r d (Commands k) out live kept) kept.in_turn;
-      first = answer_first s.setting n s.grips r k d a alone kept.first;
+      in_turn = answer_turn s.setting n s.grips h r k a less waitless kept.in_turn;
+      first = answer_first s.setting n s.grips h r k a less none kept.first;
     }
   where
     n : Reading
     n = read_of s
 
+-- by its device, which comes home
+pub answer_may : (s : Configuration) (r k d m : ℕ) (a : Answer) → may_follow s.setting (read_of s) (Did (run_no r) k a) ≡ true → entry_is_clean s.setting (read_of s) (Did (run_no r) k a) ≡ true → (read_of s).moment ≤ m → s.setting.mode.scheduler ≡ Fcfs → s.grips d ≡ Some (record { maker = r; purpose = Commands k })
+    → ((e : ℕ) (p : Purpose) → s.grips e ≡ Some (record { maker = r; purpose = p }) → e ≡ d) → is_live (read_of s) r ≡ true → HistoryIsKept s → MayAdd s (Did (run_no r) k a) m (put s.grips d None)
+answer_may s r k d m a follows clean later first_come out alone live kept = answered_may s (put s.grips d None) r k m a follows clean later first_come (less_one s.grips d) (last_home s.grips r d alone) live (in_turn_out s r d (Commands k) out live kept) kept
+
+-- with no call of its device, where the run holds no grip and waits for no run by its model
+pub told_may : (s : Configuration) (r k m : ℕ) (a : Answer) → may_follow s.setting (read_of s) (Did (run_no r) k a) ≡ true → entry_is_clean s.setting (read_of s) (Did (run_no r) k a) ≡ true → (read_of s).moment ≤ m → s.setting.mode.scheduler ≡ Fcfs
+    → HoldsNone s.grips r → is_live (read_of s) r ≡ true → strict_wait s.setting (read_of s) r ≡ None → HistoryIsKept s → MayAdd s (Did (run_no r) k a) m s.grips
+told_may s r k m a follows clean later first_come none live waitless kept = answered_may s s.grips r k m a follows clean later first_come (same_grips s.grips) none live waitless kept
+
 -- A run commits
 
-ends_alone : (w : Setting) (n : Reading) (r : ℕ) (ds : List ℕ) → ((d : ℕ) → is_device w d ≡ true → n.up d ≡ true) → Each (λ d. (is_device w d ≡ true) × (touches w.runs r d ≡ true)) ds → IsTrue (list_all (λ d. not (did n r d) || n.up d) ds)
-ends_alone w n r [] up all = refl
-ends_alone w n r (d ∷ ds) up all = rw (up d all.0.0, ends_alone w n r ds up all.1) (grind (arith, common_steps))
+-- the devices that the run has touched are counted up where none of them is found down
+ends_up : (n : Reading) (g : Grips) (r : ℕ) (ds : List ℕ) → find (λ d. has_touched n g r d && not (n.up d)) ds ≡ None → IsTrue (list_all (λ d. not (did n r d) || n.up d) ds)
+ends_up n g r [] none = refl
+ends_up n g r (d ∷ ds) none = elim (has_touched n g r d && not (n.up d)) as (λ b. (has_touched n g r d && not (n.up d)) ≡ b → cond b (Some d) (find (λ e. has_touched n g r e && not (n.up e)) ds) ≡ None → IsTrue (list_all (λ e. not (did n r e) || n.up e) (d ∷ ds))) [
+  | true ↦ (λ h f. absurd (cc))
+  | false ↦ (λ h f. rw (here (did n r d) (grips_command g r d) (n.up d) h, ends_up n g r ds f) refl)
+] refl none
+  where
+    here : (t c u : Bool) → ((t || c) && not u) ≡ false → (not t || u) ≡ true
+    here t c u e = grind (arith, common_steps)
 
-pub commit_may : (s : Configuration) (r m : ℕ) → may_follow s.setting (read_of s) (Ended (run_no r) Committed) ≡ true → (read_of s).moment ≤ m → ((d : ℕ) → is_device s.setting d ≡ true → (read_of s).up d ≡ true) → HistoryIsKept s → MayAdd s (Ended (run_no r) Committed) m s.grips
+pub commit_may : (s : Configuration) (r m : ℕ) → may_follow s.setting (read_of s) (Ended (run_no r) Committed) ≡ true → (read_of s).moment ≤ m → down_at_end s.setting (read_of s) s.grips r ≡ None → HistoryIsKept s → MayAdd s (Ended (run_no r) Committed) m s.grips
 commit_may s r m follows later up kept =
     record {
       follows = follows;
-      stage = refl;
       clean = refl;
       justified = refl;
       scheduled = tt;
-      isolated = λ strict. ends_alone s.setting n r (devices_of s.setting r) up (own_devices s.setting r);
+      isolated = λ strict. ends_up n s.grips r (devices_of s.setting r) (ap (λ b. if b then find (λ d. has_touched n s.grips r d && not (n.up d)) (devices_of s.setting r) else None) (sym strict) ∙ up);
+      unrevoked = λ first_come. refl;
       moment = later;
       in_order = λ first_come. order_kept n (entry s.setting n (Ended (run_no r) Committed)) refl (λ q. put_keeps stamp_in n.run r (record (n.run r) { ended = Some Committed }) refl q) (kept.in_order first_come);
       in_turn = commit_turn s.setting n s.grips r kept.in_turn;
@@ -397,15 +422,16 @@ commit_may s r m follows later up kept =
 
 -- A run is doomed
 
-pub doom_may : (s : Configuration) (r m : ℕ) (cause : Cause) → may_follow s.setting (read_of s) (Doomed (run_no r) cause) ≡ true → stage_entry (Doomed (run_no r) cause) ≡ true → shows s.setting (read_of s) r cause ≡ true → moment_of cause (read_of s).moment ≤ m → HistoryIsKept s → MayAdd s (Doomed (run_no r) cause) m s.grips
-doom_may s r m cause follows staged shown later kept =
+pub doom_may : (s : Configuration) (r m : ℕ) (cause : Cause) → may_follow s.setting (read_of s) (Doomed (run_no r) cause) ≡ true → (s.setting.mode.scheduler ≡ Fcfs → keeps_leases (Doomed (run_no r) cause) ≡ true) → shows s.setting (read_of s) r cause ≡ true → moment_of cause (read_of s).moment ≤ m → HistoryIsKept s
+    → MayAdd s (Doomed (run_no r) cause) m s.grips
+doom_may s r m cause follows keeps shown later kept =
     record {
       follows = follows;
-      stage = staged;
       clean = refl;
       justified = shown;
       scheduled = tt;
       isolated = λ strict. refl;
+      unrevoked = keeps;
       moment = later;
       in_order = λ first_come. order_kept n (entry s.setting n (Doomed (run_no r) cause)) refl (λ q. put_keeps stamp_in n.run r _ refl q) (kept.in_order first_come);
       in_turn = doom_turn s.setting n s.grips r cause kept.in_turn;
@@ -417,23 +443,37 @@ doom_may s r m cause follows staged shown later kept =
 
 -- A run is undone on a device
 
-pub undo_may : (s : Configuration) (r d m v : ℕ) → may_follow s.setting (read_of s) (Undid (run_no r) (device_no d) true) ≡ true → (read_of s).moment ≤ m → s.setting.mode.scheduler ≡ Fcfs → s.grips d ≡ Some (record { maker = r; purpose = Undoes v }) → is_live (read_of s) r ≡ true → HistoryIsKept s → MayAdd s (Undid (run_no r) (device_no d) true) m (put s.grips d None)
-undo_may s r d m v follows later first_come out live kept =
+undone_may : (s : Configuration) (h : Grips) (r d m : ℕ) (drove : Bool) → AreFewer h s.grips → may_follow s.setting (read_of s) (Undid (run_no r) (device_no d) drove) ≡ true → (read_of s).moment ≤ m → s.setting.mode.scheduler ≡ Fcfs → HistoryIsKept s → MayAdd s (Undid (run_no r) (device_no d) drove) m h
+undone_may s h r d m drove less follows later first_come kept =
     record {
       follows = follows;
-      stage = refl;
       clean = refl;
       justified = refl;
       scheduled = tt;
-      isolated = λ strict. alone_out s r d (Undoes v) first_come out live kept;
+      isolated = λ strict. alone_now s r first_come live (in_turn_wrote s r d live wrote kept) kept;
+      unrevoked = λ first_come. refl;
       moment = later;
-      in_order = λ first_come. order_kept n (entry s.setting n (Undid (run_no r) (device_no d) true)) refl (λ q. put_keeps stamp_in n.run r _ refl q) (kept.in_order first_come);
-      in_turn = undo_turn s.setting n s.grips r d kept.in_turn;
-      first = first_less n (entry s.setting n (Undid (run_no r) (device_no d) true)) s.grips (put s.grips d None) (λ q. put_keeps (λ o. o.answered_doomed) n.run r _ refl q) (less_one s.grips d) kept.first;
+      in_order = λ first_come. order_kept n (entry s.setting n (Undid (run_no r) (device_no d) drove)) refl (λ q. put_keeps stamp_in n.run r _ refl q) (kept.in_order first_come);
+      in_turn = undo_turn s.setting n s.grips h r d drove less kept.in_turn;
+      first = first_less n (entry s.setting n (Undid (run_no r) (device_no d) drove)) s.grips h (λ q. put_keeps (λ o. o.answered_doomed) n.run r _ refl q) less kept.first;
     }
   where
     n : Reading
     n = read_of s
+
+    live : is_live n r ≡ true
+    live = grind (arith, common_steps, follows)
+
+    wrote : has_written n r d ≡ true
+    wrote = grind (arith, common_steps, follows)
+
+-- by its device, which comes home
+pub undo_may : (s : Configuration) (r d m : ℕ) (drove : Bool) → may_follow s.setting (read_of s) (Undid (run_no r) (device_no d) drove) ≡ true → (read_of s).moment ≤ m → s.setting.mode.scheduler ≡ Fcfs → HistoryIsKept s → MayAdd s (Undid (run_no r) (device_no d) drove) m (put s.grips d None)
+undo_may s r d m drove follows later first_come kept = undone_may s (put s.grips d None) r d m drove (less_one s.grips d) follows later first_come kept
+
+-- with no call of its device: the write is dropped
+pub drop_may : (s : Configuration) (r d m : ℕ) → may_follow s.setting (read_of s) (Undid (run_no r) (device_no d) false) ≡ true → (read_of s).moment ≤ m → s.setting.mode.scheduler ≡ Fcfs → HistoryIsKept s → MayAdd s (Undid (run_no r) (device_no d) false) m s.grips
+drop_may s r d m follows later first_come kept = undone_may s s.grips r d m false (same_grips s.grips) follows later first_come kept
 
 -- A run aborts
 
@@ -441,11 +481,11 @@ pub aborted_may : (s : Configuration) (r m : ℕ) (cause : Cause) → may_follow
 aborted_may s r m cause follows later kept =
     record {
       follows = follows;
-      stage = refl;
       clean = refl;
       justified = refl;
       scheduled = tt;
       isolated = λ strict. refl;
+      unrevoked = λ first_come. refl;
       moment = later;
       in_order = λ first_come. same_order n next (without r n.line) (λ q. put_keeps stamp_in n.run r _ refl q) ∙ order_without n r n.line (kept.in_order first_come);
       in_turn = aborted_turn s.setting n s.grips r cause kept.in_turn;

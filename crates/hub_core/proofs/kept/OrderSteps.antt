@@ -1,18 +1,22 @@
--- Each entry of this stage, and each device that goes out, keeps the line and the table of a window.
+-- Each entry of a step that is no event, and each device that goes out, keeps the line and the table of a window.
 use Rattle.command_rules.specs.Items.{is_ran}
-use Rattle.command_rules.specs.Rosters.{command_at, commands_of, device_no, is_run, run_no}
+use Rattle.command_rules.specs.Rosters.{command_at, commands_of, device_no, is_run, run_no, touches_from}
 use Rattle.device_order.specs.LineWords.{CutAt}
+use Rattle.device_order.specs.Usages.{is_command as holds_command}
 use Rattle.history_book.proofs.Standing.{stands_in}
-use Rattle.history_book.proofs.Snoc.{each_at, entries_on, reading_more}
+use Rattle.history_book.proofs.Snoc.{along_on, each_at, entries_on, put_same, reading_more}
 use Rattle.history_book.specs.Histories.{entries_of, entry, kept_by, reading}
-use Rattle.history_book.specs.Readings.{Reading, did, is_doomed, nothing_read, pends, put}
+use Rattle.history_book.specs.Readings.{OfRun, Reading, did, is_doomed, next_of, nothing_read, pends, put}
 use Rattle.history_book.specs.Settings.{Setting}
-use Rattle.history_book.specs.WellFormed.{IsWellFormed, cause_fits, may_act, may_follow}
+use Rattle.history_book.specs.WellFormed.{IsWellFormed, along, cause_fits, is_well_formed, may_act, may_follow}
 use Rattle.history_book.specs.declared.entries.End.TheVariants.{Aborted, Committed}
 use Rattle.history_book.specs.declared.entries.Entry.TheVariants.{Arrived, Did, Doomed, Ended, Placed, Undid}
 use Rattle.history_book.specs.declared.entries.Entry.{Entry}
 use Rattle.history_book.specs.declared.entries.Kept.{Kept}
+use Rattle.home_types.specs.declared.commands.Answer.TheVariants.{Down}
 use Rattle.home_types.specs.declared.commands.Answer.{Answer}
+use Rattle.home_types.specs.declared.commands.Command.{Command}
+use Rattle.home_types.specs.declared.commands.View.TheVariants.{Down as ViewedDown}
 use Rattle.home_types.specs.declared.commands.View.{View}
 use Rattle.home_types.specs.declared.items.Item.TheVariants.{Ran}
 use Rattle.home_types.specs.declared.items.Item.{Item}
@@ -21,7 +25,7 @@ use Rattle.hub_core.proofs.calls.PlannedInTurn.{planned_first_come}
 use Rattle.hub_core.specs.Bounds.{most_items}
 use Rattle.hub_core.specs.KeptOrders.{IsOrderOf, MayNote, OrderIsBeside, is_first, noted_first}
 use Rattle.hub_core.specs.PlansInTurn.{planned_in_turn}
-use Rattle.hub_core.specs.ReadHistories.{HistoryState, read_in, with_entry}
+use Rattle.hub_core.specs.ReadHistories.{HistoryState, read_in, with_doom, with_entry}
 use Rattle.lineage_table.specs.Accesses.{is_scheduled, status_of}
 use Rattle.lineage_table.specs.Lineages.{IsOpened, LineageState, committed_lineage, lineage_at, removed, undone, with_lineage}
 use Rattle.lineage_table.specs.declared.accesses.Status.TheVariants.{Acquired, Scheduled}
@@ -30,25 +34,29 @@ use Rattle.serial_line.specs.Marks.{Mark, Marked, items_of, touching, untouched,
 use Rattle.std.proofs.Common.{ap, arith, cond, length-append, refl, subst, sym, ◌∙◌}
 use Rattle.hub_core.proofs.kept.Sizes.{count_cons, one_at_most}
 use Rattle.std.proofs.lemmas.List.{length-map, take-append-drop}
-use Rattle.std.specs.Prelude.{Bool, IsTrue, List, None, Option, Some, [], count_by, drop, false, if◌then◌else◌, length, not, option_map, suc, take, true, unwrap_or, ℕ, ◌&&◌, ◌*◌, ◌++◌, ◌+◌, ◌<◌, ◌==◌, ◌∷◌, ◌≡◌, ◌≤◌}
-use Rattle.window_order.proofs.AnsweredTables.{TouchesNow}
+use Rattle.std.specs.Prelude.{Bool, IsSome, IsTrue, List, None, Option, Some, [], count_by, drop, false, if◌then◌else◌, is_some, length, not, option_map, suc, take, true, unwrap_or, ℕ, ◌&&◌, ◌++◌, ◌+◌, ◌<◌, ◌==◌, ◌||◌, ◌∷◌, ◌≡◌, ◌≤◌}
+use Rattle.window_order.proofs.AnsweredDowns.{IsToldDown}
+use Rattle.window_order.proofs.AnsweredTables.{TouchesNow, answered_run, left_after}
 use Rattle.window_order.proofs.PlacedTables.{arrived_table, opened_table}
-use Rattle.window_order.proofs.ReadFacts.{IsRead}
+use Rattle.window_order.proofs.PromisedWords.{command_held}
+use Rattle.window_order.proofs.ReadFacts.{IsRead, read_facts}
 use Rattle.window_order.proofs.Runs.{cut_live, run_positive}
 use Rattle.window_order.proofs.Steps.{IsOut, out_is}
 use Rattle.window_order.proofs.TableCalls.{status_there, touches_now, waits_there}
-use Rattle.window_order.proofs.TableSteps.{aborted_table, answered_table, changes_one, command_out_table, committed_table, doomed_each, doomed_table, placed_table, undid_table, undo_out_table}
+use Rattle.window_order.proofs.TableSteps.{aborted_table, answered_table, changes_one, command_out_table, committed_table, doomed_each, doomed_table, placed_table, undid_table, undo_dropped_table, undo_out_table}
+use Rattle.window_order.proofs.ToldTables.{told_table, told_touches_now}
 use Rattle.window_order.specs.MarksKept.{MarksAreKept}
 use Rattle.window_order.proofs.TouchedLines.{marks_aborted, marks_answered, marks_arrived, marks_begin, marks_committed, marks_doomed, marks_out, marks_placed, marks_undo_home, marks_undo_out, marks_undone}
 use Rattle.window_order.specs.OrderKept.{OrderIsKept}
 use Rattle.window_order.specs.TableChanges.{ChangesEach, NoneWroteBehind, answered_change, answered_lineage, doomed_lineage, is_done_there, placed_change, scheduled_on, told_write, undone_change}
-use Rattle.window_order.specs.TableKept.{TableIsKept}
+use Rattle.window_order.specs.TableKept.{LineageIsKept, TableIsKept}
 use Rattle.lock_leasing.specs.Tables.{view_when}
 use Rattle.history_book.specs.Readings.{is_told}
 use Rattle.history_book.specs.declared.entries.Cause.{Cause}
 use Rattle.lock_leasing.specs.Places.{GripsFit}
 use Rattle.std.proofs.lemmas.Grind.{common_steps}
-use Rattle.window_order.proofs.Grips.{HoldsNone, none_left}
+use Rattle.window_order.proofs.Grips.{HoldsNone, held_none, none_left}
+use Rattle.window_order.proofs.TurnedLines.{marks_told}
 
 -- One entry more
 
@@ -173,37 +181,38 @@ order_undo_out {rounds = rounds} h g f r d v line after table later read home be
 
 -- A command is answered
 
--- the run's turn on the device of its command
-pub may_note : (w : Setting) (n : Reading) (g : Grips) (held : ℕ → ℕ) (d r k : ℕ) (table : List LineageState) → IsRead w n → OrderIsKept w n g held → g d ≡ Some (record { maker = r; purpose = Commands k }) → d < length w.first → TableIsKept w n g table
-    → (is_first r (lineage_at table d) ≡ not (did n r d)) × MayNote r (lineage_at table d)
-may_note w n g held d r k table read order at below kept = (first, record { status = status; first = λ h. waits_there w n g d r cut (lineage_at table d) read turn (unseen (did n r d) (sym first ∙ h)) (kept.each d below) })
+-- what the table asks for where it is the run's turn on the device
+note_there : (w : Setting) (n : Reading) (g : Grips) (d r : ℕ) (cut : CutAt r n.line) (s : LineageState) → IsRead w n → TouchesNow w n g d r cut → LineageIsKept w n g d s → (is_first r s ≡ not (did n r d)) × MayNote r s
+note_there w n g d r cut s read turn kept = (first, record { status = status; first = λ h. waits_there w n g d r cut s read turn (unseen (did n r d) (sym first ∙ h)) kept })
   where
-    cut : CutAt r n.line
-    cut = cut_live w n r read (out_is w n g d r k order.grips at).live
-
-    turn : TouchesNow w n g d r cut
-    turn = touches_now w n g held d r k cut read order at
-
-    stands : status_of r (lineage_at table d).accesses ≡ Some (if did n r d then Acquired else Scheduled)
-    stands = status_there w n g d r cut (lineage_at table d) read turn (kept.each d below)
+    stands : status_of r s.accesses ≡ Some (if did n r d then Acquired else Scheduled)
+    stands = status_there w n g d r cut s read turn kept
 
     by_did : (b : Bool) → is_scheduled (if b then Acquired else Scheduled) ≡ not b
     by_did true = refl
     by_did false = refl
 
-    first : is_first r (lineage_at table d) ≡ not (did n r d)
+    first : is_first r s ≡ not (did n r d)
     first = ap (λ o. unwrap_or (option_map is_scheduled o) false) stands ∙ by_did (did n r d)
 
     turned : (b : Bool) → (if b then Acquired else Scheduled) ≡ (if not b then Scheduled else Acquired)
     turned true = refl
     turned false = refl
 
-    status : status_of r (lineage_at table d).accesses ≡ Some (if is_first r (lineage_at table d) then Scheduled else Acquired)
-    status = stands ∙ ap (λ s. Some s) (turned (did n r d)) ∙ (λ i. Some (if sym first i then Scheduled else Acquired))
+    status : status_of r s.accesses ≡ Some (if is_first r s then Scheduled else Acquired)
+    status = stands ∙ ap (λ x. Some x) (turned (did n r d)) ∙ (λ i. Some (if sym first i then Scheduled else Acquired))
 
     unseen : (b : Bool) → not b ≡ true → b ≡ false
     unseen true h = absurd (cc)
     unseen false h = refl
+
+-- the run's turn on the device of its command
+pub may_note : (w : Setting) (n : Reading) (g : Grips) (held : ℕ → ℕ) (d r k : ℕ) (table : List LineageState) → IsRead w n → OrderIsKept w n g held → g d ≡ Some (record { maker = r; purpose = Commands k }) → d < length w.first → TableIsKept w n g table
+    → (is_first r (lineage_at table d) ≡ not (did n r d)) × MayNote r (lineage_at table d)
+may_note w n g held d r k table read order at below kept = note_there w n g d r cut (lineage_at table d) read (touches_now w n g held d r k cut read order at) (kept.each d below)
+  where
+    cut : CutAt r n.line
+    cut = cut_live w n r read (out_is w n g d r k order.grips at).live
 
 -- what the answer tells of the device
 pub record ToldOf (w : Setting) (n : Reading) (r k : ℕ) (a : Answer) (view : View) (wrote : Option ℕ) (last : Bool) : Type 0 where
@@ -252,6 +261,60 @@ order_answered {rounds = rounds} h h₂ g f held d r k a view wrote last line af
       each = λ e lt. single.each e lt ∙ (λ i. if e == out.device i then is_answered (lineage_at table e) i else lineage_at table e);
     })
 
+-- A command is answered Down with no call
+
+-- the run's turn on the device of its command
+pub may_note_down : (w : Setting) (n : Reading) (g : Grips) (held : ℕ → ℕ) (r : ℕ) (c : Command) (table : List LineageState) → IsToldDown w n g held r c → c.device.0 < length w.first → TableIsKept w n g table
+    → (is_first r (lineage_at table c.device.0) ≡ not (did n r c.device.0)) × MayNote r (lineage_at table c.device.0)
+may_note_down w n g held r c table told below kept = note_there w n g c.device.0 r cut (lineage_at table c.device.0) told.read (told_touches_now w n g held r c cut told) (kept.each c.device.0 below)
+  where
+    cut : CutAt r n.line
+    cut = cut_live w n r told.read told.live
+
+-- the run is done with the device of its command, which it has just answered, where it is doomed, or nothing is left there
+pub done_after : (w : Setting) (n : Reading) (r k : ℕ) (a : Answer) (d : ℕ) → k ≡ next_of n r → (command_at w.runs r k).device.0 ≡ d → (is_doomed (entry w n (Did (run_no r) k a)) r || not (pends w (entry w n (Did (run_no r) k a)) r d)) ≡ is_done_there w n r k
+done_after w n r k a d number on = (λ i. ap (λ (o : OfRun). is_some o.doomed) (put_same n.run r (answered_run w n r k a)) i || not ((left ∙ ap (λ e. touches_from w.runs r e (k + 1)) (sym on)) i))
+  where
+    left : pends w (entry w n (Did (run_no r) k a)) r d ≡ touches_from w.runs r d (k + 1)
+    left = ap (λ (o : OfRun). touches_from w.runs r d (length o.answers)) (put_same n.run r (answered_run w n r k a)) ∙ left_after w n r k a d number
+
+pub order_told_down : {rounds : ℕ} (h h₂ : HistoryState) (g : Grips) (held : ℕ → ℕ) (r k : ℕ) (last : Bool) (line after : Marked) (table later : List LineageState) → IsToldDown h.setting (read_in h) g held r (command_at h.setting.runs r k) → (command_at h.setting.runs r k).device.0 < length h.setting.first → k ≡ next_of (read_in h) r
+    → h₂ ≡ with_entry h r (Did (run_no r) k Down) → last ≡ is_done_there h.setting (read_in h) r k → after.marks ≡ touching r (command_at h.setting.runs r k).device.0 line.marks → after.spare ≡ line.spare
+    → later ≡ with_lineage table (command_at h.setting.runs r k).device.0 (noted_first r (is_first r (lineage_at table (command_at h.setting.runs r k).device.0)) ViewedDown None last)
+    → OrderIsBeside rounds h g line table → OrderIsBeside rounds h₂ g after later
+order_told_down {rounds = rounds} h h₂ g held r k last line after table later told below number new last_is marks spare changed kept = entry_kept h h₂ g r (Did (run_no r) k Down) after later new (record {
+  table_is = subst (λ j. TableIsKept w (entry w n (Did (run_no r) j Down)) g later) (sym number) (told_table w n g held r c table later told (subst (λ j. ChangesEach (answered_change w n r j Down) table later) number changes) kept.table_is);
+  line_is = subst (MarksAreKept (entry w n (Did (run_no r) k Down)) g) (sym marks) (marks_told w n g r k Down line.marks kept.line_is);
+  room = let size = ap (λ (x : List Mark). length x) marks ∙ length_touching r c.device.0 line.marks in omega (arith, size, spare, kept.room);
+})
+  where
+    w : Setting
+    w = h.setting
+
+    n : Reading
+    n = read_in h
+
+    c : Command
+    c = command_at w.runs r k
+
+    first : is_first r (lineage_at table c.device.0) ≡ not (did n r c.device.0)
+    first = (may_note_down w n g held r c table told below kept.table_is).0
+
+    one : LineageState → LineageState
+    one = noted_first r (is_first r (lineage_at table c.device.0)) ViewedDown None last
+
+    is_answered : (s : LineageState) → one s ≡ answered_lineage w n r k Down s
+    is_answered s = λ i. noted_first r (first i) ViewedDown None (last_is i) s
+
+    single : ChangesEach (λ e s. if e == c.device.0 then one s else s) table (with_lineage table c.device.0 one)
+    single = changes_one table c.device.0 one (subst (λ x. c.device.0 < x) (sym kept.table_is.devices) below)
+
+    changes : ChangesEach (answered_change w n r k Down) table later
+    changes = subst (ChangesEach (answered_change w n r k Down) table) (sym changed) (record {
+      devices = single.devices;
+      each = λ e lt. single.each e lt ∙ (λ i. if e == c.device.0 then is_answered (lineage_at table e) i else lineage_at table e);
+    })
+
 -- A run is doomed
 
 pub order_doomed : {rounds : ℕ} (h h₂ : HistoryState) (g : Grips) (r : ℕ) (cause : Cause) (line after : Marked) (table later : List LineageState) → IsRead h.setting (read_in h) → GripsFit h.setting (read_in h) g → ((d : ℕ) → grips_command g r d ≡ false)
@@ -277,6 +340,25 @@ order_doomed {rounds = rounds} h h₂ g r cause line after table later read fit 
     sound : is_doomed n r ≡ false
     sound = second (may_act w n r) (is_doomed n r) (cause_fits w n r cause) may
 
+-- .. where there is a cause
+pub order_doomed_if : {rounds : ℕ} (h h₂ : HistoryState) (g : Grips) (r : ℕ) (cause : Option Cause) (line after : Marked) (table later : List LineageState) → GripsFit h.setting (read_in h) g → ((d : ℕ) → grips_command g r d ≡ false)
+    → h₂ ≡ with_doom h r cause → IsWellFormed h₂.setting (entries_of h₂.history) → after ≡ line → (cause ≡ None → later ≡ table) → (IsSome cause → ChangesEach (λ d. doomed_lineage r) table later) → OrderIsBeside rounds h g line table → OrderIsBeside rounds h₂ g after later
+order_doomed_if {rounds = rounds} h h₂ g r None line after table later fit none new formed same unchanged changed kept =
+    subst (λ (x : HistoryState). OrderIsBeside rounds x g after later) (sym new) (subst (λ (x : Marked). OrderIsBeside rounds h g x later) (sym same) (subst (OrderIsBeside rounds h g line) (sym (unchanged refl)) kept))
+order_doomed_if h h₂ g r (Some cause) line after table later fit none new formed same unchanged changed kept = order_doomed h h₂ g r cause line after table later (read_facts h.setting (entries_of h.history) before') fit none new formed same (changed (cc)) kept
+  where
+    -- the history without the doom is well formed too
+    before' : IsWellFormed h.setting (entries_of h.history)
+    before' = front (is_well_formed h.setting (entries_of h.history)) (along h.setting (may_follow h.setting) (read_in h) (Doomed (run_no r) cause ∷ []))
+        (sym (along_on h.setting (may_follow h.setting) (nothing_read h.setting) (entries_of h.history) (Doomed (run_no r) cause ∷ [])) ∙ subst (IsWellFormed h.setting) (entries_on h.history r (Doomed (run_no r) cause ∷ [])) (subst (λ (x : HistoryState). IsWellFormed x.setting (entries_of x.history)) new formed))
+      where
+        front : (x y : Bool) → (x && y) ≡ true → x ≡ true
+        front x y e = grind (arith, common_steps)
+
+-- a run that holds no grip has out no command
+pub none_commands : (w : Setting) (g : Grips) (r : ℕ) → HoldsNone g r → (d : ℕ) → grips_command g r d ≡ false
+none_commands w g r none d = sym (command_held w g r d) ∙ ap holds_command (held_none w g r d none)
+
 -- a run whose only grip is that of a device has out no command once the device is home
 pub none_out : (w : Setting) (n : Reading) (g : Grips) (d r : ℕ) (p : Purpose) → is_run w.runs r ≡ true → g d ≡ Some (record { maker = r; purpose = p }) → GripsFit w n g → (e : ℕ) → grips_command (put g d None) r e ≡ false
 none_out w n g d r p run at fit e = at_ (put g d None e) refl
@@ -301,6 +383,21 @@ pub order_undone : {rounds : ℕ} (h h₂ : HistoryState) (g f : Grips) (r d v :
 order_undone {rounds = rounds} h h₂ g f r d v line table new out home kept = entry_kept h h₂ f r (Undid (run_no r) (device_no d) true) line table new (subst (λ (x : Grips). IsOrderOf rounds w (entry w n (Undid (run_no r) (device_no d) true)) x line table) (sym home) (record {
   table_is = undid_table w n g d r v table out kept.table_is;
   line_is = marks_undone w n (put g d None) r d true line.marks (marks_undo_home n g r d v line.marks out kept.line_is);
+  room = omega (arith, kept.room);
+}))
+  where
+    w : Setting
+    w = h.setting
+
+    n : Reading
+    n = read_in h
+
+-- .. or its write there is dropped
+pub order_dropped : {rounds : ℕ} (h h₂ : HistoryState) (g : Grips) (r d : ℕ) (line after : Marked) (table later : List LineageState) → IsRead h.setting (read_in h) → d < length table → h₂ ≡ with_entry h r (Undid (run_no r) (device_no d) false) → after ≡ line → later ≡ with_lineage table d (undone r)
+    → OrderIsBeside rounds h g line table → OrderIsBeside rounds h₂ g after later
+order_dropped {rounds = rounds} h h₂ g r d line after table later read below new same changed kept = entry_kept h h₂ g r (Undid (run_no r) (device_no d) false) after later new (subst (λ (x : Marked). IsOrderOf rounds w (entry w n (Undid (run_no r) (device_no d) false)) g x later) (sym same) (record {
+  table_is = undo_dropped_table w n g d r false table later read (subst (ChangesEach (undone_change r d) table) (sym changed) (changes_one table d (undone r) below)) kept.table_is;
+  line_is = marks_undone w n g r d false line.marks kept.line_is;
   room = omega (arith, kept.room);
 }))
   where

@@ -5,7 +5,7 @@ use Rattle.history_book.proofs.Shapes.{put_all}
 use Rattle.history_book.specs.Histories.{answered, entry, reading}
 use Rattle.history_book.specs.Lines.{without}
 use Rattle.history_book.specs.Readings.{OfRun, OnDevice, Reading, nothing_read, put}
-use Rattle.history_book.specs.Settings.{Setting, is_device}
+use Rattle.history_book.specs.Settings.{Setting, is_device, is_weak}
 use Rattle.history_book.specs.WellFormed.{IsWellFormed, along, may_follow}
 use Rattle.history_book.specs.declared.entries.Entry.{Entry}
 use Rattle.history_book.specs.declared.entries.Entry.TheVariants.{Arrived, Did, Doomed, Ended, Fell, Placed, Rose, Undid}
@@ -24,7 +24,7 @@ use Rattle.home_types.specs.declared.kinds.Kind.{Kind}
 use Rattle.hub_core.specs.Openings.{names_values_of}
 use Rattle.lock_leasing.proofs.Effects.{last_some_of}
 use Rattle.lock_leasing.specs.Configurations.{Grips}
-use Rattle.lock_leasing.specs.Words.{Write, is_undone, last_some, value_without, write_of}
+use Rattle.lock_leasing.specs.Words.{Write, is_undone, last_some, standing_value, value_without, write_of}
 use Rattle.std.proofs.Common.{ap, arith, refl, subst, sym, ◌∙◌}
 use Rattle.std.proofs.lemmas.Grind.{common_steps}
 use Rattle.std.specs.Prelude.{Bool, IsTrue, List, None, Option, Some, [], false, fold, if◌then◌else◌, is_some, length, nat_lt, option_map, slice_get, slice_index_or, suc, true, unwrap_or, zero, ℕ, ◌&&◌, ◌∷◌, ◌≡◌}
@@ -104,9 +104,9 @@ writes_from w n (e ∷ h) fit all ok = writes_from w (entry w n e) h fit (writes
 pub writes_fit : (w : Setting) (h : List Entry) → ValuesFit w → IsWellFormed w h → WritesFit w (reading w h)
 writes_fit w h fit ok = writes_from w (nothing_read w) h fit (λ r d. refl) ok
 
--- so does the value at which a device would stand without a run
-pub undo_value : (w : Setting) (n : Reading) (g : Grips) (r d : ℕ) → WritesFit w n → IsTrue (has_value (kind_at w.kinds d) (stand_at w.first d).value) → has_value (kind_at w.kinds d) (value_without w n g r d) ≡ true
-undo_value w n g r d all first = by_write (last_some (write_of n g d) (without r n.line)) (λ e at. last_some_of Fits (write_of n g d) write_fits (without r n.line) None (λ e none. absurd (cc)) e at)
+-- so does the value along a line: the last write that is not undone, else the first value
+line_value : (w : Setting) (n : Reading) (g : Grips) (d : ℕ) (line : List Item) → WritesFit w n → IsTrue (has_value (kind_at w.kinds d) (stand_at w.first d).value) → has_value (kind_at w.kinds d) (unwrap_or (option_map (λ e. e.value) (last_some (write_of n g d) line)) (stand_at w.first d).value) ≡ true
+line_value w n g d line all first = by_write (last_some (write_of n g d) line) (λ e at. last_some_of Fits (write_of n g d) write_fits line None (λ e none. absurd (cc)) e at)
   where
     Fits : Write → Type 0
     Fits e = has_value (kind_at w.kinds d) e.value ≡ true
@@ -125,3 +125,11 @@ undo_value w n g r d all first = by_write (last_some (write_of n g d) (without r
     by_write : (o : Option Write) → ((e : Write) → o ≡ Some e → Fits e) → has_value (kind_at w.kinds d) (unwrap_or (option_map (λ e. e.value) o) (stand_at w.first d).value) ≡ true
     by_write None each = first
     by_write (Some e) each = each e refl
+
+-- .. at which a device would stand without a run
+pub undo_value : (w : Setting) (n : Reading) (g : Grips) (r d : ℕ) → WritesFit w n → IsTrue (has_value (kind_at w.kinds d) (stand_at w.first d).value) → has_value (kind_at w.kinds d) (value_without w n g r d) ≡ true
+undo_value w n g r d all first = line_value w n g d (without r n.line) all first
+
+-- .. and at which it stands
+pub standing_fits : (w : Setting) (n : Reading) (g : Grips) (d : ℕ) → is_weak w.mode ≡ false → WritesFit w n → IsTrue (has_value (kind_at w.kinds d) (stand_at w.first d).value) → has_value (kind_at w.kinds d) (standing_value w n g d) ≡ true
+standing_fits w n g d strong all first = ap (λ b. has_value (kind_at w.kinds d) (if b then n.last d else unwrap_or (option_map (λ e. e.value) (last_some (write_of n g d) n.line)) (stand_at w.first d).value)) strong ∙ line_value w n g d n.line all first

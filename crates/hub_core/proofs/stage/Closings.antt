@@ -1,8 +1,10 @@
--- What a window has to be that is closed in this stage.
-use Rattle.command_rules.specs.Rosters.{command_at, commands_of, device_no, is_run, no_command, run_no}
+-- What a window has to be that is closed.
+use Rattle.command_rules.specs.Items.{of_run}
+use Rattle.command_rules.specs.Rosters.{command_at, commands_of, device_no, is_run, no_command, run_no, touches}
 use Rattle.history_book.proofs.Shapes.{shapes}
 use Rattle.history_book.proofs.Standing.{is_abort}
 use Rattle.history_book.specs.Histories.{entries_of, line_of}
+use Rattle.history_book.specs.Readings.{Reading, passed_by}
 use Rattle.history_book.specs.Settings.{Setting, device_numbers, is_device, run_numbers}
 use Rattle.history_book.specs.WellFormed.{IsWellFormed}
 use Rattle.history_book.specs.declared.entries.Cause.TheVariants.{DownAtEnd, Lost, MustDown, Refuted, Revoked}
@@ -12,18 +14,21 @@ use Rattle.history_book.specs.declared.entries.End.TheVariants.{Aborted, Committ
 use Rattle.history_book.specs.declared.entries.Entry.{Entry}
 use Rattle.history_book.specs.declared.records.WindowRecord.{WindowRecord}
 use Rattle.home_types.specs.Commands.{fails, refutes}
-use Rattle.home_types.specs.HomeStates.{stand_at}
+use Rattle.home_types.specs.HomeStates.{nowhere, stand_at}
 use Rattle.home_types.specs.declared.commands.Answer.TheVariants.{Found}
 use Rattle.home_types.specs.declared.commands.Command.{Command}
 use Rattle.home_types.specs.declared.commands.Job.TheVariants.{Check, Load, Set, Store}
 use Rattle.home_types.specs.declared.commands.Job.{Job}
+use Rattle.home_types.specs.declared.items.Item.{Item}
+use Rattle.home_types.specs.declared.items.Item.TheVariants.{Back, Failed, Ran}
+use Rattle.home_types.specs.declared.modes.Scheduler.TheVariants.{Fcfs}
 use Rattle.home_types.specs.declared.worlds.Stand.{Stand}
 use Rattle.hub_core.proofs.kept.Sizes.{run_there, run_within}
-use Rattle.hub_core.proofs.stage.StageChoices.{StageSteps, stage_steps}
-use Rattle.hub_core.proofs.stage.StageFacts.{dooms_are_refuted, is_refuted}
+use Rattle.hub_core.proofs.stage.CalmHistories.{NoneFailed, dooms_are_refuted, is_refuted}
 use Rattle.hub_core.specs.AccountedCalls.{CallsAreAccounted}
 use Rattle.hub_core.specs.Agreement.{AgreesWithSerial}
 use Rattle.hub_core.specs.CleanReads.{ReadsAreClean}
+use Rattle.hub_core.specs.ClosedHomes.{stand_left}
 use Rattle.hub_core.specs.HubKept.{ConfigurationIsKept}
 use Rattle.hub_core.specs.Isolation.{IsStrict}
 use Rattle.hub_core.specs.JustifiedAborts.{IsJustified}
@@ -32,15 +37,22 @@ use Rattle.hub_core.specs.Orders.{IsOrderFor}
 use Rattle.hub_core.specs.Stage.{has_must_check, is_check, is_must_check}
 use Rattle.hub_core.specs.Steps.{not_quiet}
 use Rattle.hub_core.specs.declared.refusals.NotQuiet.TheVariants.{StillLive, StillOut}
+use Rattle.lineage_table.specs.Accesses.{standing_value as accesses_standing}
+use Rattle.lineage_table.specs.Lineages.{LineageState, lineage_at, no_lineage}
+use Rattle.lineage_table.specs.declared.accesses.Access.{Access}
 use Rattle.lock_leasing.specs.Configurations.{Configuration, Grip, is_out, read_of}
 use Rattle.lock_leasing.specs.Places.{PlacesAreScheduled}
+use Rattle.lock_leasing.specs.Tables.{uses}
+use Rattle.lock_leasing.specs.Words.{standing_value}
 use Rattle.std.proofs.Common.{ap, arith, cond, refl, subst, sym, ◌∙◌}
 use Rattle.std.proofs.lemmas.Grind.{common_steps}
+use Rattle.std.proofs.lemmas.List.{get_or-map, length-map}
 use Rattle.std.specs.List.{list_all, list_any, range_with_len}
 use Rattle.std.specs.Option.{option_or}
-use Rattle.std.specs.Prelude.{Bool, IsTrue, List, None, Option, Some, [], false, find, is_none, is_some, length, nat_lt, option_map, slice_index_or, suc, true, unwrap_or, zero, ℕ, ◌&&◌, ◌+◌, ◌<◌, ◌==◌, ◌||◌, ◌∷◌, ◌≡◌, ◌≢◌, ◌≤◌}
+use Rattle.std.specs.Prelude.{Bool, IsTrue, List, None, Option, Some, [], false, find, if◌then◌else◌, is_none, is_some, length, map, nat_lt, not, option_map, slice_index_or, suc, true, unwrap_or, zero, ℕ, ◌&&◌, ◌+◌, ◌<◌, ◌==◌, ◌||◌, ◌∷◌, ◌≡◌, ◌≢◌, ◌≤◌}
 use Rattle.window_order.proofs.ReadFacts.{read_facts}
-use Rattle.window_order.proofs.WindowEnds.{AgreesAtEnd, NoneIsLive, agrees_where_home, logs_own_events, none_is_live, order_events, order_following_none, order_runs}
+use Rattle.window_order.proofs.WindowEnds.{AgreesAtEnd, NoneIsLive, agrees_at_end, logs_own_events, none_is_live, order_events, order_following_none, order_runs, standing_committed}
+use Rattle.window_order.specs.TableKept.{TableIsKept, access_read, accesses_along, accesses_read, commits_write}
 
 -- What a quiet window is
 
@@ -122,12 +134,12 @@ sound_without w r (Some (Lost d)) shown none = absurd (cc)
 sound_without w r (Some (Revoked lender d deadline m)) shown none = absurd (cc)
 sound_without w r (Some (DownAtEnd d)) shown none = absurd (cc)
 
--- and has ended committed
-pub ended_committed : (s : Configuration) (rounds opened : ℕ) (held : ℕ → ℕ) (r : ℕ) → ConfigurationIsKept s rounds opened held → IsQuiet s → is_run s.setting.runs r ≡ true → has_must_check s.setting.runs r ≡ false → ((read_of s).run r).ended ≡ Some Committed
-ended_committed s rounds opened held r kept quiet run none = committed ((read_of s).run r).ended (quiet.ended r run) (λ aborts. (shapes s.setting (entries_of s.history) kept.history.well_formed r).aborts aborts)
+-- and has ended committed, where runs are served as they come and no device fails
+pub ended_committed : (s : Configuration) (rounds opened : ℕ) (held : ℕ → ℕ) (r : ℕ) → ConfigurationIsKept s rounds opened held → IsQuiet s → s.setting.mode.scheduler ≡ Fcfs → NoneFailed s → is_run s.setting.runs r ≡ true → has_must_check s.setting.runs r ≡ false → ((read_of s).run r).ended ≡ Some Committed
+ended_committed s rounds opened held r kept quiet first calm run none = committed ((read_of s).run r).ended (quiet.ended r run) (λ aborts. (shapes s.setting (entries_of s.history) kept.history.well_formed r).aborts aborts)
   where
     sound : is_some ((read_of s).run r).doomed ≡ false
-    sound = sound_without s.setting r ((read_of s).run r).doomed (dooms_are_refuted s.setting (entries_of s.history) kept.history.stage kept.history.justified r) none
+    sound = sound_without s.setting r ((read_of s).run r).doomed (dooms_are_refuted s rounds opened held kept first calm r) none
 
     committed : (o : Option End) → is_some o ≡ true → (unwrap_or (option_map is_abort o) false ≡ true → is_some ((read_of s).run r).doomed ≡ true) → o ≡ Some Committed
     committed None e doomed = absurd (cc)
@@ -146,10 +158,10 @@ none_out s rounds opened held d kept quiet = by_grip (s.grips d) refl
 
 -- What a quiet window promises
 
--- the last state is where each device stands
-pub record IsLastState (s : Configuration) (held : ℕ → ℕ) (last : List Stand) : Type 0 where
+-- the last state has each device at its standing value, up or down as it is counted
+pub record IsLastState (s : Configuration) (last : List Stand) : Type 0 where
   pub size : length last ≡ length s.setting.first
-  pub each : (d : ℕ) → d < length s.setting.first → stand_at last d ≡ record { value = held d; up = (read_of s).up d }
+  pub each : (d : ℕ) → d < length s.setting.first → stand_at last d ≡ record { value = standing_value s.setting (read_of s) s.grips d; up = (read_of s).up d }
 
 none_live : (s : Configuration) (rounds opened : ℕ) (held : ℕ → ℕ) → ConfigurationIsKept s rounds opened held → IsQuiet s → NoneIsLive (read_of s)
 none_live s rounds opened held kept quiet = none_is_live s.setting (read_of s) (read_facts s.setting (entries_of s.history) kept.history.well_formed) quiet.ended
@@ -164,15 +176,45 @@ order_is s rounds opened held kept quiet =
     }
 
 -- and the serial execution of it gives the last state
-pub serial_is : (s : Configuration) (rounds opened : ℕ) (held : ℕ → ℕ) (last : List Stand) → ConfigurationIsKept s rounds opened held → IsQuiet s → IsLastState s held last → AgreesWithSerial s.setting (entries_of s.history) (read_of s).line last
-serial_is s rounds opened held last kept quiet at = record { applies = agrees.applies; answers = agrees.answers; home = agrees.home; counted = λ d less. ap (λ x. x.up) (at.each d less) }
+pub serial_is : (s : Configuration) (rounds opened : ℕ) (held : ℕ → ℕ) (last : List Stand) → ConfigurationIsKept s rounds opened held → IsQuiet s → IsLastState s last → AgreesWithSerial s.setting (entries_of s.history) (read_of s).line last
+serial_is s rounds opened held last kept quiet at = record { applies = agrees.applies; answers = agrees.answers; home = agrees.home; counted = agrees.counted }
   where
-    staged : StageSteps s.setting (read_of s)
-    staged = stage_steps s rounds opened held kept
-
     agrees : AgreesAtEnd s.setting (read_of s) last
-    agrees = agrees_where_home s.setting (read_of s) s.grips held last (read_facts s.setting (entries_of s.history) kept.history.well_formed) kept.order kept.stage.strong (none_live s rounds opened held kept quiet) at.size
-        (λ d less. none_out s rounds opened held d kept quiet) (λ d less. staged.read.up d ∙ kept.stage.up d less) at.each
+    agrees = agrees_at_end s.setting (read_of s) s.grips held last (read_facts s.setting (entries_of s.history) kept.history.well_formed) kept.order kept.stage.strong (none_live s rounds opened held kept quiet) at.size at.each
+
+-- where no run has an access, there is none
+none_along : (has_one covering : ℕ → Bool) (access : ℕ → Access) (line : List Item) → ((r : ℕ) → has_one r ≡ false) → accesses_along has_one covering access line ≡ []
+none_along has_one covering access [] none = refl
+none_along has_one covering access (Ran r ∷ is) none =
+    ap (λ b. if b && not (list_any (of_run covering) is) then (access r.0 ∷ accesses_along has_one covering access is) else accesses_along has_one covering access is) (none r.0)
+    ∙ none_along has_one covering access is none
+none_along has_one covering access (Failed d k ∷ is) none = none_along has_one covering access is none
+none_along has_one covering access (Back d k ∷ is) none = none_along has_one covering access is none
+
+-- the lineage table leaves each device so
+pub table_leaves : (s : Configuration) (rounds opened : ℕ) (held : ℕ → ℕ) (table : List LineageState) (last : List Stand) → ConfigurationIsKept s rounds opened held → IsQuiet s → TableIsKept s.setting (read_of s) s.grips table → last ≡ map stand_left table → IsLastState s last
+table_leaves s rounds opened held table last kept quiet fits are =
+    record {
+      size = ap length are ∙ length-map table stand_left ∙ fits.devices;
+      each = λ d within. ap (λ l. stand_at l d) are ∙ get_or-map stand_left table d no_lineage nowhere (omega (arith, within, fits.devices)) ∙ left d within;
+    }
+  where
+    w : Setting
+    w = s.setting
+
+    n : Reading
+    n = read_of s
+
+    over : NoneIsLive n
+    over = none_live s rounds opened held kept quiet
+
+    left : (d : ℕ) → d < length w.first → stand_left (lineage_at table d) ≡ record { value = standing_value w n s.grips d; up = n.up d }
+    left d within =
+        let lineage = fits.each d within in
+        let none : accesses_read w n s.grips lineage.passed d n.line ≡ [] = none_along (uses w n d) (commits_write n d) (access_read w n s.grips lineage.passed d) n.line (λ r. ap (λ b. b && touches w.runs r d && not (passed_by w n r d)) (over r)) in
+        let stands : accesses_standing (lineage_at table d).committed (lineage_at table d).accesses ≡ standing_value w n s.grips d =
+        ap (accesses_standing (lineage_at table d).committed) (lineage.accesses ∙ none) ∙ lineage.committed ∙ sym (standing_committed w n s.grips held d (read_facts w (entries_of s.history) kept.history.well_formed) kept.order kept.stage.strong over) in
+        (λ i. record { value = stands i; up = lineage.up i })
 
 each_ended : (s : Configuration) (a k : ℕ) → ((r : ℕ) → a ≤ r → r < a + k → is_some ((read_of s).run r).ended ≡ true) → IsTrue (list_all (λ r. is_some ((read_of s).run r).ended) (range_with_len a k))
 each_ended s a zero each = refl
@@ -182,16 +224,16 @@ pub all_have_ended : (s : Configuration) → IsQuiet s → IsTrue (all_ended s.s
 all_have_ended s quiet = each_ended s 1 (length s.setting.runs) (λ r from to. quiet.ended r (run_there s.setting.runs r (omega (arith, from)) (omega (arith, to))))
 
 -- what the record of a quiet window tells
-pub record IsRecordOf (s : Configuration) (held : ℕ → ℕ) (closed : WindowRecord) : Type 0 where
+pub record IsRecordOf (s : Configuration) (closed : WindowRecord) : Type 0 where
   pub mode : closed.mode ≡ s.setting.mode
   pub first : closed.first.devices.items ≡ s.setting.first
   pub history : closed.history.items ≡ s.history
   pub order : closed.order.items ≡ (read_of s).line
-  pub last : IsLastState s held closed.last.devices.items
+  pub last : IsLastState s closed.last.devices.items
   pub accounted : CallsAreAccounted s.setting (entries_of s.history) closed.turns.items closed.faults.items
 
 -- it is a legal window
-pub legal_is : (s : Configuration) (rounds opened : ℕ) (held : ℕ → ℕ) (closed : WindowRecord) → ConfigurationIsKept s rounds opened held → IsQuiet s → IsRecordOf s held closed → IsSeriallyLegal s.setting closed
+pub legal_is : (s : Configuration) (rounds opened : ℕ) (held : ℕ → ℕ) (closed : WindowRecord) → ConfigurationIsKept s rounds opened held → IsQuiet s → IsRecordOf s closed → IsSeriallyLegal s.setting closed
 legal_is s rounds opened held closed kept quiet told =
     record {
       mode = told.mode;
@@ -211,7 +253,7 @@ legal_is s rounds opened held closed kept quiet told =
     of_history : (P : List Entry → Type 0) → P (entries_of s.history) → P (history_of closed)
     of_history P p = subst (λ h. P (entries_of h)) (sym told.history) p
 
-pub legal_window : (s : Configuration) (rounds opened : ℕ) (held : ℕ → ℕ) (closed : WindowRecord) → ConfigurationIsKept s rounds opened held → IsQuiet s → IsRecordOf s held closed → IsLegalWindow s.setting closed
+pub legal_window : (s : Configuration) (rounds opened : ℕ) (held : ℕ → ℕ) (closed : WindowRecord) → ConfigurationIsKept s rounds opened held → IsQuiet s → IsRecordOf s closed → IsLegalWindow s.setting closed
 legal_window s rounds opened held closed kept quiet told = subst under_weak (sym kept.stage.strong) (legal_is s rounds opened held closed kept quiet told)
   where
     under_weak : Bool → Type 0

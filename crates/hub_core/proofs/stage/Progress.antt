@@ -7,10 +7,11 @@ use Rattle.history_book.proofs.Standing.{Standing, standing}
 use Rattle.history_book.specs.Histories.{entries_of}
 use Rattle.history_book.specs.Lines.{before}
 use Rattle.history_book.specs.Readings.{PlacedAt, Reading, has_written, is_live, next_command, next_of, sees_down}
-use Rattle.history_book.specs.Settings.{Setting, device_numbers, run_numbers}
+use Rattle.history_book.specs.Settings.{Setting, device_numbers, is_weak, run_numbers}
+use Rattle.history_book.specs.declared.entries.Cause.TheVariants.{DownAtEnd}
 use Rattle.history_book.specs.declared.entries.Cause.{Cause}
 use Rattle.history_book.specs.declared.entries.End.TheVariants.{Committed}
-use Rattle.history_book.specs.declared.entries.Entry.TheVariants.{Arrived, Ended, Placed}
+use Rattle.history_book.specs.declared.entries.Entry.TheVariants.{Arrived, Doomed, Ended, Placed, Undid}
 use Rattle.home_types.specs.Commands.{reads}
 use Rattle.home_types.specs.declared.commands.Command.{Command}
 use Rattle.home_types.specs.declared.items.Item.{Item}
@@ -25,18 +26,18 @@ use Rattle.hub_core.proofs.stage.StageChoices.{StageSteps, stage_choice_is, live
 use Rattle.hub_core.proofs.steps.Takes.{live_run}
 use Rattle.hub_core.specs.HubKept.{ConfigurationIsKept}
 use Rattle.hub_core.specs.Stage.{stage_choice, stage_command, stage_doomed}
-use Rattle.hub_core.specs.Steps.{Absent, Choice, HandsOut, Moves, Over, Waits, aborts, choice_of, first_case, not_quiet, only_if}
+use Rattle.hub_core.specs.Steps.{Absent, Choice, HandsOut, Moves, Over, Waits, aborts, answers_down, choice_of, decide_answered, down_case, down_entries, first_case, not_quiet, only_if, undo_on}
 use Rattle.hub_core.specs.declared.refusals.NotQuiet.TheVariants.{StillLive, StillOut}
-use Rattle.hub_core.specs.declared.waits.Why.TheVariants.{Busy}
-use Rattle.lock_leasing.specs.Configurations.{Configuration, Grips, Undoes, has_grip, is_out, read_of}
-use Rattle.lock_leasing.specs.Waits.{behind_wait, dirty_wait, grip_wait, strict_wait}
+use Rattle.hub_core.specs.declared.waits.Why.TheVariants.{Behind, Busy, Dirty, Strict}
+use Rattle.lock_leasing.specs.Configurations.{Commands, Configuration, Grips, Undoes, has_grip, is_out, read_of}
+use Rattle.lock_leasing.specs.Waits.{behind_wait, busy_wait, dirty_wait, down_at_end, grip_wait, strict_wait}
 use Rattle.lock_leasing.specs.Words.{has_effect, holds_device, live_before, live_runs, next_undo_of, value_without}
 use Rattle.std.proofs.Common.{ap, arith, cond, inl, inr, refl, subst, sym, ◌∙◌}
 use Rattle.std.proofs.lemmas.Grind.{common_steps}
 use Rattle.std.proofs.lemmas.List.Sums.{take_while-cons}
 use Rattle.std.specs.List.{cons_option, list_any, range_with_len}
 use Rattle.std.specs.Option.{option_or}
-use Rattle.std.specs.Prelude.{Bool, List, None, Option, Some, [], false, find, if◌then◌else◌, is_none, is_some, length, max, not, option_map, suc, true, unwrap_or, zero, ℕ, ◌&&◌, ◌+◌, ◌<◌, ◌==◌, ◌∷◌, ◌≡◌, ◌≤◌, ◌⊎◌}
+use Rattle.std.specs.Prelude.{Bool, List, None, Option, Some, [], false, find, if◌then◌else◌, is_none, is_some, length, max, not, option_map, suc, true, unwrap_or, zero, ℕ, ◌&&◌, ◌+◌, ◌<◌, ◌==◌, ◌||◌, ◌∷◌, ◌≡◌, ◌≤◌, ◌⊎◌}
 
 -- the run is told to wait
 abbrev pub is_wait : Choice → Bool
@@ -114,9 +115,13 @@ doomed_goes w n g r cause home = by_next (next_undo_of w n g r)
     while_out None = None
     while_out (Some d) = if is_out g d then Some d else None
 
-    by_next : (o : Option ℕ) → is_wait (first_case (option_map (λ d. Waits (Busy (device_no d))) (while_out o) ∷ option_map (λ d. HandsOut d (Undoes (value_without w n g r d))) o ∷ []) (aborts r cause)) ≡ false
+    driven_or_dropped : (d : ℕ) (b : Bool) → is_wait (if b then HandsOut d (Undoes (value_without w n g r d)) else Moves (Undid (run_no r) (device_no d) false ∷ [])) ≡ false
+    driven_or_dropped d true = refl
+    driven_or_dropped d false = refl
+
+    by_next : (o : Option ℕ) → is_wait (first_case (option_map (λ d. Waits (Busy (device_no d))) (while_out o) ∷ option_map (undo_on w n g r) o ∷ []) (aborts r cause)) ≡ false
     by_next None = refl
-    by_next (Some d) = ap (λ b. is_wait (first_case (option_map (λ e. Waits (Busy (device_no e))) (if b then Some d else None) ∷ Some (HandsOut d (Undoes (value_without w n g r d))) ∷ []) (aborts r cause))) (ap (λ o. is_some o) (home d))
+    by_next (Some d) = ap (λ b. is_wait (first_case (option_map (λ e. Waits (Busy (device_no e))) (if b then Some d else None) ∷ Some (undo_on w n g r d) ∷ []) (aborts r cause))) (ap (λ o. is_some o) (home d)) ∙ driven_or_dropped d (n.up d)
 
 -- a live run that stands behind no live run goes on, with its devices home
 first_goes : (w : Setting) (n : Reading) (g : Grips) (r m : ℕ) → StageSteps w n → is_run w.runs r ≡ true → is_none (n.run r).arrived ≡ false → is_live n r ≡ true → live_before n r ≡ [] → ((d : ℕ) → g d ≡ None) → is_wait (stage_choice w n g r m) ≡ false
@@ -135,13 +140,18 @@ first_goes w n g r m p run came live first home = rw (run, going, home_free w g 
     alone : strict_wait w n r ≡ None
     alone = waits_for_none w.runs w.kinds w.first w.mode.model w.mode.scheduler n r first
 
-    by_next : (o : Option Command) → is_wait (unwrap_or (option_map (stage_command w n g r (next_of n r)) o) (Over Committed (Ended (run_no r) Committed ∷ []))) ≡ false
-    by_next None = refl
+    ends : (o : Option ℕ) → is_wait (unwrap_or (option_map (λ d. Moves (Doomed (run_no r) (DownAtEnd (device_no d)) ∷ [])) o) (Over Committed (Ended (run_no r) Committed ∷ []))) ≡ false
+    ends None = refl
+    ends (Some d) = refl
+
+    by_next : (o : Option Command) → is_wait (unwrap_or (option_map (stage_command w n g r (next_of n r)) o) (decide_answered w n g r)) ≡ false
+    by_next None = ends (down_at_end w n g r)
     by_next (Some c) =
         let behind' : behind_wait w n g r c.device.0 ≡ None = ap (λ xs. find (λ x. holds_device w n g x c.device.0) xs) first in
         let clean : dirty_wait w n g r c ≡ None = ap (λ xs. if reads c.job && not (sees_down n r c.device.0) && not (has_written n r c.device.0) then find (λ x. has_effect n g x c.device.0) xs else None) first ∙ either (reads c.job && not (sees_down n r c.device.0) && not (has_written n r c.device.0)) in
-        let at_home : is_out g c.device.0 ≡ false = ap (λ o. is_some o) (home c.device.0) in
-        rw (behind', clean, alone, at_home) refl
+        let at_home : busy_wait w n g r c.device.0 ≡ false = ap (λ o. (is_weak w.mode || not (sees_down n r c.device.0)) && is_some o) (home c.device.0) ∙ never (is_weak w.mode || not (sees_down n r c.device.0)) in
+        (λ i. is_wait (first_case (option_map (λ x. Waits (Behind c.device (run_no x))) (behind' i) ∷ option_map (λ x. Waits (Dirty c.device (run_no x))) (clean i) ∷ option_map (λ x. Waits (Strict (run_no x))) (alone i) ∷ only_if (at_home i) (Waits (Busy c.device)) ∷ down_case w n r (next_of n r) c ∷ []) (HandsOut c.device.0 (Commands (next_of n r)))))
+        ∙ answers (answers_down w n r c.device.0)
       where
         none_there : Option ℕ
         none_there = None
@@ -150,7 +160,15 @@ first_goes w n g r m p run came live first home = rw (run, going, home_free w g 
         either true = refl
         either false = refl
 
-    by_doom : (o : Option Cause) → is_wait (unwrap_or (option_map (stage_doomed w n g r) o) (unwrap_or (option_map (stage_command w n g r (next_of n r)) (next_command w n r)) (Over Committed (Ended (run_no r) Committed ∷ [])))) ≡ false
+        never : (b : Bool) → (b && false) ≡ false
+        never true = refl
+        never false = refl
+
+        answers : (b : Bool) → is_wait (unwrap_or (only_if b (Moves (down_entries r (next_of n r) c))) (HandsOut c.device.0 (Commands (next_of n r)))) ≡ false
+        answers true = refl
+        answers false = refl
+
+    by_doom : (o : Option Cause) → is_wait (unwrap_or (option_map (stage_doomed w n g r) o) (unwrap_or (option_map (stage_command w n g r (next_of n r)) (next_command w n r)) (decide_answered w n g r))) ≡ false
     by_doom None = by_next (next_command w n r)
     by_doom (Some cause) = doomed_goes w n g r cause home
 

@@ -1,12 +1,12 @@
 -- The step of a run in this stage.
 use Rattle.command_rules.specs.Items.{is_ran}
-use Rattle.command_rules.specs.Rosters.{commands_of, device_no, followed_by, is_run, run_no, touches}
-use Rattle.history_book.proofs.Searches.{Each, each_found, own_devices}
+use Rattle.command_rules.specs.Rosters.{commands_of, device_no, followed_by, is_run, run_no}
+use Rattle.history_book.proofs.Searches.{Each}
 use Rattle.history_book.proofs.Standing.{Standing, is_abort, standing}
 use Rattle.history_book.specs.Histories.{entries_of}
 use Rattle.history_book.specs.Lines.{Split, before}
-use Rattle.history_book.specs.Readings.{PlacedAt, Reading, is_live, next_command, next_of, sees_down}
-use Rattle.history_book.specs.Settings.{Setting, devices_of, is_device, is_strict, is_weak, scheduler_of}
+use Rattle.history_book.specs.Readings.{PlacedAt, Reading, is_live, next_command, next_of}
+use Rattle.history_book.specs.Settings.{Setting, is_device, is_weak, scheduler_of}
 use Rattle.history_book.specs.declared.entries.Cause.{Cause}
 use Rattle.history_book.specs.declared.entries.Cause.TheVariants.{DownAtEnd, Revoked}
 use Rattle.history_book.specs.declared.entries.End.{End}
@@ -21,17 +21,16 @@ use Rattle.home_types.specs.declared.modes.Scheduler.{Scheduler}
 use Rattle.home_types.specs.declared.modes.Visibility.{Visibility}
 use Rattle.home_types.specs.declared.modes.Visibility.TheVariants.{Eventual, Global, Partitioned, Weak}
 use Rattle.hub_core.proofs.steps.Choices.{Acts, Answered, Commanding, IsNext, Undoing, decide_is}
-use Rattle.hub_core.proofs.stage.StageFacts.{StageReads, stage_reads}
 use Rattle.hub_core.specs.HubKept.{ConfigurationIsKept, is_later, placed_in_order}
 use Rattle.hub_core.specs.Openings.{names_values_of}
 use Rattle.hub_core.specs.Stage.{stage_choice, stage_command, stage_doomed}
-use Rattle.hub_core.specs.Steps.{Absent, Choice, HandsOut, Moves, Over, Waits, aborts, answers_down, behind_case, busy_case, choice_of, command_cases, decide, decide_answered, decide_arrived, decide_command, decide_doomed, dirty_case, down_case, down_entries, first_case, only_if, strict_case, undo_cases, undo_on}
+use Rattle.hub_core.specs.Steps.{Absent, Choice, HandsOut, Moves, Over, Waits, aborts, answers_down, behind_case, busy_case, choice_of, command_cases, decide, decide_answered, decide_arrived, decide_command, decide_doomed, dirty_case, down_case, down_entries, first_case, only_if, strict_case, undo_cases}
 use Rattle.hub_core.specs.declared.waits.Why.{Why}
 use Rattle.hub_core.specs.declared.waits.Why.TheVariants.{Busy}
-use Rattle.lock_leasing.specs.Configurations.{Commands, Configuration, Grips, Undoes, is_out, read_of}
+use Rattle.lock_leasing.specs.Configurations.{Commands, Configuration, Grips, Undoes, read_of}
 use Rattle.lock_leasing.specs.Places.{At, DeniedBy, Placing, at_end, scheduled_place}
-use Rattle.lock_leasing.specs.Waits.{busy_wait, down_at_end, follow_wait, grip_wait, undo_wait}
-use Rattle.lock_leasing.specs.Words.{has_effect, has_touched, is_overdue, lease_deadline, live_before, live_runs, next_undo_of, overdue_for, stamp_of, value_without}
+use Rattle.lock_leasing.specs.Waits.{busy_wait, down_at_end, follow_wait, grip_wait}
+use Rattle.lock_leasing.specs.Words.{is_overdue, lease_deadline, live_before, live_runs, next_undo_of, overdue_for, stamp_of, value_without}
 use Rattle.std.proofs.Common.{ap, arith, cond, refl, subst, sym, ◌∙◌}
 use Rattle.std.proofs.lemmas.Grind.{common_steps}
 use Rattle.std.proofs.lemmas.List.Sums.{take_while-cons}
@@ -54,19 +53,8 @@ pub record StageSteps (w : Setting) (n : Reading) : Type 0 where
   pub scheduler : scheduler_of w.mode ≡ Fcfs
   pub follows_none : (r : ℕ) → followed_by w.runs r ≡ None
   pub homed : (r k : ℕ) (c : Command) → slice_get (commands_of w.runs r) k ≡ Some c → is_device w c.device.0 ≡ true
-  pub up : (d : ℕ) → is_device w d ≡ true → n.up d ≡ true
-  pub read : StageReads w n
   pub in_order : IsTrue (placed_in_order n n.line)
   pub standing : (r : ℕ) → is_live n r ≡ true → list_any (is_ran r) n.line ≡ true
-
--- no run sees a device down
-pub never_down : (w : Setting) (n : Reading) (r d : ℕ) → StageReads w n → sees_down n r d ≡ false
-never_down w n r d p = up_view ((n.run r).on d).view (p.views r d)
-  where
-    up_view : (v : Option Bool) → unwrap_or v true ≡ true → unwrap_or (option_map not v) false ≡ false
-    up_view None e = refl
-    up_view (Some true) e = refl
-    up_view (Some false) e = absurd (cc)
 
 no_leader : (w : Setting) (n : Reading) (r : ℕ) → followed_by w.runs r ≡ None → follow_wait w n r ≡ None
 no_leader w n r none = rw none refl
@@ -116,27 +104,6 @@ never_overdue w n g r d m p live = find_none (is_overdue w n g r d m) (live_befo
 
 -- The cases
 
-busy_is : (w : Setting) (n : Reading) (g : Grips) (r d : ℕ) → StageSteps w n → busy_wait w n g r d ≡ is_out g d
-busy_is w n g r d p = rw (p.strong, never_down w n r d p.read) refl
-
-answers_up : (w : Setting) (n : Reading) (r d : ℕ) → StageSteps w n → is_device w d ≡ true → answers_down w n r d ≡ false
-answers_up w n r d p home = rw (p.strong, never_down w n r d p.read, p.up d home) refl
-
--- no device that a run needs up is down at its end
-pub ends_up : (w : Setting) (n : Reading) (g : Grips) (r : ℕ) → StageSteps w n → down_at_end w n g r ≡ None
-ends_up w n g r p = ap (λ o. if is_strict w.mode then o else None) (find_none (λ d. has_touched n g r d && not (n.up d)) (devices_of w r) (each_is (λ d. (is_device w d ≡ true) × (touches w.runs r d ≡ true)) (λ d. (has_touched n g r d && not (n.up d)) ≡ false) (devices_of w r) (λ d home. ap (λ b. has_touched n g r d && not b) (p.up d home.0) ∙ and_false (has_touched n g r d)) (own_devices w r))) ∙ either (is_strict w.mode)
-  where
-    and_false : (b : Bool) → (b && false) ≡ false
-    and_false true = refl
-    and_false false = refl
-
-    none_found : Option ℕ
-    none_found = None
-
-    either : (b : Bool) → (if b then none_found else none_found) ≡ None
-    either true = refl
-    either false = refl
-
 pub take_all : (line : List Item) → length (take (length line) line) ≡ length line
 take_all [] = refl
 take_all (i ∷ is) = ap suc (take_all is)
@@ -144,31 +111,13 @@ take_all (i ∷ is) = ap suc (take_all is)
 place_is : (w : Setting) (n : Reading) (g : Grips) (r m : ℕ) → StageSteps w n → decide_arrived w n g r m ≡ Moves (Placed (run_no r) (length n.line) m ∷ [])
 place_is w n g r m p = rw (no_leader w n r (p.follows_none r), p.scheduler) (ap (λ k. Moves (Placed (run_no r) k m ∷ [])) (take_all n.line))
 
-command_is : (w : Setting) (n : Reading) (g : Grips) (r m k : ℕ) (c : Command) → StageSteps w n → is_live n r ≡ true → is_device w c.device.0 ≡ true → decide_command w n g r m k c ≡ stage_command w n g r k c
-command_is w n g r m k c p live home =
-    ap (λ b. first_case (command_cases b w n g r m k c) out) p.strong
-    ∙ ap (λ o. first_case (option_map (λ x. Moves (Doomed (run_no x) (Revoked (run_no r) c.device (lease_deadline w n x c.device.0) m) ∷ [])) o ∷ behind_case w n g r c ∷ dirty_case w n g r c ∷ strict_case w n r ∷ busy_case w n g r c ∷ down_case w n r k c ∷ []) out) (never_overdue w n g r c.device.0 m p live)
-    ∙ ap (λ b. first_case (behind_case w n g r c ∷ dirty_case w n g r c ∷ strict_case w n r ∷ only_if b (Waits (Busy c.device)) ∷ down_case w n r k c ∷ []) out) (busy_is w n g r c.device.0 p)
-    ∙ ap (λ b. first_case (behind_case w n g r c ∷ dirty_case w n g r c ∷ strict_case w n r ∷ only_if (is_out g c.device.0) (Waits (Busy c.device)) ∷ only_if b (Moves (down_entries r k c)) ∷ []) out) (answers_up w n r c.device.0 p home)
-  where
-    out : Choice
-    out = HandsOut c.device.0 (Commands k)
-
--- an undo drives
-undo_is : (w : Setting) (n : Reading) (g : Grips) (r d : ℕ) → StageSteps w n → next_undo_of w n g r ≡ Some d → undo_on w n g r d ≡ HandsOut d (Undoes (value_without w n g r d))
-undo_is w n g r d p at = ap (λ b. if b then HandsOut d (Undoes (value_without w n g r d)) else Moves (Undid (run_no r) (device_no d) false ∷ [])) (p.up d device)
-  where
-    device : is_device w d ≡ true
-    device = (each_found (λ x. (is_device w x ≡ true) × (touches w.runs r x ≡ true)) (has_effect n g r) (devices_of w r) d (own_devices w r) at).0.0
+command_is : (w : Setting) (n : Reading) (g : Grips) (r m k : ℕ) (c : Command) → StageSteps w n → is_live n r ≡ true → decide_command w n g r m k c ≡ stage_command w n g r k c
+command_is w n g r m k c p live =
+    ap (λ b. first_case (command_cases b w n g r m k c) (HandsOut c.device.0 (Commands k))) p.strong
+    ∙ ap (λ o. first_case (option_map (λ x. Moves (Doomed (run_no x) (Revoked (run_no r) c.device (lease_deadline w n x c.device.0) m) ∷ [])) o ∷ behind_case w n g r c ∷ dirty_case w n g r c ∷ strict_case w n r ∷ busy_case w n g r c ∷ down_case w n r k c ∷ []) (HandsOut c.device.0 (Commands k))) (never_overdue w n g r c.device.0 m p live)
 
 doomed_is : (w : Setting) (n : Reading) (g : Grips) (r : ℕ) (cause : Cause) → StageSteps w n → decide_doomed w n g r cause ≡ stage_doomed w n g r cause
-doomed_is w n g r cause p =
-    ap (λ b. first_case (if b then [] else undo_cases w n g r) (aborts r cause)) p.strong
-    ∙ same_map (λ d. Waits (Busy (device_no d))) (λ d. Waits (Busy (device_no d))) (undo_wait w n g r) _ _ (λ d at. refl)
-    (λ free. same_map (undo_on w n g r) (λ d. HandsOut d (Undoes (value_without w n g r d))) (next_undo_of w n g r) (aborts r cause) (aborts r cause) (λ d at. undo_is w n g r d p at) (λ over. refl))
-
-end_is : (w : Setting) (n : Reading) (g : Grips) (r : ℕ) → StageSteps w n → decide_answered w n g r ≡ Over Committed (Ended (run_no r) Committed ∷ [])
-end_is w n g r p = ap (λ o. unwrap_or (option_map (λ d. Moves (Doomed (run_no r) (DownAtEnd (device_no d)) ∷ [])) o) (Over Committed (Ended (run_no r) Committed ∷ []))) (ends_up w n g r p)
+doomed_is w n g r cause p = ap (λ b. first_case (if b then [] else undo_cases w n g r) (aborts r cause)) p.strong
 
 -- in this stage the step of a run is one of the cases that are left
 pub stage_decides : (w : Setting) (n : Reading) (g : Grips) (r m : ℕ) → StageSteps w n → decide w n g r m ≡ stage_choice w n g r m
@@ -179,7 +128,7 @@ stage_decides w n g r m p =
     same_test (is_none (n.run r).arrived) (Moves (Arrived (run_no r) m ∷ [])) _ _ (λ came.
     ap (λ c. unwrap_or (only_if (is_none (n.run r).placed) c) (first_case (option_map (decide_doomed w n g r) (n.run r).doomed ∷ option_map (decide_command w n g r m (next_of n r)) (next_command w n r) ∷ []) (decide_answered w n g r))) (place_is w n g r m p) ∙ same_test (is_none (n.run r).placed) (Moves (Placed (run_no r) (length n.line) m ∷ [])) _ _ (λ placed.
     same_map (decide_doomed w n g r) (stage_doomed w n g r) (n.run r).doomed _ _ (λ cause at. doomed_is w n g r cause p) (λ sound.
-    same_map (decide_command w n g r m (next_of n r)) (stage_command w n g r (next_of n r)) (next_command w n r) _ _ (λ c at. command_is w n g r m (next_of n r) c p (live going placed) (p.homed r (next_of n r) c at)) (λ none. end_is w n g r p)))))))
+    same_map (decide_command w n g r m (next_of n r)) (stage_command w n g r (next_of n r)) (next_command w n r) _ _ (λ c at. command_is w n g r m (next_of n r) c p (live going placed)) (λ none. refl)))))))
   where
     live : (n.run r).ended ≡ None → is_none (n.run r).placed ≡ false → is_live n r ≡ true
     live going placed = grind (arith, common_steps)
@@ -209,14 +158,9 @@ stage_steps s rounds opened held kept =
       scheduler = first_served s.setting.mode.model s.setting.mode.scheduler kept.stage.scheduler;
       follows_none = kept.stage.follows_none;
       homed = λ r k c at. let home : IsTrue (is_device s.setting c.device.0 && names_values_of (kind_at s.setting.kinds c.device.0) c.job) = kept.opens.homed r k c at in grind (arith, common_steps);
-      up = λ d home. read.up d ∙ kept.stage.up d (let below : nat_lt d (length s.setting.first) ≡ true = home in grind (arith, common_steps));
-      read = read;
       in_order = kept.history.in_order kept.stage.scheduler;
       standing = λ r live. live_stands (read_of s) r (standing s.setting (entries_of s.history) kept.history.well_formed) live;
     }
-  where
-    read : StageReads s.setting (read_of s)
-    read = stage_reads s.setting (entries_of s.history) kept.history.stage
 
 -- .. steps so
 pub stage_choice_is : (s : Configuration) (rounds opened : ℕ) (held : ℕ → ℕ) (r m : ℕ) → ConfigurationIsKept s rounds opened held → choice_of s r m ≡ stage_choice s.setting (read_of s) s.grips r (max s.moment m)
@@ -231,9 +175,12 @@ pub record HoldsOfStage (P : Choice → Type 0) (w : Setting) (n : Reading) (g :
   pub arrives : is_run w.runs r ≡ true → is_none (n.run r).arrived ≡ true → P (Moves (Arrived (run_no r) m ∷ []))
   pub enters : is_run w.runs r ≡ true → is_none (n.run r).placed ≡ true → P (Moves (Placed (run_no r) (length n.line) m ∷ []))
   pub aborted : (cause : Cause) → Acts w n g r → (n.run r).doomed ≡ Some cause → next_undo_of w n g r ≡ None → P (aborts r cause)
+  pub drops : (cause : Cause) (d : ℕ) → Undoing w n g r d cause → n.up d ≡ false → P (Moves (Undid (run_no r) (device_no d) false ∷ []))
   pub undoes : (cause : Cause) (d : ℕ) → Undoing w n g r d cause → n.up d ≡ true → P (HandsOut d (Undoes (value_without w n g r d)))
-  pub goes : (c : Command) → Commanding w n g r c → IsNext w n g r m c → is_out g c.device.0 ≡ false → P (HandsOut c.device.0 (Commands (next_of n r)))
-  pub commits : Answered w n g r → P (Over Committed (Ended (run_no r) Committed ∷ []))
+  pub downs : (c : Command) → Commanding w n g r c → IsNext w n g r m c → busy_wait w n g r c.device.0 ≡ false → answers_down w n r c.device.0 ≡ true → P (Moves (down_entries r (next_of n r) c))
+  pub goes : (c : Command) → Commanding w n g r c → IsNext w n g r m c → busy_wait w n g r c.device.0 ≡ false → answers_down w n r c.device.0 ≡ false → P (HandsOut c.device.0 (Commands (next_of n r)))
+  pub fails_at_end : (d : ℕ) → Answered w n g r → down_at_end w n g r ≡ Some d → P (Moves (Doomed (run_no r) (DownAtEnd (device_no d)) ∷ []))
+  pub commits : Answered w n g r → down_at_end w n g r ≡ None → P (Over Committed (Ended (run_no r) Committed ∷ []))
 
 pub stage_holds : (P : Choice → Type 0) (w : Setting) (n : Reading) (g : Grips) (r m : ℕ) → StageSteps w n → HoldsOfStage P w n g r m → P (decide w n g r m)
 stage_holds P w n g r m p each =
@@ -244,13 +191,13 @@ stage_holds P w n g r m p each =
       arrives = each.arrives;
       enters = λ s enters. subst (λ at. P (Moves (Placed (run_no r) at m ∷ []))) (front_is s enters.place) (each.enters enters.run enters.unplaced);
       aborted = λ cause act doomed over. each.aborted cause act doomed (over p.strong);
-      drops = λ cause d undoing down. absurd (let both : true ≡ false = sym (p.up d undoing.device) ∙ down in cc);
+      drops = each.drops;
       undoes = each.undoes;
       revokes = λ c x run strong at. absurd (let both : None ≡ Some x = sym (never_overdue w n g r c.device.0 m p run.act.live) ∙ at in cc);
-      downs = λ c run next home down. absurd (let both : false ≡ true = sym (answers_up w n r c.device.0 p (p.homed r (next_of n r) c run.next)) ∙ down in cc);
-      goes = λ c run next home up. each.goes c run (next p.strong) (sym (busy_is w n g r c.device.0 p) ∙ home);
-      fails_at_end = λ d all at. absurd (let both : None ≡ Some d = sym (ends_up w n g r p) ∙ at in cc);
-      commits = λ all up. each.commits all;
+      downs = λ c run next home down. each.downs c run (next p.strong) home down;
+      goes = λ c run next home up. each.goes c run (next p.strong) home up;
+      fails_at_end = each.fails_at_end;
+      commits = each.commits;
     })
   where
     front_of : Placing → ℕ

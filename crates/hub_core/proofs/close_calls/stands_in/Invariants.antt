@@ -1,7 +1,12 @@
 use Rattle.hub_core.proofs.close_calls.stands_in.Given as goal
-use Rattle.hub_core.specs.ClosedHomes.{stage_stand}
+use Rattle.hub_core.specs.ClosedHomes.{stand_left}
 use Rattle.std.proofs.Common.{length, map, take, ◌+◌, ◌≡◌, ◌≤◌}
 
 -- the devices up to here stand so, and there is room for the others
-abbrev pub invariant-known : goal.invariant-known
-invariant-known l = (l.stands.items ≡ map stage_stand (take l.device-index l.known.items)) × (length l.known.items ≤ l.device-index + l.stands.spare)
+abbrev pub invariant-devices : goal.invariant-devices
+invariant-devices l = record {
+  stands : l.stands.items ≡ map stand_left (take l.at l.table);
+  room : length l.table ≤ l.stands.spare + l.at;
+  end : l.at-end ≡ length l.table;
+  few : l.at-end ≤ 65536;
+}

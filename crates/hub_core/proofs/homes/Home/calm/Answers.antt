@@ -1,6 +1,6 @@
 use Rattle.hub_core.proofs.homes.Home.calm.Goals as goal
 use Rattle.hub_core.specs.Homes.{HomeState}
-use Rattle.std.proofs.Common.{List, Some, ap, arith, inl, inr, length, slice_get, subst, sym, ℕ, ◌+◌, ◌<◌, ◌≡◌, ◌⊎◌, ◌∙◌}
+use Rattle.std.proofs.Common.{List, Some, ap, arith, inl, inr, length, slice_get, subst, ℕ, ◌+◌, ◌<◌, ◌≡◌, ◌⊎◌, ◌∙◌}
 use Rattle.std.proofs.lemmas.Grind.{common_steps}
 use Rattle.std.proofs.lemmas.Option.{get_or_from_slice_get, slice_get_within}
 

@@ -1,6 +1,7 @@
 use Rattle.command_rules.specs.Rosters.{is_run}
 use Rattle.history_book.specs.Readings.{next_of}
-use Rattle.hub_core.proofs.calls.HubReturns.{IsBack, answer_entries, answer_made, answered_back, back_given, back_place, command_back, doom_place, grip_back, hand_back}
+use Rattle.hub_core.proofs.calls.HubChanges.{answer_entries}
+use Rattle.hub_core.proofs.calls.HubReturns.{IsBack, answer_made, answered_back, back_given, back_place, command_back, doom_place, grip_back, hand_back}
 use Rattle.hub_core.proofs.steps.LastAnswers.{just_answered}
 use Rattle.hub_core.proofs.calls.ReturnedOrders.{answered_whole, may_tell}
 use Rattle.hub_core.proofs.hubs.Hub.answer.Goals as goal

@@ -1,7 +1,7 @@
 use Rattle.home_types.specs.Listed.{Listed}
 use Rattle.history_book.specs.declared.entries.Kept.{Kept}
 use Rattle.history_book.specs.declared.records.WindowRecord.{WindowRecord}
-use Rattle.hub_core.proofs.calls.HubCloses.{Closes, Tells, all_are_home, faults_fell, home_left, items_fit, turns_fell, window_closed}
+use Rattle.hub_core.proofs.calls.HubCloses.{Closes, Tells, all_are_home, faults_fell, home_left, hub_leaves, items_fit, turns_fell, window_closed}
 use Rattle.hub_core.proofs.hubs.Hub.closed.Goals as goal
 use Rattle.hub_core.specs.HubCalls.{IsClosed}
 use Rattle.hub_core.specs.HubsKept.{open_of}
@@ -37,7 +37,7 @@ pub invariant_of-home : goal.invariant_of-home
 invariant_of-home g c =
     let quiet = subst (λ (t : OpenHub g.row.D.Denot). not_quiet (configuration_of t) ≡ None) (sym c.self.view_is) c.requires.quiet in
     let closes : Closes g.D.Device.tag g.D.Device.stands g.D.Device.turns g.D.Device.probes g.D.Device.faults (open_of c.self.inside) c.close-devices.result.items = record { kept = c.self.invariant.shown; quiet = quiet; places = c.close-devices.ensures.devices; numbered = c.close-devices.ensures.numbers } in
-    home_left _ _ _ _ _ _ _ c.history.inside.kinds.items c.stands_in-2.result.items closes (ap (λ (h : HistoryState). h.setting.kinds) c.history.view_is) c.stands_in-2.ensures
+    home_left _ _ _ _ _ _ _ c.history.inside.kinds.items c.stands_in-2.result.items closes (ap (λ (h : HistoryState). h.setting.kinds) c.history.view_is) (hub_leaves c.self.inside c.stands_in-2.result.items c.self.invariant quiet c.stands_in-2.ensures)
 
 -- and the record
 pub returns : goal.returns
@@ -50,9 +50,9 @@ returns g c =
       first = ap (λ (h : HistoryState). h.setting.first) c.history.view_is;
       history = ap (λ (l : Listed Kept). l.items) c.into_list.ensures ∙ ap (λ (h : HistoryState). h.history) c.history.view_is;
       order = c.items_in.ensures ∙ c.self.invariant.order.line_is.items;
-      last = c.stands_in.ensures;
+      last = hub_leaves c.self.inside c.stands_in.result.items c.self.invariant quiet c.stands_in.ensures;
       turns_rose = c.turns_in.ensures;
       faults_rose = c.faults_in.ensures;
     } in
     subst (λ (t : OpenHub g.row.D.Denot). IsClosed g.D.Device.turns g.D.Device.probes g.D.Device.faults t (record { kinds = c.history.inside.kinds.items; world = c.stands_in-2.result.items; devices = c.close-devices.result.items; opened = c.self.inside.opened + 1 }) closed) c.self.view_is
-    (window_closed _ _ _ _ _ _ _ c.history.inside.kinds.items c.stands_in-2.result.items closed closes tells (ap (λ (h : HistoryState). h.setting.kinds) c.history.view_is) c.stands_in-2.ensures)
+    (window_closed _ _ _ _ _ _ _ c.history.inside.kinds.items c.stands_in-2.result.items closed closes tells (ap (λ (h : HistoryState). h.setting.kinds) c.history.view_is) (c.stands_in-2.ensures ∙ sym c.stands_in.ensures))

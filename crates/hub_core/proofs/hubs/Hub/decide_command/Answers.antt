@@ -1,9 +1,9 @@
-use Rattle.hub_core.proofs.calls.HubChoices.{command_behind, command_busy, command_dirty, command_goes, command_strict, strict_said, touch_said}
+use Rattle.hub_core.proofs.calls.HubChoices.{command_behind, command_dirty, command_strict, command_unbarred, strict_said, touch_said}
 use Rattle.hub_core.proofs.hubs.Hub.decide_command.Goals as goal
 use Rattle.hub_core.specs.OpenHubs.{configuration_of}
 use Rattle.lock_leasing.specs.Configurations.{read_of}
 use Rattle.lock_leasing.specs.Standings.{Touching}
-use Rattle.std.proofs.Common.{ap, sym, ◌∙◌}
+use Rattle.std.proofs.Common.{ap, ◌∙◌}
 use Rattle.visibility_models.specs.Models.{InOrder}
 
 pub test_touch-requires : goal.test_touch-requires
@@ -22,10 +22,6 @@ pub returns-in-Some : goal.returns-in-Some
 returns-in-Some g c = λ m. command_strict c.args.self.now.setting (read_of (configuration_of c.args.self.now)) (configuration_of c.args.self.now).grips c.args.r.0 c.args.k c.args.command c.in-Some.x (touch_said (configuration_of c.args.self.now) _ _ _ _ c.args.r.0 c.args.k c.args.command _ c.standing-standing.ensures c.requires.turn c.requires.command c.in-Free.ensures)
     (strict_said (configuration_of c.args.self.now) _ _ _ _ c.args.r.0 _ _ c.standing-standing.ensures (c.model.ensures ∙ ap (λ s. s.setting.mode.model) c.self.view_is) c.in-Some.ensures.wait)
 
-pub returns-then-is_out : goal.returns-then-is_out
-returns-then-is_out g c = λ m. command_busy c.args.self.now.setting (read_of (configuration_of c.args.self.now)) (configuration_of c.args.self.now).grips c.args.r.0 c.args.k c.args.command (touch_said (configuration_of c.args.self.now) _ _ _ _ c.args.r.0 c.args.k c.args.command _ c.standing-standing.ensures c.requires.turn c.requires.command c.in-Free.ensures)
-    (strict_said (configuration_of c.args.self.now) _ _ _ _ c.args.r.0 _ _ c.standing-standing.ensures (c.model.ensures ∙ ap (λ s. s.setting.mode.model) c.self.view_is) c.in_default.ensures.wait) (sym c.if-is_out.ensures)
-
 pub returns : goal.returns
-returns g c = λ m. command_goes c.args.self.now.setting (read_of (configuration_of c.args.self.now)) (configuration_of c.args.self.now).grips c.args.r.0 c.args.k c.args.command (touch_said (configuration_of c.args.self.now) _ _ _ _ c.args.r.0 c.args.k c.args.command _ c.standing-standing.ensures c.requires.turn c.requires.command c.in-Free.ensures)
-    (strict_said (configuration_of c.args.self.now) _ _ _ _ c.args.r.0 _ _ c.standing-standing.ensures (c.model.ensures ∙ ap (λ s. s.setting.mode.model) c.self.view_is) c.in_default.ensures.wait) (sym c.if-is_out.ensures)
+returns g c = λ m. command_unbarred c.args.self.now.setting (read_of (configuration_of c.args.self.now)) (configuration_of c.args.self.now).grips c.args.r.0 c.args.k c.args.command _ (touch_said (configuration_of c.args.self.now) _ _ _ _ c.args.r.0 c.args.k c.args.command _ c.standing-standing.ensures c.requires.turn c.requires.command c.in-Free.ensures)
+    (strict_said (configuration_of c.args.self.now) _ _ _ _ c.args.r.0 _ _ c.standing-standing.ensures (c.model.ensures ∙ ap (λ s. s.setting.mode.model) c.self.view_is) c.in_default.ensures.wait) (c.decide_unbarred.ensures m)

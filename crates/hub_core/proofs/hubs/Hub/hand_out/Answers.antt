@@ -32,7 +32,7 @@ pub hand_out-requires-clause-room : goal.hand_out-requires-clause-room
 hand_out-requires-clause-room g c = λ device at. has_room _ _ _ _ _ c.args.d.0 device c.self.invariant.shown at
 
 pub hand_out-requires-clause-stood : goal.hand_out-requires-clause-stood
-hand_out-requires-clause-stood g c = λ device at up. stands_home _ _ _ _ _ c.args.d.0 device _ c.self.invariant.shown at (sym c.get.ensures ∙ ap option_copied c.unwrap-known.ensures)
+hand_out-requires-clause-stood g c = λ device at up. stands_home _ _ _ _ _ c.args.r.0 c.args.moment c.args.d.0 _ device _ c.self.invariant.shown (chosen_here c.self.inside c.args.self.now c.args.r.0 c.args.moment (HandsOut c.args.d c.args.purpose) c.self.view_is c.requires) at (sym c.get.ensures ∙ ap option_copied c.unwrap-known.ensures)
 
 pub hand_out-requires-clause-tickets : goal.hand_out-requires-clause-tickets
 hand_out-requires-clause-tickets g c = few_tickets _ _ _ _ _ c.self.invariant.shown

@@ -1,0 +1,90 @@
+-- What is kept of a hub's configuration stays so with each probe that goes out.
+use Rattle.command_rules.specs.Rosters.{is_run}
+use Rattle.history_book.proofs.Shapes.{shapes}
+use Rattle.history_book.specs.Histories.{entries_of}
+use Rattle.history_book.specs.Readings.{Reading, is_live, put}
+use Rattle.history_book.specs.Settings.{Setting, is_device}
+use Rattle.home_types.specs.Kinds.{kind_at}
+use Rattle.hub_core.proofs.kept.HistoryKept.{grip_turn}
+use Rattle.hub_core.proofs.kept.Kept.{out_with, values_fit}
+use Rattle.hub_core.proofs.kept.WrittenValues.{ValuesFit, standing_fits, writes_fit}
+use Rattle.hub_core.proofs.steps.Takes.{live_run}
+use Rattle.hub_core.specs.HubKept.{ConfigurationIsKept, is_of_run, probes_of, undo_fits}
+use Rattle.hub_core.specs.Steps.{after_take_probe, may_probe, probe_grip, restored}
+use Rattle.lock_leasing.specs.Configurations.{Configuration, Grip, Probes, is_command, is_out, read_of}
+use Rattle.lock_leasing.specs.Words.{standing_value}
+use Rattle.std.proofs.Common.{ap, arith, refl, sym}
+use Rattle.std.proofs.lemmas.Grind.{common_steps}
+use Rattle.std.specs.Prelude.{Bool, None, Some, false, if◌then◌else◌, nat_lt, not, option_map, true, unwrap_or, ℕ, ◌&&◌, ◌+◌, ◌-◌, ◌==◌, ◌≡◌, ◌≤◌}
+use Rattle.window_order.proofs.ProbedOrders.{probe_goes_kept}
+use Rattle.window_order.proofs.ReadFacts.{read_facts}
+
+-- a probe that may goes out, and one less is left
+probe_kept : (s : Configuration) (rounds opened : ℕ) (held : ℕ → ℕ) (d : ℕ) → may_probe s d ≡ true → ConfigurationIsKept s rounds opened held
+    → ConfigurationIsKept (record s { probes = put s.probes d (s.probes d - 1); grips = put s.grips d (Some (probe_grip s d)) }) rounds opened held
+probe_kept s rounds opened held d may kept =
+    record {
+      opens = kept.opens;
+      stage = kept.stage;
+      kinds = kept.kinds;
+      probes = λ e. few e (e == d) refl;
+      values = kept.values;
+      undos = out_with s.grips (λ e q. undo_fits (kind_at w.kinds e) q.purpose) d new (by_up (n.up d)) kept.undos;
+      history = record {
+        well_formed = kept.history.well_formed;
+        moment = kept.history.moment;
+        clean = kept.history.clean;
+        justified = kept.history.justified;
+        places = kept.history.places;
+        isolated = kept.history.isolated;
+        unrevoked = kept.history.unrevoked;
+        in_order = kept.history.in_order;
+        in_turn = grip_turn w n s.grips 0 d (Probes (restored s d)) (λ live. absurd (no_run live)) kept.history.in_turn;
+        first = out_with s.grips (λ e q. not (is_command q.purpose && (n.run q.maker).answered_doomed)) d new refl kept.history.first;
+      };
+      order = probe_goes_kept w n s.grips held d (read_facts w (entries_of s.history) kept.history.well_formed) kept.stage.strong (parts (is_device w d) (is_out s.grips d) (nat_lt 0 (s.probes d)) may).0 (parts (is_device w d) (is_out s.grips d) (nat_lt 0 (s.probes d)) may).1 kept.order;
+    }
+  where
+    w : Setting
+    w = s.setting
+
+    n : Reading
+    n = read_of s
+
+    new : Grip
+    new = probe_grip s d
+
+    parts : (a b c : Bool) → (a && not b && c) ≡ true → (a ≡ true) × (b ≡ false) × (c ≡ true)
+    parts a b c h = (grind (arith, common_steps), grind (arith, common_steps), grind (arith, common_steps))
+
+    values : ValuesFit w
+    values = values_fit s rounds opened held kept
+
+    left : (k : ℕ) → nat_lt 0 k ≡ true → k - 1 + 1 ≡ k
+    left k h = grind (arith, common_steps)
+
+    -- the detector is no run
+    no_run : is_live n 0 ≡ true → ⊥
+    no_run live = let run : is_run w.runs 0 ≡ true = live_run w n 0 (shapes w (entries_of s.history) kept.history.well_formed) live in absurd (cc)
+
+    -- it restores a value of the device's kind
+    by_up : (b : Bool) → undo_fits (kind_at w.kinds d) (Probes (if b then None else Some (standing_value w n s.grips d))) ≡ true
+    by_up true = refl
+    by_up false = standing_fits w n s.grips d kept.stage.strong (writes_fit w (entries_of s.history) values kept.history.well_formed) (values.first d (parts (is_device w d) (is_out s.grips d) (nat_lt 0 (s.probes d)) may).0)
+
+    few : (e : ℕ) (b : Bool) → (e == d) ≡ b
+        → n.rose e + (if unwrap_or (option_map (λ grip. not (is_of_run grip.purpose)) (if b then Some new else s.grips e)) false then 1 else 0) + (if b then s.probes d - 1 else s.probes e) ≤ rounds
+    few e true at =
+        let same : e ≡ d = grind (arith, common_steps) in
+        let most : probes_of s e ≤ rounds = kept.probes e in
+        let one : s.probes d - 1 + 1 ≡ s.probes d = left (s.probes d) (parts (is_device w d) (is_out s.grips d) (nat_lt 0 (s.probes d)) may).2 in
+        let here : s.probes d ≡ s.probes e = ap s.probes (sym same) in
+        omega (arith, most, one, here)
+    few e false at = kept.probes e
+
+-- what is kept stays so where a probe is asked for
+pub take_probe_kept : (s : Configuration) (rounds opened : ℕ) (held : ℕ → ℕ) (d : ℕ) → ConfigurationIsKept s rounds opened held → ConfigurationIsKept (after_take_probe s d) rounds opened held
+take_probe_kept s rounds opened held d kept = elim (may_probe s d) as (λ b. may_probe s d ≡ b → ConfigurationIsKept (if b then record s { probes = put s.probes d (s.probes d - 1); grips = put s.grips d (Some (probe_grip s d)) } else s) rounds opened held) [
+  | true ↦ (λ may. probe_kept s rounds opened held d may kept)
+  | false ↦ (λ none. kept)
+] refl

@@ -1,0 +1,319 @@
+-- A window in which no device fails: no device is down, no run sees one down, no answer is Down, and a run is doomed by a must `check` alone.
+use Rattle.command_rules.specs.Rosters.{command_at, commands_of, no_command, run_no, touches, touches_from}
+use Rattle.history_book.proofs.Searches.{each_found, own_devices}
+use Rattle.history_book.proofs.Shapes.{put_all}
+use Rattle.history_book.proofs.Snoc.{put_keeps}
+use Rattle.history_book.specs.Histories.{answered, entries_of, entry, is_fall_of, more_if}
+use Rattle.history_book.specs.Readings.{First, Last, Event, Mark, OfRun, OnDevice, Reading, events_of, is_access, is_fall, is_last, is_told, next_command, nothing_read, put, same_answer, sees_down, sees_up, span_of, view_by}
+use Rattle.history_book.specs.Settings.{Setting, devices_of, is_device, is_strict}
+use Rattle.history_book.specs.WellFormed.{along, may_follow}
+use Rattle.history_book.specs.declared.entries.Cause.{Cause}
+use Rattle.history_book.specs.declared.entries.Cause.TheVariants.{DownAtEnd, Lost, MustDown, Refuted, Revoked}
+use Rattle.history_book.specs.declared.entries.End.TheVariants.{Aborted, Committed}
+use Rattle.history_book.specs.declared.entries.Entry.{Entry}
+use Rattle.history_book.specs.declared.entries.Entry.TheVariants.{Arrived, Did, Doomed, Ended, Fell, Placed, Rose, Undid}
+use Rattle.home_types.specs.Commands.{fails}
+use Rattle.home_types.specs.HomeStates.{stand_at}
+use Rattle.home_types.specs.Kinds.{kind_at}
+use Rattle.home_types.specs.declared.commands.Answer.{Answer}
+use Rattle.home_types.specs.declared.commands.Answer.TheVariants.{Down, Fine, Found}
+use Rattle.home_types.specs.declared.commands.Command.{Command}
+use Rattle.home_types.specs.declared.kinds.Kind.{Kind}
+use Rattle.home_types.specs.declared.modes.Scheduler.TheVariants.{Fcfs}
+use Rattle.hub_core.proofs.kept.Sizes.{count_cons}
+use Rattle.hub_core.specs.AccountedCalls.{told_falls}
+use Rattle.hub_core.specs.CleanReads.{entry_is_clean}
+use Rattle.hub_core.specs.HubKept.{ConfigurationIsKept, keeps_leases}
+use Rattle.hub_core.specs.JustifiedAborts.{abort_is_justified, equals_some, has_answer}
+use Rattle.hub_core.specs.Openings.{names_values_of}
+use Rattle.lock_leasing.specs.Configurations.{Configuration, no_grips, read_of}
+use Rattle.lock_leasing.specs.Waits.{down_at_end}
+use Rattle.lock_leasing.specs.Words.{has_touched}
+use Rattle.std.proofs.Common.{ap, append-nil, arith, cond, refl, sym, ◌∙◌}
+use Rattle.std.proofs.lemmas.Grind.{common_steps}
+use Rattle.std.proofs.lemmas.List.Elements.{filter_map-append}
+use Rattle.std.proofs.lemmas.List.Folds.{list_all-append}
+use Rattle.std.proofs.lemmas.List.Sums.{take_while-cons}
+use Rattle.std.proofs.lemmas.Option.{slice_get-get_or}
+use Rattle.std.specs.List.{list_all, list_any}
+use Rattle.std.specs.Option.{option_or}
+use Rattle.std.specs.Prelude.{Bool, IsTrue, List, None, Option, Some, [], count_by, false, find, fold, if◌then◌else◌, is_none, is_some, length, nat_lt, not, option_map, slice_get, suc, take_while, true, unwrap_or, zero, ℕ, ◌&&◌, ◌++◌, ◌+◌, ◌<◌, ◌==◌, ◌||◌, ◌∷◌, ◌≡◌}
+
+-- an entry of such a window: no event, no answer Down, and no doom but for a value that a must `check` found
+abbrev pub calm_entry : Entry → Bool
+calm_entry (Arrived r m) = true
+calm_entry (Placed r at m) = true
+calm_entry (Did r c Fine) = true
+calm_entry (Did r c (Found x)) = true
+calm_entry (Did r c Down) = false
+calm_entry (Undid r d drove) = true
+calm_entry (Fell d) = false
+calm_entry (Rose d) = false
+calm_entry (Doomed r (MustDown c)) = false
+calm_entry (Doomed r (Refuted c x)) = true
+calm_entry (Doomed r (Lost d)) = false
+calm_entry (Doomed r (Revoked lender d deadline m)) = false
+calm_entry (Doomed r (DownAtEnd d)) = false
+calm_entry (Ended r e) = true
+
+-- the run sees no device down
+abbrev SeesNoneDown : OfRun → Type 0
+SeesNoneDown o = (d : ℕ) → unwrap_or (o.on d).view true ≡ true
+
+-- a device call gave each of its answers
+abbrev AllTold : OfRun → Type 0
+AllTold o = list_all is_told o.answers ≡ true
+
+-- each device is counted up as at the start, no event stands in a log, no run sees a device down, and each answer was told by a device
+pub record CalmReads (w : Setting) (n : Reading) : Type 0 where
+  pub up : (d : ℕ) → n.up d ≡ (stand_at w.first d).up
+  pub log : (d : ℕ) → events_of (n.log d) ≡ []
+  pub views : (r : ℕ) → SeesNoneDown (n.run r)
+  pub told : (r : ℕ) → AllTold (n.run r)
+
+calm_unread : (w : Setting) → CalmReads w (nothing_read w)
+calm_unread w = record { up = λ d. refl; log = λ d. refl; views = λ r d. refl; told = λ r. refl }
+
+-- something more of one run
+calm_put : (w : Setting) (n m : Reading) (r : ℕ) (o : OfRun) → m.up ≡ n.up → ((d : ℕ) → events_of (m.log d) ≡ events_of (n.log d)) → m.run ≡ put n.run r o → SeesNoneDown o → AllTold o → CalmReads w n → CalmReads w m
+calm_put w n m r o up log run new told p =
+    record {
+      up = λ d. ap (λ f. f d) up ∙ p.up d;
+      log = λ d. log d ∙ p.log d;
+      views = λ q. rw run (put_all (λ k x. SeesNoneDown x) n.run r o p.views new q);
+      told = λ q. rw run (put_all (λ k x. AllTold x) n.run r o p.told told q);
+    }
+
+-- a command that worked
+view_up : (kind : Kind) (c : Command) (doomed : Bool) (register : ℕ) (a : Answer) (o : OnDevice) → view_by a ≡ Some true → unwrap_or o.view true ≡ true → unwrap_or (answered kind c doomed register a o).view true ≡ true
+view_up kind c doomed register a o up = viewed o.view
+  where
+    viewed : (v : Option Bool) → unwrap_or v true ≡ true → unwrap_or (option_or v (view_by a)) true ≡ true
+    viewed None e = ap (λ x. unwrap_or x true) up
+    viewed (Some b) e = e
+
+events_append : (xs ys : List Mark) → events_of (xs ++ ys) ≡ events_of xs ++ events_of ys
+events_append xs ys = filter_map-append _ xs ys
+
+-- an answer adds no event to a log
+no_event : (b : Bool) (m : Mark) (ms : List Mark) → events_of (m ∷ []) ≡ [] → events_of (more_if b m ms) ≡ events_of ms
+no_event true m ms none = events_append ms (m ∷ []) ∙ ap (λ x. events_of ms ++ x) none ∙ append-nil (events_of ms)
+no_event false m ms none = refl
+
+calm_did : (w : Setting) (n : Reading) (r k : ℕ) (a : Answer) → view_by a ≡ Some true → is_told a ≡ true → CalmReads w n → CalmReads w (entry w n (Did (run_no r) k a))
+calm_did w n r k a up told p =
+    calm_put w n (entry w n (Did (run_no r) k a)) r _ refl log refl (λ d. put_all (λ e x. unwrap_or x.view true ≡ true) (n.run r).on c.device.0 _ (p.views r) (view_up (kind_at w.kinds c.device.0) c (is_some (n.run r).doomed) (n.run r).register a ((n.run r).on c.device.0) up (p.views r c.device.0)) d)
+    (list_all-append is_told (n.run r).answers (a ∷ []) ∙ both (p.told r)) p
+  where
+    c : Command
+    c = command_at w.runs r k
+
+    both : list_all is_told (n.run r).answers ≡ true → (list_all is_told (n.run r).answers && (is_told a && true)) ≡ true
+    both all = grind (arith, common_steps, told)
+
+    log : (d : ℕ) → events_of ((entry w n (Did (run_no r) k a)).log d) ≡ events_of (n.log d)
+    log d = put_keeps events_of n.log c.device.0 (more_if ended (Last r) (more_if begun (First r) (n.log c.device.0))) (no_event ended (Last r) (more_if begun (First r) (n.log c.device.0)) refl ∙ no_event begun (First r) (n.log c.device.0) refl) d
+      where
+        begun : Bool
+        begun = is_access a && is_none ((n.run r).on c.device.0).view
+
+        ended : Bool
+        ended = not (touches_from w.runs r c.device.0 (k + 1))
+
+calm_step : (w : Setting) (n : Reading) (e : Entry) → calm_entry e ≡ true → CalmReads w n → CalmReads w (entry w n e)
+calm_step w n (Arrived r m) ok p = calm_put w n (entry w n (Arrived r m)) r.0 _ refl (λ d. refl) refl (p.views r.0) (p.told r.0) p
+calm_step w n (Placed r at m) ok p = calm_put w n (entry w n (Placed r at m)) r.0 _ refl (λ d. refl) refl (p.views r.0) (p.told r.0) p
+calm_step w n (Did r c Fine) ok p = calm_did w n r.0 c Fine refl refl p
+calm_step w n (Did r c (Found x)) ok p = calm_did w n r.0 c (Found x) refl refl p
+calm_step w n (Did r c Down) ok p = absurd (cc)
+calm_step w n (Undid r d drove) ok p = calm_put w n (entry w n (Undid r d drove)) r.0 _ refl (λ e. refl) refl (λ e. put_all (λ k x. unwrap_or x.view true ≡ true) (n.run r.0).on d.0 _ (p.views r.0) (p.views r.0 d.0) e) (p.told r.0) p
+calm_step w n (Fell d) ok p = absurd (cc)
+calm_step w n (Rose d) ok p = absurd (cc)
+calm_step w n (Doomed r cause) ok p = calm_put w n (entry w n (Doomed r cause)) r.0 _ refl (λ d. refl) refl (p.views r.0) (p.told r.0) p
+calm_step w n (Ended r Committed) ok p = calm_put w n (entry w n (Ended r Committed)) r.0 _ refl (λ d. refl) refl (p.views r.0) (p.told r.0) p
+calm_step w n (Ended r (Aborted cause)) ok p = calm_put w n (entry w n (Ended r (Aborted cause))) r.0 _ refl (λ d. refl) refl (p.views r.0) (p.told r.0) p
+
+calm_from : (w : Setting) (n : Reading) (h : List Entry) → CalmReads w n → IsTrue (list_all calm_entry h) → CalmReads w (fold (entry w) n h)
+calm_from w n [] p ok = p
+calm_from w n (e ∷ h) p ok = calm_from w (entry w n e) h (calm_step w n e (grind (arith, common_steps)) p) (grind (arith, common_steps))
+
+-- Each entry is calm
+
+-- each device is up as the window opens
+abbrev pub AllUp : Setting → Type 0
+AllUp w = (d : ℕ) → d < length w.first → (stand_at w.first d).up ≡ true
+
+-- each command is on a device of the home
+abbrev AllHomed : Setting → Type 0
+AllHomed w = (r k : ℕ) (c : Command) → slice_get (commands_of w.runs r) k ≡ Some c → is_device w c.device.0 ≡ true
+
+clash : (b : Bool) → b ≡ true → b ≡ false → ⊥
+clash b e f = grind (arith, common_steps)
+
+both_of : (a b : Bool) → (a && b) ≡ true → (a ≡ true) × (b ≡ true)
+both_of a b e = (grind (arith, common_steps), grind (arith, common_steps))
+
+counted_up : (w : Setting) (n : Reading) (d : ℕ) → AllUp w → CalmReads w n → is_device w d ≡ true → n.up d ≡ true
+counted_up w n d up p device = p.up d ∙ up d (below d (length w.first) device)
+  where
+    below : (a b : ℕ) → nat_lt a b ≡ true → a < b
+    below a b e = grind (arith, common_steps)
+
+no_sight : (v : Option Bool) → unwrap_or v true ≡ true → unwrap_or (option_map not v) false ≡ false
+no_sight None e = refl
+no_sight (Some true) e = refl
+no_sight (Some false) e = absurd (cc)
+
+-- no answer is Down
+answers_calm : (w : Setting) (n : Reading) (r : ℕ) (k : ℕ) → AllUp w → AllHomed w → CalmReads w n → k < length (commands_of w.runs r) → (not (n.up (command_at w.runs r k).device.0) || sees_down n r (command_at w.runs r k).device.0) ≡ false
+answers_calm w n r k up homed p within = λ i. not (here i) || no_sight ((n.run r).on d).view (p.views r d) i
+  where
+    d : ℕ
+    d = (command_at w.runs r k).device.0
+
+    here : n.up d ≡ true
+    here = counted_up w n d up p (homed r k (command_at w.runs r k) (slice_get-get_or (commands_of w.runs r) k no_command within))
+
+-- .. and none was
+not_down : (xs : List Answer) (k : ℕ) → list_all is_told xs ≡ true → unwrap_or (option_map (same_answer Down) (slice_get xs k)) false ≡ false
+not_down [] k all = refl
+not_down (Fine ∷ xs) zero all = refl
+not_down (Found x ∷ xs) zero all = refl
+not_down (Down ∷ xs) zero all = absurd (cc)
+not_down (Fine ∷ xs) (suc k) all = not_down xs k all
+not_down (Found x ∷ xs) (suc k) all = not_down xs k all
+not_down (Down ∷ xs) (suc k) all = absurd (cc)
+
+-- no failure stands in a run's span
+none_within : (r : ℕ) (marks : List Mark) → events_of marks ≡ [] → list_any is_fall (take_while (λ x. not (is_last r x)) marks) ≡ false
+none_within r [] none = refl
+none_within r (First q ∷ ms) none = ap (list_any is_fall) (take_while-cons (λ x. not (is_last r x)) (First q) ms) ∙ none_within r ms none
+none_within r (Event i ∷ ms) none = absurd (cc)
+none_within r (Last q ∷ ms) none = ap (list_any is_fall) (take_while-cons (λ x. not (is_last r x)) (Last q) ms) ∙ at_ (none_within r ms none) (q == r)
+  where
+    at_ : list_any is_fall (take_while (λ x. not (is_last r x)) ms) ≡ false → (b : Bool) → list_any is_fall (cond (not b) (Last q ∷ take_while (λ x. not (is_last r x)) ms) []) ≡ false
+    at_ rest true = refl
+    at_ rest false = rest
+
+none_in_span : (r : ℕ) (marks : List Mark) → events_of marks ≡ [] → list_any is_fall (span_of r marks) ≡ false
+none_in_span r [] none = refl
+none_in_span r (First q ∷ ms) none = at_ (none_within r ms none) (none_in_span r ms none) (q == r)
+  where
+    at_ : list_any is_fall (take_while (λ x. not (is_last r x)) ms) ≡ false → list_any is_fall (span_of r ms) ≡ false → (b : Bool) → list_any is_fall (if b then take_while (λ x. not (is_last r x)) ms else span_of r ms) ≡ false
+    at_ within rest true = within
+    at_ within rest false = rest
+none_in_span r (Event i ∷ ms) none = absurd (cc)
+none_in_span r (Last q ∷ ms) none = none_in_span r ms none
+
+-- no device is down at a run's end
+none_at_end : (w : Setting) (n : Reading) (r : ℕ) → AllUp w → CalmReads w n → down_at_end w n no_grips r ≡ None
+none_at_end w n r up p = by_model (is_strict w.mode) (find (λ d. has_touched n no_grips r d && not (n.up d)) (devices_of w r)) refl
+  where
+    found : (d : ℕ) → find (λ d. has_touched n no_grips r d && not (n.up d)) (devices_of w r) ≡ Some d → ⊥
+    found d at =
+        let which = each_found (λ d. (is_device w d ≡ true) × (touches w.runs r d ≡ true)) (λ d. has_touched n no_grips r d && not (n.up d)) (devices_of w r) d (own_devices w r) at in
+        let here : n.up d ≡ true = counted_up w n d up p which.0.0 in
+        let down : not (n.up d) ≡ true = (both_of (has_touched n no_grips r d) (not (n.up d)) which.1).1 in
+        clash (not (n.up d)) down (ap not here)
+
+    by_model : (b : Bool) (o : Option ℕ) → find (λ d. has_touched n no_grips r d && not (n.up d)) (devices_of w r) ≡ o → (if b then o else None) ≡ None
+    by_model true None e = refl
+    by_model true (Some d) e = absurd (found d e)
+    by_model false o e = refl
+
+-- what follows is calm, where no device fails
+entry_calm : (w : Setting) (n : Reading) (e : Entry) → AllUp w → AllHomed w → CalmReads w n → may_follow w n e ≡ true → entry_is_clean w n e ≡ true → abort_is_justified w n e ≡ true → keeps_leases e ≡ true → ((d : ℕ) → d < length w.first → is_fall_of d e ≡ false) → calm_entry e ≡ true
+entry_calm w n (Arrived r m) up homed p ok clean shown kept none = refl
+entry_calm w n (Placed r at m) up homed p ok clean shown kept none = refl
+entry_calm w n (Did r c Fine) up homed p ok clean shown kept none = refl
+entry_calm w n (Did r c (Found x)) up homed p ok clean shown kept none = refl
+entry_calm w n (Did r c Down) up homed p ok clean shown kept none = absurd (clash _ clean (answers_calm w n r.0 c up homed p (grind (arith, common_steps))))
+entry_calm w n (Undid r d drove) up homed p ok clean shown kept none = refl
+entry_calm w n (Fell d) up homed p ok clean shown kept none = absurd (clash (d.0 == d.0) (own d.0) (none d.0 (grind (arith, common_steps))))
+  where
+    own : (k : ℕ) → (k == k) ≡ true
+    own k = grind (arith, common_steps)
+entry_calm w n (Rose d) up homed p ok clean shown kept none = absurd (clash (not (n.up d.0)) (grind (arith, common_steps)) (ap not (counted_up w n d.0 up p (grind (arith, common_steps)))))
+entry_calm w n (Doomed r (MustDown c)) up homed p ok clean shown kept none = absurd (clash (has_answer n r.0 c Down) (both_of (command_at w.runs r.0 c).must (has_answer n r.0 c Down) shown).1 (not_down (n.run r.0).answers c (p.told r.0)))
+entry_calm w n (Doomed r (Refuted c x)) up homed p ok clean shown kept none = refl
+entry_calm w n (Doomed r (Lost d)) up homed p ok clean shown kept none = absurd (clash (list_any is_fall (span_of r.0 (n.log d.0))) (both_of (sees_up n r.0 d.0) (list_any is_fall (span_of r.0 (n.log d.0))) shown).1 (none_in_span r.0 (n.log d.0) (p.log d.0)))
+entry_calm w n (Doomed r (Revoked lender d deadline m)) up homed p ok clean shown kept none = absurd (cc)
+entry_calm w n (Doomed r (DownAtEnd d)) up homed p ok clean shown kept none = absurd (clash (equals_some (down_at_end w n no_grips r.0) d.0) (both_of (is_none (next_command w n r.0)) (equals_some (down_at_end w n no_grips r.0) d.0) shown).1 (ap (λ o. equals_some o d.0) (none_at_end w n r.0 up p)))
+entry_calm w n (Ended r e) up homed p ok clean shown kept none = refl
+
+-- no failure of these devices is told
+abbrev NoneFalls : Setting → List Entry → Type 0
+NoneFalls w h = (d : ℕ) → d < length w.first → told_falls h d ≡ 0
+
+first_falls : (w : Setting) (e : Entry) (h : List Entry) → NoneFalls w (e ∷ h) → ((d : ℕ) → d < length w.first → is_fall_of d e ≡ false) × NoneFalls w h
+first_falls w e h none = (λ d within. not_one (is_fall_of d e) (count_by (is_fall_of d) h) (sym (count_cons (is_fall_of d) e h) ∙ none d within), λ d within. no_more (is_fall_of d e) (count_by (is_fall_of d) h) (sym (count_cons (is_fall_of d) e h) ∙ none d within))
+  where
+    not_one : (b : Bool) (k : ℕ) → cond b 1 0 + k ≡ 0 → b ≡ false
+    not_one true k e = absurd (omega (arith, e))
+    not_one false k e = refl
+
+    no_more : (b : Bool) (k : ℕ) → cond b 1 0 + k ≡ 0 → k ≡ 0
+    no_more true k e = absurd (omega (arith, e))
+    no_more false k e = omega (arith, e)
+
+all_calm : (w : Setting) (n : Reading) (h : List Entry) → AllUp w → AllHomed w → CalmReads w n → IsTrue (along w (may_follow w) n h) → IsTrue (along w (entry_is_clean w) n h) → IsTrue (along w (abort_is_justified w) n h) → IsTrue (list_all keeps_leases h) → NoneFalls w h → IsTrue (list_all calm_entry h)
+all_calm w n [] up homed p ok clean shown kept none = refl
+all_calm w n (e ∷ h) up homed p ok clean shown kept none =
+    let split = first_falls w e h none in
+    let here : calm_entry e ≡ true = entry_calm w n e up homed p (grind (arith, common_steps)) (grind (arith, common_steps)) (grind (arith, common_steps)) (grind (arith, common_steps)) split.0 in
+    let rest : IsTrue (list_all calm_entry h) = all_calm w (entry w n e) h up homed (calm_step w n e here p) (grind (arith, common_steps)) (grind (arith, common_steps)) (grind (arith, common_steps)) (grind (arith, common_steps)) split.1 in
+    rw (here, rest) refl
+
+-- no device fails in the window
+pub record NoneFailed (s : Configuration) : Type 0 where
+  pub up : AllUp s.setting
+  pub steady : (d : ℕ) → d < length s.setting.first → told_falls (entries_of s.history) d ≡ 0
+
+pub calm_entries : (s : Configuration) (rounds opened : ℕ) (held : ℕ → ℕ) → ConfigurationIsKept s rounds opened held → s.setting.mode.scheduler ≡ Fcfs → NoneFailed s → IsTrue (list_all calm_entry (entries_of s.history))
+calm_entries s rounds opened held kept first none =
+    all_calm s.setting (nothing_read s.setting) (entries_of s.history) none.up
+    (λ r k c at. let home : IsTrue (is_device s.setting c.device.0 && names_values_of (kind_at s.setting.kinds c.device.0) c.job) = kept.opens.homed r k c at in grind (arith, common_steps))
+    (calm_unread s.setting) kept.history.well_formed kept.history.clean kept.history.justified (kept.history.unrevoked first) none.steady
+
+-- Dooms
+
+-- a must command of the run failed by what it found
+abbrev pub is_refuted : Setting → ℕ → Option Cause → Bool
+is_refuted w r None = true
+is_refuted w r (Some (MustDown c)) = false
+is_refuted w r (Some (Refuted c x)) = fails (command_at w.runs r c) (Found x)
+is_refuted w r (Some (Lost d)) = false
+is_refuted w r (Some (Revoked lender d deadline m)) = false
+is_refuted w r (Some (DownAtEnd d)) = false
+
+-- each run that is doomed is so by a value that it found
+abbrev pub DoomsAreRefuted : Setting → Reading → Type 0
+DoomsAreRefuted w n = (r : ℕ) → is_refuted w r (n.run r).doomed ≡ true
+
+refuted_put : (w : Setting) (n m : Reading) (r : ℕ) (o : OfRun) → m.run ≡ put n.run r o → is_refuted w r o.doomed ≡ true → DoomsAreRefuted w n → DoomsAreRefuted w m
+refuted_put w n m r o run new all q = rw run (put_all (λ k x. is_refuted w k x.doomed ≡ true) n.run r o all new q)
+
+refuted_step : (w : Setting) (n : Reading) (e : Entry) → calm_entry e ≡ true → abort_is_justified w n e ≡ true → DoomsAreRefuted w n → DoomsAreRefuted w (entry w n e)
+refuted_step w n (Arrived r m) calm shown all = refuted_put w n (entry w n (Arrived r m)) r.0 _ refl (all r.0) all
+refuted_step w n (Placed r at m) calm shown all = refuted_put w n (entry w n (Placed r at m)) r.0 _ refl (all r.0) all
+refuted_step w n (Did r c a) calm shown all = refuted_put w n (entry w n (Did r c a)) r.0 _ refl (all r.0) all
+refuted_step w n (Undid r d drove) calm shown all = refuted_put w n (entry w n (Undid r d drove)) r.0 _ refl (all r.0) all
+refuted_step w n (Fell d) calm shown all = all
+refuted_step w n (Rose d) calm shown all = all
+refuted_step w n (Doomed r (MustDown c)) calm shown all = absurd (cc)
+refuted_step w n (Doomed r (Refuted c x)) calm shown all = refuted_put w n (entry w n (Doomed r (Refuted c x))) r.0 _ refl (first_of (fails (command_at w.runs r.0 c) (Found x)) (has_answer n r.0 c (Found x)) shown) all
+  where
+    first_of : (a b : Bool) → (a && b) ≡ true → a ≡ true
+    first_of a b e = grind (arith, common_steps)
+refuted_step w n (Doomed r (Lost d)) calm shown all = absurd (cc)
+refuted_step w n (Doomed r (Revoked lender d deadline m)) calm shown all = absurd (cc)
+refuted_step w n (Doomed r (DownAtEnd d)) calm shown all = absurd (cc)
+refuted_step w n (Ended r e) calm shown all = refuted_put w n (entry w n (Ended r e)) r.0 _ refl (all r.0) all
+
+refuted_from : (w : Setting) (n : Reading) (h : List Entry) → DoomsAreRefuted w n → IsTrue (list_all calm_entry h) → IsTrue (along w (abort_is_justified w) n h) → DoomsAreRefuted w (fold (entry w) n h)
+refuted_from w n [] all calm shown = all
+refuted_from w n (e ∷ h) all calm shown = refuted_from w (entry w n e) h (refuted_step w n e (grind (arith, common_steps)) (grind (arith, common_steps)) all) (grind (arith, common_steps)) (grind (arith, common_steps))
+
+-- in such a window
+pub dooms_are_refuted : (s : Configuration) (rounds opened : ℕ) (held : ℕ → ℕ) → ConfigurationIsKept s rounds opened held → s.setting.mode.scheduler ≡ Fcfs → NoneFailed s → DoomsAreRefuted s.setting (read_of s)
+dooms_are_refuted s rounds opened held kept first none = refuted_from s.setting (nothing_read s.setting) (entries_of s.history) (λ r. refl) (calm_entries s rounds opened held kept first none) kept.history.justified
