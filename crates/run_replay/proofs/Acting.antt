@@ -25,7 +25,7 @@ use Rattle.std.proofs.Common.{ap, arith, refl, subst, sym, ◌∙◌}
 use Rattle.std.proofs.lemmas.Grind.{common_steps}
 use Rattle.std.proofs.lemmas.Option.{slice_get_read, slice_get_within}
 use Rattle.std.proofs.Math.ListN.{get_or}
-use Rattle.std.specs.Prelude.{List, None, Option, Some, false, length, slice_get, slice_set, suc, true, zero, ℕ, ◌*◌, ◌+◌, ◌<◌, ◌==◌, ◌||◌, ◌^◌, ◌≡◌, ◌≤◌}
+use Rattle.std.specs.Prelude.{List, None, Option, Some, false, length, slice_get, slice_set, suc, true, zero, ℕ, ◌+◌, ◌<◌, ◌==◌, ◌||◌, ◌^◌, ◌≡◌, ◌≤◌}
 
 -- a run's grip was done, and is given back
 pub record IsDone {D : Type 0} (s : PlayerState D) (a : ℕ) (grip : Gripped D Ready) (done : Gripped D Done) : Type 0 where
@@ -114,7 +114,6 @@ grows {D = D} s t a grip done entries by =
 
 gives_of : {D : Type 0} (s t : PlayerState D) (a : ℕ) (grip : Gripped D Ready) (done : Gripped D Done) (entries : List Entry) → IsGivenBack s t a grip done entries → Gives s t a grip done.device
 gives_of s t a grip done entries by = record {
-  run = by.is.run;
   hand = by.is.hand;
   places = by.places ∙ ap (λ (x : Slip). slice_set s.hub.places x.device.0 (Home done.device)) by.is.slip;
   grips = by.grips;

@@ -4,8 +4,8 @@ use Rattle.device_gate.specs.declared.gates.Place.TheVariants.{Out}
 use Rattle.device_gate.specs.declared.slips.Slip.{Slip}
 use Rattle.device_gate.specs.declared.slips.Task.{Task}
 use Rattle.run_replay.specs.Players.{HoldNothing, PlayerIsKept, PlayerState}
-use Rattle.std.proofs.Common.{ap, arith, refl, sym, ◌∙◌}
-use Rattle.std.specs.Prelude.{List, None, Option, Some, [], length, slice_get, suc, zero, ℕ, ◌++◌, ◌<◌, ◌∷◌, ◌≡◌}
+use Rattle.std.proofs.Common.{ap, refl, sym, ◌∙◌}
+use Rattle.std.specs.Prelude.{List, None, Option, Some, [], slice_get, suc, zero, ℕ, ◌++◌, ◌∷◌, ◌≡◌}
 
 no_hands : {A : Type 0} → HoldNothing {A = A} []
 no_hands a x at = absurd (cc)
@@ -27,13 +27,6 @@ front_hands (h ∷ hands) others none (suc a) x at = front_hands hands others (�
 pub last_hand : {A : Type 0} (hands : List (Option A)) (x : A) → HoldNothing (hands ++ Some x ∷ []) → ⊥
 last_hand [] x none = none 0 x refl
 last_hand (h ∷ hands) x none = last_hand hands x (λ b y there. none (suc b) y there)
-
--- an empty hand is there
-pub empty_there : {A : Type 0} (hands : List (Option A)) (a : ℕ) → HoldNothing hands → a < length hands → slice_get hands a ≡ Some None
-empty_there [] a none low = absurd (omega (arith, low))
-empty_there (None ∷ hands) zero none low = refl
-empty_there (Some x ∷ hands) zero none low = absurd (none 0 x refl)
-empty_there (h ∷ hands) (suc a) none low = empty_there hands a (λ b y there. none (suc b) y there) (omega (arith, low))
 
 pub none_is_out : {D : Type 0} (devices : List D) (d : ℕ) (slip : Slip) (task : Task) → slice_get (all_home devices) d ≡ Some (Out slip task) → ⊥
 none_is_out [] d slip task at = absurd (cc)

@@ -7,7 +7,7 @@ use Rattle.device_gate.specs.declared.slips.Slip.{Slip}
 use Rattle.device_gate.specs.declared.slips.Task.{Task}
 use Rattle.run_replay.proofs.Settings.{get_put, put_length, put_other_place, put_same_place}
 use Rattle.run_replay.specs.Players.{HavePlans, IsInHand, PlayerIsKept, PlayerState}
-use Rattle.std.proofs.Common.{ap, arith, inl, inr, refl, subst, sym, ◌∙◌}
+use Rattle.std.proofs.Common.{ap, inl, inr, refl, subst, sym, ◌∙◌}
 use Rattle.std.proofs.lemmas.Option.{slice_get_within}
 use Rattle.std.specs.Prelude.{None, Option, Some, length, slice_get, slice_set, ℕ, ◌*◌, ◌+◌, ◌<◌, ◌^◌, ◌≡◌, ◌≢◌, ◌≤◌, ◌⊎◌}
 
@@ -20,7 +20,6 @@ same_out {D = D} a b x y o e f = let both : ◌≡◌ {A = Option (Place D)} (So
 
 -- a grip that goes out into a hand that was empty
 pub record Takes {D : Type 0} (s t : PlayerState D) (r : ℕ) (grip : Gripped D Ready) : Type 0 where
-  pub run : 0 < r
   pub free : slice_get s.grips r ≡ Some None
   pub home : slice_get s.hub.places grip.slip.device.0 ≡ Some (Home grip.device)
   pub maker : grip.slip.maker ≡ r
@@ -64,8 +63,6 @@ takes_keeps {D = D} s t r grip by kept = record {
   early = by.early;
   rounds = subst (λ n. n < 2 ^ 32) (sym by.rounds) kept.rounds;
   place = by.place;
-  still = subst (λ n. n * length t.hub.setting.first ≡ 0) (sym by.rounds) (subst (λ w. s.rounds * length w.first ≡ 0) (sym by.setting) kept.still);
-  detector = ap (λ l. slice_get l 0) by.grips ∙ put_other_place s.grips r 0 (Some grip) (λ e. absurd (let run = by.run in omega (arith, run, e))) ∙ kept.detector;
 }
   where
     out_now : slice_get t.hub.places grip.slip.device.0 ≡ Some (Out grip.slip grip.task)
@@ -111,7 +108,6 @@ takes_plans {D = D} plan plans s t r grip by have d device (inr hand) = elim (ta
 
 -- a grip that comes back from the hand of its maker, with the device whose call was made
 pub record Gives {D : Type 0} (s t : PlayerState D) (a : ℕ) (grip : Gripped D Ready) (device : D) : Type 0 where
-  pub run : 0 < a
   pub hand : slice_get s.grips a ≡ Some (Some grip)
   pub places : t.hub.places ≡ slice_set s.hub.places grip.slip.device.0 (Home device)
   pub grips : t.grips ≡ slice_set s.grips a None
@@ -148,8 +144,6 @@ gives_keeps {D = D} s t a grip device by kept = record {
   early = by.early;
   rounds = subst (λ n. n < 2 ^ 32) (sym by.rounds) kept.rounds;
   place = subst (λ n. n ≤ t.rounds * length t.hub.setting.first) (sym by.place) (subst (λ n. s.place ≤ n * length t.hub.setting.first) (sym by.rounds) (subst (λ w. s.place ≤ s.rounds * length w.first) (sym by.setting) kept.place));
-  still = subst (λ n. n * length t.hub.setting.first ≡ 0) (sym by.rounds) (subst (λ w. s.rounds * length w.first ≡ 0) (sym by.setting) kept.still);
-  detector = ap (λ l. slice_get l 0) by.grips ∙ put_other_place s.grips a 0 None (λ e. absurd (let run = by.run in omega (arith, run, e))) ∙ kept.detector;
 }
   where
     still : (b : ℕ) (x : Gripped D Ready) → b ≢ a → slice_get s.grips b ≡ Some (Some x) → slice_get t.hub.places x.slip.device.0 ≡ Some (Out x.slip x.task)
@@ -206,8 +200,6 @@ moves_keeps s t by kept = record {
   early = by.early;
   rounds = subst (λ n. n < 2 ^ 32) (sym by.rounds) kept.rounds;
   place = by.place;
-  still = subst (λ n. n * length t.hub.setting.first ≡ 0) (sym by.rounds) (subst (λ w. s.rounds * length w.first ≡ 0) (sym by.setting) kept.still);
-  detector = ap (λ l. slice_get l 0) by.grips ∙ kept.detector;
 }
 
 pub moves_plans : {D P : Type 0} (plan : D → P) (plans : ℕ → P) (s t : PlayerState D) → Moves s t → HavePlans plan plans s → HavePlans plan plans t

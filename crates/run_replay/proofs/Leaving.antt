@@ -8,6 +8,7 @@ use Rattle.history_book.proofs.Snoc.{entries_on, put_keeps, put_other, reading_o
 use Rattle.history_book.specs.Histories.{entries_of, entry, kept_by, reading}
 use Rattle.history_book.specs.Readings.{Reading, did, is_doomed}
 use Rattle.history_book.specs.Settings.{Setting, is_weak}
+use Rattle.history_book.specs.declared.entries.Cause.TheVariants.{Lost}
 use Rattle.history_book.specs.declared.entries.Cause.{Cause}
 use Rattle.history_book.specs.declared.entries.Entry.TheVariants.{Arrived, Did, Doomed, Ended, Fell, Placed, Rose, Undid}
 use Rattle.history_book.specs.declared.entries.Entry.{Entry}
@@ -18,17 +19,19 @@ use Rattle.hub_core.specs.Steps.{Absent, Choice, HandsOut, Moves, Over, Waits, a
 use Rattle.hub_core.specs.declared.waits.Why.{Why}
 use Rattle.home_types.specs.Commands.{fails}
 use Rattle.home_types.specs.declared.commands.Answer.TheVariants.{Found}
-use Rattle.command_rules.specs.Rosters.{command_at, is_run, run_no}
-use Rattle.lock_leasing.specs.Configurations.{Commands, Configuration, Probes, Purpose, Undoes, is_command, is_undo, read_of}
-use Rattle.run_replay.proofs.Acting.{IsGivenBack, entries_are, given_keeps, out_of_hand, purpose_at, runs_purpose}
-use Rattle.run_replay.proofs.Taking.{GoesToHand, IsAnswered, after, answered_keeps, chosen, went_after, went_keeps}
-use Rattle.run_replay.specs.Players.{HavePlans, PlayerIsKept, PlayerState, are_live, is_ended, play_of}
+use Rattle.command_rules.specs.Rosters.{command_at, device_no, is_run, run_no}
+use Rattle.lock_leasing.specs.Configurations.{Commands, Configuration, Probes, Purpose, Undoes, read_of}
+use Rattle.lock_leasing.specs.Waits.{lost_by}
+use Rattle.run_replay.proofs.Acting.{IsGivenBack, entries_are, purpose_at}
+use Rattle.run_replay.proofs.Settings.{put_other_place}
+use Rattle.run_replay.proofs.Taking.{GoesToHand, IsAnswered, after, chosen, went_after}
+use Rattle.run_replay.specs.Players.{HavePlans, PlayerState, are_live, is_ended, play_of}
 use Rattle.run_replay.specs.Playing.{IsPicked}
 use Rattle.run_replay.specs.Replays.{Picked}
 use Rattle.std.proofs.Common.{ap, arith, refl, subst, sym, ◌∙◌}
 use Rattle.std.proofs.lemmas.Grind.{common_steps}
 use Rattle.std.specs.List.{range_with_len}
-use Rattle.std.specs.Prelude.{Bool, List, [], false, filter, fold, if◌then◌else◌, is_some, length, nat_le, not, suc, true, zero, ℕ, ⊤, ◌&&◌, ◌++◌, ◌+◌, ◌==◌, ◌∷◌, ◌≡◌, ◌≢◌, ◌||◌}
+use Rattle.std.specs.Prelude.{Bool, List, None, Option, Some, [], false, filter, fold, if◌then◌else◌, is_some, length, nat_le, not, option_map, option_to_list, slice_get, slice_set, suc, true, unwrap_or, zero, ℕ, ⊤, ◌&&◌, ◌*◌, ◌++◌, ◌<◌, ◌==◌, ◌∷◌, ◌≡◌, ◌≢◌, ◌||◌}
 
 -- Entries that end at most one run
 
@@ -111,59 +114,71 @@ take_ends s r q m other = after_ends (at_moment s m) r q (choice_of s r m) (choi
 
 -- What a step back makes: no end
 
-give_ends : (w : Setting) (n : Reading) (x d r : ℕ) (purpose : Purpose) (told : Told) → (is_command purpose || is_undo purpose) ≡ true → EndAtMost x (give_entries w n d (record { maker = r; purpose = purpose }) told)
-give_ends w n x d r (Commands k) Worked e = (tt, tt)
-give_ends w n x d r (Commands k) (Sensed v) e = (tt, if_none x (fails (command_at w.runs r k) (Found v) && not (is_doomed n r)) _ tt)
-give_ends w n x d r (Commands k) Died e = (tt, (tt, dooms _ _ (is_doomed n r) (did n r (command_at w.runs r k).device.0 && not (is_weak w.mode)) (command_at w.runs r k).must))
+either_ends : (x : ℕ) (b : Bool) (es fs : List Entry) → EndAtMost x es → EndAtMost x fs → EndAtMost x (if b then es else fs)
+either_ends x true es fs own other = own
+either_ends x false es fs own other = other
+
+lost_ends : (x d : ℕ) (o : Option ℕ) → EndAtMost x (option_to_list (option_map (λ y. Doomed (run_no y) (Lost (device_no d))) o))
+lost_ends x d None = tt
+lost_ends x d (Some y) = (tt, tt)
+
+give_ends : (w : Setting) (n : Reading) (x d r : ℕ) (purpose : Purpose) (told : Told) → EndAtMost x (give_entries w n d (record { maker = r; purpose = purpose }) told)
+give_ends w n x d r (Commands k) Worked = (tt, tt)
+give_ends w n x d r (Commands k) (Sensed v) = (tt, if_none x (fails (command_at w.runs r k) (Found v) && not (is_doomed n r)) _ tt)
+give_ends w n x d r (Commands k) Died = (tt, (tt, dooms _ _ (is_doomed n r) (did n r (command_at w.runs r k).device.0 && not (is_weak w.mode)) (command_at w.runs r k).must))
   where
     dooms : (y z : Cause) (a b c : Bool) → EndAtMost x (if a then [] else (if b then Doomed (run_no r) y ∷ [] else (if c then Doomed (run_no r) z ∷ [] else [])))
     dooms y z true b c = tt
     dooms y z false true c = (tt, tt)
     dooms y z false false true = (tt, tt)
     dooms y z false false false = tt
-give_ends w n x d r (Undoes v) Worked e = (tt, tt)
-give_ends w n x d r (Undoes v) (Sensed y) e = (tt, tt)
-give_ends w n x d r (Undoes v) Died e = (tt, (tt, tt))
-give_ends w n x d r (Probes v) told e = absurd (cc)
+give_ends w n x d r (Undoes v) Worked = (tt, tt)
+give_ends w n x d r (Undoes v) (Sensed y) = (tt, tt)
+give_ends w n x d r (Undoes v) Died = (tt, (tt, tt))
+give_ends w n x d r (Probes v) Worked = either_ends x (n.up d) [] (Rose (device_no d) ∷ []) tt (tt, tt)
+give_ends w n x d r (Probes v) (Sensed y) = either_ends x (n.up d) [] (Rose (device_no d) ∷ []) tt (tt, tt)
+give_ends w n x d r (Probes v) Died = either_ends x (n.up d) (Fell (device_no d) ∷ option_to_list (option_map (λ y. Doomed (run_no y) (Lost (device_no d))) (lost_by w n d))) [] (tt, lost_ends x d (lost_by w n d)) tt
 
-give_ended : (s : Configuration) (d r q : ℕ) (purpose : Purpose) (told : Told) → (is_command purpose || is_undo purpose) ≡ true → ((read_of (after_give s d (record { maker = r; purpose = purpose }) told)).run q).ended ≡ ((read_of s).run q).ended
-give_ended s d r q purpose told e = more_ended s r (suc q) q (give_entries s.setting (read_of s) d (record { maker = r; purpose = purpose }) told) (give_ends s.setting (read_of s) (suc q) d r purpose told e) (λ same. absurd (omega (arith, same)))
+pub give_ended : (s : Configuration) (d r q : ℕ) (purpose : Purpose) (told : Told) → ((read_of (after_give s d (record { maker = r; purpose = purpose }) told)).run q).ended ≡ ((read_of s).run q).ended
+give_ended s d r q purpose told = more_ended s r (suc q) q (give_entries s.setting (read_of s) d (record { maker = r; purpose = purpose }) told) (give_ends s.setting (read_of s) (suc q) d r purpose told) (λ same. absurd (omega (arith, same)))
 
 -- The same of the actors
 
--- in this stage the detector has ended
-detector_is : {D : Type 0} (s : PlayerState D) → PlayerIsKept s → is_ended s 0 ≡ true
-detector_is s kept = rw (kept.detector, kept.still) (least s.place)
-  where
-    least : (n : ℕ) → nat_le 0 n ≡ true
-    least n = grind (arith, common_steps)
+-- the detector has ended where it had, with its hand, its rounds and its place as they were
+pub same_detector : {D : Type 0} (s t : PlayerState D) → SameWindow s.hub t.hub → slice_get t.grips 0 ≡ slice_get s.grips 0 → t.rounds ≡ s.rounds → t.place ≡ s.place → is_ended t 0 ≡ is_ended s 0
+same_detector s t window hand rounds place = λ i. not (unwrap_or (option_map is_some (hand i)) false) && nat_le (rounds i * length (window.setting i).first) (place i)
 
-same_ends : {D : Type 0} (s t : PlayerState D) (q : ℕ) → PlayerIsKept s → PlayerIsKept t → SameWindow s.hub t.hub → ((read_of (configuration_of t.hub)).run q).ended ≡ ((read_of (configuration_of s.hub)).run q).ended → is_ended t q ≡ is_ended s q
-same_ends s t zero before after window same = detector_is t after ∙ sym (detector_is s before)
-same_ends s t (suc r) before after window same = λ i. not (is_run (window.setting i).runs (suc r)) || is_some (same i)
+-- .. and a run where it had its end
+pub same_ends : {D : Type 0} (s t : PlayerState D) (q : ℕ) → SameWindow s.hub t.hub → (q ≡ 0 → is_ended t 0 ≡ is_ended s 0) → ((read_of (configuration_of t.hub)).run q).ended ≡ ((read_of (configuration_of s.hub)).run q).ended → is_ended t q ≡ is_ended s q
+same_ends s t zero window detector same = detector refl
+same_ends s t (suc r) window detector same = λ i. not (is_run (window.setting i).runs (suc r)) || is_some (same i)
+
+-- the hand of a run is not the detector's
+run_hand : {D : Type 0} (s t : PlayerState D) (r : ℕ) (o : Option (Gripped D Ready)) → 0 < r → t.grips ≡ slice_set s.grips r o → slice_get t.grips 0 ≡ slice_get s.grips 0
+run_hand s t r o run grips = ap (λ g. slice_get g 0) grips ∙ put_other_place s.grips r 0 o (λ own. absurd (omega (arith, run, own)))
 
 -- a run's step ends no other actor
 pub answered_others : {D : Type 0} (now s t : PlayerState D) (r : ℕ) (choice : Choice) → s ≡ now → IsAnswered s t r choice → (q : ℕ) → q ≢ r → is_ended t q ≡ is_ended now q
 answered_others {D = D} now s t r choice same is q other =
     let ends = ap (λ (c : Configuration). ((read_of c).run q).ended) (after s t r choice is.answers) ∙ take_ends (configuration_of s.hub) r q s.moment other in
-    same_ends s t q is.free.kept (answered_keeps s t r choice is) is.window ends ∙ ap (λ (x : PlayerState D). is_ended x q) same
+    same_ends s t q is.window (λ own. same_detector s t is.window (ap (λ g. slice_get g 0) is.grips) is.rounds is.place) ends ∙ ap (λ (x : PlayerState D). is_ended x q) same
 
 -- .. and where it waits not even its own
 pub waited_ends : {D : Type 0} (now s t : PlayerState D) (r : ℕ) (why : Why) → s ≡ now → IsAnswered s t r (Waits why) → is_ended t r ≡ is_ended now r
 waited_ends {D = D} now s t r why same is =
     let ends = ap (λ (c : Configuration). ((read_of c).run r).ended) (after s t r (Waits why) is.answers) ∙ ap (λ c. ((read_of (after_choice (at_moment (configuration_of s.hub) s.moment) r c)).run r).ended) (sym (chosen s t r (Waits why) is.answers)) in
-    same_ends s t r is.free.kept (answered_keeps s t r (Waits why) is) is.window ends ∙ ap (λ (x : PlayerState D). is_ended x r) same
+    same_ends s t r is.window (λ own. same_detector s t is.window (ap (λ g. slice_get g 0) is.grips) is.rounds is.place) ends ∙ ap (λ (x : PlayerState D). is_ended x r) same
 
 pub went_others : {D : Type 0} (now s t : PlayerState D) (r : ℕ) (grip : Gripped D Ready) → s ≡ now → GoesToHand s t r grip → (q : ℕ) → q ≢ r → is_ended t q ≡ is_ended now q
 went_others {D = D} now s t r grip same is q other =
     let ends = ap (λ (c : Configuration). ((read_of c).run q).ended) (went_after s t r grip is) ∙ take_ends (configuration_of s.hub) r q s.moment other in
-    same_ends s t q is.free.kept (went_keeps s t r grip is) is.window ends ∙ ap (λ (x : PlayerState D). is_ended x q) same
+    same_ends s t q is.window (λ own. same_detector s t is.window (run_hand s t r (Some grip) is.free.run is.grips) is.rounds is.place) ends ∙ ap (λ (x : PlayerState D). is_ended x q) same
 
 -- a step back ends no actor
 pub given_ends : {D : Type 0} (now s t : PlayerState D) (a : ℕ) (grip : Gripped D Ready) (done : Gripped D Done) (entries : List Entry) → s ≡ now → IsGivenBack s t a grip done entries → (q : ℕ) → is_ended t q ≡ is_ended now q
 given_ends {D = D} now s t a grip done entries same by q =
-    let ends = ap (λ (c : Configuration). ((read_of c).run q).ended) (entries_are s t a grip done entries by).1 ∙ give_ended (at_moment (configuration_of s.hub) t.moment) grip.slip.device.0 a q (purpose_at s grip) done.stage.told (runs_purpose s a grip.slip.device.0 (purpose_at s grip) by.is.run by.is.fit (out_of_hand s a grip by.is.kept by.is.hand)) in
-    same_ends s t q by.is.kept (given_keeps s t a grip done entries by) by.window ends ∙ ap (λ (x : PlayerState D). is_ended x q) same
+    let ends = ap (λ (c : Configuration). ((read_of c).run q).ended) (entries_are s t a grip done entries by).1 ∙ give_ended (at_moment (configuration_of s.hub) t.moment) grip.slip.device.0 a q (purpose_at s grip) done.stage.told in
+    same_ends s t q by.window (λ own. same_detector s t by.window (run_hand s t a None by.is.run by.grips) by.rounds by.place) ends ∙ ap (λ (x : PlayerState D). is_ended x q) same
 
 -- The list of those that have not ended
 

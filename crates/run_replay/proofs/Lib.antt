@@ -13,6 +13,7 @@ pub mod Picking
 pub mod Stepping
 pub mod Counting
 pub mod Leaving
+pub mod Probing
 pub mod Living
 pub mod Ending
 pub mod EmptyHands

@@ -9,38 +9,20 @@ use Rattle.hub_core.specs.Homes.{HomeState}
 use Rattle.hub_core.specs.HubCalls.{IsOpened as IsOpenedOn}
 use Rattle.hub_core.specs.OpenHubs.{OpenHub, configuration_of, device_at, grip_in}
 use Rattle.hub_core.specs.Steps.{opened}
-use Rattle.run_replay.proofs.EmptyHands.{empty_there}
 use Rattle.run_replay.specs.Players.{HoldNothing, IsOpened, PlayerIsKept, PlayerState}
 use Rattle.std.proofs.Common.{ap, arith, refl, subst, sym, ◌∙◌}
 use Rattle.std.proofs.lemmas.Grind.{common_steps}
-use Rattle.std.specs.Prelude.{Bool, List, Option, Some, false, if◌then◌else◌, length, slice_get, suc, true, zero, ℕ, ◌*◌, ◌+◌, ◌<◌, ◌^◌, ◌≡◌, ◌≤◌}
+use Rattle.std.specs.Prelude.{List, Option, Some, if◌then◌else◌, length, slice_get, true, ℕ, ◌*◌, ◌+◌, ◌<◌, ◌^◌, ◌≡◌, ◌≤◌}
 
 -- the player of the hub, with these hands
 abbrev pub player_of : {D : Type 0} → OpenHub D → List (Option (Gripped D Ready)) → ℕ → PlayerState D
 player_of hub grips rounds = record { hub = hub; grips = grips; rounds = rounds; moment = 0; place = 0 }
 
-no_rounds : (rounds devices : ℕ) → (0 < devices → rounds ≡ 0) → rounds * devices ≡ 0
-no_rounds rounds zero none = omega arith
-no_rounds rounds (suc n) none = ap (λ r. r * suc n) (none (omega arith)) ∙ omega arith
-
 least : (n : ℕ) → 0 ≤ n
 least n = omega arith
 
--- the detector has no rounds where the hub has none
-no_probes : {D : Type 0} (hub : OpenHub D) (rounds : ℕ) → configuration_of hub ≡ opened hub.setting hub.rounds → ((d : ℕ) → d < length hub.setting.first → rounds ≤ (configuration_of hub).probes d) → hub.rounds ≡ 0 → 0 < length hub.setting.first → rounds ≡ 0
-no_probes hub rounds fresh low stage some =
-    let most = low 0 some in
-    let are : (configuration_of hub).probes 0 ≡ (if is_device hub.setting 0 then hub.rounds else 0) = ap (λ c. c.probes 0) fresh in
-    let few = at_most (is_device hub.setting 0) hub.rounds in
-    omega (arith, most, are, few, stage)
-  where
-    at_most : (b : Bool) (n : ℕ) → (if b then n else 0) ≤ n
-    at_most true n = omega arith
-    at_most false n = omega arith
-
-pub opens_kept : {D : Type 0} (hub : OpenHub D) (grips : List (Option (Gripped D Ready))) (rounds : ℕ) → configuration_of hub ≡ opened hub.setting hub.rounds → ((d : ℕ) → d < length hub.setting.first → rounds ≤ (configuration_of hub).probes d) → hub.rounds ≡ 0
-    → rounds < 2 ^ 32 → HoldNothing grips → length grips ≡ length hub.setting.runs + 1 → PlayerIsKept (player_of hub grips rounds)
-opens_kept {D = D} hub grips rounds fresh low stage few none size = record {
+pub opens_kept : {D : Type 0} (hub : OpenHub D) (grips : List (Option (Gripped D Ready))) (rounds : ℕ) → configuration_of hub ≡ opened hub.setting hub.rounds → rounds < 2 ^ 32 → HoldNothing grips → length grips ≡ length hub.setting.runs + 1 → PlayerIsKept (player_of hub grips rounds)
+opens_kept {D = D} hub grips rounds fresh few none size = record {
   actors = size;
   makers = λ a grip at. absurd (none a grip at);
   held = λ a grip at. absurd (none a grip at);
@@ -48,8 +30,6 @@ opens_kept {D = D} hub grips rounds fresh low stage few none size = record {
   early = least (2 ^ 32 * length hub.history);
   rounds = few;
   place = least (rounds * length hub.setting.first);
-  still = no_rounds rounds (length hub.setting.first) (no_probes hub rounds fresh low stage);
-  detector = empty_there grips 0 none (omega (arith, size));
 }
   where
     no_out : (d : ℕ) (slip : Slip) (task : Task) → slice_get hub.places d ≡ Some (Out slip task) → ⊥

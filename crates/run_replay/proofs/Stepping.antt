@@ -98,7 +98,7 @@ fewer_devices : (b b' e e' all place f f' : ℕ) → b' ≤ b → e' ≡ e → p
 fewer_devices b b' e e' all place f f' less same low full = omega (arith, less, same, low, full)
 
 -- the detector came to one device more
-pub came_fewer : {D : Type 0} (s t : PlayerState D) → StaysBy s t → drop 1 t.grips ≡ drop 1 s.grips → first_is_full t.grips ≤ first_is_full s.grips + 1 → s.place < s.rounds * length s.hub.setting.first → t.place ≡ s.place + 1 → t.hub.history ≡ s.hub.history → steps_left t < steps_left s
+came_fewer : {D : Type 0} (s t : PlayerState D) → StaysBy s t → drop 1 t.grips ≡ drop 1 s.grips → first_is_full t.grips ≤ first_is_full s.grips + 1 → s.place < s.rounds * length s.hub.setting.first → t.place ≡ s.place + 1 → t.hub.history ≡ s.hub.history → steps_left t < steps_left s
 came_fewer s t same grips full low place history =
     let all : t.rounds * length t.hub.setting.first ≡ s.rounds * length s.hub.setting.first = ap (λ n. n * length t.hub.setting.first) same.rounds ∙ ap (λ n. s.rounds * n) same.devices in
     let bound : most_made t - length t.hub.history ≡ most_made s - length s.hub.history = ap (λ n. n - length t.hub.history) (same_most s t same.runs same.devices same.probes) ∙ ap (λ h. most_made s - length h) history in
@@ -106,6 +106,14 @@ came_fewer s t same grips full low place history =
     (ap (λ n. n - (s.place + 1)) (sym all) ∙ ap (λ n. t.rounds * length t.hub.setting.first - n) (sym place))
     (fewer_devices (most_made s - length s.hub.history) (most_made t - length t.hub.history) (empty_places (drop 1 s.grips)) (empty_places (drop 1 t.grips)) (s.rounds * length s.hub.setting.first) s.place (first_is_full s.grips) (first_is_full t.grips)
     (omega (arith, bound)) (ap empty_places grips) low full)
+
+-- .. and passed it over
+pub passed_fewer : {D : Type 0} (s t : PlayerState D) → StaysBy s t → t.grips ≡ s.grips → s.place < s.rounds * length s.hub.setting.first → t.place ≡ s.place + 1 → t.hub.history ≡ s.hub.history → steps_left t < steps_left s
+passed_fewer s t same grips low place history = came_fewer s t same (ap (drop 1) grips) (let full : first_is_full t.grips ≡ first_is_full s.grips = ap first_is_full grips in omega (arith, full)) low place history
+
+-- .. or took a probe of it
+pub probed_fewer : {D : Type 0} (s t : PlayerState D) (x : Gripped D Ready) → StaysBy s t → 0 < length s.grips → t.grips ≡ slice_set s.grips 0 (Some x) → s.place < s.rounds * length s.hub.setting.first → t.place ≡ s.place + 1 → t.hub.history ≡ s.hub.history → steps_left t < steps_left s
+probed_fewer s t x same some grips low place history = came_fewer s t same (ap (drop 1) grips ∙ behind_first s.grips (Some x)) (let full : first_is_full t.grips ≡ 1 = ap first_is_full grips ∙ first_set s.grips x some in omega (arith, full)) low place history
 
 fewer_held : (b b' e e' c c' f f' : ℕ) → b' ≤ b → e' ≡ e → c' ≡ c → f' + 1 ≡ f → 2 * b' + e' + 2 * c' + f' < 2 * b + e + 2 * c + f
 fewer_held b b' e e' c c' f f' less same places held = omega (arith, less, same, places, held)

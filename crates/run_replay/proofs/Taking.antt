@@ -111,7 +111,7 @@ pub record IsAnswered {D : Type 0} (s t : PlayerState D) (r : ℕ) (choice : Cho
   pub moment : t.moment ≡ s.moment
   pub place : t.place ≡ s.place
 
-some_slip : Slip
+pub some_slip : Slip
 some_slip = record { ticket = 0; device = record { 0 = 0 }; maker = 0; stood = 0; turns = 0; probes = 0; faults = 0 }
 
 pub chosen : {D : Type 0} (s t : PlayerState D) (r : ℕ) (choice : Choice) → Answers s.hub r s.moment choice t.hub → choice ≡ choice_of (configuration_of s.hub) r s.moment
@@ -202,7 +202,6 @@ same_history s t r grip is = ap (λ (c : Configuration). c.history) (went_after 
 
 takes_of : {D : Type 0} (s t : PlayerState D) (r : ℕ) (grip : Gripped D Ready) → (is : GoesToHand s t r grip) → Takes s t r grip
 takes_of s t r grip is = record {
-  run = is.free.run;
   free = hand_is_empty s r is.free;
   home = is.out.home;
   maker = (its_slip s t r grip is).maker;

@@ -69,10 +69,14 @@ same_behind [] (y ∷ ys) size same = absurd (omega (arith, size))
 same_behind (x ∷ xs) [] size same = absurd (omega (arith, size))
 same_behind (x ∷ xs) (y ∷ ys) size same = same_empty xs ys (omega (arith, size)) (λ i low. same (suc i) (omega (arith, low)))
 
-no_first : {A : Type 0} (xs : List (Option A)) → slice_get xs 0 ≡ Some None → first_is_full xs ≡ 0
-no_first [] at = refl
-no_first (None ∷ xs) at = refl
-no_first (Some y ∷ xs) at = absurd (cc)
+same_first : {A : Type 0} (xs ys : List (Option A)) → length xs ≡ length ys → ((i : ℕ) → i < length xs → holds_at xs i ≡ holds_at ys i) → first_is_full xs ≡ first_is_full ys
+same_first [] [] size same = refl
+same_first [] (y ∷ ys) size same = absurd (omega (arith, size))
+same_first (x ∷ xs) [] size same = absurd (omega (arith, size))
+same_first (None ∷ xs) (None ∷ ys) size same = refl
+same_first (Some x ∷ xs) (Some y ∷ ys) size same = refl
+same_first (None ∷ xs) (Some y ∷ ys) size same = absurd (let no : false ≡ true = same 0 (omega arith) in cc)
+same_first (Some x ∷ xs) (None ∷ ys) size same = absurd (let no : true ≡ false = same 0 (omega arith) in cc)
 
 full_by_play : {D : Type 0} (s : PlayerState D) (a acts : ℕ) → PlayerIsKept s → length s.hub.places ≡ length s.hub.setting.first → a < length s.grips → is_full s a ≡ is_some (gripped (play_of s acts) a)
 full_by_play s a acts kept size low = by_hand (is_full s a) refl
@@ -101,7 +105,7 @@ same_left s t stays =
     let most = same_most s t (ap (λ (x : Play). length x.configuration.setting.runs) (stays.play 0)) (ap (λ (x : Play). length x.configuration.setting.first) (stays.play 0)) stays.probes in
     let history : most_made t - length t.hub.history ≡ most_made s - length s.hub.history = ap (λ n. n - length t.hub.history) most ∙ ap (λ (x : Play). most_made s - length x.configuration.history) (stays.play 0) in
     let place : t.rounds * length t.hub.setting.first - t.place ≡ s.rounds * length s.hub.setting.first - s.place = ap (λ n. n * length t.hub.setting.first - t.place) stays.rounds ∙ ap (λ (x : Play). s.rounds * length x.configuration.setting.first - x.place) (stays.play 0) in
-    let first : first_is_full t.grips ≡ first_is_full s.grips = no_first t.grips stays.after.kept.detector ∙ sym (no_first s.grips stays.before.kept.detector) in
+    let first : first_is_full t.grips ≡ first_is_full s.grips = same_first t.grips s.grips size hand in
     let hands : empty_places (drop 1 t.grips) ≡ empty_places (drop 1 s.grips) = same_behind t.grips s.grips size hand in
     ap (λ n. 2 * n + empty_places (drop 1 t.grips) + 2 * (t.rounds * length t.hub.setting.first - t.place) + first_is_full t.grips) history
     ∙ ap (λ n. 2 * (most_made s - length s.hub.history) + n + 2 * (t.rounds * length t.hub.setting.first - t.place) + first_is_full t.grips) hands

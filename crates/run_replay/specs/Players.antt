@@ -63,9 +63,6 @@ pub record PlayerIsKept {D : Type 0} (s : PlayerState D) : Type 0 where
   pub early : s.moment ≤ 2 ^ 32 * length s.hub.history
   pub rounds : s.rounds < 2 ^ 32
   pub place : s.place ≤ s.rounds * length s.hub.setting.first
-  -- in this stage the detector has no rounds, and no grip
-  pub still : s.rounds * length s.hub.setting.first ≡ 0
-  pub detector : slice_get s.grips 0 ≡ Some None
 
 -- the device d of the player: it is home, or in the hands of an actor
 abbrev pub IsDevice : {D : Type 0} → PlayerState D → ℕ → D → Type 0

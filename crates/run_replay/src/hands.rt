@@ -9,7 +9,7 @@ ghost use Rattle.run_replay.specs.Replays.{waits};
 use crate::picked::Picked;
 use device_states::{Device, Steady};
 use history_book::{Made, WindowRecord};
-use home_types::{NoMemory, RunNo};
+use home_types::{DeviceNo, NoMemory, RunNo};
 use hub_core::{Grip, Home, Hub, NotQuiet, Ready, Turn};
 use std::alloc::Global;
 use std::marker::Model;
@@ -83,7 +83,9 @@ impl<D: Steady> Hands<D> {
         if self.has_ended(actor) {
             return Picked::Passed;
         }
-        // In this stage the detector has no rounds, so it has ended and the actor is a run.
+        if actor == 0 {
+            return self.probe();
+        }
         if self.holds(actor) {
             Picked::Made(self.act(actor))
         } else {
@@ -104,6 +106,7 @@ impl<D: Steady> Hands<D> {
         ensures { result ≡ is_ended self.now actor }
     {
         if actor == 0 {
+            self.hub.kept();
             let all = u64::from(self.rounds) * self.hub.device_count();
             return !self.holds(0) && all <= self.place;
         }
@@ -167,6 +170,76 @@ impl<D: Steady> Hands<D> {
             Turn::Over(_, made) => Picked::Made(made),
             Turn::Wait(why) => Picked::Waits(why),
             Turn::Absent => Picked::Passed,
+        }
+    }
+
+    /// Steps the detector: where it holds a grip it gives it back, and else it comes to its next device.
+    fn probe(&mut self) -> Picked
+        requires going { is_ended self.old 0 ≡ false }
+        ensures picked { (acts : ℕ) → (later : ℕ) × IsPicked self.old.rounds 0 (play_of self.old acts) (picked_of result) (play_of self.new later) }
+        ensures window { SameWindow self.old.hub self.new.hub }
+        ensures rounds { self.new.rounds ≡ self.old.rounds }
+        ensures plans { (plans : ℕ → _) → HavePlans D.plan plans self.old → HavePlans D.plan plans self.new }
+        ensures fewer { steps_left self.new < steps_left self.old }
+        ensures hands { length self.new.grips ≡ length self.old.grips }
+        ensures others { (q : ℕ) → q ≢ 0 → is_ended self.new q ≡ is_ended self.old q }
+        ensures moves { waits (picked_of result) ≡ false }
+    {
+        if self.holds(0) {
+            Picked::Made(self.detector_acts())
+        } else {
+            self.detector_takes()
+        }
+    }
+
+    /// Makes the call of the grip that the detector holds, and gives the grip back. A probe takes no time.
+    fn detector_acts(&mut self) -> Made
+        requires going { is_ended self.old 0 ≡ false }
+        requires holds { is_full self.old 0 ≡ true }
+        ensures picked { (acts : ℕ) → (later : ℕ) × IsPicked self.old.rounds 0 (play_of self.old acts) (picked_of (Picked.Made result)) (play_of self.new later) }
+        ensures window { SameWindow self.old.hub self.new.hub }
+        ensures rounds { self.new.rounds ≡ self.old.rounds }
+        ensures plans { (plans : ℕ → _) → HavePlans D.plan plans self.old → HavePlans D.plan plans self.new }
+        ensures fewer { steps_left self.new < steps_left self.old }
+        ensures hands { length self.new.grips ≡ length self.old.grips }
+        ensures others { (q : ℕ) → q ≢ 0 → is_ended self.new q ≡ is_ended self.old q }
+    {
+        self.hub.kept();
+        match mem::replace(&mut self.grips[0], None) {
+            Some(grip) => {
+                let given = self.hub.give_probe(grip.act());
+                match given {
+                    Ok(made) => made,
+                    Err((_back, _stranger)) => unreachable!(),
+                }
+            }
+            None => unreachable!(),
+        }
+    }
+
+    /// Comes to the next device of the detector's round: takes a probe of it, or passes it over where none may be taken.
+    fn detector_takes(&mut self) -> Picked
+        requires going { is_ended self.old 0 ≡ false }
+        requires empty { is_full self.old 0 ≡ false }
+        ensures picked { (acts : ℕ) → (later : ℕ) × IsPicked self.old.rounds 0 (play_of self.old acts) (picked_of result) (play_of self.new later) }
+        ensures window { SameWindow self.old.hub self.new.hub }
+        ensures rounds { self.new.rounds ≡ self.old.rounds }
+        ensures plans { (plans : ℕ → _) → HavePlans D.plan plans self.old → HavePlans D.plan plans self.new }
+        ensures fewer { steps_left self.new < steps_left self.old }
+        ensures hands { length self.new.grips ≡ length self.old.grips }
+        ensures others { (q : ℕ) → q ≢ 0 → is_ended self.new q ≡ is_ended self.old q }
+        ensures moves { waits (picked_of result) ≡ false }
+    {
+        self.hub.kept();
+        let d = DeviceNo((self.place % self.hub.device_count()) as u16);
+        let probed = self.hub.take_probe(d);
+        self.place += 1;
+        match probed {
+            Some(grip) => match mem::replace(&mut self.grips[0], Some(grip)) {
+                None => Picked::Took(d),
+                Some(_held) => unreachable!(),
+            },
+            None => Picked::Passed,
         }
     }
 
