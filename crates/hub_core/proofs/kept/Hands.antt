@@ -112,3 +112,18 @@ hand_comes w n g f r d purpose hands after run out fit home set k =
       | true ↦ (λ own. absurd (none y x.purpose (at ∙ ap (λ m. Some (record { maker = m; purpose = x.purpose })) (equal x.maker r own))))
       | false ↦ (λ own. refl)
     ] refl
+
+-- the grip of the detector is in no hand: one that goes out, ..
+probe_held : (w : Setting) (g f : Grips) (hands : List (Option DeviceNo)) → ((q e : ℕ) → q ≢ 0 → has_grip f q e ≡ has_grip g q e) → HandsAre w g hands → HandsAre w f hands
+probe_held w g f hands others k = record {
+  size = k.size;
+  each = λ i hand at. k.each i hand at ∙ sym (find_same (has_grip f (suc i)) (has_grip g (suc i)) _ (λ e. others (suc i) e (λ none. absurd (omega (arith, none)))));
+}
+
+pub probe_goes : (w : Setting) (g f : Grips) (d : ℕ) (purpose : Purpose) (hands : List (Option DeviceNo)) → g d ≡ None → f ≡ put g d (Some (record { maker = 0; purpose = purpose })) → HandsAre w g hands → HandsAre w f hands
+probe_goes w g f d purpose hands home gone k =
+    subst (λ (x : Grips). HandsAre w x hands) (sym gone) (probe_held w g (put g d (Some (record { maker = 0; purpose = purpose }))) hands (others_hold g 0 d (Some (record { maker = 0; purpose = purpose })) refl (subst (IsOf 0) (sym home) tt)) k)
+
+-- .. and one that comes back
+pub probe_comes : (w : Setting) (g f : Grips) (d : ℕ) (purpose : Purpose) (hands : List (Option DeviceNo)) → g d ≡ Some (record { maker = 0; purpose = purpose }) → f ≡ put g d None → HandsAre w g hands → HandsAre w f hands
+probe_comes w g f d purpose hands out home k = subst (λ (x : Grips). HandsAre w x hands) (sym home) (probe_held w g (put g d None) hands (others_hold g 0 d None tt (subst (IsOf 0) (sym out) refl)) k)

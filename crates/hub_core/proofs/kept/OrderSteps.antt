@@ -68,7 +68,7 @@ pub last_follows : (w : Setting) (h : List Kept) (maker : ℕ) (e : Entry) → I
 last_follows w h maker e formed = each_at w (may_follow w) (nothing_read w) (entries_of h) e [] (subst (IsWellFormed w) (entries_on h maker (e ∷ [])) formed)
 
 -- what is kept after it is kept of the history with it
-entry_kept : {rounds : ℕ} (h h₂ : HistoryState) (g : Grips) (maker : ℕ) (e : Entry) (line : Marked) (table : List LineageState) → h₂ ≡ with_entry h maker e → IsOrderOf rounds h.setting (entry h.setting (read_in h) e) g line table → OrderIsBeside rounds h₂ g line table
+pub entry_kept : {rounds : ℕ} (h h₂ : HistoryState) (g : Grips) (maker : ℕ) (e : Entry) (line : Marked) (table : List LineageState) → h₂ ≡ with_entry h maker e → IsOrderOf rounds h.setting (entry h.setting (read_in h) e) g line table → OrderIsBeside rounds h₂ g line table
 entry_kept {rounds = rounds} h h₂ g maker e line table new kept =
     subst (λ (x : HistoryState). OrderIsBeside rounds x g line table) (sym new)
     (subst (λ n. IsOrderOf rounds h.setting n g line table) (sym (read_more h.setting h.history maker e)) kept)
@@ -93,7 +93,7 @@ order_arrived {rounds = rounds} h h₂ g r m line table new kept = entry_kept h 
 
 -- A run is placed
 
-length_with : (at : ℕ) (x : Item) (marks : List Mark) → length (with_item at x marks) ≡ length marks + 1
+pub length_with : (at : ℕ) (x : Item) (marks : List Mark) → length (with_item at x marks) ≡ length marks + 1
 length_with at x marks =
     let after : length (with_item at x marks) ≡ length (take at marks) + suc (length (drop at marks)) = length-append (take at marks) (untouched x ∷ drop at marks) in
     let before : length (take at marks ++ drop at marks) ≡ length (take at marks) + length (drop at marks) = length-append (take at marks) (drop at marks) in

@@ -184,6 +184,38 @@ give_ups s d e grip told of_run on = ap (λ (n : Reading). n.up e) (read_with s 
     by_purpose (Undoes v) Died run at = refl
     by_purpose (Probes value) t run at = absurd (cc)
 
+-- none comes back
+pub give_rises : (s : Configuration) (d e : ℕ) (grip : Grip) (told : Told) → is_of_run grip.purpose ≡ true → (reading s.setting (entries_of (after_give s d grip told).history)).rose e ≡ (read_of s).rose e
+give_rises s d e grip told of_run = ap (λ (n : Reading). n.rose e) (read_with s r (give_entries w n d grip told)) ∙ by_purpose grip.purpose told of_run
+  where
+    w : Setting
+    w = s.setting
+
+    n : Reading
+    n = read_of s
+
+    r : ℕ
+    r = grip.maker
+
+    dead : (k : ℕ) (doomed lost must : Bool)
+        → (fold (entry w) (entry w (entry w n (Fell (command_at w.runs r k).device)) (Did (run_no r) k Down)) (if doomed then [] else (if lost then Doomed (run_no r) (Lost (command_at w.runs r k).device) ∷ [] else (if must then Doomed (run_no r) (MustDown k) ∷ [] else [])))).rose e ≡ n.rose e
+    dead k true lost must = refl
+    dead k false true must = refl
+    dead k false false true = refl
+    dead k false false false = refl
+
+    by_purpose : (p : Purpose) (t : Told) → is_of_run p ≡ true → (fold (entry w) n (give_entries w n d (record { maker = r; purpose = p }) t)).rose e ≡ n.rose e
+    by_purpose (Commands k) Worked run = refl
+    by_purpose (Commands k) (Sensed x) run = elim (fails (command_at w.runs r k) (Found x) && not (is_doomed n r)) as (λ b. (fold (entry w) n (Did (run_no r) k (Found x) ∷ (if b then Doomed (run_no r) (Refuted k x) ∷ [] else []))).rose e ≡ n.rose e) [
+      | true ↦ refl
+      | false ↦ refl
+    ]
+    by_purpose (Commands k) Died run = dead k (is_doomed n r) (did n r (command_at w.runs r k).device.0 && not (is_weak w.mode)) (command_at w.runs r k).must
+    by_purpose (Undoes v) Worked run = refl
+    by_purpose (Undoes v) (Sensed x) run = refl
+    by_purpose (Undoes v) Died run = refl
+    by_purpose (Probes value) t run = absurd (cc)
+
 -- its entries tell of its run alone
 pub give_others : (s : Configuration) (d q : ℕ) (grip : Grip) (told : Told) → is_of_run grip.purpose ≡ true → q ≢ grip.maker
     → (reading s.setting (entries_of (after_give s d grip told).history)).run q ≡ (read_of s).run q
@@ -265,7 +297,7 @@ take_registers s r m q =
     ∙ ap (λ n. (n.run q).register) (read_with s r (made_by (choice_of s r m)))
     ∙ take_keeps_registers s.setting (read_of s) s.grips r (max s.moment m) q
 
--- The step of a run tells of no failure, and counts each device as before
+-- The step of a run tells of no failure and no restart, and counts each device as before
 
 abbrev MakesNoFall : ℕ → Choice → Type 0
 MakesNoFall d c = told_falls (made_by c) d ≡ 0
@@ -295,8 +327,12 @@ take_falls s r m d =
     ∙ ap (λ k. told_falls (entries_of s.history) d + k) (take_makes_no_fall s.setting (read_of s) s.grips r (max s.moment m) d)
     ∙ none_more (told_falls (entries_of s.history) d)
 
+-- how the device is counted, and its restarts
+abbrev counted_of : Reading → ℕ → Bool × ℕ
+counted_of n d = (n.up d, n.rose d)
+
 abbrev KeepsCounted : Setting → Reading → Choice → Type 0
-KeepsCounted w n c = (d : ℕ) → (fold (entry w) n (made_by c)).up d ≡ n.up d
+KeepsCounted w n c = (d : ℕ) → counted_of (fold (entry w) n (made_by c)) d ≡ counted_of n d
 
 take_keeps_counted : (w : Setting) (n : Reading) (g : Grips) (r m : ℕ) → KeepsCounted w n (decide w n g r m)
 take_keeps_counted w n g r m =
@@ -310,14 +346,20 @@ take_keeps_counted w n g r m =
       drops = λ cause e undoing down d. refl;
       undoes = λ cause e undoing up d. refl;
       revokes = λ c x run strong at d. refl;
-      downs = λ c run next home down d. elim c.must as (λ b. (fold (entry w) (entry w n (Did (run_no r) (next_of n r) Down)) (if b then Doomed (run_no r) (MustDown (next_of n r)) ∷ [] else [])).up d ≡ n.up d) [ true ↦ refl | false ↦ refl ];
+      downs = λ c run next home down d. elim c.must as (λ b. counted_of (fold (entry w) (entry w n (Did (run_no r) (next_of n r) Down)) (if b then Doomed (run_no r) (MustDown (next_of n r)) ∷ [] else [])) d ≡ counted_of n d) [ true ↦ refl | false ↦ refl ];
       goes = λ c run next home up d. refl;
       fails_at_end = λ e all at d. refl;
       commits = λ all up d. refl;
     })
 
-pub take_counted : (s : Configuration) (r m d : ℕ) → (reading s.setting (entries_of (after_take s r m).history)).up d ≡ (read_of s).up d
-take_counted s r m d =
-    ap (λ h. (reading s.setting (entries_of h)).up d) (take_history s r m (choice_of s r m))
-    ∙ ap (λ n. n.up d) (read_with s r (made_by (choice_of s r m)))
+counted_same : (s : Configuration) (r m d : ℕ) → counted_of (reading s.setting (entries_of (after_take s r m).history)) d ≡ counted_of (read_of s) d
+counted_same s r m d =
+    ap (λ h. counted_of (reading s.setting (entries_of h)) d) (take_history s r m (choice_of s r m))
+    ∙ ap (λ n. counted_of n d) (read_with s r (made_by (choice_of s r m)))
     ∙ take_keeps_counted s.setting (read_of s) s.grips r (max s.moment m) d
+
+pub take_counted : (s : Configuration) (r m d : ℕ) → (reading s.setting (entries_of (after_take s r m).history)).up d ≡ (read_of s).up d
+take_counted s r m d = ap (λ c. c.0) (counted_same s r m d)
+
+pub take_rises : (s : Configuration) (r m d : ℕ) → (reading s.setting (entries_of (after_take s r m).history)).rose d ≡ (read_of s).rose d
+take_rises s r m d = ap (λ c. c.1) (counted_same s r m d)

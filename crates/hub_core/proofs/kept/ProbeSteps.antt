@@ -1,0 +1,91 @@
+-- Each probe that goes out or comes home, and each entry that it makes, keeps the line and the table of a window.
+use Rattle.command_rules.specs.Rosters.{device_no, run_no}
+use Rattle.history_book.specs.Histories.{entry}
+use Rattle.history_book.specs.Readings.{Reading, is_doomed, put}
+use Rattle.history_book.specs.Settings.{Setting}
+use Rattle.history_book.specs.declared.entries.Cause.{Cause}
+use Rattle.history_book.specs.declared.entries.Entry.TheVariants.{Doomed, Fell, Rose}
+use Rattle.home_types.specs.declared.items.Item.TheVariants.{Back, Failed}
+use Rattle.home_types.specs.declared.items.Item.{Item}
+use Rattle.home_types.specs.declared.numbers.DeviceNo.{DeviceNo}
+use Rattle.hub_core.proofs.kept.OrderSteps.{entry_kept, length_with}
+use Rattle.hub_core.specs.KeptOrders.{IsOrderOf, OrderIsBeside}
+use Rattle.hub_core.specs.ReadHistories.{HistoryState, read_in, with_entry}
+use Rattle.lineage_table.specs.Lineages.{LineageState, counted_up, with_lineage}
+use Rattle.lock_leasing.specs.Configurations.{Grips, Probes, grips_command}
+use Rattle.lock_leasing.specs.Places.{GripsFit}
+use Rattle.serial_line.specs.Marks.{Mark, Marked, with_item}
+use Rattle.std.proofs.Common.{ap, arith, subst, sym, ◌∙◌}
+use Rattle.std.specs.Prelude.{List, None, Option, Some, false, length, true, ℕ, ◌+◌, ◌<◌, ◌≡◌, ◌≤◌}
+use Rattle.window_order.proofs.ReadFacts.{IsRead}
+use Rattle.window_order.proofs.TableSteps.{changes_one, doomed_unless_table}
+use Rattle.window_order.proofs.TouchedLines.{marks_doomed}
+use Rattle.window_order.proofs.TurnedLines.{event_place_of, marks_fell, marks_probe_home, marks_probe_out, marks_rose}
+use Rattle.window_order.proofs.TurnedTables.{fell_table, probe_home_table, probe_out_table, rose_table}
+use Rattle.window_order.specs.MarksKept.{MarksAreKept}
+use Rattle.window_order.specs.TableChanges.{ChangesEach, doomed_unless, is_device, turned_change}
+
+-- a probe goes out
+pub order_probe_out : {rounds : ℕ} (w : Setting) (n : Reading) (g f : Grips) (d : ℕ) (v : Option ℕ) (line : Marked) (table : List LineageState) → g d ≡ None → f ≡ put g d (Some (record { maker = 0; purpose = Probes v })) → IsOrderOf rounds w n g line table → IsOrderOf rounds w n f line table
+order_probe_out {rounds = rounds} w n g f d v line table home gone kept = subst (λ (x : Grips). IsOrderOf rounds w n x line table) (sym gone) (record {
+  table_is = probe_out_table w n g d 0 v table home kept.table_is;
+  line_is = marks_probe_out n g d 0 v line.marks home kept.line_is;
+  room = kept.room;
+})
+
+-- it comes home
+pub order_probe_home : {rounds : ℕ} (w : Setting) (n : Reading) (g f : Grips) (d : ℕ) (v : Option ℕ) (line : Marked) (table : List LineageState) → g d ≡ Some (record { maker = 0; purpose = Probes v }) → f ≡ put g d None → IsOrderOf rounds w n g line table → IsOrderOf rounds w n f line table
+order_probe_home {rounds = rounds} w n g f d v line table out home kept = subst (λ (x : Grips). IsOrderOf rounds w n x line table) (sym home) (record {
+  table_is = probe_home_table w n g d 0 v table out kept.table_is;
+  line_is = marks_probe_home n g d 0 v line.marks out kept.line_is;
+  room = kept.room;
+})
+
+-- the line has room behind an item that came into it
+room_behind : (at most : ℕ) (x : Item) (line after : Marked) → after.marks ≡ with_item at x line.marks → after.spare + 1 ≡ line.spare → most ≤ line.spare + length line.marks → most ≤ after.spare + length after.marks
+room_behind at most x line after marks spare room = let size = ap (λ (l : List Mark). length l) marks ∙ length_with at x line.marks in omega (arith, size, spare, room)
+
+-- a device fails
+pub order_fell : {rounds : ℕ} (h h₂ : HistoryState) (g : Grips) (maker d number place : ℕ) (line after : Marked) (table later : List LineageState) → d < length table → h₂ ≡ with_entry h maker (Fell (device_no d)) → place ≡ event_place_of h.setting (read_in h) d → number ≡ (read_in h).fell d + 1
+    → after.marks ≡ with_item place (Failed (device_no d) number) line.marks → after.spare + 1 ≡ line.spare → later ≡ with_lineage table d (counted_up false) → OrderIsBeside rounds h g line table → OrderIsBeside rounds h₂ g after later
+order_fell {rounds = rounds} h h₂ g maker d number place line after table later below new at counted marks spare changed kept = entry_kept h h₂ g maker (Fell (device_no d)) after later new (record {
+  table_is = fell_table w n g (device_no d) table later (subst (ChangesEach (turned_change d false) table) (sym changed) (changes_one table d (counted_up false) below)) kept.table_is;
+  line_is = subst (MarksAreKept (entry w n (Fell (device_no d))) g) (sym (marks ∙ (λ i. with_item (at i) (Failed (device_no d) (counted i)) line.marks))) (marks_fell w n g (device_no d) line.marks kept.line_is);
+  room = room_behind place _ (Failed (device_no d) number) line after marks spare kept.room;
+})
+  where
+    w : Setting
+    w = h.setting
+
+    n : Reading
+    n = read_in h
+
+-- it is back
+pub order_rose : {rounds : ℕ} (h h₂ : HistoryState) (g : Grips) (maker d number place : ℕ) (line after : Marked) (table later : List LineageState) → d < length table → h₂ ≡ with_entry h maker (Rose (device_no d)) → place ≡ event_place_of h.setting (read_in h) d → number ≡ (read_in h).rose d + 1
+    → after.marks ≡ with_item place (Back (device_no d) number) line.marks → after.spare + 1 ≡ line.spare → later ≡ with_lineage table d (counted_up true) → OrderIsBeside rounds h g line table → OrderIsBeside rounds h₂ g after later
+order_rose {rounds = rounds} h h₂ g maker d number place line after table later below new at counted marks spare changed kept = entry_kept h h₂ g maker (Rose (device_no d)) after later new (record {
+  table_is = rose_table w n g (device_no d) table later (subst (ChangesEach (turned_change d true) table) (sym changed) (changes_one table d (counted_up true) below)) kept.table_is;
+  line_is = subst (MarksAreKept (entry w n (Rose (device_no d))) g) (sym (marks ∙ (λ i. with_item (at i) (Back (device_no d) (counted i)) line.marks))) (marks_rose w n g (device_no d) line.marks kept.line_is);
+  room = room_behind place _ (Back (device_no d) number) line after marks spare kept.room;
+})
+  where
+    w : Setting
+    w = h.setting
+
+    n : Reading
+    n = read_in h
+
+-- a run is doomed whose command out, if it has one, is on this device
+pub order_lost : {rounds : ℕ} (h h₂ : HistoryState) (g : Grips) (maker r : ℕ) (cause : Cause) (out : Option DeviceNo) (line after : Marked) (table later : List LineageState) → IsRead h.setting (read_in h) → GripsFit h.setting (read_in h) g → is_doomed (read_in h) r ≡ false → ((d : ℕ) → grips_command g r d ≡ is_device out d)
+    → h₂ ≡ with_entry h maker (Doomed (run_no r) cause) → after ≡ line → ChangesEach (doomed_unless out r) table later → OrderIsBeside rounds h g line table → OrderIsBeside rounds h₂ g after later
+order_lost {rounds = rounds} h h₂ g maker r cause out line after table later read fit sound same new still changes kept = entry_kept h h₂ g maker (Doomed (run_no r) cause) after later new (subst (λ (x : Marked). IsOrderOf rounds w (entry w n (Doomed (run_no r) cause)) g x later) (sym still) (record {
+  table_is = doomed_unless_table w n g r cause out table later read fit sound same changes kept.table_is;
+  line_is = marks_doomed w n g r cause line.marks kept.line_is;
+  room = kept.room;
+}))
+  where
+    w : Setting
+    w = h.setting
+
+    n : Reading
+    n = read_in h
