@@ -1,6 +1,6 @@
 use crate::cases::{Behaviour, Case};
 use day_clock::{BytesSink, BytesSource, Source};
-use device_states::{CalmBench, Device};
+use device_states::{Device, SimBench};
 use home_types::{Bytes, List, NoMemory};
 use hub_commands::{Finish, still_command};
 use std::alloc::{AllocError, Global};
@@ -14,7 +14,7 @@ pub fn write_outcome<W: Write>(alloc: Global, case: &Case, out: &mut W) -> io::R
         return Err(io::Error::from(io::ErrorKind::OutOfMemory));
     };
     let words = case.words.as_slice();
-    let finish = still_command(alloc, words, &mut source, &mut sink, &mut CalmBench);
+    let finish = still_command(alloc, words, &mut source, &mut sink, &mut SimBench);
     let left = left_of(&mut source);
     let mut text = format!(in alloc; "case {}\n", case.name)?;
     push_end(&mut text, &finish)?;

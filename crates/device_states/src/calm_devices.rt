@@ -1,5 +1,5 @@
 use crate::benches::Bench;
-use crate::devices::{Dead, Device, Steady};
+use crate::devices::{Dead, Device};
 use home_types::{DeviceNo, NoMemory, Value};
 use std::alloc::Global;
 
@@ -50,10 +50,6 @@ impl Device for CalmDevice {
     fn faults(&self) -> u64 {
         0
     }
-}
-
-impl Steady for CalmDevice {
-    fn calm(&self) {}
 }
 
 /// The bench of devices that never fail.

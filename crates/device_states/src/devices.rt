@@ -89,10 +89,3 @@ pub trait Device: Drop {
     fn faults(&self) -> u64
         ensures { result ≡ faults self.now };
 }
-
-/// A device that never fails: no call of it answers `Dead`.
-pub trait Steady: Device {
-    /// Does nothing. Its contract is the law of a steady device.
-    fn calm(&self)
-        ensures { Self.faults self.now ≡ 0 };
-}

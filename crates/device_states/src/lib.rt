@@ -10,5 +10,5 @@ mod tests;
 
 pub use benches::Bench;
 pub use calm_devices::{CalmBench, CalmDevice};
-pub use devices::{Dead, Device, Steady};
+pub use devices::{Dead, Device};
 pub use sim_devices::{SimBench, SimDevice};

@@ -7,7 +7,6 @@ use Rattle.hub_core.specs.Agreement.{UpDevicesStand}
 use Rattle.hub_core.specs.Homes.{AreNew, HomeIsKept, HomeState}
 use Rattle.hub_core.specs.LegalDays.{IsLegalCutDay, IsLegalDay, setting_of, state_after}
 use Rattle.hub_core.specs.LegalWindows.{IsLegalWindow}
-use Rattle.hub_commands.proofs.Openings.{starts_up}
 use Rattle.hub_commands.proofs.Snocs.{get_before, get_last, given, length_more, snoc_get, sum_more}
 use Rattle.hub_commands.specs.Days.{IsReplayOf, IsUnderWay, WindowsArePlayed, probes_taken}
 use Rattle.hub_commands.specs.Played.{HasGoneOn, IsPlayed, setting_on}
@@ -129,7 +128,6 @@ goes_on {D = D} tag plan stands turns probes faults script mode before after rec
   kinds = is.kinds ∙ day.kinds;
   world = is.last ∙ sym (state_last script records closed);
   opened = let n = length_more records closed in omega (arith, n, is.opened, day.opened);
-  stage_up = is.stage_up;
 }
   where
     device_before : (d : ℕ) (y : D) → slice_get after.devices d ≡ Some y → (x : D) × (slice_get before.devices d ≡ Some x)
@@ -163,7 +161,6 @@ starts {D = D} tag plan stands turns probes faults script mode home are kinds wo
   kinds = kinds;
   world = world;
   opened = opened;
-  stage_up = starts_up script home world;
 }
   where
     text_of : (d : ℕ) (device : D) → slice_get home.devices d ≡ Some device → (text : DeviceText) × (slice_get script.devices.items d ≡ Some text)

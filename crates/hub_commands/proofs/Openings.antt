@@ -18,7 +18,7 @@ use Rattle.hub_core.specs.Openings.{MayOpen, is_fcfs, is_mode, names_values_of}
 use Rattle.hub_core.specs.Stage.{StageAllows}
 use Rattle.hub_commands.specs.Played.{setting_on}
 use Rattle.later_forms.proofs.BuiltModes.{goes_fcfs, not_weak}
-use Rattle.later_forms.proofs.NoLaterForms.{no_follows, no_probes}
+use Rattle.later_forms.proofs.NoLaterForms.{no_follows}
 use Rattle.later_forms.proofs.SoundScripts.{routine_is_sound, window_is_sound}
 use Rattle.later_forms.specs.CommandLines.{is_later_mode}
 use Rattle.later_forms.specs.Scripts.{first_later}
@@ -151,25 +151,14 @@ may_open tag stands turns probes faults script mode k window home sound none bui
     follows_not r f is = let no = no_follower script k r window none at in cc
 
 pub stage_allows : {D : Type 0} (script : Script) (mode : Mode) (k : ℕ) (window : WindowText) (home : HomeState D)
-    → first_later script ≡ None → is_later_mode mode ≡ false → slice_get script.windows.items k ≡ Some window → ((d : ℕ) → d < length home.world → (stand_at home.world d).up ≡ true)
+    → first_later script ≡ None → is_later_mode mode ≡ false → slice_get script.windows.items k ≡ Some window
     → StageAllows (setting_on script mode k home) window.probes
-stage_allows script mode k window home none built at up =
+stage_allows script mode k window home none built at =
     rw (sym (runs-there script k window at)) (record {
       strong = not_weak mode built;
       scheduler = goes_fcfs mode built;
       follows_none = λ r. no_follower script k r window none at;
-      up = up;
-      no_probes = no_probes script k window none at;
     })
-
-start_is_up : (devices : List DeviceText) (d : ℕ) → d < length (map start_stand devices) → (stand_at (map start_stand devices) d).up ≡ true
-start_is_up [] d low = absurd (omega (arith, low))
-start_is_up (text ∷ devices) zero low = refl
-start_is_up (text ∷ devices) (suc d) low = start_is_up devices d (omega (arith, low))
-
--- every device is up at its start
-pub starts_up : {D : Type 0} (script : Script) (home : HomeState D) → home.world ≡ start_home script → (d : ℕ) → d < length home.world → (stand_at home.world d).up ≡ true
-starts_up script home world d low = subst (λ w. d < length w → (stand_at w d).up ≡ true) (sym world) (start_is_up script.devices.items d) low
 
 -- the window's setting, with the roster of its runs
 pub setting_as : {D : Type 0} (script : Script) (k : ℕ) (home : HomeState D) (roster : Roster) (mode : Mode) → runs_of roster ≡ script_runs script k → setting_for home roster mode ≡ setting_on script mode k home

@@ -6,7 +6,7 @@ use Rattle.history_book.specs.Settings.{Setting}
 use Rattle.history_book.specs.declared.records.WindowRecord.{WindowRecord}
 use Rattle.home_types.specs.declared.modes.Mode.{Mode}
 use Rattle.hub_core.specs.Homes.{HomeState}
-use Rattle.hub_core.specs.HubCalls.{IsOpened}
+use Rattle.hub_core.specs.HubCalls.{IsOpened, NoneFails}
 use Rattle.hub_core.specs.LegalWindows.{IsLegalWindow}
 use Rattle.hub_core.specs.OpenHubs.{OpenHub, device_at}
 use Rattle.hub_commands.specs.Played.{IsPlayed, setting_on}
@@ -36,7 +36,7 @@ as_played {D = D} tag plan turns probes faults script mode k window w home after
   kinds = is.kinds ∙ ap (λ v. v.kinds) here;
   last = is.last;
   opened = is.opened ∙ ap (λ n. n + 1) opened.windows;
-  stage_up = is.up is.ends.stage_calm;
+  up = λ calm. is.up (subst (λ v. NoneFails v closed.faults.items) (sym here) calm);
   size = is.size ∙ ap (λ ps. length ps) opened.places ∙ length-map home.devices (λ device. Home device);
   devices = λ d x y x_at y_at. let out = placed d x x_at in record {
     same_tag = is.numbered d y y_at ∙ sym (numbered d x x_at);

@@ -1,7 +1,6 @@
 -- A day under way: what was played and written of it.
 use Rattle.day_report.specs.Days.{head_text, total_text, window_texts}
 use Rattle.history_book.specs.declared.records.WindowRecord.{WindowRecord}
-use Rattle.home_types.specs.HomeStates.{stand_at}
 use Rattle.home_types.specs.declared.modes.Mode.{Mode}
 use Rattle.hub_core.specs.Homes.{HomeState}
 use Rattle.hub_core.specs.LegalDays.{DevicesAreLeft, RecordsAreLegal, setting_of, state_after}
@@ -53,8 +52,6 @@ pub record IsUnderWay {D : Type 0} (tag : D → ℕ) (plan : D → Option (List 
   pub kinds : home.kinds ≡ kinds_of script
   pub world : home.world ≡ state_after script records (length records)
   pub opened : home.opened ≡ length records
-  -- in this stage each device is up when a window has ended
-  pub stage_up : (d : ℕ) → d < length home.world → (stand_at home.world d).up ≡ true
 
 -- the device after a window: the same one, whose calls rose as the record says, and its probes by those that the replay took
 pub record IsPlayedOn {D : Type 0} (tag : D → ℕ) (plan : D → Option (List (ℕ × ℕ))) (turns probes faults : D → ℕ) (called failed probed : ℕ) (before after : D) : Type 0 where

@@ -2,6 +2,7 @@
 use Rattle.history_book.specs.Settings.{Setting}
 use Rattle.history_book.specs.declared.records.WindowRecord.{WindowRecord}
 use Rattle.home_types.specs.HomeStates.{stand_at}
+use Rattle.hub_core.specs.HubCalls.{NoneFails}
 use Rattle.home_types.specs.declared.modes.Mode.{Mode}
 use Rattle.hub_core.specs.Homes.{HomeState}
 use Rattle.hub_core.specs.LegalWindows.{IsLegalWindow}
@@ -29,8 +30,8 @@ pub record IsPlayed {D : Type 0} (tag : D → ℕ) (plan : D → Option (List (�
   pub kinds : after.kinds ≡ before.kinds
   pub last : after.world ≡ closed.last.devices.items
   pub opened : after.opened ≡ before.opened + 1
-  -- in this stage each device is up then
-  pub stage_up : (d : ℕ) → d < length after.world → (stand_at after.world d).up ≡ true
+  -- where no device fails, each is up then
+  pub up : NoneFails (setting_on script mode k before) closed.faults.items → (d : ℕ) → d < length after.world → (stand_at after.world d).up ≡ true
   pub size : length after.devices ≡ length before.devices
   pub devices : (d : ℕ) (x y : D) → slice_get before.devices d ≡ Some x → slice_get after.devices d ≡ Some y
       → IsPlayedOn tag plan turns probes faults (slice_index_or closed.turns.items d 0) (slice_index_or closed.faults.items d 0) (window.probes - play.configuration.probes d) x y

@@ -9,7 +9,7 @@ ghost use Rattle.routine_reader.specs.Rosters.{kinds_of};
 ghost use Rattle.routine_reader.specs.Scripts.{plain_script};
 ghost use Rattle.routine_reader.specs.Sound.{IsSound};
 
-use device_states::Steady;
+use device_states::Device;
 use history_book::WindowRecord;
 use home_types::{List, Mode, NoMemory};
 use hub_core::Home;
@@ -19,7 +19,7 @@ use std::alloc::Global;
 
 /// A day under way: the home after its last window, and the records of its windows.
 #[derive(Drop)]
-pub struct DayUnderWay<Dev: Steady> {
+pub struct DayUnderWay<Dev: Device> {
     pub home: Home<Dev>,
     pub windows: List<WindowRecord>,
 }
@@ -27,7 +27,7 @@ pub struct DayUnderWay<Dev: Steady> {
 /// Plays the next window of the script.
 ///
 /// Where memory is wanted the records of the windows before come back; the home is dropped.
-pub fn play_next<Dev: Steady>(
+pub fn play_next<Dev: Device>(
     alloc: Global,
     script: &Script,
     mode: Mode,
@@ -59,7 +59,7 @@ pub fn play_next<Dev: Steady>(
 }
 
 /// Plays the window of this number, from 0, on the home.
-fn play_window<Dev: Steady>(
+fn play_window<Dev: Device>(
     alloc: Global,
     script: &Script,
     number: u32,
@@ -72,7 +72,6 @@ fn play_window<Dev: Steady>(
     requires there { number < length script.now.windows.items }
     requires kinds { home.kinds ≡ kinds_of script.now }
     requires few { home.opened ≤ most_windows }
-    requires up { (d : _) → d < length home.world → (stand_at home.world d).up ≡ true }
     ensures { IfOk result (λ done. IsPlayed Dev.tag Dev.plan Dev.turns Dev.probes Dev.faults script.now mode number home done.0 done.1) }
 {
     let window = &script.windows.as_slice()[number as usize];

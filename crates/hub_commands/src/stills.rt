@@ -18,7 +18,7 @@ use crate::plays::{DayUnderWay, play_next};
 use command_words::{CommandLine, Options, WordFault, read_words};
 use day_clock::{Sink, Source};
 use day_report::{head_text, total_text, window_text};
-use device_states::{Bench, Device, Steady};
+use device_states::{Bench, Device};
 use history_book::WindowRecord;
 use home_types::{Bytes, List, NoMemory};
 use hub_core::Home;
@@ -57,7 +57,7 @@ fn end_without_devices<Dev: Device>(windows: List<WindowRecord>, fault: Fault) -
 
 /// Ends a day on which a piece of the record was not written: with its devices where the sink failed, and without them
 /// where memory was wanted.
-fn stop<Dev: Steady>(day: DayUnderWay<Dev>, fault: PieceFault) -> Finish<Dev>
+fn stop<Dev: Device>(day: DayUnderWay<Dev>, fault: PieceFault) -> Finish<Dev>
     ensures status { result.status ≡ status_of result.fault }
     ensures ends { StopEnds day.windows day.home.devices fault result.day result.fault }
 {
@@ -110,8 +110,6 @@ fn replay<K: Sink, B: Bench>(
     sink: &mut K,
     bench: &mut B,
 ) -> Finish<B::Dev>
-where
-    B::Dev: Steady,
     requires sound { IsSound (plain_script script.now) }
     requires built { first_later_of script.now ≡ None }
     requires mode { is_later_mode options.mode ≡ false }
@@ -171,8 +169,6 @@ pub fn still_command<S: Source, K: Sink, B: Bench>(
     sink: &mut K,
     bench: &mut B,
 ) -> Finish<B::Dev>
-where
-    B::Dev: Steady,
     ensures status { result.status ≡ status_of result.fault }
     ensures ends { CallEnds (shown_by B.Dev.tag B.Dev.plan B.Dev.stands B.Dev.turns B.Dev.probes B.Dev.faults)
         (command_line_of (map string_bytes words.now))

@@ -9,7 +9,10 @@ pub mod HubChoices
 pub mod HubCloses
 pub mod HubLaws
 pub mod HubChanges
+pub mod Departures
 pub mod HubOuts
+pub mod Homecomings
+pub mod Turning
 pub mod HubReturns
 pub mod HubRefusals
 pub mod PlannedInTurn
@@ -20,3 +23,7 @@ pub mod PassedRuns
 pub mod HubOrders
 pub mod SeenDevices
 pub mod ReturnedOrders
+pub mod Deaths
+pub mod ProbesOut
+pub mod ProbesHome
+pub mod ProbesFound

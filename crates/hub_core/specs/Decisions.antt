@@ -2,7 +2,7 @@
 use Rattle.command_rules.specs.Rosters.{command_at, run_no}
 use Rattle.history_book.specs.Readings.{Reading, is_doomed}
 use Rattle.history_book.specs.Settings.{Setting}
-use Rattle.history_book.specs.declared.entries.Cause.TheVariants.{DownAtEnd, MustDown, Refuted}
+use Rattle.history_book.specs.declared.entries.Cause.TheVariants.{DownAtEnd, Lost, MustDown, Refuted}
 use Rattle.history_book.specs.declared.entries.Cause.{Cause}
 use Rattle.history_book.specs.declared.entries.End.TheVariants.{Aborted, Committed}
 use Rattle.history_book.specs.declared.entries.Entry.TheVariants.{Arrived, Did, Doomed, Ended, Placed, Undid}
@@ -15,7 +15,7 @@ use Rattle.hub_core.specs.Steps.{Absent as IsAbsent, Choice, HandsOut as IsHande
 use Rattle.hub_core.specs.declared.decisions.Chosen.TheVariants.{Aborts, Absent, AnswersDown, Arrives, Commits, Drops, FailsAtEnd, HandsOut, Joins, Over, Waits}
 use Rattle.hub_core.specs.declared.decisions.Chosen.{Chosen}
 use Rattle.lock_leasing.specs.Configurations.{Commands, Grips}
-use Rattle.std.specs.Prelude.{None, Option, Some, [], false, if◌then◌else◌, length, not, ℕ, ◌&&◌, ◌∷◌}
+use Rattle.std.specs.Prelude.{Bool, None, Option, Some, [], false, if◌then◌else◌, length, not, ℕ, ◌&&◌, ◌∷◌}
 
 -- .. of the run at this moment, where the history says this
 abbrev pub told_choice : ℕ → ℕ → Reading → Chosen → Choice
@@ -36,6 +36,10 @@ abbrev pub refuted_by : Setting → Reading → ℕ → ℕ → Answer → Optio
 refuted_by w n r k Fine = None
 refuted_by w n r k (Found x) = if fails (command_at w.runs r k) (Found x) && not (is_doomed n r) then Some (Refuted k x) else None
 refuted_by w n r k Down = None
+
+-- for what the run is doomed whose command k died, the first one on its device or a later one: a first one fails only where it must not, a later access is lost; a run that is doomed already is not doomed again
+abbrev pub died_by : Setting → Reading → ℕ → ℕ → Bool → Option Cause
+died_by w n r k first = if is_doomed n r then None else (if first then (if (command_at w.runs r k).must then Some (MustDown k) else None) else Some (Lost (command_at w.runs r k).device))
 
 -- what the next command, c with the number k, does where no run bars it: its device is waited for, the answer is Down with no call, or the device goes out
 abbrev pub unbarred_command : Setting → Reading → Grips → ℕ → ℕ → Command → Choice

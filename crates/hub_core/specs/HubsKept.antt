@@ -15,14 +15,14 @@ use Rattle.hub_core.specs.Bounds.{most_entries, most_items}
 use Rattle.hub_core.specs.HubCalls.{faults_told, probes_taken}
 use Rattle.hub_core.specs.HubKept.{ConfigurationIsKept}
 use Rattle.hub_core.specs.HubSteps.{task_of}
-use Rattle.hub_core.specs.OpenHubs.{OpenHub, configuration_of, device_at, held_in, purpose_of}
+use Rattle.hub_core.specs.OpenHubs.{OpenHub, configuration_of, device_at, events_in, held_in, purpose_of}
 use Rattle.hub_core.specs.KeptOrders.{OrderIsBeside}
 use Rattle.hub_core.specs.ReadHistories.{HistoryState}
 use Rattle.hub_core.specs.declared.hubs.ClosingLists.{ClosingLists}
 use Rattle.hub_core.specs.declared.hubs.Hub.TheInside.{Inside}
 use Rattle.lock_leasing.specs.Configurations.{Grips, read_of}
 use Rattle.lock_leasing.specs.Waits.{grip_wait}
-use Rattle.std.specs.Prelude.{Bool, IsTrue, List, Option, Some, [], count_by, false, length, option_map, slice_get, suc, sum_by, true, ℕ, ◌+◌, ◌-◌, ◌<◌, ◌≡◌, ◌≤◌}
+use Rattle.std.specs.Prelude.{Bool, IsTrue, List, Option, Some, [], count_by, false, length, nat_lt, option_map, slice_get, suc, sum_by, true, ℕ, ◌+◌, ◌-◌, ◌<◌, ◌≡◌, ◌≤◌}
 
 -- how often the device was called up to now: its counts at the opening, and what the window made of them
 abbrev pub turns_now : {D : Type 0} → OpenHub D → ℕ → ℕ
@@ -53,9 +53,10 @@ pub record FitsOut {D : Type 0} (s : OpenHub D) (d : ℕ) (slip : Slip) (task : 
   pub few_faults : slip.faults + probed task ≤ faults_told s d + probes_taken s d
   pub does : task ≡ task_of (configuration_of s) slip.maker (purpose_of (device_at s.devices d).purpose)
 
+-- a device that is out for a run
 abbrev pub is_away : {D : Type 0} → Place D → Bool
 is_away (Home device) = false
-is_away (Out slip task) = true
+is_away (Out slip task) = nat_lt 0 slip.maker
 
 -- what is kept of what a hub shows
 pub record HubIsKept {D : Type 0} (stands turns probes faults : D → ℕ) (s : OpenHub D) : Type 0 where
@@ -66,7 +67,9 @@ pub record HubIsKept {D : Type 0} (stands turns probes faults : D → ℕ) (s : 
   pub out : (d : ℕ) (slip : Slip) (task : Task) → slice_get s.places d ≡ Some (Out slip task) → FitsOut s d slip task
   pub low : (d : ℕ) → CountsAreLow s.opened (device_at s.devices d).at_opening.turns (device_at s.devices d).at_opening.probes (device_at s.devices d).at_opening.faults
   pub values : (d : ℕ) → d < length s.setting.first → IsTrue (has_value (kind_at s.setting.kinds d) (held_in s d))
-  -- each ticket is of a call that is told, of a device that is out, or of a probe
+  -- the hub has counted the failures and restarts of each device as the history tells them
+  pub events : (d : ℕ) → d < length s.setting.first → (device_at s.devices d).events ≡ events_in (read_of (configuration_of s)) d
+  -- each ticket is of a call that is told, of a device that is out for a run, or of a probe
   pub few_tickets : s.tickets ≤ length s.history + count_by is_away s.places + all_probes_taken s
 
 -- an empty list with so much room

@@ -5,17 +5,18 @@ use Rattle.hub_core.specs.Bounds.{most_items}
 use Rattle.hub_core.specs.ReadHistories.{HistoryState, read_in}
 use Rattle.failure_serialization.specs.Events.{event_place}
 use Rattle.home_types.specs.declared.commands.View.{View}
-use Rattle.home_types.specs.declared.items.Item.TheVariants.{Failed}
+use Rattle.home_types.specs.declared.items.Item.TheVariants.{Back, Failed}
+use Rattle.home_types.specs.declared.items.Item.{Item}
 use Rattle.home_types.specs.declared.numbers.DeviceNo.{DeviceNo}
 use Rattle.home_types.specs.declared.numbers.RunNo.{RunNo}
-use Rattle.lineage_table.specs.Accesses.{is_scheduled, status_of}
-use Rattle.lineage_table.specs.Lineages.{LineageState, accesses_at, counted_up, with_lineage}
+use Rattle.lineage_table.specs.Accesses.{has_access, is_scheduled, status_of}
+use Rattle.lineage_table.specs.Lineages.{LineageState, accesses_at, counted_up, lineage_at, with_lineage}
 use Rattle.lineage_table.specs.declared.accesses.Status.TheVariants.{Acquired, Scheduled}
 use Rattle.lock_leasing.specs.Configurations.{Grips}
-use Rattle.serial_line.specs.Marks.{Marked, with_item}
-use Rattle.std.specs.Prelude.{Bool, List, Option, Some, false, if◌then◌else◌, length, option_map, true, unwrap_or, ℕ, ◌+◌, ◌≡◌, ◌≤◌}
+use Rattle.serial_line.specs.Marks.{Marked, stands, with_item}
+use Rattle.std.specs.Prelude.{Bool, List, None, Option, Some, false, if◌then◌else◌, length, option_map, slice_index_or, true, unwrap_or, ℕ, ◌+◌, ◌-◌, ◌<◌, ◌≡◌, ◌≤◌}
 use Rattle.window_order.specs.MarksKept.{MarksAreKept}
-use Rattle.window_order.specs.TableChanges.{IsWaiting, acquired_if, noted, passed_if}
+use Rattle.window_order.specs.TableChanges.{ChangesEach, IsWaiting, acquired_if, doomed_unless, noted, passed_if}
 use Rattle.window_order.specs.TableKept.{TableIsKept}
 
 -- the run has not touched the device: its access is scheduled
@@ -35,13 +36,39 @@ acquired_first first r view s = acquired_if first r view (passed_if first r s)
 abbrev pub noted_first : ℕ → Bool → View → Option ℕ → Bool → LineageState → LineageState
 noted_first r first view wrote last s = noted r first view wrote last (passed_if first r s)
 
--- A device fails
+-- A device fails or comes back
 
--- the failure of this number came into the line, where the accesses and the history's dooms say, and the device is counted down; first is the run whose first access has just died, where one has
-pub record HasFallen (h : HistoryState) (d : DeviceNo) (first : Option RunNo) (number : ℕ) (line after : Marked) (table later : List LineageState) : Type 0 where
-  pub marks : after.marks ≡ with_item (event_place h.history first (accesses_at table d.0) line.marks) (Failed d number) line.marks
+-- a device that is counted so may turn: the event has its room in the line, in which it does not stand yet, and its entry in the history's room
+pub record MayTurn (up : Bool) (event : Item) (room : ℕ) (d : DeviceNo) (line : Marked) (table : List LineageState) : Type 0 where
+  pub device : d.0 < length table
+  pub runs : has_access 0 (accesses_at table d.0) ≡ false
+  pub counted : (lineage_at table d.0).up ≡ up
+  pub place : 0 < line.spare
+  pub absent : stands event line.marks ≡ false
+  pub entry : 0 < room
+
+-- the event came into the line, where the accesses and the history's dooms say, and the device is counted so; first is the run whose first access has just died, where one has
+pub record HasTurned (up : Bool) (event : Item) (h : HistoryState) (d : DeviceNo) (first : Option RunNo) (line after : Marked) (table later : List LineageState) : Type 0 where
+  pub marks : after.marks ≡ with_item (event_place h.history first (accesses_at table d.0) line.marks) event line.marks
   pub spare : after.spare + 1 ≡ line.spare
-  pub counted : later ≡ with_lineage table d.0 (counted_up false)
+  pub counted : later ≡ with_lineage table d.0 (counted_up up)
+
+-- the failure of this number ..
+abbrev pub HasFallen : HistoryState → DeviceNo → Option RunNo → ℕ → Marked → Marked → List LineageState → List LineageState → Type 0
+HasFallen h d first number line after table later = HasTurned false (Failed d number) h d first line after table later
+
+-- .. and the restart
+abbrev pub HasRisen : HistoryState → DeviceNo → ℕ → Marked → Marked → List LineageState → List LineageState → Type 0
+HasRisen h d number line after table later = HasTurned true (Back d number) h d None line after table later
+
+-- the device whose grip the run holds
+abbrev pub hand_of : List (Option DeviceNo) → ℕ → Option DeviceNo
+hand_of hands r = slice_index_or hands (r - 1) None
+
+-- the run that a failure loses, where there is one, is done with each device but the one that is out for it
+abbrev pub IsLostTo : Option RunNo → List (Option DeviceNo) → List LineageState → List LineageState → Type 0
+IsLostTo None hands table later = later ≡ table
+IsLostTo (Some r) hands table later = ChangesEach (doomed_unless (hand_of hands r.0) r.0) table later
 
 -- the table is that of the reading and the grips, and the line too, each item with what it has touched; and it has room for all its items, where there are so many rounds of probes
 pub record IsOrderOf (rounds : ℕ) (w : Setting) (n : Reading) (g : Grips) (line : Marked) (table : List LineageState) : Type 0 where

@@ -1,12 +1,13 @@
 -- What an open hub shows, and the configuration that it stands for.
 use Rattle.device_gate.specs.declared.gates.Place.TheVariants.{Home, Out}
 use Rattle.device_gate.specs.declared.gates.Place.{Place}
-use Rattle.history_book.specs.Readings.{OfRun}
+use Rattle.history_book.specs.Readings.{OfRun, Reading}
 use Rattle.history_book.specs.Settings.{Setting}
 use Rattle.history_book.specs.declared.entries.Kept.{Kept}
 use Rattle.hub_core.specs.HubSteps.{Carried, HubState}
 use Rattle.hub_core.specs.declared.known.Counts.{Counts}
 use Rattle.hub_core.specs.declared.known.DeviceProgress.{DeviceProgress}
+use Rattle.hub_core.specs.declared.known.Events.{Events}
 use Rattle.hub_core.specs.declared.known.RunProgress.{RunProgress}
 use Rattle.hub_core.specs.declared.purposes.Purpose.TheVariants.{Command, Probe, Undo}
 use Rattle.hub_core.specs.declared.purposes.Purpose.{Purpose as KeptPurpose}
@@ -27,8 +28,15 @@ pub record OpenHub (D : Type 0) : Type 0 where
 abbrev pub no_counts : Counts
 no_counts = record { turns = 0; probes = 0; faults = 0 }
 
+abbrev pub no_events : Events
+no_events = record { fell = 0; rose = 0 }
+
+-- how often the device failed and came back, by the history
+abbrev pub events_in : Reading → ℕ → Events
+events_in n d = record { fell = n.fell d; rose = n.rose d }
+
 abbrev pub no_device : DeviceProgress
-no_device = record { held = 0; probes_left = 0; purpose = Command 0; at_opening = no_counts }
+no_device = record { held = 0; probes_left = 0; purpose = Command 0; at_opening = no_counts; events = no_events }
 
 -- what is known of the device
 abbrev pub device_at : List DeviceProgress → ℕ → DeviceProgress

@@ -5,6 +5,7 @@ use Rattle.home_types.specs.Listed.{Listed}
 use Rattle.home_types.specs.declared.worlds.Stand.{Stand}
 use Rattle.history_book.specs.declared.entries.Kept.{Kept}
 use Rattle.hub_core.specs.Homes.{HomeState}
+use Rattle.hub_core.specs.OpenHubs.{no_events}
 use Rattle.hub_core.specs.declared.hubs.ClosingLists.{ClosingLists}
 use Rattle.hub_core.specs.declared.known.DeviceProgress.{DeviceProgress}
 use Rattle.hub_core.specs.declared.known.RunProgress.{RunProgress}
@@ -44,7 +45,7 @@ pub record IsClosingRoom (items devices : ℕ) (closing : ClosingLists) : Type 0
 -- as a window opens, a device stands at this value, so many probes of it may be taken, and these are its counts
 abbrev pub known_first : ℕ → ℕ → ℕ → ℕ → ℕ → DeviceProgress
 known_first rounds value turns probes faults =
-    record { held = value; probes_left = rounds; purpose = Command 0; at_opening = record { turns = turns; probes = probes; faults = faults } }
+    record { held = value; probes_left = rounds; purpose = Command 0; at_opening = record { turns = turns; probes = probes; faults = faults }; events = no_events }
 
 -- the first n devices of the home are known as they are
 pub record AreKnown {D : Type 0} (turns probes faults : D → ℕ) (home : HomeState D) (rounds n : ℕ) (known : List DeviceProgress) : Type 0 where

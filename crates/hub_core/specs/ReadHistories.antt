@@ -3,10 +3,13 @@ use Rattle.command_rules.specs.Rosters.{run_no}
 use Rattle.history_book.specs.Histories.{entries_of, kept_by, reading}
 use Rattle.history_book.specs.Readings.{Reading}
 use Rattle.history_book.specs.Settings.{Setting}
+use Rattle.history_book.specs.declared.entries.Cause.TheVariants.{Lost}
 use Rattle.history_book.specs.declared.entries.Cause.{Cause}
 use Rattle.history_book.specs.declared.entries.Entry.TheVariants.{Doomed}
 use Rattle.history_book.specs.declared.entries.Entry.{Entry}
 use Rattle.history_book.specs.declared.entries.Kept.{Kept}
+use Rattle.home_types.specs.declared.numbers.DeviceNo.{DeviceNo}
+use Rattle.home_types.specs.declared.numbers.RunNo.{RunNo}
 use Rattle.hub_core.specs.OpenHubs.{progress_of}
 use Rattle.hub_core.specs.declared.known.RunProgress.{RunProgress}
 use Rattle.std.specs.Prelude.{List, None, Option, Some, [], length, slice_get, suc, ℕ, ◌++◌, ◌-◌, ◌<◌, ◌∷◌, ◌≡◌}
@@ -33,6 +36,11 @@ with_more s maker entries = record s { history = s.history ++ kept_by maker entr
 abbrev pub with_doom : HistoryState → ℕ → Option Cause → HistoryState
 with_doom s r None = s
 with_doom s r (Some cause) = with_entry s r (Doomed (run_no r) cause)
+
+-- the run is doomed that a failure of the device loses, where there is one
+abbrev pub with_lost : HistoryState → DeviceNo → Option RunNo → HistoryState
+with_lost s d None = s
+with_lost s d (Some r) = with_entry s 0 (Doomed r (Lost d))
 
 -- the progress of each run is what the history says
 pub record IsReadBeside (s : HistoryState) (progress : List RunProgress) : Type 0 where

@@ -4,7 +4,6 @@ use Rattle.history_book.specs.Readings.{Reading, next_command, next_of}
 use Rattle.history_book.specs.Settings.{Setting, is_weak}
 use Rattle.history_book.specs.declared.entries.Cause.{Cause}
 use Rattle.history_book.specs.declared.entries.Entry.TheVariants.{Arrived, Placed}
-use Rattle.home_types.specs.HomeStates.{stand_at}
 use Rattle.home_types.specs.declared.commands.Command.{Command}
 use Rattle.home_types.specs.declared.commands.Job.{Job}
 use Rattle.home_types.specs.declared.commands.Job.TheVariants.{Check, Load, Set, Store}
@@ -14,7 +13,7 @@ use Rattle.hub_core.specs.declared.waits.Why.TheVariants.{Busy}
 use Rattle.lock_leasing.specs.Configurations.{Commands, Grips}
 use Rattle.lock_leasing.specs.Waits.{grip_wait}
 use Rattle.std.specs.List.{list_any}
-use Rattle.std.specs.Prelude.{Bool, List, None, [], false, is_none, length, not, option_map, true, ℕ, ◌&&◌, ◌<◌, ◌∷◌, ◌≡◌}
+use Rattle.std.specs.Prelude.{Bool, List, None, [], false, is_none, length, not, option_map, true, ℕ, ◌&&◌, ◌∷◌, ◌≡◌}
 
 abbrev pub is_check : Job → Bool
 is_check (Set v) = false
@@ -34,8 +33,6 @@ pub record StageAllows (w : Setting) (rounds : ℕ) : Type 0 where
   pub strong : is_weak w.mode ≡ false
   pub scheduler : w.mode.scheduler ≡ Fcfs
   pub follows_none : (r : ℕ) → followed_by w.runs r ≡ None
-  pub up : (d : ℕ) → d < length w.first → (stand_at w.first d).up ≡ true
-  pub no_probes : rounds ≡ 0
 
 -- The step of a run in this stage: it follows no run, is placed at the end of the line, and no lease is overdue
 

@@ -11,13 +11,13 @@ use crate::hubs::{ClosingLists, Hub};
 use crate::known::DeviceProgress;
 use crate::read_histories::ReadHistory;
 use crate::refusals::NotQuiet;
-use device_states::{Device, Steady};
+use device_states::Device;
 use history_book::WindowRecord;
 use home_types::{DeviceNo, Item, List, Stand, World};
 use lineage_table::Table;
 use serial_line::Line;
 
-impl<D: Steady> Hub<D> {
+impl<D: Device> Hub<D> {
     /// Closes the window, and gives the home and the window's record.
     ///
     /// Refused where `quiet` tells why: the hub comes back as it is. Takes no memory.

@@ -3,10 +3,10 @@ ghost use Rattle.hub_core.specs.HubCalls.{IsGiven, SameWindow};
 
 use crate::hubs::Hub;
 use device_gate::{Done, Grip, Stranger};
-use device_states::Steady;
+use device_states::Device;
 use history_book::Made;
 
-impl<D: Steady> Hub<D> {
+impl<D: Device> Hub<D> {
     /// Takes the device of a run's grip home, at this moment, in ms, or at the last one where that is later.
     ///
     /// Answers the entries that it makes: the command's answer, for a read with the value found, and the doom of a run whose

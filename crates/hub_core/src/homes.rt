@@ -1,11 +1,11 @@
-ghost use Rattle.std.specs.Prelude.{◌≡◌, ◌≤◌, IfErr, IfOk, Some, length, slice_get, ℕ};
+ghost use Rattle.std.specs.Prelude.{◌≡◌, ◌≤◌, IfErr, IfOk, length};
 ghost use Rattle.home_types.specs.Limits.{most_devices};
 ghost use Rattle.hub_core.specs.Homes.{AreNew, HomeIsKept};
 ghost use Rattle.routine_reader.specs.Rosters.{kinds_of, start_home};
 ghost use Rattle.routine_reader.specs.Scripts.{plain_script};
 ghost use Rattle.routine_reader.specs.Sound.{IsSound};
 
-use device_states::{Bench, Device, Steady};
+use device_states::{Bench, Device};
 use home_types::{DeviceNo, Kind, List, NoMemory, Stand, World};
 use routine_reader::Script;
 use std::alloc::Global;
@@ -93,17 +93,6 @@ impl<D: Device> Home<D> {
             opened: _,
         } = self;
         devices
-    }
-}
-
-impl<D: Steady> Home<D> {
-    /// Does nothing. Its contract is that no device of the home has ever failed.
-    pub fn calm(&self)
-        ensures { (d : ℕ) (device : D) → slice_get self.now.devices d ≡ Some device → D.faults device ≡ 0 }
-    {
-        'devices: for device in self.devices.as_slice() {
-            device.calm();
-        }
     }
 }
 

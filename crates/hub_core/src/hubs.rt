@@ -12,12 +12,12 @@ ghost use Rattle.lock_leasing.specs.Standings.{IsStandingOf};
 ghost use Rattle.lock_leasing.specs.Tables.{Represents};
 
 use crate::kept_orders::KeptOrder;
-use crate::known::{Counts, DeviceProgress};
+use crate::known::{Counts, DeviceProgress, Events, NO_EVENTS};
 use crate::purposes::Purpose;
 use crate::read_histories::ReadHistory;
 use crate::refusals::NotQuiet;
 use device_gate::Gate;
-use device_states::{Device, Steady};
+use device_states::Device;
 use home_types::{DeviceNo, Item, List, RunNo, Stand};
 use lineage_table::Table;
 use lock_leasing::Standing;
@@ -33,6 +33,7 @@ const NOT_KNOWN: DeviceProgress = DeviceProgress {
         probes: 0,
         faults: 0,
     },
+    events: NO_EVENTS,
 };
 
 /// The lists that closing a window fills: empty, each with room for every device, but for the order.
@@ -202,8 +203,15 @@ impl<D: Device> Hub<D> {
         }
     }
 
+    /// How often the device has failed and come back in the window.
+    pub(crate) fn events(&self, d: DeviceNo) -> Events
+        ensures { result ≡ (device_at self.now.devices d.0).events }
+    {
+        self.known(d).events
+    }
+
     /// What is known of the device, nothing of no device of the home.
-    fn known(&self, d: DeviceNo) -> DeviceProgress
+    pub(crate) fn known(&self, d: DeviceNo) -> DeviceProgress
         ensures { result ≡ device_at self.now.devices d.0 }
     {
         match self.devices.get(d.0 as u64) {

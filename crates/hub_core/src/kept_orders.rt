@@ -177,7 +177,7 @@ impl KeptOrder {
     }
 
     /// Whether the run has not touched the device, on which it has an access.
-    fn is_first(&self, d: DeviceNo, r: RunNo) -> bool
+    pub(crate) fn is_first(&self, d: DeviceNo, r: RunNo) -> bool
         requires { d.0 < length self.now.table }
         ensures { result ≡ is_first r.0 (lineage_at self.now.table d.0) }
     {

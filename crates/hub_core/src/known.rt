@@ -26,6 +26,16 @@ pub struct Counts {
     pub faults: u64,
 }
 
+/// How often a device has failed and come back in the window, as the history tells.
+#[derive(Clone, Copy, Debug, PartialEq, Eq)]
+pub struct Events {
+    pub fell: u32,
+    pub rose: u32,
+}
+
+/// No failure and no restart.
+pub(crate) const NO_EVENTS: Events = Events { fell: 0, rose: 0 };
+
 /// What the hub knows of a device, home or out.
 #[derive(Clone, Copy, Debug, PartialEq, Eq)]
 pub struct DeviceProgress {
@@ -37,4 +47,5 @@ pub struct DeviceProgress {
     pub purpose: Purpose,
     /// Its counts when the window was opened.
     pub at_opening: Counts,
+    pub events: Events,
 }

@@ -4,6 +4,7 @@
 mod changes;
 mod close_calls;
 mod decisions;
+mod failures;
 mod give_calls;
 pub mod homes;
 pub mod hubs;
@@ -16,6 +17,7 @@ pub mod purposes;
 mod read_histories;
 pub mod refusals;
 mod releases;
+mod returns;
 mod take_calls;
 pub mod turns;
 pub mod waits;

@@ -12,7 +12,7 @@ ghost use Rattle.hub_core.specs.Stage.{StageAllows};
 use crate::homes::Home;
 use crate::hubs::{ClosingLists, Hub};
 use crate::kept_orders::KeptOrder;
-use crate::known::{Counts, DeviceProgress, RunProgress};
+use crate::known::{Counts, DeviceProgress, NO_EVENTS, RunProgress};
 use crate::purposes::Purpose;
 use crate::read_histories::ReadHistory;
 use command_rules::{IndexedRoster, Roster};
@@ -151,6 +151,7 @@ impl<D: Device> Home<D> {
                 probes: device.probes(),
                 faults: device.faults(),
             },
+            events: NO_EVENTS,
         }
     }
 }

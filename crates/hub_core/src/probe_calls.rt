@@ -1,35 +1,165 @@
-ghost use Rattle.std.specs.Prelude.{◌≡◌, ℕ};
+ghost use Rattle.std.specs.Prelude.{◌≡◌, ◌<◌, Some, false, length, not, true, ℕ};
+ghost use Rattle.device_gate.specs.Calls.{has_died};
+ghost use Rattle.device_gate.specs.Places.{IsKept};
+ghost use Rattle.history_book.specs.Settings.{is_device};
 ghost use Rattle.hub_core.specs.HubCalls.{IsProbeGiven, IsProbed, SameWindow};
+ghost use Rattle.hub_core.specs.OpenHubs.{configuration_of};
+ghost use Rattle.hub_core.specs.Steps.{may_probe, restored};
+ghost use Rattle.lock_leasing.specs.Configurations.{read_of};
 
+use crate::changes::{NONE_MADE, one_made};
+use crate::failures::{doom_lost, fallen, note_fall, note_rise, risen};
 use crate::hubs::Hub;
-use device_gate::{Done, Grip, Ready, Stranger};
-use device_states::Steady;
+use crate::known::DeviceProgress;
+use crate::purposes::Purpose;
+use crate::returns::{bring_home, has_died};
+use device_gate::{Done, Grip, Ready, Stranger, Task};
+use device_states::Device;
 use history_book::Made;
-use home_types::DeviceNo;
+use home_types::{DeviceNo, Value};
 
-impl<D: Steady> Hub<D> {
+impl<D: Device> Hub<D> {
     /// Hands out a probe of the device: none where it is out or no device of the home, or no probe of it is left.
     ///
-    /// In this stage a window has no probes, so there is never one.
+    /// Where the device is counted down, and answers the probe, the grip drives it to the value at which it should stand.
+    /// Takes no memory.
     pub fn take_probe(&mut self, d: DeviceNo) -> Option<Grip<D, Ready>>
         ensures probed { IsProbed self.old d.0 result self.new }
         ensures window { SameWindow self.old self.new }
     {
-        // What the hub keeps says that no probe is left.
-        let _ = d;
-        let _ = &self.history;
-        None
+        if self.may_probe(d) {
+            Some(self.send_probe(d))
+        } else {
+            None
+        }
     }
 
     /// Takes the device of the detector's grip home.
     ///
-    /// A grip that is not the one with which its device is out, or that is a run's, comes back with a `Stranger`, and
-    /// nothing changes. In this stage that is every grip.
+    /// Answers the entries that it makes: a device that was counted up, and did not answer, has failed, and the run is
+    /// doomed that sees it up and is not done with it; one that was counted down, and answered, is back. A grip that is not
+    /// the one with which its device is out, or that is a run's, comes back with a `Stranger`, and nothing changes. Takes no
+    /// memory.
     pub fn give_probe(&mut self, grip: Grip<D, Done>) -> Result<Made, (Grip<D, Done>, Stranger)>
         ensures given { IsProbeGiven self.old grip result self.new }
         ensures window { SameWindow self.old self.new }
     {
-        let stranger = self.gate.stranger(&grip);
-        Err((grip, stranger))
+        if grip.slip().maker != 0 || !self.gate.is_kept(&grip) {
+            let stranger = self.gate.stranger(&grip);
+            return Err((grip, stranger));
+        }
+        Ok(self.end_probe(grip))
+    }
+
+    /// Whether a probe of the device may go out: it is home, and a probe of it is left.
+    fn may_probe(&self, d: DeviceNo) -> bool
+        ensures { result ≡ may_probe (configuration_of self.now) d.0 }
+    {
+        self.gate.is_home(d) && self.known(d).probes_left > 0
+    }
+
+    /// A probe of the device goes out.
+    fn send_probe(&mut self, d: DeviceNo) -> Grip<D, Ready>
+        requires { may_probe (configuration_of self.old) d.0 ≡ true }
+        ensures probed { IsProbed self.old d.0 (Some result) self.new }
+        ensures window { SameWindow self.old self.new }
+    {
+        let value = self.restored(d);
+        let known = *self.devices.get(d.0 as u64).unwrap();
+        self.devices.set(
+            d.0 as u64,
+            DeviceProgress {
+                probes_left: known.probes_left - 1,
+                purpose: Purpose::Probe(value),
+                ..known
+            },
+        );
+        self.gate.hand_out(d, 0, known.held, Task::Probe(value))
+    }
+
+    /// The value that a probe of the device restores: where it is counted down, the one at which it should stand.
+    fn restored(&self, d: DeviceNo) -> Option<Value>
+        requires { is_device self.now.setting d.0 ≡ true }
+        ensures { result ≡ restored (configuration_of self.now) d.0 }
+    {
+        self.order.table.kept();
+        if self.order.table.is_up(d) {
+            None
+        } else {
+            Some(self.order.table.stand(d))
+        }
+    }
+
+    /// A probe comes home.
+    fn end_probe(&mut self, grip: Grip<D, Done>) -> Made
+        requires kept { IsKept self.old.places grip.slip grip.task }
+        requires maker { grip.slip.maker ≡ 0 }
+        ensures given { IsProbeGiven self.old grip (Ok result) self.new }
+        ensures window { SameWindow self.old self.new }
+    {
+        let up = self.order.table.is_up(grip.slip().device);
+        let died = has_died(grip.told());
+        if up != died {
+            self.find_same(grip)
+        } else if died {
+            self.find_dead(grip)
+        } else {
+            self.find_back(grip)
+        }
+    }
+
+    /// The probe finds the device as it is counted: it answers and is counted up, or it does not and is counted down.
+    fn find_same(&mut self, grip: Grip<D, Done>) -> Made
+        requires kept { IsKept self.old.places grip.slip grip.task }
+        requires maker { grip.slip.maker ≡ 0 }
+        requires same { (read_of (configuration_of self.old)).up grip.slip.device.0 ≡ not (has_died grip.stage.told) }
+        ensures given { IsProbeGiven self.old grip (Ok result) self.new }
+        ensures window { SameWindow self.old self.new }
+    {
+        let events = self.events(grip.slip().device);
+        bring_home(&mut self.gate, &mut self.devices, grip, events);
+        NONE_MADE
+    }
+
+    /// The probe finds that the device, which was counted up, has failed.
+    fn find_dead(&mut self, grip: Grip<D, Done>) -> Made
+        requires kept { IsKept self.old.places grip.slip grip.task }
+        requires maker { grip.slip.maker ≡ 0 }
+        requires up { (read_of (configuration_of self.old)).up grip.slip.device.0 ≡ true }
+        requires died { has_died grip.stage.told ≡ true }
+        ensures given { IsProbeGiven self.old grip (Ok result) self.new }
+        ensures window { SameWindow self.old self.new }
+    {
+        let d = grip.slip().device;
+        let events = fallen(self.events(d));
+        bring_home(&mut self.gate, &mut self.devices, grip, events);
+        let fell = note_fall(&mut self.history, &mut self.order, 0, d, events.fell, None);
+        let doomed = doom_lost(
+            &mut self.history,
+            &mut self.order,
+            &self.hands,
+            d,
+            fell.lost,
+        );
+        Made {
+            a: Some(fell.entry),
+            b: doomed,
+            c: None,
+        }
+    }
+
+    /// The probe finds that the device, which was counted down, is back.
+    fn find_back(&mut self, grip: Grip<D, Done>) -> Made
+        requires kept { IsKept self.old.places grip.slip grip.task }
+        requires maker { grip.slip.maker ≡ 0 }
+        requires down { (read_of (configuration_of self.old)).up grip.slip.device.0 ≡ false }
+        requires lives { has_died grip.stage.told ≡ false }
+        ensures given { IsProbeGiven self.old grip (Ok result) self.new }
+        ensures window { SameWindow self.old self.new }
+    {
+        let d = grip.slip().device;
+        let events = risen(self.events(d));
+        bring_home(&mut self.gate, &mut self.devices, grip, events);
+        one_made(note_rise(&mut self.history, &mut self.order, 0, d, events.rose))
     }
 }

@@ -1,9 +1,9 @@
-ghost use Rattle.std.specs.Prelude.{◌≡◌, ◌+◌, ◌<◌, ◌^◌, ◌||◌, IsTrue, find, is_none, length, not, option_map, true, ℕ};
+ghost use Rattle.std.specs.Prelude.{◌≡◌, ◌+◌, ◌<◌, ◌^◌, ◌||◌, IsTrue, None, Some, find, if◌then◌else◌, is_none, length, not, option_map, true, ℕ};
 ghost use Rattle.command_rules.specs.Rosters.{command_at, commands_of, is_run, runs_of};
 ghost use Rattle.history_book.specs.Settings.{run_numbers};
 ghost use Rattle.history_book.specs.Readings.{is_doomed, next_command, next_of, pends};
 ghost use Rattle.home_types.specs.Kinds.{kind_at};
-ghost use Rattle.hub_core.specs.Decisions.{refuted_by};
+ghost use Rattle.hub_core.specs.Decisions.{died_by, refuted_by};
 ghost use Rattle.hub_core.specs.OpenHubs.{progress_of};
 ghost use Rattle.hub_core.specs.ReadHistories.{read_in, with_entry};
 
@@ -170,6 +170,24 @@ impl ReadHistory {
         }
     }
 
+    /// For what the run is doomed whose command with the number `k` died, the first one on its device or a later one. A run
+    /// that is doomed already is not doomed again.
+    pub(crate) fn died_by(&self, r: RunNo, k: u32, first: bool) -> Option<Cause>
+        requires run { IsTrue (is_run self.now.setting.runs r.0) }
+        requires there { k < length (commands_of self.now.setting.runs r.0) }
+        ensures { result ≡ died_by self.now.setting (read_in self.now) r.0 k first }
+    {
+        if self.progress(r).doomed.is_some() {
+            return None;
+        }
+        let command = self.command(r, k);
+        if first {
+            must_down(k, command.must)
+        } else {
+            Some(Cause::Lost(command.device))
+        }
+    }
+
     /// The smallest run that has not ended.
     pub(crate) fn first_unended(&self) -> Option<RunNo>
         requires few { length self.now.setting.runs < 2 ^ 32 }
@@ -272,12 +290,12 @@ impl ReadHistory {
         entry
     }
 
-    /// The run will be aborted, for this cause.
-    pub(crate) fn doom(&mut self, r: RunNo, cause: Cause) -> Entry
+    /// The run will be aborted, for this cause, by the step of the maker.
+    pub(crate) fn doom(&mut self, maker: u32, r: RunNo, cause: Cause) -> Entry
         requires run { IsTrue (is_run self.old.setting.runs r.0) }
         requires room { 0 < self.old.spare }
         ensures entry { result ≡ Entry.Doomed r cause }
-        ensures new { self.new ≡ with_entry self.old r.0 result }
+        ensures new { self.new ≡ with_entry self.old maker result }
     {
         let entry = Entry::Doomed(r, cause);
         let at = r.0 as u64 - 1;
@@ -289,7 +307,29 @@ impl ReadHistory {
                 ..progress
             },
         );
-        self.book.push(Kept { maker: r.0, entry });
+        self.book.push(Kept { maker, entry });
+        entry
+    }
+
+    /// The device fails, in a step of the maker. The progress of no run says so.
+    pub(crate) fn fall(&mut self, maker: u32, d: DeviceNo) -> Entry
+        requires { 0 < self.old.spare }
+        ensures entry { result ≡ Entry.Fell d }
+        ensures new { self.new ≡ with_entry self.old maker result }
+    {
+        let entry = Entry::Fell(d);
+        self.book.push(Kept { maker, entry });
+        entry
+    }
+
+    /// The device is back, in a step of the maker. The progress of no run says so.
+    pub(crate) fn rise(&mut self, maker: u32, d: DeviceNo) -> Entry
+        requires { 0 < self.old.spare }
+        ensures entry { result ≡ Entry.Rose d }
+        ensures new { self.new ≡ with_entry self.old maker result }
+    {
+        let entry = Entry::Rose(d);
+        self.book.push(Kept { maker, entry });
         entry
     }
 
@@ -325,4 +365,11 @@ impl ReadHistory {
         self.book.push(Kept { maker: r.0, entry });
         entry
     }
+}
+
+/// For what a run is doomed whose command with the number `k`, a must or not, is answered `Down`.
+pub(crate) fn must_down(k: u32, must: bool) -> Option<Cause>
+    ensures { result ≡ (if must then Some (Cause.MustDown k) else None) }
+{
+    if must { Some(Cause::MustDown(k)) } else { None }
 }

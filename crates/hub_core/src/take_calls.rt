@@ -5,11 +5,11 @@ use crate::changes::NONE_MADE;
 use crate::decisions::Chosen;
 use crate::hubs::Hub;
 use crate::turns::Turn;
-use device_states::Steady;
+use device_states::Device;
 use history_book::{End, Made};
 use home_types::RunNo;
 
-impl<D: Steady> Hub<D> {
+impl<D: Device> Hub<D> {
     /// Makes the step of the run `r` at this moment, in ms, or at the last one where that is later.
     ///
     /// Answers what the run does: hands out a device, makes entries, waits, or is over. `Wait` and `Absent` change

@@ -9,7 +9,7 @@ pub enum Turn<D: Device> {
     Go(Grip<D, Ready>),
     /// It made these entries.
     Moved(Made),
-    /// The run waits, and nothing has changed.
+    /// The run waits: nothing has changed, but that the hub's last moment may be later.
     Wait(Why),
     /// The run has ended so, with these entries where it ended in this step.
     Over(End, Made),

@@ -5,7 +5,7 @@ ghost use Rattle.std.specs.Prelude.{◌≡◌};
 ghost use Rattle.hub_commands.specs.Statuses.{fault_status};
 
 use day_clock::{StdSink, StdSource};
-use device_states::CalmBench;
+use device_states::SimBench;
 use hub_commands::{Fault, still_command};
 use std::env;
 use std::io::ErrorKind;
@@ -27,7 +27,7 @@ fn run(rt: &HostRuntime) -> u8 {
     };
     let mut source = StdSource::new(rt.stdin());
     let mut sink = StdSink::new(rt.stdout());
-    let finish = still_command(rt.alloc(), given, &mut source, &mut sink, &mut CalmBench);
+    let finish = still_command(rt.alloc(), given, &mut source, &mut sink, &mut SimBench);
     match &finish.fault {
         Some(fault) => tell(rt, fault),
         None => finish.status,

@@ -91,14 +91,14 @@ home_at : {D : Type 0} (places : List (Place D)) (devices : List D) (d : ℕ) (d
 home_at places devices d device all at = ap (λ ps. slice_get ps d) all ∙ slice_get-map (λ x. Home x) devices d ∙ ap (option_map (λ x. Home x)) at
 
 pub replayed_so : {D : Type 0} (tag : D → ℕ) (plan : D → Option (List (ℕ × ℕ))) (stands turns probes faults : D → ℕ) (hub : OpenHub D) (picks : List ℕ) (seed rounds : ℕ) (first played last : PlayerState D) (home : HomeState D) (closed : WindowRecord)
-    → Went hub picks seed rounds first played last → HubStands stands turns probes faults hub → HubStands stands turns probes faults last.hub → HavePlans plan (plans_of plan hub) last → IsClosed turns probes faults last.hub home closed → AreNumbered tag home.devices → ((d : ℕ) (device : D) → slice_get home.devices d ≡ Some device → faults device ≡ 0)
+    → Went hub picks seed rounds first played last → HubStands stands turns probes faults hub → HubStands stands turns probes faults last.hub → HavePlans plan (plans_of plan hub) last → IsClosed turns probes faults last.hub home closed → AreNumbered tag home.devices
     → IsReplayed tag plan turns probes faults hub picks seed rounds home closed
-replayed_so {D = D} tag plan stands turns probes faults hub picks seed rounds first played last home closed went before after plans closes numbered calm = record {
+replayed_so {D = D} tag plan stands turns probes faults hub picks seed rounds first played last home closed went before after plans closes numbered = record {
   legal = subst (λ w. IsLegalWindow w closed) window.setting closes.legal;
   play = play_of last (acts_of hub picks seed rounds first played last went);
   is_replay = is_replay hub picks seed rounds first played last went;
   history = closes.history;
-  ends = subst (λ w. RunsHaveEnded w closed) window.setting (record { ended = each_has_ended last.hub.setting closed closes.legal; commits = closes.commits; stage_calm = calm_then });
+  ends = subst (λ w. RunsHaveEnded w closed) window.setting (record { ended = each_has_ended last.hub.setting closed closes.legal; commits = closes.commits });
   kinds = closes.kinds ∙ ap (λ w. w.kinds) window.setting;
   last = closes.last;
   opened = closes.opened ∙ ap (λ n. n + 1) window.opened;
@@ -116,10 +116,3 @@ replayed_so {D = D} tag plan stands turns probes faults hub picks seed rounds fi
 
     sizes : length home.devices ≡ length last.hub.setting.first
     sizes = sym (length-map home.devices (λ x. Home x)) ∙ ap (λ ps. length ps) (sym closes.places) ∙ after.size
-
-    -- a device that has never failed did not fail in the window
-    steady : (d : ℕ) → (device : D) × (slice_get home.devices d ≡ Some device) → slice_index_or closed.faults.items d 0 ≡ 0
-    steady d (device, at) = let rose = closes.faults_rose d device at in let none = calm d device at in omega (arith, rose, none)
-
-    calm_then : NoneFails last.hub.setting closed.faults.items
-    calm_then = record { up = after.stage.up; steady = λ d within. steady d (at_place home.devices d (omega (arith, within, sizes))) }

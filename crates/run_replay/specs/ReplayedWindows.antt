@@ -20,8 +20,6 @@ use Rattle.std.specs.Prelude.{List, Option, Some, false, is_some, length, slice_
 pub record RunsHaveEnded (w : Setting) (closed : WindowRecord) : Type 0 where
   pub ended : (r : ℕ) → is_run w.runs r ≡ true → is_some ((reading w (history_of closed)).run r).ended ≡ true
   pub commits : w.mode.scheduler ≡ Fcfs → NoneFails w closed.faults.items → (r : ℕ) → is_run w.runs r ≡ true → has_must_check w.runs r ≡ false → ((reading w (history_of closed)).run r).ended ≡ Some Committed
-  -- in this stage no device fails
-  pub stage_calm : NoneFails w closed.faults.items
 
 -- the hub's window was replayed by these picks, and then by draws from this seed, in so many rounds of the detector: the record tells of that play, and the home has each device in the place of its number, with the plan that it had and with counts that rose as the record says
 pub record IsReplayed {D : Type 0} (tag : D → ℕ) (plan : D → Option (List (ℕ × ℕ))) (turns probes faults : D → ℕ) (s : OpenHub D) (picks : List ℕ) (seed rounds : ℕ) (home : HomeState D) (closed : WindowRecord) : Type 0 where

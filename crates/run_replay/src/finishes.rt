@@ -7,7 +7,7 @@ ghost use Rattle.run_replay.specs.Replays.{from_place, pick_first};
 use crate::draws::Draws;
 use crate::picked::has_waited;
 use crate::players::Player;
-use device_states::Steady;
+use device_states::Device;
 
 /// The place that lies so many steps on from this one, in cyclic order.
 fn place_on(place: u64, step: u64, live: u64) -> u64
@@ -24,7 +24,7 @@ fn place_on(place: u64, step: u64, live: u64) -> u64
     }
 }
 
-impl<D: Steady> Player<D> {
+impl<D: Device> Player<D> {
     /// Picks actors until every one has ended: each time a place in the list of those that have not is drawn by the
     /// generator with this seed, and from there on they are picked in cyclic order until one does not wait.
     pub fn finish(&mut self, seed: u64)

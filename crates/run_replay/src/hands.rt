@@ -7,7 +7,7 @@ ghost use Rattle.run_replay.specs.Playing.{IsPicked};
 ghost use Rattle.run_replay.specs.Replays.{waits};
 
 use crate::picked::Picked;
-use device_states::{Device, Steady};
+use device_states::Device;
 use history_book::{Made, WindowRecord};
 use home_types::{DeviceNo, NoMemory, RunNo};
 use hub_core::{Grip, Home, Hub, NotQuiet, Ready, Turn};
@@ -40,7 +40,7 @@ impl<D: Device> Model for Hands<D> {
     ghost invariant = { λ p. PlayerIsKept (record { hub = p.hub; grips = p.grips.items; rounds = p.rounds; moment = p.moment; place = p.place }) };
 }
 
-impl<D: Steady> Hands<D> {
+impl<D: Device> Hands<D> {
     /// The hands of a hub in which nothing was done yet, whose detector comes so often to each device: all are empty.
     ///
     /// Answers `NoMemory` where there is none to be had, and gives the hub back.

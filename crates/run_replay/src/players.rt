@@ -6,7 +6,7 @@ ghost use Rattle.run_replay.specs.Replays.{waits};
 
 use crate::hands::Hands;
 use crate::picked::{Picked, has_waited};
-use device_states::{Device, Steady};
+use device_states::Device;
 use std::marker::Model;
 
 /// A hub with the grips that its actors hold, and the actors that have not ended.
@@ -34,7 +34,7 @@ fn take_out(actors: &mut Vec<u32>, actor: u32)
     actors.retain(|a| *a != actor);
 }
 
-impl<D: Steady> Player<D> {
+impl<D: Device> Player<D> {
     /// Steps the actor, a run or 0 for the detector.
     pub fn pick(&mut self, actor: u32) -> Picked
         ensures picked { (acts : ℕ) → (later : ℕ) × IsPicked self.old.rounds actor (play_of self.old acts) (picked_of result) (play_of self.new later) }

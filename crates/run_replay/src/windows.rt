@@ -7,13 +7,13 @@ ghost use Rattle.run_replay.specs.ReplayedWindows.{IsReplayed};
 
 use crate::hands::Hands;
 use crate::players::Player;
-use device_states::Steady;
+use device_states::Device;
 use history_book::WindowRecord;
 use home_types::NoMemory;
 use hub_core::{Home, Hub, NotQuiet};
 use std::alloc::Global;
 
-impl<D: Steady> Player<D> {
+impl<D: Device> Player<D> {
     /// Makes a player of a hub in which nothing was done yet, whose detector comes so often to each device.
     ///
     /// Takes all memory of the replay. Answers `NoMemory` where there is none to be had, and gives the hub back.
@@ -64,7 +64,7 @@ impl<D: Steady> Player<D> {
 /// Replays a window: plays these turns, goes on by draws from the seed until every actor has ended, and closes it.
 ///
 /// Answers `NoMemory` where there is none to be had, and gives the hub back.
-pub fn replay_window<D: Steady>(
+pub fn replay_window<D: Device>(
     alloc: Global,
     hub: Hub<D>,
     turns: &[u32],
@@ -87,7 +87,6 @@ pub fn replay_window<D: Steady>(
     match player.close() {
         Ok(closed) => {
             closed.0.kept();
-            closed.0.calm();
             Ok(closed)
         }
         Err((_player, _why)) => unreachable!(),

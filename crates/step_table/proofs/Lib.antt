@@ -1,1 +1,2 @@
 pub mod FittingOrders
+pub mod FreshWindows

@@ -51,8 +51,8 @@ fn open_desk(alloc: Global, script: &Script, mode: Mode) -> Result<Option<Desk>,
         return Ok(None);
     };
     Ok(Some(Desk {
-        a,
-        b,
+        a: a.hub,
+        b: b.hub,
         grips: Vec::new(alloc),
     }))
 }

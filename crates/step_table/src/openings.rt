@@ -7,7 +7,7 @@ ghost use Rattle.routine_reader.specs.Scripts.{plain_script};
 ghost use Rattle.routine_reader.specs.Sound.{IsSound};
 
 use command_words::{CommandLine, Options};
-use device_states::{CalmBench, CalmDevice};
+use device_states::{SimBench, SimDevice};
 use home_types::{Mode, NoMemory};
 use hub_core::{Home, Hub};
 use later_forms::{first_later, is_later};
@@ -15,16 +15,20 @@ use routine_reader::{Script, roster};
 use std::alloc::{AllocError, Global};
 
 /// The devices of the homes.
-pub type Dev = CalmDevice;
+pub type Dev = SimDevice;
+
+/// A window that was opened, and how often the detector comes to each device in it.
+#[derive(Drop)]
+pub struct Opened {
+    pub hub: Hub<Dev>,
+    pub rounds: u32,
+}
 
 /// Opens the first window of the script on a new home. None where there is no window, or none of this stage.
-pub fn open_first(
-    alloc: Global,
-    script: &Script,
-    mode: Mode,
-) -> Result<Option<Hub<Dev>>, AllocError>
+pub fn open_first(alloc: Global, script: &Script, mode: Mode) -> Result<Option<Opened>, AllocError>
     requires sound { IsSound (plain_script script.now) }
-    ensures { IfOk result (λ there. IfSome there (λ hub. configuration_of hub ≡ opened hub.setting hub.rounds)) }
+    ensures fresh { IfOk result (λ there. IfSome there (λ first. configuration_of first.hub ≡ opened first.hub.setting first.hub.rounds)) }
+    ensures rounds { IfOk result (λ there. IfSome there (λ first. first.hub.rounds ≡ first.rounds)) }
 {
     let line = CommandLine::Replay(Options { mode, trace: false });
     if script.windows.len() == 0 || is_later(line) {
@@ -37,23 +41,27 @@ pub fn open_first(
 }
 
 /// Opens the first window of the script on a new home.
-fn open_window(alloc: Global, script: &Script, mode: Mode) -> Result<Hub<Dev>, AllocError>
+fn open_window(alloc: Global, script: &Script, mode: Mode) -> Result<Opened, AllocError>
     requires sound { IsSound (plain_script script.now) }
     requires built { first_later_of script.now ≡ None }
     requires mode { is_later_mode mode ≡ false }
     requires there { 0 < length script.now.windows.items }
-    ensures { IfOk result (λ hub. configuration_of hub ≡ opened hub.setting hub.rounds) }
+    ensures fresh { IfOk result (λ first. configuration_of first.hub ≡ opened first.hub.setting first.hub.rounds) }
+    ensures rounds { IfOk result (λ first. first.hub.rounds ≡ first.rounds) }
 {
     let window = &script.windows.as_slice()[0];
     let Ok(roster) = roster(alloc, script, 0) else {
         return Err(AllocError);
     };
-    let Ok(home) = Home::build(alloc, &mut CalmBench, script) else {
+    let Ok(home) = Home::build(alloc, &mut SimBench, script) else {
         return Err(AllocError);
     };
     home.kept();
     match home.open_window(alloc, roster, mode, window.probes) {
-        Ok(hub) => Ok(hub),
+        Ok(hub) => Ok(Opened {
+            hub,
+            rounds: window.probes,
+        }),
         Err((_, NoMemory)) => Err(AllocError),
     }
 }

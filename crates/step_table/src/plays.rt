@@ -2,7 +2,7 @@ ghost use Rattle.routine_reader.specs.Scripts.{plain_script};
 ghost use Rattle.routine_reader.specs.Sound.{IsSound};
 
 use crate::answers::{push_closed, push_made};
-use crate::openings::{Dev, open_first};
+use crate::openings::{Dev, Opened, open_first};
 use history_book::WindowRecord;
 use home_types::Mode;
 use hub_core::{Home, NotQuiet};
@@ -24,10 +24,10 @@ pub fn push_replay(
     let Some(window) = script.windows.get(0) else {
         return text.push_str("no window\n");
     };
-    let Some(hub) = open_first(alloc, script, mode)? else {
+    let Some(Opened { hub, rounds }) = open_first(alloc, script, mode)? else {
         return text.push_str("not built\n");
     };
-    match replay_window(alloc, hub, window.turns.as_slice(), window.seed, 0) {
+    match replay_window(alloc, hub, window.turns.as_slice(), window.seed, rounds) {
         Ok((home, closed)) => push_closed(alloc, text, script, mode, &home, &closed),
         Err(_) => Err(AllocError),
     }
@@ -46,10 +46,10 @@ pub fn push_play<R: Wait>(
     let Some(window) = script.windows.get(0) else {
         return text.push_str("no window\n");
     };
-    let Some(hub) = open_first(alloc, script, mode)? else {
+    let Some(Opened { hub, rounds }) = open_first(alloc, script, mode)? else {
         return text.push_str("not built\n");
     };
-    let mut player = match Player::open(alloc, hub, 0) {
+    let mut player = match Player::open(alloc, hub, rounds) {
         Ok(player) => player,
         Err(_) => return Err(AllocError),
     };

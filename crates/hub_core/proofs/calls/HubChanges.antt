@@ -1,5 +1,7 @@
 -- A step of a run in which no device goes out keeps what the type of a hub keeps, and is the step that it says.
+use Rattle.history_book.proofs.Counts.{fell_is}
 use Rattle.history_book.specs.Histories.{entries_made, entries_of, kept_by, reading}
+use Rattle.history_book.specs.Settings.{Setting}
 use Rattle.history_book.specs.WellFormed.{IsWellFormed}
 use Rattle.history_book.specs.declared.entries.Cause.{Cause}
 use Rattle.history_book.specs.declared.entries.End.{End}
@@ -14,7 +16,7 @@ use Rattle.home_types.specs.declared.commands.Answer.{Answer}
 use Rattle.home_types.specs.Limits.{most_devices, most_probes, most_runs}
 use Rattle.command_rules.specs.Rosters.{command_at, run_no}
 use Rattle.device_gate.specs.declared.slips.Task.TheVariants.{Drive, Sense}
-use Rattle.hub_core.proofs.steps.Calls.{take_calls, take_counted, take_falls, take_registers}
+use Rattle.hub_core.proofs.steps.Calls.{take_calls, take_counted, take_falls, take_registers, take_rises}
 use Rattle.hub_core.proofs.kept.Kept.{kept_at, take_kept}
 use Rattle.hub_core.proofs.kept.Sizes.{history_fits}
 use Rattle.hub_core.specs.AccountedCalls.{told_calls, told_falls}
@@ -25,7 +27,7 @@ use Rattle.hub_core.specs.HubKept.{ConfigurationIsKept}
 use Rattle.hub_core.specs.HubSteps.{Chose, HubStep, SlipFits, Take, carried_after, task_of}
 use Rattle.hub_core.specs.HubsKept.{HasRoomLeft, HubIsKept, IsWhole, all_probes_taken, is_away, open_of}
 use Rattle.hub_core.specs.KeptOrders.{OrderIsBeside}
-use Rattle.hub_core.specs.OpenHubs.{OpenHub, configuration_of, device_at, held_in, purpose_of, state_of}
+use Rattle.hub_core.specs.OpenHubs.{OpenHub, configuration_of, device_at, events_in, held_in, purpose_of, state_of}
 use Rattle.hub_core.specs.ReadHistories.{HistoryState, read_in, with_doom, with_entry, with_more}
 use Rattle.hub_core.specs.Steps.{Choice, Moves, Over, after_choice, after_take, at_moment, choice_of}
 use Rattle.hub_core.specs.declared.decisions.Chosen.{Chosen}
@@ -45,17 +47,24 @@ task_same s c r (Commands k) setting same =
 task_same s c r (Undoes v) setting same = refl
 task_same s c r (Probes v) setting same = refl
 
+-- failures and restarts are counted the same where the entries tell of as many
+pub events_same : (w : Setting) (h x : List Entry) (d : ℕ) → told_falls x d ≡ told_falls h d → (reading w x).rose d ≡ (reading w h).rose d → events_in (reading w x) d ≡ events_in (reading w h) d
+events_same w h x d falls rises =
+    let fell : (reading w x).fell d ≡ (reading w h).fell d = fell_is w x d ∙ falls ∙ sym (fell_is w h d) in
+    λ i. record { fell = fell i; rose = rises i }
+
 -- Nothing goes out, and nothing comes home
 
 still_kept : {D : Type 0} (stands turns probes faults : D → ℕ) (s : OpenHub D) (x : List Kept) (m : ℕ)
     → ConfigurationIsKept (configuration_of (record s { history = x; moment = m })) s.rounds s.opened (held_in s)
     → ((d : ℕ) → told_calls s.setting.runs (entries_of x) d ≡ told_calls s.setting.runs (entries_of s.history) d)
     → ((d : ℕ) → told_falls (entries_of x) d ≡ told_falls (entries_of s.history) d)
+    → ((d : ℕ) → (reading s.setting (entries_of x)).rose d ≡ (read_of (configuration_of s)).rose d)
     → ((d : ℕ) → (reading s.setting (entries_of x)).up d ≡ (read_of (configuration_of s)).up d)
     → ((q : ℕ) → ((reading s.setting (entries_of x)).run q).register ≡ ((read_of (configuration_of s)).run q).register)
     → length s.history ≤ length x
     → HubIsKept stands turns probes faults s → HubIsKept stands turns probes faults (record s { history = x; moment = m })
-still_kept stands turns probes faults s x m now told falls counted registers more k =
+still_kept stands turns probes faults s x m now told falls rises counted registers more k =
     record {
       configuration = now;
       devices_size = k.devices_size;
@@ -78,13 +87,14 @@ still_kept stands turns probes faults s x m now told falls counted registers mor
       };
       low = k.low;
       values = k.values;
+      events = λ d within. k.events d within ∙ sym (events_same s.setting (entries_of s.history) (entries_of x) d (falls d) (rises d));
       few_tickets = let few : s.tickets ≤ length s.history + count_by is_away s.places + all_probes_taken s = k.few_tickets in omega (arith, few, more);
     }
 
 -- the moment alone
 pub reached : {D : Type 0} (stands turns probes faults : D → ℕ) (s : OpenHub D) (m : ℕ) → HubIsKept stands turns probes faults s → HubIsKept stands turns probes faults (record s { moment = max s.moment m })
 reached stands turns probes faults s m k =
-    still_kept stands turns probes faults s s.history (max s.moment m) (kept_at (configuration_of s) s.rounds s.opened m (held_in s) k.configuration) (λ d. refl) (λ d. refl) (λ d. refl) (λ q. refl) (omega arith) k
+    still_kept stands turns probes faults s s.history (max s.moment m) (kept_at (configuration_of s) s.rounds s.opened m (held_in s) k.configuration) (λ d. refl) (λ d. refl) (λ d. refl) (λ d. refl) (λ q. refl) (omega arith) k
 
 -- a step that makes entries: the run moves on, or ends
 pub data Making : Type 0 where
@@ -112,6 +122,7 @@ entries_kept {D = D} stands turns probes faults s r m es c is k =
     (subst (λ x. ConfigurationIsKept x s.rounds s.opened (held_in s)) step (take_kept (configuration_of s) s.rounds s.opened (held_in s) r m k.configuration))
     (λ d. ap (λ (x : Configuration). told_calls s.setting.runs (entries_of x.history) d) (sym step) ∙ take_calls (configuration_of s) r m d)
     (λ d. ap (λ (x : Configuration). told_falls (entries_of x.history) d) (sym step) ∙ take_falls (configuration_of s) r m d)
+    (λ d. ap (λ (x : Configuration). (reading s.setting (entries_of x.history)).rose d) (sym step) ∙ take_rises (configuration_of s) r m d)
     (λ d. ap (λ (x : Configuration). (reading s.setting (entries_of x.history)).up d) (sym step) ∙ take_counted (configuration_of s) r m d)
     (λ q. ap (λ (x : Configuration). ((reading s.setting (entries_of x.history)).run q).register) (sym step) ∙ take_registers (configuration_of s) r m q)
     (let more = length_with s.history r es in omega (arith, more))

@@ -18,7 +18,7 @@ use Rattle.hub_core.specs.Bounds.{most_entries, most_items}
 use Rattle.hub_core.specs.HubCalls.{IsOpened}
 use Rattle.hub_core.specs.HubKept.{ConfigurationIsKept}
 use Rattle.hub_core.specs.HubsKept.{HandsAre, FitsAtHome, HasRoomLeft, HubIsKept}
-use Rattle.hub_core.specs.OpenHubs.{OpenHub, configuration_of, device_at, grip_in, held_in, no_device}
+use Rattle.hub_core.specs.OpenHubs.{OpenHub, configuration_of, device_at, grip_in, held_in, no_device, no_events}
 use Rattle.hub_core.specs.Openings.{MayOpen}
 use Rattle.hub_core.specs.Stage.{StageAllows}
 use Rattle.hub_core.specs.Steps.{opened}
@@ -196,6 +196,7 @@ first_kept {D = D} tag stands turns probes faults home roster mode rounds known 
   out = λ d slip task at. absurd (not_out home.devices d slip task at);
   low = λ d. low d (there turns probes faults home rounds known d opens.kept.size opens.knows);
   values = λ d lt. subst (λ v. IsTrue (has_value (kind_at home.kinds d) v)) (held d) (opens.kept.values d lt);
+  events = λ d lt. none_yet d (there turns probes faults home rounds known d opens.kept.size opens.knows);
   few_tickets = omega arith;
 }
   where
@@ -229,6 +230,10 @@ first_kept {D = D} tag stands turns probes faults home roster mode rounds known 
           falls_told = let same : (device_at known d).at_opening.faults ≡ faults device = ap (λ (k : DeviceProgress). k.at_opening.faults) is in omega (arith, same);
           few_faults = let same : (device_at known d).at_opening.faults ≡ faults device = ap (λ (k : DeviceProgress). k.at_opening.faults) is in omega (arith, same);
         }
+
+    none_yet : (d : ℕ) → There turns probes faults home rounds known d → (device_at known d).events ≡ no_events
+    none_yet d (known_as device at lt is) = ap (λ (k : DeviceProgress). k.events) is
+    none_yet d (unknown le is) = ap (λ (k : DeviceProgress). k.events) is
 
     low : (d : ℕ) → There turns probes faults home rounds known d → CountsAreLow home.opened (device_at known d).at_opening.turns (device_at known d).at_opening.probes (device_at known d).at_opening.faults
     low d (known_as device at lt is) = rw is (opens.kept.counts d device at)

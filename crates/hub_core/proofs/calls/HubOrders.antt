@@ -23,7 +23,8 @@ use Rattle.home_types.specs.declared.numbers.DeviceNo.{DeviceNo}
 use Rattle.hub_core.proofs.kept.Hands.{hand_goes}
 use Rattle.hub_core.proofs.calls.HubChanges.{Ending, Going, IsEntered, answer_entries, answered_more, entered_whole, entries_kept, has_places}
 use Rattle.hub_core.proofs.calls.HubChoices.{IsAnsweringDown, IsFailing, answering, dropping, failing}
-use Rattle.hub_core.proofs.calls.HubOuts.{GoesFor, IsHanded, IsHandedOut, device_within, handed_out, went_out}
+use Rattle.hub_core.proofs.calls.Departures.{device_within}
+use Rattle.hub_core.proofs.calls.HubOuts.{GoesFor, IsHanded, IsHandedOut, handed_out, went_out}
 use Rattle.hub_core.proofs.kept.HubReads.{run_place}
 use Rattle.hub_core.proofs.calls.HubStates.{grips_set}
 use Rattle.hub_core.proofs.kept.LineOrder.{end_line}

@@ -19,9 +19,6 @@ use Rattle.std.specs.Prelude.{List, None, Option, Some, false, if◌then◌else�
 eq_true : (a b : ℕ) → a ≡ b → (a == b) ≡ true
 eq_true a b e = grind (arith, common_steps)
 
-eq_false : (a b : ℕ) → a ≢ b → (a == b) ≡ false
-eq_false a b e = grind (arith, common_steps)
-
 -- a put function, place by place
 pub put_at : {A : Type 0} (f h : ℕ → A) (d : ℕ) (v : A) → h d ≡ v → ((e : ℕ) → e ≢ d → h e ≡ f e) → h ≡ put f d v
 put_at f h d v same others = λ i e. by_place e i

@@ -1,6 +1,6 @@
 -- The line and the table of a hub, when a device comes home.
 use Rattle.command_rules.specs.Rosters.{command_at, commands_of, is_run, run_no}
-use Rattle.device_gate.specs.Calls.{value_after}
+use Rattle.device_gate.specs.Calls.{has_died, value_after}
 use Rattle.device_gate.specs.Grips.{Gripped}
 use Rattle.device_gate.specs.declared.gates.Place.TheVariants.{Out}
 use Rattle.device_gate.specs.declared.grips.Done.{Done}
@@ -23,7 +23,7 @@ use Rattle.home_types.specs.declared.commands.Job.{Job}
 use Rattle.home_types.specs.declared.commands.View.{View}
 use Rattle.hub_core.proofs.calls.HubOrders.{read_whole}
 use Rattle.hub_core.proofs.calls.HubChanges.{answer_entries}
-use Rattle.hub_core.proofs.calls.HubReturns.{IsAnswered, IsForCommand, IsHomeAgain, IsReturned, answered_back, back_whole, for_command, home_grips, returned_for, undone_back}
+use Rattle.hub_core.proofs.calls.HubReturns.{IsAnswered, IsForCommand, IsHomeAgain, IsReturned, answered_back, came_whole, for_command, returned_for, undone_back}
 use Rattle.hub_core.proofs.kept.OrderSteps.{ToldOf, done_after, last_follows, may_note, none_out, order_answered, order_doomed_if, order_undone, read_more}
 use Rattle.hub_core.specs.HubsKept.{IsWhole, open_of}
 use Rattle.hub_core.specs.KeptOrders.{MayNote, OrderIsBeside, is_first, noted_first}
@@ -31,6 +31,7 @@ use Rattle.hub_core.specs.OpenHubs.{configuration_of, device_at, held_in}
 use Rattle.hub_core.specs.ReadHistories.{HistoryState, read_in, with_doom, with_entry}
 use Rattle.hub_core.specs.declared.hubs.Hub.TheInside.{Inside}
 use Rattle.hub_core.specs.declared.kept_orders.KeptOrder.{KeptOrder}
+use Rattle.hub_core.specs.declared.known.Events.{Events}
 use Rattle.hub_core.specs.declared.purposes.Purpose.TheVariants.{Command as ForCommand, Undo as ForUndo}
 use Rattle.lineage_table.specs.Lineages.{LineageState, lineage_at, with_lineage}
 use Rattle.lock_leasing.specs.Configurations.{Commands, Grips, grips_command}
@@ -132,12 +133,12 @@ pub record IsNoted {D : Type 0} (h t : Inside D) (value : ℕ) (slip : Slip) (a 
   pub changed : IsSome cause → ChangesEach (λ d. doomed_lineage slip.maker) between.table t.order.table
 
 -- .. when its device is home again
-order_came : {D : Type 0} {stands turns probes faults : D → ℕ} (h t : Inside D) (m value k tag : ℕ) (grip : Gripped D Done) (slip : Slip) (a : Answer) (cause : Option Cause) (mid : HistoryState) (view : View) (wrote : Option ℕ) (last : Bool) (between : KeptOrder)
-    → IsReturned stands turns probes faults h (ForCommand k) tag grip → IsHomeAgain h t m value grip → IsAnswered h grip k slip a cause mid t.history → IsNoted h t value slip a cause mid view wrote last between
-    → IsWellFormed t.history.setting (entries_of t.history.history) → IsWhole stands turns probes faults h → OrderIsBeside h.rounds t.history (configuration_of (open_of t)).grips t.order.line t.order.table
-order_came {D = D} h t m value k tag grip slip a cause mid view wrote last between returned home answered noted formed whole =
+order_came : {D : Type 0} {stands turns probes faults : D → ℕ} (h t : Inside D) (m value k tag : ℕ) (events : Events) (grip : Gripped D Done) (slip : Slip) (a : Answer) (cause : Option Cause) (mid : HistoryState) (view : View) (wrote : Option ℕ) (last : Bool) (between : KeptOrder)
+    → IsReturned stands turns probes faults h (ForCommand k) tag grip → IsHomeAgain h t m value events grip → IsAnswered h grip k slip a cause mid t.history → IsNoted h t value slip a cause mid view wrote last between
+    → IsWellFormed t.history.setting (entries_of t.history.history) → (configuration_of (open_of t)).grips ≡ put (configuration_of (open_of h)).grips grip.slip.device.0 None → IsWhole stands turns probes faults h → OrderIsBeside h.rounds t.history (configuration_of (open_of t)).grips t.order.line t.order.table
+order_came {D = D} h t m value k tag events grip slip a cause mid view wrote last between returned home answered noted formed gripped whole =
     order_told h.history mid t.history (configuration_of (open_of h)).grips (configuration_of (open_of t)).grips (held_in (open_of h)) d r k a cause view wrote last h.order.line between.line t.order.line h.order.table between.table t.order.table
-    (read_whole h whole) whole.shown.configuration.order for.run for.grip below new doomed formed (home_grips h t m value grip returned.there home whole) (record {
+    (read_whole h whole) whole.shown.configuration.order for.run for.grip below new doomed formed gripped (record {
       view_is = noted.view_is;
       wrote_is = noted.wrote_is ∙ wrote_is w n r (command_at w.runs r k) a grip.task value (device_at h.devices.items d).held suited for.does home.value_is;
       last_is = noted.last_is ∙ (λ i. is_doomed (read_in (new i)) (answered.same i).maker || not (pends (new i).setting (read_in (new i)) (answered.same i).maker (answered.same i).device.0)) ∙ ap (λ x. is_doomed x r || not (pends w x r d)) (read_more w h.history.history r (Did (run_no r) k a)) ∙ done_after w n r k a d for.next for.on;
@@ -175,17 +176,17 @@ order_came {D = D} h t m value k tag grip slip a cause mid view wrote last betwe
     suited = fourth (may_act w n r) (k == next_of n r) (nat_lt k (length (commands_of w.runs r))) (suits w (command_at w.runs r k) a) ((n.run r).answered_doomed) may
 
 -- a command came back: what is kept is kept
-pub answered_whole : {D : Type 0} {stands turns probes faults : D → ℕ} (h t : Inside D) (m value k tag : ℕ) (grip : Gripped D Done) (slip : Slip) (a : Answer) (cause : Option Cause) (mid : HistoryState) (view : View) (wrote : Option ℕ) (last : Bool) (between : KeptOrder)
-    → IsReturned stands turns probes faults h (ForCommand k) tag grip → IsHomeAgain h t m value grip → IsAnswered h grip k slip a cause mid t.history → IsNoted h t value slip a cause mid view wrote last between → IsWhole stands turns probes faults h → IsWhole stands turns probes faults t
-answered_whole h t m value k tag grip slip a cause mid view wrote last between returned home answered noted whole =
-    back_whole h t m value (ForCommand k) tag grip (answer_entries slip.maker k a cause) (answered_back h t m value k tag grip slip a cause mid returned home answered)
-    (λ formed. order_came h t m value k tag grip slip a cause mid view wrote last between returned home answered noted formed whole) whole
+pub answered_whole : {D : Type 0} {stands turns probes faults : D → ℕ} (h t : Inside D) (m value k tag : ℕ) (events : Events) (grip : Gripped D Done) (slip : Slip) (a : Answer) (cause : Option Cause) (mid : HistoryState) (view : View) (wrote : Option ℕ) (last : Bool) (between : KeptOrder)
+    → IsReturned stands turns probes faults h (ForCommand k) tag grip → IsHomeAgain h t m value events grip → IsAnswered h grip k slip a cause mid t.history → IsNoted h t value slip a cause mid view wrote last between → IsWhole stands turns probes faults h → IsWhole stands turns probes faults t
+answered_whole h t m value k tag events grip slip a cause mid view wrote last between returned home answered noted whole =
+    came_whole h t m value events (ForCommand k) tag grip (answer_entries slip.maker k a cause) (answered_back h t m value k tag events grip slip a cause mid returned home answered)
+    (λ formed gripped. order_came h t m value k tag events grip slip a cause mid view wrote last between returned home answered noted formed gripped whole) whole
 
 -- .. and an undo
-pub undone_whole : {D : Type 0} {stands turns probes faults : D → ℕ} (h t : Inside D) (m value v tag : ℕ) (grip : Gripped D Done) (slip : Slip) → IsReturned stands turns probes faults h (ForUndo v) tag grip → IsHomeAgain h t m value grip → slip ≡ grip.slip
+pub undone_whole : {D : Type 0} {stands turns probes faults : D → ℕ} (h t : Inside D) (m value v tag : ℕ) (events : Events) (grip : Gripped D Done) (slip : Slip) → IsReturned stands turns probes faults h (ForUndo v) tag grip → IsHomeAgain h t m value events grip → slip ≡ grip.slip → has_died grip.stage.told ≡ false
     → t.history ≡ with_entry h.history slip.maker (Undid (run_no slip.maker) slip.device true) → t.order ≡ h.order → IsWhole stands turns probes faults h → IsWhole stands turns probes faults t
-undone_whole h t m value v tag grip slip returned home same new order whole =
-    back_whole h t m value (ForUndo v) tag grip (Undid (run_no slip.maker) slip.device true ∷ []) (undone_back h t m value v tag grip slip returned home same new)
-    (λ formed. subst (λ (o : KeptOrder). OrderIsBeside h.rounds t.history (configuration_of (open_of t)).grips o.line o.table) (sym order)
+undone_whole h t m value v tag events grip slip returned home same lives new order whole =
+    came_whole h t m value events (ForUndo v) tag grip (Undid (run_no slip.maker) slip.device true ∷ []) (undone_back h t m value v tag events grip slip returned home same lives new)
+    (λ formed gripped. subst (λ (o : KeptOrder). OrderIsBeside h.rounds t.history (configuration_of (open_of t)).grips o.line o.table) (sym order)
     (order_undone h.history t.history (configuration_of (open_of h)).grips (configuration_of (open_of t)).grips grip.slip.maker grip.slip.device.0 v h.order.line h.order.table
-    (new ∙ ap (λ (y : Slip). with_entry h.history y.maker (Undid (run_no y.maker) y.device true)) same) (returned_for h (ForUndo v) tag grip returned whole).grip (home_grips h t m value grip returned.there home whole) whole.order)) whole
+    (new ∙ ap (λ (y : Slip). with_entry h.history y.maker (Undid (run_no y.maker) y.device true)) same) (returned_for h (ForUndo v) tag grip returned whole).grip gripped whole.order)) whole

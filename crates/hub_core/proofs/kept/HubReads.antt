@@ -164,21 +164,6 @@ undoes_beside w h h₂ n n₂ maker drove r d progress k more =
     read : reading w (entries_of h₂) ≡ entry w before (Undid r d drove)
     read = ap (λ x. reading w (entries_of x)) more ∙ ap (reading w) (entries_on h maker (Undid r d drove ∷ [])) ∙ reading_more w (entries_of h) (Undid r d drove)
 
--- a failure or a restart changes what no run did
-pub event_beside : (w : Setting) (h h₂ : List Kept) (n n₂ maker : ℕ) (e : Entry) (progress : List RunProgress) → ((m : Reading) → (entry w m e).run ≡ m.run)
-    → IsReadBeside (record { setting = w; history = h; spare = n }) progress → h₂ ≡ h ++ record { maker = maker; entry = e } ∷ [] → IsReadBeside (record { setting = w; history = h₂; spare = n₂ }) progress
-event_beside w h h₂ n n₂ maker e progress still k more =
-    record {
-      size = k.size;
-      progress_is = λ j within. k.progress_is j within ∙ (λ i. Some (progress_of (sym (still before) i (suc j)))) ∙ ap (λ x. Some (progress_of (x.run (suc j)))) (sym read);
-    }
-  where
-    before : Reading
-    before = reading w (entries_of h)
-
-    read : reading w (entries_of h₂) ≡ entry w before e
-    read = ap (λ x. reading w (entries_of x)) more ∙ ap (reading w) (entries_on h maker (e ∷ [])) ∙ reading_more w (entries_of h) e
-
 pub ends_beside : (w : Setting) (h h₂ : List Kept) (n n₂ maker : ℕ) (end : End) (r : RunNo) (progress : List RunProgress) (p : RunProgress)
     → IsReadBeside (record { setting = w; history = h; spare = n }) progress
     → IsTrue (is_run w.runs r.0) → slice_get progress (r.0 - 1) ≡ Some p

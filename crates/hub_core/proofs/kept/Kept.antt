@@ -29,7 +29,7 @@ use Rattle.hub_core.specs.HubKept.{ActsInTurn, ConfigurationIsKept, EachOut, His
 use Rattle.hub_core.specs.JustifiedAborts.{abort_is_justified, shows}
 use Rattle.hub_core.specs.Openings.{MayOpen, names_values_of}
 use Rattle.hub_core.specs.Stage.{StageAllows}
-use Rattle.hub_core.specs.Steps.{HandsOut, Moves, after_choice, after_take, answers_down, at_moment, down_entries, may_probe, opened}
+use Rattle.hub_core.specs.Steps.{HandsOut, Moves, after_choice, after_take, answers_down, at_moment, down_entries, opened}
 use Rattle.lock_leasing.proofs.Effects.{effect_is}
 use Rattle.lock_leasing.specs.Configurations.{Commands, Configuration, Grip, Grips, Probes, Purpose, Undoes, has_grip, is_command, is_out, read_of}
 use Rattle.lock_leasing.specs.Places.{GripsFit, IsScheduled, MayBeOut}
@@ -351,13 +351,3 @@ starts w rounds opened' opens stage kinds values =
     few : (b : Bool) → 0 + 0 + (if b then rounds else 0) ≤ rounds
     few true = omega arith
     few false = omega arith
-
--- no probe is left in this stage
-pub no_probe : (s : Configuration) (rounds opened' : ℕ) (held : ℕ → ℕ) (d : ℕ) → ConfigurationIsKept s rounds opened' held → may_probe s d ≡ false
-no_probe s rounds opened' held d kept =
-    let none : s.probes d ≡ 0 = (let most : (read_of s).rose d + (if is_probed s.grips d then 1 else 0) + s.probes d ≤ rounds = kept.probes d in let zero' : rounds ≡ 0 = kept.stage.no_probes in omega (arith, most, zero')) in
-    rw none (never (is_device s.setting d && not (is_out s.grips d)))
-  where
-    never : (b : Bool) → (b && false) ≡ false
-    never true = refl
-    never false = refl

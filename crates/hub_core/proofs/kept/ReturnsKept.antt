@@ -65,24 +65,6 @@ out_is w n g r k d may out = by_next (next_command w n r) refl (grind (arith, co
     by_next None e f = absurd (cc)
     by_next (Some c) e f = (c, record { live = grind (arith, common_steps, known); number = grind (arith, common_steps, known); next = e; on = grind (arith, common_steps) })
 
--- a device that is out for what a run does is out for one of the window
-pub out_run : (s : Configuration) (rounds opened : ℕ) (held : ℕ → ℕ) (d : ℕ) (grip : Grip) → s.grips d ≡ Some grip → is_of_run grip.purpose ≡ true → ConfigurationIsKept s rounds opened held → is_run s.setting.runs grip.maker ≡ true
-out_run s rounds opened held d grip out of_run kept = by_purpose grip.purpose out of_run
-  where
-    n : Reading
-    n = read_of s
-
-    r : ℕ
-    r = grip.maker
-
-    run : is_live n r ≡ true → is_run s.setting.runs r ≡ true
-    run live = live_run s.setting n r (shapes s.setting (entries_of s.history) kept.history.well_formed) live
-
-    by_purpose : (p : Purpose) → s.grips d ≡ Some (record { maker = r; purpose = p }) → is_of_run p ≡ true → is_run s.setting.runs r ≡ true
-    by_purpose (Commands k) at is = run (let may : IsTrue (is_live n r && is_next_on s.setting n r d && (k == next_of n r)) = kept.order.grips.runs.commands d r k at in grind (arith, common_steps))
-    by_purpose (Undoes v) at is = run (let may : IsTrue (is_live n r && is_doomed n r && has_written n r d && not ((n.run r).on d).undid) = kept.order.grips.runs.undos d r v at in grind (arith, common_steps))
-    by_purpose (Probes value) at is = absurd (cc)
-
 -- what a device brings that comes home and stands at the value v: a write has worked that drove it there, or a read found that it stands there, as before; an undo drove it there; a probe found it as it was, or drove it there.
 -- where a call died nothing is known of where it stands
 abbrev pub BringsFor : Configuration → (ℕ → ℕ) → ℕ → ℕ → ℕ → Purpose → Told → Type 0

@@ -322,7 +322,7 @@ stays_up s rounds opened d held kept up steady = by_up ((read_of s).up d) (take_
         absurd (omega (arith, turns, none, one))
 
 -- a device fails at most once more often than it comes back, and comes back at most once in a round of probes
-few_events : (s : Configuration) (rounds opened : ℕ) (held : ℕ → ℕ) (d : ℕ) → ConfigurationIsKept s rounds opened held → (read_of s).fell d + (read_of s).rose d ≤ 2 * rounds + 1
+pub few_events : (s : Configuration) (rounds opened : ℕ) (held : ℕ → ℕ) (d : ℕ) → ConfigurationIsKept s rounds opened held → (read_of s).fell d + (read_of s).rose d ≤ 2 * rounds + 1
 few_events s rounds opened held d kept = omega (arith, take_turns s.setting (entries_of s.history) kept.history.well_formed d, kept.probes d, at_most_one (stand_at s.setting.first d).up)
 
 events_fit : (s : Configuration) (rounds opened : ℕ) (held : ℕ → ℕ) → ConfigurationIsKept s rounds opened held → events_told (read_of s) (length s.setting.first) ≤ most_events (length s.setting.first) rounds

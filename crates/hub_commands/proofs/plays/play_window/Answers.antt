@@ -20,7 +20,7 @@ open_window-requires-clause-stage g c =
     let window = c.index-as_slice-number.result in
     let at = window-there c.args.script.now c.args.number c.as_slice.result.now window c.requires.there c.as_slice.ensures c.index-as_slice-number.is in
     subst (λ w. StageAllows w window.probes) (sym (setting_as c.args.script.now c.args.number c.args.home c.in_ok-roster.roster c.args.mode c.in_ok-roster.ensures))
-    (stage_allows c.args.script.now c.args.mode c.args.number window c.args.home c.requires.built c.requires.mode at c.requires.up)
+    (stage_allows c.args.script.now c.args.mode c.args.number window c.args.home c.requires.built c.requires.mode at)
 
 pub replay_window-requires-clause-fresh : goal.replay_window-requires-clause-fresh
 replay_window-requires-clause-fresh g c =

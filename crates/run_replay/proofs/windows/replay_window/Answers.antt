@@ -16,4 +16,4 @@ returns-clause-replayed g c =
     (record { opens = c.in-Ok.ensures.opened; plays = c.play.ensures.played; finishes = c.finish.ensures.finished; window = c.play.ensures.window; still = c.finish.ensures.window; rounds_played = c.play.ensures.rounds; rounds_last = c.finish.ensures.rounds })
     c.kept.ensures c.kept-2.ensures.hub
     (c.finish.ensures.plans (plans_of D.plan c.args.hub) (c.play.ensures.plans (plans_of D.plan c.args.hub) (plans_then D.plan c.args.hub c.args.rounds c.in-Ok.player c.in-Ok.ensures.opened)))
-    c.in-Ok-close.ensures.closed c.kept-in-Ok-close.ensures.numbered c.calm.ensures
+    c.in-Ok-close.ensures.closed c.kept-in-Ok-close.ensures.numbered

@@ -1,4 +1,4 @@
-use Rattle.hub_commands.proofs.Openings.{may_open, setting_as, stage_allows, starts_up}
+use Rattle.hub_commands.proofs.Openings.{may_open, setting_as, stage_allows}
 use Rattle.hub_core.specs.Openings.{MayOpen}
 use Rattle.hub_core.specs.Stage.{StageAllows}
 use Rattle.routine_reader.proofs.RosterLemmas.{window-there}
@@ -25,4 +25,4 @@ open_window-requires-clause-stage c =
     let window = c.index-as_slice-0.result in
     let at = window-there script 0 c.as_slice.result.now window c.requires.there c.as_slice.ensures c.index-as_slice-0.is in
     subst (λ w. StageAllows w window.probes) (sym (setting_as script 0 home c.in-Ok.roster mode c.in-Ok.ensures))
-    (stage_allows script mode 0 window home c.requires.built c.requires.mode at (starts_up script home c.in-Ok-build.ensures.world))
+    (stage_allows script mode 0 window home c.requires.built c.requires.mode at)

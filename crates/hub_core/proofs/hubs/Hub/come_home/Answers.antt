@@ -1,4 +1,4 @@
-use Rattle.hub_core.proofs.calls.HubOuts.{at_index}
+use Rattle.hub_core.proofs.calls.Departures.{at_index}
 use Rattle.hub_core.proofs.calls.HubReturns.{probe_back}
 use Rattle.hub_core.proofs.hubs.Hub.come_home.Goals as goal
 use Rattle.hub_core.specs.OpenHubs.{device_at, purpose_of}
@@ -20,5 +20,5 @@ undo-requires-clause-purpose g c =
 
 pub unreachable-requires : goal.unreachable-requires
 unreachable-requires g c =
-    probe_back c.self.inside c.args.self.now c.args.grip.slip c.args.grip.task c.in-Probe.field-0 c.self.view_is c.requires.kept
+    probe_back c.self.inside c.args.self.now c.args.grip.slip c.args.grip.task c.in-Probe.field-0 c.self.view_is c.requires.kept c.requires.maker
     (ap (λ (p : DeviceProgress). p.purpose) (at_index c.self.inside.devices.items c.args.grip.slip.device.0 _ (ap (λ s. slice_get c.self.inside.devices.items s.device.0) (sym c.slip.ensures) ∙ sym c.get.ensures ∙ ap option_copied c.unwrap-known.ensures)) ∙ c.in-Probe.is) c.self.invariant

@@ -1,5 +1,5 @@
 use Rattle.command_rules.specs.Rosters.{is_run}
-use Rattle.hub_core.proofs.calls.HubOuts.{is_there}
+use Rattle.hub_core.proofs.calls.Departures.{is_there}
 use Rattle.hub_core.proofs.kept.HubReads.{run_place}
 use Rattle.hub_core.proofs.hubs.Hub.grip_of.Goals as goal
 use Rattle.hub_core.specs.HubsKept.{open_of}

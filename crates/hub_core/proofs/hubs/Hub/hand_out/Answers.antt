@@ -1,6 +1,7 @@
 use Rattle.hub_core.proofs.calls.HubChanges.{chosen_here}
 use Rattle.hub_core.proofs.calls.HubOrders.{hand_place, handed_whole, may_mark}
-use Rattle.hub_core.proofs.calls.HubOuts.{IsHanded, command_given, few_tickets, has_room, is_known, out_home, stands_home, went_out_at}
+use Rattle.hub_core.proofs.calls.Departures.{few_tickets, has_room}
+use Rattle.hub_core.proofs.calls.HubOuts.{IsHanded, command_given, is_known, out_home, stands_home, went_out_at}
 use Rattle.hub_core.proofs.hubs.Hub.hand_out.Goals as goal
 use Rattle.hub_core.specs.HubSteps.{task_of}
 use Rattle.hub_core.specs.OpenHubs.{configuration_of, purpose_of}

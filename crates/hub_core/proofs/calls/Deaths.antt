@@ -1,0 +1,437 @@
+-- The call of a run died: what the code writes of it, and that what is kept stays so.
+use Rattle.command_rules.specs.Rosters.{command_at, commands_of, is_run, run_no}
+use Rattle.device_gate.specs.Calls.{has_died, value_after}
+use Rattle.device_gate.specs.Grips.{Gripped}
+use Rattle.device_gate.specs.Places.{IsKept}
+use Rattle.device_gate.specs.declared.grips.Done.{Done}
+use Rattle.device_gate.specs.declared.gates.Place.TheVariants.{Out}
+use Rattle.device_gate.specs.declared.slips.Slip.{Slip}
+use Rattle.device_gate.specs.declared.slips.Task.{Task}
+use Rattle.device_gate.specs.declared.slips.Told.TheVariants.{Died, Sensed, Worked}
+use Rattle.device_gate.specs.declared.slips.Told.{Told}
+use Rattle.history_book.proofs.Snoc.{put_other}
+use Rattle.history_book.specs.Histories.{entries_made, entries_of, entry, kept_by}
+use Rattle.history_book.specs.Readings.{Reading, did, is_doomed, next_of, pends, put}
+use Rattle.history_book.specs.Settings.{Setting, is_device, is_weak}
+use Rattle.history_book.specs.WellFormed.{IsWellFormed}
+use Rattle.history_book.specs.declared.entries.Cause.TheVariants.{Lost, MustDown}
+use Rattle.history_book.specs.declared.entries.Cause.{Cause}
+use Rattle.history_book.specs.declared.entries.Entry.TheVariants.{Did, Doomed, Fell, Undid}
+use Rattle.history_book.specs.declared.entries.Entry.{Entry}
+use Rattle.home_types.specs.declared.commands.Answer.TheVariants.{Down}
+use Rattle.home_types.specs.declared.commands.Command.{Command}
+use Rattle.home_types.specs.declared.commands.View.TheVariants.{Down as ViewedDown}
+use Rattle.home_types.specs.declared.commands.View.{View}
+use Rattle.home_types.specs.declared.items.Item.TheVariants.{Failed}
+use Rattle.home_types.specs.declared.numbers.DeviceNo.{DeviceNo}
+use Rattle.home_types.specs.declared.numbers.RunNo.{RunNo}
+use Rattle.hub_core.proofs.calls.Homecomings.{ComesBack}
+use Rattle.hub_core.proofs.calls.HubChanges.{answer_entries, answered_more}
+use Rattle.hub_core.proofs.calls.HubOrders.{read_whole}
+use Rattle.hub_core.proofs.calls.HubReturns.{CameHome, IsForCommand, IsHomeAgain, IsReturned, came_whole, died_events, fallen_by, for_command, returned_below, returned_comes, returned_entries, returned_for, returned_places}
+use Rattle.hub_core.proofs.calls.NotedAnswers.{lineage_set, length_set}
+use Rattle.hub_core.proofs.calls.Turning.{TellsTurn, counted_so, few_turns, may_fall}
+use Rattle.hub_core.proofs.kept.FallenOrders.{order_died, order_undo_died}
+use Rattle.hub_core.proofs.kept.OrderSteps.{done_after, may_note, none_out, order_doomed_if, read_more}
+use Rattle.hub_core.specs.Decisions.{died_by}
+use Rattle.hub_core.specs.HubsKept.{IsWhole, open_of}
+use Rattle.hub_core.specs.KeptOrders.{HasFallen, MayNote, MayTurn, OrderIsBeside, is_first, noted_first}
+use Rattle.hub_core.specs.OpenHubs.{OpenHub, configuration_of, device_at, held_in}
+use Rattle.hub_core.specs.ReadHistories.{HistoryState, read_in, with_doom, with_entry, with_more}
+use Rattle.hub_core.specs.declared.hubs.Hub.TheInside.{Inside}
+use Rattle.hub_core.specs.declared.kept_orders.KeptOrder.{KeptOrder}
+use Rattle.hub_core.specs.declared.known.Events.{Events}
+use Rattle.hub_core.specs.declared.purposes.Purpose.TheVariants.{Command as ForCommand, Undo as ForUndo}
+use Rattle.lineage_table.specs.Lineages.{LineageState, counted_up, lineage_at, with_lineage}
+use Rattle.lock_leasing.specs.Configurations.{Commands, Grips, grips_command}
+use Rattle.lock_leasing.specs.Places.{GripsFit}
+use Rattle.serial_line.specs.Marks.{Marked}
+use Rattle.std.proofs.Common.{ap, append_assoc, ap₂, arith, refl, subst, sym, ◌∙◌}
+use Rattle.std.proofs.lemmas.Option.{slice_get_within}
+use Rattle.std.specs.Prelude.{Bool, IsSome, List, None, Option, Some, [], false, fold, if◌then◌else◌, is_some, length, max, not, option_map, option_to_list, slice_get, suc, true, ℕ, ◌+◌, ◌-◌, ◌<◌, ◌∷◌, ◌≡◌, ◌≤◌, ◌&&◌, ◌||◌}
+use Rattle.window_order.proofs.ReadFacts.{IsRead}
+use Rattle.window_order.proofs.Steps.{home_fits}
+use Rattle.window_order.specs.OrderKept.{OrderIsKept}
+use Rattle.window_order.specs.TableChanges.{ChangesEach, IsWaiting, doomed_lineage, is_done_there}
+
+-- the device of a slip that is kept is one of the home
+pub within_home : {D : Type 0} {stands turns probes faults : D → ℕ} (h : Inside D) (s : OpenHub D) (slip : Slip) (task : Task) → open_of h ≡ s → IsKept s.places slip task → IsWhole stands turns probes faults h → slip.device.0 < length h.history.setting.first
+within_home {D = D} h s slip task seen there k =
+    let within : slip.device.0 < length h.gate.places = slice_get_within h.gate.places slip.device.0 (Out slip task) (ap (λ (x : OpenHub D). slice_get x.places slip.device.0) seen ∙ there) in
+    let size : length h.gate.places ≡ length h.history.setting.first = k.shown.places_size in
+    omega (arith, within, size)
+
+died_told : (told : Told) → has_died told ≡ true → told ≡ Died
+died_told Worked died = absurd (cc)
+died_told (Sensed x) died = absurd (cc)
+died_told Died died = refl
+
+-- an entry, and then more
+pub more_after : (h : HistoryState) (maker : ℕ) (e : Entry) (es : List Entry) → with_more (with_entry h maker e) maker es ≡ with_more h maker (e ∷ es)
+more_after h maker e es =
+    let history = append_assoc h.history (kept_by maker (e ∷ [])) (kept_by maker es) in
+    let left : h.spare - 1 - length es ≡ h.spare - suc (length es) = omega arith in
+    λ i. record h { history = history i; spare = left i }
+
+-- The count of the failures of its device
+
+-- there is a number for one more
+pub fallen_few : {D : Type 0} {stands turns probes faults : D → ℕ} (h : Inside D) (s : OpenHub D) (slip : Slip) (task : Task) (sl : Slip) (before : Events) → open_of h ≡ s → IsKept s.places slip task → sl ≡ slip → before ≡ (device_at s.devices sl.device.0).events → IsWhole stands turns probes faults h → before.fell + 1 < 4294967296
+fallen_few {D = D} h s slip task sl before seen there same before_is k =
+    let few = (few_turns h slip.device.0 (within_home h s slip task seen there k) k).0 in
+    let known : before.fell ≡ (device_at h.devices.items slip.device.0).events.fell = ap (λ (e : Events). e.fell) (before_is ∙ ap (λ (z : Slip). (device_at s.devices z.device.0).events) same ∙ ap (λ (x : OpenHub D). (device_at x.devices slip.device.0).events) (sym seen)) in
+    omega (arith, few, known)
+
+-- the one that it is
+pub death_number : {D : Type 0} (h : Inside D) (s : OpenHub D) (sl : Slip) (before events : Events) → open_of h ≡ s → before ≡ (device_at s.devices sl.device.0).events → events ≡ record before { fell = before.fell + 1 } → events.fell ≡ (device_at h.devices.items sl.device.0).events.fell + 1
+death_number {D = D} h s sl before events seen before_is more = ap (λ (e : Events). e.fell) more ∙ ap (λ (e : Events). e.fell + 1) (before_is ∙ ap (λ (x : OpenHub D). (device_at x.devices sl.device.0).events) (sym seen))
+
+-- with what the device told
+pub death_known : {D : Type 0} (h : Inside D) (s : OpenHub D) (slip sl : Slip) (told : Told) (before events : Events) → open_of h ≡ s → before ≡ (device_at s.devices sl.device.0).events → events ≡ record before { fell = before.fell + 1 } → sl ≡ slip → has_died told ≡ true → events ≡ fallen_by told (device_at h.devices.items slip.device.0).events
+death_known {D = D} h s slip sl told before events seen before_is more same died =
+    more ∙ ap (λ (e : Events). record e { fell = e.fell + 1 }) (before_is ∙ ap (λ (z : Slip). (device_at s.devices z.device.0).events) same ∙ ap (λ (x : OpenHub D). (device_at x.devices slip.device.0).events) (sym seen)) ∙ died_events told (device_at h.devices.items slip.device.0).events died
+
+-- A command
+
+-- the run's access to the device, and for what it is doomed
+abbrev pub dead_first : {D : Type 0} → Inside D → Slip → Bool
+dead_first h slip = is_first slip.maker (lineage_at h.order.table slip.device.0)
+
+abbrev pub death_of : {D : Type 0} → Inside D → Slip → ℕ → Option Cause
+death_of h slip k = died_by h.history.setting (read_in h.history) slip.maker k (dead_first h slip)
+
+abbrev pub death_entries : Slip → ℕ → Option Cause → List Entry
+death_entries slip k cause = Fell slip.device ∷ answer_entries slip.maker k Down cause
+
+-- its answer comes in turn: it is the run's first one on the device, or a later one
+dead_turn : {D : Type 0} {stands turns probes faults : D → ℕ} (h : Inside D) (k tag : ℕ) (grip : Gripped D Done) → IsReturned stands turns probes faults h (ForCommand k) tag grip → IsWhole stands turns probes faults h
+    → (dead_first h grip.slip ≡ not (did (read_in h.history) grip.slip.maker (command_at h.history.setting.runs grip.slip.maker k).device.0)) × MayNote grip.slip.maker (lineage_at h.order.table grip.slip.device.0)
+dead_turn h k tag grip returned whole =
+    let for = for_command _ _ _ _ (open_of h) grip.slip grip.task k whole.shown returned.there returned.purpose in
+    let turn = may_note h.history.setting (read_in h.history) (configuration_of (open_of h)).grips (held_in (open_of h)) grip.slip.device.0 grip.slip.maker k h.order.table (read_whole h whole) whole.shown.configuration.order for.grip (returned_below h (ForCommand k) tag grip returned whole) whole.order.table_is in
+    (turn.0 ∙ ap (λ x. not (did (read_in h.history) grip.slip.maker x)) (sym for.on), turn.1)
+
+-- the doom, by whether the run was doomed before, has had an answer there, and must not fail
+dooms_are : (w : Setting) (n : Reading) (r k : ℕ) (d : DeviceNo) (doomed had weak must : Bool) → weak ≡ false
+    → (if doomed then [] else (if had && not weak then Doomed (run_no r) (Lost d) ∷ [] else (if must then Doomed (run_no r) (MustDown k) ∷ [] else []))) ≡ option_to_list (option_map (λ c. Doomed (run_no r) c) (if doomed then None else (if not had then (if must then Some (MustDown k) else None) else Some (Lost d))))
+dooms_are w n r k d true had weak must strong = refl
+dooms_are w n r k d false true false must strong = refl
+dooms_are w n r k d false true true must strong = absurd (cc)
+dooms_are w n r k d false false weak true strong = refl
+dooms_are w n r k d false false weak false strong = refl
+
+-- its entries
+death_gives : {D : Type 0} {stands turns probes faults : D → ℕ} (h : Inside D) (k tag : ℕ) (grip : Gripped D Done) → IsReturned stands turns probes faults h (ForCommand k) tag grip → has_died grip.stage.told ≡ true → IsWhole stands turns probes faults h
+    → returned_entries (open_of h) grip (ForCommand k) ≡ death_entries grip.slip k (death_of h grip.slip k)
+death_gives h k tag grip returned died whole =
+    ap (λ x. returned_by x) (died_told grip.stage.told died)
+    ∙ (λ i. Fell (device_is i) ∷ Did (run_no r) k Down ∷ dooms i)
+  where
+    w : Setting
+    w = h.history.setting
+
+    n : Reading
+    n = read_in h.history
+
+    r : ℕ
+    r = grip.slip.maker
+
+    c : Command
+    c = command_at w.runs r k
+
+    returned_by : Told → List Entry
+    returned_by told = returned_entries (open_of h) (record grip { stage = record { told = told } }) (ForCommand k)
+
+    for : IsForCommand (open_of h) grip.slip grip.task k
+    for = for_command _ _ _ _ (open_of h) grip.slip grip.task k whole.shown returned.there returned.purpose
+
+    device_is : c.device ≡ grip.slip.device
+    device_is = λ i. record { 0 = for.on i }
+
+    dooms : (if is_doomed n r then [] else (if did n r c.device.0 && not (is_weak w.mode) then Doomed (run_no r) (Lost c.device) ∷ [] else (if c.must then Doomed (run_no r) (MustDown k) ∷ [] else []))) ≡ option_to_list (option_map (λ x. Doomed (run_no r) x) (death_of h grip.slip k))
+    dooms = dooms_are w n r k c.device (is_doomed n r) (did n r c.device.0) (is_weak w.mode) c.must whole.shown.configuration.stage.strong
+        ∙ ap (λ b. option_to_list (option_map (λ x. Doomed (run_no r) x) (died_by w n r k b))) (sym (dead_turn h k tag grip returned whole).0)
+
+-- it tells the failure of the device, and then of the run alone
+death_tells : {D : Type 0} {stands turns probes faults : D → ℕ} (h : Inside D) (k tag : ℕ) (grip : Gripped D Done) → IsReturned stands turns probes faults h (ForCommand k) tag grip → has_died grip.stage.told ≡ true → IsWhole stands turns probes faults h
+    → TellsTurn stands turns probes faults h grip.slip grip.task (Fell grip.slip.device) (answer_entries grip.slip.maker k Down (death_of h grip.slip k)) grip.device (value_after grip.task (device_at h.devices.items grip.slip.device.0).held) (fallen_by grip.stage.told (device_at h.devices.items grip.slip.device.0).events) (max h.moment 0)
+death_tells {stands = stands} {turns = turns} {probes = probes} {faults = faults} h k tag grip returned died whole = record {
+  comes = subst (λ es. ComesBack stands turns probes faults (open_of h) grip.slip grip.task es grip.device (value_after grip.task (device_at h.devices.items grip.slip.device.0).held) (fallen_by grip.stage.told (device_at h.devices.items grip.slip.device.0).events) (max h.moment 0)) (death_gives h k tag grip returned died whole) (returned_comes h 0 (ForCommand k) tag grip returned whole);
+  leave = by_cause (death_of h grip.slip k);
+}
+  where
+    fell : Reading
+    fell = entry h.history.setting (read_in h.history) (Fell grip.slip.device)
+
+    by_cause : (c : Option Cause) → (fold (entry h.history.setting) fell (answer_entries grip.slip.maker k Down c)).line ≡ fell.line
+    by_cause None = refl
+    by_cause (Some c) = refl
+
+-- the device may fail
+pub death_may : {D : Type 0} {stands turns probes faults : D → ℕ} (h : Inside D) (k tag number : ℕ) (grip : Gripped D Done) (slip : Slip) → IsReturned stands turns probes faults h (ForCommand k) tag grip → slip ≡ grip.slip → has_died grip.stage.told ≡ true → number ≡ (device_at h.devices.items slip.device.0).events.fell + 1 → IsWhole stands turns probes faults h
+    → MayTurn true (Failed slip.device number) h.history.spare slip.device h.order.line h.order.table
+death_may h k tag number grip slip returned same died number_is whole =
+    let below = returned_below h (ForCommand k) tag grip returned whole in
+    subst (λ (z : Slip). MayTurn true (Failed z.device number) h.history.spare z.device h.order.line h.order.table) (sym same)
+    (may_fall h grip.slip grip.task grip.slip.device (answer_entries grip.slip.maker k Down (death_of h grip.slip k)) grip.device _ _ _ number (death_tells h k tag grip returned died whole) below (number_is ∙ ap (λ (z : Slip). (device_at h.devices.items z.device.0).events.fell + 1) same ∙ ap (λ x. x + 1) (counted_so h grip.slip.device.0 below whole).0) whole)
+
+-- what is known when its failure is noted, so that its run may be answered and doomed
+pub record AfterDeath (k : ℕ) (slip : Slip) (cause : Option Cause) (fell : HistoryState) (table : List LineageState) : Type 0 where
+  pub run : is_run fell.setting.runs slip.maker ≡ true
+  pub there : k < length (commands_of fell.setting.runs slip.maker)
+  pub room : 0 < fell.spare
+  pub few : next_of (read_in fell) slip.maker < 2147483648
+  pub next : k ≡ next_of (read_in fell) slip.maker
+  pub on : (command_at fell.setting.runs slip.maker k).device.0 ≡ slip.device.0
+  pub device : slip.device.0 < length table
+  pub turn : MayNote slip.maker (lineage_at table slip.device.0)
+  pub doom_room : IsSome cause → 1 < fell.spare
+
+pub after_death : {D : Type 0} {stands turns probes faults : D → ℕ} (h : Inside D) (k tag : ℕ) (grip : Gripped D Done) (slip : Slip) (first : Bool) (cause : Option Cause) (fell : HistoryState) (table : List LineageState) → IsReturned stands turns probes faults h (ForCommand k) tag grip → slip ≡ grip.slip → has_died grip.stage.told ≡ true
+    → first ≡ dead_first h slip → cause ≡ died_by h.history.setting (read_in h.history) slip.maker k first → fell ≡ with_entry h.history slip.maker (Fell slip.device) → table ≡ with_lineage h.order.table slip.device.0 (counted_up false) → IsWhole stands turns probes faults h → AfterDeath k slip cause fell table
+after_death h k tag grip slip first cause fell table returned same died first_is because told counted whole =
+    subst (λ (z : Slip). AfterDeath k z cause fell table) (sym same)
+    (subst (λ c. AfterDeath k grip.slip c fell table) (sym cause_is)
+    (subst (λ (x : HistoryState). AfterDeath k grip.slip (death_of h grip.slip k) x table) (sym told_is)
+    (subst (λ (x : List LineageState). AfterDeath k grip.slip (death_of h grip.slip k) (with_entry h.history r (Fell grip.slip.device)) x) (sym counted_is) (record {
+      run = for.run;
+      there = for.within;
+      room = let some : 2 ≤ h.history.spare = omega (arith, places, long (death_of h grip.slip k)) in omega (arith, some);
+      few = let next = next_is in omega (arith, next, for.few);
+      next = next_is;
+      on = for.on;
+      device = let size = length_set h.order.table grip.slip.device.0 (counted_up false) in let devices : length h.order.table ≡ length h.history.setting.first = whole.order.table_is.devices in omega (arith, below, size, devices);
+      turn = subst (λ (s : LineageState). MayNote r s) (sym (lineage_set h.order.table grip.slip.device.0 (counted_up false) (let devices : length h.order.table ≡ length h.history.setting.first = whole.order.table_is.devices in omega (arith, below, devices)))) (counted_turn (dead_turn h k tag grip returned whole).1);
+      doom_room = λ some. doomed_room (death_of h grip.slip k) some places;
+    }))))
+  where
+    r : ℕ
+    r = grip.slip.maker
+
+    for : IsForCommand (open_of h) grip.slip grip.task k
+    for = for_command _ _ _ _ (open_of h) grip.slip grip.task k whole.shown returned.there returned.purpose
+
+    below : grip.slip.device.0 < length h.history.setting.first
+    below = returned_below h (ForCommand k) tag grip returned whole
+
+    told_is : fell ≡ with_entry h.history r (Fell grip.slip.device)
+    told_is = told ∙ ap (λ (z : Slip). with_entry h.history z.maker (Fell z.device)) same
+
+    cause_is : cause ≡ death_of h grip.slip k
+    cause_is = because ∙ ap (λ b. died_by h.history.setting (read_in h.history) slip.maker k b) first_is ∙ ap (λ (z : Slip). death_of h z k) same
+
+    counted_is : table ≡ with_lineage h.order.table grip.slip.device.0 (counted_up false)
+    counted_is = counted ∙ ap (λ (z : Slip). with_lineage h.order.table z.device.0 (counted_up false)) same
+
+    places : length (death_entries grip.slip k (death_of h grip.slip k)) ≤ h.history.spare
+    places = subst (λ es. length es ≤ h.history.spare) (death_gives h k tag grip returned died whole) (returned_places h (ForCommand k) tag grip returned whole)
+
+    long : (c : Option Cause) → 2 ≤ length (death_entries grip.slip k c)
+    long None = omega arith
+    long (Some c) = omega arith
+
+    doomed_room : (c : Option Cause) → IsSome c → length (death_entries grip.slip k c) ≤ h.history.spare → 1 < h.history.spare - 1
+    doomed_room None none fits = absurd (cc none)
+    doomed_room (Some c) some fits = let three : 3 ≤ h.history.spare = fits in omega (arith, three)
+
+    next_is : k ≡ next_of (read_in (with_entry h.history r (Fell grip.slip.device))) r
+    next_is = for.next ∙ sym (ap (λ x. next_of x r) (read_more h.history.setting h.history.history r (Fell grip.slip.device)))
+
+    counted_turn : {s : LineageState} → MayNote r s → MayNote r (counted_up false s)
+    counted_turn {s = s} may = record { status = may.status; first = λ e. let waiting : IsWaiting r s = may.first e in record { scheduled = waiting.scheduled; none_acquired = waiting.none_acquired } }
+
+-- what the code wrote of it
+pub record IsDead {D : Type 0} (h : Inside D) (grip : Gripped D Done) (k : ℕ) (slip : Slip) (first : Bool) (cause : Option Cause) (fell mid after : HistoryState) : Type 0 where
+  pub same : slip ≡ grip.slip
+  pub died : has_died grip.stage.told ≡ true
+  pub first_is : first ≡ dead_first h slip
+  pub because : cause ≡ died_by h.history.setting (read_in h.history) slip.maker k first
+  pub told : fell ≡ with_entry h.history slip.maker (Fell slip.device)
+  pub answered : mid ≡ with_entry fell slip.maker (Did (run_no slip.maker) k Down)
+  pub doomed : after ≡ with_doom mid slip.maker cause
+
+pub died_back : {D : Type 0} {stands turns probes faults : D → ℕ} (h t : Inside D) (m value k tag : ℕ) (events : Events) (grip : Gripped D Done) (slip : Slip) (first : Bool) (cause : Option Cause) (fell mid : HistoryState) → IsReturned stands turns probes faults h (ForCommand k) tag grip → IsHomeAgain h t m value events grip → IsDead h grip k slip first cause fell mid t.history → IsWhole stands turns probes faults h
+    → CameHome stands turns probes faults h t m value events (ForCommand k) tag grip (death_entries slip k cause)
+died_back h t m value k tag events grip slip first cause fell mid returned home dead whole =
+    record {
+      returned = returned;
+      home = home;
+      gives = death_gives h k tag grip returned dead.died whole
+          ∙ ap (λ (z : Slip). death_entries z k (death_of h z k)) (sym dead.same)
+          ∙ ap (λ b. death_entries slip k (died_by h.history.setting (read_in h.history) slip.maker k b)) (sym dead.first_is)
+          ∙ ap (death_entries slip k) (sym dead.because);
+      history_is = dead.doomed ∙ ap (λ (y : HistoryState). with_doom y slip.maker cause) (dead.answered ∙ ap (λ (y : HistoryState). with_entry y slip.maker (Did (run_no slip.maker) k Down)) dead.told)
+          ∙ answered_more (with_entry h.history slip.maker (Fell slip.device)) slip.maker k Down cause
+          ∙ more_after h.history slip.maker (Fell slip.device) (answer_entries slip.maker k Down cause)
+          ∙ ap (λ (y : Slip). with_more h.history y.maker (death_entries slip k cause)) dead.same;
+    }
+
+-- the entries that the code made are these
+pub death_made : (slip : Slip) (k : ℕ) (cause : Option Cause) (e f : Entry) (o : Option Entry) → e ≡ Fell slip.device → f ≡ Did (run_no slip.maker) k Down → o ≡ option_map (λ c. Doomed (run_no slip.maker) c) cause → entries_made (record { a = Some e; b = Some f; c = o }) ≡ death_entries slip k cause
+death_made slip k cause e f o fell_is answer_is made = (λ i. entries_made (record { a = Some (fell_is i); b = Some (answer_is i); c = made i })) ∙ by_cause cause
+  where
+    by_cause : (c : Option Cause) → entries_made (record { a = Some (Fell slip.device); b = Some (Did (run_no slip.maker) k Down); c = option_map (λ z. Doomed (run_no slip.maker) z) c }) ≡ death_entries slip k c
+    by_cause None = refl
+    by_cause (Some c) = refl
+
+-- Line and table
+
+-- a command is answered Down whose device died, and its run is then doomed where there is a cause
+order_dies : {rounds : ℕ} (h h₁ h₂ h₃ : HistoryState) (g f : Grips) (held : ℕ → ℕ) (d : DeviceNo) (r k number : ℕ) (first last : Bool) (cause : Option Cause) (line fallen mid after : Marked) (table between noted later : List LineageState)
+    → IsRead h.setting (read_in h) → is_weak h.setting.mode ≡ false → OrderIsKept h.setting (read_in h) g held → IsWellFormed h.setting (entries_of h.history) → is_device h.setting d.0 ≡ true → is_run h.setting.runs r ≡ true → g d.0 ≡ Some (record { maker = r; purpose = Commands k }) → d.0 < length h.setting.first
+    → h₁ ≡ with_entry h r (Fell d) → h₂ ≡ with_entry h₁ r (Did (run_no r) k Down) → h₃ ≡ with_doom h₂ r cause → IsWellFormed h₃.setting (entries_of h₃.history) → f ≡ put g d.0 None
+    → number ≡ (read_in h).fell d.0 + 1 → first ≡ is_first r (lineage_at table d.0) → HasFallen h d (if first then Some (run_no r) else None) number line fallen table between
+    → last ≡ is_done_there h.setting (read_in h) r k → mid ≡ fallen → noted ≡ with_lineage between d.0 (noted_first r (is_first r (lineage_at between d.0)) ViewedDown None last)
+    → after ≡ mid → (cause ≡ None → later ≡ noted) → (IsSome cause → ChangesEach (λ e. doomed_lineage r) noted later)
+    → OrderIsBeside rounds h g line table → OrderIsBeside rounds h₃ f after later
+order_dies {rounds = rounds} h h₁ h₂ h₃ g f held d r k number first last cause line fallen mid after table between noted later read strong order formed device run at below one two three formed_after home number_is first_is fell last_is same notes kept unchanged changed beside =
+    order_doomed_if h₂ h₃ f r cause mid after noted later fit none three formed_after kept unchanged changed
+    (order_died h h₁ h₂ g f held d r k number first last line fallen mid table between noted read strong order formed device at below one two home number_is first_is fell last_is same notes beside)
+  where
+    w : Setting
+    w = h.setting
+
+    n : Reading
+    n = read_in h
+
+    m : Reading
+    m = entry w (entry w n (Fell d)) (Did (run_no r) k Down)
+
+    reads : (h₂.setting ≡ w) × (read_in h₂ ≡ m)
+    reads = (
+      ap (λ (x : HistoryState). x.setting) two ∙ ap (λ (x : HistoryState). x.setting) one,
+      ap read_in two ∙ ap (λ (x : HistoryState). read_in (with_entry x r (Did (run_no r) k Down))) one ∙ read_more w (with_entry h r (Fell d)).history r (Did (run_no r) k Down) ∙ ap (λ x. entry w x (Did (run_no r) k Down)) (read_more w h.history r (Fell d)),
+    )
+
+    fit : GripsFit h₂.setting (read_in h₂) f
+    fit = subst (λ x. GripsFit x (read_in h₂) f) (sym reads.0) (subst (λ x. GripsFit w x f) (sym reads.1) (subst (GripsFit w m) (sym home)
+        (home_fits w n m g d.0 r (Commands k) (λ q ne. put_other n.run r _ q ne) run at order.grips)))
+
+    none : (e : ℕ) → grips_command f r e ≡ false
+    none e = ap (λ x. grips_command x r e) home ∙ none_out w n g d.0 r (Commands k) run at order.grips e
+
+-- what line and table note of it
+pub record DeathNoted {D : Type 0} (h t : Inside D) (slip : Slip) (number : ℕ) (first : Bool) (died : Option RunNo) (cause : Option Cause) (mid : HistoryState) (view : View) (wrote : Option ℕ) (last : Bool) (fallen noted : KeptOrder) : Type 0 where
+  pub died_is : died ≡ (if first then Some (run_no slip.maker) else None)
+  pub fell : HasFallen h.history slip.device died number h.order.line fallen.line h.order.table fallen.table
+  pub number_is : number ≡ (device_at h.devices.items slip.device.0).events.fell + 1
+  pub view_is : view ≡ ViewedDown
+  pub wrote_is : wrote ≡ None
+  pub last_is : last ≡ (is_doomed (read_in mid) slip.maker || not (pends mid.setting (read_in mid) slip.maker slip.device.0))
+  pub line : noted.line ≡ fallen.line
+  pub table : noted.table ≡ with_lineage fallen.table slip.device.0 (noted_first slip.maker (is_first slip.maker (lineage_at fallen.table slip.device.0)) view wrote last)
+  pub line_after : t.order.line ≡ noted.line
+  pub unchanged : cause ≡ None → t.order.table ≡ noted.table
+  pub changed : IsSome cause → ChangesEach (λ d. doomed_lineage slip.maker) noted.table t.order.table
+
+-- .. as its own slip says
+order_dead : {D : Type 0} {stands turns probes faults : D → ℕ} (h t : Inside D) (m value k tag number : ℕ) (events : Events) (grip : Gripped D Done) (first : Bool) (died : Option RunNo) (cause : Option Cause) (fell mid : HistoryState) (view : View) (wrote : Option ℕ) (last : Bool) (fallen noted : KeptOrder)
+    → IsReturned stands turns probes faults h (ForCommand k) tag grip → IsHomeAgain h t m value events grip → IsDead h grip k grip.slip first cause fell mid t.history → DeathNoted h t grip.slip number first died cause mid view wrote last fallen noted
+    → IsWellFormed t.history.setting (entries_of t.history.history) → (configuration_of (open_of t)).grips ≡ put (configuration_of (open_of h)).grips grip.slip.device.0 None → IsWhole stands turns probes faults h → OrderIsBeside h.rounds t.history (configuration_of (open_of t)).grips t.order.line t.order.table
+order_dead {D = D} h t m value k tag number events grip first died cause fell mid view wrote last fallen noted returned home dead notes formed gripped whole =
+    order_dies h.history fell mid t.history (configuration_of (open_of h)).grips (configuration_of (open_of t)).grips (held_in (open_of h)) grip.slip.device r k number first last cause h.order.line fallen.line noted.line t.order.line h.order.table fallen.table noted.table t.order.table
+    (read_whole h whole) whole.shown.configuration.stage.strong whole.shown.configuration.order whole.shown.configuration.history.well_formed (whole.shown.configuration.order.grips.homed d (ap is_some for.grip)) for.run for.grip below
+    dead.told dead.answered dead.doomed formed gripped (notes.number_is ∙ ap (λ x. x + 1) (counted_so h d below whole).0) dead.first_is
+    (subst (λ o. HasFallen h.history grip.slip.device o number h.order.line fallen.line h.order.table fallen.table) notes.died_is notes.fell)
+    (notes.last_is ∙ (λ i. is_doomed (reads.1 i) r || not (pends (reads.0 i) (reads.1 i) r d)) ∙ done_after w (entry w n (Fell grip.slip.device)) r k Down d for.next for.on)
+    notes.line (notes.table ∙ ap₂ (λ v x. with_lineage fallen.table d (noted_first r (is_first r (lineage_at fallen.table d)) v x last)) notes.view_is notes.wrote_is) notes.line_after notes.unchanged notes.changed whole.order
+  where
+    w : Setting
+    w = h.history.setting
+
+    n : Reading
+    n = read_in h.history
+
+    d : ℕ
+    d = grip.slip.device.0
+
+    r : ℕ
+    r = grip.slip.maker
+
+    for : IsForCommand (open_of h) grip.slip grip.task k
+    for = for_command _ _ _ _ (open_of h) grip.slip grip.task k whole.shown returned.there returned.purpose
+
+    below : d < length w.first
+    below = returned_below h (ForCommand k) tag grip returned whole
+
+    reads : (mid.setting ≡ w) × (read_in mid ≡ entry w (entry w n (Fell grip.slip.device)) (Did (run_no r) k Down))
+    reads = (
+      ap (λ (x : HistoryState). x.setting) dead.answered ∙ ap (λ (x : HistoryState). x.setting) dead.told,
+      ap read_in dead.answered ∙ ap (λ (x : HistoryState). read_in (with_entry x r (Did (run_no r) k Down))) dead.told ∙ read_more w (with_entry h.history r (Fell grip.slip.device)).history r (Did (run_no r) k Down) ∙ ap (λ x. entry w x (Did (run_no r) k Down)) (read_more w h.history.history r (Fell grip.slip.device)),
+    )
+
+-- a command died: what is kept is kept
+pub died_whole : {D : Type 0} {stands turns probes faults : D → ℕ} (h t : Inside D) (m value k tag number : ℕ) (events : Events) (grip : Gripped D Done) (slip : Slip) (first : Bool) (died : Option RunNo) (cause : Option Cause) (fell mid : HistoryState) (view : View) (wrote : Option ℕ) (last : Bool) (fallen noted : KeptOrder)
+    → IsReturned stands turns probes faults h (ForCommand k) tag grip → IsHomeAgain h t m value events grip → IsDead h grip k slip first cause fell mid t.history → DeathNoted h t slip number first died cause mid view wrote last fallen noted → IsWhole stands turns probes faults h → IsWhole stands turns probes faults t
+died_whole h t m value k tag number events grip slip first died cause fell mid view wrote last fallen noted returned home dead notes whole =
+    came_whole h t m value events (ForCommand k) tag grip (death_entries slip k cause) (died_back h t m value k tag events grip slip first cause fell mid returned home dead whole)
+    (λ formed gripped. order_dead h t m value k tag number events grip first died cause fell mid view wrote last fallen noted returned home
+    (subst (λ (z : Slip). IsDead h grip k z first cause fell mid t.history) dead.same dead) (subst (λ (z : Slip). DeathNoted h t z number first died cause mid view wrote last fallen noted) dead.same notes) formed gripped whole) whole
+
+-- An undo
+
+abbrev pub dropped_entries : Slip → List Entry
+dropped_entries slip = Fell slip.device ∷ Undid (run_no slip.maker) slip.device false ∷ []
+
+drop_gives : {D : Type 0} (h : Inside D) (v : ℕ) (grip : Gripped D Done) → has_died grip.stage.told ≡ true → returned_entries (open_of h) grip (ForUndo v) ≡ dropped_entries grip.slip
+drop_gives {D = D} h v grip died = ap (λ x. returned_by x) (died_told grip.stage.told died)
+  where
+    returned_by : Told → List Entry
+    returned_by told = returned_entries (open_of h) (record grip { stage = record { told = told } }) (ForUndo v)
+
+drop_tells : {D : Type 0} {stands turns probes faults : D → ℕ} (h : Inside D) (v tag : ℕ) (grip : Gripped D Done) → IsReturned stands turns probes faults h (ForUndo v) tag grip → has_died grip.stage.told ≡ true → IsWhole stands turns probes faults h
+    → TellsTurn stands turns probes faults h grip.slip grip.task (Fell grip.slip.device) (Undid (run_no grip.slip.maker) grip.slip.device false ∷ []) grip.device (value_after grip.task (device_at h.devices.items grip.slip.device.0).held) (fallen_by grip.stage.told (device_at h.devices.items grip.slip.device.0).events) (max h.moment 0)
+drop_tells {stands = stands} {turns = turns} {probes = probes} {faults = faults} h v tag grip returned died whole = record {
+  comes = subst (λ es. ComesBack stands turns probes faults (open_of h) grip.slip grip.task es grip.device (value_after grip.task (device_at h.devices.items grip.slip.device.0).held) (fallen_by grip.stage.told (device_at h.devices.items grip.slip.device.0).events) (max h.moment 0)) (drop_gives h v grip died) (returned_comes h 0 (ForUndo v) tag grip returned whole);
+  leave = refl;
+}
+
+-- the device may fail
+pub drop_may : {D : Type 0} {stands turns probes faults : D → ℕ} (h : Inside D) (v tag number : ℕ) (grip : Gripped D Done) (slip : Slip) → IsReturned stands turns probes faults h (ForUndo v) tag grip → slip ≡ grip.slip → has_died grip.stage.told ≡ true → number ≡ (device_at h.devices.items slip.device.0).events.fell + 1 → IsWhole stands turns probes faults h
+    → MayTurn true (Failed slip.device number) h.history.spare slip.device h.order.line h.order.table
+drop_may h v tag number grip slip returned same died number_is whole =
+    let below = returned_below h (ForUndo v) tag grip returned whole in
+    subst (λ (z : Slip). MayTurn true (Failed z.device number) h.history.spare z.device h.order.line h.order.table) (sym same)
+    (may_fall h grip.slip grip.task grip.slip.device (Undid (run_no grip.slip.maker) grip.slip.device false ∷ []) grip.device _ _ _ number (drop_tells h v tag grip returned died whole) below (number_is ∙ ap (λ (z : Slip). (device_at h.devices.items z.device.0).events.fell + 1) same ∙ ap (λ x. x + 1) (counted_so h grip.slip.device.0 below whole).0) whole)
+
+-- behind the failure there is a place for the undo
+pub drop_place : {D : Type 0} {stands turns probes faults : D → ℕ} (h : Inside D) (v tag : ℕ) (grip : Gripped D Done) (slip : Slip) (fell : HistoryState) → IsReturned stands turns probes faults h (ForUndo v) tag grip → has_died grip.stage.told ≡ true → fell ≡ with_entry h.history slip.maker (Fell slip.device) → IsWhole stands turns probes faults h → 0 < fell.spare
+drop_place h v tag grip slip fell returned died told whole =
+    let places : length (dropped_entries grip.slip) ≤ h.history.spare = subst (λ es. length es ≤ h.history.spare) (drop_gives h v grip died) (returned_places h (ForUndo v) tag grip returned whole) in
+    let two : 2 ≤ h.history.spare = places in
+    let left : fell.spare ≡ h.history.spare - 1 = ap (λ (y : HistoryState). y.spare) told in
+    omega (arith, two, left)
+
+-- what the code wrote of it
+pub record IsDropped {D : Type 0} (h t : Inside D) (grip : Gripped D Done) (slip : Slip) (number : ℕ) (fell : HistoryState) : Type 0 where
+  pub same : slip ≡ grip.slip
+  pub died : has_died grip.stage.told ≡ true
+  pub told : fell ≡ with_entry h.history slip.maker (Fell slip.device)
+  pub undone : t.history ≡ with_entry fell slip.maker (Undid (run_no slip.maker) slip.device false)
+  pub falls : HasFallen h.history slip.device None number h.order.line t.order.line h.order.table t.order.table
+  pub number_is : number ≡ (device_at h.devices.items slip.device.0).events.fell + 1
+
+pub dropped_back : {D : Type 0} {stands turns probes faults : D → ℕ} (h t : Inside D) (m value v tag number : ℕ) (events : Events) (grip : Gripped D Done) (slip : Slip) (fell : HistoryState) → IsReturned stands turns probes faults h (ForUndo v) tag grip → IsHomeAgain h t m value events grip → IsDropped h t grip slip number fell
+    → CameHome stands turns probes faults h t m value events (ForUndo v) tag grip (dropped_entries slip)
+dropped_back h t m value v tag number events grip slip fell returned home drops =
+    record {
+      returned = returned;
+      home = home;
+      gives = drop_gives h v grip drops.died ∙ ap dropped_entries (sym drops.same);
+      history_is = drops.undone ∙ ap (λ (y : HistoryState). with_entry y slip.maker (Undid (run_no slip.maker) slip.device false)) drops.told
+          ∙ more_after h.history slip.maker (Fell slip.device) (Undid (run_no slip.maker) slip.device false ∷ [])
+          ∙ ap (λ (y : Slip). with_more h.history y.maker (dropped_entries slip)) drops.same;
+    }
+
+pub dropped_whole : {D : Type 0} {stands turns probes faults : D → ℕ} (h t : Inside D) (m value v tag number : ℕ) (events : Events) (grip : Gripped D Done) (slip : Slip) (fell : HistoryState) → IsReturned stands turns probes faults h (ForUndo v) tag grip → IsHomeAgain h t m value events grip → IsDropped h t grip slip number fell → IsWhole stands turns probes faults h → IsWhole stands turns probes faults t
+dropped_whole h t m value v tag number events grip slip fell returned home drops whole =
+    came_whole h t m value events (ForUndo v) tag grip (dropped_entries slip) (dropped_back h t m value v tag number events grip slip fell returned home drops)
+    (λ formed gripped. order_dropped_dead (subst (λ (z : Slip). IsDropped h t grip z number fell) drops.same drops) gripped) whole
+  where
+    order_dropped_dead : IsDropped h t grip grip.slip number fell → (configuration_of (open_of t)).grips ≡ put (configuration_of (open_of h)).grips grip.slip.device.0 None → OrderIsBeside h.rounds t.history (configuration_of (open_of t)).grips t.order.line t.order.table
+    order_dropped_dead own gripped =
+        let for = returned_for h (ForUndo v) tag grip returned whole in
+        let below = returned_below h (ForUndo v) tag grip returned whole in
+        order_undo_died h.history fell t.history (configuration_of (open_of h)).grips (configuration_of (open_of t)).grips (held_in (open_of h)) grip.slip.device grip.slip.maker v number h.order.line t.order.line h.order.table t.order.table
+        (read_whole h whole) whole.shown.configuration.stage.strong whole.shown.configuration.order whole.shown.configuration.history.well_formed (whole.shown.configuration.order.grips.homed grip.slip.device.0 (ap is_some for.grip)) for.grip below
+        own.told own.undone gripped (own.number_is ∙ ap (λ x. x + 1) (counted_so h grip.slip.device.0 below whole).0) own.falls whole.order

@@ -1,0 +1,287 @@
+-- A device that goes out keeps what the type of a hub keeps, for whom it goes.
+use Rattle.std.specs.Option.{option_copied}
+use Rattle.device_gate.specs.Calls.{probed}
+use Rattle.device_gate.specs.Grips.{Gripped}
+use Rattle.device_gate.specs.declared.grips.Ready.{Ready}
+use Rattle.device_gate.specs.Places.{IsHome}
+use Rattle.device_gate.specs.declared.gates.Place.TheVariants.{Home, Out}
+use Rattle.device_gate.specs.declared.gates.Place.{Place}
+use Rattle.device_gate.specs.declared.slips.Slip.{Slip}
+use Rattle.device_gate.specs.declared.slips.Task.{Task}
+use Rattle.device_states.specs.Devices.{HasRoom}
+use Rattle.std.specs.Borrow.{Bor}
+use Rattle.history_book.specs.Histories.{entries_of, is_fall_of}
+use Rattle.history_book.specs.Readings.{put}
+use Rattle.history_book.specs.Settings.{Setting, is_device}
+use Rattle.history_book.specs.declared.entries.Kept.{Kept}
+use Rattle.hub_core.proofs.calls.HubChanges.{few_entries, task_same}
+use Rattle.hub_core.proofs.kept.HubReads.{get_set}
+use Rattle.hub_core.proofs.calls.HubStates.{carried_set, device_here, device_there, grips_set, known_same, known_set}
+use Rattle.hub_core.proofs.kept.Sizes.{count_cons}
+use Rattle.hub_core.specs.AccountedCalls.{tells_call, told_calls, told_falls}
+use Rattle.hub_core.specs.Homes.{CountsAreLow}
+use Rattle.home_types.specs.Kinds.{has_value, kind_at}
+use Rattle.hub_core.specs.HubKept.{ConfigurationIsKept, probes_of}
+use Rattle.hub_core.specs.HubSteps.{carrying, task_of}
+use Rattle.hub_core.specs.HubsKept.{FitsAtHome, FitsOut, HubIsKept, all_probes_taken, is_away}
+use Rattle.hub_core.specs.OpenHubs.{OpenHub, configuration_of, device_at, grip_in, held_in, no_device, purpose_of, state_of}
+use Rattle.hub_core.specs.declared.known.DeviceProgress.{DeviceProgress}
+use Rattle.hub_core.specs.declared.purposes.Purpose.{Purpose as KeptPurpose}
+use Rattle.lock_leasing.specs.Configurations.{Grip, is_out, read_of}
+use Rattle.std.proofs.Common.{ap, ap₂, arith, cond, inl, inr, refl, subst, sym, ◌∙◌}
+use Rattle.std.proofs.lemmas.Grind.{common_steps}
+use Rattle.std.proofs.lemmas.List.{length-set}
+use Rattle.std.proofs.lemmas.List.Sums.{count_by-le-length, sum_by-le, sum_by-set}
+use Rattle.std.proofs.lemmas.Nat.{mul-le}
+use Rattle.std.proofs.lemmas.Option.{slice_get_within}
+use Rattle.std.specs.Prelude.{Bool, IsTrue, List, None, Option, Some, [], count_by, false, is_some, length, nat_lt, slice_get, slice_set, suc, sum_by, true, zero, ℕ, ⊤, ◌*◌, ◌+◌, ◌-◌, ◌<◌, ◌∷◌, ◌≡◌, ◌≤◌}
+
+-- one where it is so, else none
+abbrev pub one_for : Bool → ℕ
+one_for b = cond b 1 0
+
+pub gone_past : {A : Type 0} (xs : List A) (i : ℕ) → slice_get xs i ≡ None → length xs ≤ i
+gone_past [] i none = omega arith
+gone_past (x ∷ xs) zero none = absurd (cc)
+gone_past (x ∷ xs) (suc i) none = omega (arith, gone_past xs i none)
+
+pub device_within : (w : Setting) (d : ℕ) → is_device w d ≡ true → d < length w.first
+device_within w d home = grind (arith, common_steps)
+
+-- a device that is not out is home
+pub home_place : {D : Type 0} (s : OpenHub D) (d : ℕ) → d < length s.places → is_out (configuration_of s).grips d ≡ false → IsHome s.places d
+home_place {D = D} s d within home = by_place (slice_get s.places d) refl home
+  where
+    by_place : (o : Option (Place D)) → slice_get s.places d ≡ o → is_some (grip_in o (device_at s.devices d).purpose) ≡ false → IsHome s.places d
+    by_place None at is = absurd (omega (arith, within, gone_past s.places d at))
+    by_place (Some (Home device)) at is = (device, at)
+    by_place (Some (Out slip task)) at is = absurd (cc)
+
+-- so often a device may still be called
+pub has_room : {D : Type 0} (stands turns probes faults : D → ℕ) (s : OpenHub D) (d : ℕ) (device : D) → HubIsKept stands turns probes faults s → slice_get s.places d ≡ Some (Home device) → HasRoom (turns device) (probes device + 1) (faults device)
+has_room stands turns probes faults s d device k at =
+    let fits = k.home d device at in
+    let windows : s.opened < 2147483648 = k.configuration.opens.few_windows in
+    let rounds : s.rounds ≤ 100 = k.configuration.opens.few_rounds in
+    let few = few_entries stands turns probes faults s k in
+    let falls : told_falls (entries_of s.history) d ≤ length s.history = falls_most s.history d in
+    let calls : told_calls s.setting.runs (entries_of s.history) d ≤ length s.history = told_most s.setting s.history d in
+    let had_turns : (device_at s.devices d).at_opening.turns ≤ s.opened * 131072 = (k.low d).few_turns in
+    let had_probes : (device_at s.devices d).at_opening.probes ≤ s.opened * 131072 = (k.low d).few_probes in
+    let had_faults : (device_at s.devices d).at_opening.faults ≤ s.opened * 131072 = (k.low d).few_faults in
+    (omega (arith, fits.turns_are, windows, few, calls, had_turns), omega (arith, fits.probes_are, windows, rounds, had_probes), omega (arith, fits.few_faults, windows, rounds, few, falls, had_faults))
+  where
+    length_entries : (h : List Kept) → length (entries_of h) ≡ length h
+    length_entries [] = refl
+    length_entries (e ∷ h) = ap suc (length_entries h)
+
+    falls_most : (h : List Kept) (e : ℕ) → told_falls (entries_of h) e ≤ length h
+    falls_most h e = let most : told_falls (entries_of h) e ≤ length (entries_of h) = count_by-le-length (is_fall_of e) (entries_of h) in omega (arith, most, length_entries h)
+
+    told_most : (w : Setting) (h : List Kept) (e : ℕ) → told_calls w.runs (entries_of h) e ≤ length h
+    told_most w h e = let most : told_calls w.runs (entries_of h) e ≤ length (entries_of h) = count_by-le-length (tells_call w.runs e) (entries_of h) in omega (arith, most, length_entries h)
+
+pub few_tickets : {D : Type 0} (stands turns probes faults : D → ℕ) (s : OpenHub D) → HubIsKept stands turns probes faults s → s.tickets < 9223372036854775808
+few_tickets stands turns probes faults s k =
+    let few = few_entries stands turns probes faults s k in
+    let tickets : s.tickets ≤ length s.history + count_by is_away s.places + all_probes_taken s = k.few_tickets in
+    let away : count_by is_away s.places ≤ length s.places = count_by-le-length is_away s.places in
+    let taken : all_probes_taken s ≤ length s.devices * s.rounds = sum_by-le (λ (p : DeviceProgress). s.rounds - p.probes_left) s.rounds s.devices (λ i p within. omega arith) in
+    let devices : length s.setting.first ≤ 256 = k.configuration.opens.few_devices in
+    let most : length s.devices * s.rounds ≤ 256 * 100 = mul-le (length s.devices) s.rounds 256 100 (omega (arith, devices, k.devices_size)) k.configuration.opens.few_rounds in
+    omega (arith, few, tickets, away, devices, taken, most, k.places_size)
+
+-- What is kept of another device
+
+pub other_home : {D : Type 0} (stands turns probes faults : D → ℕ) (s : OpenHub D) (x : List Kept) (m : ℕ) (v : List DeviceProgress) (u : List (Place D)) (k e : ℕ) (device : D)
+    → device_at v e ≡ device_at s.devices e
+    → told_calls s.setting.runs (entries_of x) e ≡ told_calls s.setting.runs (entries_of s.history) e
+    → told_falls (entries_of x) e ≡ told_falls (entries_of s.history) e
+    → (read_of (configuration_of (record s { history = x; moment = m; devices = v; places = u; tickets = k }))).up e ≡ (read_of (configuration_of s)).up e
+    → FitsAtHome stands turns probes faults s e device → FitsAtHome stands turns probes faults (record s { history = x; moment = m; devices = v; places = u; tickets = k }) e device
+other_home stands turns probes faults s x m v u k e device known told falls up' fits =
+    record {
+      stand = λ up. fits.stand (sym up' ∙ up) ∙ ap (λ (p : DeviceProgress). p.held) (sym known);
+      turns_are = fits.turns_are ∙ ap₂ (λ (p : DeviceProgress) n. p.at_opening.turns + n) (sym known) (sym told);
+      probes_are = fits.probes_are ∙ ap (λ (p : DeviceProgress). p.at_opening.probes + (s.rounds - p.probes_left)) (sym known);
+      falls_told = subst (λ (p : DeviceProgress). p.at_opening.faults + told_falls (entries_of x) e ≤ faults device) (sym known) (omega (arith, fits.falls_told, falls));
+      few_faults = subst (λ (p : DeviceProgress). faults device ≤ p.at_opening.faults + told_falls (entries_of x) e + (s.rounds - p.probes_left)) (sym known) (omega (arith, fits.few_faults, falls));
+    }
+
+pub other_out : {D : Type 0} (s : OpenHub D) (x : List Kept) (m : ℕ) (v : List DeviceProgress) (u : List (Place D)) (k e : ℕ) (slip : Slip) (task : Task)
+    → device_at v e ≡ device_at s.devices e
+    → told_calls s.setting.runs (entries_of x) e ≡ told_calls s.setting.runs (entries_of s.history) e
+    → told_falls (entries_of x) e ≡ told_falls (entries_of s.history) e
+    → ((read_of (configuration_of s)).run slip.maker).register ≡ ((read_of (configuration_of (record s { history = x; moment = m; devices = v; places = u; tickets = k }))).run slip.maker).register
+    → FitsOut s e slip task → FitsOut (record s { history = x; moment = m; devices = v; places = u; tickets = k }) e slip task
+other_out s x m v u k e slip task known told falls register fits =
+    record {
+      device = fits.device;
+      stand = λ up. fits.stand up ∙ ap (λ (p : DeviceProgress). p.held) (sym known);
+      turns_are = fits.turns_are ∙ ap₂ (λ (p : DeviceProgress) n. p.at_opening.turns + n) (sym known) (sym told);
+      probes_are = fits.probes_are ∙ ap (λ (p : DeviceProgress). p.at_opening.probes + (s.rounds - p.probes_left)) (sym known);
+      falls_told = subst (λ (p : DeviceProgress). p.at_opening.faults + told_falls (entries_of x) e ≤ slip.faults) (sym known) (omega (arith, fits.falls_told, falls));
+      few_faults = subst (λ (p : DeviceProgress). slip.faults + probed task ≤ p.at_opening.faults + told_falls (entries_of x) e + (s.rounds - p.probes_left)) (sym known) (omega (arith, fits.few_faults, falls));
+      does = fits.does ∙ task_same (configuration_of s) (configuration_of (record s { history = x; moment = m; devices = v; places = u; tickets = k })) slip.maker (purpose_of (device_at s.devices e).purpose) refl register
+          ∙ ap (λ (p : DeviceProgress). task_of (configuration_of (record s { history = x; moment = m; devices = v; places = u; tickets = k })) slip.maker (purpose_of p.purpose)) (sym known);
+    }
+
+-- how many are out for a run when one goes out
+count_gone : {D : Type 0} (places : List (Place D)) (d : ℕ) (device : D) (slip : Slip) (task : Task) → slice_get places d ≡ Some (Home device) → count_by is_away (slice_set places d (Out slip task)) ≡ count_by is_away places + one_for (nat_lt 0 slip.maker)
+count_gone [] d device slip task at = absurd (cc)
+count_gone (Home x ∷ places) zero device slip task at =
+    let now = count_cons is_away (Out slip task) places in
+    let before = count_cons is_away (Home x) places in
+    omega (arith, now, before)
+count_gone (Out x y ∷ places) zero device slip task at = absurd (cc)
+count_gone (p ∷ places) (suc d) device slip task at =
+    let now = count_cons is_away p (slice_set places d (Out slip task)) in
+    let before = count_cons is_away p places in
+    let rest = count_gone places d device slip task at in
+    omega (arith, now, before, rest)
+
+-- how many probes were taken of all devices when one has another number left
+taken_of : (rounds : ℕ) (devices : List DeviceProgress) (d : ℕ) (x : DeviceProgress) → d < length devices
+    → sum_by (λ (p : DeviceProgress). rounds - p.probes_left) (slice_set devices d x) + (rounds - (device_at devices d).probes_left) ≡ sum_by (λ (p : DeviceProgress). rounds - p.probes_left) devices + (rounds - x.probes_left)
+taken_of rounds devices d x within = let both = sum_by-set (λ (p : DeviceProgress). rounds - p.probes_left) devices d x no_device within in omega (arith, both)
+
+-- as many were taken where as many are left
+pub taken_same : (rounds : ℕ) (devices : List DeviceProgress) (d : ℕ) (x : DeviceProgress) → x.probes_left ≡ (device_at devices d).probes_left → d < length devices
+    → sum_by (λ (p : DeviceProgress). rounds - p.probes_left) (slice_set devices d x) ≡ sum_by (λ (p : DeviceProgress). rounds - p.probes_left) devices
+taken_same rounds devices d x same within =
+    let both = taken_of rounds devices d x within in
+    let left = ap (λ n. rounds - n) same in
+    omega (arith, both, left)
+
+-- The device goes out
+
+-- for this purpose, with so many of its probes left
+abbrev pub gone : {D : Type 0} → OpenHub D → ℕ → KeptPurpose → ℕ → Slip → Task → ℕ → OpenHub D
+gone s d purpose left slip task t =
+    record s {
+      history = s.history;
+      moment = t;
+      devices = slice_set s.devices d (record (device_at s.devices d) { purpose = purpose; probes_left = left });
+      places = slice_set s.places d (Out slip task);
+      tickets = s.tickets + 1;
+    }
+
+-- its slip is for the maker, and says how it is; a probe is one of those that were left, and a run's device is counted as one that is out
+pub record IsLeaving {D : Type 0} (turns probes faults : D → ℕ) (s : OpenHub D) (r d : ℕ) (purpose : KeptPurpose) (left : ℕ) (device : D) (slip : Slip) (task : Task) : Type 0 where
+  pub number : slip.device.0 ≡ d
+  pub maker : slip.maker ≡ r
+  pub stood : slip.stood ≡ held_in s d
+  pub had_turns : slip.turns ≡ turns device
+  pub had_probes : slip.probes ≡ probes device
+  pub had_faults : slip.faults ≡ faults device
+  pub does : task ≡ task_of (configuration_of s) r (purpose_of purpose)
+  pub probed_so : left + probed task ≡ (device_at s.devices d).probes_left
+  pub ticket : 1 ≤ one_for (nat_lt 0 r) + probed task
+
+pub gone_configuration : {D : Type 0} (s : OpenHub D) (r d left t : ℕ) (purpose : KeptPurpose) (slip : Slip) (task : Task) → slip.maker ≡ r → d < length s.places → d < length s.devices
+    → configuration_of (gone s d purpose left slip task t) ≡ record (configuration_of s) { moment = t; probes = put (configuration_of s).probes d left; grips = put (configuration_of s).grips d (Some (record { maker = r; purpose = purpose_of purpose })) }
+gone_configuration s r d left t purpose slip task maker within known =
+    let known_now = record (device_at s.devices d) { purpose = purpose; probes_left = left } in
+    let probes : ◌≡◌ {A = ℕ → ℕ} (λ e. (device_at (slice_set s.devices d known_now) e).probes_left) (put (configuration_of s).probes d left) = known_set (λ (p : DeviceProgress). p.probes_left) s.devices d known_now known in
+    let grips : ◌≡◌ {A = ℕ → Option Grip} (λ e. grip_in (slice_get (slice_set s.places d (Out slip task)) e) (device_at (slice_set s.devices d known_now) e).purpose) (put (configuration_of s).grips d (Some (record { maker = r; purpose = purpose_of purpose }))) =
+    grips_set s.places s.devices d (Out slip task) known_now within known ∙ ap (λ q. put (configuration_of s).grips d (Some (record { maker = q; purpose = purpose_of purpose }))) maker in
+    λ i. record { setting = s.setting; history = s.history; moment = t; probes = probes i; grips = grips i }
+
+pub gone_kept : {D : Type 0} (stands turns probes faults : D → ℕ) (s : OpenHub D) (r d left t : ℕ) (purpose : KeptPurpose) (device : D) (slip : Slip) (task : Task)
+    → slice_get s.places d ≡ Some (Home device) → IsLeaving turns probes faults s r d purpose left device slip task → ConfigurationIsKept (configuration_of (gone s d purpose left slip task t)) s.rounds s.opened (held_in s)
+    → HubIsKept stands turns probes faults s → HubIsKept stands turns probes faults (gone s d purpose left slip task t)
+gone_kept {D = D} stands turns probes faults s r d left t purpose device slip task at leaves configuration k =
+    record {
+      configuration = subst (λ h. ConfigurationIsKept (configuration_of after) s.rounds s.opened h) held configuration;
+      devices_size = length-set s.devices d known_now ∙ k.devices_size;
+      places_size = length-set s.places d (Out slip task) ∙ k.places_size;
+      home = λ e other there. elim (get_set s.places d e (Out slip task) within) [
+        | inl p ↦ absurd (let both : Some (Out slip task) ≡ Some (Home other) = sym p.1 ∙ there in cc)
+        | inr q ↦ other_home stands turns probes faults s s.history t _ _ _ e other (device_there s.devices d e known_now q.0) refl refl refl (k.home e other (sym q.1 ∙ there))
+      ];
+      out = λ e other does there. elim (get_set s.places d e (Out slip task) within) [
+        | inl p ↦ subst (λ (x : Place D). IsFitting e x) (same_place (Out slip task) (Out other does) (sym p.1 ∙ there)) (subst (λ x. IsFitting x (Out slip task)) (sym p.0) goes)
+        | inr q ↦ other_out s s.history t _ _ _ e other does (device_there s.devices d e known_now q.0) refl refl refl (k.out e other does (sym q.1 ∙ there))
+      ];
+      low = λ e. subst (λ (c : _). CountsAreLow s.opened c.turns c.probes c.faults) (sym (known_same (λ (p : DeviceProgress). p.at_opening) s.devices d known_now known refl e)) (k.low e);
+      values = λ e home. subst (λ v. IsTrue (has_value (kind_at s.setting.kinds e) v)) (sym (known_same (λ (p : DeviceProgress). p.held) s.devices d known_now known refl e)) (k.values e home);
+      events = λ e below. known_same (λ (p : DeviceProgress). p.events) s.devices d known_now known refl e ∙ k.events e below;
+      few_tickets =
+          let few : s.tickets ≤ length s.history + count_by is_away s.places + all_probes_taken s = k.few_tickets in
+          let more : count_by is_away after.places ≡ count_by is_away s.places + one_for (nat_lt 0 r) = count_gone s.places d device slip task at ∙ ap (λ q. count_by is_away s.places + one_for (nat_lt 0 q)) leaves.maker in
+          let taken : all_probes_taken after + (s.rounds - (device_at s.devices d).probes_left) ≡ all_probes_taken s + (s.rounds - left) = taken_of s.rounds s.devices d known_now known in
+          omega (arith, few, more, taken, leaves.probed_so, few_left, leaves.ticket);
+    }
+  where
+    known_now : DeviceProgress
+    known_now = record (device_at s.devices d) { purpose = purpose; probes_left = left }
+
+    after : OpenHub D
+    after = gone s d purpose left slip task t
+
+    within : d < length s.places
+    within = slice_get_within s.places d (Home device) at
+
+    known : d < length s.devices
+    known = omega (arith, within, k.places_size, k.devices_size)
+
+    held : ◌≡◌ {A = ℕ → ℕ} (held_in s) (held_in after)
+    held = sym (λ i e. known_same (λ (p : DeviceProgress). p.held) s.devices d known_now known refl e i)
+
+    few_left : (device_at s.devices d).probes_left ≤ s.rounds
+    few_left = let most : probes_of (configuration_of s) d ≤ s.rounds = k.configuration.probes d in omega (arith, most)
+
+    same_place : (x y : Place D) → Some x ≡ Some y → x ≡ y
+    same_place x y e = cc
+
+    IsFitting : ℕ → Place D → Type 0
+    IsFitting e (Home x) = ⊤
+    IsFitting e (Out x y) = FitsOut after e x y
+
+    goes : FitsOut after d slip task
+    goes =
+        let fits = k.home d device at in
+        let here = device_here s.devices d known_now known in
+        record {
+          device = leaves.number;
+          stand = λ up. leaves.stood ∙ ap (λ (p : DeviceProgress). p.held) (sym here);
+          turns_are = leaves.had_turns ∙ fits.turns_are ∙ ap (λ (p : DeviceProgress). p.at_opening.turns + told_calls s.setting.runs (entries_of s.history) d) (sym here);
+          probes_are =
+              let had : slip.probes ≡ (device_at s.devices d).at_opening.probes + (s.rounds - (device_at s.devices d).probes_left) = leaves.had_probes ∙ fits.probes_are in
+              let now : slip.probes + probed task ≡ (device_at s.devices d).at_opening.probes + (s.rounds - left) = omega (arith, had, leaves.probed_so, few_left) in
+              now ∙ ap (λ (p : DeviceProgress). p.at_opening.probes + (s.rounds - p.probes_left)) (sym here);
+          falls_told = subst (λ (p : DeviceProgress). p.at_opening.faults + told_falls (entries_of s.history) d ≤ slip.faults) (sym here) (omega (arith, fits.falls_told, leaves.had_faults));
+          few_faults = subst (λ (p : DeviceProgress). slip.faults + probed task ≤ p.at_opening.faults + told_falls (entries_of s.history) d + (s.rounds - p.probes_left)) (sym here)
+              (let few : faults device ≤ (device_at s.devices d).at_opening.faults + told_falls (entries_of s.history) d + (s.rounds - (device_at s.devices d).probes_left) = fits.few_faults in
+              omega (arith, few, leaves.had_faults, leaves.probed_so, few_left));
+          does = leaves.does ∙ task_same (configuration_of s) (configuration_of after) r (purpose_of purpose) refl refl
+              ∙ ap₂ (λ q (p : DeviceProgress). task_of (configuration_of after) q (purpose_of p.purpose)) (sym leaves.maker) (sym here);
+        }
+
+pub at_index : (xs : List DeviceProgress) (i : ℕ) (x : DeviceProgress) → slice_get xs i ≡ Some x → device_at xs i ≡ x
+at_index [] i x at = absurd (cc)
+at_index (y ∷ xs) zero x at = cc
+at_index (y ∷ xs) (suc i) x at = at_index xs i x at
+
+-- what a list has at a place is some
+pub is_there : {A : Type 0} (xs : List A) (i : ℕ) (o : Option (Bor A)) → i < length xs → option_copied o ≡ slice_get xs i → is_some o ≡ true
+is_there xs i None less is = absurd (omega (arith, less, gone_past xs i (sym is)))
+is_there xs i (Some x) less is = refl
+
+-- as the hub is seen
+pub gone_carries : {D : Type 0} (s : OpenHub D) (r d left t : ℕ) (purpose : KeptPurpose) (slip : Slip) (task : Task) → task ≡ task_of (configuration_of s) r (purpose_of purpose) → d < length s.places
+    → (state_of (gone s d purpose left slip task t)).carried ≡ carrying (state_of s) r d (purpose_of purpose) slip
+gone_carries s r d left t purpose slip task does within = carried_set s.places d (Out slip task) within ∙ ap (λ x. put (state_of s).carried d (Some (record { slip = slip; task = x }))) does
+
+-- What the gate does as it hands the device out
+pub record IsSent {D : Type 0} (turns probes faults : D → ℕ) (places : List (Place D)) (tickets r d held : ℕ) (task : Task) (grip : Gripped D Ready) (after : List (Place D)) (number : ℕ) : Type 0 where
+  pub at : slice_get places d ≡ Some (Home grip.device)
+  pub after_is : after ≡ slice_set places d (Out grip.slip task)
+  pub number_is : number ≡ tickets + 1
+  pub does : grip.task ≡ task
+  pub device : grip.slip.device.0 ≡ d
+  pub maker : grip.slip.maker ≡ r
+  pub stood : grip.slip.stood ≡ held
+  pub had_turns : grip.slip.turns ≡ turns grip.device
+  pub had_probes : grip.slip.probes ≡ probes grip.device
+  pub had_faults : grip.slip.faults ≡ faults grip.device

@@ -1,0 +1,185 @@
+-- A probe that goes out keeps what the type of a hub keeps, and is the step that it says.
+use Rattle.device_gate.specs.Calls.{is_counted_up}
+use Rattle.device_gate.specs.Grips.{Gripped}
+use Rattle.device_gate.specs.declared.gates.Place.TheVariants.{Home, Out}
+use Rattle.device_gate.specs.declared.grips.Ready.{Ready}
+use Rattle.device_gate.specs.declared.slips.Task.TheVariants.{Probe}
+use Rattle.history_book.specs.Readings.{put}
+use Rattle.history_book.specs.Settings.{is_device}
+use Rattle.hub_core.proofs.calls.Departures.{IsLeaving, IsSent, at_index, device_within, gone, gone_carries, gone_configuration, gone_kept}
+use Rattle.hub_core.proofs.calls.HubStates.{known_same}
+use Rattle.hub_core.proofs.kept.Hands.{probe_goes}
+use Rattle.hub_core.proofs.kept.ProbeSteps.{order_probe_out}
+use Rattle.hub_core.proofs.kept.ProbesKept.{take_probe_kept}
+use Rattle.hub_core.proofs.kept.TableStands.{stand_told}
+use Rattle.hub_core.proofs.calls.HubOrders.{standing_whole}
+use Rattle.hub_core.specs.HubCalls.{IsProbed, SameWindow}
+use Rattle.hub_core.specs.HubKept.{ConfigurationIsKept}
+use Rattle.hub_core.specs.HubSteps.{ProbeTaken, Probed, take_probe, carrying}
+use Rattle.hub_core.specs.HubsKept.{HandsAre, HubIsKept, IsWhole, open_of}
+use Rattle.hub_core.specs.KeptOrders.{OrderIsBeside}
+use Rattle.hub_core.specs.OpenHubs.{OpenHub, configuration_of, device_at, held_in, state_of}
+use Rattle.hub_core.specs.ReadHistories.{read_in}
+use Rattle.hub_core.specs.Steps.{after_take_probe, may_probe, probe_grip, restored}
+use Rattle.hub_core.specs.declared.hubs.Hub.TheInside.{Inside}
+use Rattle.hub_core.specs.declared.known.DeviceProgress.{DeviceProgress}
+use Rattle.hub_core.specs.declared.purposes.Purpose.TheVariants.{Probe as ForProbe}
+use Rattle.lineage_table.specs.Accesses.{IsDisciplined, standing_value as accesses_standing}
+use Rattle.lineage_table.specs.Lineages.{accesses_at, lineage_at}
+use Rattle.lock_leasing.proofs.Facts.{facts_of}
+use Rattle.lock_leasing.specs.Configurations.{Configuration, Grip, Grips, Probes, is_out, read_of}
+use Rattle.lock_leasing.specs.Words.{standing_value}
+use Rattle.std.proofs.Common.{ap, arith, refl, subst, sym, ◌∙◌}
+use Rattle.std.proofs.lemmas.Grind.{common_steps}
+use Rattle.std.proofs.lemmas.Option.{slice_get_within}
+use Rattle.std.specs.Prelude.{Bool, IsTrue, None, Option, Some, false, if◌then◌else◌, is_some, nat_lt, not, slice_get, slice_set, true, ℕ, ◌&&◌, ◌+◌, ◌-◌, ◌≡◌}
+use Rattle.window_order.specs.TableKept.{LineageIsKept}
+
+-- Whether one may go out
+
+-- its parts
+pub record MayGo (s : Configuration) (d : ℕ) : Type 0 where
+  pub device : is_device s.setting d ≡ true
+  pub home : is_out s.grips d ≡ false
+  pub left : nat_lt 0 (s.probes d) ≡ true
+
+pub may_parts : (s : Configuration) (d : ℕ) → may_probe s d ≡ true → MayGo s d
+may_parts s d may = by_parts (is_device s.setting d) (is_out s.grips d) (nat_lt 0 (s.probes d)) refl refl refl may
+  where
+    by_parts : (a b c : Bool) → is_device s.setting d ≡ a → is_out s.grips d ≡ b → nat_lt 0 (s.probes d) ≡ c → (a && not b && c) ≡ true → MayGo s d
+    by_parts true false true x y z h = record { device = x; home = y; left = z }
+    by_parts true false false x y z h = absurd (cc)
+    by_parts true true c x y z h = absurd (cc)
+    by_parts false b c x y z h = absurd (cc)
+
+-- What it restores
+
+-- the value at which the device should stand, as the table tells it, where it is counted down
+pub restores : {D : Type 0} {stands turns probes faults : D → ℕ} (h : Inside D) (s : OpenHub D) (d value : ℕ) (up : Bool) → open_of h ≡ s → ((e : ℕ) → IsDisciplined (accesses_at h.order.table e)) → is_device s.setting d ≡ true → up ≡ (lineage_at h.order.table d).up → up ≡ false → value ≡ accesses_standing (lineage_at h.order.table d).committed (accesses_at h.order.table d)
+    → IsWhole stands turns probes faults h → Some value ≡ restored (configuration_of s) d
+restores {D = D} h s d value up seen disciplined device up_is down value_is k =
+    subst (λ (x : OpenHub D). is_device x.setting d ≡ true → Some value ≡ restored (configuration_of x) d) seen (λ there. as_told (k.order.table_is.each d (device_within h.history.setting d there))) device
+  where
+    as_told : LineageIsKept h.history.setting (read_in h.history) (configuration_of (open_of h)).grips d (lineage_at h.order.table d) → Some value ≡ restored (configuration_of (open_of h)) d
+    as_told own =
+        ap Some (value_is ∙ stand_told h.history.setting (read_in h.history) (configuration_of (open_of h)).grips d (lineage_at h.order.table d) (facts_of (configuration_of (open_of h)) h.order.table h.order.line.marks h.history.history h.history.setting.runs (standing_whole h disciplined k)) k.shown.configuration.stage.strong own)
+        ∙ sym (ap (λ b. if b then None else Some (standing_value h.history.setting (read_in h.history) (configuration_of (open_of h)).grips d)) (sym own.up ∙ sym up_is ∙ down))
+
+-- one that restores nothing is for a device that is counted up
+pub counted_then : (s : Configuration) (d : ℕ) (value : Option ℕ) → value ≡ restored s d → IsTrue (is_counted_up (Probe value)) → (read_of s).up d ≡ true
+counted_then s d value is up = by_up ((read_of s).up d) (subst (λ v. IsTrue (is_counted_up (Probe v))) is up)
+  where
+    by_up : (b : Bool) → IsTrue (is_counted_up (Probe (if b then None else Some (standing_value s.setting (read_of s) s.grips d)))) → b ≡ true
+    by_up true e = refl
+    by_up false e = absurd (cc)
+
+-- The device goes out
+
+-- a probe of the device, of which this was known, goes out with this value: so the parts change
+pub record IsProbedOut {D : Type 0} (turns probes faults : D → ℕ) (h t : Inside D) (d : ℕ) (value : Option ℕ) (known : DeviceProgress) (grip : Gripped D Ready) : Type 0 where
+  pub may : may_probe (configuration_of (open_of h)) d ≡ true
+  pub value_is : value ≡ restored (configuration_of (open_of h)) d
+  pub known_is : slice_get h.devices.items d ≡ Some known
+  pub sent : IsSent turns probes faults h.gate.places h.gate.tickets 0 d known.held (Probe value) grip t.gate.places t.gate.tickets
+  pub devices_are : t.devices.items ≡ slice_set h.devices.items d (record known { purpose = ForProbe value; probes_left = known.probes_left - 1 })
+  pub new : t ≡ record h { devices = t.devices; gate = t.gate }
+
+-- with so many left
+abbrev pub left_of : {D : Type 0} → Inside D → ℕ → ℕ
+left_of h d = (device_at h.devices.items d).probes_left - 1
+
+-- the hub shows it
+probe_shows : {D : Type 0} {turns probes faults : D → ℕ} (h t : Inside D) (d : ℕ) (value : Option ℕ) (known : DeviceProgress) (grip : Gripped D Ready) → IsProbedOut turns probes faults h t d value known grip → open_of t ≡ gone (open_of h) d (ForProbe value) (left_of h d) grip.slip (Probe value) h.moment
+probe_shows {D = D} h t d value known grip out =
+    let devices_now = out.devices_are ∙ ap (λ (p : DeviceProgress). slice_set h.devices.items d (record p { purpose = ForProbe value; probes_left = p.probes_left - 1 })) (sym (at_index h.devices.items d known out.known_is)) in
+    ap (λ (x : Inside D). open_of x) out.new ∙ λ i. record (open_of h) { devices = devices_now i; places = out.sent.after_is i; tickets = out.sent.number_is i }
+
+-- its configuration is the one after the call
+probe_configuration : {D : Type 0} {turns probes faults : D → ℕ} (h t : Inside D) (d : ℕ) (value : Option ℕ) (known : DeviceProgress) (grip : Gripped D Ready) → IsProbedOut turns probes faults h t d value known grip
+    → configuration_of (gone (open_of h) d (ForProbe value) (left_of h d) grip.slip (Probe value) h.moment) ≡ after_take_probe (configuration_of (open_of h)) d
+probe_configuration h t d value known grip out =
+    gone_configuration (open_of h) 0 d (left_of h d) h.moment (ForProbe value) grip.slip (Probe value) out.sent.maker (slice_get_within h.gate.places d (Home grip.device) out.sent.at) (slice_get_within h.devices.items d known out.known_is)
+    ∙ (λ i. record (configuration_of (open_of h)) { probes = put (configuration_of (open_of h)).probes d (left_of h d); grips = put (configuration_of (open_of h)).grips d (Some (record { maker = 0; purpose = Probes (out.value_is i) })) })
+    ∙ sym (ap (λ b. if b then record (configuration_of (open_of h)) { probes = put (configuration_of (open_of h)).probes d (left_of h d); grips = put (configuration_of (open_of h)).grips d (Some (probe_grip (configuration_of (open_of h)) d)) } else configuration_of (open_of h)) out.may)
+
+probe_leaves : {D : Type 0} {turns probes faults : D → ℕ} (h t : Inside D) (d : ℕ) (value : Option ℕ) (known : DeviceProgress) (grip : Gripped D Ready) → IsProbedOut turns probes faults h t d value known grip → IsLeaving turns probes faults (open_of h) 0 d (ForProbe value) (left_of h d) grip.device grip.slip (Probe value)
+probe_leaves h t d value known grip out =
+    record {
+      number = out.sent.device;
+      maker = out.sent.maker;
+      stood = out.sent.stood ∙ ap (λ (p : DeviceProgress). p.held) (sym (at_index h.devices.items d known out.known_is));
+      had_turns = out.sent.had_turns;
+      had_probes = out.sent.had_probes;
+      had_faults = out.sent.had_faults;
+      does = refl;
+      probed_so = one_less (device_at h.devices.items d).probes_left (may_parts (configuration_of (open_of h)) d out.may).left;
+      ticket = omega arith;
+    }
+  where
+    one_less : (x : ℕ) → nat_lt 0 x ≡ true → x - 1 + 1 ≡ x
+    one_less x some = grind (arith, common_steps)
+
+home_is : (g : Grips) (d : ℕ) → is_out g d ≡ false → g d ≡ None
+home_is g d home = by_grip (g d) home
+  where
+    by_grip : (o : Option Grip) → is_some o ≡ false → o ≡ None
+    by_grip None e = refl
+    by_grip (Some x) e = absurd (cc)
+
+-- what is kept is kept then
+pub sent_whole : {D : Type 0} {stands turns probes faults : D → ℕ} (h t : Inside D) (d : ℕ) (value : Option ℕ) (known : DeviceProgress) (grip : Gripped D Ready) → IsProbedOut turns probes faults h t d value known grip → IsWhole stands turns probes faults h → IsWhole stands turns probes faults t
+sent_whole {D = D} {stands = stands} {turns = turns} {probes = probes} {faults = faults} h t d value known grip out k =
+    subst (λ (x : Inside D). IsWhole stands turns probes faults x) (sym out.new) (record {
+      shown = subst (λ (x : OpenHub D). HubIsKept stands turns probes faults x) (sym (probe_shows h t d value known grip out) ∙ ap (λ (x : Inside D). open_of x) out.new)
+          (gone_kept stands turns probes faults (open_of h) 0 d (left_of h d) h.moment (ForProbe value) grip.device grip.slip (Probe value) out.sent.at (probe_leaves h t d value known grip out) configuration k.shown);
+      room = k.room;
+      order = subst (λ (g : Grips). OrderIsBeside h.rounds h.history g h.order.line h.order.table) (ap (λ (x : Inside D). (configuration_of (open_of x)).grips) out.new)
+          (order_probe_out h.history.setting (read_in h.history) (configuration_of (open_of h)).grips (configuration_of (open_of t)).grips d value h.order.line h.order.table home gone_grips k.order);
+      hands = subst (λ (g : Grips). HandsAre h.history.setting g h.hands.items) (ap (λ (x : Inside D). (configuration_of (open_of x)).grips) out.new)
+          (probe_goes h.history.setting (configuration_of (open_of h)).grips (configuration_of (open_of t)).grips d (Probes value) h.hands.items home gone_grips k.hands);
+    })
+  where
+    configuration : ConfigurationIsKept (configuration_of (gone (open_of h) d (ForProbe value) (left_of h d) grip.slip (Probe value) h.moment)) h.rounds h.opened (held_in (open_of h))
+    configuration = subst (λ (c : Configuration). ConfigurationIsKept c h.rounds h.opened (held_in (open_of h))) (sym (probe_configuration h t d value known grip out)) (take_probe_kept (configuration_of (open_of h)) h.rounds h.opened (held_in (open_of h)) d k.shown.configuration)
+
+    home : (configuration_of (open_of h)).grips d ≡ None
+    home = home_is (configuration_of (open_of h)).grips d (may_parts (configuration_of (open_of h)) d out.may).home
+
+    gone_grips : (configuration_of (open_of t)).grips ≡ put (configuration_of (open_of h)).grips d (Some (record { maker = 0; purpose = Probes value }))
+    gone_grips = ap (λ (x : OpenHub D). (configuration_of x).grips) (probe_shows h t d value known grip out)
+        ∙ ap (λ (c : Configuration). c.grips) (gone_configuration (open_of h) 0 d (left_of h d) h.moment (ForProbe value) grip.slip (Probe value) out.sent.maker (slice_get_within h.gate.places d (Home grip.device) out.sent.at) (slice_get_within h.devices.items d known out.known_is))
+
+-- and it is the step that it says
+pub record ProbeSent {D : Type 0} (s t : OpenHub D) (d : ℕ) (grip : Gripped D Ready) : Type 0 where
+  pub probed : IsProbed s d (Some grip) t
+  pub window : SameWindow s t
+
+pub probe_sent : {D : Type 0} {stands turns probes faults : D → ℕ} (h t : Inside D) (s₀ : OpenHub D) (d : ℕ) (value : Option ℕ) (known : DeviceProgress) (grip : Gripped D Ready) → open_of h ≡ s₀ → IsProbedOut turns probes faults h t d value known grip → IsWhole stands turns probes faults h → ProbeSent s₀ (open_of t) d grip
+probe_sent {D = D} h t s₀ d value known grip seen out k =
+    subst (λ (x : OpenHub D). ProbeSent x (open_of t) d grip) seen (subst (λ (x : OpenHub D). ProbeSent (open_of h) x d grip) (sym (probe_shows h t d value known grip out)) (record {
+      probed = (
+        (
+          ap (λ x. Probed (Some x)) (out.sent.does ∙ ap (λ x. Probe x) out.value_is) ∙ ap (λ (x : ProbeTaken). Probed x.task) (sym takes),
+          state ∙ ap (λ (x : ProbeTaken). x.next) (sym takes),
+          (λ may. record { device = out.sent.device; maker = out.sent.maker }),
+        ),
+        out.sent.at,
+        ap (λ x. slice_set h.gate.places d (Out grip.slip x)) (sym out.sent.does),
+      );
+      window = record { setting = refl; rounds = refl; opened = refl; at_opening = known_same (λ (p : DeviceProgress). p.at_opening) h.devices.items d (record (device_at h.devices.items d) { purpose = ForProbe value; probes_left = left_of h d }) (slice_get_within h.devices.items d known out.known_is) refl };
+    }))
+  where
+    s : OpenHub D
+    s = open_of h
+
+    after : OpenHub D
+    after = gone s d (ForProbe value) (left_of h d) grip.slip (Probe value) h.moment
+
+    takes : take_probe (state_of s) d grip.slip ≡ record { task = Some (Probe (restored (configuration_of s) d)); next = record { configuration = after_take_probe (configuration_of s) d; carried = carrying (state_of s) 0 d (Probes (restored (configuration_of s) d)) grip.slip } }
+    takes = ap (λ b. if b then record { task = Some (Probe (restored (configuration_of s) d)); next = record { configuration = after_take_probe (configuration_of s) d; carried = carrying (state_of s) 0 d (Probes (restored (configuration_of s) d)) grip.slip } } else record { task = None; next = state_of s }) out.may
+
+    state : state_of after ≡ record { configuration = after_take_probe (configuration_of s) d; carried = carrying (state_of s) 0 d (Probes (restored (configuration_of s) d)) grip.slip }
+    state =
+        let configuration = probe_configuration h t d value known grip out in
+        let carried = gone_carries s 0 d (left_of h d) h.moment (ForProbe value) grip.slip (Probe value) refl (slice_get_within h.gate.places d (Home grip.device) out.sent.at) ∙ ap (λ v. carrying (state_of s) 0 d (Probes v) grip.slip) out.value_is in
+        λ i. record { configuration = configuration i; carried = carried i }

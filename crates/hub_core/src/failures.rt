@@ -1,0 +1,124 @@
+//! A device fails or comes back: line, table and history are told.
+ghost use Rattle.std.specs.Prelude.{◌≡◌, ◌+◌, ◌<◌, ◌≤◌, ◌^◌, IfSome, IsSome, IsTrue, None, Some, false, if◌then◌else◌, length, option_map, true};
+ghost use Rattle.command_rules.specs.Rosters.{is_run};
+ghost use Rattle.failure_serialization.specs.Events.{lost_run};
+ghost use Rattle.home_types.specs.declared.items.Item.TheVariants.{Back, Failed};
+ghost use Rattle.hub_core.specs.KeptOrders.{HasFallen, HasRisen, IsLostTo, MayTurn};
+ghost use Rattle.hub_core.specs.ReadHistories.{with_entry, with_lost};
+ghost use Rattle.lineage_table.specs.Lineages.{accesses_at};
+
+use crate::kept_orders::KeptOrder;
+use crate::known::Events;
+use crate::read_histories::ReadHistory;
+use failure_serialization::{fell, rose};
+use history_book::{Cause, Entry};
+use home_types::{DeviceNo, List, RunNo};
+
+/// A device has failed.
+#[derive(Clone, Copy, Debug, PartialEq, Eq)]
+pub(crate) struct Failure {
+    pub(crate) entry: Entry,
+    /// The run that is lost.
+    pub(crate) lost: Option<RunNo>,
+}
+
+/// How often a device has failed and come back that fails once more.
+pub(crate) fn fallen(events: Events) -> Events
+    requires { events.fell + 1 < 2 ^ 32 }
+    ensures { result ≡ record events { fell = events.fell + 1 } }
+{
+    Events {
+        fell: events.fell + 1,
+        ..events
+    }
+}
+
+/// How often a device has failed and come back that comes back once more.
+pub(crate) fn risen(events: Events) -> Events
+    requires { events.rose + 1 < 2 ^ 32 }
+    ensures { result ≡ record events { rose = events.rose + 1 } }
+{
+    Events {
+        rose: events.rose + 1,
+        ..events
+    }
+}
+
+/// The run whose first access to a device has died, where this is `first`.
+pub(crate) fn first_death(r: RunNo, first: bool) -> Option<RunNo>
+    ensures { result ≡ (if first then Some r else None) }
+{
+    if first { Some(r) } else { None }
+}
+
+/// The device, which was counted up, has failed for the time of this number, counted from 1: the failure comes into the
+/// line, the device is counted down, and the history tells it.
+pub(crate) fn note_fall(
+    history: &mut ReadHistory,
+    order: &mut KeptOrder,
+    maker: u32,
+    d: DeviceNo,
+    number: u32,
+    first: Option<RunNo>,
+) -> Failure
+    requires may { MayTurn true (Failed d number) history.old.spare d order.old.line order.old.table }
+    ensures entry { result.entry ≡ Entry.Fell d }
+    ensures history { history.new ≡ with_entry history.old maker (Entry.Fell d) }
+    ensures order { HasFallen history.old d first number order.old.line order.new.line order.old.table order.new.table }
+    ensures lost { result.lost ≡ lost_run history.old.history (accesses_at order.old.table d.0) }
+{
+    let lost = fell(
+        &mut order.line,
+        &mut order.table,
+        history.book(),
+        d,
+        number,
+        first,
+    );
+    Failure {
+        entry: history.fall(maker, d),
+        lost,
+    }
+}
+
+/// The device, which was counted down, is back for the time of this number, counted from 1: the restart comes into the
+/// line, the device is counted up, and the history tells it.
+pub(crate) fn note_rise(
+    history: &mut ReadHistory,
+    order: &mut KeptOrder,
+    maker: u32,
+    d: DeviceNo,
+    number: u32,
+) -> Entry
+    requires may { MayTurn false (Back d number) history.old.spare d order.old.line order.old.table }
+    ensures entry { result ≡ Entry.Rose d }
+    ensures history { history.new ≡ with_entry history.old maker (Entry.Rose d) }
+    ensures order { HasRisen history.old d number order.old.line order.new.line order.old.table order.new.table }
+{
+    rose(&mut order.line, &mut order.table, history.book(), d, number);
+    history.rise(maker, d)
+}
+
+/// The run is doomed that the failure of the device loses, where there is one. It stays the holder of the device that is
+/// out for it.
+pub(crate) fn doom_lost(
+    history: &mut ReadHistory,
+    order: &mut KeptOrder,
+    hands: &List<Option<DeviceNo>>,
+    d: DeviceNo,
+    lost: Option<RunNo>,
+) -> Option<Entry>
+    requires run { IfSome lost (λ r. IsTrue (is_run history.old.setting.runs r.0) × (r.0 ≤ length hands.now.items)) }
+    requires room { IsSome lost → 0 < history.old.spare }
+    ensures entry { result ≡ option_map (λ r. Entry.Doomed r (Cause.Lost d)) lost }
+    ensures history { history.new ≡ with_lost history.old d lost }
+    ensures line { order.new.line ≡ order.old.line }
+    ensures table { IsLostTo lost hands.now.items order.old.table order.new.table }
+{
+    let Some(r) = lost else {
+        return None;
+    };
+    let out = *hands.get(r.0 as u64 - 1).unwrap();
+    order.doom(r, out);
+    Some(history.doom(0, r, Cause::Lost(d)))
+}
