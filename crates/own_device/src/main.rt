@@ -1,0 +1,51 @@
+// A home of devices of one's own: opens a window on them, steps its hub by hand, and prints what came of it.
+#![tactic(auto)]
+
+mod radio_devices;
+mod windows;
+
+use day_report::window_text;
+use device_states::Device;
+use routine_reader::read_script;
+use std::io::Write;
+use std::process::ExitCode;
+use windows::{MODE, open_first, work};
+
+/// A lamp, a heating and a fan, and one window with three runs and one round of probes.
+const SCRIPT: &str = r#"{"safehome": 1, "devices": [
+  {"name": "lamp", "states": ["off", "on"], "start": "off"},
+  {"name": "heat", "low": 10, "high": 30, "start": 18},
+  {"name": "fan", "states": ["off", "on"], "start": "off"}],
+ "routines": [
+  {"name": "warm", "commands": [{"on": "heat", "do": "set", "to": 20}, {"on": "heat", "do": "set", "to": 22},
+    {"on": "heat", "do": "set", "to": 24}]},
+  {"name": "cook", "commands": [{"on": "lamp", "do": "set", "to": "on"}, {"on": "fan", "do": "set", "to": "on"},
+    {"on": "lamp", "do": "set", "to": "off"}, {"on": "fan", "do": "set", "to": "off"}]},
+  {"name": "read", "commands": [{"on": "lamp", "do": "set", "to": "on", "must": false},
+    {"on": "heat", "do": "load", "must": false}, {"on": "lamp", "do": "set", "to": "off", "must": false}]}],
+ "windows": [{"at": "2021-04-26T18:30", "probes": 1,
+    "runs": [{"routine": "warm"}, {"routine": "cook"}, {"routine": "read"}]}]}"#;
+
+fn main(rt: HostRuntime) -> ExitCode {
+    match run(&rt) {
+        Some(()) => ExitCode::SUCCESS,
+        None => ExitCode::FAILURE,
+    }
+}
+
+/// Works the script's window, and prints it with its history, and the counts of each device. None where that fails.
+fn run(rt: &HostRuntime) -> Option<()> {
+    let script = read_script(rt.alloc(), SCRIPT.as_bytes()).ok()?;
+    let mut hub = open_first(rt.alloc(), &script)?;
+    work(&mut hub);
+    let (home, closed) = hub.close_window().ok()?;
+    let text = window_text(rt.alloc(), &script, 0, &closed, MODE, true).ok()?;
+    rt.stdout().write_all(text.as_slice()).ok()?;
+    let devices = home.into_devices();
+    for (text, device) in script.devices.as_slice().iter().zip(devices.as_slice()) {
+        let name = text.name.as_str();
+        let (turns, probes, faults) = (device.turns(), device.probes(), device.faults());
+        println!(rt; "{name}: turns {turns} probes {probes} faults {faults}").ok()?;
+    }
+    Some(())
+}

@@ -1,0 +1,105 @@
+ghost use Rattle.std.specs.Prelude.{◌≡◌, ◌+◌, ◌<◌, ◌^◌, OnErr, OnOk};
+
+use device_states::{Bench, Dead, Device};
+use home_types::{DeviceNo, NoMemory, Value};
+use std::alloc::Global;
+
+/// How many answers a link carries between two that it loses.
+const CARRIED: u32 = 2;
+
+/// A device behind a radio link that loses each third answer.
+///
+/// The calls themselves arrive: a drive whose answer is lost has moved the device all the same.
+#[derive(Debug, Drop)]
+pub struct RadioDevice {
+    number: DeviceNo,
+    value: Value,
+    turns: u64,
+    probes: u64,
+    faults: u64,
+    until_loss: u32,
+}
+
+impl RadioDevice {
+    /// Waits for the answer to a call, and counts a fault where the link loses it.
+    fn hear(&mut self) -> Result<(), Dead>
+        requires room { self.old.faults < 2 ^ 63 }
+        ensures heard { OnOk result (self.new ≡ record self.old { until_loss = self.new.until_loss }) }
+        ensures lost { OnErr result (self.new ≡ record self.old { until_loss = self.new.until_loss; faults = self.old.faults + 1 }) }
+    {
+        if self.until_loss == 0 {
+            self.until_loss = CARRIED;
+            self.faults += 1;
+            return Err(Dead);
+        }
+        self.until_loss -= 1;
+        Ok(())
+    }
+}
+
+impl Device for RadioDevice {
+    ghost tag = { λ s. s.number.0 };
+
+    ghost stands = { λ s. s.value };
+
+    ghost turns = { λ s. s.turns };
+
+    ghost probes = { λ s. s.probes };
+
+    ghost faults = { λ s. s.faults };
+
+    fn drive(&mut self, v: Value) -> Result<(), Dead> {
+        self.value = v;
+        self.hear()?;
+        self.turns += 1;
+        Ok(())
+    }
+
+    fn sense(&mut self) -> Result<Value, Dead> {
+        self.hear()?;
+        self.turns += 1;
+        Ok(self.value)
+    }
+
+    fn probe(&mut self) -> Result<(), Dead> {
+        self.probes += 1;
+        self.hear()
+    }
+
+    fn turns(&self) -> u64 {
+        self.turns
+    }
+
+    fn probes(&self) -> u64 {
+        self.probes
+    }
+
+    fn faults(&self) -> u64 {
+        self.faults
+    }
+}
+
+/// The bench on which radio devices are made. They tell no plan.
+#[derive(Clone, Copy, Debug, PartialEq, Eq)]
+pub struct RadioBench;
+
+impl Bench for RadioBench {
+    type Dev = RadioDevice;
+
+    fn build(
+        &mut self,
+        _alloc: Global,
+        d: DeviceNo,
+        start: Value,
+        _downs: &[(u32, u32)],
+    ) -> Result<RadioDevice, NoMemory> {
+        Ok(RadioDevice {
+            number: d,
+            value: start,
+            turns: 0,
+            probes: 0,
+            faults: 0,
+            until_loss: CARRIED,
+        })
+    }
+}

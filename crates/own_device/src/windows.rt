@@ -1,0 +1,91 @@
+ghost use Rattle.std.specs.Prelude.{◌≡◌, ◌<◌, is_some};
+ghost use Rattle.std.specs.List.{list_any};
+ghost use Rattle.routine_reader.specs.Scripts.{plain_script};
+ghost use Rattle.routine_reader.specs.Sound.{IsSound};
+
+use crate::radio_devices::{RadioBench, RadioDevice};
+use device_states::Device;
+use home_types::{DeviceNo, Mode, RunNo, Scheduler, Visibility};
+use hub_core::{Home, Hub, Turn};
+use routine_reader::{RunText, Script, roster};
+use std::alloc::Global;
+
+/// How the window is opened.
+pub const MODE: Mode = Mode {
+    model: Visibility::Eventual,
+    scheduler: Scheduler::Fcfs,
+};
+
+/// In so many turns the example's runs have ended.
+const MOST_TURNS: u64 = 64;
+
+/// The turn, from 0, in which every device is probed.
+const PROBING_TURN: u64 = 5;
+
+/// Opens the script's first window on a new home of radio devices. None where there is no window or no memory, and
+/// where a run follows another, which is not built yet.
+pub fn open_first(alloc: Global, script: &Script) -> Option<Hub<RadioDevice>>
+    requires sound { IsSound (plain_script script.now) }
+{
+    let window = script.windows.get(0)?;
+    if has_follower(window.runs.as_slice()) {
+        return None;
+    }
+    let roster = roster(alloc, script, 0).ok()?;
+    let home = Home::build(alloc, &mut RadioBench, script).ok()?;
+    home.kept();
+    home.open_window(alloc, roster, MODE, window.probes).ok()
+}
+
+/// Whether one of the runs follows another.
+fn has_follower(runs: &[RunText]) -> bool
+    ensures { result ≡ list_any (λ run. is_some run.follows) runs.now }
+{
+    runs.iter().any(|run| run.follows.is_some())
+}
+
+/// Steps each run, turn after turn, 1 ms each, until nothing is left to do. In one turn every device is probed.
+pub fn work<D: Device>(hub: &mut Hub<D>) {
+    for turn in 0..MOST_TURNS {
+        if hub.quiet().is_none() {
+            return;
+        }
+        for run in 0..hub.run_count() {
+            step(hub, RunNo(run + 1), turn);
+        }
+        hub.kept();
+        for d in 0..hub.device_count() {
+            if turn == PROBING_TURN {
+                probe(hub, DeviceNo(d as u16));
+            }
+        }
+    }
+}
+
+/// Makes the step of the run, at this moment in ms. A device that goes out makes its call and comes home at once.
+fn step<D: Device>(hub: &mut Hub<D>, r: RunNo, moment: u64)
+    requires { 0 < r.0 }
+{
+    match hub.take(r, moment) {
+        // A hub takes back the grip that it handed out.
+        Turn::Go(grip) => match hub.give(grip.act(), moment) {
+            Ok(_made) => {}
+            Err((_back, _stranger)) => unreachable!(),
+        },
+        Turn::Moved(_made) => {}
+        Turn::Wait(_why) => {}
+        Turn::Over(_end, _made) => {}
+        Turn::Absent => {}
+    }
+}
+
+/// Probes the device, where it is home and a probe of it is left.
+fn probe<D: Device>(hub: &mut Hub<D>, d: DeviceNo) {
+    match hub.take_probe(d) {
+        Some(grip) => match hub.give_probe(grip.act()) {
+            Ok(_made) => {}
+            Err((_back, _stranger)) => unreachable!(),
+        },
+        None => {}
+    }
+}
