@@ -1,11 +1,12 @@
 #!/usr/bin/env python3
 """Writes the script of a dense day of must `set` commands on standard output.
 
-    dense_day.py [WINDOWS [RUNS [COMMANDS [DEVICES [OWN]]]]]
+    dense_day.py [WINDOWS [RUNS [COMMANDS [DEVICES [OWN [ROUNDS]]]]]]
 
 By default 288 windows of 64 runs of 64 commands each, on 256 devices. With OWN each routine keeps to so many devices of
-its own, which are drawn first; without it each command is on any device. The day is always the same: what is drawn
-comes from a generator with a fixed seed.
+its own, which are drawn first; without it, or with 0, each command is on any device. With ROUNDS each device fails
+in two neighbouring calls, drawn, of each 256 up to its 4,096th, and is probed in so many rounds in each window. The day
+is always the same: what is drawn comes from a generator with a fixed seed.
 """
 import json
 import sys
@@ -44,30 +45,42 @@ def commands_of(below, commands, devices, own):
     return [{"on": f"d{device()}", "do": "set", "to": below(1000)} for _ in range(commands)]
 
 
-def day(windows, runs, commands, devices, own=0):
+def device(below, name, rounds):
+    made = {"name": name, "low": 0, "high": 999, "start": 0}
+    if rounds:
+        first = [256 * k + 1 + below(254) for k in range(16)]
+        made["down"] = [[call, call + 2] for call in first]
+    return made
+
+
+def window(below, k, runs, routines, rounds):
+    made = {
+        "at": f"2021-04-26T{5 * k // 60:02}:{5 * k % 60:02}:00",
+        "seed": k + 1,
+        "runs": [{"routine": f"r{below(routines)}"} for _ in range(runs)],
+    }
+    if rounds:
+        made["probes"] = rounds
+    return made
+
+
+def day(windows, runs, commands, devices, own=0, rounds=0):
     below = draws()
     routines = max(runs, 1)
     return {
         "safehome": 1,
-        "devices": [{"name": f"d{d}", "low": 0, "high": 999, "start": 0} for d in range(devices)],
+        "devices": [device(below, f"d{d}", rounds) for d in range(devices)],
         "routines": [
             {"name": f"r{r}", "commands": commands_of(below, commands, devices, own)}
             for r in range(routines)
         ],
-        "windows": [
-            {
-                "at": f"2021-04-26T{5 * k // 60:02}:{5 * k % 60:02}:00",
-                "seed": k + 1,
-                "runs": [{"routine": f"r{below(routines)}"} for _ in range(runs)],
-            }
-            for k in range(windows)
-        ],
+        "windows": [window(below, k, runs, routines, rounds) for k in range(windows)],
     }
 
 
 def main():
-    sizes = [288, 64, 64, 256, 0]
-    for i, word in enumerate(sys.argv[1:6]):
+    sizes = [288, 64, 64, 256, 0, 0]
+    for i, word in enumerate(sys.argv[1:7]):
         sizes[i] = int(word)
     json.dump(day(*sizes), sys.stdout, separators=(",", ":"))
     sys.stdout.write("\n")

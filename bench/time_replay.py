@@ -3,19 +3,19 @@
 
     time_replay.py [PROGRAM]
 
-PROGRAM is crates/hub_main/out/hub_main by default, which `rt run` builds. Three scripts are played, the first one
+PROGRAM is crates/hub_main/out/hub_main by default, which `rt run` builds. Four scripts are played, the first two
 under each model:
 
 - dense: 288 windows of 64 runs of 64 commands on 256 devices;
+- failing: the same, where devices fail, with two rounds of probes;
 - refused: the same, with a last run that names no routine, so that it is read to its end and no more;
 - empty: the same without runs, so that it is read, and its windows are opened, closed and printed.
 
 Where callgrind is installed, it counts the instructions of a day of four such windows, and of its parts, under each
-model; and those of such a day whose routines have 8 devices of their own each, under psv.
+model, calm and failing; and those of such a day whose routines have 8 devices of their own each, under psv.
 """
 import os
 import re
-import resource
 import shutil
 import subprocess
 import sys
@@ -52,12 +52,18 @@ def words(model):
 
 
 def played(program, name, model, script):
-    before, begun = resource.getrusage(resource.RUSAGE_CHILDREN), time.monotonic()
-    done = subprocess.run([program, *words(model)], input=script, stdout=subprocess.PIPE, stderr=subprocess.PIPE)
-    spent, after = time.monotonic() - begun, resource.getrusage(resource.RUSAGE_CHILDREN)
-    cpu = after.ru_utime + after.ru_stime - before.ru_utime - before.ru_stime
-    print(f"{name}, {model}: status {done.returncode}, {cpu:.2f} s of processor time, {spent:.2f} s in all,"
-          f" {len(script)} bytes of script, {len(done.stdout)} bytes of record", flush=True)
+    with tempfile.TemporaryFile() as given, tempfile.TemporaryFile() as record:
+        given.write(script)
+        given.seek(0)
+        begun = time.monotonic()
+        child = subprocess.Popen([program, *words(model)], stdin=given, stdout=record, stderr=subprocess.DEVNULL)
+        _, status, used = os.wait4(child.pid, 0)
+        child.returncode = os.waitstatus_to_exitcode(status)
+        spent = time.monotonic() - begun
+        size = record.seek(0, os.SEEK_END)
+    cpu = used.ru_utime + used.ru_stime
+    print(f"{name}, {model}: status {child.returncode}, {cpu:.2f} s of processor time, {spent:.2f} s in all,"
+          f" {len(script)} bytes of script, {size} bytes of record, {used.ru_maxrss / 1024:.0f} MB at most", flush=True)
 
 
 def counted(program, name, model, script):
@@ -86,11 +92,15 @@ def main():
     dense = dense_day()
     for model in MODELS:
         played(program, "dense", model, dense)
+    failing = dense_day(288, 64, 64, 256, 0, 2)
+    for model in MODELS:
+        played(program, "failing", model, failing)
     for name, script in [("refused", refused(dense)), ("empty", dense_day(288, 0))]:
         played(program, name, "gsv", script)
     if shutil.which("callgrind_annotate"):
         for model in MODELS:
             counted(program, "dense", model, dense_day(4))
+            counted(program, "failing", model, dense_day(4, 64, 64, 256, 0, 2))
         counted(program, "8 devices a run", "psv", dense_day(4, 64, 64, 256, 8))
     else:
         print("callgrind is not installed: no instructions were counted")
