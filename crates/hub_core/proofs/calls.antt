@@ -27,3 +27,4 @@ pub mod Deaths
 pub mod ProbesOut
 pub mod ProbesHome
 pub mod ProbesFound
+pub mod HubMarks

@@ -16,3 +16,5 @@ pub mod FallenOrders
 pub mod Finds
 pub mod Hands
 pub mod ProbeSteps
+pub mod RunBits
+pub mod BlockedMarks

@@ -8,3 +8,4 @@ pub mod Causes
 pub mod GiveCauses
 pub mod LastAnswers
 pub mod Calls
+pub mod HubAnswers

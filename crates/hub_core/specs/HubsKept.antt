@@ -18,8 +18,8 @@ use Rattle.hub_core.specs.HubSteps.{task_of}
 use Rattle.hub_core.specs.OpenHubs.{OpenHub, configuration_of, device_at, events_in, held_in, purpose_of}
 use Rattle.hub_core.specs.KeptOrders.{OrderIsBeside}
 use Rattle.hub_core.specs.ReadHistories.{HistoryState}
-use Rattle.hub_core.specs.declared.hubs.ClosingLists.{ClosingLists}
-use Rattle.hub_core.specs.declared.hubs.Hub.TheInside.{Inside}
+use Rattle.hub_core.specs.declared.open_windows.ClosingLists.{ClosingLists}
+use Rattle.hub_core.specs.declared.open_windows.OpenWindow.TheInside.{Inside}
 use Rattle.lock_leasing.specs.Configurations.{Grips, read_of}
 use Rattle.lock_leasing.specs.Waits.{grip_wait}
 use Rattle.std.specs.Prelude.{Bool, IsTrue, List, Option, Some, [], count_by, false, length, nat_lt, option_map, slice_get, suc, sum_by, true, ℕ, ◌+◌, ◌-◌, ◌<◌, ◌≡◌, ◌≤◌}

@@ -22,3 +22,6 @@ pub mod OpeningRooms
 pub mod ClosedHomes
 pub mod PlansInTurn
 pub mod KeptOrders
+pub mod BlockedRuns
+pub mod BlockedMarks
+pub mod MarkedRuns

@@ -6,7 +6,7 @@ use Rattle.home_types.specs.declared.worlds.Stand.{Stand}
 use Rattle.history_book.specs.declared.entries.Kept.{Kept}
 use Rattle.hub_core.specs.Homes.{HomeState}
 use Rattle.hub_core.specs.OpenHubs.{no_events}
-use Rattle.hub_core.specs.declared.hubs.ClosingLists.{ClosingLists}
+use Rattle.hub_core.specs.declared.open_windows.ClosingLists.{ClosingLists}
 use Rattle.hub_core.specs.declared.known.DeviceProgress.{DeviceProgress}
 use Rattle.hub_core.specs.declared.known.RunProgress.{RunProgress}
 use Rattle.hub_core.specs.declared.purposes.Purpose.TheVariants.{Command}

@@ -11,9 +11,9 @@ ghost use Rattle.history_book.specs.declared.entries.End.TheVariants.{Aborted, C
 ghost use Rattle.window_order.specs.TableChanges.{ChangesEach, doomed_lineage};
 
 use crate::decisions::Chosen;
-use crate::hubs::Hub;
 use crate::kept_orders::KeptOrder;
 use crate::known::DeviceProgress;
+use crate::open_windows::OpenWindow;
 use crate::purposes::Purpose;
 use crate::read_histories::{ReadHistory, must_down};
 use device_gate::{Grip, Ready};
@@ -40,7 +40,7 @@ pub(crate) fn one_made(entry: Entry) -> Made
     }
 }
 
-impl<D: Device> Hub<D> {
+impl<D: Device> OpenWindow<D> {
     /// The last moment is this one, or the one before where that is later.
     pub(crate) fn reach(&mut self, moment: u64)
         ensures { self.new ≡ record self.old { moment = max self.old.moment moment } }

@@ -7,8 +7,8 @@ ghost use Rattle.hub_core.specs.Steps.{not_quiet};
 ghost use Rattle.serial_line.specs.Marks.{items_of};
 
 use crate::homes::Home;
-use crate::hubs::{ClosingLists, Hub};
 use crate::known::DeviceProgress;
+use crate::open_windows::{ClosingLists, OpenWindow};
 use crate::read_histories::ReadHistory;
 use crate::refusals::NotQuiet;
 use device_states::Device;
@@ -17,11 +17,11 @@ use home_types::{DeviceNo, Item, List, Stand, World};
 use lineage_table::Table;
 use serial_line::Line;
 
-impl<D: Device> Hub<D> {
+impl<D: Device> OpenWindow<D> {
     /// Closes the window, and gives the home and the window's record.
     ///
     /// Refused where `quiet` tells why: the hub comes back as it is. Takes no memory.
-    pub fn close_window(self) -> Result<(Home<D>, WindowRecord), (Hub<D>, NotQuiet)>
+    pub(crate) fn close_window(self) -> Result<(Home<D>, WindowRecord), (OpenWindow<D>, NotQuiet)>
         ensures closed { IfOk result (λ closed. IsClosed D.turns D.probes D.faults self closed.0 closed.1) }
         ensures quiet { IfOk result (λ closed. not_quiet (configuration_of self) ≡ None) }
         ensures same { IfErr result (λ refused. refused.0 ≡ self) }
@@ -38,7 +38,7 @@ impl<D: Device> Hub<D> {
         requires quiet { not_quiet (configuration_of self) ≡ None }
         ensures { IsClosed D.turns D.probes D.faults self result.0 result.1 }
     {
-        let Hub {
+        let OpenWindow {
             history,
             order,
             rounds: _,

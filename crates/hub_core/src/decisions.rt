@@ -14,7 +14,7 @@ ghost use Rattle.lock_leasing.specs.Standings.{IsAtCommand};
 ghost use Rattle.lock_leasing.specs.Waits.{behind_wait, grip_wait, strict_wait};
 ghost use Rattle.visibility_models.specs.Models.{IsUnderWay};
 
-use crate::hubs::Hub;
+use crate::open_windows::OpenWindow;
 use crate::purposes::Purpose;
 use crate::waits::Why;
 use abort_rollback::{Undo, next_undo};
@@ -50,7 +50,7 @@ pub(crate) enum Chosen {
     HandsOut(DeviceNo, Purpose),
 }
 
-impl<D: Device> Hub<D> {
+impl<D: Device> OpenWindow<D> {
     /// What the step of the run `r` is to do, by the cases of a step in order.
     ///
     /// In this stage no run follows another, each is placed at the end of the line, and no lease is overdue: the cases
@@ -164,7 +164,7 @@ impl<D: Device> Hub<D> {
     }
 
     /// The device whose grip the run holds.
-    fn grip_of(&self, r: RunNo) -> Option<DeviceNo>
+    pub(crate) fn grip_of(&self, r: RunNo) -> Option<DeviceNo>
         requires { IsTrue (is_run self.now.setting.runs r.0) }
         ensures { option_map (λ d. d.0) result ≡ grip_wait self.now.setting (configuration_of self.now).grips r.0 }
     {

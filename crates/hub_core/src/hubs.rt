@@ -1,81 +1,44 @@
-ghost use Rattle.std.specs.Prelude.{◌≡◌, ◌+◌, ◌-◌, ◌<◌, ◌≤◌, ◌↔◌, IsTrue, None, [], false, length, true, ℕ};
-ghost use Rattle.command_rules.specs.Rosters.{runs_of};
+ghost use Rattle.std.specs.Prelude.{◌≡◌, ◌≤◌, ◌↔◌, IfErr, IfOk, IsTrue, None, Some, false, length, ℕ};
 ghost use Rattle.history_book.specs.Settings.{is_weak};
+ghost use Rattle.hub_core.specs.BlockedRuns.{IsBlocked};
 ghost use Rattle.hub_core.specs.Bounds.{IsBounded};
-ghost use Rattle.hub_core.specs.HubCalls.{HubStands, SomeRunMoves, grip_takes, is_past};
-ghost use Rattle.hub_core.specs.OpenHubs.{configuration_of, device_at};
+ghost use Rattle.hub_core.specs.HubCalls.{HubStands, IsClosed, SomeRunMoves, grip_takes, is_past};
+ghost use Rattle.hub_core.specs.OpenHubs.{configuration_of};
 ghost use Rattle.hub_core.specs.Steps.{not_quiet, opened};
 ghost use Rattle.lineage_table.specs.Accesses.{IsDisciplined};
 ghost use Rattle.lineage_table.specs.Lineages.{accesses_at};
 ghost use Rattle.lock_leasing.specs.Configurations.{read_of};
-ghost use Rattle.lock_leasing.specs.Standings.{IsStandingOf};
 ghost use Rattle.lock_leasing.specs.Tables.{Represents};
 
-use crate::kept_orders::KeptOrder;
-use crate::known::{Counts, DeviceProgress, Events, NO_EVENTS};
-use crate::purposes::Purpose;
-use crate::read_histories::ReadHistory;
+use crate::blocked_runs::BlockedRuns;
+use crate::homes::Home;
+use crate::open_windows::OpenWindow;
 use crate::refusals::NotQuiet;
-use device_gate::Gate;
 use device_states::Device;
-use home_types::{DeviceNo, Item, List, RunNo, Stand};
+use history_book::WindowRecord;
+use home_types::{DeviceNo, RunNo};
 use lineage_table::Table;
-use lock_leasing::Standing;
 use std::marker::Model;
-
-/// What is known of no device.
-const NOT_KNOWN: DeviceProgress = DeviceProgress {
-    held: 0,
-    probes_left: 0,
-    purpose: Purpose::Command(0),
-    at_opening: Counts {
-        turns: 0,
-        probes: 0,
-        faults: 0,
-    },
-    events: NO_EVENTS,
-};
-
-/// The lists that closing a window fills: empty, each with room for every device, but for the order.
-#[derive(Drop)]
-pub(crate) struct ClosingLists {
-    /// For the order of the record, with room for each item that the line may have.
-    pub(crate) order: List<Item>,
-    /// For the state of the record.
-    pub(crate) last: List<Stand>,
-    /// For the state of the home.
-    pub(crate) world: List<Stand>,
-    pub(crate) turns: List<u64>,
-    pub(crate) faults: List<u64>,
-}
 
 /// An open window.
 ///
 /// Contracts see what is fixed, its history, its last moment, what it knows of each device, and the places of the
-/// devices. The type keeps that these agree.
+/// devices. The type keeps that these agree, and that each run which is marked as blocked waits at every moment.
 #[derive(Drop)]
 pub struct Hub<D: Device> {
-    pub(crate) history: ReadHistory,
-    pub(crate) order: KeptOrder,
-    pub(crate) rounds: u32,
-    pub(crate) opened: u32,
-    pub(crate) moment: u64,
-    pub(crate) devices: List<DeviceProgress>,
-    pub(crate) gate: Gate<D>,
-    /// For each run the device whose grip it holds.
-    pub(crate) hands: List<Option<DeviceNo>>,
-    pub(crate) closing: ClosingLists,
+    pub(crate) window: OpenWindow<D>,
+    pub(crate) blocked: BlockedRuns,
 }
 
 impl<D: Device> Model for Hub<D> {
-    ghost use Rattle.hub_core.specs.HubsKept.{IsWhole, open_of};
-    ghost use Rattle.hub_core.specs.OpenHubs.{OpenHub};
+    ghost use Rattle.hub_core.specs.BlockedMarks.{AreBlocked};
+    ghost use Rattle.hub_core.specs.OpenHubs.{OpenHub, configuration_of};
 
     ghost Value = { OpenHub D };
 
-    ghost view = { open_of };
+    ghost view = { λ h. h.window };
 
-    ghost invariant = { IsWhole D.stands D.turns D.probes D.faults };
+    ghost invariant = { λ h. AreBlocked (configuration_of h.window) h.blocked };
 }
 
 impl<D: Device> Hub<D> {
@@ -83,21 +46,21 @@ impl<D: Device> Hub<D> {
     pub fn kept(&self)
         ensures { HubStands D.stands D.turns D.probes D.faults self.now }
     {
-        let _ = &self.moment;
+        self.window.kept();
     }
 
     /// Does nothing. Its contract is that a window is never stuck.
     pub fn progress(&self)
         ensures { SomeRunMoves (configuration_of self.now) }
     {
-        let _ = &self.moment;
+        self.window.progress();
     }
 
     /// Does nothing. Its contract is how long history and line become.
     pub fn bounded(&self)
         ensures { IsBounded self.now }
     {
-        let _ = &self.moment;
+        self.window.bounded();
     }
 
     /// The lineage table of the window. It has at most one access of each run on a device, and outside the weak model it
@@ -107,86 +70,64 @@ impl<D: Device> Hub<D> {
         ensures few { (d : ℕ) → length (accesses_at result.now d) ≤ length self.now.setting.runs }
         ensures disciplined { (d : ℕ) → IsDisciplined (accesses_at result.now d) }
     {
-        self.order.table.kept();
-        &self.order.table
+        self.window.table()
     }
 
-    /// Table, line, history and roster of the window.
-    pub(crate) fn standing(&self) -> Standing<'_>
-        ensures { IsStandingOf (configuration_of self.now) result.table.now result.line.now.marks result.book.now.items (runs_of result.roster.now) }
+    /// Whether the run is known to wait, at every moment, until another actor makes a step that may free it. Looks at
+    /// one bit. A run of which it is not known may wait too.
+    pub fn is_blocked(&self, r: RunNo) -> bool
+        ensures { IsTrue result → IsBlocked (configuration_of self.now) r.0 }
     {
-        self.order.table.kept();
-        Standing {
-            table: &self.order.table,
-            line: &self.order.line,
-            book: self.history.book(),
-            roster: self.history.indexed_roster(),
-        }
+        self.blocked.is_marked(r)
+    }
+
+    /// The last moment of the window, in ms.
+    pub fn moment(&self) -> u64
+        ensures { result ≡ self.now.moment }
+    {
+        self.window.moment
     }
 
     /// Whether nothing was done in the window: no entry, the last moment 0, no device out and no probe taken.
     pub fn fresh(&self) -> bool
         ensures { IsTrue result ↔ (configuration_of self.now ≡ opened self.now.setting self.now.rounds) }
     {
-        if self.history.len() != 0 {
-            return false;
-        }
-        if self.moment != 0 {
-            return false;
-        }
-        if self.gate.first_out().is_some() {
-            return false;
-        }
-        self.has_all_probes()
-    }
-
-    /// Whether no probe of a device was taken.
-    fn has_all_probes(&self) -> bool
-        ensures { IsTrue result ↔ ((d : ℕ) → d < length self.now.devices → (device_at self.now.devices d).probes_left ≡ self.now.rounds) }
-    {
-        let known = self.devices.as_slice();
-        known.iter().all(|device| device.probes_left == self.rounds)
+        self.window.fresh()
     }
 
     /// How many probes of the device may still be taken, 0 for no device of the home.
     pub fn probes_left(&self, d: DeviceNo) -> u64
         ensures { result ≡ (configuration_of self.now).probes d.0 }
     {
-        self.known(d).probes_left as u64
+        self.window.probes_left(d)
     }
 
     /// Why the window cannot be closed: the smallest run that has not ended, else the smallest device that is out.
     pub fn quiet(&self) -> Option<NotQuiet>
         ensures { result ≡ not_quiet (configuration_of self.now) }
     {
-        if let Some(r) = self.history.first_unended() {
-            return Some(NotQuiet::StillLive(r));
-        }
-        match self.gate.first_out() {
-            Some(d) => Some(NotQuiet::StillOut(d)),
-            None => None,
-        }
+        self.window.quiet()
     }
 
     /// Whether nothing is left to do for the run: the window has no such run, or it has ended.
     pub fn is_over(&self, r: RunNo) -> bool
         ensures { result ≡ is_past (configuration_of self.now) r.0 }
     {
-        !self.history.has_run(r) || self.history.progress(r).ended.is_some()
+        self.window.is_over(r)
     }
 
     /// How many runs the window has.
     pub fn run_count(&self) -> u32
         ensures { result ≡ length self.now.setting.runs }
     {
-        self.history.run_count() as u32
+        self.window.run_count()
     }
 
     /// How many devices the home has.
     pub fn device_count(&self) -> u64
         ensures { result ≡ length self.now.setting.first }
     {
-        self.history.device_count()
+        self.window.device_count()
     }
 
     /// By how many ms a replay's moment rises with the command for which the device is out. 0 where it is home, or out
@@ -194,29 +135,22 @@ impl<D: Device> Hub<D> {
     pub fn takes(&self, d: DeviceNo) -> u32
         ensures { result ≡ grip_takes self.now.setting ((configuration_of self.now).grips d.0) }
     {
-        let Some(slip) = self.gate.slip(d) else {
-            return 0;
-        };
-        match self.known(d).purpose {
-            Purpose::Command(k) => self.history.command(RunNo(slip.maker), k).takes,
-            Purpose::Undo(_) | Purpose::Probe(_) => 0,
-        }
+        self.window.takes(d)
     }
 
-    /// How often the device has failed and come back in the window.
-    pub(crate) fn events(&self, d: DeviceNo) -> Events
-        ensures { result ≡ (device_at self.now.devices d.0).events }
+    /// Closes the window, and gives the home and the window's record.
+    ///
+    /// Refused where `quiet` tells why: the hub comes back as it is. Takes no memory.
+    pub fn close_window(self) -> Result<(Home<D>, WindowRecord), (Hub<D>, NotQuiet)>
+        ensures closed { IfOk result (λ closed. IsClosed D.turns D.probes D.faults self closed.0 closed.1) }
+        ensures quiet { IfOk result (λ closed. not_quiet (configuration_of self) ≡ None) }
+        ensures same { IfErr result (λ refused. refused.0 ≡ self) }
+        ensures refused { IfErr result (λ refused. not_quiet (configuration_of self) ≡ Some refused.1) }
     {
-        self.known(d).events
-    }
-
-    /// What is known of the device, nothing of no device of the home.
-    pub(crate) fn known(&self, d: DeviceNo) -> DeviceProgress
-        ensures { result ≡ device_at self.now.devices d.0 }
-    {
-        match self.devices.get(d.0 as u64) {
-            Some(known) => *known,
-            None => NOT_KNOWN,
+        let Hub { window, blocked } = self;
+        match window.close_window() {
+            Ok(closed) => Ok(closed),
+            Err((window, why)) => Err((Hub { window, blocked }, why)),
         }
     }
 }

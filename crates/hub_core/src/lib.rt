@@ -1,16 +1,19 @@
 // The hub of a home: its windows, the steps in them, and what has to be believed of a window and of a day.
 #![tactic(auto)]
 
+mod blocked_runs;
 mod changes;
 mod close_calls;
 mod decisions;
 mod failures;
+mod freed_runs;
 mod give_calls;
 pub mod homes;
 pub mod hubs;
 mod kept_orders;
 pub mod known;
 mod open_calls;
+mod open_windows;
 mod plans;
 mod probe_calls;
 pub mod purposes;
@@ -18,6 +21,7 @@ mod read_histories;
 pub mod refusals;
 mod releases;
 mod returns;
+mod step_calls;
 mod take_calls;
 pub mod turns;
 pub mod waits;

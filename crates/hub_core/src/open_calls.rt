@@ -2,6 +2,7 @@ ghost use Rattle.std.specs.Prelude.{◌≡◌, ◌<◌, ◌≤◌, ◌^◌, IfEr
 ghost use Rattle.command_rules.specs.Rosters.{runs_of};
 ghost use Rattle.home_types.specs.HomeStates.{stand_at};
 ghost use Rattle.home_types.specs.Limits.{most_devices, most_probes, most_runs};
+ghost use Rattle.hub_core.specs.BlockedMarks.{NoneMarked};
 ghost use Rattle.hub_core.specs.Bounds.{most_entries, most_items};
 ghost use Rattle.hub_core.specs.HubCalls.{IsOpened};
 ghost use Rattle.hub_core.specs.Homes.{setting_for};
@@ -9,10 +10,12 @@ ghost use Rattle.hub_core.specs.OpeningRooms.{AreKnown, IsClosingRoom, IsHistory
 ghost use Rattle.hub_core.specs.Openings.{MayOpen};
 ghost use Rattle.hub_core.specs.Stage.{StageAllows};
 
+use crate::blocked_runs::BlockedRuns;
 use crate::homes::Home;
-use crate::hubs::{ClosingLists, Hub};
+use crate::hubs::Hub;
 use crate::kept_orders::KeptOrder;
 use crate::known::{Counts, DeviceProgress, NO_EVENTS, RunProgress};
+use crate::open_windows::{ClosingLists, OpenWindow};
 use crate::purposes::Purpose;
 use crate::read_histories::ReadHistory;
 use command_rules::{IndexedRoster, Roster};
@@ -37,6 +40,7 @@ struct Room {
     devices: List<DeviceProgress>,
     hands: List<Option<DeviceNo>>,
     closing: ClosingLists,
+    blocked: BlockedRuns,
 }
 
 /// How many entries a history of one run has at most.
@@ -80,15 +84,18 @@ impl<D: Device> Home<D> {
         } = self;
         match Gate::open(alloc, devices) {
             Ok(gate) => Ok(Hub {
-                history: empty_history(indexed, mode, kinds, world, room.history),
-                order: room.order,
-                rounds,
-                opened,
-                moment: 0,
-                devices: room.devices,
-                gate,
-                hands: room.hands,
-                closing: room.closing,
+                blocked: room.blocked,
+                window: OpenWindow {
+                    history: empty_history(indexed, mode, kinds, world, room.history),
+                    order: room.order,
+                    rounds,
+                    opened,
+                    moment: 0,
+                    devices: room.devices,
+                    gate,
+                    hands: room.hands,
+                    closing: room.closing,
+                },
             }),
             Err((devices, NoMemory)) => Err((
                 Home {
@@ -112,6 +119,7 @@ impl<D: Device> Home<D> {
         ensures devices { IfOk result (λ room. AreKnown D.turns D.probes D.faults self.now rounds (length self.now.devices) room.devices.items) }
         ensures hands { IfOk result (λ room. room.hands.items ≡ replicate (length roster.now.runs.items) None) }
         ensures closing { IfOk result (λ room. IsClosingRoom (most_items (length roster.now.runs.items) (length self.now.world) rounds) (length self.now.devices) room.closing) }
+        ensures blocked { IfOk result (λ room. NoneMarked room.blocked) }
     {
         let runs = roster.runs.len();
         let bounds = bounds_of(runs, self.world.devices.len(), rounds);
@@ -121,6 +129,7 @@ impl<D: Device> Home<D> {
             devices: self.known_devices(alloc, rounds)?,
             hands: no_hands(alloc, runs)?,
             closing: closing_lists(alloc, bounds.items, self.devices.len())?,
+            blocked: BlockedRuns::open(alloc, self.devices.len())?,
         })
     }
 

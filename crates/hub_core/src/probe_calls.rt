@@ -9,8 +9,8 @@ ghost use Rattle.lock_leasing.specs.Configurations.{read_of};
 
 use crate::changes::{NONE_MADE, one_made};
 use crate::failures::{doom_lost, fallen, note_fall, note_rise, risen};
-use crate::hubs::Hub;
 use crate::known::DeviceProgress;
+use crate::open_windows::OpenWindow;
 use crate::purposes::Purpose;
 use crate::returns::{bring_home, has_died};
 use device_gate::{Done, Grip, Ready, Stranger, Task};
@@ -18,12 +18,12 @@ use device_states::Device;
 use history_book::Made;
 use home_types::{DeviceNo, Value};
 
-impl<D: Device> Hub<D> {
+impl<D: Device> OpenWindow<D> {
     /// Hands out a probe of the device: none where it is out or no device of the home, or no probe of it is left.
     ///
     /// Where the device is counted down, and answers the probe, the grip drives it to the value at which it should stand.
     /// Takes no memory.
-    pub fn take_probe(&mut self, d: DeviceNo) -> Option<Grip<D, Ready>>
+    pub(crate) fn take_probe(&mut self, d: DeviceNo) -> Option<Grip<D, Ready>>
         ensures probed { IsProbed self.old d.0 result self.new }
         ensures window { SameWindow self.old self.new }
     {
@@ -40,7 +40,10 @@ impl<D: Device> Hub<D> {
     /// doomed that sees it up and is not done with it; one that was counted down, and answered, is back. A grip that is not
     /// the one with which its device is out, or that is a run's, comes back with a `Stranger`, and nothing changes. Takes no
     /// memory.
-    pub fn give_probe(&mut self, grip: Grip<D, Done>) -> Result<Made, (Grip<D, Done>, Stranger)>
+    pub(crate) fn give_probe(
+        &mut self,
+        grip: Grip<D, Done>,
+    ) -> Result<Made, (Grip<D, Done>, Stranger)>
         ensures given { IsProbeGiven self.old grip result self.new }
         ensures window { SameWindow self.old self.new }
     {

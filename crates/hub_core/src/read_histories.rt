@@ -1,7 +1,7 @@
-ghost use Rattle.std.specs.Prelude.{◌≡◌, ◌+◌, ◌<◌, ◌^◌, ◌||◌, IsTrue, None, Some, find, if◌then◌else◌, is_none, length, not, option_map, true, ℕ};
+ghost use Rattle.std.specs.Prelude.{◌≡◌, ◌+◌, ◌<◌, ◌^◌, ◌&&◌, ◌||◌, IfSome, IsTrue, None, Some, find, if◌then◌else◌, is_none, length, not, option_map, true, ℕ};
 ghost use Rattle.command_rules.specs.Rosters.{command_at, commands_of, is_run, runs_of};
 ghost use Rattle.history_book.specs.Settings.{run_numbers};
-ghost use Rattle.history_book.specs.Readings.{is_doomed, next_command, next_of, pends};
+ghost use Rattle.history_book.specs.Readings.{is_doomed, is_live, next_command, next_of, pends};
 ghost use Rattle.home_types.specs.Kinds.{kind_at};
 ghost use Rattle.hub_core.specs.Decisions.{died_by, refuted_by};
 ghost use Rattle.hub_core.specs.OpenHubs.{progress_of};
@@ -126,6 +126,29 @@ impl ReadHistory {
         ensures { result ≡ command_at self.now.setting.runs r.0 k }
     {
         self.roster.commands(r)[k as usize]
+    }
+
+    /// The device of the run's command with the number `k`; none where there is no such command.
+    pub(crate) fn device_of(&self, r: RunNo, k: u32) -> Option<DeviceNo>
+        ensures there { IfSome result (λ d. IsTrue (is_run self.now.setting.runs r.0) × (k < length (commands_of self.now.setting.runs r.0))) }
+        ensures device { IfSome result (λ d. d ≡ (command_at self.now.setting.runs r.0 k).device) }
+    {
+        if !self.has_run(r) {
+            return None;
+        }
+        match self.roster.commands(r).get(k as usize) {
+            Some(command) => Some(command.device),
+            None => None,
+        }
+    }
+
+    /// Whether the run is live and not doomed.
+    pub(crate) fn is_going(&self, r: RunNo) -> bool
+        requires run { IsTrue (is_run self.now.setting.runs r.0) }
+        ensures { result ≡ (is_live (read_in self.now) r.0 && not (is_doomed (read_in self.now) r.0)) }
+    {
+        let progress = self.progress(r);
+        progress.placed.is_some() && progress.ended.is_none() && progress.doomed.is_none()
     }
 
     /// The kind of the device.

@@ -12,9 +12,9 @@ ghost use Rattle.hub_core.specs.Steps.{answer_told};
 
 use crate::changes::{doom_for, one_made};
 use crate::failures::{fallen, first_death, note_fall};
-use crate::hubs::Hub;
 use crate::kept_orders::Noted;
 use crate::known::{DeviceProgress, Events};
+use crate::open_windows::OpenWindow;
 use crate::purposes::Purpose;
 use device_gate::{Done, Gate, Grip, Place, Task, Told};
 use device_states::Device;
@@ -77,7 +77,7 @@ fn noted(answer: Answer, held: Value, is_last: bool) -> Noted
     }
 }
 
-impl<D: Device> Hub<D> {
+impl<D: Device> OpenWindow<D> {
     /// The device of a run's grip comes home.
     pub(crate) fn come_home(&mut self, grip: Grip<D, Done>, moment: u64) -> Made
         requires kept { IsKept self.old.places grip.slip grip.task }

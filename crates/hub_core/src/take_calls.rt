@@ -3,18 +3,18 @@ ghost use Rattle.hub_core.specs.HubCalls.{IsTurn, SameWindow};
 
 use crate::changes::NONE_MADE;
 use crate::decisions::Chosen;
-use crate::hubs::Hub;
+use crate::open_windows::OpenWindow;
 use crate::turns::Turn;
 use device_states::Device;
 use history_book::{End, Made};
 use home_types::RunNo;
 
-impl<D: Device> Hub<D> {
+impl<D: Device> OpenWindow<D> {
     /// Makes the step of the run `r` at this moment, in ms, or at the last one where that is later.
     ///
     /// Answers what the run does: hands out a device, makes entries, waits, or is over. `Wait` and `Absent` change
     /// nothing but the last moment. Takes no memory.
-    pub fn take(&mut self, r: RunNo, moment: u64) -> Turn<D>
+    pub(crate) fn take(&mut self, r: RunNo, moment: u64) -> Turn<D>
         ensures turn { IsTurn self.old r.0 moment result self.new }
         ensures window { SameWindow self.old self.new }
     {

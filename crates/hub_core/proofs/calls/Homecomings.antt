@@ -28,7 +28,7 @@ use Rattle.hub_core.specs.HubSteps.{Carried, Gave, HubState, give_if}
 use Rattle.hub_core.specs.HubsKept.{FitsAtHome, HandsAre, HasRoomLeft, HubIsKept, IsWhole, all_probes_taken, is_away, open_of}
 use Rattle.hub_core.specs.KeptOrders.{OrderIsBeside}
 use Rattle.hub_core.specs.ReadHistories.{HistoryState, with_more}
-use Rattle.hub_core.specs.declared.hubs.Hub.TheInside.{Inside}
+use Rattle.hub_core.specs.declared.open_windows.OpenWindow.TheInside.{Inside}
 use Rattle.hub_core.specs.OpenHubs.{OpenHub, configuration_of, device_at, events_in, grip_in, held_in, state_of}
 use Rattle.hub_core.specs.Steps.{after_give, give_entries, with_entries, with_grip}
 use Rattle.hub_core.specs.declared.known.DeviceProgress.{DeviceProgress}

@@ -31,8 +31,8 @@ use Rattle.hub_core.specs.OpenHubs.{OpenHub, configuration_of, device_at, events
 use Rattle.hub_core.specs.ReadHistories.{HistoryState, read_in, with_doom, with_entry, with_more}
 use Rattle.hub_core.specs.Steps.{Choice, Moves, Over, after_choice, after_take, at_moment, choice_of}
 use Rattle.hub_core.specs.declared.decisions.Chosen.{Chosen}
-use Rattle.hub_core.specs.declared.hubs.ClosingLists.{ClosingLists}
-use Rattle.hub_core.specs.declared.hubs.Hub.TheInside.{Inside}
+use Rattle.hub_core.specs.declared.open_windows.ClosingLists.{ClosingLists}
+use Rattle.hub_core.specs.declared.open_windows.OpenWindow.TheInside.{Inside}
 use Rattle.hub_core.specs.declared.kept_orders.KeptOrder.{KeptOrder}
 use Rattle.lock_leasing.specs.Configurations.{Commands, Configuration, Probes, Purpose, Undoes, read_of}
 use Rattle.std.proofs.Common.{ap, append_assoc, ap₂, arith, length-append, refl, subst, sym, ◌∙◌}

@@ -24,7 +24,7 @@ use Rattle.hub_core.specs.HubCalls.{IsClosed, NoneFails, probes_taken}
 use Rattle.hub_core.specs.HubsKept.{FitsAtHome, HubIsKept, IsEmptyFor, IsWhole, open_of}
 use Rattle.hub_core.specs.OpenHubs.{OpenHub, configuration_of, device_at, grip_in, held_in}
 use Rattle.hub_core.specs.Steps.{not_quiet}
-use Rattle.hub_core.specs.declared.hubs.Hub.TheInside.{Inside}
+use Rattle.hub_core.specs.declared.open_windows.OpenWindow.TheInside.{Inside}
 use Rattle.lock_leasing.specs.Configurations.{read_of}
 use Rattle.serial_line.specs.Marks.{Mark}
 use Rattle.std.proofs.Common.{ap, arith, inl, inr, refl, sym, ◌∙◌}

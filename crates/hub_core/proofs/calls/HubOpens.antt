@@ -26,7 +26,7 @@ use Rattle.hub_core.specs.declared.purposes.Purpose.{Purpose}
 use Rattle.hub_core.specs.Homes.{CountsAreLow, HomeIsKept, HomeState, setting_for}
 use Rattle.hub_core.specs.OpeningRooms.{AreKnown, IsClosingRoom, IsOrderRoom, known_first}
 use Rattle.home_types.specs.declared.worlds.Stand.{Stand}
-use Rattle.hub_core.specs.declared.hubs.ClosingLists.{ClosingLists}
+use Rattle.hub_core.specs.declared.open_windows.ClosingLists.{ClosingLists}
 use Rattle.hub_core.specs.declared.known.DeviceProgress.{DeviceProgress}
 use Rattle.home_types.specs.HomeStates.{nowhere, stand_at}
 use Rattle.hub_core.proofs.kept.OrderSteps.{order_begins}

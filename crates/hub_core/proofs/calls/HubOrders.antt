@@ -38,7 +38,7 @@ use Rattle.hub_core.specs.OpenHubs.{configuration_of, device_at, grip_in, held_i
 use Rattle.hub_core.specs.Openings.{MayOpen, names_values_of}
 use Rattle.hub_core.specs.PlansInTurn.{planned_in_turn}
 use Rattle.hub_core.specs.Steps.{HandsOut, Moves, choice_of}
-use Rattle.hub_core.specs.declared.hubs.Hub.TheInside.{Inside}
+use Rattle.hub_core.specs.declared.open_windows.OpenWindow.TheInside.{Inside}
 use Rattle.hub_core.specs.declared.kept_orders.KeptOrder.{KeptOrder}
 use Rattle.hub_core.specs.declared.known.DeviceProgress.{DeviceProgress}
 use Rattle.hub_core.specs.declared.purposes.Purpose.{Purpose as KeptPurpose}

@@ -28,7 +28,7 @@ use Rattle.hub_core.specs.HubCalls.{GoesOut, SameWindow}
 use Rattle.hub_core.specs.HubsKept.{HubIsKept, IsWhole, open_of}
 use Rattle.hub_core.specs.OpenHubs.{OpenHub, configuration_of, device_at, held_in, purpose_of, state_of}
 use Rattle.hub_core.specs.Steps.{HandsOut, after_choice, at_moment, choice_of, with_grip}
-use Rattle.hub_core.specs.declared.hubs.Hub.TheInside.{Inside}
+use Rattle.hub_core.specs.declared.open_windows.OpenWindow.TheInside.{Inside}
 use Rattle.hub_core.specs.declared.known.DeviceProgress.{DeviceProgress}
 use Rattle.hub_core.specs.declared.purposes.Purpose.{Purpose as KeptPurpose}
 use Rattle.lock_leasing.specs.Configurations.{Commands, Configuration, Probes, Purpose, Undoes, is_out, read_of}

@@ -32,7 +32,7 @@ use Rattle.hub_core.specs.HubsKept.{HandsAre, IsWhole, open_of}
 use Rattle.hub_core.specs.KeptOrders.{HasFallen, HasRisen, IsLostTo, MayTurn, OrderIsBeside, hand_of}
 use Rattle.hub_core.specs.OpenHubs.{OpenHub, configuration_of, device_at, held_in}
 use Rattle.hub_core.specs.ReadHistories.{HistoryState, read_in, with_entry, with_lost, with_more}
-use Rattle.hub_core.specs.declared.hubs.Hub.TheInside.{Inside}
+use Rattle.hub_core.specs.declared.open_windows.OpenWindow.TheInside.{Inside}
 use Rattle.hub_core.specs.declared.kept_orders.KeptOrder.{KeptOrder}
 use Rattle.hub_core.specs.declared.known.Events.{Events}
 use Rattle.lineage_table.specs.Lineages.{LineageState, accesses_at, lineage_at}

@@ -36,7 +36,7 @@ use Rattle.hub_core.specs.KeptOrders.{OrderIsBeside}
 use Rattle.hub_core.specs.OpenHubs.{OpenHub, configuration_of, device_at, events_in, grip_in, held_in, purpose_of, state_of}
 use Rattle.hub_core.specs.ReadHistories.{HistoryState, read_in, with_more}
 use Rattle.hub_core.specs.Steps.{probe_entries, with_entries, with_grip}
-use Rattle.hub_core.specs.declared.hubs.Hub.TheInside.{Inside}
+use Rattle.hub_core.specs.declared.open_windows.OpenWindow.TheInside.{Inside}
 use Rattle.hub_core.specs.declared.kept_orders.KeptOrder.{KeptOrder}
 use Rattle.hub_core.specs.declared.known.Events.{Events}
 use Rattle.hub_core.specs.declared.purposes.Purpose.TheVariants.{Command as ForCommand, Probe as ForProbe, Undo as ForUndo}

@@ -13,7 +13,7 @@ use Rattle.hub_core.proofs.calls.HubOrders.{read_whole, roster_allowed}
 use Rattle.hub_core.specs.HubsKept.{IsWhole, open_of}
 use Rattle.hub_core.specs.OpenHubs.{OpenHub, configuration_of, held_in}
 use Rattle.hub_core.specs.ReadHistories.{read_in}
-use Rattle.hub_core.specs.declared.hubs.Hub.TheInside.{Inside}
+use Rattle.hub_core.specs.declared.open_windows.OpenWindow.TheInside.{Inside}
 use Rattle.lineage_table.specs.Accesses.{access_of, has_access, is_of}
 use Rattle.lineage_table.specs.Lineages.{LineageState, accesses_at, lineage_at}
 use Rattle.lineage_table.specs.declared.accesses.Access.{Access}

@@ -22,7 +22,7 @@ use Rattle.hub_core.specs.HubsKept.{IsWhole, open_of}
 use Rattle.hub_core.specs.KeptOrders.{MayTurn}
 use Rattle.hub_core.specs.OpenHubs.{configuration_of, device_at, held_in}
 use Rattle.hub_core.specs.ReadHistories.{read_in}
-use Rattle.hub_core.specs.declared.hubs.Hub.TheInside.{Inside}
+use Rattle.hub_core.specs.declared.open_windows.OpenWindow.TheInside.{Inside}
 use Rattle.hub_core.specs.declared.known.Events.{Events}
 use Rattle.history_book.specs.Readings.{put}
 use Rattle.lineage_table.specs.Lineages.{lineage_at}

@@ -23,11 +23,11 @@ use Rattle.window_order.proofs.EventPlaces.{awaits_there}
 -- The runs of a line with an event
 
 -- the item is no run, and so none of the words on the runs of a line tells of it
-record IsEvent (n : Reading) (x : Item) : Type 0 where
-  none : (q : ℕ) → is_ran q x ≡ false
-  later : (stamp : ℕ) → is_later n stamp x ≡ true
-  order : (is : List Item) → placed_in_order n (x ∷ is) ≡ placed_in_order n is
-  live : (is : List Item) → live_runs n (x ∷ is) ≡ live_runs n is
+pub record IsEvent (n : Reading) (x : Item) : Type 0 where
+  pub none : (q : ℕ) → is_ran q x ≡ false
+  pub later : (stamp : ℕ) → is_later n stamp x ≡ true
+  pub order : (is : List Item) → placed_in_order n (x ∷ is) ≡ placed_in_order n is
+  pub live : (is : List Item) → live_runs n (x ∷ is) ≡ live_runs n is
 
 later_with : (n : Reading) (stamp : ℕ) (t : Item → Bool) (x : Item) (line : List Item) → is_later n stamp x ≡ true → list_all (is_later n stamp) (put_before t x line) ≡ list_all (is_later n stamp) line
 later_with n stamp t x [] later = ap (λ b. b && true) later
@@ -52,7 +52,7 @@ order_with n t x (i ∷ is) event = by_test (t i) (order_with n t x is event)
     by_test false rest = behind_item i rest
 
 -- and before a run the same ones are live
-front_with : (n : Reading) (q : ℕ) (t : Item → Bool) (x : Item) (line : List Item) → IsEvent n x → live_runs n (before q (put_before t x line)) ≡ live_runs n (before q line)
+pub front_with : (n : Reading) (q : ℕ) (t : Item → Bool) (x : Item) (line : List Item) → IsEvent n x → live_runs n (before q (put_before t x line)) ≡ live_runs n (before q line)
 front_with n q t x line event = along line
   where
     first : (is : List Item) → live_runs n (before q (x ∷ is)) ≡ live_runs n (before q is)

@@ -29,7 +29,7 @@ no_hands w g none = record {
     it (suc n) (suc i) hand at = it n i hand at
 
 -- the grip is the run's, where there is one
-abbrev IsOf : ℕ → Option Grip → Type 0
+abbrev pub IsOf : ℕ → Option Grip → Type 0
 IsOf r None = ⊤
 IsOf r (Some grip) = grip.maker ≡ r
 
@@ -47,7 +47,7 @@ not_of (Some grip) q r own other = differ grip.maker own
         equal a b h = grind (arith, common_steps)
 
 -- another run holds what it held, where a grip of the run goes out or comes back
-others_hold : (g : Grips) (r d : ℕ) (o : Option Grip) → IsOf r o → IsOf r (g d) → (q e : ℕ) → q ≢ r → has_grip (put g d o) q e ≡ has_grip g q e
+pub others_hold : (g : Grips) (r d : ℕ) (o : Option Grip) → IsOf r o → IsOf r (g d) → (q e : ℕ) → q ≢ r → has_grip (put g d o) q e ≡ has_grip g q e
 others_hold g r d o own was q e other = elim (e == d) as (λ b. (e == d) ≡ b → unwrap_or (option_map (λ p. p.maker == q) (if b then o else g e)) false ≡ unwrap_or (option_map (λ p. p.maker == q) (g e)) false) [
   | true ↦ (λ h. not_of o q r own other ∙ sym (ap (λ x. unwrap_or (option_map (λ p. p.maker == q) (g x)) false) (equal e d h) ∙ not_of (g d) q r was other))
   | false ↦ (λ h. refl)

@@ -1,6 +1,7 @@
 use Rattle.hub_core.proofs.calls.HubOpens.{Opens, first_order, first_hands, first_kept, first_opened, first_room, is_first_hub, setting_of_indexed}
 use Rattle.hub_core.proofs.calls.HubOrders.{index_fits}
 use Rattle.hub_core.proofs.homes.Home.open_window.Goals as goal
+use Rattle.hub_core.proofs.kept.BlockedMarks.{none_blocked}
 use Rattle.hub_core.specs.Homes.{HomeIsKept, HomeState, setting_for}
 use Rattle.hub_core.specs.Bounds.{most_entries}
 use Rattle.hub_core.specs.HubCalls.{IsOpened}
@@ -26,6 +27,10 @@ invariant_of-result g c =
           (first_order _ _ _ _ _ c.args.self c.args.roster c.args.mode c.args.rounds c.empty_history.result.spare _ _ _ opens c.in-Ok.ensures.order);
       hands = subst (λ (t : OpenHub g.row.D.Denot). HandsAre t.setting (configuration_of t).grips c.in-Ok.room.hands.items) (sym same) (first_hands _ _ _ _ _ c.args.self c.args.roster c.args.mode c.args.rounds _ _ opens c.in-Ok.ensures.hands);
     }
+
+-- no run is marked as blocked
+pub invariant_of-result-in-Ok-open-2 : goal.invariant_of-result-in-Ok-open-2
+invariant_of-result-in-Ok-open-2 g c = none_blocked _ _ c.in-Ok.ensures.blocked
 
 pub returns-in-Ok-open-2-clause-opened : goal.returns-in-Ok-open-2-clause-opened
 returns-in-Ok-open-2-clause-opened g c =

@@ -1,13 +1,16 @@
-use Rattle.device_gate.specs.Places.{slip_of}
-use Rattle.hub_core.proofs.calls.HubRefusals.{not_a_run, not_out, refused_given}
+use Rattle.device_gate.specs.declared.slips.Slip.{Slip}
+use Rattle.history_book.specs.Histories.{entries_made}
+use Rattle.hub_core.proofs.calls.HubMarks.{marks_given}
 use Rattle.hub_core.proofs.hubs.Hub.give.Goals as goal
-use Rattle.hub_core.proofs.hubs.Hub.give.Goals.{then-slip-eq0-via-else-slip-eq0+then-not-is_kept, then-slip-eq0-via-then-slip-eq0}
-use Rattle.std.proofs.Common.{ap, refl, sym, ◌∙◌}
-use Rattle.std.specs.Prelude.{false, slice_get, true, ◌≡◌}
+use Rattle.hub_core.specs.BlockedMarks.{AreLeft}
+use Rattle.hub_core.specs.BlockedRuns.{is_quiet}
+use Rattle.hub_core.specs.HubCalls.{IsGiven}
+use Rattle.hub_core.specs.MarkedRuns.{IsAnsweredStill}
+use Rattle.hub_core.specs.OpenHubs.{configuration_of}
+use Rattle.std.proofs.Common.{subst}
+use Rattle.std.specs.List.{list_all}
+use Rattle.std.specs.Prelude.{true, ◌≡◌, ◌≢◌, ◌⊎◌}
 
-pub returns-then-slip-eq0-clause-given : goal.returns-then-slip-eq0-clause-given
-returns-then-slip-eq0-clause-given g c =
-    refused_given c.args.self.now c.args.self.now c.args.grip c.args.moment c.stranger-stranger.result refl (c.stranger-stranger.ensures.kept ∙ ap (λ s. slip_of (slice_get s.places c.args.grip.slip.device.0)) c.self.view_is) c.stranger-stranger.ensures.told (elim c.then-slip-eq0.branch [
-      | then-slip-eq0-via-then-slip-eq0 w ↦ not_a_run c.args.self.now c.args.grip (ap (λ s. s.maker) (sym c.slip.ensures) ∙ w.if-slip-eq0.true)
-      | then-slip-eq0-via-else-slip-eq0+then-not-is_kept w ↦ not_out c.args.self.now c.args.grip (λ kept. let no : false ≡ true = w.if-not-is_kept.ensures.1 (ap (λ s. slice_get s.places c.args.grip.slip.device.0) c.self.view_is ∙ kept) in cc)
-    ])
+pub invariant_of-self : goal.invariant_of-self
+invariant_of-self g c = marks_given g.D.Device.stands g.D.Device.turns g.D.Device.probes g.D.Device.faults c.self.inside.window c.give.new.self c.args.moment c.args.grip c.in-Ok.made _ _ c.whole.ensures c.whole-in-Ok.ensures (subst (λ made. IsGiven c.self.inside.window c.args.grip c.args.moment made c.give.new.self) c.in-Ok.is c.give.ensures.given) c.self.invariant
+    (subst (λ (x : Slip). AreLeft c.self.inside.blocked c.free_back.new.blocked (λ e. IsAnsweredStill (configuration_of c.give.new.self) x.device.0 (entries_made c.in-Ok.made) ⊎ ((e ≢ x.device.0) × (list_all (is_quiet c.give.new.self.setting e) (entries_made c.in-Ok.made) ≡ true)))) c.slip.ensures c.free_back.ensures)

@@ -1,13 +1,16 @@
-use Rattle.device_gate.specs.Places.{slip_of}
-use Rattle.hub_core.proofs.calls.HubRefusals.{not_a_probe, not_probed, refused_probe}
+use Rattle.device_gate.specs.declared.slips.Slip.{Slip}
+use Rattle.history_book.specs.Histories.{entries_made}
+use Rattle.hub_core.proofs.calls.HubMarks.{marks_probe_given}
 use Rattle.hub_core.proofs.hubs.Hub.give_probe.Goals as goal
-use Rattle.hub_core.proofs.hubs.Hub.give_probe.Goals.{then-slip-ne0-via-else-slip-ne0+then-not-is_kept, then-slip-ne0-via-then-slip-ne0}
-use Rattle.std.proofs.Common.{ap, refl, ◌∙◌}
-use Rattle.std.specs.Prelude.{false, slice_get, true, ◌≡◌}
+use Rattle.hub_core.specs.BlockedMarks.{AreLeft}
+use Rattle.hub_core.specs.BlockedRuns.{is_quiet}
+use Rattle.hub_core.specs.HubCalls.{IsProbeGiven}
+use Rattle.hub_core.specs.MarkedRuns.{IsAnsweredStill}
+use Rattle.hub_core.specs.OpenHubs.{configuration_of}
+use Rattle.std.proofs.Common.{subst}
+use Rattle.std.specs.List.{list_all}
+use Rattle.std.specs.Prelude.{true, ◌≡◌, ◌≢◌, ◌⊎◌}
 
-pub returns-then-slip-ne0-clause-given : goal.returns-then-slip-ne0-clause-given
-returns-then-slip-ne0-clause-given g c =
-    refused_probe c.args.self.now c.args.self.now c.args.grip c.stranger-stranger.result refl (c.stranger-stranger.ensures.kept ∙ ap (λ s. slip_of (slice_get s.places c.args.grip.slip.device.0)) c.self.view_is) c.stranger-stranger.ensures.told (elim c.then-slip-ne0.branch [
-      | then-slip-ne0-via-then-slip-ne0 w ↦ not_a_probe c.args.self.now c.args.grip (λ none. w.if-slip-ne0.true (ap (λ s. s.maker) c.slip.ensures ∙ none))
-      | then-slip-ne0-via-else-slip-ne0+then-not-is_kept w ↦ not_probed c.args.self.now c.args.grip (λ kept. let no : false ≡ true = w.if-not-is_kept.ensures.1 (ap (λ s. slice_get s.places c.args.grip.slip.device.0) c.self.view_is ∙ kept) in cc)
-    ])
+pub invariant_of-self : goal.invariant_of-self
+invariant_of-self g c = marks_probe_given g.D.Device.stands g.D.Device.turns g.D.Device.probes g.D.Device.faults c.self.inside.window c.give_probe.new.self c.args.grip c.in-Ok.made _ _ c.whole.ensures c.whole-in-Ok.ensures (subst (λ made. IsProbeGiven c.self.inside.window c.args.grip made c.give_probe.new.self) c.in-Ok.is c.give_probe.ensures.given) c.self.invariant
+    (subst (λ (x : Slip). AreLeft c.self.inside.blocked c.free_back.new.blocked (λ e. IsAnsweredStill (configuration_of c.give_probe.new.self) x.device.0 (entries_made c.in-Ok.made) ⊎ ((e ≢ x.device.0) × (list_all (is_quiet c.give_probe.new.self.setting e) (entries_made c.in-Ok.made) ≡ true)))) c.slip.ensures c.free_back.ensures)

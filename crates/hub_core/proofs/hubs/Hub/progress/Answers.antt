@@ -1,5 +1,7 @@
-use Rattle.hub_core.proofs.calls.HubLaws.{kept_at, moves_hub}
 use Rattle.hub_core.proofs.hubs.Hub.progress.Goals as goal
+use Rattle.hub_core.specs.HubCalls.{SomeRunMoves}
+use Rattle.hub_core.specs.OpenHubs.{OpenHub, configuration_of}
+use Rattle.std.proofs.Common.{subst}
 
 pub returns : goal.returns
-returns g c = moves_hub g.D.Device.stands g.D.Device.turns g.D.Device.probes g.D.Device.faults _ (kept_at g.D.Device.stands g.D.Device.turns g.D.Device.probes g.D.Device.faults _ _ c.self.view_is c.self.invariant.shown)
+returns g c = subst (λ (t : OpenHub g.row.D.Denot). SomeRunMoves (configuration_of t)) c.self.view_is c.progress.ensures

@@ -1,5 +1,0 @@
-use Rattle.hub_core.proofs.calls.HubChanges.{reached_whole}
-use Rattle.hub_core.proofs.hubs.Hub.reach.Goals as goal
-
-pub invariant_of-self : goal.invariant_of-self
-invariant_of-self g c = rw c.max-self-inside.ensures (reached_whole c.self.inside c.args.moment c.self.invariant)

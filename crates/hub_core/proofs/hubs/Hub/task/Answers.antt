@@ -1,9 +1,0 @@
-use Rattle.hub_core.proofs.hubs.Hub.task.Goals as goal
-use Rattle.hub_core.specs.OpenHubs.{purpose_of}
-use Rattle.std.proofs.Common.{ap}
-
-pub command_task-requires-clause-run : goal.command_task-requires-clause-run
-command_task-requires-clause-run g c = (c.requires.command c.in-Command.k (ap purpose_of c.in-Command.is)).0
-
-pub command_task-requires-clause-command : goal.command_task-requires-clause-command
-command_task-requires-clause-command g c = (c.requires.command c.in-Command.k (ap purpose_of c.in-Command.is)).1

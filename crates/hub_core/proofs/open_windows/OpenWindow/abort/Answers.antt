@@ -1,0 +1,31 @@
+use Rattle.history_book.specs.declared.entries.End.TheVariants.{Aborted}
+use Rattle.hub_core.proofs.calls.HubChanges.{Ending, chosen_here, has_place}
+use Rattle.hub_core.proofs.calls.HubChoices.{aborting, finished_is}
+use Rattle.hub_core.proofs.calls.HubOrders.{aborts_whole, read_whole, standing_whole}
+use Rattle.hub_core.proofs.calls.NextUndos.{next_undo_is}
+use Rattle.hub_core.proofs.open_windows.OpenWindow.abort.Goals as goal
+use Rattle.hub_core.specs.ReadHistories.{with_entry}
+use Rattle.hub_core.specs.declared.decisions.Chosen.TheVariants.{Aborts}
+use Rattle.std.proofs.Common.{ap, ◌∙◌}
+use Rattle.window_order.proofs.TouchedLines.{live_stands}
+
+pub withdraw-requires-clause-run : goal.withdraw-requires-clause-run
+withdraw-requires-clause-run g c =
+    let ends = aborting _ _ _ _ c.args.r.0 c.args.moment c.args.cause c.self.invariant.shown.configuration (chosen_here c.self.inside c.args.self.now c.args.r.0 c.args.moment (Aborts c.args.cause) c.self.view_is c.requires) in
+    live_stands _ _ _ c.args.r.0 _ (read_whole c.self.inside c.self.invariant) ends.live c.self.invariant.order.line_is
+
+pub withdraw-requires-clause-finished : goal.withdraw-requires-clause-finished
+withdraw-requires-clause-finished g c =
+    let ends = aborting _ _ _ _ c.args.r.0 c.args.moment c.args.cause c.self.invariant.shown.configuration (chosen_here c.self.inside c.args.self.now c.args.r.0 c.args.moment (Aborts c.args.cause) c.self.view_is c.requires) in
+    next_undo_is _ _ _ _ _ c.args.r.0 (standing_whole c.self.inside c.kept.ensures c.self.invariant) ends.live ∙ finished_is _ c.args.r.0 c.args.cause ends
+
+pub abort-requires-clause-room : goal.abort-requires-clause-room
+abort-requires-clause-room g c = has_place c.self.inside c.args.r.0 c.args.moment _ (Ending (Aborted c.args.cause)) (chosen_here c.self.inside c.args.self.now c.args.r.0 c.args.moment (Aborts c.args.cause) c.self.view_is c.requires) c.self.invariant
+
+pub invariant_of-self : goal.invariant_of-self
+invariant_of-self g c =
+    let new = c.abort.ensures.new ∙ ap (with_entry c.self.inside.history c.args.r.0) c.abort.ensures.entry in
+    aborts_whole c.self.inside _ c.args.r.0 c.args.moment c.args.cause (record {
+      chosen = chosen_here c.self.inside c.args.self.now c.args.r.0 c.args.moment (Aborts c.args.cause) c.self.view_is c.requires;
+      new = λ i. record c.self.inside { history = new i; moment = c.max-self-inside.ensures i; order = c.withdraw.new.self };
+    }) (record { marks = c.withdraw.ensures.marks; spare = c.withdraw.ensures.spare; table = c.withdraw.ensures.table }) c.self.invariant

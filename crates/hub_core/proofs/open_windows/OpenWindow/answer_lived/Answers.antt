@@ -1,0 +1,130 @@
+use Rattle.command_rules.specs.Rosters.{is_run}
+use Rattle.history_book.specs.Readings.{next_of}
+use Rattle.hub_core.proofs.calls.HubChanges.{answer_entries}
+use Rattle.hub_core.proofs.calls.HubReturns.{CameHome, answer_made, answered_back, back_given, back_place, command_back, doom_place, grip_back, hand_back, lived_events}
+use Rattle.hub_core.proofs.steps.LastAnswers.{just_answered}
+use Rattle.hub_core.proofs.calls.ReturnedOrders.{answered_whole, may_tell}
+use Rattle.hub_core.proofs.open_windows.OpenWindow.answer_lived.Goals as goal
+use Rattle.device_gate.specs.declared.slips.Slip.{Slip}
+use Rattle.hub_core.specs.OpenHubs.{OpenHub, device_at}
+use Rattle.hub_core.specs.ReadHistories.{read_in, with_doom, with_entry}
+use Rattle.hub_core.specs.Steps.{answer_told}
+use Rattle.hub_core.specs.declared.open_windows.OpenWindow.TheInside.{Inside}
+use Rattle.hub_core.specs.declared.purposes.Purpose.TheVariants.{Command as ForCommand}
+use Rattle.std.proofs.Common.{ap, arith, refl, sym, ◌∙◌}
+use Rattle.std.specs.Prelude.{None, Some, ◌≡◌}
+
+pub take_home-told-requires-clause-run : goal.take_home-told-requires-clause-run
+take_home-told-requires-clause-run g c = hand_back c.self.inside c.args.self.now c.args.grip.slip c.args.grip.task c.self.view_is c.requires.kept c.requires.maker c.self.invariant
+
+pub refuted-cause-requires-clause-run : goal.refuted-cause-requires-clause-run
+refuted-cause-requires-clause-run g c = rw c.slip-slip.ensures ((command_back c.self.inside c.args.self.now c.args.grip.slip c.args.grip.task c.args.k c.self.view_is c.requires.kept c.requires.purpose c.self.invariant).run)
+
+pub refuted-cause-requires-clause-there : goal.refuted-cause-requires-clause-there
+refuted-cause-requires-clause-there g c = rw c.slip-slip.ensures ((command_back c.self.inside c.args.self.now c.args.grip.slip c.args.grip.task c.args.k c.self.view_is c.requires.kept c.requires.purpose c.self.invariant).within)
+
+pub answer-entry-requires-clause-run : goal.answer-entry-requires-clause-run
+answer-entry-requires-clause-run g c = rw c.slip-slip.ensures ((command_back c.self.inside c.args.self.now c.args.grip.slip c.args.grip.task c.args.k c.self.view_is c.requires.kept c.requires.purpose c.self.invariant).run)
+
+pub answer-entry-requires-clause-there : goal.answer-entry-requires-clause-there
+answer-entry-requires-clause-there g c = rw c.slip-slip.ensures ((command_back c.self.inside c.args.self.now c.args.grip.slip c.args.grip.task c.args.k c.self.view_is c.requires.kept c.requires.purpose c.self.invariant).within)
+
+pub answer-entry-requires-clause-room : goal.answer-entry-requires-clause-room
+answer-entry-requires-clause-room g c = back_place c.self.inside (ForCommand c.args.k) _ c.args.grip (grip_back c.self.inside c.args.self.now (ForCommand c.args.k) _ c.args.grip c.self.view_is c.requires.kept c.requires.maker c.requires.purpose c.take_home-told.ensures.called) c.self.invariant
+
+pub answer-entry-requires-clause-few : goal.answer-entry-requires-clause-few
+answer-entry-requires-clause-few g c =
+    let command = command_back c.self.inside c.args.self.now c.args.grip.slip c.args.grip.task c.args.k c.self.view_is c.requires.kept c.requires.purpose c.self.invariant in
+    let number : next_of (read_in c.self.inside.history) c.slip-slip.result.maker ≡ c.args.k = ap (λ s. next_of (read_in c.self.inside.history) s.maker) c.slip-slip.ensures ∙ sym command.next in
+    omega (arith, number, command.few)
+
+pub is_done-is_last-requires-clause-run : goal.is_done-is_last-requires-clause-run
+is_done-is_last-requires-clause-run g c =
+    let command = command_back c.self.inside c.args.self.now c.args.grip.slip c.args.grip.task c.args.k c.self.view_is c.requires.kept c.requires.purpose c.self.invariant in
+    let last = just_answered c.self.inside.history c.answer-entry.new.self c.args.grip.slip.maker c.slip-slip.result.maker c.args.k c.slip-slip.result.device.0 c.answer-entry.result c.answer_told-answer.result command.run command.next command.within (command.on ∙ ap (λ s. s.device.0) (sym c.slip-slip.ensures)) (ap (λ s. s.maker) c.slip-slip.ensures) c.answer-entry.ensures.entry c.answer-entry.ensures.new in
+    last.run
+
+pub is_done-is_last-requires-clause-there : goal.is_done-is_last-requires-clause-there
+is_done-is_last-requires-clause-there g c =
+    let command = command_back c.self.inside c.args.self.now c.args.grip.slip c.args.grip.task c.args.k c.self.view_is c.requires.kept c.requires.purpose c.self.invariant in
+    let last = just_answered c.self.inside.history c.answer-entry.new.self c.args.grip.slip.maker c.slip-slip.result.maker c.args.k c.slip-slip.result.device.0 c.answer-entry.result c.answer_told-answer.result command.run command.next command.within (command.on ∙ ap (λ s. s.device.0) (sym c.slip-slip.ensures)) (ap (λ s. s.maker) c.slip-slip.ensures) c.answer-entry.ensures.entry c.answer-entry.ensures.new in
+    last.there
+
+pub is_done-is_last-requires-clause-device : goal.is_done-is_last-requires-clause-device
+is_done-is_last-requires-clause-device g c =
+    let command = command_back c.self.inside c.args.self.now c.args.grip.slip c.args.grip.task c.args.k c.self.view_is c.requires.kept c.requires.purpose c.self.invariant in
+    let last = just_answered c.self.inside.history c.answer-entry.new.self c.args.grip.slip.maker c.slip-slip.result.maker c.args.k c.slip-slip.result.device.0 c.answer-entry.result c.answer_told-answer.result command.run command.next command.within (command.on ∙ ap (λ s. s.device.0) (sym c.slip-slip.ensures)) (ap (λ s. s.maker) c.slip-slip.ensures) c.answer-entry.ensures.entry c.answer-entry.ensures.new in
+    last.device
+
+pub is_done-is_last-requires-clause-answered : goal.is_done-is_last-requires-clause-answered
+is_done-is_last-requires-clause-answered g c =
+    let command = command_back c.self.inside c.args.self.now c.args.grip.slip c.args.grip.task c.args.k c.self.view_is c.requires.kept c.requires.purpose c.self.invariant in
+    let last = just_answered c.self.inside.history c.answer-entry.new.self c.args.grip.slip.maker c.slip-slip.result.maker c.args.k c.slip-slip.result.device.0 c.answer-entry.result c.answer_told-answer.result command.run command.next command.within (command.on ∙ ap (λ s. s.device.0) (sym c.slip-slip.ensures)) (ap (λ s. s.maker) c.slip-slip.ensures) c.answer-entry.ensures.entry c.answer-entry.ensures.new in
+    last.answered
+
+pub note-requires-clause-device : goal.note-requires-clause-device
+note-requires-clause-device g c = (may_tell c.self.inside c.args.k _ c.args.grip c.slip-slip.result (grip_back c.self.inside c.args.self.now (ForCommand c.args.k) _ c.args.grip c.self.view_is c.requires.kept c.requires.maker c.requires.purpose c.take_home-told.ensures.called) c.slip-slip.ensures c.self.invariant).device
+
+pub note-requires-clause-turn : goal.note-requires-clause-turn
+note-requires-clause-turn g c = (may_tell c.self.inside c.args.k _ c.args.grip c.slip-slip.result (grip_back c.self.inside c.args.self.now (ForCommand c.args.k) _ c.args.grip c.self.view_is c.requires.kept c.requires.maker c.requires.purpose c.take_home-told.ensures.called) c.slip-slip.ensures c.self.invariant).turn
+
+pub doom_for-doomed-requires-clause-run : goal.doom_for-doomed-requires-clause-run
+doom_for-doomed-requires-clause-run g c = ap (λ s. is_run s.setting.runs c.slip-slip.result.maker) c.answer-entry.ensures.new ∙ ap (λ s. is_run c.self.inside.history.setting.runs s.maker) c.slip-slip.ensures ∙ (command_back c.self.inside c.args.self.now c.args.grip.slip c.args.grip.task c.args.k c.self.view_is c.requires.kept c.requires.purpose c.self.invariant).run
+
+pub doom_for-doomed-requires-clause-room : goal.doom_for-doomed-requires-clause-room
+doom_for-doomed-requires-clause-room g c = λ some. doom_place c.self.inside c.args.k _ c.args.grip c.slip-slip.result c.answer_told-answer.result c.refuted-cause.result c.answer-entry.new.self (with_doom c.answer-entry.new.self c.slip-slip.result.maker c.refuted-cause.result) (grip_back c.self.inside c.args.self.now (ForCommand c.args.k) _ c.args.grip c.self.view_is c.requires.kept c.requires.maker c.requires.purpose c.take_home-told.ensures.called) (record {
+  same = c.slip-slip.ensures;
+  lives = c.requires.lives;
+  told = c.answer_told-answer.ensures ∙ ap answer_told c.take_home-told.ensures.told;
+  refuted = c.refuted-cause.ensures;
+  answered = c.answer-entry.ensures.new ∙ ap (with_entry c.self.inside.history c.slip-slip.result.maker) c.answer-entry.ensures.entry;
+  doomed = refl;
+}) c.self.invariant some
+
+pub invariant_of-self : goal.invariant_of-self
+invariant_of-self g c =
+    answered_whole c.self.inside _ c.args.moment c.take_home-told.result.held c.args.k _ c.events-events.result c.args.grip c.slip-slip.result c.answer_told-answer.result c.refuted-cause.result c.answer-entry.new.self _ _ _ c.note.new.self (grip_back c.self.inside c.args.self.now (ForCommand c.args.k) _ c.args.grip c.self.view_is c.requires.kept c.requires.maker c.requires.purpose c.take_home-told.ensures.called) (record { moment_is = c.max-self-inside.ensures; value_is = c.take_home-told.ensures.held; events_are = c.events-events.ensures ∙ ap (λ (x : Slip). (device_at c.args.self.now.devices x.device.0).events) c.slip-slip.ensures ∙ ap (λ (x : OpenHub g.row.D.Denot). (device_at x.devices c.args.grip.slip.device.0).events) (sym c.self.view_is) ∙ lived_events c.args.grip.stage.told _ c.requires.lives; devices_are = c.take_home-told.ensures.devices; places_are = c.take_home-told.ensures.places; tickets_are = c.take_home-told.ensures.tickets; hands_are = c.take_home-told.ensures.hands; new = refl }) (record {
+      same = c.slip-slip.ensures;
+      lives = c.requires.lives;
+      told = c.answer_told-answer.ensures ∙ ap answer_told c.take_home-told.ensures.told;
+      refuted = c.refuted-cause.ensures;
+      answered = c.answer-entry.ensures.new ∙ ap (with_entry c.self.inside.history c.slip-slip.result.maker) c.answer-entry.ensures.entry;
+      doomed = c.doom_for-doomed.ensures.history;
+    }) (record {
+      view_is = c.noted.ensures.view;
+      wrote_is = c.noted.ensures.wrote;
+      last_is = c.noted.ensures.last ∙ c.is_done-is_last.ensures;
+      line = c.note.ensures.line;
+      table = c.note.ensures.table;
+      line_after = c.doom_for-doomed.ensures.line;
+      unchanged = c.doom_for-doomed.ensures.table;
+      changed = c.doom_for-doomed.ensures.doomed;
+    }) c.self.invariant
+
+pub returns-clause-given : goal.returns-clause-given
+returns-clause-given g c =
+    let t : Inside g.row.D.Denot = record c.self.inside { history = c.doom_for-doomed.new.history; moment = c.max-self-inside.result; devices = c.take_home-told.new.devices; gate = c.take_home-told.new.gate; hands = c.take_home-told.new.hands; order = c.doom_for-doomed.new.order } in
+    let back : CameHome g.D.Device.stands g.D.Device.turns g.D.Device.probes g.D.Device.faults c.self.inside t c.args.moment c.take_home-told.result.held c.events-events.result (ForCommand c.args.k) _ c.args.grip (answer_entries c.slip-slip.result.maker c.args.k c.answer_told-answer.result c.refuted-cause.result) =
+    answered_back c.self.inside t c.args.moment c.take_home-told.result.held c.args.k _ c.events-events.result c.args.grip c.slip-slip.result c.answer_told-answer.result c.refuted-cause.result c.answer-entry.new.self (grip_back c.self.inside c.args.self.now (ForCommand c.args.k) _ c.args.grip c.self.view_is c.requires.kept c.requires.maker c.requires.purpose c.take_home-told.ensures.called) (record { moment_is = c.max-self-inside.ensures; value_is = c.take_home-told.ensures.held; events_are = c.events-events.ensures ∙ ap (λ (x : Slip). (device_at c.args.self.now.devices x.device.0).events) c.slip-slip.ensures ∙ ap (λ (x : OpenHub g.row.D.Denot). (device_at x.devices c.args.grip.slip.device.0).events) (sym c.self.view_is) ∙ lived_events c.args.grip.stage.told _ c.requires.lives; devices_are = c.take_home-told.ensures.devices; places_are = c.take_home-told.ensures.places; tickets_are = c.take_home-told.ensures.tickets; hands_are = c.take_home-told.ensures.hands; new = refl }) (record {
+      same = c.slip-slip.ensures;
+      lives = c.requires.lives;
+      told = c.answer_told-answer.ensures ∙ ap answer_told c.take_home-told.ensures.told;
+      refuted = c.refuted-cause.ensures;
+      answered = c.answer-entry.ensures.new ∙ ap (with_entry c.self.inside.history c.slip-slip.result.maker) c.answer-entry.ensures.entry;
+      doomed = c.doom_for-doomed.ensures.history;
+    }) in
+    (back_given c.self.inside t c.args.self.now c.args.moment c.take_home-told.result.held c.events-events.result (ForCommand c.args.k) _ c.args.grip _ (record { a = Some c.answer-entry.result; b = c.doom_for-doomed.result; c = None }) c.self.view_is back (answer_made c.slip-slip.result c.args.k c.answer_told-answer.result c.refuted-cause.result _ _ c.answer-entry.ensures.entry c.doom_for-doomed.ensures.entry) c.self.invariant).given
+
+pub returns-clause-window : goal.returns-clause-window
+returns-clause-window g c =
+    let t : Inside g.row.D.Denot = record c.self.inside { history = c.doom_for-doomed.new.history; moment = c.max-self-inside.result; devices = c.take_home-told.new.devices; gate = c.take_home-told.new.gate; hands = c.take_home-told.new.hands; order = c.doom_for-doomed.new.order } in
+    let back : CameHome g.D.Device.stands g.D.Device.turns g.D.Device.probes g.D.Device.faults c.self.inside t c.args.moment c.take_home-told.result.held c.events-events.result (ForCommand c.args.k) _ c.args.grip (answer_entries c.slip-slip.result.maker c.args.k c.answer_told-answer.result c.refuted-cause.result) =
+    answered_back c.self.inside t c.args.moment c.take_home-told.result.held c.args.k _ c.events-events.result c.args.grip c.slip-slip.result c.answer_told-answer.result c.refuted-cause.result c.answer-entry.new.self (grip_back c.self.inside c.args.self.now (ForCommand c.args.k) _ c.args.grip c.self.view_is c.requires.kept c.requires.maker c.requires.purpose c.take_home-told.ensures.called) (record { moment_is = c.max-self-inside.ensures; value_is = c.take_home-told.ensures.held; events_are = c.events-events.ensures ∙ ap (λ (x : Slip). (device_at c.args.self.now.devices x.device.0).events) c.slip-slip.ensures ∙ ap (λ (x : OpenHub g.row.D.Denot). (device_at x.devices c.args.grip.slip.device.0).events) (sym c.self.view_is) ∙ lived_events c.args.grip.stage.told _ c.requires.lives; devices_are = c.take_home-told.ensures.devices; places_are = c.take_home-told.ensures.places; tickets_are = c.take_home-told.ensures.tickets; hands_are = c.take_home-told.ensures.hands; new = refl }) (record {
+      same = c.slip-slip.ensures;
+      lives = c.requires.lives;
+      told = c.answer_told-answer.ensures ∙ ap answer_told c.take_home-told.ensures.told;
+      refuted = c.refuted-cause.ensures;
+      answered = c.answer-entry.ensures.new ∙ ap (with_entry c.self.inside.history c.slip-slip.result.maker) c.answer-entry.ensures.entry;
+      doomed = c.doom_for-doomed.ensures.history;
+    }) in
+    (back_given c.self.inside t c.args.self.now c.args.moment c.take_home-told.result.held c.events-events.result (ForCommand c.args.k) _ c.args.grip _ (record { a = Some c.answer-entry.result; b = c.doom_for-doomed.result; c = None }) c.self.view_is back (answer_made c.slip-slip.result c.args.k c.answer_told-answer.result c.refuted-cause.result _ _ c.answer-entry.ensures.entry c.doom_for-doomed.ensures.entry) c.self.invariant).window

@@ -1,0 +1,18 @@
+use Rattle.history_book.specs.declared.entries.End.TheVariants.{Committed}
+use Rattle.hub_core.proofs.calls.HubChanges.{Ending, chosen_here, has_place}
+use Rattle.hub_core.proofs.calls.HubOrders.{commits_whole}
+use Rattle.hub_core.proofs.open_windows.OpenWindow.commit.Goals as goal
+use Rattle.hub_core.specs.ReadHistories.{with_entry}
+use Rattle.hub_core.specs.declared.decisions.Chosen.TheVariants.{Commits}
+use Rattle.std.proofs.Common.{ap, ◌∙◌}
+
+pub commit-requires-clause-room : goal.commit-requires-clause-room
+commit-requires-clause-room g c = has_place c.self.inside c.args.r.0 c.args.moment _ (Ending Committed) (chosen_here c.self.inside c.args.self.now c.args.r.0 c.args.moment Commits c.self.view_is c.requires) c.self.invariant
+
+pub invariant_of-self : goal.invariant_of-self
+invariant_of-self g c =
+    let new = c.commit.ensures.new ∙ ap (with_entry c.self.inside.history c.args.r.0) c.commit.ensures.entry in
+    commits_whole c.self.inside _ c.args.r.0 c.args.moment (record {
+      chosen = chosen_here c.self.inside c.args.self.now c.args.r.0 c.args.moment Commits c.self.view_is c.requires;
+      new = λ i. record c.self.inside { history = new i; moment = c.max-self-inside.ensures i; order = c.settle.new.self };
+    }) c.settle.ensures.line c.settle.ensures.table c.self.invariant

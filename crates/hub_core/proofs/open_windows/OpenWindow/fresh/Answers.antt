@@ -1,0 +1,16 @@
+use Rattle.hub_core.proofs.calls.HubLaws.{fresh_hub, fresh_out}
+use Rattle.hub_core.proofs.open_windows.OpenWindow.fresh.Goals as goal
+use Rattle.std.proofs.Common.{false, sym, true, ◌≡◌, ◌∙◌}
+
+-- a device is out
+pub returns-then-is_some : goal.returns-then-is_some
+returns-then-is_some g c = (
+  λ never. absurd (let no : false ≡ true = never in cc),
+  λ fresh. absurd (fresh_out _ _ c.first_out.result c.self.view_is c.first_out.ensures.some (sym c.is_some.ensures ∙ c.if-is_some.true) fresh),
+)
+
+-- else no probe is left out
+pub returns : goal.returns
+returns g c =
+    fresh_hub g.D.Device.stands g.D.Device.turns g.D.Device.probes g.D.Device.faults _ _ c.first_out.result c.has_all_probes.result c.self.view_is c.self.invariant.shown (sym c.len.ensures ∙ c.if-len-ne0.false) c.if-self-ne0.false
+    c.first_out.ensures.none (sym c.is_some.ensures ∙ c.if-is_some.false) c.has_all_probes.ensures

@@ -1,0 +1,22 @@
+use Rattle.hub_core.proofs.calls.HubOrders.{few_whole, standing_whole}
+use Rattle.hub_core.proofs.open_windows.OpenWindow.table.Goals as goal
+use Rattle.history_book.specs.Settings.{is_weak}
+use Rattle.hub_core.specs.OpenHubs.{OpenHub, configuration_of}
+use Rattle.lineage_table.specs.Lineages.{accesses_at}
+use Rattle.lock_leasing.specs.Configurations.{read_of}
+use Rattle.lock_leasing.specs.Tables.{Represents}
+use Rattle.std.proofs.Common.{false, length, subst, ◌≡◌, ◌≤◌, ℕ}
+
+pub returns-clause-represents : goal.returns-clause-represents
+returns-clause-represents g c =
+    subst (λ (t : OpenHub g.row.D.Denot). is_weak t.setting.mode ≡ false → Represents t.setting (read_of (configuration_of t)) (configuration_of t).grips c.self.inside.order.table) c.self.view_is
+    (λ strong. (standing_whole c.self.inside c.kept.ensures c.self.invariant).its_table)
+
+-- at most one access for each run
+pub returns-clause-few : goal.returns-clause-few
+returns-clause-few g c =
+    subst (λ (t : OpenHub g.row.D.Denot). (d : ℕ) → length (accesses_at c.self.inside.order.table d) ≤ length t.setting.runs) c.self.view_is
+    (few_whole c.self.inside c.kept.ensures c.self.invariant)
+
+pub returns-clause-disciplined : goal.returns-clause-disciplined
+returns-clause-disciplined g c = c.kept.ensures

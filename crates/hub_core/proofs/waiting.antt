@@ -1,0 +1,9 @@
+-- Runs that wait: what ends their waits, and what does not.
+pub mod AtCommands
+pub mod Moments
+pub mod HeldDevices
+pub mod Followers
+pub mod Sleepers
+pub mod QuietEntries
+pub mod OtherDevices
+pub mod BlockedSteps

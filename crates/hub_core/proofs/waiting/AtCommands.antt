@@ -1,0 +1,87 @@
+-- Runs at a command: what is known of them, and their step.
+use Rattle.history_book.proofs.Searches.{map_some, none_is}
+use Rattle.history_book.proofs.Shapes.{Shaped, shapes}
+use Rattle.history_book.specs.Histories.{entries_of}
+use Rattle.history_book.specs.Readings.{OfRun, PlacedAt, Reading, is_live, is_open, next_command, next_of}
+use Rattle.history_book.specs.Settings.{Setting}
+use Rattle.history_book.specs.WellFormed.{IsWellFormed}
+use Rattle.home_types.specs.declared.commands.Command.{Command}
+use Rattle.hub_core.proofs.steps.Choices.{Commanding}
+use Rattle.hub_core.proofs.steps.GiveCauses.{next_pends}
+use Rattle.hub_core.proofs.steps.Takes.{live_run}
+use Rattle.hub_core.specs.BlockedRuns.{is_at_command, next_device}
+use Rattle.hub_core.specs.Steps.{choice_of, decide, decide_command}
+use Rattle.lock_leasing.specs.Configurations.{Configuration, Grips, read_of}
+use Rattle.lock_leasing.specs.Waits.{grip_wait}
+use Rattle.std.proofs.Common.{ap, arith, refl, subst, sym, ◌∙◌}
+use Rattle.std.proofs.lemmas.Grind.{common_steps}
+use Rattle.std.specs.Prelude.{Bool, None, Option, Some, false, if◌then◌else◌, is_none, is_some, max, not, option_map, true, ℕ, ◌&&◌, ◌≡◌}
+
+-- the run is at the command c, with the number next_of, which is on the device
+pub record IsAt (w : Setting) (n : Reading) (g : Grips) (r d : ℕ) : Type 0 where
+  pub command : Command
+  pub device : command.device.0 ≡ d
+  pub run : Commanding w n g r command
+  pub came : is_none (n.run r).arrived ≡ false
+
+live_parts : (o : OfRun) → (is_some o.placed && is_none o.ended) ≡ true → (is_some o.placed ≡ true) × (is_none o.placed ≡ false) × (o.ended ≡ None)
+live_parts o live = at o.placed refl
+  where
+    at : (p : Option PlacedAt) → o.placed ≡ p → (is_some o.placed ≡ true) × (is_none o.placed ≡ false) × (o.ended ≡ None)
+    at None e = absurd (let none : (false && is_none o.ended) ≡ true = sym (ap (λ x. is_some x && is_none o.ended) e) ∙ live in cc)
+    at (Some x) e = (ap is_some e, ap is_none e, none_is o.ended (sym (ap (λ y. is_some y && is_none o.ended) e) ∙ live))
+
+is_there : {A : Type 0} (o : Option A) → is_some o ≡ true → is_none o ≡ false
+is_there None e = absurd (cc)
+is_there (Some x) e = refl
+
+-- a device that is told is that of the run's next command
+pub device_told : (b : Bool) (o : Option ℕ) (d : ℕ) → (if b then o else None) ≡ Some d → (b ≡ true) × (o ≡ Some d)
+device_told true o d e = (refl, e)
+device_told false o d e = absurd (cc)
+
+-- what it says of a run that it has a next device
+pub at_command : (s : Configuration) (r d : ℕ) → IsWellFormed s.setting (entries_of s.history) → next_device s r ≡ Some d → IsAt s.setting (read_of s) s.grips r d
+at_command s r d formed next =
+    let told = device_told (is_at_command s r) (option_map (λ c. c.device.0) (next_command w n r)) d next in
+    let shaped : Shaped w n = shapes w (entries_of s.history) formed in
+    let live : is_live n r ≡ true = grind (arith, common_steps, told.0) in
+    let sound : not (is_some (n.run r).doomed) ≡ true = grind (arith, common_steps, told.0) in
+    let free : is_none (grip_wait w s.grips r) ≡ true = grind (arith, common_steps, told.0) in
+    let found = map_some (λ c. c.device.0) (next_command w n r) d told.1 in
+    record {
+      command = found.0;
+      device = found.2;
+      run = record { act = record { run = live_run w n r shaped live; free = none_is (grip_wait w s.grips r) free; live = live }; sound = none_of (n.run r).doomed sound; next = found.1 };
+      came = is_there (n.run r).arrived ((shaped r).arrived (live_parts (n.run r) live).0);
+    }
+  where
+    w : Setting
+    w = s.setting
+
+    n : Reading
+    n = read_of s
+
+    none_of : {A : Type 0} (o : Option A) → not (is_some o) ≡ true → o ≡ None
+    none_of None e = refl
+    none_of (Some x) e = absurd (cc)
+
+-- a run at a command has its device as its next one
+pub next_is : (s : Configuration) (r d : ℕ) → IsAt s.setting (read_of s) s.grips r d → next_device s r ≡ Some d
+next_is s r d at = rw (at.run.act.live, at.run.sound, at.run.act.free, at.run.next) (ap Some at.device)
+
+-- it is open there
+pub at_open : (w : Setting) (n : Reading) (g : Grips) (r d : ℕ) → IsAt w n g r d → is_open w n r d ≡ true
+at_open w n g r d at =
+    let pending = next_pends w n r at.command at.run.next in
+    let there = subst (λ e. is_open w n r e ≡ true) at.device in
+    there (rw (at.run.act.live, at.run.sound, pending) refl)
+
+-- its step is that of its command
+pub decides_command : (w : Setting) (n : Reading) (g : Grips) (r m : ℕ) (c : Command) → Commanding w n g r c → is_none (n.run r).arrived ≡ false → decide w n g r m ≡ decide_command w n g r m (next_of n r) c
+decides_command w n g r m c run came =
+    let parts = live_parts (n.run r) run.act.live in
+    rw (run.act.run, parts.2, run.act.free, came, parts.1, run.sound, run.next) refl
+
+pub command_choice : (s : Configuration) (r d m : ℕ) (at : IsAt s.setting (read_of s) s.grips r d) → choice_of s r m ≡ decide_command s.setting (read_of s) s.grips r (max s.moment m) (next_of (read_of s) r) at.command
+command_choice s r d m at = decides_command s.setting (read_of s) s.grips r (max s.moment m) at.command at.run at.came

@@ -1,0 +1,235 @@
+-- A step that is elsewhere leaves what a run at a command does as it was, at every moment.
+use Rattle.command_rules.specs.Rosters.{Run, commands_of, device_no, estimate_to_last, is_run, run_no, shares, touches}
+use Rattle.history_book.proofs.Searches.{map_some, none_is}
+use Rattle.history_book.proofs.Shapes.{IsShaped, shapes}
+use Rattle.history_book.proofs.Snoc.{along_on, reading_on}
+use Rattle.history_book.specs.Histories.{entries_of, entry, reading}
+use Rattle.history_book.specs.Plans.{greatest, planned_end}
+use Rattle.history_book.specs.Readings.{OfRun, Reading, is_doomed, is_live, next_command, next_of, nothing_read, sees_down}
+use Rattle.history_book.specs.Settings.{Setting, is_weak}
+use Rattle.history_book.specs.WellFormed.{IsWellFormed, along, may_follow}
+use Rattle.history_book.specs.declared.entries.Cause.TheVariants.{Revoked}
+use Rattle.history_book.specs.declared.entries.Entry.TheVariants.{Arrived, Doomed}
+use Rattle.history_book.specs.declared.entries.Entry.{Entry}
+use Rattle.history_book.specs.declared.entries.Kept.{Kept}
+use Rattle.home_types.specs.Commands.{reads}
+use Rattle.home_types.specs.declared.commands.Command.{Command}
+use Rattle.home_types.specs.declared.kinds.Kind.{Kind}
+use Rattle.home_types.specs.declared.modes.Scheduler.{Scheduler}
+use Rattle.home_types.specs.declared.modes.Visibility.TheVariants.{Eventual, Global, Partitioned, Weak}
+use Rattle.home_types.specs.declared.modes.Visibility.{Visibility}
+use Rattle.home_types.specs.declared.worlds.Stand.{Stand}
+use Rattle.hub_core.proofs.waiting.QuietEntries.{SameFor, quiet_along, write_same}
+use Rattle.hub_core.specs.BlockedRuns.{IsBlocked, IsElsewhere, is_wait, next_device}
+use Rattle.hub_core.specs.Steps.{Absent, HandsOut, Moves, Over, Waits, behind_case, busy_case, command_cases, decide, decide_answered, decide_arrived, decide_command, decide_doomed, dirty_case, down_case, down_entries, first_case, only_if, overdue_case, strict_case}
+use Rattle.hub_core.specs.declared.waits.Why.TheVariants.{Behind, Busy, Dirty, Strict}
+use Rattle.lock_leasing.specs.Configurations.{Commands, Configuration, Grips, read_of}
+use Rattle.lock_leasing.specs.Waits.{grip_wait, strict_wait}
+use Rattle.lock_leasing.specs.Words.{effective_write, has_effect, holds_device, last_some, lease_deadline, live_before, stamp_of, tenth_up}
+use Rattle.std.proofs.Common.{ap, arith, refl, subst, sym, ◌∙◌}
+use Rattle.std.proofs.lemmas.Grind.{common_steps}
+use Rattle.std.proofs.lemmas.List.{map-append}
+use Rattle.std.specs.Prelude.{Bool, List, None, Option, Some, [], false, find, fold, if◌then◌else◌, is_none, is_some, length, max, min, nat_lt, not, option_map, slice_get, true, unwrap_or, ℕ, ◌&&◌, ◌++◌, ◌+◌, ◌||◌, ◌==◌, ◌∷◌, ◌≡◌}
+
+-- Words on the device
+
+-- the effective write is the same, where the grip of the device is
+effect_same : (w : Setting) (n m : Reading) (g h : Grips) (r d : ℕ) → SameFor w n m r d → h d ≡ g d → effective_write m h d ≡ effective_write n g d
+effect_same w n m g h r d same held = (λ i. last_some (λ y. write_same m m g h d y (λ q. refl) held i) m.line) ∙ same.write g
+
+effects : (w : Setting) (n m : Reading) (g h : Grips) (r d : ℕ) → SameFor w n m r d → h d ≡ g d → (x : ℕ) → has_effect m h x d ≡ has_effect n g x d
+effects w n m g h r d same held x = λ i. unwrap_or (option_map (λ y. y == x) (option_map (λ e. e.run) (effect_same w n m g h r d same held i))) false
+
+holds_same : (w : Setting) (n m : Reading) (g h : Grips) (r d : ℕ) → SameFor w n m r d → h d ≡ g d → (x : ℕ) → holds_device w m h x d ≡ holds_device w n g x d
+holds_same w n m g h r d same held x = λ i. (is_some ((same.runs x).placed i) && is_none ((same.runs x).ended i)) && (if is_some ((same.runs x).doomed i) then touches w.runs x d && effects w n m g h r d same held x i else (same.runs x).pending i)
+
+-- The cases of a command
+
+-- the model asks for the live runs before the run alone
+strict_by : (runs : List Run) (kinds : List Kind) (first : List Stand) (model : Visibility) (scheduler : Scheduler) (n m : Reading) (r : ℕ) → live_before m r ≡ live_before n r
+    → strict_wait (record { runs = runs; mode = record { model = model; scheduler = scheduler }; kinds = kinds; first = first }) m r ≡ strict_wait (record { runs = runs; mode = record { model = model; scheduler = scheduler }; kinds = kinds; first = first }) n r
+strict_by runs kinds first Weak scheduler n m r same = refl
+strict_by runs kinds first Global scheduler n m r same = ap (find (λ x. true)) same
+strict_by runs kinds first Partitioned scheduler n m r same = ap (find (λ x. shares runs x r)) same
+strict_by runs kinds first Eventual scheduler n m r same = refl
+
+-- the run is told the same of its next command
+command_same : (w : Setting) (n m : Reading) (g h : Grips) (r t k : ℕ) (c : Command) → SameFor w n m r c.device.0 → h c.device.0 ≡ g c.device.0 → decide_command w m h r t k c ≡ decide_command w n g r t k c
+command_same w n m g h r t k c same held = by_model (is_weak w.mode)
+  where
+    d : ℕ
+    d = c.device.0
+
+    holds : (x : ℕ) → holds_device w m h x d ≡ holds_device w n g x d
+    holds = holds_same w n m g h r d same held
+
+    deadline : (x : ℕ) → lease_deadline w m x d ≡ lease_deadline w n x d
+    deadline x = λ i. min (planned_end ((same.runs x).planned i) d + tenth_up (estimate_to_last d (commands_of w.runs x))) greatest
+
+    stamp : (x : ℕ) → stamp_of m x ≡ stamp_of n x
+    stamp x = λ i. unwrap_or (option_map (λ p. p.stamp) ((same.runs x).placed i)) 0
+
+    overdue : overdue_case w m h r t c ≡ overdue_case w n g r t c
+    overdue = λ i. option_map (λ x. Moves (Doomed (run_no x) (Revoked (run_no r) c.device (deadline x i) t) ∷ [])) (find (λ x. not (is_some ((same.runs x).doomed i)) && nat_lt (stamp r i) (stamp x i) && holds x i && nat_lt (deadline x i) t) (same.before i))
+
+    behind : behind_case w m h r c ≡ behind_case w n g r c
+    behind = λ i. option_map (λ x. Waits (Behind c.device (run_no x))) (find (λ x. holds x i) (same.before i))
+
+    down : sees_down m r d ≡ sees_down n r d
+    down = λ i. unwrap_or (option_map not ((same.own i).on d).view) false
+
+    dirty : dirty_case w m h r c ≡ dirty_case w n g r c
+    dirty = λ i. option_map (λ x. Waits (Dirty c.device (run_no x))) (if reads c.job && not (down i) && not (is_some ((same.own i).on d).wrote) then find (λ x. effects w n m g h r d same held x i) (same.before i) else None)
+
+    strict : strict_case w m r ≡ strict_case w n r
+    strict = ap (option_map (λ x. Waits (Strict (run_no x)))) (strict_by w.runs w.kinds w.first w.mode.model w.mode.scheduler n m r same.before)
+
+    busy : busy_case w m h r c ≡ busy_case w n g r c
+    busy = λ i. only_if ((is_weak w.mode || not (down i)) && is_some (held i)) (Waits (Busy c.device))
+
+    downs : down_case w m r k c ≡ down_case w n r k c
+    downs = λ i. only_if ((not (is_weak w.mode) && down i) || not (same.up i)) (Moves (down_entries r k c))
+
+    by_model : (b : Bool) → first_case (command_cases b w m h r t k c) (HandsOut c.device.0 (Commands k)) ≡ first_case (command_cases b w n g r t k c) (HandsOut c.device.0 (Commands k))
+    by_model true = λ i. first_case (busy i ∷ downs i ∷ []) (HandsOut c.device.0 (Commands k))
+    by_model false = λ i. first_case (overdue i ∷ behind i ∷ dirty i ∷ strict i ∷ busy i ∷ downs i ∷ []) (HandsOut c.device.0 (Commands k))
+
+-- The step of a run at a command
+
+-- the run is live and not doomed, and this is its next command, by its record
+record IsAt (w : Setting) (r : ℕ) (o : OfRun) (c : Command) : Type 0 where
+  run : is_run w.runs r ≡ true
+  ended : o.ended ≡ None
+  came : is_none o.arrived ≡ false
+  placed : is_none o.placed ≡ false
+  doomed : o.doomed ≡ None
+  next : slice_get (commands_of w.runs r) (length o.answers) ≡ Some c
+
+-- its step is that of the command
+at_command : (w : Setting) (n : Reading) (g : Grips) (r t : ℕ) (c : Command) → IsAt w r (n.run r) c → grip_wait w g r ≡ None → decide w n g r t ≡ decide_command w n g r t (next_of n r) c
+at_command w n g r t c at free = λ i. first_case (only_if (not (at.run i)) Absent
+    ∷ option_map (λ e. Over e []) (at.ended i)
+    ∷ option_map (λ d. Waits (Busy (device_no d))) (free i)
+    ∷ only_if (at.came i) (Moves (Arrived (run_no r) t ∷ []))
+    ∷ only_if (at.placed i) (decide_arrived w n g r t)
+    ∷ option_map (decide_doomed w n g r) (at.doomed i)
+    ∷ option_map (decide_command w n g r t (next_of n r)) (at.next i) ∷ []) (decide_answered w n g r)
+
+-- what a run at a command does is the same where a reading tells it the same, and it holds no grip
+decide_same : (w : Setting) (n m : Reading) (g h : Grips) (r t : ℕ) (c : Command) → IsAt w r (n.run r) c → SameFor w n m r c.device.0 → h c.device.0 ≡ g c.device.0 → grip_wait w g r ≡ None → grip_wait w h r ≡ None
+    → decide w m h r t ≡ decide w n g r t
+decide_same w n m g h r t c at same held free still =
+    at_command w m h r t c (subst (λ o. IsAt w r o c) (sym same.own) at) still
+    ∙ command_same w n m g h r t (next_of m r) c same held
+    ∙ ap (λ (o : OfRun). decide_command w n g r t (length o.answers) c) same.own
+    ∙ sym (at_command w n g r t c at free)
+
+-- The run of a configuration
+
+-- the run is at its next command, which is on the device
+record IsAtOn (w : Setting) (n : Reading) (g : Grips) (r d : ℕ) : Type 0 where
+  command : Command
+  at : IsAt w r (n.run r) command
+  there : command.device.0 ≡ d
+  free : grip_wait w g r ≡ None
+
+-- by the parts of the configuration
+abbrev device_by : Setting → Reading → Grips → ℕ → Option ℕ
+device_by w n g r = if is_live n r && not (is_doomed n r) && is_none (grip_wait w g r) then option_map (λ c. c.device.0) (next_command w n r) else None
+
+at_on : (w : Setting) (n : Reading) (g : Grips) (r d : ℕ) → IsShaped w r (n.run r) → device_by w n g r ≡ Some d → IsAtOn w n g r d
+at_on w n g r d shape at = by_test (is_live n r && not (is_doomed n r) && is_none (grip_wait w g r)) refl at
+  where
+    none_of : {A : Type 0} (o : Option A) → is_some o ≡ false → o ≡ None
+    none_of None e = refl
+    none_of (Some x) e = absurd (cc)
+
+    found : (is_live n r && not (is_doomed n r) && is_none (grip_wait w g r)) ≡ true → option_map (λ c. c.device.0) (next_command w n r) ≡ Some d → IsAtOn w n g r d
+    found is next =
+        let placed : is_some (n.run r).placed ≡ true = grind (arith, common_steps) in
+        let came : is_some (n.run r).arrived ≡ true = shape.arrived placed in
+        let command = map_some (λ c. c.device.0) (next_command w n r) d next in
+        record {
+          command = command.0;
+          at = record {
+            run = shape.known came;
+            ended = none_is (n.run r).ended (grind (arith, common_steps));
+            came = grind (arith, common_steps);
+            placed = grind (arith, common_steps);
+            doomed = none_of (n.run r).doomed (grind (arith, common_steps));
+            next = command.1;
+          };
+          there = command.2;
+          free = none_is (grip_wait w g r) (grind (arith, common_steps));
+        }
+
+    by_test : (b : Bool) → (is_live n r && not (is_doomed n r) && is_none (grip_wait w g r)) ≡ b → (if b then option_map (λ c. c.device.0) (next_command w n r) else None) ≡ Some d → IsAtOn w n g r d
+    by_test true is next = found is next
+    by_test false is next = absurd (cc)
+
+-- a step that is elsewhere leaves to a run at a command its device, and what it does at each moment
+pub other_device : (s t : Configuration) (made : List Kept) (r d : ℕ) → IsWellFormed t.setting (entries_of t.history) → IsElsewhere s t made r d → next_device s r ≡ Some d
+    → (next_device t r ≡ Some d) × ((m : ℕ) → decide t.setting (read_of t) t.grips r m ≡ decide s.setting (read_of s) s.grips r m)
+other_device s t made r d well elsewhere at = (device, decides)
+  where
+    w : Setting
+    w = s.setting
+
+    n : Reading
+    n = read_of s
+
+    es : List Entry
+    es = entries_of made
+
+    m : Reading
+    m = fold (entry w) n es
+
+    entries : entries_of t.history ≡ entries_of s.history ++ es
+    entries = ap entries_of elsewhere.history ∙ map-append (λ k. k.entry) s.history made
+
+    read : read_of t ≡ m
+    read = (λ i. reading (elsewhere.setting i) (entries i)) ∙ reading_on w (entries_of s.history) es
+
+    follow : (along w (may_follow w) (nothing_read w) (entries_of s.history) && along w (may_follow w) n es) ≡ true
+    follow = sym (along_on w (may_follow w) (nothing_read w) (entries_of s.history) es) ∙ subst (λ h. IsWellFormed w h) entries (subst (λ v. IsWellFormed v (entries_of t.history)) elsewhere.setting well)
+
+    parts : (along w (may_follow w) (nothing_read w) (entries_of s.history) ≡ true) × (along w (may_follow w) n es ≡ true)
+    parts = let both : (along w (may_follow w) (nothing_read w) (entries_of s.history) && along w (may_follow w) n es) ≡ true = follow in (grind (arith, common_steps), grind (arith, common_steps))
+
+    found : IsAtOn w n s.grips r d
+    found = at_on w n s.grips r d (shapes w (entries_of s.history) parts.0 r) at
+
+    same : SameFor w n m r d
+    same = quiet_along w n r d es parts.1 elsewhere.quiet (record { came = found.at.came; sound = ap is_some found.at.doomed; next = ap (option_map (λ c. c.device.0)) found.at.next ∙ ap Some found.there })
+
+    steps : (k : ℕ) → decide w m t.grips r k ≡ decide w n s.grips r k
+    steps k = decide_same w n m s.grips t.grips r k found.command found.at (subst (SameFor w n m r) (sym found.there) same) (subst (λ e. t.grips e ≡ s.grips e) (sym found.there) elsewhere.held) found.free elsewhere.free
+
+    decides : (k : ℕ) → decide t.setting (read_of t) t.grips r k ≡ decide s.setting (read_of s) s.grips r k
+    decides k = (λ i. decide (elsewhere.setting i) (read i) t.grips r k) ∙ steps k
+
+    unheld : grip_wait w t.grips r ≡ grip_wait w s.grips r
+    unheld = elsewhere.free ∙ sym found.free
+
+    device : next_device t r ≡ Some d
+    device =
+        (λ i. device_by (elsewhere.setting i) (read i) t.grips r)
+        ∙ (λ i. if (is_some (same.own i).placed && is_none (same.own i).ended) && not (is_some (same.own i).doomed) && is_none (unheld i) then option_map (λ c. c.device.0) (slice_get (commands_of w.runs r) (length (same.own i).answers)) else None)
+        ∙ at
+
+-- so a run that is blocked stays so, at the same device
+pub stays_blocked : (s t : Configuration) (made : List Kept) (r d : ℕ) → IsWellFormed t.setting (entries_of t.history) → IsElsewhere s t made r d → next_device s r ≡ Some d → IsBlocked s r → IsBlocked t r × (next_device t r ≡ Some d)
+stays_blocked s t made r d well elsewhere at blocked = (
+  record {
+    run = subst (λ v. is_run v.runs r ≡ true) (sym elsewhere.setting) blocked.run;
+    free = subst (λ v. grip_wait v t.grips r ≡ None) (sym elsewhere.setting) elsewhere.free;
+    waits = λ m. ap is_wait (same.1 (max t.moment m) ∙ ap (decide s.setting (read_of s) s.grips r) (later m)) ∙ blocked.waits (max t.moment m);
+  },
+  same.0,
+)
+  where
+    same : (next_device t r ≡ Some d) × ((m : ℕ) → decide t.setting (read_of t) t.grips r m ≡ decide s.setting (read_of s) s.grips r m)
+    same = other_device s t made r d well elsewhere at
+
+    later : (m : ℕ) → max t.moment m ≡ max s.moment (max t.moment m)
+    later m = omega (arith, elsewhere.moment)

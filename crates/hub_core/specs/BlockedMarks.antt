@@ -1,0 +1,44 @@
+-- The runs that are marked, each at a device, as numbers.
+use Rattle.hub_core.specs.BlockedRuns.{IsBlocked, next_device}
+use Rattle.lock_leasing.specs.Configurations.{Configuration}
+use Rattle.std.specs.Int.{bit_at}
+use Rattle.std.specs.Prelude.{Bool, List, None, Option, Some, false, nat_lt, slice_index_or, true, ℕ, ◌&&◌, ◌-◌, ◌==◌, ◌≡◌, ◌⊎◌}
+
+-- the words of bits: the runs that are marked, and for each device those that were marked there
+pub record BlockedState : Type 0 where
+  pub runs : ℕ
+  pub at : List ℕ
+
+-- the run's bit is set: that of the run r has the number r - 1
+abbrev pub has_run : ℕ → ℕ → Bool
+has_run word r = nat_lt 0 r && nat_lt (r - 1) 64 && (bit_at word (r - 1) == 1)
+
+abbrev pub is_marked : BlockedState → ℕ → Bool
+is_marked b r = has_run b.runs r
+
+abbrev pub is_marked_at : BlockedState → ℕ → ℕ → Bool
+is_marked_at b d r = has_run (slice_index_or b.at d 0) r
+
+-- no run is marked
+abbrev pub NoneMarked : BlockedState → Type 0
+NoneMarked b = (r : ℕ) → is_marked b r ≡ false
+
+-- one run more may be marked, at this device
+pub record HasMarked (b : BlockedState) (r d : ℕ) (after : BlockedState) : Type 0 where
+  pub marked : (q : ℕ) → is_marked after q ≡ true → (is_marked b q ≡ true) ⊎ ((q ≡ r) × (is_marked_at after d q ≡ true))
+  pub there : (e q : ℕ) → is_marked_at b e q ≡ true → is_marked_at after e q ≡ true
+
+-- no run more is marked; and where one is left that was marked at a device, this holds of the device, and it is marked there still
+pub record AreLeft (b after : BlockedState) (Holds : ℕ → Type 0) : Type 0 where
+  pub marked : (r : ℕ) → is_marked after r ≡ true → is_marked b r ≡ true
+  pub there : (r d : ℕ) → is_marked after r ≡ true → is_marked_at b d r ≡ true → Holds d × (is_marked_at after d r ≡ true)
+
+-- each run that is marked is blocked, and marked at the device of its next command
+pub record AreBlocked (s : Configuration) (b : BlockedState) : Type 0 where
+  pub blocked : (r : ℕ) → is_marked b r ≡ true → IsBlocked s r
+  pub there : (r : ℕ) → is_marked b r ≡ true → (d : ℕ) × (next_device s r ≡ Some d) × (is_marked_at b d r ≡ true)
+
+-- where there is a device, the run may be marked there
+abbrev pub MayHaveMarked : BlockedState → ℕ → Option ℕ → BlockedState → Type 0
+MayHaveMarked b r None after = b ≡ after
+MayHaveMarked b r (Some d) after = HasMarked b r d after

@@ -1,0 +1,55 @@
+-- Runs that are known to wait at every moment, and the steps that end no wait of theirs.
+use Rattle.command_rules.specs.Rosters.{command_at, is_run}
+use Rattle.history_book.specs.Histories.{entries_of}
+use Rattle.history_book.specs.Readings.{Reading, is_doomed, is_live, next_command}
+use Rattle.history_book.specs.Settings.{Setting}
+use Rattle.history_book.specs.declared.entries.Entry.{Entry}
+use Rattle.history_book.specs.declared.entries.Entry.TheVariants.{Arrived, Did, Doomed, Ended, Fell, Placed, Rose, Undid}
+use Rattle.history_book.specs.declared.entries.Kept.{Kept}
+use Rattle.hub_core.specs.Steps.{Absent, Choice, HandsOut, Moves, Over, Waits, choice_of}
+use Rattle.lock_leasing.specs.Configurations.{Configuration, read_of}
+use Rattle.lock_leasing.specs.Waits.{grip_wait}
+use Rattle.std.specs.List.{list_all}
+use Rattle.std.specs.Prelude.{Bool, IsTrue, List, None, Option, false, if◌then◌else◌, is_none, not, option_map, true, ℕ, ◌&&◌, ◌++◌, ◌==◌, ◌≡◌, ◌≤◌}
+
+-- the run is told to wait
+abbrev pub is_wait : Choice → Bool
+is_wait Absent = false
+is_wait (Over e entries) = false
+is_wait (Moves entries) = false
+is_wait (Waits why) = true
+is_wait (HandsOut d purpose) = false
+
+-- the run is at a command: live, not doomed, with no grip
+abbrev pub is_at_command : Configuration → ℕ → Bool
+is_at_command s r = is_live (read_of s) r && not (is_doomed (read_of s) r) && is_none (grip_wait s.setting s.grips r)
+
+-- the device of the next command of a run that is at a command
+abbrev pub next_device : Configuration → ℕ → Option ℕ
+next_device s r = if is_at_command s r then option_map (λ c. c.device.0) (next_command s.setting (read_of s) r) else None
+
+-- the run holds no grip, and waits at every moment
+pub record IsBlocked (s : Configuration) (r : ℕ) : Type 0 where
+  pub run : is_run s.setting.runs r ≡ true
+  pub free : grip_wait s.setting s.grips r ≡ None
+  pub waits : (m : ℕ) → is_wait (choice_of s r m) ≡ true
+
+-- the entry ends no wait of a run whose next command is on the device: it is of another device, and no placing, doom or end
+abbrev pub is_quiet : Setting → ℕ → Entry → Bool
+is_quiet w d (Arrived r m) = true
+is_quiet w d (Placed r at m) = false
+is_quiet w d (Did r c a) = not ((command_at w.runs r.0 c).device.0 == d)
+is_quiet w d (Undid r e drove) = not (e.0 == d)
+is_quiet w d (Fell e) = not (e.0 == d)
+is_quiet w d (Rose e) = not (e.0 == d)
+is_quiet w d (Doomed r cause) = false
+is_quiet w d (Ended r e) = false
+
+-- a step of another actor that is elsewhere: it makes these entries, which are quiet, leaves the grip of the device, and gives the run none
+pub record IsElsewhere (s t : Configuration) (made : List Kept) (r d : ℕ) : Type 0 where
+  pub setting : t.setting ≡ s.setting
+  pub history : t.history ≡ s.history ++ made
+  pub quiet : list_all (is_quiet s.setting d) (entries_of made) ≡ true
+  pub moment : s.moment ≤ t.moment
+  pub held : t.grips d ≡ s.grips d
+  pub free : grip_wait s.setting t.grips r ≡ None

@@ -1,0 +1,87 @@
+//! The runs that are marked as blocked, each at a device.
+ghost use Rattle.std.specs.Prelude.{◌≡◌, ◌≢◌, ◌&&◌, ◌==◌, IfOk, ℕ};
+ghost use Rattle.hub_core.specs.BlockedMarks.{AreLeft, HasMarked, NoneMarked, has_run, is_marked};
+
+use home_types::{DeviceNo, List, NoMemory, RunNo};
+use std::alloc::Global;
+use std::marker::Model;
+
+/// The runs of a window that are marked, a bit for each run, and for each device those that were marked there.
+///
+/// A run that is marked no more may still have its bit at a device.
+#[derive(Drop)]
+pub(crate) struct BlockedRuns {
+    runs: u64,
+    at: List<u64>,
+}
+
+impl Model for BlockedRuns {
+    ghost use Rattle.hub_core.specs.BlockedMarks.{BlockedState};
+
+    ghost Value = { BlockedState };
+
+    ghost view = { λ b. record { runs = b.runs; at = b.at.items } };
+}
+
+impl BlockedRuns {
+    /// No run is marked, in a home of so many devices. Takes all memory that it needs.
+    pub(crate) fn open(alloc: Global, devices: u64) -> Result<BlockedRuns, NoMemory>
+        ensures { IfOk result (λ blocked. NoneMarked blocked) }
+    {
+        let mut at = List::new(alloc);
+        at.reserve(devices)?;
+        'devices: for _ in 0..devices {
+            at.push(0)?;
+        }
+        Ok(BlockedRuns { runs: 0, at })
+    }
+
+    /// Whether the run is marked.
+    pub(crate) fn is_marked(&self, r: RunNo) -> bool
+        ensures { result ≡ is_marked self.now r.0 }
+    {
+        1 <= r.0 && r.0 <= 64 && (self.runs >> (r.0 - 1)) & 1 == 1
+    }
+
+    /// Marks the run at this device. A run above 64 and one at no device of the home stay as they are.
+    pub(crate) fn mark(&mut self, r: RunNo, d: DeviceNo)
+        ensures { HasMarked self.old r.0 d.0 self.new }
+    {
+        let Some(there) = self.at.get(d.0 as u64) else {
+            return;
+        };
+        let bit = bit_of(r);
+        let with = *there | bit;
+        self.at.set(d.0 as u64, with);
+        self.runs |= bit;
+    }
+
+    /// Those that were marked at the device are marked no more.
+    pub(crate) fn unmark_at(&mut self, d: DeviceNo)
+        ensures { AreLeft self.old self.new (λ e. e ≢ d.0) }
+    {
+        let Some(there) = self.at.get(d.0 as u64) else {
+            return;
+        };
+        self.runs &= !*there;
+        self.at.set(d.0 as u64, 0);
+    }
+
+    /// No run is marked any more.
+    pub(crate) fn unmark_all(&mut self)
+        ensures { NoneMarked self.new }
+    {
+        self.runs = 0;
+    }
+}
+
+/// The word with the bit of the run alone, with none for a run that is not one of the first 64.
+fn bit_of(r: RunNo) -> u64
+    ensures { (q : ℕ) → has_run result q ≡ (has_run result r.0 && (q == r.0)) }
+{
+    if 1 <= r.0 && r.0 <= 64 {
+        1 << (r.0 - 1)
+    } else {
+        0
+    }
+}

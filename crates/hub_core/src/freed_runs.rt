@@ -1,0 +1,98 @@
+//! The runs that a step may have freed are blocked no more.
+ghost use Rattle.std.specs.Prelude.{◌≡◌, ◌≢◌, IsTrue, false, option_to_list, true, ◌⊎◌};
+ghost use Rattle.history_book.specs.Histories.{entries_made};
+ghost use Rattle.hub_core.specs.BlockedMarks.{AreLeft, MayHaveMarked};
+ghost use Rattle.hub_core.specs.BlockedRuns.{is_quiet, next_device};
+ghost use Rattle.hub_core.specs.MarkedRuns.{IsAnsweredStill, is_out_for_command};
+ghost use Rattle.hub_core.specs.OpenHubs.{configuration_of};
+ghost use Rattle.std.specs.List.{list_all};
+
+use crate::blocked_runs::BlockedRuns;
+use crate::open_windows::OpenWindow;
+use device_states::Device;
+use history_book::{Entry, Made};
+use home_types::{DeviceNo, RunNo};
+
+/// The run waits: it is marked at the device of its next command, if it is at a command.
+pub(crate) fn mark_waiting<D: Device>(blocked: &mut BlockedRuns, window: &OpenWindow<D>, r: RunNo)
+    ensures { MayHaveMarked blocked.old r.0 (next_device (configuration_of window.now) r.0) blocked.new }
+{
+    if let Some(d) = window.next_device(r) {
+        blocked.mark(r, d);
+    }
+}
+
+/// The device has gone out for a run. While it is out for a command, its run holds it, and who is blocked there stays so.
+pub(crate) fn free_going<D: Device>(blocked: &mut BlockedRuns, window: &OpenWindow<D>, d: DeviceNo)
+    ensures { AreLeft blocked.old blocked.new (λ e. is_out_for_command (configuration_of window.now) d.0 ≡ false → e ≢ d.0) }
+{
+    if !window.is_out_for_command(d) {
+        blocked.unmark_at(d);
+    }
+}
+
+/// The device has come home, with these entries. A run that has been answered there and has a command left there holds
+/// it still, and who is blocked there stays so.
+pub(crate) fn free_back<D: Device>(
+    blocked: &mut BlockedRuns,
+    window: &OpenWindow<D>,
+    d: DeviceNo,
+    made: &Made,
+)
+    ensures { AreLeft blocked.old blocked.new (λ e. IsAnsweredStill (configuration_of window.now) d.0 (entries_made made.now) ⊎ ((e ≢ d.0) × (list_all (is_quiet window.now.setting e) (entries_made made.now) ≡ true))) }
+{
+    if is_answered_still(window, d, made) {
+        return;
+    }
+    blocked.unmark_at(d);
+    free_made(blocked, window, made);
+}
+
+/// Whether a step has answered a command on the device, and made no other entry, and its run holds the device still.
+fn is_answered_still<D: Device>(window: &OpenWindow<D>, d: DeviceNo, made: &Made) -> bool
+    ensures { IsTrue result → IsAnsweredStill (configuration_of window.now) d.0 (entries_made made.now) }
+{
+    match *made {
+        Made {
+            a: Some(Entry::Did(r, k, _)),
+            b: None,
+            c: None,
+        } => window.holds_still(r, k, d),
+        _ => false,
+    }
+}
+
+/// A step has made these entries.
+pub(crate) fn free_made<D: Device>(blocked: &mut BlockedRuns, window: &OpenWindow<D>, made: &Made)
+    ensures { AreLeft blocked.old blocked.new (λ d. list_all (is_quiet window.now.setting d) (entries_made made.now) ≡ true) }
+{
+    free_some(blocked, window, made.a);
+    free_some(blocked, window, made.b);
+    free_some(blocked, window, made.c);
+}
+
+/// A step has made this entry, where there is one.
+fn free_some<D: Device>(blocked: &mut BlockedRuns, window: &OpenWindow<D>, entry: Option<Entry>)
+    ensures { AreLeft blocked.old blocked.new (λ d. list_all (is_quiet window.now.setting d) (option_to_list entry) ≡ true) }
+{
+    if let Some(entry) = entry {
+        free_by(blocked, window, entry);
+    }
+}
+
+/// A step has made this entry. A placing, a doom and an end may free everybody, an entry on a device those that are
+/// blocked there.
+fn free_by<D: Device>(blocked: &mut BlockedRuns, window: &OpenWindow<D>, entry: Entry)
+    ensures { AreLeft blocked.old blocked.new (λ d. is_quiet window.now.setting d entry ≡ true) }
+{
+    match entry {
+        Entry::Arrived(..) => {}
+        Entry::Placed(..) | Entry::Doomed(..) | Entry::Ended(..) => blocked.unmark_all(),
+        Entry::Undid(_, d, _) | Entry::Fell(d) | Entry::Rose(d) => blocked.unmark_at(d),
+        Entry::Did(r, k, _) => match window.device_of(r, k) {
+            Some(d) => blocked.unmark_at(d),
+            // There is such a command.
+            None => blocked.unmark_all(),
+        },
+    }
+}

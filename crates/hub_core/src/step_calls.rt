@@ -1,0 +1,98 @@
+ghost use Rattle.std.specs.Prelude.{◌≡◌, ℕ};
+ghost use Rattle.hub_core.specs.HubCalls.{IsGiven, IsProbeGiven, IsProbed, IsTurn, SameWindow};
+
+use crate::freed_runs::{free_back, free_going, free_made, mark_waiting};
+use crate::hubs::Hub;
+use crate::turns::Turn;
+use device_gate::{Done, Grip, Ready, Stranger};
+use device_states::Device;
+use history_book::Made;
+use home_types::{DeviceNo, RunNo};
+
+impl<D: Device> Hub<D> {
+    /// Makes the step of the run `r` at this moment, in ms, or at the last one where that is later.
+    ///
+    /// Answers what the run does: hands out a device, makes entries, waits, or is over. `Wait` and `Absent` change
+    /// nothing but the last moment. Takes no memory.
+    pub fn take(&mut self, r: RunNo, moment: u64) -> Turn<D>
+        ensures turn { IsTurn self.old r.0 moment result self.new }
+        ensures window { SameWindow self.old self.new }
+    {
+        self.window.whole();
+        let turn = self.window.take(r, moment);
+        self.window.whole();
+        match &turn {
+            Turn::Go(grip) => {
+                let d = grip.slip().device;
+                free_going(&mut self.blocked, &self.window, d);
+            }
+            Turn::Moved(made) => free_made(&mut self.blocked, &self.window, made),
+            Turn::Over(_, made) => free_made(&mut self.blocked, &self.window, made),
+            Turn::Wait(_) => mark_waiting(&mut self.blocked, &self.window, r),
+            Turn::Absent => {}
+        }
+        turn
+    }
+
+    /// Takes the device of a run's grip home, at this moment, in ms, or at the last one where that is later.
+    ///
+    /// Answers the entries that it makes: the command's answer, for a read with the value found, and the doom of a run whose
+    /// must `check` found another value; or that the run's write is undone. A grip that is not the one with which its device
+    /// is out, or that is the detector's, comes back with a `Stranger`, and nothing changes. Takes no memory.
+    pub fn give(
+        &mut self,
+        grip: Grip<D, Done>,
+        moment: u64,
+    ) -> Result<Made, (Grip<D, Done>, Stranger)>
+        ensures given { IsGiven self.old grip moment result self.new }
+        ensures window { SameWindow self.old self.new }
+    {
+        self.window.whole();
+        let d = grip.slip().device;
+        match self.window.give(grip, moment) {
+            Ok(made) => {
+                self.window.whole();
+                free_back(&mut self.blocked, &self.window, d, &made);
+                Ok(made)
+            }
+            Err(refused) => Err(refused),
+        }
+    }
+
+    /// Hands out a probe of the device: none where it is out or no device of the home, or no probe of it is left.
+    ///
+    /// Where the device is counted down, and answers the probe, the grip drives it to the value at which it should stand.
+    /// Takes no memory.
+    pub fn take_probe(&mut self, d: DeviceNo) -> Option<Grip<D, Ready>>
+        ensures probed { IsProbed self.old d.0 result self.new }
+        ensures window { SameWindow self.old self.new }
+    {
+        self.window.whole();
+        let probe = self.window.take_probe(d);
+        self.window.whole();
+        self.blocked.unmark_at(d);
+        probe
+    }
+
+    /// Takes the device of the detector's grip home.
+    ///
+    /// Answers the entries that it makes: a device that was counted up, and did not answer, has failed, and the run is
+    /// doomed that sees it up and is not done with it; one that was counted down, and answered, is back. A grip that is not
+    /// the one with which its device is out, or that is a run's, comes back with a `Stranger`, and nothing changes. Takes no
+    /// memory.
+    pub fn give_probe(&mut self, grip: Grip<D, Done>) -> Result<Made, (Grip<D, Done>, Stranger)>
+        ensures given { IsProbeGiven self.old grip result self.new }
+        ensures window { SameWindow self.old self.new }
+    {
+        self.window.whole();
+        let d = grip.slip().device;
+        match self.window.give_probe(grip) {
+            Ok(made) => {
+                self.window.whole();
+                free_back(&mut self.blocked, &self.window, d, &made);
+                Ok(made)
+            }
+            Err(refused) => Err(refused),
+        }
+    }
+}
