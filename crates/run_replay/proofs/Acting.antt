@@ -13,7 +13,7 @@ use Rattle.hub_core.specs.Steps.{after_give, at_moment, give_entries}
 use Rattle.lock_leasing.specs.Configurations.{Commands, Configuration, Probes, Purpose, Undoes, is_command, is_undo, read_of}
 use Rattle.lock_leasing.specs.Places.{GripsFit}
 use Rattle.run_replay.proofs.Holding.{Gives, gives_keeps, gives_plans}
-use Rattle.run_replay.proofs.HubSteps.{gave_back, never_refused}
+use Rattle.hub_core.proofs.steps.HubAnswers.{gave_back, never_refused}
 use Rattle.run_replay.proofs.Making.{give_makes}
 use Rattle.run_replay.proofs.Picking.{acted_is_picked, full_is, met}
 use Rattle.run_replay.proofs.Stepping.{gave_fewer}
@@ -25,7 +25,7 @@ use Rattle.std.proofs.Common.{ap, arith, refl, subst, sym, ◌∙◌}
 use Rattle.std.proofs.lemmas.Grind.{common_steps}
 use Rattle.std.proofs.lemmas.Option.{slice_get_read, slice_get_within}
 use Rattle.std.proofs.Math.ListN.{get_or}
-use Rattle.std.specs.Prelude.{List, None, Option, Some, false, length, slice_get, slice_set, suc, true, zero, ℕ, ◌+◌, ◌<◌, ◌==◌, ◌||◌, ◌^◌, ◌≡◌, ◌≤◌}
+use Rattle.std.specs.Prelude.{List, None, Option, Some, false, length, max, slice_get, slice_set, suc, true, zero, ℕ, ◌+◌, ◌<◌, ◌==◌, ◌||◌, ◌^◌, ◌≡◌, ◌≤◌}
 
 -- a run's grip was done, and is given back
 pub record IsDone {D : Type 0} (s : PlayerState D) (a : ℕ) (grip : Gripped D Ready) (done : Gripped D Done) : Type 0 where
@@ -55,17 +55,18 @@ not_refused_now {D = D} s t a m grip done x is step = never_refused (state_of s.
     maker : 0 < done.slip.maker
     maker = let run = is.run in let same = ap (λ (y : Slip). y.maker) is.slip in let own = is.kept.makers a grip is.hand in omega (arith, run, same, own)
 
--- it was given back
+-- it was given back, at this moment
 pub record IsGivenBack {D : Type 0} (s t : PlayerState D) (a : ℕ) (grip : Gripped D Ready) (done : Gripped D Done) (entries : List Entry) : Type 0 where
   pub is : IsDone s a grip done
-  pub step : HubStep (state_of s.hub) (Give (carried_by done) done.stage.told t.moment) (Returned (Gave entries)) (state_of t.hub)
+  pub at : ℕ
+  pub step : HubStep (state_of s.hub) (Give (carried_by done) done.stage.told at) (Returned (Gave entries)) (state_of t.hub)
   pub places : t.hub.places ≡ slice_set s.hub.places done.slip.device.0 (Home done.device)
   pub window : SameWindow s.hub t.hub
   pub grips : t.grips ≡ slice_set s.grips a None
   pub rounds : t.rounds ≡ s.rounds
   pub place : t.place ≡ s.place
   pub low : grip_takes s.hub.setting ((configuration_of s.hub).grips grip.slip.device.0) < 2 ^ 32
-  pub moment : t.moment ≡ s.moment + grip_takes s.hub.setting ((configuration_of s.hub).grips grip.slip.device.0)
+  pub moment : at ≡ s.hub.moment + grip_takes s.hub.setting ((configuration_of s.hub).grips grip.slip.device.0)
 
 takes_same : {D : Type 0} (s : PlayerState D) (a acts : ℕ) (purpose : Purpose) → grip_takes s.hub.setting (Some (record { maker = a; purpose = purpose })) ≡ takes_of (play_of s acts) (record { maker = a; purpose = purpose })
 takes_same s a acts (Commands k) = refl
@@ -78,25 +79,32 @@ met_run c (suc a) m run = let no : (suc a == 0) ≡ false = grind (arith, common
 
 -- what came of it
 
-pub entries_are : {D : Type 0} (s t : PlayerState D) (a : ℕ) (grip : Gripped D Ready) (done : Gripped D Done) (entries : List Entry) → IsGivenBack s t a grip done entries
+pub entries_are : {D : Type 0} (s t : PlayerState D) (a : ℕ) (grip : Gripped D Ready) (done : Gripped D Done) (entries : List Entry) → (by : IsGivenBack s t a grip done entries)
     → (entries ≡ give_entries s.hub.setting (read_of (configuration_of s.hub)) grip.slip.device.0 (record { maker = a; purpose = purpose_at s grip }) done.stage.told)
-    × (configuration_of t.hub ≡ after_give (at_moment (configuration_of s.hub) t.moment) grip.slip.device.0 (record { maker = a; purpose = purpose_at s grip }) done.stage.told)
+    × (configuration_of t.hub ≡ after_give (at_moment (configuration_of s.hub) by.at) grip.slip.device.0 (record { maker = a; purpose = purpose_at s grip }) done.stage.told)
 entries_are {D = D} s t a grip done entries by =
     let out = out_of_hand s a grip by.is.kept by.is.hand in
     let there : (configuration_of s.hub).grips done.slip.device.0 ≡ Some (record { maker = a; purpose = purpose_at s grip }) = ap (λ (x : Slip). (configuration_of s.hub).grips x.device.0) by.is.slip ∙ out in
-    let back = gave_back (state_of s.hub) (state_of t.hub) (carried_by done) done.stage.told t.moment (record { maker = a; purpose = purpose_at s grip }) entries there by.step in (
+    let back = gave_back (state_of s.hub) (state_of t.hub) (carried_by done) done.stage.told by.at (record { maker = a; purpose = purpose_at s grip }) entries there by.step in (
       back.0 ∙ ap (λ (x : Slip). give_entries s.hub.setting (read_of (configuration_of s.hub)) x.device.0 (record { maker = a; purpose = purpose_at s grip }) done.stage.told) by.is.slip,
-      back.1 ∙ ap (λ (x : Slip). after_give (at_moment (configuration_of s.hub) t.moment) x.device.0 (record { maker = a; purpose = purpose_at s grip }) done.stage.told) by.is.slip,
+      back.1 ∙ ap (λ (x : Slip). after_give (at_moment (configuration_of s.hub) by.at) x.device.0 (record { maker = a; purpose = purpose_at s grip }) done.stage.told) by.is.slip,
     )
 
-moment_is : {D : Type 0} (s t : PlayerState D) (a acts : ℕ) (grip : Gripped D Ready) (done : Gripped D Done) (entries : List Entry) → IsGivenBack s t a grip done entries → t.moment ≡ s.moment + takes_of (play_of s acts) (record { maker = a; purpose = purpose_at s grip })
-moment_is s t a acts grip done entries by = by.moment ∙ ap (λ o. s.moment + grip_takes s.hub.setting o) (out_of_hand s a grip by.is.kept by.is.hand) ∙ ap (λ n. s.moment + n) (takes_same s a acts (purpose_at s grip))
+later_is : (before at time : ℕ) → at ≡ before + time → max before at ≡ at
+later_is before at time is = omega (arith, is)
+
+-- the moment rises by what the run's command takes
+now_is : {D : Type 0} (s t : PlayerState D) (a : ℕ) (grip : Gripped D Ready) (done : Gripped D Done) (entries : List Entry) → (by : IsGivenBack s t a grip done entries) → t.hub.moment ≡ by.at
+now_is s t a grip done entries by = ap (λ (c : Configuration). c.moment) (entries_are s t a grip done entries by).1 ∙ later_is s.hub.moment by.at (grip_takes s.hub.setting ((configuration_of s.hub).grips grip.slip.device.0)) by.moment
+
+moment_is : {D : Type 0} (s t : PlayerState D) (a acts : ℕ) (grip : Gripped D Ready) (done : Gripped D Done) (entries : List Entry) → IsGivenBack s t a grip done entries → t.hub.moment ≡ s.hub.moment + takes_of (play_of s acts) (record { maker = a; purpose = purpose_at s grip })
+moment_is s t a acts grip done entries by = now_is s t a grip done entries by ∙ by.moment ∙ ap (λ o. s.hub.moment + grip_takes s.hub.setting o) (out_of_hand s a grip by.is.kept by.is.hand) ∙ ap (λ n. s.hub.moment + n) (takes_same s a acts (purpose_at s grip))
 
 pub given_picked : {D : Type 0} (s t : PlayerState D) (a acts : ℕ) (grip : Gripped D Ready) (done : Gripped D Done) (entries : List Entry) → IsGivenBack s t a grip done entries → IsPicked s.rounds a (play_of s acts) (Made entries) (play_of t (acts + 1))
 given_picked s t a acts grip done entries by =
     let two = entries_are s t a grip done entries by in
     acted_is_picked s t a acts grip (purpose_at s grip) done.stage.told entries by.is.kept by.is.size by.is.going by.is.hand (out_of_hand s a grip by.is.kept by.is.hand) (moment_is s t a acts grip done entries by) two.0
-    (two.1 ∙ ap (λ c. after_give c grip.slip.device.0 (record { maker = a; purpose = purpose_at s grip }) done.stage.told) (sym (met_run (configuration_of s.hub) a t.moment by.is.run))) by.place
+    (two.1 ∙ ap (λ c. after_give c grip.slip.device.0 (record { maker = a; purpose = purpose_at s grip }) done.stage.told) (ap (at_moment (configuration_of s.hub)) (sym (now_is s t a grip done entries by)) ∙ sym (met_run (configuration_of s.hub) a t.hub.moment by.is.run))) by.place
 
 -- a run's grip is for a command or an undo
 pub runs_purpose : {D : Type 0} (s : PlayerState D) (a d : ℕ) (purpose : Purpose) → 0 < a → GripsFit s.hub.setting (read_of (configuration_of s.hub)) (configuration_of s.hub).grips → (configuration_of s.hub).grips d ≡ Some (record { maker = a; purpose = purpose }) → (is_command purpose || is_undo purpose) ≡ true
@@ -119,7 +127,7 @@ gives_of s t a grip done entries by = record {
   grips = by.grips;
   setting = by.window.setting;
   rounds = by.rounds;
-  early = (let more = grows s t a grip done entries by in let early = by.is.kept.early in let low = by.low in let same = by.moment in omega (arith, more, early, low, same));
+  early = (let more = grows s t a grip done entries by in let early = by.is.kept.early in let low = by.low in let same = now_is s t a grip done entries by ∙ by.moment in omega (arith, more, early, low, same));
   place = by.place;
 }
 

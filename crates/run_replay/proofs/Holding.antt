@@ -27,7 +27,7 @@ pub record Takes {D : Type 0} (s t : PlayerState D) (r : ℕ) (grip : Gripped D 
   pub grips : t.grips ≡ slice_set s.grips r (Some grip)
   pub setting : t.hub.setting ≡ s.hub.setting
   pub rounds : t.rounds ≡ s.rounds
-  pub early : t.moment ≤ 2 ^ 32 * length t.hub.history
+  pub early : t.hub.moment ≤ 2 ^ 32 * length t.hub.history
   pub place : t.place ≤ t.rounds * length t.hub.setting.first
 
 taken_grip : {D : Type 0} (s t : PlayerState D) (r a : ℕ) (grip x : Gripped D Ready) → Takes s t r grip → slice_get t.grips a ≡ Some (Some x) → ((a ≡ r) × (x ≡ grip)) ⊎ ((a ≢ r) × (slice_get s.grips a ≡ Some (Some x)))
@@ -113,7 +113,7 @@ pub record Gives {D : Type 0} (s t : PlayerState D) (a : ℕ) (grip : Gripped D 
   pub grips : t.grips ≡ slice_set s.grips a None
   pub setting : t.hub.setting ≡ s.hub.setting
   pub rounds : t.rounds ≡ s.rounds
-  pub early : t.moment ≤ 2 ^ 32 * length t.hub.history
+  pub early : t.hub.moment ≤ 2 ^ 32 * length t.hub.history
   pub place : t.place ≡ s.place
 
 given_grip : {D : Type 0} (s t : PlayerState D) (a b : ℕ) (grip x : Gripped D Ready) (device : D) → Gives s t a grip device → slice_get t.grips b ≡ Some (Some x) → (b ≢ a) × (slice_get s.grips b ≡ Some (Some x))
@@ -187,7 +187,7 @@ pub record Moves {D : Type 0} (s t : PlayerState D) : Type 0 where
   pub grips : t.grips ≡ s.grips
   pub setting : t.hub.setting ≡ s.hub.setting
   pub rounds : t.rounds ≡ s.rounds
-  pub early : t.moment ≤ 2 ^ 32 * length t.hub.history
+  pub early : t.hub.moment ≤ 2 ^ 32 * length t.hub.history
   pub place : t.place ≤ t.rounds * length t.hub.setting.first
 
 pub moves_keeps : {D : Type 0} (s t : PlayerState D) → Moves s t → PlayerIsKept s → PlayerIsKept t

@@ -160,24 +160,24 @@ run_hand s t r o run grips = ap (λ g. slice_get g 0) grips ∙ put_other_place 
 -- a run's step ends no other actor
 pub answered_others : {D : Type 0} (now s t : PlayerState D) (r : ℕ) (choice : Choice) → s ≡ now → IsAnswered s t r choice → (q : ℕ) → q ≢ r → is_ended t q ≡ is_ended now q
 answered_others {D = D} now s t r choice same is q other =
-    let ends = ap (λ (c : Configuration). ((read_of c).run q).ended) (after s t r choice is.answers) ∙ take_ends (configuration_of s.hub) r q s.moment other in
+    let ends = ap (λ (c : Configuration). ((read_of c).run q).ended) (after s t r choice is.answers) ∙ take_ends (configuration_of s.hub) r q s.hub.moment other in
     same_ends s t q is.window (λ own. same_detector s t is.window (ap (λ g. slice_get g 0) is.grips) is.rounds is.place) ends ∙ ap (λ (x : PlayerState D). is_ended x q) same
 
 -- .. and where it waits not even its own
 pub waited_ends : {D : Type 0} (now s t : PlayerState D) (r : ℕ) (why : Why) → s ≡ now → IsAnswered s t r (Waits why) → is_ended t r ≡ is_ended now r
 waited_ends {D = D} now s t r why same is =
-    let ends = ap (λ (c : Configuration). ((read_of c).run r).ended) (after s t r (Waits why) is.answers) ∙ ap (λ c. ((read_of (after_choice (at_moment (configuration_of s.hub) s.moment) r c)).run r).ended) (sym (chosen s t r (Waits why) is.answers)) in
+    let ends = ap (λ (c : Configuration). ((read_of c).run r).ended) (after s t r (Waits why) is.answers) ∙ ap (λ c. ((read_of (after_choice (at_moment (configuration_of s.hub) s.hub.moment) r c)).run r).ended) (sym (chosen s t r (Waits why) is.answers)) in
     same_ends s t r is.window (λ own. same_detector s t is.window (ap (λ g. slice_get g 0) is.grips) is.rounds is.place) ends ∙ ap (λ (x : PlayerState D). is_ended x r) same
 
 pub went_others : {D : Type 0} (now s t : PlayerState D) (r : ℕ) (grip : Gripped D Ready) → s ≡ now → GoesToHand s t r grip → (q : ℕ) → q ≢ r → is_ended t q ≡ is_ended now q
 went_others {D = D} now s t r grip same is q other =
-    let ends = ap (λ (c : Configuration). ((read_of c).run q).ended) (went_after s t r grip is) ∙ take_ends (configuration_of s.hub) r q s.moment other in
+    let ends = ap (λ (c : Configuration). ((read_of c).run q).ended) (went_after s t r grip is) ∙ take_ends (configuration_of s.hub) r q s.hub.moment other in
     same_ends s t q is.window (λ own. same_detector s t is.window (run_hand s t r (Some grip) is.free.run is.grips) is.rounds is.place) ends ∙ ap (λ (x : PlayerState D). is_ended x q) same
 
 -- a step back ends no actor
 pub given_ends : {D : Type 0} (now s t : PlayerState D) (a : ℕ) (grip : Gripped D Ready) (done : Gripped D Done) (entries : List Entry) → s ≡ now → IsGivenBack s t a grip done entries → (q : ℕ) → is_ended t q ≡ is_ended now q
 given_ends {D = D} now s t a grip done entries same by q =
-    let ends = ap (λ (c : Configuration). ((read_of c).run q).ended) (entries_are s t a grip done entries by).1 ∙ give_ended (at_moment (configuration_of s.hub) t.moment) grip.slip.device.0 a q (purpose_at s grip) done.stage.told in
+    let ends = ap (λ (c : Configuration). ((read_of c).run q).ended) (entries_are s t a grip done entries by).1 ∙ give_ended (at_moment (configuration_of s.hub) by.at) grip.slip.device.0 a q (purpose_at s grip) done.stage.told in
     same_ends s t q by.window (λ own. same_detector s t by.window (run_hand s t a None by.is.run by.grips) by.rounds by.place) ends ∙ ap (λ (x : PlayerState D). is_ended x q) same
 
 -- The list of those that have not ended

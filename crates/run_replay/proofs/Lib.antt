@@ -26,4 +26,4 @@ pub mod Played
 pub mod Progress
 pub mod Trying
 pub mod Finishing
-pub mod HubSteps
+pub mod Passing

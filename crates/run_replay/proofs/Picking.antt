@@ -3,16 +3,17 @@ use Rattle.command_rules.specs.Rosters.{is_run}
 use Rattle.device_gate.specs.Grips.{Gripped}
 use Rattle.device_gate.specs.declared.grips.Ready.{Ready}
 use Rattle.device_gate.specs.declared.slips.Told.{Told}
+use Rattle.history_book.specs.Readings.{put}
 use Rattle.history_book.specs.declared.entries.Entry.{Entry}
 use Rattle.hub_core.specs.OpenHubs.{configuration_of}
-use Rattle.hub_core.specs.Steps.{Choice, after_give, after_take, after_take_probe, at_moment, choice_of, give_entries, may_probe}
+use Rattle.hub_core.specs.Steps.{Absent, Choice, HandsOut, Moves, Over, Waits, after_choice, after_give, after_take, after_take_probe, at_moment, choice_of, give_entries, may_probe, probe_grip}
 use Rattle.lock_leasing.specs.Configurations.{Configuration, Grip, Purpose, read_of}
 use Rattle.run_replay.proofs.Gripping.{empty_hand, full_hand}
 use Rattle.run_replay.specs.Players.{PlayerIsKept, PlayerState, is_ended, is_full, play_of}
 use Rattle.run_replay.specs.Playing.{IsPicked, Tells}
 use Rattle.run_replay.specs.Replays.{Course, Made, Passed, Play, Took, act_on, detector_takes, gripped, has_ended, passes, pick, pick_live, picked_by, run_takes, takes_of}
 use Rattle.std.proofs.Common.{ap, arith, refl, sym, ◌∙◌}
-use Rattle.std.specs.Prelude.{Bool, List, None, Option, Some, [], false, if◌then◌else◌, is_some, length, nat_le, option_map, slice_get, suc, true, unwrap_or, zero, ℕ, ◌%◌, ◌*◌, ◌+◌, ◌<◌, ◌==◌, ◌∷◌, ◌≡◌}
+use Rattle.std.specs.Prelude.{Bool, List, None, Option, Some, [], false, if◌then◌else◌, is_some, length, max, nat_le, option_map, slice_get, suc, true, unwrap_or, zero, ℕ, ◌%◌, ◌*◌, ◌+◌, ◌-◌, ◌<◌, ◌==◌, ◌∷◌, ◌≡◌}
 
 -- Which actors have ended
 
@@ -56,6 +57,33 @@ ended_pick course p a e = rw e refl
 pub passed_is_picked : {D : Type 0} (s : PlayerState D) (a acts : ℕ) → PlayerIsKept s → length s.hub.places ≡ length s.hub.setting.first → is_ended s a ≡ true → IsPicked s.rounds a (play_of s acts) Passed (play_of s acts)
 passed_is_picked s a acts kept size ended = record { told = []; acts = omega arith; leads = λ course same tells. ended_pick course (play_of s acts) a (ended_is course s acts a kept size same ∙ ended) }
 
+-- The moment: of the steps of a replay those alone move it that give the grip of a command back
+
+max_same : (m : ℕ) → max m m ≡ m
+max_same m = omega arith
+
+choice_moment : (c : Configuration) (r : ℕ) (choice : Choice) → (after_choice c r choice).moment ≡ c.moment
+choice_moment c r Absent = refl
+choice_moment c r (Over e entries) = refl
+choice_moment c r (Moves entries) = refl
+choice_moment c r (Waits why) = refl
+choice_moment c r (HandsOut d purpose) = refl
+
+-- a configuration at its own moment is as it is
+pub at_own_moment : (c : Configuration) → at_moment c c.moment ≡ c
+at_own_moment c = λ i. record c { moment = max_same c.moment i }
+
+-- a take at the last moment does not move it
+pub same_moment : (c : Configuration) (r : ℕ) → (after_take c r c.moment).moment ≡ c.moment
+same_moment c r = choice_moment (at_moment c c.moment) r (choice_of c r c.moment) ∙ max_same c.moment
+
+probe_moment : (c : Configuration) (d : ℕ) → (after_take_probe c d).moment ≡ c.moment
+probe_moment c d = by_may (may_probe c d)
+  where
+    by_may : (b : Bool) → (if b then record c { probes = put c.probes d (c.probes d - 1); grips = put c.grips d (Some (probe_grip c d)) } else c).moment ≡ c.moment
+    by_may true = refl
+    by_may false = refl
+
 -- A run that takes
 
 -- a run of the window that has not ended
@@ -70,16 +98,19 @@ pub take_pick : (course : Course) (p : Play) (r : ℕ) → IsGoing p.configurati
 take_pick course p zero going none = absurd (let no : false ≡ true = going.0 in cc)
 take_pick course p (suc r) going none = going_pick course p (suc r) going ∙ rw none refl
 
-pub taken_is_picked : {D : Type 0} (s t : PlayerState D) (rounds r acts : ℕ) (choice : Choice) → PlayerIsKept s → IsGoing (configuration_of s.hub) r → slice_get s.grips r ≡ Some None
-    → choice ≡ choice_of (configuration_of s.hub) r s.moment → configuration_of t.hub ≡ after_take (configuration_of s.hub) r s.moment → t.moment ≡ s.moment → t.place ≡ s.place → IsPicked rounds r (play_of s acts) (picked_by choice) (play_of t acts)
-taken_is_picked s t rounds r acts choice kept going free chosen after moment place = record {
+pub taken_is_picked : {D : Type 0} (s t : PlayerState D) (rounds r acts : ℕ) (choice : Choice) → IsGoing (configuration_of s.hub) r → gripped (play_of s acts) r ≡ None
+    → choice ≡ choice_of (configuration_of s.hub) r s.hub.moment → configuration_of t.hub ≡ after_take (configuration_of s.hub) r s.hub.moment → t.place ≡ s.place → IsPicked rounds r (play_of s acts) (picked_by choice) (play_of t acts)
+taken_is_picked s t rounds r acts choice going free chosen after place = record {
   told = [];
   acts = omega arith;
-  leads = λ course same tells. take_pick course (play_of s acts) r going (empty_hand s r acts kept free) ∙ λ i. record {
+  leads = λ course same tells. take_pick course (play_of s acts) r going free ∙ λ i. record {
     picked = picked_by (sym chosen i);
     next = record { configuration = sym after i; moment = sym moment i; place = sym place i; acts = acts };
   };
 }
+  where
+    moment : t.hub.moment ≡ s.hub.moment
+    moment = ap (λ (c : Configuration). c.moment) after ∙ same_moment (configuration_of s.hub) r
 
 -- An actor that acts, and gives back
 
@@ -97,9 +128,9 @@ met c a m = if a == 0 then c else at_moment c m
 pub acted_is_picked : {D : Type 0} (s t : PlayerState D) (a acts : ℕ) (grip : Gripped D Ready) (purpose : Purpose) (told : Told) (entries : List Entry) → PlayerIsKept s → length s.hub.places ≡ length s.hub.setting.first → is_ended s a ≡ false
     → slice_get s.grips a ≡ Some (Some grip)
     → (configuration_of s.hub).grips grip.slip.device.0 ≡ Some (record { maker = a; purpose = purpose })
-    → t.moment ≡ s.moment + takes_of (play_of s acts) (record { maker = a; purpose = purpose })
+    → t.hub.moment ≡ s.hub.moment + takes_of (play_of s acts) (record { maker = a; purpose = purpose })
     → entries ≡ give_entries s.hub.setting (read_of (configuration_of s.hub)) grip.slip.device.0 (record { maker = a; purpose = purpose }) told
-    → configuration_of t.hub ≡ after_give (met (configuration_of s.hub) a t.moment) grip.slip.device.0 (record { maker = a; purpose = purpose }) told → t.place ≡ s.place
+    → configuration_of t.hub ≡ after_give (met (configuration_of s.hub) a t.hub.moment) grip.slip.device.0 (record { maker = a; purpose = purpose }) told → t.place ≡ s.place
     → IsPicked s.rounds a (play_of s acts) (Made entries) (play_of t (acts + 1))
 acted_is_picked {D = D} s t a acts grip purpose told entries kept size going hand out moment made after place = record {
   told = told ∷ [];
@@ -117,7 +148,7 @@ acted_is_picked {D = D} s t a acts grip purpose told entries kept size going han
         out_so = record { maker = a; purpose = purpose }
 
         later : ℕ
-        later = s.moment + takes_of (play_of s acts) (record { maker = a; purpose = purpose })
+        later = s.hub.moment + takes_of (play_of s acts) (record { maker = a; purpose = purpose })
 
         given : after_give (met (configuration_of s.hub) a later) grip.slip.device.0 out_so (course.told acts) ≡ configuration_of t.hub
         given = ap (λ x. after_give (met (configuration_of s.hub) a later) grip.slip.device.0 out_so x) is
@@ -137,19 +168,19 @@ by_probe : (p : Play) (b : Bool) → may_probe p.configuration (p.place % length
 by_probe p b is = ap (λ (x : Bool). if x then record { picked = Took (p.place % length p.configuration.setting.first); next = record p { configuration = after_take_probe p.configuration (p.place % length p.configuration.setting.first); place = p.place + 1 } } else passes (record p { place = p.place + 1 })) is
 
 pub detector_passed : {D : Type 0} (s t : PlayerState D) (acts : ℕ) → PlayerIsKept s → length s.hub.places ≡ length s.hub.setting.first → is_ended s 0 ≡ false → slice_get s.grips 0 ≡ Some None
-    → may_probe (configuration_of s.hub) (next_device s) ≡ false → configuration_of t.hub ≡ configuration_of s.hub → t.moment ≡ s.moment → t.place ≡ s.place + 1 → IsPicked s.rounds 0 (play_of s acts) Passed (play_of t acts)
-detector_passed s t acts kept size going free may after moment place = record {
+    → may_probe (configuration_of s.hub) (next_device s) ≡ false → configuration_of t.hub ≡ configuration_of s.hub → t.place ≡ s.place + 1 → IsPicked s.rounds 0 (play_of s acts) Passed (play_of t acts)
+detector_passed s t acts kept size going free may after place = record {
   told = [];
   acts = omega arith;
   leads = λ course same tells. rest_pick course (play_of s acts) (ended_is course s acts 0 kept size same ∙ going) (empty_hand s 0 acts kept free) ∙ by_probe (play_of s acts) false may ∙ λ i. record {
     picked = Passed;
-    next = record { configuration = sym after i; moment = sym moment i; place = sym place i; acts = acts };
+    next = record { configuration = sym after i; moment = (sym after i).moment; place = sym place i; acts = acts };
   };
 }
 
 pub detector_took : {D : Type 0} (s t : PlayerState D) (acts : ℕ) → PlayerIsKept s → length s.hub.places ≡ length s.hub.setting.first → is_ended s 0 ≡ false → slice_get s.grips 0 ≡ Some None
-    → may_probe (configuration_of s.hub) (next_device s) ≡ true → configuration_of t.hub ≡ after_take_probe (configuration_of s.hub) (next_device s) → t.moment ≡ s.moment → t.place ≡ s.place + 1 → IsPicked s.rounds 0 (play_of s acts) (Took (next_device s)) (play_of t acts)
-detector_took s t acts kept size going free may after moment place = record {
+    → may_probe (configuration_of s.hub) (next_device s) ≡ true → configuration_of t.hub ≡ after_take_probe (configuration_of s.hub) (next_device s) → t.place ≡ s.place + 1 → IsPicked s.rounds 0 (play_of s acts) (Took (next_device s)) (play_of t acts)
+detector_took s t acts kept size going free may after place = record {
   told = [];
   acts = omega arith;
   leads = λ course same tells. rest_pick course (play_of s acts) (ended_is course s acts 0 kept size same ∙ going) (empty_hand s 0 acts kept free) ∙ by_probe (play_of s acts) true may ∙ λ i. record {
@@ -157,3 +188,6 @@ detector_took s t acts kept size going free may after moment place = record {
     next = record { configuration = sym after i; moment = sym moment i; place = sym place i; acts = acts };
   };
 }
+  where
+    moment : t.hub.moment ≡ s.hub.moment
+    moment = ap (λ (c : Configuration). c.moment) after ∙ probe_moment (configuration_of s.hub) (next_device s)

@@ -14,7 +14,7 @@ use Rattle.history_book.specs.Readings.{put}
 use Rattle.lock_leasing.specs.Configurations.{Commands, Configuration, Probes, Purpose, Undoes, read_of}
 use Rattle.run_replay.proofs.Acting.{hand_by, out_of_hand, purpose_at}
 use Rattle.run_replay.proofs.Holding.{Gives, Moves, Takes, gives_keeps, gives_plans, moves_keeps, moves_plans, takes_keeps, takes_plans}
-use Rattle.run_replay.proofs.HubSteps.{gave_probe_back, probe_never_refused, took_none, took_probe}
+use Rattle.hub_core.proofs.steps.HubAnswers.{gave_probe_back, probe_never_refused, took_none, took_probe}
 use Rattle.run_replay.proofs.Leaving.{give_ended, same_ends}
 use Rattle.run_replay.proofs.Picking.{acted_is_picked, detector_passed, detector_took, empty_is, next_device}
 use Rattle.run_replay.proofs.Stepping.{passed_fewer, probed_fewer, returned_fewer}
@@ -75,7 +75,6 @@ pub record GoesToDetector {D : Type 0} (s t : PlayerState D) (d : ℕ) (grip : G
   pub window : SameWindow s.hub t.hub
   pub grips : t.grips ≡ slice_set s.grips 0 (Some grip)
   pub rounds : t.rounds ≡ s.rounds
-  pub moment : t.moment ≡ s.moment
   pub place : t.place ≡ s.place + 1
 
 taken : {D : Type 0} (s t : PlayerState D) (d : ℕ) (grip : Gripped D Ready) → GoesToDetector s t d grip → (may_probe (configuration_of s.hub) d ≡ true) × (configuration_of t.hub ≡ after_take_probe (configuration_of s.hub) d) × IsSlipOf 0 d grip.slip
@@ -98,7 +97,7 @@ takes_it s t d grip is =
       grips = is.grips;
       setting = is.window.setting;
       rounds = is.rounds;
-      early = subst (λ h. t.moment ≤ 2 ^ 32 * length h) (sym (same_history s t d grip is)) (subst (λ m. m ≤ 2 ^ 32 * length s.hub.history) (sym is.moment) is.rest.kept.early);
+      early = subst (λ (c : Configuration). c.moment ≤ 2 ^ 32 * length c.history) (sym (after s t d grip is)) is.rest.kept.early;
       place = further s t is.rest is.window is.rounds is.place;
     }
 
@@ -109,7 +108,7 @@ probed_picked : {D : Type 0} (s t : PlayerState D) (d acts : ℕ) (grip : Grippe
 probed_picked s t d acts grip is =
     let three = taken s t d grip is in
     subst (λ e. IsPicked s.rounds 0 (play_of s acts) (Took e) (play_of t acts)) (sym is.next)
-    (detector_took s t acts is.rest.kept is.rest.size is.rest.going (its_hand s is.rest) (ap (may_probe (configuration_of s.hub)) (sym is.next) ∙ three.0) (three.1 ∙ ap (after_take_probe (configuration_of s.hub)) is.next) is.moment is.place)
+    (detector_took s t acts is.rest.kept is.rest.size is.rest.going (its_hand s is.rest) (ap (may_probe (configuration_of s.hub)) (sym is.next) ∙ three.0) (three.1 ∙ ap (after_take_probe (configuration_of s.hub)) is.next) is.place)
 
 -- The device is passed over
 
@@ -120,7 +119,6 @@ pub record PassesOver {D : Type 0} (s t : PlayerState D) (d : ℕ) : Type 0 wher
   pub window : SameWindow s.hub t.hub
   pub grips : t.grips ≡ s.grips
   pub rounds : t.rounds ≡ s.rounds
-  pub moment : t.moment ≡ s.moment
   pub place : t.place ≡ s.place + 1
 
 stays : {D : Type 0} (s t : PlayerState D) (d : ℕ) → PassesOver s t d → Moves s t
@@ -129,7 +127,7 @@ stays s t d is = record {
   grips = is.grips;
   setting = is.window.setting;
   rounds = is.rounds;
-  early = subst (λ (h : OpenHub _). t.moment ≤ 2 ^ 32 * length h.history) (sym is.probed.1) (subst (λ m. m ≤ 2 ^ 32 * length s.hub.history) (sym is.moment) is.rest.kept.early);
+  early = subst (λ (h : OpenHub _). h.moment ≤ 2 ^ 32 * length h.history) (sym is.probed.1) is.rest.kept.early;
   place = further s t is.rest is.window is.rounds is.place;
 }
 
@@ -139,7 +137,7 @@ passed_keeps s t d is = moves_keeps s t (stays s t d is) is.rest.kept
 passed_picked : {D : Type 0} (s t : PlayerState D) (d acts : ℕ) → PassesOver s t d → IsPicked s.rounds 0 (play_of s acts) Passed (play_of t acts)
 passed_picked s t d acts is =
     let may = took_none (state_of s.hub) (state_of t.hub) d some_slip (is.probed.0 some_slip) in
-    detector_passed s t acts is.rest.kept is.rest.size is.rest.going (its_hand s is.rest) (ap (may_probe (configuration_of s.hub)) (sym is.next) ∙ may) (ap configuration_of is.probed.1) is.moment is.place
+    detector_passed s t acts is.rest.kept is.rest.size is.rest.going (its_hand s is.rest) (ap (may_probe (configuration_of s.hub)) (sym is.next) ∙ may) (ap configuration_of is.probed.1) is.place
 
 -- The probe is given back
 
@@ -173,7 +171,6 @@ pub record ProbeIsBack {D : Type 0} (s t : PlayerState D) (grip : Gripped D Read
   pub window : SameWindow s.hub t.hub
   pub grips : t.grips ≡ slice_set s.grips 0 None
   pub rounds : t.rounds ≡ s.rounds
-  pub moment : t.moment ≡ s.moment
   pub place : t.place ≡ s.place
 
 its_grip : {D : Type 0} (s : PlayerState D) (grip : Gripped D Ready) → IsHeld s grip → (configuration_of s.hub).grips grip.slip.device.0 ≡ Some (record { maker = 0; purpose = purpose_at s grip })
@@ -189,6 +186,10 @@ came_back {D = D} s t grip done entries is =
       back.1 ∙ ap (λ (x : Slip). after_give (configuration_of s.hub) x.device.0 (record { maker = 0; purpose = purpose_at s grip }) done.stage.told) is.slip,
     )
 
+-- .. at the moment that it was
+untouched : {D : Type 0} (s t : PlayerState D) (grip : Gripped D Ready) (done : Gripped D Done) (entries : List Entry) → ProbeIsBack s t grip done entries → t.hub.moment ≡ s.hub.moment
+untouched s t grip done entries is = ap (λ (c : Configuration). c.moment) (came_back s t grip done entries is).1
+
 -- the detector's grip takes no time
 no_time : {D : Type 0} (s : PlayerState D) (acts : ℕ) (purpose : Purpose) → takes_of (play_of s acts) (record { maker = 0; purpose = purpose }) ≡ 0
 no_time s acts (Commands k) = refl
@@ -199,7 +200,7 @@ back_picked : {D : Type 0} (s t : PlayerState D) (acts : ℕ) (grip : Gripped D 
 back_picked s t acts grip done entries is =
     let two = came_back s t grip done entries is in
     let none = no_time s acts (purpose_at s grip) in
-    acted_is_picked s t 0 acts grip (purpose_at s grip) done.stage.told entries is.held.kept is.held.size is.held.going is.held.hand (its_grip s grip is.held) (later s.moment t.moment (takes_of (play_of s acts) (record { maker = 0; purpose = purpose_at s grip })) is.moment none) two.0 two.1 is.place
+    acted_is_picked s t 0 acts grip (purpose_at s grip) done.stage.told entries is.held.kept is.held.size is.held.going is.held.hand (its_grip s grip is.held) (later s.hub.moment t.hub.moment (takes_of (play_of s acts) (record { maker = 0; purpose = purpose_at s grip })) (untouched s t grip done entries is) none) two.0 two.1 is.place
   where
     later : (before after time : ℕ) → after ≡ before → time ≡ 0 → after ≡ before + time
     later before after time same none = omega (arith, same, none)
@@ -217,7 +218,7 @@ gives_it s t grip done entries is = record {
   grips = is.grips;
   setting = is.window.setting;
   rounds = is.rounds;
-  early = (let more = longer s t grip done entries is in let early = is.held.kept.early in let same = is.moment in omega (arith, more, early, same));
+  early = (let more = longer s t grip done entries is in let early = is.held.kept.early in let same = untouched s t grip done entries is in omega (arith, more, early, same));
   place = is.place;
 }
 

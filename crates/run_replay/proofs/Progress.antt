@@ -167,7 +167,7 @@ not_all_wait {D = D} course s acts kept size fit moves all a low going = by_acto
         let q = moves r run home in
         let waited = wait_of course (play_of s acts) q.0 all (run_within (configuration_of s.hub) q.0 q.1) (going_not_ended course (play_of s acts) q.0 q.1) in
         let picked = ap (λ (x : Pick). waits x.picked) (take_pick course (play_of s acts) q.0 q.1 (free q.0)) in
-        let moved : waits (picked_by (choice_of (configuration_of s.hub) q.0 s.moment)) ≡ false = waits_by (choice_of (configuration_of s.hub) q.0 s.moment) (q.2 s.moment) in
+        let moved : waits (picked_by (choice_of (configuration_of s.hub) q.0 s.hub.moment)) ≡ false = waits_by (choice_of (configuration_of s.hub) q.0 s.hub.moment) (q.2 s.hub.moment) in
         absurd (let both : true ≡ false = sym waited ∙ picked ∙ moved in cc)
 
     by_actor : (b : ℕ) → b < length s.hub.setting.runs + 1 → has_ended course (play_of s acts) b ≡ false → ⊥

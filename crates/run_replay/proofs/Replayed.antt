@@ -5,7 +5,6 @@ use Rattle.device_gate.specs.declared.gates.Place.{Place}
 use Rattle.device_gate.specs.declared.slips.Told.TheVariants.{Worked}
 use Rattle.history_book.specs.declared.records.WindowRecord.{WindowRecord}
 use Rattle.hub_core.specs.Homes.{HomeState}
-use Rattle.hub_core.proofs.calls.HubCloses.{at_place}
 use Rattle.hub_core.specs.HubCalls.{HubStands, IsClosed, NoneFails, SameWindow}
 use Rattle.hub_core.specs.LegalWindows.{IsLegalWindow}
 use Rattle.hub_core.specs.OpenHubs.{OpenHub, configuration_of, device_at}
@@ -18,7 +17,7 @@ use Rattle.run_replay.specs.Players.{HavePlans, IsOpened, PlayerIsKept, PlayerSt
 use Rattle.run_replay.specs.Playing.{IsFinished, IsPlayed}
 use Rattle.run_replay.specs.ReplayedWindows.{IsReplayed, RunsHaveEnded}
 use Rattle.run_replay.specs.Replays.{Course, IsReplay}
-use Rattle.std.proofs.Common.{ap, arith, inl, inr, refl, subst, sym, ◌∙◌}
+use Rattle.std.proofs.Common.{ap, inl, inr, refl, subst, sym, ◌∙◌}
 use Rattle.std.proofs.lemmas.List.{length-map}
 use Rattle.std.proofs.lemmas.Option.{slice_get-map}
 use Rattle.std.specs.Prelude.{List, None, Option, Some, length, option_map, slice_get, slice_index_or, ℕ, ◌+◌, ◌-◌, ◌≡◌}

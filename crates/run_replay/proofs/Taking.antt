@@ -9,13 +9,14 @@ use Rattle.history_book.specs.declared.entries.Kept.{Kept}
 use Rattle.hub_core.proofs.steps.Choices.{decide_is}
 use Rattle.hub_core.specs.HubCalls.{Answers, GoesOut, SameWindow}
 use Rattle.hub_core.specs.HubSteps.{IsSlipOf, SlipFits}
-use Rattle.hub_core.specs.OpenHubs.{configuration_of, state_of}
+use Rattle.hub_core.specs.OpenHubs.{OpenHub, configuration_of, state_of}
 use Rattle.hub_core.specs.Steps.{Absent, Choice, HandsOut, Moves, Over, Waits, after_choice, after_take, at_moment, choice_of}
 use Rattle.lock_leasing.specs.Configurations.{Configuration, read_of}
 use Rattle.run_replay.proofs.Holding.{Moves as MovesOn, Takes, moves_keeps, moves_plans, takes_keeps, takes_plans}
-use Rattle.run_replay.proofs.HubSteps.{took_after, took_choice}
+use Rattle.hub_core.proofs.steps.HubAnswers.{took_after, took_choice}
 use Rattle.run_replay.proofs.Making.{Makes, choice_makes}
-use Rattle.run_replay.proofs.Picking.{IsGoing, empty_is, passed_is_picked, taken_is_picked}
+use Rattle.run_replay.proofs.Gripping.{empty_hand}
+use Rattle.run_replay.proofs.Picking.{IsGoing, empty_is, passed_is_picked, same_moment, taken_is_picked}
 use Rattle.run_replay.proofs.Stepping.{StaysBy, made_fewer, took_fewer}
 use Rattle.run_replay.specs.Players.{HavePlans, PlayerIsKept, PlayerState, is_ended, is_full, most_made, play_of, steps_left}
 use Rattle.run_replay.specs.Playing.{IsPicked}
@@ -104,24 +105,27 @@ more_by s r (HandsOut d purpose) yes' some = absurd (cc)
 -- the run's step was answered so, and no device went out
 pub record IsAnswered {D : Type 0} (s t : PlayerState D) (r : ℕ) (choice : Choice) : Type 0 where
   pub free : IsFree s r
-  pub answers : Answers s.hub r s.moment choice t.hub
+  pub answers : Answers s.hub r s.hub.moment choice t.hub
   pub window : SameWindow s.hub t.hub
   pub grips : t.grips ≡ s.grips
   pub rounds : t.rounds ≡ s.rounds
-  pub moment : t.moment ≡ s.moment
   pub place : t.place ≡ s.place
 
 pub some_slip : Slip
 some_slip = record { ticket = 0; device = record { 0 = 0 }; maker = 0; stood = 0; turns = 0; probes = 0; faults = 0 }
 
-pub chosen : {D : Type 0} (s t : PlayerState D) (r : ℕ) (choice : Choice) → Answers s.hub r s.moment choice t.hub → choice ≡ choice_of (configuration_of s.hub) r s.moment
-chosen s t r choice answers = took_choice (state_of s.hub) (state_of t.hub) r s.moment some_slip choice (answers.step some_slip)
+pub chosen : {D : Type 0} (s t : PlayerState D) (r : ℕ) (choice : Choice) → Answers s.hub r s.hub.moment choice t.hub → choice ≡ choice_of (configuration_of s.hub) r s.hub.moment
+chosen s t r choice answers = took_choice (state_of s.hub) (state_of t.hub) r s.hub.moment some_slip choice (answers.step some_slip)
 
-pub after : {D : Type 0} (s t : PlayerState D) (r : ℕ) (choice : Choice) → Answers s.hub r s.moment choice t.hub → configuration_of t.hub ≡ after_take (configuration_of s.hub) r s.moment
-after s t r choice answers = took_after (state_of s.hub) (state_of t.hub) r s.moment some_slip choice (answers.step some_slip)
+pub after : {D : Type 0} (s t : PlayerState D) (r : ℕ) (choice : Choice) → Answers s.hub r s.hub.moment choice t.hub → configuration_of t.hub ≡ after_take (configuration_of s.hub) r s.hub.moment
+after s t r choice answers = took_after (state_of s.hub) (state_of t.hub) r s.hub.moment some_slip choice (answers.step some_slip)
 
-longer : {D : Type 0} (s t : PlayerState D) (r : ℕ) → configuration_of t.hub ≡ after_take (configuration_of s.hub) r s.moment → length s.hub.history ≤ length t.hub.history
-longer s t r is = subst (λ (c : Configuration). length s.hub.history ≤ length c.history) (sym is) (history_by (at_moment (configuration_of s.hub) s.moment) r (choice_of (configuration_of s.hub) r s.moment))
+longer : {D : Type 0} (s t : PlayerState D) (r : ℕ) → configuration_of t.hub ≡ after_take (configuration_of s.hub) r s.hub.moment → length s.hub.history ≤ length t.hub.history
+longer s t r is = subst (λ (c : Configuration). length s.hub.history ≤ length c.history) (sym is) (history_by (at_moment (configuration_of s.hub) s.hub.moment) r (choice_of (configuration_of s.hub) r s.hub.moment))
+
+-- a take leaves the moment
+still : {D : Type 0} (s t : PlayerState D) (r : ℕ) → configuration_of t.hub ≡ after_take (configuration_of s.hub) r s.hub.moment → t.hub.moment ≡ s.hub.moment
+still s t r is = ap (λ (c : Configuration). c.moment) is ∙ same_moment (configuration_of s.hub) r
 
 pub stays_by : {D : Type 0} (s t : PlayerState D) → SameWindow s.hub t.hub → t.rounds ≡ s.rounds → StaysBy s t
 stays_by s t window rounds = record { runs = ap (λ w. length w.runs) window.setting; devices = ap (λ w. length w.first) window.setting; rounds = rounds; probes = window.rounds }
@@ -132,7 +136,7 @@ moved s t r choice is = record {
   grips = is.grips;
   setting = is.window.setting;
   rounds = is.rounds;
-  early = (let more = longer s t r (after s t r choice is.answers) in let early = is.free.kept.early in let same = is.moment in omega (arith, more, early, same));
+  early = (let more = longer s t r (after s t r choice is.answers) in let early = is.free.kept.early in let same = still s t r (after s t r choice is.answers) in omega (arith, more, early, same));
   place = subst (λ n. n ≤ t.rounds * length t.hub.setting.first) (sym is.place) (subst (λ n. s.place ≤ n * length t.hub.setting.first) (sym is.rounds) (subst (λ w. s.place ≤ s.rounds * length w.first) (sym is.window.setting) is.free.kept.place));
 }
 
@@ -143,12 +147,12 @@ pub answered_plans : {D P : Type 0} (plan : D → P) (plans : ℕ → P) (s t : 
 answered_plans plan plans s t r choice is = moves_plans plan plans s t (moved s t r choice is)
 
 pub answered_picked : {D : Type 0} (s t : PlayerState D) (r acts : ℕ) (choice : Choice) → IsAnswered s t r choice → IsPicked s.rounds r (play_of s acts) (picked_by choice) (play_of t acts)
-answered_picked s t r acts choice is = taken_is_picked s t s.rounds r acts choice is.free.kept (going_of s r is.free) (hand_is_empty s r is.free) (chosen s t r choice is.answers) (after s t r choice is.answers) is.moment is.place
+answered_picked s t r acts choice is = taken_is_picked s t s.rounds r acts choice (going_of s r is.free) (empty_hand s r acts is.free.kept (hand_is_empty s r is.free)) (chosen s t r choice is.answers) (after s t r choice is.answers) is.place
 
-made_entries : {D : Type 0} (s : PlayerState D) (r : ℕ) (choice : Choice) → IsFree s r → choice ≡ choice_of (configuration_of s.hub) r s.moment → Makes choice
-made_entries s r choice free is = subst Makes (sym is) (choice_makes (configuration_of s.hub) r s.moment (going_of s r free).1)
+made_entries : {D : Type 0} (s : PlayerState D) (r : ℕ) (choice : Choice) → IsFree s r → choice ≡ choice_of (configuration_of s.hub) r s.hub.moment → Makes choice
+made_entries s r choice free is = subst Makes (sym is) (choice_makes (configuration_of s.hub) r s.hub.moment (going_of s r free).1)
 
-there_is : {D : Type 0} (s : PlayerState D) (r : ℕ) → IsFree s r → choice_of (configuration_of s.hub) r s.moment ≢ Absent
+there_is : {D : Type 0} (s : PlayerState D) (r : ℕ) → IsFree s r → choice_of (configuration_of s.hub) r s.hub.moment ≢ Absent
 there_is s r free = decide_is (λ c. c ≢ Absent) s.hub.setting (read_of (configuration_of s.hub)) (configuration_of s.hub).grips r _ (record {
   absent = λ none e. absurd (let run = (going_of s r free).0 in let no : true ≡ false = sym run ∙ none in cc);
   over = λ e at no. absurd (cc);
@@ -170,35 +174,41 @@ pub answered_fewer : {D : Type 0} (s t : PlayerState D) (r : ℕ) (choice : Choi
 answered_fewer s t r choice yes' is bound =
     let same = chosen s t r choice is.answers in
     let more : length s.hub.history < length t.hub.history = subst (λ (c : Configuration). length s.hub.history < length c.history) (sym (after s t r choice is.answers))
-    (subst (λ c. length s.hub.history < length (after_choice (at_moment (configuration_of s.hub) s.moment) r c).history) same (more_by (at_moment (configuration_of s.hub) s.moment) r choice yes' (made_entries s r choice is.free same))) in
+    (subst (λ c. length s.hub.history < length (after_choice (at_moment (configuration_of s.hub) s.hub.moment) r c).history) same (more_by (at_moment (configuration_of s.hub) s.hub.moment) r choice yes' (made_entries s r choice is.free same))) in
     made_fewer s t (stays_by s t is.window is.rounds) is.grips is.place more bound
 
 -- a run of the window is not absent
 pub never_absent : {D : Type 0} (s t : PlayerState D) (r : ℕ) → IsAnswered s t r Absent → ⊥
 never_absent s t r is = there_is s r is.free (sym (chosen s t r Absent is.answers))
 
+-- the take was made at the hub's moment
+pub answers_now : {D : Type 0} (s t : OpenHub D) (r m : ℕ) (choice : Choice) → m ≡ s.moment → Answers s r m choice t → Answers s r s.moment choice t
+answers_now s t r m choice own = subst (λ n. Answers s r n choice t) own
+
 -- A device goes out
 
 pub record GoesToHand {D : Type 0} (s t : PlayerState D) (r : ℕ) (grip : Gripped D Ready) : Type 0 where
   pub free : IsFree s r
-  pub out : GoesOut s.hub r s.moment grip t.hub
+  pub out : GoesOut s.hub r s.hub.moment grip t.hub
   pub window : SameWindow s.hub t.hub
   pub grips : t.grips ≡ slice_set s.grips r (Some grip)
   pub rounds : t.rounds ≡ s.rounds
-  pub moment : t.moment ≡ s.moment
   pub place : t.place ≡ s.place
 
-pub went : {D : Type 0} (s t : PlayerState D) (r : ℕ) (grip : Gripped D Ready) → (is : GoesToHand s t r grip) → HandsOut grip.slip.device.0 is.out.purpose ≡ choice_of (configuration_of s.hub) r s.moment
-went s t r grip is = took_choice (state_of s.hub) (state_of t.hub) r s.moment grip.slip (HandsOut grip.slip.device.0 is.out.purpose) is.out.step
+pub goes_now : {D : Type 0} (s t : OpenHub D) (r m : ℕ) (grip : Gripped D Ready) → m ≡ s.moment → GoesOut s r m grip t → GoesOut s r s.moment grip t
+goes_now s t r m grip own = subst (λ n. GoesOut s r n grip t) own
 
-pub went_after : {D : Type 0} (s t : PlayerState D) (r : ℕ) (grip : Gripped D Ready) → (is : GoesToHand s t r grip) → configuration_of t.hub ≡ after_take (configuration_of s.hub) r s.moment
-went_after s t r grip is = took_after (state_of s.hub) (state_of t.hub) r s.moment grip.slip (HandsOut grip.slip.device.0 is.out.purpose) is.out.step
+pub went : {D : Type 0} (s t : PlayerState D) (r : ℕ) (grip : Gripped D Ready) → (is : GoesToHand s t r grip) → HandsOut grip.slip.device.0 is.out.purpose ≡ choice_of (configuration_of s.hub) r s.hub.moment
+went s t r grip is = took_choice (state_of s.hub) (state_of t.hub) r s.hub.moment grip.slip (HandsOut grip.slip.device.0 is.out.purpose) is.out.step
+
+pub went_after : {D : Type 0} (s t : PlayerState D) (r : ℕ) (grip : Gripped D Ready) → (is : GoesToHand s t r grip) → configuration_of t.hub ≡ after_take (configuration_of s.hub) r s.hub.moment
+went_after s t r grip is = took_after (state_of s.hub) (state_of t.hub) r s.hub.moment grip.slip (HandsOut grip.slip.device.0 is.out.purpose) is.out.step
 
 its_slip : {D : Type 0} (s t : PlayerState D) (r : ℕ) (grip : Gripped D Ready) → (is : GoesToHand s t r grip) → IsSlipOf r grip.slip.device.0 grip.slip
 its_slip s t r grip is = subst (λ c. SlipFits r c grip.slip) (sym (went s t r grip is)) is.out.step.2
 
 same_history : {D : Type 0} (s t : PlayerState D) (r : ℕ) (grip : Gripped D Ready) → (is : GoesToHand s t r grip) → t.hub.history ≡ s.hub.history
-same_history s t r grip is = ap (λ (c : Configuration). c.history) (went_after s t r grip is) ∙ ap (λ c. (after_choice (at_moment (configuration_of s.hub) s.moment) r c).history) (sym (went s t r grip is))
+same_history s t r grip is = ap (λ (c : Configuration). c.history) (went_after s t r grip is) ∙ ap (λ c. (after_choice (at_moment (configuration_of s.hub) s.hub.moment) r c).history) (sym (went s t r grip is))
 
 takes_of : {D : Type 0} (s t : PlayerState D) (r : ℕ) (grip : Gripped D Ready) → (is : GoesToHand s t r grip) → Takes s t r grip
 takes_of s t r grip is = record {
@@ -209,7 +219,7 @@ takes_of s t r grip is = record {
   grips = is.grips;
   setting = is.window.setting;
   rounds = is.rounds;
-  early = subst (λ h. t.moment ≤ 2 ^ 32 * length h) (sym (same_history s t r grip is)) (subst (λ m. m ≤ 2 ^ 32 * length s.hub.history) (sym is.moment) is.free.kept.early);
+  early = subst (λ h. t.hub.moment ≤ 2 ^ 32 * length h) (sym (same_history s t r grip is)) (subst (λ m. m ≤ 2 ^ 32 * length s.hub.history) (sym (still s t r (went_after s t r grip is))) is.free.kept.early);
   place = subst (λ n. n ≤ t.rounds * length t.hub.setting.first) (sym is.place) (subst (λ n. s.place ≤ n * length t.hub.setting.first) (sym is.rounds) (subst (λ w. s.place ≤ s.rounds * length w.first) (sym is.window.setting) is.free.kept.place));
 }
 
@@ -220,7 +230,7 @@ pub went_plans : {D P : Type 0} (plan : D → P) (plans : ℕ → P) (s t : Play
 went_plans plan plans s t r grip is = takes_plans plan plans s t r grip (takes_of s t r grip is)
 
 pub went_picked : {D : Type 0} (s t : PlayerState D) (r acts : ℕ) (grip : Gripped D Ready) → GoesToHand s t r grip → IsPicked s.rounds r (play_of s acts) (Took grip.slip.device.0) (play_of t acts)
-went_picked s t r acts grip is = taken_is_picked s t s.rounds r acts (HandsOut grip.slip.device.0 is.out.purpose) is.free.kept (going_of s r is.free) (hand_is_empty s r is.free) (went s t r grip is) (went_after s t r grip is) is.moment is.place
+went_picked s t r acts grip is = taken_is_picked s t s.rounds r acts (HandsOut grip.slip.device.0 is.out.purpose) (going_of s r is.free) (empty_hand s r acts is.free.kept (hand_is_empty s r is.free)) (went s t r grip is) (went_after s t r grip is) is.place
 
 pub went_fewer : {D : Type 0} (s t : PlayerState D) (r : ℕ) (grip : Gripped D Ready) → GoesToHand s t r grip → steps_left t < steps_left s
 went_fewer s t zero grip is = absurd (let run = is.free.run in omega (arith, run))

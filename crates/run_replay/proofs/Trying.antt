@@ -3,15 +3,15 @@ use Rattle.device_gate.specs.declared.slips.Told.TheVariants.{Worked}
 use Rattle.device_gate.specs.declared.slips.Told.{Told}
 use Rattle.history_book.proofs.Searches.{Each}
 use Rattle.hub_core.specs.HubCalls.{SameWindow}
-use Rattle.hub_core.specs.OpenHubs.{OpenHub}
+use Rattle.hub_core.specs.OpenHubs.{OpenHub, configuration_of}
 use Rattle.run_replay.proofs.Counting.{of_filter}
 use Rattle.run_replay.proofs.Drawn.{none_tried, tried_more, tried_moves}
 use Rattle.run_replay.proofs.Gripping.{empty_hand, full_hand}
 use Rattle.run_replay.proofs.Living.{actors_are}
-use Rattle.run_replay.proofs.Picking.{empty_is, ended_is, full_is}
+use Rattle.run_replay.proofs.Picking.{at_own_moment, empty_is, ended_is, full_is}
 use Rattle.run_replay.proofs.Progress.{each_from_place, not_all_wait}
 use Rattle.run_replay.proofs.Settings.{at_or_past}
-use Rattle.run_replay.proofs.Waiting.{same_actors, same_waits, wait_keeps, waited}
+use Rattle.run_replay.proofs.Waiting.{wait_keeps, waited}
 use Rattle.run_replay.proofs.Stepping.{same_most}
 use Rattle.run_replay.specs.Players.{PlayerIsKept, PlayerStands, PlayerState, are_live, empty_places, first_is_full, is_ended, is_full, most_made, play_of, steps_left}
 use Rattle.run_replay.specs.Playing.{GoesOn, IsPicked, IsTried, Tells}
@@ -85,19 +85,22 @@ full_by_play s a acts kept size low = by_hand (is_full s a) refl
     by_hand true is = let hand = full_is s a is in is ∙ ap is_some (sym (full_hand s a acts hand.0 kept size hand.1))
     by_hand false is = is ∙ ap is_some (sym (empty_hand s a acts kept (empty_is s a is low)))
 
--- the player after a pick that waited: it stands for the same play, but for the last moment
+-- the moment of a player is its hub's, so a pick that waits leaves the play as it is
+same_play : {D : Type 0} (s : PlayerState D) (acts : ℕ) → waited (play_of s acts) ≡ play_of s acts
+same_play s acts = ap (λ c. record { configuration = c; moment = s.hub.moment; place = s.place; acts = acts }) (at_own_moment (configuration_of s.hub))
+
+-- the player after a pick that waited: it stands for the same play
 pub record Stays {D : Type 0} (s t : PlayerState D) : Type 0 where
   pub before : PlayerStands s
   pub after : PlayerStands t
   pub rounds : t.rounds ≡ s.rounds
   pub probes : t.hub.rounds ≡ s.hub.rounds
-  pub play : (acts : ℕ) → play_of t acts ≡ waited (play_of s acts)
+  pub play : (acts : ℕ) → play_of t acts ≡ play_of s acts
 
 same_live : {D : Type 0} (s t : PlayerState D) → Stays s t → are_live t ≡ are_live s
 same_live s t stays =
     sym (actors_are (record { rounds = s.rounds; told = λ k. Worked }) t 0 stays.after.kept stays.after.size (sym stays.rounds))
     ∙ ap (actors (record { rounds = s.rounds; told = λ k. Worked })) (stays.play 0)
-    ∙ same_actors (record { rounds = s.rounds; told = λ k. Worked }) (play_of s 0)
     ∙ actors_are (record { rounds = s.rounds; told = λ k. Worked }) s 0 stays.before.kept stays.before.size refl
 
 same_left : {D : Type 0} (s t : PlayerState D) → Stays s t → steps_left t ≡ steps_left s
@@ -144,12 +147,12 @@ PickedNext s a picked t = (acts : ℕ) → (later : ℕ) × IsPicked s.rounds a 
 stays_by_wait : {D : Type 0} (s t : PlayerState D) (a : ℕ) (picked : Picked) → PlayerStands s → PlayerStands t → t.rounds ≡ s.rounds → t.hub.rounds ≡ s.hub.rounds → PickedNext s a picked t → waits picked ≡ true → Stays s t
 stays_by_wait s t a picked before after rounds probes picks wait = record { before = before; after = after; rounds = rounds; probes = probes; play = play }
   where
-    play : (acts : ℕ) → play_of t acts ≡ waited (play_of s acts)
+    play : (acts : ℕ) → play_of t acts ≡ play_of s acts
     play acts =
         let pick = picks acts in
         let same = (waits_ever s.rounds a (play_of s acts) (play_of t pick.0) picked pick.1 wait).0 in
         let later : pick.0 ≡ acts = ap (λ (x : Play). x.acts) same in
-        ap (play_of t) (sym later) ∙ same
+        ap (play_of t) (sym later) ∙ same ∙ same_play s acts
 
 pub one_more_waits : {D : Type 0} (old now next : PlayerState D) (all : List ℕ) (step after a : ℕ) (picked : Picked) → HaveWaited old now all step → PlayerStands next → next.rounds ≡ now.rounds → next.hub.rounds ≡ now.hub.rounds → slice_get all step ≡ Some a → PickedNext now a picked next → waits picked ≡ true → after ≡ step + 1 → HaveWaited old next all after
 one_more_waits old now next all step after a picked before stands rounds probes at picks wait is = record {
@@ -164,7 +167,7 @@ one_more_waits old now next all step after a picked before stands rounds probes 
       let was = subst (λ n. IsPicked n a (play_of now tried.0) picked (play_of next pick.0)) before.rounds pick.1 in
       let one : suc step ≡ after = omega (arith, is) in
       (pick.0, subst (λ n. IsTried old.rounds all (drop n all) (play_of old acts) (play_of next pick.0)) one (tried_more old.rounds a all (drop (suc step) all) (play_of old acts) (play_of now tried.0) (play_of next pick.0) picked here was wait));
-  each = λ k b low there course same acts. ap (λ (x : Play). waits (pick course x b).picked) (stays.play acts) ∙ same_waits course (play_of now acts) b ∙ (elim (at_or_past k step (omega (arith, low, is))) [
+  each = λ k b low there course same acts. ap (λ (x : Play). waits (pick course x b).picked) (stays.play acts) ∙ (elim (at_or_past k step (omega (arith, low, is))) [
     | inl last ↦ newest b (let both : ◌≡◌ {A = Option ℕ} (Some a) (Some b) = sym at ∙ ap (slice_get all) last ∙ there in cc) course same acts
     | inr past ↦ before.each k b (omega (arith, past)) there course same acts
   ]);

@@ -1,10 +1,9 @@
--- A pick that waits changes no more than the last moment, and after it each actor would do what it would have done before.
+-- A pick that waits changes no more than the last moment.
 use Rattle.hub_core.specs.Steps.{Absent, Choice, HandsOut, Moves, Over, Waits, after_choice, after_take_probe, at_moment, choice_of, may_probe}
 use Rattle.lock_leasing.specs.Configurations.{Configuration, Grip}
-use Rattle.run_replay.specs.Replays.{Course, Play, Took, act_on, act_where_out, actor_takes, actors, detector_takes, gripped, has_ended, passes, pick, pick_live, picked_by, run_takes, waits}
-use Rattle.std.proofs.Common.{ap, arith, refl, sym, ◌∙◌}
-use Rattle.std.specs.List.{range_with_len}
-use Rattle.std.specs.Prelude.{Bool, List, None, Option, Some, [], false, filter, if◌then◌else◌, length, max, not, option_map, suc, true, unwrap_or, zero, ℕ, ◌%◌, ◌+◌, ◌∷◌, ◌≡◌}
+use Rattle.run_replay.specs.Replays.{Course, Play, Took, act_on, act_where_out, actor_takes, detector_takes, gripped, has_ended, passes, pick, pick_live, picked_by, run_takes, waits}
+use Rattle.std.proofs.Common.{ap, refl}
+use Rattle.std.specs.Prelude.{Bool, None, Option, Some, false, if◌then◌else◌, length, option_map, suc, true, unwrap_or, zero, ℕ, ◌%◌, ◌+◌, ◌≡◌}
 
 -- the play after a pick that waits
 abbrev pub waited : Play → Play
@@ -44,39 +43,3 @@ by_end course p a false e = live_waits course p a (gripped p a) e
 -- a pick that waits leaves the play but for its last moment
 pub wait_keeps : (course : Course) (p : Play) (a : ℕ) → waits (pick course p a).picked ≡ true → (pick course p a).next ≡ waited p
 wait_keeps course p a e = by_end course p a (has_ended course p a) e
-
--- After a pick that waited
-
-same_end : (course : Course) (p : Play) (a : ℕ) → has_ended course (waited p) a ≡ has_ended course p a
-same_end course p zero = refl
-same_end course p (suc r) = refl
-
--- the same actors have not ended
-pub same_actors : (course : Course) (p : Play) → actors course (waited p) ≡ actors course p
-same_actors course p = same_filter (range_with_len 0 (length p.configuration.setting.runs + 1))
-  where
-    same_filter : (xs : List ℕ) → filter (λ a. not (has_ended course (waited p) a)) xs ≡ filter (λ a. not (has_ended course p a)) xs
-    same_filter [] = refl
-    same_filter (a ∷ xs) = rw (same_end course p a, same_filter xs) refl
-
-max_again : (a b : ℕ) → max (max a b) b ≡ max a b
-max_again a b = omega arith
-
-same_choice : (p : Play) (r : ℕ) → choice_of (waited p).configuration r p.moment ≡ choice_of p.configuration r p.moment
-same_choice p r = rw (max_again p.configuration.moment p.moment) refl
-
-same_take : (p : Play) (a : ℕ) → waits (actor_takes (waited p) a).picked ≡ waits (actor_takes p a).picked
-same_take p zero = detector_never_waits (waited p) ∙ sym (detector_never_waits p)
-same_take p (suc r) = ap (λ c. waits (picked_by c)) (same_choice p (suc r))
-
-same_act : (course : Course) (p : Play) (a : ℕ) (o : Option ℕ) → waits (unwrap_or (option_map (act_where_out course (waited p)) o) (actor_takes (waited p) a)).picked ≡ waits (unwrap_or (option_map (act_where_out course p) o) (actor_takes p a)).picked
-same_act course p a None = same_take p a
-same_act course p a (Some d) = act_never_waits course (waited p) d (p.configuration.grips d) ∙ sym (act_never_waits course p d (p.configuration.grips d))
-
-same_by_end : (course : Course) (p : Play) (a : ℕ) (b : Bool) → waits (if b then passes (waited p) else pick_live course (waited p) a).picked ≡ waits (if b then passes p else pick_live course p a).picked
-same_by_end course p a true = refl
-same_by_end course p a false = same_act course p a (gripped p a)
-
--- each actor waits where it would have waited
-pub same_waits : (course : Course) (p : Play) (a : ℕ) → waits (pick course (waited p) a).picked ≡ waits (pick course p a).picked
-same_waits course p a = rw (same_end course p a) (same_by_end course p a (has_ended course p a))

@@ -18,17 +18,16 @@ use Rattle.run_replay.specs.declared.picked.Picked.{Picked as PickedSo}
 use Rattle.std.specs.List.{range_with_len}
 use Rattle.std.specs.Prelude.{Bool, List, None, Option, Some, [], drop, false, filter, is_some, length, nat_le, not, option_map, suc, unwrap_or, zero, slice_get, ℕ, ◌*◌, ◌+◌, ◌-◌, ◌<◌, ◌^◌, ◌&&◌, ◌||◌, ◌∷◌, ◌≡◌, ◌≤◌, ◌⊎◌}
 
--- what a player shows: its hub, the grips that its actors hold, by their numbers, the detector's rounds, the moment, and how many devices the detector has come to
+-- what a player shows: its hub, the grips that its actors hold, by their numbers, the detector's rounds, and how many devices the detector has come to
 pub record PlayerState (D : Type 0) : Type 0 where
   pub hub : OpenHub D
   pub grips : List (Option (Gripped D Ready))
   pub rounds : ℕ
-  pub moment : ℕ
   pub place : ℕ
 
--- the play that it stands for, after so many acts
+-- the play that it stands for, after so many acts: its moment is the hub's last one
 abbrev pub play_of : {D : Type 0} → PlayerState D → ℕ → Play
-play_of s acts = record { configuration = configuration_of s.hub; moment = s.moment; place = s.place; acts = acts }
+play_of s acts = record { configuration = configuration_of s.hub; moment = s.hub.moment; place = s.place; acts = acts }
 
 -- what a pick did
 abbrev pub picked_of : PickedSo → Picked
@@ -54,13 +53,13 @@ pub record IsInHand {D : Type 0} (s : PlayerState D) (d : ℕ) (slip : Slip) : T
   pub number : slip.device.0 ≡ d
 
 -- what is kept of a player: each grip that an actor holds is its own, with which its device is out, and each device is out with a grip in its maker's hands;
--- the moment and the detector's place are low
+-- the hub's moment and the detector's place are low
 pub record PlayerIsKept {D : Type 0} (s : PlayerState D) : Type 0 where
   pub actors : length s.grips ≡ length s.hub.setting.runs + 1
   pub makers : (a : ℕ) (grip : Gripped D Ready) → slice_get s.grips a ≡ Some (Some grip) → grip.slip.maker ≡ a
   pub held : (a : ℕ) (grip : Gripped D Ready) → slice_get s.grips a ≡ Some (Some grip) → slice_get s.hub.places grip.slip.device.0 ≡ Some (Out grip.slip grip.task)
   pub out : (d : ℕ) (slip : Slip) (task : Task) → slice_get s.hub.places d ≡ Some (Out slip task) → IsInHand s d slip
-  pub early : s.moment ≤ 2 ^ 32 * length s.hub.history
+  pub early : s.hub.moment ≤ 2 ^ 32 * length s.hub.history
   pub rounds : s.rounds < 2 ^ 32
   pub place : s.place ≤ s.rounds * length s.hub.setting.first
 

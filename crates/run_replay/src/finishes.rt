@@ -60,7 +60,7 @@ impl<D: Device> Player<D> {
     }
 
     /// Picks the actors that have not ended, from this place of their list on and in cyclic order, until one does not
-    /// wait: there is always one.
+    /// wait: there is always one. A run that is known to wait is passed over.
     fn pick_from(&mut self, place: u64, live: u64)
         requires live { live ≡ length (are_live self.old) }
         requires place { place < live }
@@ -73,6 +73,9 @@ impl<D: Device> Player<D> {
         self.kept();
         'actors: for step in 0..live {
             let actor = self.live_at(place_on(place, step, live));
+            if self.hands.is_blocked(actor) {
+                continue;
+            }
             let picked = self.pick(actor);
             if !has_waited(picked) {
                 return;

@@ -1,4 +1,5 @@
-ghost use Rattle.std.specs.Prelude.{◌≡◌, ◌≢◌, ◌<◌, ◌≤◌, None, Some, IfErr, IfOk, false, length, true, vec_capacity, ℕ};
+ghost use Rattle.std.specs.Prelude.{◌≡◌, ◌≢◌, ◌<◌, ◌≤◌, None, Some, IfErr, IfOk, IsTrue, false, length, true, vec_capacity, ℕ};
+ghost use Rattle.hub_core.specs.BlockedRuns.{IsBlocked};
 ghost use Rattle.hub_core.specs.HubCalls.{HubStands, IsClosed, SameWindow};
 ghost use Rattle.hub_core.specs.OpenHubs.{configuration_of};
 ghost use Rattle.hub_core.specs.Steps.{not_quiet, opened};
@@ -24,8 +25,6 @@ pub(crate) struct Hands<D: Device> {
     grips: Vec<Option<Grip<D, Ready>>>,
     /// How often the detector comes to each device.
     rounds: u32,
-    /// The moment, in ms: it rises by the time that the commands take.
-    moment: u64,
     /// How many devices the detector has come to.
     place: u64,
 }
@@ -35,9 +34,9 @@ impl<D: Device> Model for Hands<D> {
 
     ghost Value = { PlayerState D };
 
-    ghost view = { λ p. record { hub = p.hub; grips = p.grips.items; rounds = p.rounds; moment = p.moment; place = p.place } };
+    ghost view = { λ p. record { hub = p.hub; grips = p.grips.items; rounds = p.rounds; place = p.place } };
 
-    ghost invariant = { λ p. PlayerIsKept (record { hub = p.hub; grips = p.grips.items; rounds = p.rounds; moment = p.moment; place = p.place }) };
+    ghost invariant = { λ p. PlayerIsKept (record { hub = p.hub; grips = p.grips.items; rounds = p.rounds; place = p.place }) };
 }
 
 impl<D: Device> Hands<D> {
@@ -62,7 +61,6 @@ impl<D: Device> Hands<D> {
             hub,
             grips,
             rounds,
-            moment: 0,
             place: 0,
         })
     }
@@ -113,7 +111,15 @@ impl<D: Device> Hands<D> {
         self.hub.is_over(RunNo(actor))
     }
 
-    /// Makes the call of the grip that the run holds, and gives the grip back.
+    /// Whether the actor is a run that is known to wait, so that it need not be picked. The detector never is.
+    pub(crate) fn is_blocked(&self, actor: u32) -> bool
+        ensures { IsTrue result → IsBlocked (configuration_of self.now.hub) actor }
+    {
+        self.hub.is_blocked(RunNo(actor))
+    }
+
+    /// Makes the call of the grip that the run holds, and gives the grip back. The hub's moment rises by the time that a
+    /// command takes.
     fn act(&mut self, actor: u32) -> Made
         requires run { 0 < actor }
         requires going { is_ended self.old actor ≡ false }
@@ -130,8 +136,9 @@ impl<D: Device> Hands<D> {
         self.hub.bounded();
         match mem::replace(&mut self.grips[actor as usize], None) {
             Some(grip) => {
-                self.moment += u64::from(self.hub.takes(grip.slip().device));
-                let given = self.hub.give(grip.act(), self.moment);
+                let now = self.hub.moment();
+                let then = now + u64::from(self.hub.takes(grip.slip().device));
+                let given = self.hub.give(grip.act(), then);
                 self.hub.bounded();
                 match given {
                     Ok(made) => made,
@@ -156,7 +163,8 @@ impl<D: Device> Hands<D> {
         ensures others { (q : ℕ) → q ≢ r.0 → is_ended self.new q ≡ is_ended self.old q }
         ensures waiting { waits (picked_of result) ≡ true → is_ended self.new r.0 ≡ is_ended self.old r.0 }
     {
-        let turn = self.hub.take(r, self.moment);
+        let now = self.hub.moment();
+        let turn = self.hub.take(r, now);
         self.hub.bounded();
         match turn {
             Turn::Go(grip) => {
@@ -265,7 +273,6 @@ impl<D: Device> Hands<D> {
             hub,
             mut grips,
             rounds,
-            moment,
             place,
         } = self;
         hub.kept();
@@ -285,7 +292,6 @@ impl<D: Device> Hands<D> {
                     hub,
                     grips,
                     rounds,
-                    moment,
                     place,
                 },
                 why,

@@ -54,7 +54,8 @@ impl<D: Device> Player<D> {
         picked
     }
 
-    /// Steps each of these actors, one after another.
+    /// Steps each of these actors, one after another. A run that is known to wait is passed over: its step would change
+    /// nothing.
     pub fn play(&mut self, picks: &[u32])
         ensures played { (acts : ℕ) → (later : ℕ) × IsPlayed self.old.rounds picks.now (play_of self.old acts) (play_of self.new later) }
         ensures window { SameWindow self.old.hub self.new.hub }
@@ -62,6 +63,9 @@ impl<D: Device> Player<D> {
         ensures plans { (plans : ℕ → _) → HavePlans D.plan plans self.old → HavePlans D.plan plans self.new }
     {
         'picks: for actor in picks {
+            if self.hands.is_blocked(*actor) {
+                continue;
+            }
             self.pick(*actor);
         }
     }

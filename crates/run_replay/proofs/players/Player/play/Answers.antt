@@ -1,3 +1,4 @@
+use Rattle.run_replay.proofs.Passing.{blocked_now, passed_next}
 use Rattle.run_replay.proofs.Played.{later_window, played_next, played_whole, same_player}
 use Rattle.run_replay.proofs.Tellings.{stays}
 use Rattle.run_replay.proofs.players.Player.play.Goals as goal
@@ -9,6 +10,15 @@ picks-init g c = ((λ acts. (acts, stays _ _ _ (λ course. refl))), same_player 
 
 pub picks-preserved : goal.picks-preserved
 picks-preserved g c = (played_next c.args.self.now c.picks.self c.pick.new.self c.args.self.now.rounds c.picks.actor-index _ c.args.picks.now (picked_of c.pick.result) c.picks-test.true c.picks.invariant.2 c.picks.invariant.0 c.pick.ensures.picked, later_window c.args.self.now.hub c.picks.self.hub c.pick.new.self.hub c.picks.invariant.1 c.pick.ensures.window, c.pick.ensures.rounds ∙ c.picks.invariant.2, (λ plans have. c.pick.ensures.plans plans (c.picks.invariant.3 plans have)))
+
+pub picks-preserved-then-is_blocked : goal.picks-preserved-then-is_blocked
+picks-preserved-then-is_blocked g c = (
+  passed_next c.args.self.now c.picks.self c.args.self.now.rounds c.picks.actor-index _ c.args.picks.now c.picks-test.true c.picks.invariant.2
+      (blocked_now c.picks.self c.self.inside.hands _ c.self.view_is (c.is_blocked.ensures c.if-is_blocked.true)) c.picks.invariant.0,
+  c.picks.invariant.1,
+  c.picks.invariant.2,
+  c.picks.invariant.3,
+)
 
 pub returns-clause-played : goal.returns-clause-played
 returns-clause-played g c = played_whole c.args.self.now c.picks.self c.args.self.now.rounds c.picks.actor-index c.args.picks.now (let past = c.picks-test.false in omega (arith, past)) c.picks.invariant.0
