@@ -3,17 +3,21 @@
 
     time_replay.py [PROGRAM]
 
-PROGRAM is crates/hub_main/out/hub_main by default, which `rt run` builds. Four scripts are played, the first two
+PROGRAM is crates/hub_main/out/hub_main by default, which `rt run` builds. Five scripts are played, the first three
 under each model:
 
 - dense: 288 windows of 64 runs of 64 commands on 256 devices;
 - failing: the same, where devices fail, with two rounds of probes;
+- aborted: the same, where the last command of every third routine refutes its runs;
 - refused: the same, with a last run that names no routine, so that it is read to its end and no more;
 - empty: the same without runs, so that it is read, and its windows are opened, closed and printed.
 
 Where callgrind is installed, it counts the instructions of a day of four such windows, and of its parts, under each
-model, calm and failing; and those of such a day whose routines have 8 devices of their own each, under psv.
+model; of such a day whose routines have 8 devices of their own each, under psv; and, under gsv and ev, of days with
+fewer runs a window and with fewer devices. With each goes how many picks found that their run must wait, for each step
+that moved one.
 """
+import collections
 import os
 import re
 import shutil
@@ -29,7 +33,7 @@ CALLS = {
     "whole": r"hub_main::run\b",
     "day": r"hub_commands::stills::replay\b",
     # the compiler may have put the replay of a window into its caller: then its picks are what is left of it
-    "windows": r"run_replay::(windows::replay_window|players::Player::pick)\b",
+    "picks": r"run_replay::(windows::replay_window|players::Player::pick|hands::Hands::pick)\b",
 }
 
 
@@ -66,6 +70,30 @@ def played(program, name, model, script):
           f" {len(script)} bytes of script, {size} bytes of record, {used.ru_maxrss / 1024:.0f} MB at most", flush=True)
 
 
+def calls_in(path):
+    """How often each function calls another one, by the names that callgrind gives them."""
+    names, calls = {}, collections.Counter()
+    caller = callee = None
+    with open(path) as lines:
+        for line in lines:
+            found = re.match(r"(c?)fn=\((\d+)\)(?: (.*))?", line)
+            if found:
+                name = names.setdefault(found[2], found[3])
+                caller, callee = (caller, name) if found[1] else (name, callee)
+            elif line.startswith("calls="):
+                calls[caller, callee] += int(line[6:].split()[0])
+    return calls
+
+
+def steps_in(path):
+    """The picks, and the steps that moved an actor: a device that comes home went out before; all else makes entries."""
+    calls = calls_in(path)
+    picks = sum(n for (_, callee), n in calls.items() if "Hands::pick" in callee)
+    home = sum(n for (_, callee), n in calls.items() if "free_back" in callee)
+    made = sum(n for (caller, callee), n in calls.items() if "free_made" in callee and "free_back" not in caller)
+    return picks, made + 2 * home
+
+
 def counted(program, name, model, script):
     with tempfile.TemporaryDirectory() as room:
         out = os.path.join(room, "callgrind")
@@ -73,17 +101,15 @@ def counted(program, name, model, script):
                        input=script, stdout=subprocess.DEVNULL, stderr=subprocess.DEVNULL, check=True)
         lines = subprocess.run(["callgrind_annotate", "--inclusive=yes", "--threshold=100", out],
                                stdout=subprocess.PIPE, check=True).stdout.decode().splitlines()
-    whole, day, windows = (
-        next(int(line.split()[0].replace(",", "")) for line in lines if re.search(name, line))
-        for name in CALLS.values()
+        picks, moved = steps_in(out)
+    whole, day, picked = (
+        next(int(line.split()[0].replace(",", "")) for line in lines if re.search(called, line))
+        for called in CALLS.values()
     )
-    for part, count in [
-        ("the whole call", whole),
-        ("words and script", whole - day),
-        ("home, record and printing", day - windows),
-        ("replaying", windows),
-    ]:
-        print(f"{part}, {name}, {model}: {count:,} instructions", flush=True)
+    print(f"{name}, {model}: {whole:,} instructions, {whole - day:,} for words and script, {day - picked:,} for the home,"
+          f" the draws and the record, {picked:,} for the picks; {picks:,} picks for {moved:,} steps that moved:"
+          f" {(picks - moved) / moved:.2f} tries a step, {picked // moved:,} instructions of picks a step,"
+          f" {day // moved:,} of all but reading", flush=True)
 
 
 def main():
@@ -95,13 +121,22 @@ def main():
     failing = dense_day(288, 64, 64, 256, 0, 2)
     for model in MODELS:
         played(program, "failing", model, failing)
+    aborted = dense_day(288, 64, 64, 256, 0, 0, 3)
+    for model in MODELS:
+        played(program, "aborted", model, aborted)
     for name, script in [("refused", refused(dense)), ("empty", dense_day(288, 0))]:
         played(program, name, "gsv", script)
     if shutil.which("callgrind_annotate"):
         for model in MODELS:
             counted(program, "dense", model, dense_day(4))
             counted(program, "failing", model, dense_day(4, 64, 64, 256, 0, 2))
+            counted(program, "aborted", model, dense_day(4, 64, 64, 256, 0, 0, 3))
         counted(program, "8 devices a run", "psv", dense_day(4, 64, 64, 256, 8))
+        for model in ["gsv", "ev"]:
+            for runs in [8, 16, 32]:
+                counted(program, f"{runs} runs a window", model, dense_day(4, runs))
+            for devices in [16, 64]:
+                counted(program, f"{devices} devices", model, dense_day(4, 64, 64, devices))
     else:
         print("callgrind is not installed: no instructions were counted")
 
