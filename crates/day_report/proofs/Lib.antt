@@ -1,4 +1,5 @@
 pub mod Counts
 pub mod Growing
 pub mod Homes
+pub mod RunParts
 pub mod WorkedDays

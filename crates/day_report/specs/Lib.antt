@@ -1,3 +1,4 @@
 pub mod Words
+pub mod RunEntries
 pub mod Lines
 pub mod Days

@@ -62,7 +62,7 @@ pub fn window_text(
 {
     let mut text = String::new(alloc);
     if let Some(found) = script.windows.get(window as u64) {
-        match push_window(&mut text, script, window, found, closed, mode, trace) {
+        match push_window(alloc, &mut text, script, window, found, closed, mode, trace) {
             Ok(()) => {}
             Err(_) => return Err(NoMemory),
         }
@@ -72,6 +72,7 @@ pub fn window_text(
 
 #[tactic(auto, unfolding(crate::specs::Days::window_lines))]
 fn push_window(
+    alloc: Global,
     text: &mut String,
     script: &Script,
     number: u32,
@@ -87,7 +88,7 @@ fn push_window(
     if trace {
         push_trace(text, script, window, history)?;
     }
-    push_runs(text, script, window, history)?;
+    push_runs(alloc, text, script, window, history)?;
     push_order(text, script, mode.model, closed.order.as_slice())?;
     push_home(text, script.devices.as_slice(), &closed.last)
 }

@@ -5,6 +5,7 @@ mod days;
 mod lines;
 mod lookups;
 mod numerals;
+mod run_entries;
 mod words;
 
 pub use days::{head_text, total_text, window_text};

@@ -6,12 +6,13 @@ ghost use Rattle.day_report.specs.Lines as said;
 
 use crate::lookups::{device_name, routine_name, states_of};
 use crate::numerals::push_time;
+use crate::run_entries::entries_by_run;
 use crate::words::{push_answer, push_cause, push_value};
 use day_clock::When;
 use history_book::{End, Entry, Kept};
 use home_types::{Item, Stand, Visibility, World};
 use routine_reader::{DeviceText, RunText, Script, WindowText};
-use std::alloc::AllocError;
+use std::alloc::{AllocError, Global};
 use std::fmt::Write;
 
 /// Appends the first line of a window. Windows count from 0, and from 1 in print.
@@ -191,9 +192,10 @@ fn push_run(
     text.push_str("\n")
 }
 
-/// Appends a line for each run of the window.
+/// Appends a line for each run of the window. Goes over the history once.
 #[tactic(auto, using(crate::proofs::Growing::one_numbered_piece_more, crate::proofs::Growing::no_piece), unfolding(crate::specs::Lines::run_lines))]
 pub fn push_runs(
+    alloc: Global,
     text: &mut String,
     script: &Script,
     window: &WindowText,
@@ -201,8 +203,17 @@ pub fn push_runs(
 ) -> Result<(), AllocError>
     ensures { OnOk result (string_bytes text.new ≡ string_bytes text.old ++ said.run_lines script.now window.now history.now) }
 {
-    'runs: for (i, run) in window.runs.as_slice().iter().enumerate() {
-        push_run(text, script, window, history, i as u64 + 1, run.routine)?;
+    let all = window.runs.as_slice();
+    let parts = entries_by_run(alloc, all.len(), history)?;
+    'runs: for (i, run) in all.iter().enumerate() {
+        push_run(
+            text,
+            script,
+            window,
+            parts[i].as_slice(),
+            i as u64 + 1,
+            run.routine,
+        )?;
     }
     Ok(())
 }

@@ -8,4 +8,4 @@ abbrev pub invariant-runs : goal.invariant-runs
 invariant-runs l =
     string_bytes l.text
     ≡ string_bytes l.initial.text
-    ++ flat_map (λ (r, run). run_line l.script l.window l.history r run.routine) (enumerate_from 1 (take l.i l.run-items))
+    ++ flat_map (λ (r, run). run_line l.script l.window l.history r run.routine) (enumerate_from 1 (take l.i l.all))
