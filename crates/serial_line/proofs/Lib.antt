@@ -1,3 +1,4 @@
 pub mod Searches
 pub mod Once
+pub mod RunPlaces
 pub mod Ties

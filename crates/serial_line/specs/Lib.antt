@@ -1,3 +1,4 @@
 pub mod Marks
+pub mod RunPlaces
 pub mod Lines
 pub mod Ties

@@ -1,12 +1,16 @@
-ghost use Rattle.std.specs.Prelude.{◌≡◌, true, false, if◌then◌else◌, ◌+◌, ◌<◌, ◌≤◌, ◌^◌, [], is_some, length, max, slice_get, OnOk, OnErr};
+ghost use Rattle.std.specs.Prelude.{◌≡◌, true, false, if◌then◌else◌, ◌+◌, ◌<◌, ◌≤◌, ◌^◌, [], is_some, length, max, slice_get, IfSome, OnOk, OnErr};
 ghost use Rattle.home_types.specs.Limits.{most_devices};
 ghost use Rattle.home_types.specs.declared.items.Item.TheVariants.{Ran};
 ghost use Rattle.serial_line.specs.Marks.{all_differ, has_touched, items_of, last_on, place_of, stands, touching, with_item, without};
+ghost use Rattle.serial_line.specs.RunPlaces.{ArePlaces, ArePlacesBefore, with_place};
 
 use crate::entries::Entry;
-use home_types::{DeviceNo, Item, NoMemory, RunNo};
+use home_types::{DeviceNo, Item, NoMemory, RunNo, limits};
 use std::alloc::Global;
 use std::marker::Model;
+
+/// The places that are kept: one for each run that a window may have, by its number.
+const PLACES: usize = limits::RUNS as usize + 1;
 
 /// The line of a window: its items in their order. Contracts see each with the devices that it has
 /// touched, and beside them how many more the line takes with no memory.
@@ -14,6 +18,8 @@ use std::marker::Model;
 pub struct Line {
     entries: Vec<Entry>,
     spare: u32,
+    // where each run stands, so that a question about a run looks at no other item
+    places: [Option<u32>; PLACES],
 }
 
 impl Model for Line {
@@ -40,6 +46,7 @@ impl Line {
         Line {
             entries: Vec::new(alloc),
             spare: 0,
+            places: [None; PLACES],
         }
     }
 
@@ -80,6 +87,7 @@ impl Line {
         let inserted = self.entries.insert(at as usize, Entry::new(item));
         inserted.unwrap();
         self.spare -= 1;
+        tell_places(&mut self.places, self.entries.as_slice(), at);
     }
 
     /// Takes a run out, and keeps its room; answers whether it was there. The others stay in their
@@ -93,6 +101,8 @@ impl Line {
             Some(at) => {
                 self.entries.remove(at as usize);
                 self.spare += 1;
+                tell_place(&mut self.places, Item::Ran(run), None);
+                tell_places(&mut self.places, self.entries.as_slice(), at);
                 true
             }
             None => false,
@@ -117,6 +127,27 @@ impl Line {
         ensures place { result ≡ place_of item self.now.marks }
         ensures there { is_some result ≡ stands item self.now.marks }
         ensures once { all_differ (items_of self.now.marks) ≡ true }
+    {
+        let _ = &self.places;
+        match self.kept_place(item) {
+            Some(place) => place,
+            None => self.search(item),
+        }
+    }
+
+    /// The place that is kept of the item, `None` where none is: it is no run, or one of a number that no window has.
+    fn kept_place(&self, item: Item) -> Option<Option<u32>>
+        ensures { IfSome result (λ place. place ≡ place_of item self.now.marks) }
+    {
+        match item {
+            Item::Ran(run) => self.places.get(run.0 as usize).copied(),
+            Item::Failed(..) | Item::Back(..) => None,
+        }
+    }
+
+    /// The place of an item, by a search from the end.
+    fn search(&self, item: Item) -> Option<u32>
+        ensures { result ≡ place_of item self.now.marks }
     {
         let mut at = self.entries.len();
         while at > 0 {
@@ -166,6 +197,30 @@ impl Line {
         match self.place_of(Item::Ran(run)) {
             Some(at) => self.entries[at as usize].has_touched(device),
             None => false,
+        }
+    }
+}
+
+/// Each run from this place on is told its place; those before it have theirs, and those that are not in the line none.
+fn tell_places(places: &mut [Option<u32>], entries: &[Entry], from: u32)
+    requires once { all_differ (items_of entries.now) ≡ true }
+    requires few { length entries.now < 2 ^ 32 }
+    requires before { ArePlacesBefore from entries.now places.old }
+    ensures { ArePlaces entries.now places.new }
+{
+    'entries: for at in from..entries.len() as u32 {
+        tell_place(places, entries[at as usize].item(), Some(at));
+    }
+}
+
+/// The run that the item is has this place from now on, where one is kept of it.
+fn tell_place(places: &mut [Option<u32>], item: Item, place: Option<u32>)
+    ensures { places.new ≡ with_place item place places.old }
+{
+    if let Item::Ran(run) = item {
+        let run = run.0 as usize;
+        if run < places.len() {
+            places[run] = place;
         }
     }
 }

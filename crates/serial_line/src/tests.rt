@@ -29,6 +29,10 @@ fn restart_behind_the_run(rt: HostRuntime) -> Result<(), NoMemory> {
     assert!(rt; line.touched(A, LAMP));
     assert!(rt; line.last_on(LAMP) == Some(2));
     assert!(rt; line.get(0) == Some(Item::Failed(LAMP, 1)));
+    assert!(rt; line.place_of(Item::Ran(A)) == Some(1));
     assert!(rt; line.remove(A) && line.len() == 2);
+    assert!(rt;
+        line.place_of(Item::Ran(A)).is_none() && line.place_of(Item::Back(LAMP, 1)) == Some(1)
+    );
     Ok(())
 }

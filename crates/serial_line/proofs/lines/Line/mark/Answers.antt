@@ -1,5 +1,6 @@
 use Rattle.home_types.specs.declared.items.Item.TheVariants.{Ran}
-use Rattle.serial_line.proofs.Once.{differ_touched, old_told, touching_told, untold_stands}
+use Rattle.serial_line.proofs.Once.{differ_touched, old_told, place_told, same_items, touching_told, untold_stands}
+use Rattle.serial_line.proofs.RunPlaces.{places_stay}
 use Rattle.serial_line.proofs.lines.Line.mark.Goals as goal
 use Rattle.serial_line.specs.Marks.{place_of, stands, touching}
 use Rattle.std.proofs.Common.{ap, rules, sym, ◌∙◌, ◌≡◌, false}
@@ -16,6 +17,7 @@ invariant_of-self c =
       once = differ_touched (Ran c.args.run) c.self.inside.entries.items c.in-Some.at c.index_mut.result.now c.touch.new.self c.self.invariant.once told c.index_mut.ensures.value c.touch.ensures.item;
       room = c.self.invariant.room;
       few = c.self.invariant.few;
+      places = places_stay c.self.inside.entries.items _ c.self.inside.places (same_items c.self.inside.entries.items c.in-Some.at c.touch.new.self c.index_mut.result.now (place_told (Ran c.args.run) c.self.inside.entries.items c.in-Some.at c.index_mut.result.now told).0 (c.touch.ensures.item ∙ ap (λ m. m.item) c.index_mut.ensures.value)) c.self.invariant.places;
     }
 
 pub returns-in-Some-clause-marks : goal.returns-in-Some-clause-marks

@@ -1,5 +1,5 @@
 use Rattle.command_rules.specs.Searches.{last_place}
-use Rattle.serial_line.proofs.lines.Line.place_of.Given as goal
+use Rattle.serial_line.proofs.lines.Line.search.Given as goal
 use Rattle.std.proofs.Common.{None, drop, length, ◌≡◌, ◌≤◌}
 use Rattle.serial_line.specs.Marks.{is_item}
 

@@ -1,0 +1,190 @@
+-- The places that are kept of the runs: what they are after an item comes or goes, and each behind it is told its place.
+use Rattle.command_rules.specs.Items.{is_ran}
+use Rattle.home_types.specs.declared.items.Item.TheVariants.{Back, Failed, Ran}
+use Rattle.home_types.specs.declared.items.Item.{Item}
+use Rattle.home_types.specs.declared.numbers.RunNo.{RunNo}
+use Rattle.serial_line.proofs.Once.{place_is, place_told, untold_stands}
+use Rattle.serial_line.proofs.Searches.{any_at}
+use Rattle.serial_line.specs.Marks.{Mark, all_differ, items_of, stands, untouched}
+use Rattle.serial_line.specs.RunPlaces.{ArePlaces, ArePlacesBefore, is_before, run_place, with_place}
+use Rattle.std.proofs.Common.{ap, arith, refl, subst, sym, ◌∙◌}
+use Rattle.std.proofs.lemmas.Grind.{common_steps, get_or-set_at}
+use Rattle.std.proofs.lemmas.List.{get_or-map, get_or-set_other, length-map}
+use Rattle.std.proofs.lemmas.List.Edits.{get_or-insert_above, get_or-insert_below, get_or-remove_above, get_or-remove_below, length-insert, length-remove}
+use Rattle.std.specs.Prelude.{Bool, List, None, Option, Some, [], false, get_or, if◌then◌else◌, insert, length, nat_lt, position, remove, replicate, slice_index_or, slice_set, suc, true, zero, ℕ, ◌+◌, ◌-◌, ◌<◌, ◌∷◌, ◌≡◌, ◌≢◌, ◌≤◌}
+
+abbrev the_run : ℕ → Item
+the_run r = Ran (record { 0 = r })
+
+-- a run that stands at a place of the line is in it
+stands_at : (r : ℕ) (ms : List Mark) (k : ℕ) (d : Mark) → k < length ms → is_ran r (get_or ms k d).item ≡ true → stands (the_run r) ms ≡ true
+stands_at r ms k d within there = any_at (is_ran r) (items_of ms) k d.item (rw (length-map ms (λ m. m.item)) within) (rw (get_or-map (λ m. m.item) ms k d d.item within) there)
+
+-- each run that is at a place of the one line has a place in the other, at which it stands: so who is not there has none here
+none_from : (r : ℕ) (ms ns : List Mark) (d : Mark) → ((k : ℕ) → k < length ms → is_ran r (get_or ms k d).item ≡ true → stands (the_run r) ns ≡ true) → run_place r ns ≡ None → run_place r ms ≡ None
+none_from r ms ns d moved none = by_cases (run_place r ms) refl
+  where
+    by_cases : (o : Option ℕ) → run_place r ms ≡ o → o ≡ None
+    by_cases None e = refl
+    by_cases (Some k) e =
+        let found = place_told (the_run r) ms k d e in
+        absurd (cc (sym (moved k found.0 found.1) ∙ untold_stands (the_run r) ns none))
+
+-- what is kept is read
+
+-- a place that is read is the run's
+pub place_read : (marks : List Mark) (places : List (Option ℕ)) (r : ℕ) (place : Option ℕ) → true ≡ nat_lt r (length places) → place ≡ slice_index_or places r place → ArePlaces marks places → place ≡ run_place r marks
+place_read marks places r place within read are = read ∙ any_default places r within ∙ are r (grind (arith, common_steps))
+  where
+    any_default : (xs : List (Option ℕ)) (k : ℕ) → true ≡ nat_lt k (length xs) → slice_index_or xs k place ≡ slice_index_or xs k None
+    any_default [] k inside = absurd (grind (arith, common_steps))
+    any_default (x ∷ xs) zero inside = refl
+    any_default (x ∷ xs) (suc k) inside = any_default xs k (grind (arith, common_steps))
+
+-- no item: no places
+pub no_places : (n : ℕ) → ArePlaces [] (replicate n None)
+no_places n r within = none_at n r
+  where
+    nothing : Option ℕ
+    nothing = None
+
+    none_at : (n r : ℕ) → slice_index_or (replicate n nothing) r None ≡ None
+    none_at zero r = refl
+    none_at (suc n) zero = refl
+    none_at (suc n) (suc r) = none_at n r
+
+-- a run is told its place
+
+length_placed : (i : Item) (place : Option ℕ) (places : List (Option ℕ)) → length (with_place i place places) ≡ length places
+length_placed (Ran q) place places = grind (arith, common_steps)
+length_placed (Failed d k) place places = refl
+length_placed (Back d k) place places = refl
+
+-- the run has it ..
+placed_here : (r : ℕ) (i : Item) (place : Option ℕ) (places : List (Option ℕ)) → is_ran r i ≡ true → r < length places → slice_index_or (with_place i place places) r None ≡ place
+placed_here r (Ran q) place places is within =
+    let same : r ≡ q.0 = grind (arith, common_steps) in
+    let inside : nat_lt q.0 (length places) ≡ true = grind (arith, common_steps) in
+    rw inside (get_or-set_at places q.0 r place None same (grind (arith, common_steps)))
+placed_here r (Failed d k) place places is within = absurd (cc)
+placed_here r (Back d k) place places is within = absurd (cc)
+
+-- .. and no other
+placed_other : (r : ℕ) (i : Item) (place : Option ℕ) (places : List (Option ℕ)) → is_ran r i ≡ false → slice_index_or (with_place i place places) r None ≡ slice_index_or places r None
+placed_other r (Ran q) place places is = by_cases (nat_lt q.0 (length places))
+  where
+    by_cases : (b : Bool) → slice_index_or (if b then slice_set places q.0 place else places) r None ≡ slice_index_or places r None
+    by_cases true = let other : r ≢ q.0 = grind (arith, common_steps) in get_or-set_other places q.0 r place None other
+    by_cases false = refl
+placed_other r (Failed d k) place places is = refl
+placed_other r (Back d k) place places is = refl
+
+-- where the places before one are right, and the item there is told it, those before the next one are right
+pub told_one : (ms : List Mark) (k : ℕ) (i : Item) (d : Mark) (places : List (Option ℕ)) → all_differ (items_of ms) ≡ true → k < length ms → i ≡ (get_or ms k d).item → ArePlacesBefore k ms places → ArePlacesBefore (k + 1) ms (with_place i (Some k) places)
+told_one ms k i d places differ inside is before r within here = by_cases (is_ran r i) refl
+  where
+    kept : r < length places
+    kept = subst (λ n. r < n) (length_placed i (Some k) places) within
+
+    by_cases : (b : Bool) → is_ran r i ≡ b → slice_index_or (with_place i (Some k) places) r None ≡ run_place r ms
+    by_cases true e = placed_here r i (Some k) places e kept ∙ sym (place_is (the_run r) ms k d differ inside (ap (is_ran r) (sym is) ∙ e))
+    by_cases false e = placed_other r i (Some k) places e ∙ before r kept (earlier (run_place r ms) refl here)
+      where
+        earlier : (o : Option ℕ) → run_place r ms ≡ o → is_before (k + 1) o ≡ true → is_before k o ≡ true
+        earlier None f upto = refl
+        earlier (Some j) f upto =
+            let apart : j ≢ k = λ same. cc (sym (ap (is_ran r) is ∙ ap (λ n. is_ran r (get_or ms n d).item) (sym same) ∙ (place_told (the_run r) ms j d f).1) ∙ e) in
+            grind (arith, common_steps)
+
+-- where all are told, all are right
+pub told_all : (ms : List Mark) (k : ℕ) (places : List (Option ℕ)) → length ms ≤ k → ArePlacesBefore k ms places → ArePlaces ms places
+told_all ms k places all before r within = before r within (by_cases (run_place r ms) refl)
+  where
+    by_cases : (o : Option ℕ) → run_place r ms ≡ o → is_before k o ≡ true
+    by_cases None e = refl
+    by_cases (Some j) e = let found = place_told (the_run r) ms j (untouched (the_run r)) e in let inside : j < length ms = found.0 in grind (arith, common_steps)
+
+-- an item comes: the places before it are right
+pub before_inserted : (ms : List Mark) (at : ℕ) (x : Mark) (places : List (Option ℕ)) → all_differ (items_of ms) ≡ true → at ≤ length ms → ArePlaces ms places → ArePlacesBefore at (insert ms at x) places
+before_inserted ms at x places differ upto are r within here = are r within ∙ by_cases (run_place r (insert ms at x)) refl here
+  where
+    moved : (k : ℕ) → k < length ms → is_ran r (get_or ms k x).item ≡ true → stands (the_run r) (insert ms at x) ≡ true
+    moved k inside is = elim (nat_lt k at) as (λ b. nat_lt k at ≡ b → stands (the_run r) (insert ms at x) ≡ true) [
+      | true ↦ (λ e.
+          let below : k < at = grind (arith, common_steps) in
+          stands_at r (insert ms at x) k x (rw (length-insert ms at x upto) (omega (arith, inside))) (ap (λ m. is_ran r m.item) (get_or-insert_below ms at x x k below upto) ∙ is))
+      | false ↦ (λ e.
+          let above : at ≤ k = grind (arith, common_steps) in
+          stands_at r (insert ms at x) (k + 1) x (rw (length-insert ms at x upto) (omega (arith, inside))) (ap (λ m. is_ran r m.item) (get_or-insert_above ms at x x k above upto) ∙ is))
+    ] refl
+
+    by_cases : (o : Option ℕ) → run_place r (insert ms at x) ≡ o → is_before at o ≡ true → run_place r ms ≡ run_place r (insert ms at x)
+    by_cases None e first = none_from r ms (insert ms at x) x moved e ∙ sym e
+    by_cases (Some j) e first =
+        let found = place_told (the_run r) (insert ms at x) j x e in
+        let below : j < at = grind (arith, common_steps) in
+        place_is (the_run r) ms j x differ (omega (arith, below, upto)) (ap (λ m. is_ran r m.item) (sym (get_or-insert_below ms at x x j below upto)) ∙ found.1) ∙ sym e
+
+-- an item is not two runs
+other_run : (r : ℕ) (q : RunNo) (i : Item) → is_ran r (Ran q) ≡ false → is_ran q.0 i ≡ true → is_ran r i ≡ false
+other_run r q (Ran x) apart is = grind (arith, common_steps)
+other_run r q (Failed d k) apart is = refl
+other_run r q (Back d k) apart is = refl
+
+-- a run goes, and has no place any more: those before where it stood are right
+pub before_removed : (ms : List Mark) (q : RunNo) (k : ℕ) (places : List (Option ℕ)) → all_differ (items_of ms) ≡ true → run_place q.0 ms ≡ Some k → all_differ (items_of (remove ms k)) ≡ true → ArePlaces ms places → ArePlacesBefore k (remove ms k) (with_place (Ran q) None places)
+before_removed ms q k places differ told rest are r within here = by_cases (is_ran r (Ran q)) refl
+  where
+    d : Mark
+    d = untouched (Ran q)
+
+    inside : k < length ms
+    inside = (place_told (Ran q) ms k d told).0
+
+    kept : r < length places
+    kept = subst (λ n. r < n) (length_placed (Ran q) None places) within
+
+    count : length (remove ms k) + 1 ≡ length ms
+    count = length-remove ms k inside
+
+    by_cases : (b : Bool) → is_ran r (Ran q) ≡ b → slice_index_or (with_place (Ran q) None places) r None ≡ run_place r (remove ms k)
+    by_cases true e = placed_here r (Ran q) None places e kept ∙ sym (gone (run_place r (remove ms k)) refl here)
+      where
+        same : r ≡ q.0
+        same = grind (arith, common_steps)
+
+        gone : (o : Option ℕ) → run_place r (remove ms k) ≡ o → is_before k o ≡ true → o ≡ None
+        gone None f first = refl
+        gone (Some j) f first =
+            let found = place_told (the_run r) (remove ms k) j d f in
+            let below : j < k = grind (arith, common_steps) in
+            let old = place_is (the_run r) ms j d differ (omega (arith, below, inside)) (ap (λ m. is_ran r m.item) (sym (get_or-remove_below ms k d j below inside)) ∙ found.1) in
+            let one : Some j ≡ Some k = sym old ∙ ap (λ n. run_place n ms) same ∙ told in
+            absurd (grind (arith, common_steps))
+    by_cases false e = placed_other r (Ran q) None places e ∙ are r kept ∙ stays (run_place r (remove ms k)) refl here
+      where
+        its : is_ran r (get_or ms k d).item ≡ false
+        its = other_run r q (get_or ms k d).item e (place_told (Ran q) ms k d told).1
+
+        moved : (j : ℕ) → j < length ms → is_ran r (get_or ms j d).item ≡ true → stands (the_run r) (remove ms k) ≡ true
+        moved j within is = elim (nat_lt j k) as (λ b. nat_lt j k ≡ b → stands (the_run r) (remove ms k) ≡ true) [
+          | true ↦ (λ f.
+              let below : j < k = grind (arith, common_steps) in
+              stands_at r (remove ms k) j d (omega (arith, count, inside, below)) (ap (λ m. is_ran r m.item) (get_or-remove_below ms k d j below inside) ∙ is))
+          | false ↦ (λ f.
+              let apart : j ≢ k = λ same. cc (sym is ∙ ap (λ n. is_ran r (get_or ms n d).item) same ∙ its) in
+              let above : k ≤ j - 1 = grind (arith, common_steps) in
+              let next : j - 1 + 1 ≡ j = grind (arith, common_steps) in
+              stands_at r (remove ms k) (j - 1) d (omega (arith, count, within, next)) (ap (λ m. is_ran r m.item) (get_or-remove_above ms k d (j - 1) above inside) ∙ ap (λ n. is_ran r (get_or ms n d).item) next ∙ is))
+        ] refl
+
+        stays : (o : Option ℕ) → run_place r (remove ms k) ≡ o → is_before k o ≡ true → run_place r ms ≡ run_place r (remove ms k)
+        stays None f first = none_from r ms (remove ms k) d moved f ∙ sym f
+        stays (Some j) f first =
+            let found = place_told (the_run r) (remove ms k) j d f in
+            let below : j < k = grind (arith, common_steps) in
+            place_is (the_run r) ms j d differ (omega (arith, below, inside)) (ap (λ m. is_ran r m.item) (sym (get_or-remove_below ms k d j below inside)) ∙ found.1) ∙ sym f
+
+-- the items stay: so do the places
+pub places_stay : (ms ns : List Mark) (places : List (Option ℕ)) → items_of ns ≡ items_of ms → ArePlaces ms places → ArePlaces ns places
+places_stay ms ns places same are r within = are r within ∙ ap (λ is. position (is_ran r) is) (sym same)
