@@ -11,7 +11,7 @@ ghost use Rattle.hub_core.specs.PlansInTurn.{planned_in_turn};
 ghost use Rattle.lineage_table.specs.Accesses.{status_of};
 ghost use Rattle.lineage_table.specs.Lineages.{IsOpened, accesses_at, committed_lineage, lineage_at, removed, undone, with_lineage};
 ghost use Rattle.lock_leasing.specs.Configurations.{is_command, is_undo};
-ghost use Rattle.serial_line.specs.Marks.{items_of, stands, touching, with_item, without};
+ghost use Rattle.serial_line.specs.Marks.{items_of, settling, stands, touching, with_item, without};
 ghost use Rattle.window_order.specs.TableChanges.{ChangesEach, IsNewOn, first_with_access, scheduled_on, written_if, doomed_unless};
 
 use crate::plans::{PlannedUse, planned_uses};
@@ -208,12 +208,14 @@ impl KeptOrder {
         self.line.remove(r);
     }
 
-    /// The run commits. It stays in the line.
+    /// The run commits. It stays in the line, which notes that it has ended.
     pub(crate) fn settle(&mut self, r: RunNo)
-        ensures line { self.new.line ≡ self.old.line }
+        ensures marks { self.new.line.marks ≡ settling r.0 self.old.line.marks }
+        ensures spare { self.new.line.spare ≡ self.old.line.spare }
         ensures table { ChangesEach (λ d. committed_lineage r.0) self.old.table self.new.table }
     {
         commit(&mut self.table, r);
+        self.line.settle(r);
     }
 }
 

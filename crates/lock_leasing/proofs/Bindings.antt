@@ -15,20 +15,20 @@ use Rattle.lineage_table.specs.Lineages.{LineageState}
 use Rattle.lock_leasing.proofs.AccessRuns.{EachTail}
 use Rattle.lock_leasing.proofs.Facts.{facts_of}
 use Rattle.lock_leasing.specs.Configurations.{Grips, read_of}
-use Rattle.lock_leasing.specs.Counts.{before_unended, up_to, up_to_committed, up_to_followed, up_to_touched}
+use Rattle.lock_leasing.specs.Counts.{up_to, up_to_committed, up_to_followed, up_to_touched}
 use Rattle.lock_leasing.specs.FirstPlaces.{IsFirstPlaceOf}
 use Rattle.lock_leasing.specs.Places.{binds, up_to_first, up_to_last}
-use Rattle.lock_leasing.specs.Standings.{IsRosterFor, item_has_touched}
+use Rattle.lock_leasing.specs.Standings.{IsRosterFor, has_ended, item_has_touched}
 use Rattle.lock_leasing.specs.Words.{has_touched}
 use Rattle.serial_line.proofs.Searches.{last_counted, up_to_either}
-use Rattle.serial_line.proofs.Ties.{last_in_line}
-use Rattle.serial_line.specs.Marks.{Mark, items_of, last_on}
+use Rattle.serial_line.proofs.Ties.{front_in_line, last_in_line}
+use Rattle.serial_line.specs.Marks.{Mark, front_of, items_of, last_on}
 use Rattle.command_rules.specs.Searches.{last_place}
 use Rattle.serial_line.specs.Ties.{IsLineOf}
 use Rattle.std.proofs.Common.{ap, ap₂, arith, cond, refl, sym, ◌∙◌}
 use Rattle.std.proofs.lemmas.Grind.{common_steps}
 use Rattle.std.specs.List.{list_any, range_with_len}
-use Rattle.std.specs.Prelude.{Bool, List, None, Option, Some, [], false, filter, fold, if◌then◌else◌, is_none, is_some, length, max, option_map, slice_get, suc, true, unwrap_or, zero, ℕ, ◌&&◌, ◌+◌, ◌<◌, ◌==◌, ◌||◌, ◌∷◌, ◌≡◌, ◌≤◌}
+use Rattle.std.specs.Prelude.{Bool, List, None, Option, Some, [], false, filter, fold, if◌then◌else◌, is_none, is_some, length, max, not, option_map, slice_get, suc, true, unwrap_or, zero, ℕ, ◌&&◌, ◌+◌, ◌<◌, ◌==◌, ◌||◌, ◌∷◌, ◌≡◌, ◌≤◌}
 
 -- Some item of a list passes
 
@@ -144,7 +144,7 @@ binds_by w n g r allowed (Back e k) = on_device (commands_of w.runs r) ∙ or_fa
     or_false false = refl
 
 -- up to the last item that has touched one of the devices
-touched_is : (n : Reading) (g : Grips) (marks : List Mark) (start : ℕ) (cs : List Command) → IsLineOf n.line (item_has_touched n g) marks
+touched_is : (n : Reading) (g : Grips) (marks : List Mark) (start : ℕ) (cs : List Command) → IsLineOf n.line (item_has_touched n g) (has_ended n) marks
     → fold (λ k (c : Command). max k (up_to (last_on c.device.0 marks))) start cs ≡ max start (up_to_last (touches_any n g cs) n.line)
 touched_is n g marks start [] is = none_counts (up_to_last (touches_any n g []) n.line) (up_to_none (touches_any n g []) (λ i. refl) n.line)
   where
@@ -192,25 +192,25 @@ followed_is w n r history marks ends items = at (followed_by w.runs r)
     at (Some f) = ap (λ o. if unwrap_or (option_map is_committing o) false then up_to (last_place (is_ran f.0) (items_of marks)) else 0) (ends f.0) ∙ by_end f (is_committed n f.0) refl
 
 -- before the first live run
-unended_is : (n : Reading) (history : List Kept) (marks : List Mark) → ((q : ℕ) → end_of history q ≡ (n.run q).ended) → items_of marks ≡ n.line → ((q : ℕ) → list_any (is_ran q) n.line ≡ true → is_some (n.run q).placed ≡ true)
-    → before_unended history marks ≡ up_to_first (of_run (is_live n)) n.line
-unended_is n history marks ends items placed =
-    ap (up_to_first (of_run (λ q. is_none (end_of history q)))) items
-    ∙ up_to_first_same (of_run (λ q. is_none (end_of history q))) (of_run (is_live n)) n.line (each n.line placed)
+front_is : (n : Reading) (g : Grips) (marks : List Mark) → IsLineOf n.line (item_has_touched n g) (has_ended n) marks → ((q : ℕ) → list_any (is_ran q) n.line ≡ true → is_some (n.run q).placed ≡ true) → front_of marks ≡ up_to_first (of_run (is_live n)) n.line
+front_is n g marks is placed = front_in_line is ∙ up_to_first_same (of_run (λ q. not (has_ended n q))) (of_run (is_live n)) n.line (each n.line placed)
   where
-    each : (is : List Item) → ((q : ℕ) → list_any (is_ran q) is ≡ true → is_some (n.run q).placed ≡ true) → EachTail (λ i rest. of_run (λ q. is_none (end_of history q)) i ≡ of_run (is_live n) i) is
+    lives : (o : OfRun) → is_some o.placed ≡ true → not (is_some o.ended) ≡ (is_some o.placed && is_none o.ended)
+    lives o there = grind (arith, common_steps)
+
+    each : (is : List Item) → ((q : ℕ) → list_any (is_ran q) is ≡ true → is_some (n.run q).placed ≡ true) → EachTail (λ i rest. of_run (λ q. not (has_ended n q)) i ≡ of_run (is_live n) i) is
     each [] among = tt
     each (Ran q ∷ is) among =
         let own : (q.0 == q.0) ≡ true = grind (arith, common_steps) in
         let there : is_some (n.run q.0).placed ≡ true = among q.0 (rw own refl) in
-        (ap is_none (ends q.0) ∙ sym (ap (λ b. b && is_none (n.run q.0).ended) there), each is (λ k some. among k (rw some (grind (arith, common_steps)))))
+        (lives (n.run q.0) there, each is (λ k some. among k (rw some (grind (arith, common_steps)))))
     each (Failed e k ∷ is) among = (refl, each is among)
     each (Back e k ∷ is) among = (refl, each is among)
 
 -- the greatest of the three counts is the first place
-pub first_is : (table : List LineageState) (line : List Mark) (history : List Kept) (runs : List Run) (r touched followed unended place : ℕ)
-    → touched ≡ up_to_touched (commands_of runs r) line → followed ≡ up_to_followed runs history r line → unended ≡ before_unended history line → place ≡ max (max touched followed) unended → IsFirstPlaceOf table line history runs r place
-first_is table line history runs r touched followed unended place e1 e2 e3 e4 s parts =
+pub first_is : (table : List LineageState) (line : List Mark) (history : List Kept) (runs : List Run) (r touched followed front place : ℕ)
+    → touched ≡ up_to_touched (commands_of runs r) line → followed ≡ up_to_followed runs history r line → front ≡ front_of line → place ≡ max (max touched followed) front → IsFirstPlaceOf table line history runs r place
+first_is table line history runs r touched followed front place e1 e2 e3 e4 s parts =
     let n : Reading = read_of s in
     let f = facts_of s table line history runs parts in
     let ends : (q : ℕ) → end_of history q ≡ ((read_of s).run q).ended = λ q. ap (λ h. end_of h q) (sym parts.its_history) ∙ end_is s.setting s.history q parts.well_formed in
@@ -218,8 +218,8 @@ first_is table line history runs r touched followed unended place e1 e2 e3 e4 s 
     e1 ∙ ap (λ rs. up_to_touched (commands_of rs r) line) (sym parts.its_roster) ∙ touched_is (read_of s) s.grips line 0 (commands_of s.setting.runs r) parts.its_line ∙ from_none (up_to_last (touches_any (read_of s) s.grips (commands_of s.setting.runs r)) (read_of s).line) in
     let by_follow : followed ≡ up_to_last (is_followed s.setting (read_of s) r) (read_of s).line =
     e2 ∙ ap (λ rs. up_to_followed rs history r line) (sym parts.its_roster) ∙ followed_is s.setting (read_of s) r history line ends parts.its_line.items in
-    let by_live : unended ≡ up_to_first (of_run (is_live (read_of s))) (read_of s).line =
-    e3 ∙ unended_is (read_of s) history line ends parts.its_line.items (λ q among. placed_if ((read_of s).run q) (sym (f.line.line q) ∙ among)) in
+    let by_live : front ≡ up_to_first (of_run (is_live (read_of s))) (read_of s).line =
+    e3 ∙ front_is (read_of s) s.grips line parts.its_line (λ q among. placed_if ((read_of s).run q) (sym (f.line.line q) ∙ among)) in
     let both : up_to_last (binds s.setting (read_of s) s.grips r) (read_of s).line ≡ max (up_to_last (touches_any (read_of s) s.grips (commands_of s.setting.runs r)) (read_of s).line) (up_to_last (is_followed s.setting (read_of s) r) (read_of s).line) =
     up_to_same (binds s.setting (read_of s) s.grips r) (λ i. touches_any (read_of s) s.grips (commands_of s.setting.runs r) i || is_followed s.setting (read_of s) r i) (binds_by s.setting (read_of s) s.grips r parts.allowed) (read_of s).line
     ∙ up_to_either (touches_any (read_of s) s.grips (commands_of s.setting.runs r)) (is_followed s.setting (read_of s) r) (read_of s).line in

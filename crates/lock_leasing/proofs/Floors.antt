@@ -4,14 +4,13 @@ use Rattle.command_rules.specs.Rosters.{followed_by, is_run, plain_run, runs_of}
 use Rattle.command_rules.specs.declared.rosters.Roster.{Roster}
 use Rattle.command_rules.specs.declared.rosters.RosterRun.{RosterRun}
 use Rattle.home_types.specs.declared.items.Item.{Item}
-use Rattle.lock_leasing.specs.Places.{up_to_first}
 use Rattle.serial_line.proofs.Once.{place_is, place_unfound}
 use Rattle.serial_line.specs.Marks.{Mark, all_differ, is_item, items_of, place_of, untouched}
 use Rattle.command_rules.specs.Searches.{last_place}
 use Rattle.std.proofs.Common.{ap, arith, refl, sym, ◌∙◌}
 use Rattle.std.proofs.lemmas.Option.{slice_get-map}
 use Rattle.std.specs.Option.{option_or}
-use Rattle.std.specs.Prelude.{Bool, IsTrue, List, None, Option, Some, [], drop, false, if◌then◌else◌, option_map, slice_get, suc, true, unwrap_or, zero, ℕ, ◌+◌, ◌-◌, ◌∷◌, ◌≡◌}
+use Rattle.std.specs.Prelude.{IsTrue, List, None, Option, Some, [], if◌then◌else◌, option_map, slice_get, suc, true, zero, ℕ, ◌+◌, ◌-◌, ◌∷◌, ◌≡◌}
 
 -- the run with the number r stands at the place before r
 pub followed_by-run : (roster : Roster) (r : ℕ) (run : RosterRun) → IsTrue (is_run (runs_of roster) r) → slice_get roster.runs.items (r - 1) ≡ Some run → run.follows ≡ followed_by (runs_of roster) r
@@ -32,22 +31,3 @@ place_last x ms differ = at (last_place (λ m. is_item x m.item) ms) refl ∙ ma
     at : (o : Option ℕ) → last_place (λ m. is_item x m.item) ms ≡ o → place_of x ms ≡ last_place (λ m. is_item x m.item) ms
     at None e = place_unfound x ms e ∙ sym e
     at (Some k) e = place_is x ms k (untouched x) differ (last_within (λ m. is_item x m.item) ms k e) (last_told (λ m. is_item x m.item) ms k (untouched x) e) ∙ sym e
-
--- before the first item of which the test holds: one item further
-
-item_next : (test : Item → Bool) (is : List Item) (k : ℕ) (i : Item) → slice_get is k ≡ Some i → up_to_first test (drop k is) ≡ (if test i then 0 else up_to_first test (drop (suc k) is) + 1)
-item_next test [] k i at = absurd (cc)
-item_next test (j ∷ is) zero i at = let same : j ≡ i = ap (λ o. unwrap_or o i) at in ap (λ z. if test z then 0 else up_to_first test is + 1) same
-item_next test (j ∷ is) (suc k) i at = item_next test is k i at
-
-pub count_stops : (test : Item → Bool) (is : List Item) (k total : ℕ) (i : Item) → total ≡ k + up_to_first test (drop k is) → slice_get is k ≡ Some i → test i ≡ true → k ≡ total
-count_stops test is k total i so_far at stops =
-    let none : up_to_first test (drop k is) ≡ 0 = item_next test is k i at ∙ ap (λ b. if b then 0 else up_to_first test (drop (suc k) is) + 1) stops in
-    omega (arith, so_far, none)
-
-pub count_goes_on : (test : Item → Bool) (is : List Item) (k total : ℕ) (i : Item) → total ≡ k + up_to_first test (drop k is) → slice_get is k ≡ Some i → test i ≡ false → total ≡ k + 1 + up_to_first test (drop (k + 1) is)
-count_goes_on test is k total i so_far at passes =
-    let more : up_to_first test (drop k is) ≡ up_to_first test (drop (suc k) is) + 1 = item_next test is k i at ∙ ap (λ b. if b then 0 else up_to_first test (drop (suc k) is) + 1) passes in
-    let next : suc k ≡ k + 1 = omega arith in
-    let there : up_to_first test (drop (suc k) is) ≡ up_to_first test (drop (k + 1) is) = ap (λ j. up_to_first test (drop j is)) next in
-    omega (arith, so_far, more, there)

@@ -1,15 +1,14 @@
 -- Places in the line, as the line's touches and the history's ends tell them.
-use Rattle.command_rules.specs.Items.{is_ran, of_run}
+use Rattle.command_rules.specs.Items.{is_ran}
 use Rattle.command_rules.specs.Rosters.{Run, followed_by}
 use Rattle.history_book.specs.Books.{end_of}
 use Rattle.history_book.specs.Readings.{is_committing}
 use Rattle.history_book.specs.declared.entries.Kept.{Kept}
 use Rattle.home_types.specs.declared.commands.Command.{Command}
 use Rattle.home_types.specs.declared.numbers.RunNo.{RunNo}
-use Rattle.lock_leasing.specs.Places.{up_to_first}
 use Rattle.serial_line.specs.Marks.{Mark, items_of, last_on}
 use Rattle.command_rules.specs.Searches.{last_place}
-use Rattle.std.specs.Prelude.{Bool, List, None, Option, Some, false, fold, if◌then◌else◌, is_none, max, option_map, unwrap_or, ℕ, ◌+◌}
+use Rattle.std.specs.Prelude.{Bool, List, None, Option, Some, false, fold, if◌then◌else◌, max, option_map, unwrap_or, ℕ, ◌+◌}
 
 -- the number of items up to and with this place, none where there is none
 abbrev pub up_to : Option ℕ → ℕ
@@ -35,7 +34,3 @@ up_to_committed history line (Some f) = if has_committed history f.0 then up_to_
 -- up to the committed run that r follows
 abbrev pub up_to_followed : List Run → List Kept → ℕ → List Mark → ℕ
 up_to_followed runs history r line = up_to_committed history line (followed_by runs r)
-
--- the number of items before the first run that has not ended
-abbrev pub before_unended : List Kept → List Mark → ℕ
-before_unended history line = up_to_first (of_run (λ r. is_none (end_of history r))) (items_of line)

@@ -19,13 +19,17 @@ use Rattle.lock_leasing.specs.Words.{has_touched}
 use Rattle.history_book.specs.Readings.{Reading, is_doomed, is_live, next_of}
 use Rattle.serial_line.specs.Marks.{Mark}
 use Rattle.serial_line.specs.Ties.{IsLineOf}
-use Rattle.std.specs.Prelude.{Bool, List, Some, [], false, length, slice_get, true, ℕ, ◌<◌, ◌==◌, ◌≡◌, ◌≤◌}
+use Rattle.std.specs.Prelude.{Bool, List, Some, [], false, is_some, length, slice_get, true, ℕ, ◌<◌, ◌==◌, ◌≡◌, ◌≤◌}
 
 -- the item has touched the device: an event its own, a run those on which it has an answer or the grip of a command
 abbrev pub item_has_touched : Reading → Grips → Item → ℕ → Bool
 item_has_touched n g (Ran r) d = has_touched n g r.0 d
 item_has_touched n g (Failed e k) d = e.0 == d
 item_has_touched n g (Back e k) d = e.0 == d
+
+-- the run has ended
+abbrev pub has_ended : Reading → ℕ → Bool
+has_ended n r = is_some (n.run r).ended
 
 -- a window of these runs may be opened on a home of so many devices
 pub record IsRosterFor (devices : ℕ) (runs : List Run) : Type 0 where
@@ -46,7 +50,7 @@ pub record IsStandingOf (s : Configuration) (table : List LineageState) (line : 
   pub order : OrderStands s.setting (read_of s) s.grips
   pub its_roster : s.setting.runs ≡ runs
   pub its_history : s.history ≡ history
-  pub its_line : IsLineOf (read_of s).line (item_has_touched (read_of s) s.grips) line
+  pub its_line : IsLineOf (read_of s).line (item_has_touched (read_of s) s.grips) (has_ended (read_of s)) line
   pub disciplined : (d : ℕ) → IsDisciplined (accesses_at table d)
   pub its_table : Represents s.setting (read_of s) s.grips table
 

@@ -1,8 +1,7 @@
-ghost use Rattle.std.specs.Prelude.{◌≡◌, ◌+◌, ◌<◌, IsTrue, is_none, length};
-ghost use Rattle.command_rules.specs.Items.{of_run};
+ghost use Rattle.std.specs.Prelude.{◌≡◌, ◌+◌, ◌<◌, IsTrue, length};
 ghost use Rattle.command_rules.specs.Rosters.{commands_of, followed_by, is_run, runs_of};
 ghost use Rattle.history_book.specs.Books.{end_of};
-ghost use Rattle.lock_leasing.specs.Counts.{before_unended, has_committed, up_to_followed, up_to_run, up_to_touched};
+ghost use Rattle.lock_leasing.specs.Counts.{has_committed, up_to_followed, up_to_run, up_to_touched};
 ghost use Rattle.lock_leasing.specs.FirstPlaces.{IsFirstPlaceOf};
 
 use crate::standings::Standing;
@@ -16,16 +15,14 @@ use serial_line::Line;
 /// none of them.
 ///
 /// The four parts belong to one window, whose model is not the weak one, and `r` is in the roster. Takes no memory, and
-/// reads of the history no more than the ends of runs.
+/// reads of the history no more than the end of the run that `r` follows.
 pub fn first_place(s: &Standing, r: RunNo) -> u32
     requires { IsTrue (is_run (runs_of s.now.roster.now) r.0) }
     ensures { IsFirstPlaceOf s.now.table.now s.now.line.now.marks s.now.book.now.items (runs_of s.now.roster.now) r.0 result }
 {
     let touched = count_to_touched(s.line, s.roster, r);
     let followed = count_to_followed(s, r);
-    touched
-        .max(followed)
-        .max(count_before_unended(s.line, s.book))
+    touched.max(followed).max(s.line.front())
 }
 
 /// The number of items up to and with the last one that has touched a device of `r`.
@@ -86,28 +83,4 @@ fn followed_by(roster: &IndexedRoster, r: RunNo) -> Option<RunNo>
 {
     let run = roster.roster().runs.get(r.0 as u64 - 1).unwrap();
     run.follows
-}
-
-/// The number of items before the first run that has not ended: all where each has.
-fn count_before_unended(line: &Line, book: &Book) -> u32
-    ensures { result ≡ before_unended book.now.items line.now.marks }
-{
-    let count = line.len();
-    'items: for at in 0..count {
-        let item = line.get(at).unwrap();
-        if is_unended(book, item) {
-            return at;
-        }
-    }
-    count
-}
-
-/// Whether the item is a run that has not ended.
-fn is_unended(book: &Book, item: Item) -> bool
-    ensures { result ≡ of_run (λ r. is_none (end_of book.now.items r)) item }
-{
-    match item {
-        Item::Ran(r) => book.end_of(r).is_none(),
-        _ => false,
-    }
 }

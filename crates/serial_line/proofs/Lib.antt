@@ -1,4 +1,5 @@
 pub mod Searches
 pub mod Once
 pub mod RunPlaces
+pub mod Fronts
 pub mod Ties

@@ -142,21 +142,24 @@ same_items [] k new d within same = absurd (omega (arith, within))
 same_items (m ∷ ms) zero new d within same = ap (λ i. i ∷ items_of ms) same
 same_items (m ∷ ms) (suc k) new d within same = ap (λ is. m.item ∷ is) (same_items ms k new d (omega (arith, within)) same)
 
--- the device is put to the marks of the item
-abbrev touch_all : Item → ℕ → List Mark → List Mark
-touch_all x device ms = map (λ m. if is_item x m.item then record { item = m.item; touched = set.insert m.touched device } else m) ms
+-- the marks of the item are changed
+abbrev change_all : Item → (Mark → Mark) → List Mark → List Mark
+change_all x f ms = map (λ m. if is_item x m.item then f m else m) ms
 
-touch_none : (x : Item) (device : ℕ) (ms : List Mark) → stands x ms ≡ false → ms ≡ touch_all x device ms
-touch_none x device [] absent = refl
-touch_none x device (m ∷ ms) absent =
+change_none : (x : Item) (f : Mark → Mark) (ms : List Mark) → stands x ms ≡ false → ms ≡ change_all x f ms
+change_none x f [] absent = refl
+change_none x f (m ∷ ms) absent =
     let here : is_item x m.item ≡ false = grind (arith, common_steps) in
-    rw here (ap (λ ns. m ∷ ns) (touch_none x device ms (grind (arith, common_steps))))
+    rw here (ap (λ ns. m ∷ ns) (change_none x f ms (grind (arith, common_steps))))
 
-pub touching_at : (x : Item) (device : ℕ) (ms : List Mark) (k : ℕ) (new d : Mark) → all_differ (items_of ms) ≡ true → k < length ms → is_item x (get_or ms k d).item ≡ true → new ≡ record { item = (get_or ms k d).item; touched = set.insert (get_or ms k d).touched device } → slice_set ms k new ≡ touch_all x device ms
-touching_at x device [] k new d differ within there is = absurd (omega (arith, within))
-touching_at x device (m ∷ ms) zero new d differ within there is = rw there (ap₂ (λ n ns. n ∷ ns) is (touch_none x device ms (others x m ms differ there)))
-touching_at x device (m ∷ ms) (suc k) new d differ within there is =
-    rw (not_first x m ms k d differ (omega (arith, within)) there) (ap (λ ns. m ∷ ns) (touching_at x device ms k new d (grind (arith, common_steps)) (omega (arith, within)) there is))
+pub change_untold : (x : Item) (f : Mark → Mark) (ms : List Mark) → place_of x ms ≡ None → ms ≡ change_all x f ms
+change_untold x f ms told = change_none x f ms (untold_stands x ms told)
+
+change_at : (x : Item) (f : Mark → Mark) (ms : List Mark) (k : ℕ) (new d : Mark) → all_differ (items_of ms) ≡ true → k < length ms → is_item x (get_or ms k d).item ≡ true → new ≡ f (get_or ms k d) → slice_set ms k new ≡ change_all x f ms
+change_at x f [] k new d differ within there is = absurd (omega (arith, within))
+change_at x f (m ∷ ms) zero new d differ within there is = rw there (ap₂ (λ n ns. n ∷ ns) is (change_none x f ms (others x m ms differ there)))
+change_at x f (m ∷ ms) (suc k) new d differ within there is =
+    rw (not_first x m ms k d differ (omega (arith, within)) there) (ap (λ ns. m ∷ ns) (change_at x f ms k new d (grind (arith, common_steps)) (omega (arith, within)) there is))
 
 touched_none : (x : Item) (device : ℕ) (ms : List Mark) → stands x ms ≡ false → list_any (λ m. is_item x m.item && set.contains m.touched device) ms ≡ false
 touched_none x device [] absent = refl
@@ -185,13 +188,13 @@ removed_untold x ms told = sym (filter_all x ms (untold_stands x ms told))
 pub differ_removed : (x : Item) (ms : List Mark) (k : ℕ) → all_differ (items_of ms) ≡ true → place_of x ms ≡ Some k → all_differ (items_of (remove ms k)) ≡ true
 differ_removed x ms k differ told = ap (λ ns. all_differ (items_of ns)) (removed_told x ms k differ told) ∙ differ_filter (λ i. not (is_item x i)) ms differ
 
-pub differ_touched : (x : Item) (ms : List Mark) (k : ℕ) (old new : Mark) → all_differ (items_of ms) ≡ true → place_of x ms ≡ Some k → old ≡ get_or ms k old → new.item ≡ old.item → all_differ (items_of (slice_set ms k new)) ≡ true
-differ_touched x ms k old new differ told is same = ap all_differ (same_items ms k new old (place_told x ms k old told).0 (same ∙ ap (λ m. m.item) is)) ∙ differ
+pub differ_changed : (x : Item) (ms : List Mark) (k : ℕ) (old new : Mark) → all_differ (items_of ms) ≡ true → place_of x ms ≡ Some k → old ≡ get_or ms k old → new.item ≡ old.item → all_differ (items_of (slice_set ms k new)) ≡ true
+differ_changed x ms k old new differ told is same = ap all_differ (same_items ms k new old (place_told x ms k old told).0 (same ∙ ap (λ m. m.item) is)) ∙ differ
 
-pub touching_told : (x : Item) (device : ℕ) (ms : List Mark) (k : ℕ) (old new : Mark) → all_differ (items_of ms) ≡ true → place_of x ms ≡ Some k → old ≡ get_or ms k old → new.item ≡ old.item → new.touched ≡ set.insert old.touched device → slice_set ms k new ≡ touch_all x device ms
-touching_told x device ms k old new differ told is item touched =
+pub change_told : (x : Item) (f : Mark → Mark) (ms : List Mark) (k : ℕ) (old new : Mark) → all_differ (items_of ms) ≡ true → place_of x ms ≡ Some k → old ≡ get_or ms k old → new ≡ f old → slice_set ms k new ≡ change_all x f ms
+change_told x f ms k old new differ told is changed =
     let found = place_told x ms k old told in
-    touching_at x device ms k new old differ found.0 found.1 (λ i. record { item = (item ∙ ap (λ m. m.item) is) i; touched = (touched ∙ ap (λ m. set.insert m.touched device) is) i })
+    change_at x f ms k new old differ found.0 found.1 (changed ∙ ap f is)
 
 pub touched_told : (x : Item) (device : ℕ) (ms : List Mark) (k : ℕ) (old : Mark) → all_differ (items_of ms) ≡ true → place_of x ms ≡ Some k → old ≡ get_or ms k old → set.contains old.touched device ≡ list_any (λ m. is_item x m.item && set.contains m.touched device) ms
 touched_told x device ms k old differ told is =

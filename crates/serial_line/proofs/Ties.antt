@@ -1,13 +1,14 @@
 -- How each call of a line keeps it the line that a layer above means, and what its answers then say.
 -- The words on items are those of the reading of a history, written alike, so that these lemmas are about its words too.
-use Rattle.command_rules.specs.Items.{is_ran}
+use Rattle.command_rules.specs.Items.{is_ran, of_run}
 use Rattle.home_types.specs.declared.items.Item.TheVariants.{Back, Failed, Ran}
 use Rattle.home_types.specs.declared.items.Item.{Item}
 use Rattle.home_types.specs.declared.numbers.RunNo.{RunNo}
 use Rattle.home_types.proofs.DeviceBits.{contains_insert}
-use Rattle.serial_line.specs.Marks.{Mark, has_touched, is_item, items_of, last_on, touching, untouched, with_item, with_touch, without}
+use Rattle.serial_line.proofs.Searches.{up_to_first}
+use Rattle.serial_line.specs.Marks.{Mark, front_of, has_touched, is_item, items_of, last_on, settling, touching, untouched, with_end, with_item, with_touch, without}
 use Rattle.command_rules.specs.Searches.{last_place}
-use Rattle.serial_line.specs.Ties.{Each, IsLineOf, TouchesAs}
+use Rattle.serial_line.specs.Ties.{Each, EndsAs, IsLineOf, TouchesAs}
 use Rattle.std.proofs.Common.{ap, arith, cond, refl, sym, ◌∙◌}
 use Rattle.std.proofs.lemmas.Grind.{common_steps}
 use Rattle.std.proofs.lemmas.List.{drop-map, map-append, take-map}
@@ -18,8 +19,8 @@ use Rattle.std.specs.Ordering.{nat_cmp}
 use Rattle.std.specs.Prelude.{Bool, List, None, Some, [], drop, false, filter, if◌then◌else◌, insert, length, not, option_map, suc, take, true, zero, ℕ, ◌&&◌, ◌+◌, ◌++◌, ◌==◌, ◌||◌, ◌∷◌, ◌≡◌}
 
 -- an empty line has no items
-pub line_empty : (touched : Item → ℕ → Bool) → IsLineOf [] touched []
-line_empty touched = record { items = refl; touches = tt }
+pub line_empty : (touched : Item → ℕ → Bool) (ended : ℕ → Bool) → IsLineOf [] touched ended []
+line_empty touched ended = record { items = refl; touches = tt; ends = tt }
 
 -- an item put in
 
@@ -39,10 +40,11 @@ pub items_at_end : (marks : List Mark) (x : Item) → items_of (with_item (lengt
 items_at_end [] x = refl
 items_at_end (m ∷ marks) x = ap (λ is. m.item ∷ is) (items_at_end marks x)
 
-pub line_inserted : {line : List Item} {touched : Item → ℕ → Bool} {marks : List Mark} (at : ℕ) (x : Item) → IsLineOf line touched marks → TouchesAs touched (untouched x) → IsLineOf (take at line ++ x ∷ drop at line) touched (with_item at x marks)
-line_inserted {marks} at x old new = record {
+pub line_inserted : {line : List Item} {touched : Item → ℕ → Bool} {ended : ℕ → Bool} {marks : List Mark} (at : ℕ) (x : Item) → IsLineOf line touched ended marks → TouchesAs touched (untouched x) → of_run ended x ≡ false → IsLineOf (take at line ++ x ∷ drop at line) touched ended (with_item at x marks)
+line_inserted {marks} at x old new lives = record {
   items = items_inserted marks at x ∙ ap (λ is. take at is ++ x ∷ drop at is) old.items;
   touches = each_inserted _ marks at (untouched x) old.touches new;
+  ends = each_inserted _ marks at (untouched x) old.ends (sym lives);
 }
 
 -- a run has touched nothing when it comes, an event its device
@@ -72,10 +74,11 @@ items_filtered p (m ∷ marks) = by_cases (p m.item) (items_filtered p marks)
 pub items_removed : (r : ℕ) (marks : List Mark) → items_of (without r marks) ≡ filter (λ i. not (is_ran r i)) (items_of marks)
 items_removed r marks = items_filtered (λ i. not (is_ran r i)) marks
 
-pub line_removed : {line : List Item} {touched : Item → ℕ → Bool} {marks : List Mark} (r : ℕ) → IsLineOf line touched marks → IsLineOf (filter (λ i. not (is_ran r i)) line) touched (without r marks)
+pub line_removed : {line : List Item} {touched : Item → ℕ → Bool} {ended : ℕ → Bool} {marks : List Mark} (r : ℕ) → IsLineOf line touched ended marks → IsLineOf (filter (λ i. not (is_ran r i)) line) touched ended (without r marks)
 line_removed {marks} r old = record {
   items = items_removed r marks ∙ ap (filter (λ i. not (is_ran r i))) old.items;
   touches = each_filtered _ (λ i. not (is_ran r i)) marks old.touches;
+  ends = each_filtered _ (λ i. not (is_ran r i)) marks old.ends;
 }
 
 -- a run that touches a device
@@ -83,14 +86,14 @@ line_removed {marks} r old = record {
 touch_item : (r device : ℕ) (m : Mark) → (with_touch r device m).item ≡ m.item
 touch_item r device m = by_cases (is_ran r m.item)
   where
-    by_cases : (b : Bool) → (if b then record { item = m.item; touched = set.insert m.touched device } else m).item ≡ m.item
+    by_cases : (b : Bool) → (if b then record m { touched = set.insert m.touched device } else m).item ≡ m.item
     by_cases true = refl
     by_cases false = refl
 
 touch_contains : (r device : ℕ) (m : Mark) (d : ℕ) → set.contains (with_touch r device m).touched d ≡ ((is_ran r m.item && (d == device)) || set.contains m.touched d)
 touch_contains r device m d = by_cases (is_ran r m.item)
   where
-    by_cases : (b : Bool) → set.contains (if b then record { item = m.item; touched = set.insert m.touched device } else m).touched d ≡ ((b && (d == device)) || set.contains m.touched d)
+    by_cases : (b : Bool) → set.contains (if b then record m { touched = set.insert m.touched device } else m).touched d ≡ ((b && (d == device)) || set.contains m.touched d)
     by_cases true = contains_insert m.touched device d
     by_cases false = refl
 
@@ -100,32 +103,105 @@ items_touching r device [] = refl
 items_touching r device (m ∷ marks) = (λ i. touch_item r device m i ∷ items_touching r device marks i)
 
 -- the run has touched the device besides, and nothing else changes
-pub line_touching : {line : List Item} {before after : Item → ℕ → Bool} {marks : List Mark} (r device : ℕ) → IsLineOf line before marks → ((i : Item) (d : ℕ) → after i d ≡ ((is_ran r i && (d == device)) || before i d)) → IsLineOf line after (touching r device marks)
-line_touching {before} {after} {marks} r device old also = record { items = items_touching r device marks ∙ old.items; touches = each marks old.touches }
+pub line_touching : {line : List Item} {before after : Item → ℕ → Bool} {ended : ℕ → Bool} {marks : List Mark} (r device : ℕ) → IsLineOf line before ended marks → ((i : Item) (d : ℕ) → after i d ≡ ((is_ran r i && (d == device)) || before i d)) → IsLineOf line after ended (touching r device marks)
+line_touching {before} {after} {ended} {marks} r device old also = record { items = items_touching r device marks ∙ old.items; touches = each marks old.touches; ends = each_end marks old.ends }
   where
+    touch_end : (m : Mark) → (with_touch r device m).ended ≡ m.ended
+    touch_end m = by_cases (is_ran r m.item)
+      where
+        by_cases : (b : Bool) → (if b then record m { touched = set.insert m.touched device } else m).ended ≡ m.ended
+        by_cases true = refl
+        by_cases false = refl
+
+    each_end : (ms : List Mark) → Each (EndsAs ended) ms → Each (EndsAs ended) (touching r device ms)
+    each_end [] all = tt
+    each_end (m ∷ ms) all = (touch_end m ∙ all.0 ∙ ap (of_run ended) (sym (touch_item r device m)), each_end ms all.1)
+
     each : (ms : List Mark) → Each (TouchesAs before) ms → Each (TouchesAs after) (touching r device ms)
     each [] all = tt
     each (m ∷ ms) all = (λ d. touch_contains r device m d ∙ ap (λ b. (is_ran r m.item && (d == device)) || b) (all.0 d) ∙ sym (also m.item d) ∙ ap (λ i. after i d) (sym (touch_item r device m)), each ms all.1)
 
--- a change that leaves what the items of the line have touched
+-- a run that ends and stays
+
+end_item : (r : ℕ) (m : Mark) → (with_end r m).item ≡ m.item
+end_item r m = by_cases (is_ran r m.item)
+  where
+    by_cases : (b : Bool) → (if b then record m { ended = true } else m).item ≡ m.item
+    by_cases true = refl
+    by_cases false = refl
+
+-- the run has ended besides, and nothing else changes
+pub line_settling : {line : List Item} {touched : Item → ℕ → Bool} {before after : ℕ → Bool} {marks : List Mark} (r : ℕ) → IsLineOf line touched before marks → ((q : ℕ) → after q ≡ ((q == r) || before q)) → IsLineOf line touched after (settling r marks)
+line_settling {touched = touched} {before = before} {after = after} {marks = marks} r old also = record { items = items marks ∙ old.items; touches = each_touch marks old.touches; ends = each_end marks old.ends }
+  where
+    items : (ms : List Mark) → items_of (settling r ms) ≡ items_of ms
+    items [] = refl
+    items (m ∷ ms) = (λ i. end_item r m i ∷ items ms i)
+
+    touches : (m : Mark) → TouchesAs touched m → TouchesAs touched (with_end r m)
+    touches m as_told = by_cases (is_ran r m.item)
+      where
+        by_cases : (b : Bool) → TouchesAs touched (if b then record m { ended = true } else m)
+        by_cases true = as_told
+        by_cases false = as_told
+
+    each_touch : (ms : List Mark) → Each (TouchesAs touched) ms → Each (TouchesAs touched) (settling r ms)
+    each_touch [] all = tt
+    each_touch (m ∷ ms) all = (touches m all.0, each_touch ms all.1)
+
+    told : (i : Item) → of_run after i ≡ (is_ran r i || of_run before i)
+    told (Ran q) = also q.0
+    told (Failed d k) = refl
+    told (Back d k) = refl
+
+    ends : (m : Mark) → EndsAs before m → EndsAs after (with_end r m)
+    ends m as_told = by_cases (is_ran r m.item) (told m.item)
+      where
+        by_cases : (b : Bool) → of_run after m.item ≡ (b || of_run before m.item) → EndsAs after (if b then record m { ended = true } else m)
+        by_cases true e = sym e
+        by_cases false e = as_told ∙ sym e
+
+    each_end : (ms : List Mark) → Each (EndsAs before) ms → Each (EndsAs after) (settling r ms)
+    each_end [] all = tt
+    each_end (m ∷ ms) all = (ends m all.0, each_end ms all.1)
+
+-- a change that leaves what the items of the line have touched, and which have ended
 
 item_itself : (x : Item) → is_item x x ≡ true
 item_itself (Ran r) = grind (arith, common_steps)
 item_itself (Failed d k) = grind (arith, common_steps)
 item_itself (Back d k) = grind (arith, common_steps)
 
-pub line_retold : {line : List Item} {before after : Item → ℕ → Bool} {marks : List Mark} → IsLineOf line before marks → ((i : Item) (d : ℕ) → list_any (is_item i) line ≡ true → before i d ≡ after i d) → IsLineOf line after marks
-line_retold {line} {before} {after} {marks} old same = record { items = old.items; touches = each marks (λ i among. ap (list_any (is_item i)) (sym old.items) ∙ among) old.touches }
+pub line_retold : {line : List Item} {before after : Item → ℕ → Bool} {old_ends new_ends : ℕ → Bool} {marks : List Mark} → IsLineOf line before old_ends marks → ((i : Item) (d : ℕ) → list_any (is_item i) line ≡ true → before i d ≡ after i d) → ((q : ℕ) → list_any (is_ran q) line ≡ true → old_ends q ≡ new_ends q) → IsLineOf line after new_ends marks
+line_retold {line} {before} {after} {old_ends} {new_ends} {marks} old same ends = record { items = old.items; touches = each marks inside old.touches; ends = each_end marks inside old.ends }
   where
+    inside : (i : Item) → list_any (is_item i) (items_of marks) ≡ true → list_any (is_item i) line ≡ true
+    inside i among = ap (list_any (is_item i)) (sym old.items) ∙ among
+
+    own : (m : Mark) (ms : List Mark) → list_any (is_item m.item) (items_of (m ∷ ms)) ≡ true
+    own m ms = ap (λ b. b || list_any (is_item m.item) (items_of ms)) (item_itself m.item)
+
+    rest : (m : Mark) (ms : List Mark) (i : Item) → list_any (is_item i) (items_of ms) ≡ true → list_any (is_item i) (items_of (m ∷ ms)) ≡ true
+    rest m ms i among = rw among (grind (arith, common_steps))
+
     each : (ms : List Mark) → ((i : Item) → list_any (is_item i) (items_of ms) ≡ true → list_any (is_item i) line ≡ true) → Each (TouchesAs before) ms → Each (TouchesAs after) ms
-    each [] inside all = tt
-    each (m ∷ ms) inside all = (λ d. all.0 d ∙ same m.item d (inside m.item (ap (λ b. b || list_any (is_item m.item) (items_of ms)) (item_itself m.item))), each ms (λ i among. inside i (rw among (grind (arith, common_steps)))) all.1)
+    each [] there all = tt
+    each (m ∷ ms) there all = (λ d. all.0 d ∙ same m.item d (there m.item (own m ms)), each ms (λ i among. there i (rest m ms i among)) all.1)
+
+    told : (i : Item) → list_any (is_item i) line ≡ true → of_run old_ends i ≡ of_run new_ends i
+    told (Ran q) among = ends q.0 among
+    told (Failed d k) among = refl
+    told (Back d k) among = refl
+
+    each_end : (ms : List Mark) → ((i : Item) → list_any (is_item i) (items_of ms) ≡ true → list_any (is_item i) line ≡ true) → Each (EndsAs old_ends) ms → Each (EndsAs new_ends) ms
+    each_end [] there all = tt
+    each_end (m ∷ ms) there all = (all.0 ∙ told m.item (there m.item (own m ms)), each_end ms (λ i among. there i (rest m ms i among)) all.1)
 
 -- what the answers of a line then say
 
 -- the last place on a device is the last one that has touched it
-pub last_in_line : {line : List Item} {touched : Item → ℕ → Bool} {marks : List Mark} (d : ℕ) → IsLineOf line touched marks → last_on d marks ≡ last_place (λ i. touched i d) line
-last_in_line {line} {touched} {marks} d is = last marks is.touches ∙ ap (last_place (λ i. touched i d)) is.items
+pub last_in_line : {line : List Item} {touched : Item → ℕ → Bool} {ended : ℕ → Bool} {marks : List Mark} (d : ℕ) → IsLineOf line touched ended marks → last_on d marks ≡ last_place (λ i. touched i d) line
+last_in_line {line} {touched} {ended} {marks} d is = last marks is.touches ∙ ap (last_place (λ i. touched i d)) is.items
   where
     last : (ms : List Mark) → Each (TouchesAs touched) ms → last_on d ms ≡ last_place (λ i. touched i d) (items_of ms)
     last [] all = refl
@@ -140,8 +216,8 @@ at_run touched r d (Failed e k) = refl
 at_run touched r d (Back e k) = refl
 
 -- a run of the line has touched a device where the test tells it
-pub touched_in_line : {line : List Item} {touched : Item → ℕ → Bool} {marks : List Mark} (r : RunNo) (d : ℕ) → IsLineOf line touched marks → list_any (is_ran r.0) line ≡ true → has_touched r.0 d marks ≡ touched (Ran r) d
-touched_in_line {line} {touched} {marks} r d is there = any marks is.touches ∙ ap (λ b. b && touched (Ran r) d) (ap (list_any (is_ran r.0)) is.items ∙ there)
+pub touched_in_line : {line : List Item} {touched : Item → ℕ → Bool} {ended : ℕ → Bool} {marks : List Mark} (r : RunNo) (d : ℕ) → IsLineOf line touched ended marks → list_any (is_ran r.0) line ≡ true → has_touched r.0 d marks ≡ touched (Ran r) d
+touched_in_line {line} {touched} {ended} {marks} r d is there = any marks is.touches ∙ ap (λ b. b && touched (Ran r) d) (ap (list_any (is_ran r.0)) is.items ∙ there)
   where
     one : (m : Mark) → TouchesAs touched m → (is_ran r.0 m.item && set.contains m.touched d) ≡ (is_ran r.0 m.item && touched (Ran r) d)
     one m fits = ap (λ b. is_ran r.0 m.item && b) (fits d) ∙ at_run touched r d m.item
@@ -149,3 +225,16 @@ touched_in_line {line} {touched} {marks} r d is there = any marks is.touches ∙
     any : (ms : List Mark) → Each (TouchesAs touched) ms → has_touched r.0 d ms ≡ (list_any (is_ran r.0) (items_of ms) && touched (Ran r) d)
     any [] all = refl
     any (m ∷ ms) all = rw (one m all.0, any ms all.1) (grind (arith, common_steps))
+
+-- so many items stand before the first run that has not ended
+pub front_in_line : {line : List Item} {touched : Item → ℕ → Bool} {ended : ℕ → Bool} {marks : List Mark} → IsLineOf line touched ended marks → front_of marks ≡ up_to_first (of_run (λ r. not (ended r))) line
+front_in_line {line} {touched} {ended} {marks} is = along marks is.ends ∙ ap (up_to_first (of_run (λ r. not (ended r)))) is.items
+  where
+    lives : (i : Item) (b : Bool) → b ≡ of_run ended i → of_run (λ r. not b) i ≡ of_run (λ r. not (ended r)) i
+    lives (Ran q) b e = ap not e
+    lives (Failed d k) b e = refl
+    lives (Back d k) b e = refl
+
+    along : (ms : List Mark) → Each (EndsAs ended) ms → front_of ms ≡ up_to_first (of_run (λ r. not (ended r))) (items_of ms)
+    along [] all = refl
+    along (m ∷ ms) all = (λ i. if lives m.item m.ended all.0 i then 0 else along ms all.1 i + 1)

@@ -1,28 +1,29 @@
--- The items of a line, each with the devices that it has touched.
-use Rattle.command_rules.specs.Items.{is_ran}
+-- The items of a line, each with the devices that it has touched, and the runs with whether they have ended.
+use Rattle.command_rules.specs.Items.{is_ran, of_run}
 use Rattle.home_types.specs.declared.items.Item.{Item}
 use Rattle.home_types.specs.declared.items.Item.TheVariants.{Back, Failed, Ran}
 use Rattle.home_types.specs.contracts.items.Item as the_item
 use Rattle.command_rules.specs.Searches.{last_place}
 use Rattle.home_types.specs.DeviceSets.{Devices}
-use Rattle.std.specs.Coded.{Coded, code_by, coded_list, coded×, coded_ℕ}
+use Rattle.std.specs.Coded.{Coded, code_by, coded_bool, coded_list, coded×, coded_ℕ}
 use Rattle.std.specs.FinSet as set
 use Rattle.std.specs.List.{list_any}
-use Rattle.std.specs.Prelude.{Bool, List, Option, [], false, filter, if◌then◌else◌, insert, map, not, position, refl, true, ℕ, ◌&&◌, ◌==◌, ◌∷◌}
+use Rattle.std.specs.Prelude.{Bool, List, Option, [], false, filter, if◌then◌else◌, insert, map, not, position, refl, true, ℕ, ◌&&◌, ◌+◌, ◌==◌, ◌∷◌}
 
--- an item of the line, and the set of devices that it has touched
+-- an item of the line, the set of devices that it has touched, and whether it is a run that has ended
 pub record Mark : Type 0 where
   pub item : Item
   pub touched : Devices
+  pub ended : Bool
 
 -- the line, and how many more items it takes with no memory
 pub record Marked : Type 0 where
   pub marks : List Mark
   pub spare : ℕ
 
--- a mark is stored as the pair of its fields, and a line too
+-- a mark is stored as the tuple of its fields, and a line too
 abbrev pub mark_code : Coded Mark
-mark_code = code_by (Item × Devices) (coded× the_item.the_row.coded (set.code coded_ℕ)) (λ m. (m.item, m.touched)) (λ p. record { item = p.0; touched = p.1 }) (λ m. refl)
+mark_code = code_by (Item × (Devices × Bool)) (coded× the_item.the_row.coded (coded× (set.code coded_ℕ) coded_bool)) (λ m. (m.item, (m.touched, m.ended))) (λ p. record { item = p.0; touched = p.1.0; ended = p.1.1 }) (λ m. refl)
 
 abbrev pub marked_code : Coded Marked
 marked_code = code_by (List Mark × ℕ) (coded× (coded_list mark_code) coded_ℕ) (λ l. (l.marks, l.spare)) (λ p. record { marks = p.0; spare = p.1 }) (λ l. refl)
@@ -63,25 +64,42 @@ touched_by (Ran r) devices = devices
 touched_by (Failed d k) devices = set.insert set.empty d.0
 touched_by (Back d k) devices = set.insert set.empty d.0
 
--- an item as it comes into the line: a run has touched nothing, an event its device
+-- an item as it comes into the line: a run has touched nothing and not ended, an event has touched its device
 abbrev pub untouched : Item → Mark
-untouched item = record { item = item; touched = touched_by item set.empty }
+untouched item = record { item = item; touched = touched_by item set.empty; ended = false }
 
--- the item stands at this place, the others in their order, with their touches
+-- the item stands at this place, the others in their order, with what is told of them
 abbrev pub with_item : ℕ → Item → List Mark → List Mark
 with_item at item marks = insert marks at (untouched item)
 
--- the others stand in their order, with their touches
+-- the others stand in their order, with what is told of them
 abbrev pub without : ℕ → List Mark → List Mark
 without r marks = filter (λ m. not (is_ran r m.item)) marks
 
 -- the device too, where the mark is the run's
 abbrev pub with_touch : ℕ → ℕ → Mark → Mark
-with_touch r d m = if is_ran r m.item then record { item = m.item; touched = set.insert m.touched d } else m
+with_touch r d m = if is_ran r m.item then record m { touched = set.insert m.touched d } else m
 
 -- the run has touched the device too, and all else stays
 abbrev pub touching : ℕ → ℕ → List Mark → List Mark
 touching r d marks = map (with_touch r d) marks
+
+-- .. and it has ended, where the mark is the run's
+abbrev pub with_end : ℕ → Mark → Mark
+with_end r m = if is_ran r m.item then record m { ended = true } else m
+
+-- the run has ended, and all else stays
+abbrev pub settling : ℕ → List Mark → List Mark
+settling r marks = map (with_end r) marks
+
+-- it is a run that has not ended
+abbrev pub is_open : Mark → Bool
+is_open m = of_run (λ r. not m.ended) m.item
+
+-- the number of items before the first such run, all where there is none
+abbrev pub front_of : List Mark → ℕ
+front_of [] = 0
+front_of (m ∷ ms) = if is_open m then 0 else front_of ms + 1
 
 -- the run has touched the device
 abbrev pub has_touched : ℕ → ℕ → List Mark → Bool

@@ -2,17 +2,18 @@ ghost use Rattle.std.specs.Prelude.{◌≡◌, ◌<◌, true};
 ghost use Rattle.command_rules.specs.Items.{is_ran};
 ghost use Rattle.std.specs.FinSet as set;
 ghost use Rattle.home_types.specs.Limits.{most_devices};
-ghost use Rattle.serial_line.specs.Marks.{is_item, untouched};
+ghost use Rattle.serial_line.specs.Marks.{is_item, is_open, untouched};
 
 use home_types::{DeviceNo, DeviceSet, Item, RunNo};
 use std::marker::Model;
 
-/// An item of the line, with the devices that it has touched.
+/// An item of the line, with the devices that it has touched, and whether it is a run that has ended.
 #[derive(Drop)]
 pub(crate) struct Entry {
     item: Item,
     // of a run; an event has touched its own device alone
     touches: DeviceSet,
+    ended: bool,
 }
 
 impl Model for Entry {
@@ -22,7 +23,7 @@ impl Model for Entry {
 
     ghost coded = { mark_code };
 
-    ghost view = { λ e. record { item = e.item; touched = touched_by e.item e.touches } };
+    ghost view = { λ e. record { item = e.item; touched = touched_by e.item e.touches; ended = e.ended } };
 }
 
 impl Entry {
@@ -33,6 +34,7 @@ impl Entry {
         Entry {
             item,
             touches: DeviceSet::none(),
+            ended: false,
         }
     }
 
@@ -67,7 +69,25 @@ impl Entry {
         requires device { device.0 < most_devices }
         ensures item { self.new.item ≡ self.old.item }
         ensures touched { self.new.touched ≡ set.insert self.old.touched device.0 }
+        ensures ended { self.new.ended ≡ self.old.ended }
     {
         self.touches.add(device);
+    }
+
+    /// The run of the entry has ended.
+    pub(crate) fn settle(&mut self)
+        ensures { self.new ≡ record self.old { ended = true } }
+    {
+        self.ended = true;
+    }
+
+    /// Whether it is a run that has not ended.
+    pub(crate) fn is_open(&self) -> bool
+        ensures { result ≡ is_open self.now }
+    {
+        match self.item {
+            Item::Ran(_) => !self.ended,
+            Item::Failed(..) | Item::Back(..) => false,
+        }
     }
 }

@@ -1,7 +1,7 @@
 ghost use Rattle.std.specs.Prelude.{◌≡◌, true, false, if◌then◌else◌, ◌+◌, ◌<◌, ◌≤◌, ◌^◌, [], is_some, length, max, slice_get, IfSome, OnOk, OnErr};
 ghost use Rattle.home_types.specs.Limits.{most_devices};
 ghost use Rattle.home_types.specs.declared.items.Item.TheVariants.{Ran};
-ghost use Rattle.serial_line.specs.Marks.{all_differ, has_touched, items_of, last_on, place_of, stands, touching, with_item, without};
+ghost use Rattle.serial_line.specs.Marks.{all_differ, front_of, has_touched, items_of, last_on, place_of, settling, stands, touching, with_item, without};
 ghost use Rattle.serial_line.specs.RunPlaces.{ArePlaces, ArePlacesBefore, with_place};
 
 use crate::entries::Entry;
@@ -13,13 +13,15 @@ use std::marker::Model;
 const PLACES: usize = limits::RUNS as usize + 1;
 
 /// The line of a window: its items in their order. Contracts see each with the devices that it has
-/// touched, and beside them how many more the line takes with no memory.
+/// touched and whether it is a run that has ended, and beside them how many more the line takes with no memory.
 #[derive(Drop)]
 pub struct Line {
     entries: Vec<Entry>,
     spare: u32,
     // where each run stands, so that a question about a run looks at no other item
     places: [Option<u32>; PLACES],
+    // how many items stand before the first run that has not ended
+    front: u32,
 }
 
 impl Model for Line {
@@ -47,6 +49,7 @@ impl Line {
             entries: Vec::new(alloc),
             spare: 0,
             places: [None; PLACES],
+            front: 0,
         }
     }
 
@@ -87,7 +90,9 @@ impl Line {
         let inserted = self.entries.insert(at as usize, Entry::new(item));
         inserted.unwrap();
         self.spare -= 1;
-        tell_places(&mut self.places, self.entries.as_slice(), at);
+        let entries = self.entries.as_slice();
+        tell_places(&mut self.places, entries, at);
+        self.front = front_from(entries, self.front.min(at));
     }
 
     /// Takes a run out, and keeps its room; answers whether it was there. The others stay in their
@@ -101,8 +106,10 @@ impl Line {
             Some(at) => {
                 self.entries.remove(at as usize);
                 self.spare += 1;
+                let entries = self.entries.as_slice();
                 tell_place(&mut self.places, Item::Ran(run), None);
-                tell_places(&mut self.places, self.entries.as_slice(), at);
+                tell_places(&mut self.places, entries, at);
+                self.front = front_from(entries, self.front.min(at));
                 true
             }
             None => false,
@@ -120,6 +127,24 @@ impl Line {
         if let Some(at) = self.place_of(Item::Ran(run)) {
             self.entries[at as usize].touch(run, device);
         }
+    }
+
+    /// The run, where it is in the line, has ended, and stays there. Takes no memory.
+    pub fn settle(&mut self, run: RunNo)
+        ensures marks { self.new.marks ≡ settling run.0 self.old.marks }
+        ensures spare { self.new.spare ≡ self.old.spare }
+    {
+        if let Some(at) = self.place_of(Item::Ran(run)) {
+            self.entries[at as usize].settle();
+            self.front = front_from(self.entries.as_slice(), self.front);
+        }
+    }
+
+    /// How many items stand before the first run that has not ended: all where there is none. Looks at no item.
+    pub fn front(&self) -> u32
+        ensures { result ≡ front_of self.now.marks }
+    {
+        self.front
     }
 
     /// The place of an item, counted from 0; no item stands twice. `None` where it is not in the line.
@@ -199,6 +224,21 @@ impl Line {
             None => false,
         }
     }
+}
+
+/// The number of items before the first run that has not ended, which is no smaller than `from`.
+fn front_from(entries: &[Entry], from: u32) -> u32
+    requires few { length entries.now < 2 ^ 32 }
+    requires from { from ≤ front_of entries.now }
+    ensures { result ≡ front_of entries.now }
+{
+    let count = entries.len() as u32;
+    'items: for at in from..count {
+        if entries[at as usize].is_open() {
+            return at;
+        }
+    }
+    count
 }
 
 /// Each run from this place on is told its place; those before it have theirs, and those that are not in the line none.

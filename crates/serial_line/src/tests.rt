@@ -28,6 +28,9 @@ fn restart_behind_the_run(rt: HostRuntime) -> Result<(), NoMemory> {
     assert!(rt; line.place_of(Item::Ran(A)).is_some());
     assert!(rt; line.touched(A, LAMP));
     assert!(rt; line.last_on(LAMP) == Some(2));
+    assert!(rt; line.front() == 1);
+    line.settle(A);
+    assert!(rt; line.front() == 3 && line.len() == 3);
     assert!(rt; line.get(0) == Some(Item::Failed(LAMP, 1)));
     assert!(rt; line.place_of(Item::Ran(A)) == Some(1));
     assert!(rt; line.remove(A) && line.len() == 2);

@@ -1,5 +1,6 @@
 pub mod Found
 pub mod LineRuns
+pub mod Fronts
 pub mod StrictWaits
 pub mod DownDevices
 pub mod OwnModel

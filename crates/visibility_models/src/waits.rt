@@ -1,7 +1,7 @@
-ghost use Rattle.std.specs.Prelude.{◌≡◌, IsTrue, None};
+ghost use Rattle.std.specs.Prelude.{◌≡◌, IsTrue, None, drop};
 ghost use Rattle.command_rules.specs.Items.{is_ran};
 ghost use Rattle.command_rules.specs.Rosters.{is_run, runs_of};
-ghost use Rattle.serial_line.specs.Marks.{items_of};
+ghost use Rattle.serial_line.specs.Marks.{front_of, items_of};
 ghost use Rattle.visibility_models.specs.Models.{IsStrictWaitOf, MayAsk};
 ghost use Rattle.visibility_models.specs.Searches.{AreRunsOf, IsRunOf, bars, first_unended_before, unended_run};
 
@@ -27,14 +27,16 @@ pub fn may_go(model: Visibility, s: &Standing, r: RunNo) -> Option<RunNo>
     }
 }
 
-/// The first run before `r` in the line that has not ended, and for which the model lets `r` wait.
+/// The first run before `r` in the line that has not ended, and for which the model lets `r` wait. The search begins at
+/// the first run of the line that has not ended: before it there is none.
 #[tactic(auto, using(crate::proofs::Found::left_at))]
 fn find_unended(model: Visibility, s: &Standing, r: RunNo) -> Option<RunNo>
     requires run { IsTrue (is_run (runs_of s.now.roster.now) r.0) }
     requires known { AreRunsOf (runs_of s.now.roster.now) (items_of s.now.line.now.marks) }
+    requires past { first_unended_before (bars model (runs_of s.now.roster.now) r.0) s.now.book.now.items r.0 (items_of s.now.line.now.marks) ≡ first_unended_before (bars model (runs_of s.now.roster.now) r.0) s.now.book.now.items r.0 (drop (front_of s.now.line.now.marks) (items_of s.now.line.now.marks)) }
     ensures { result ≡ first_unended_before (bars model (runs_of s.now.roster.now) r.0) s.now.book.now.items r.0 (items_of s.now.line.now.marks) }
 {
-    'items: for at in 0..s.line.len() {
+    'items: for at in s.line.front()..s.line.len() {
         let item = s.line.get(at).unwrap();
         if is_ran(r, item) {
             return None;

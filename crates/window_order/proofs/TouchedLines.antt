@@ -20,16 +20,16 @@ use Rattle.home_types.specs.declared.items.Item.TheVariants.{Back, Failed, Ran}
 use Rattle.home_types.specs.declared.items.Item.{Item}
 use Rattle.lock_leasing.specs.Configurations.{Commands, Grip, Grips, Undoes, grips_command, is_command, no_grips}
 use Rattle.lock_leasing.specs.Places.{GripsFit}
-use Rattle.lock_leasing.specs.Standings.{item_has_touched}
+use Rattle.lock_leasing.specs.Standings.{has_ended, item_has_touched}
 use Rattle.lock_leasing.specs.Words.{has_touched}
-use Rattle.serial_line.proofs.Ties.{line_empty, line_inserted, line_removed, line_retold, line_touching, run_comes}
-use Rattle.serial_line.specs.Marks.{Mark, stands, touching, with_item, without}
+use Rattle.serial_line.proofs.Ties.{line_empty, line_inserted, line_removed, line_retold, line_settling, line_touching, run_comes}
+use Rattle.serial_line.specs.Marks.{Mark, settling, stands, touching, with_item, without}
 use Rattle.serial_line.specs.Ties.{IsLineOf}
-use Rattle.std.proofs.Common.{ap, ap₂, arith, refl, subst, sym, ◌∙◌}
+use Rattle.std.proofs.Common.{ap, ap₂, arith, cond, refl, subst, sym, ◌∙◌}
 use Rattle.std.proofs.lemmas.Grind.{common_steps}
 use Rattle.std.specs.List.{list_any}
 use Rattle.std.specs.Option.{option_or}
-use Rattle.std.specs.Prelude.{Bool, List, None, Option, Some, [], false, if◌then◌else◌, is_none, is_some, not, option_map, true, unwrap_or, ℕ, ◌&&◌, ◌==◌, ◌||◌, ◌≡◌, ◌≢◌}
+use Rattle.std.specs.Prelude.{Bool, List, None, Option, Some, [], false, filter, if◌then◌else◌, is_none, is_some, not, option_map, true, unwrap_or, ℕ, ◌&&◌, ◌==◌, ◌||◌, ◌∷◌, ◌≡◌, ◌≢◌}
 use Rattle.window_order.proofs.AnsweredTables.{answered_run}
 use Rattle.window_order.proofs.Grips.{HoldsNone}
 use Rattle.window_order.proofs.ReadFacts.{IsRead}
@@ -37,11 +37,11 @@ use Rattle.window_order.proofs.Steps.{IsOut, unplaced_holds}
 use Rattle.window_order.specs.MarksKept.{MarksAreKept}
 
 pub marks_begin : (w : Setting) → MarksAreKept (nothing_read w) no_grips []
-marks_begin w = line_empty (item_has_touched (nothing_read w) no_grips)
+marks_begin w = line_empty (item_has_touched (nothing_read w) no_grips) (has_ended (nothing_read w))
 
--- where the line and what each run has touched stay
-pub marks_same : (n m : Reading) (g f : Grips) (marks : List Mark) → m.line ≡ n.line → ((r d : ℕ) → has_touched m f r d ≡ has_touched n g r d) → MarksAreKept n g marks → MarksAreKept m f marks
-marks_same n m g f marks line same kept = subst (λ l. IsLineOf l (item_has_touched m f) marks) (sym line) (line_retold kept (λ i d there. each i d))
+-- where the line, what each run has touched and which have ended stay
+pub marks_same : (n m : Reading) (g f : Grips) (marks : List Mark) → m.line ≡ n.line → ((r d : ℕ) → has_touched m f r d ≡ has_touched n g r d) → ((r : ℕ) → has_ended m r ≡ has_ended n r) → MarksAreKept n g marks → MarksAreKept m f marks
+marks_same n m g f marks line same ends kept = subst (λ l. IsLineOf l (item_has_touched m f) (has_ended m) marks) (sym line) (line_retold kept (λ i d there. each i d) (λ r there. sym (ends r)))
   where
     each : (i : Item) (d : ℕ) → item_has_touched n g i d ≡ item_has_touched m f i d
     each (Ran r) d = sym (same r.0 d)
@@ -50,17 +50,38 @@ marks_same n m g f marks line same kept = subst (λ l. IsLineOf l (item_has_touc
 
 -- a run arrives
 pub marks_arrived : (w : Setting) (n : Reading) (g : Grips) (r m : ℕ) (marks : List Mark) → MarksAreKept n g marks → MarksAreKept (entry w n (Arrived (run_no r) m)) g marks
-marks_arrived w n g r m marks kept = marks_same n (entry w n (Arrived (run_no r) m)) g g marks refl (λ q d. ap (λ b. b || grips_command g q d) (put_keeps (λ o. is_some (o.on d).view) n.run r _ refl q)) kept
+marks_arrived w n g r m marks kept = marks_same n (entry w n (Arrived (run_no r) m)) g g marks refl (λ q d. ap (λ b. b || grips_command g q d) (put_keeps (λ o. is_some (o.on d).view) n.run r _ refl q)) (put_keeps (λ o. is_some o.ended) n.run r _ refl) kept
 
 -- a run commits
-pub marks_committed : (w : Setting) (n : Reading) (g : Grips) (r : ℕ) (marks : List Mark) → MarksAreKept n g marks → MarksAreKept (entry w n (Ended (run_no r) Committed)) g marks
-marks_committed w n g r marks kept = marks_same n (entry w n (Ended (run_no r) Committed)) g g marks refl (λ q d. ap (λ b. b || grips_command g q d) (put_keeps (λ o. is_some (o.on d).view) n.run r _ refl q)) kept
+pub marks_committed : (w : Setting) (n : Reading) (g : Grips) (r : ℕ) (marks : List Mark) → MarksAreKept n g marks → MarksAreKept (entry w n (Ended (run_no r) Committed)) g (settling r marks)
+marks_committed w n g r marks kept = line_settling r touches also
+  where
+    next : Reading
+    next = entry w n (Ended (run_no r) Committed)
+
+    touches : IsLineOf n.line (item_has_touched next g) (has_ended n) marks
+    touches = line_retold kept (λ i d there. each i d) (λ q there. refl)
+      where
+        each : (i : Item) (d : ℕ) → item_has_touched n g i d ≡ item_has_touched next g i d
+        each (Ran q) d = sym (ap (λ b. b || grips_command g q.0 d) (put_keeps (λ o. is_some (o.on d).view) n.run r _ refl q.0))
+        each (Failed e k) d = refl
+        each (Back e k) d = refl
+
+    also : (q : ℕ) → has_ended next q ≡ ((q == r) || has_ended n q)
+    also q = at_ (q == r)
+      where
+        new : OfRun
+        new = record (n.run r) { ended = Some Committed }
+
+        at_ : (b : Bool) → is_some (if b then new else n.run q).ended ≡ (b || has_ended n q)
+        at_ true = refl
+        at_ false = refl
 
 -- a run is placed: it has touched nothing
 pub marks_placed : (w : Setting) (n : Reading) (g : Grips) (r at m : ℕ) (marks : List Mark) → IsRead w n → GripsFit w n g → may_follow w n (Placed (run_no r) at m) ≡ true → MarksAreKept n g marks
     → MarksAreKept (entry w n (Placed (run_no r) at m)) g (with_item at (Ran (run_no r)) marks)
 unfolding split_of
-marks_placed w n g r at m marks read fit may kept = line_inserted at (Ran (run_no r)) told (run_comes (item_has_touched next g) (run_no r) untouched)
+marks_placed w n g r at m marks read fit may kept = line_inserted at (Ran (run_no r)) told (run_comes (item_has_touched next g) (run_no r) untouched) lives
   where
     next : Reading
     next = entry w n (Placed (run_no r) at m)
@@ -71,8 +92,11 @@ marks_placed w n g r at m marks read fit may kept = line_inserted at (Ran (run_n
     same : (q d : ℕ) → has_touched next g q d ≡ has_touched n g q d
     same q d = ap (λ b. b || grips_command g q d) (put_keeps (λ o. is_some (o.on d).view) n.run r new refl q)
 
-    told : IsLineOf n.line (item_has_touched next g) marks
-    told = line_retold kept (λ i d there. each i d)
+    ends : (q : ℕ) → has_ended next q ≡ has_ended n q
+    ends q = put_keeps (λ o. is_some o.ended) n.run r new refl q
+
+    told : IsLineOf n.line (item_has_touched next g) (has_ended next) marks
+    told = line_retold kept (λ i d there. each i d) (λ q there. sym (ends q))
       where
         each : (i : Item) (d : ℕ) → item_has_touched n g i d ≡ item_has_touched next g i d
         each (Ran q) d = sym (same q.0 d)
@@ -105,6 +129,9 @@ marks_placed w n g r at m marks read fit may kept = line_inserted at (Ran (run_n
         at_ : (o : Option Grip) → g d ≡ o → unwrap_or (option_map (λ p. (p.maker == r) && is_command p.purpose) o) false ≡ false
         at_ None e = refl
         at_ (Some grip) e = by_maker grip e (grip.maker == r) refl
+
+    lives : has_ended next r ≡ false
+    lives = ends r ∙ ap is_some ((read.shaped r).going none)
 
     untouched : (d : ℕ) → item_has_touched next g (Ran (run_no r)) d ≡ false
     untouched d = same r d ∙ (λ i. is_some ((read.shaped r).clear none d i).view || ungripped d i)
@@ -139,7 +166,7 @@ marks_out n g r d k marks home kept = line_touching r d kept also
 
 -- a command that was out is answered: its run has touched the device as before
 pub marks_answered : (w : Setting) (n : Reading) (g : Grips) (d r k : ℕ) (a : Answer) (marks : List Mark) → IsOut w n d r k → g d ≡ Some (record { maker = r; purpose = Commands k }) → MarksAreKept n g marks → MarksAreKept (entry w n (Did (run_no r) k a)) (put g d None) marks
-marks_answered w n g d r k a marks out at kept = marks_same n (entry w n (Did (run_no r) k a)) g (put g d None) marks refl same kept
+marks_answered w n g d r k a marks out at kept = marks_same n (entry w n (Did (run_no r) k a)) g (put g d None) marks refl same (put_keeps (λ o. is_some o.ended) n.run r _ refl) kept
   where
     next : Reading
     next = entry w n (Did (run_no r) k a)
@@ -213,11 +240,11 @@ marks_answered w n g d r k a marks out at kept = marks_same n (entry w n (Did (r
 
 -- a run is doomed
 pub marks_doomed : (w : Setting) (n : Reading) (g : Grips) (r : ℕ) (cause : Cause) (marks : List Mark) → MarksAreKept n g marks → MarksAreKept (entry w n (Doomed (run_no r) cause)) g marks
-marks_doomed w n g r cause marks kept = marks_same n (entry w n (Doomed (run_no r) cause)) g g marks refl (λ q d. ap (λ b. b || grips_command g q d) (put_keeps (λ o. is_some (o.on d).view) n.run r _ refl q)) kept
+marks_doomed w n g r cause marks kept = marks_same n (entry w n (Doomed (run_no r) cause)) g g marks refl (λ q d. ap (λ b. b || grips_command g q d) (put_keeps (λ o. is_some (o.on d).view) n.run r _ refl q)) (put_keeps (λ o. is_some o.ended) n.run r _ refl) kept
 
 -- a device goes out for an undo, which is no touch, or comes home from one
 pub marks_undo_out : (n : Reading) (g : Grips) (r d v : ℕ) (marks : List Mark) → g d ≡ None → MarksAreKept n g marks → MarksAreKept n (put g d (Some (record { maker = r; purpose = Undoes v }))) marks
-marks_undo_out n g r d v marks home kept = marks_same n n g (put g d (Some (record { maker = r; purpose = Undoes v }))) marks refl (λ q e. ap (λ b. did n q e || b) (put_keeps (λ o. unwrap_or (option_map (λ p. (p.maker == q) && is_command p.purpose) o) false) g d _ (none q ∙ sym (ap (λ o. unwrap_or (option_map (λ p. (p.maker == q) && is_command p.purpose) o) false) home)) e)) kept
+marks_undo_out n g r d v marks home kept = marks_same n n g (put g d (Some (record { maker = r; purpose = Undoes v }))) marks refl (λ q e. ap (λ b. did n q e || b) (put_keeps (λ o. unwrap_or (option_map (λ p. (p.maker == q) && is_command p.purpose) o) false) g d _ (none q ∙ sym (ap (λ o. unwrap_or (option_map (λ p. (p.maker == q) && is_command p.purpose) o) false) home)) e)) (λ q. refl) kept
   where
     off : (b : Bool) → (b && false) ≡ false
     off true = refl
@@ -227,7 +254,7 @@ marks_undo_out n g r d v marks home kept = marks_same n n g (put g d (Some (reco
     none q = off (r == q)
 
 pub marks_undo_home : (n : Reading) (g : Grips) (r d v : ℕ) (marks : List Mark) → g d ≡ Some (record { maker = r; purpose = Undoes v }) → MarksAreKept n g marks → MarksAreKept n (put g d None) marks
-marks_undo_home n g r d v marks out kept = marks_same n n g (put g d None) marks refl (λ q e. ap (λ b. did n q e || b) (put_keeps (λ o. unwrap_or (option_map (λ p. (p.maker == q) && is_command p.purpose) o) false) g d None (sym (ap (λ o. unwrap_or (option_map (λ p. (p.maker == q) && is_command p.purpose) o) false) out ∙ off (r == q))) e)) kept
+marks_undo_home n g r d v marks out kept = marks_same n n g (put g d None) marks refl (λ q e. ap (λ b. did n q e || b) (put_keeps (λ o. unwrap_or (option_map (λ p. (p.maker == q) && is_command p.purpose) o) false) g d None (sym (ap (λ o. unwrap_or (option_map (λ p. (p.maker == q) && is_command p.purpose) o) false) out ∙ off (r == q))) e)) (λ q. refl) kept
   where
     off : (b : Bool) → (b && false) ≡ false
     off true = refl
@@ -235,11 +262,11 @@ marks_undo_home n g r d v marks out kept = marks_same n n g (put g d None) marks
 
 -- a run is undone on a device
 pub marks_undone : (w : Setting) (n : Reading) (g : Grips) (r d : ℕ) (drove : Bool) (marks : List Mark) → MarksAreKept n g marks → MarksAreKept (entry w n (Undid (run_no r) (device_no d) drove)) g marks
-marks_undone w n g r d drove marks kept = marks_same n (entry w n (Undid (run_no r) (device_no d) drove)) g g marks refl (λ q e. ap (λ b. b || grips_command g q e) (put_keeps (λ o. is_some (o.on e).view) n.run r _ (put_keeps (λ x. is_some x.view) (n.run r).on d _ refl e) q)) kept
+marks_undone w n g r d drove marks kept = marks_same n (entry w n (Undid (run_no r) (device_no d) drove)) g g marks refl (λ q e. ap (λ b. b || grips_command g q e) (put_keeps (λ o. is_some (o.on e).view) n.run r _ (put_keeps (λ x. is_some x.view) (n.run r).on d _ refl e) q)) (put_keeps (λ o. is_some o.ended) n.run r _ refl) kept
 
 -- a run is aborted: its mark leaves
 pub marks_aborted : (w : Setting) (n : Reading) (g : Grips) (r : ℕ) (cause : Cause) (marks : List Mark) → MarksAreKept n g marks → MarksAreKept (entry w n (Ended (run_no r) (Aborted cause))) g (without r marks)
-marks_aborted w n g r cause marks kept = line_retold (line_removed r kept) (λ i d there. each i d)
+marks_aborted w n g r cause marks kept = line_retold (line_removed r kept) (λ i d there. each i d) (λ q there. sym (ends q (gone n.line q there)))
   where
     next : Reading
     next = entry w n (Ended (run_no r) (Aborted cause))
@@ -248,6 +275,28 @@ marks_aborted w n g r cause marks kept = line_retold (line_removed r kept) (λ i
     each (Ran q) d = sym (ap (λ b. b || grips_command g q.0 d) (put_keeps (λ o. is_some (o.on d).view) n.run r _ refl q.0))
     each (Failed e k) d = refl
     each (Back e k) d = refl
+
+    -- it is another run that is left
+    gone : (is : List Item) (q : ℕ) → list_any (is_ran q) (filter (λ i. not (is_ran r i)) is) ≡ true → (q == r) ≡ false
+    gone [] q there = absurd (cc)
+    gone (i ∷ is) q there = one (is_ran r i) refl (is_ran q i) refl (gone is q) there
+      where
+        other : (j : Item) → is_ran r j ≡ false → is_ran q j ≡ true → (q == r) ≡ false
+        other (Ran x) e f = grind (arith, common_steps)
+        other (Failed d k) e f = absurd (cc)
+        other (Back d k) e f = absurd (cc)
+
+        one : (b : Bool) → is_ran r i ≡ b → (c : Bool) → is_ran q i ≡ c → (list_any (is_ran q) (filter (λ j. not (is_ran r j)) is) ≡ true → (q == r) ≡ false)
+            → list_any (is_ran q) (cond (not b) (i ∷ filter (λ j. not (is_ran r j)) is) (filter (λ j. not (is_ran r j)) is)) ≡ true → (q == r) ≡ false
+        one true e c f rest h = rest h
+        one false e true f rest h = other i e f
+        one false e false f rest h = rest (sym (ap (λ x. x || list_any (is_ran q) (filter (λ j. not (is_ran r j)) is)) f) ∙ h)
+
+    ends : (q : ℕ) → (q == r) ≡ false → has_ended next q ≡ has_ended n q
+    ends q other = ap (λ (o : OfRun). is_some o.ended) (put_other n.run r _ q (differ q r other))
+      where
+        differ : (a b : ℕ) → (a == b) ≡ false → a ≢ b
+        differ a b h = grind (arith, common_steps)
 
 -- What the line asks for
 

@@ -2,7 +2,7 @@
 use Rattle.command_rules.specs.Items.{is_ran, of_run}
 use Rattle.command_rules.specs.Rosters.{command_at, run_no}
 use Rattle.history_book.proofs.Searches.{some_is}
-use Rattle.history_book.proofs.Snoc.{put_other, put_same}
+use Rattle.history_book.proofs.Snoc.{put_keeps, put_other, put_same}
 use Rattle.history_book.specs.Histories.{answered, entry}
 use Rattle.history_book.specs.Lines.{put_before}
 use Rattle.history_book.specs.Readings.{OfRun, OnDevice, Reading, did, is_doomed, is_live, pends, put, view_by}
@@ -18,7 +18,7 @@ use Rattle.home_types.specs.declared.items.Item.{Item}
 use Rattle.home_types.specs.declared.numbers.DeviceNo.{DeviceNo}
 use Rattle.lock_leasing.specs.Configurations.{Commands, Grips, Probes, grips_command}
 use Rattle.lock_leasing.specs.Places.{up_to_first}
-use Rattle.lock_leasing.specs.Standings.{item_has_touched}
+use Rattle.lock_leasing.specs.Standings.{has_ended, item_has_touched}
 use Rattle.lock_leasing.specs.Words.{live_runs}
 use Rattle.serial_line.proofs.Ties.{line_inserted, line_retold, line_touching}
 use Rattle.serial_line.specs.Marks.{Mark, is_item, place_of, stands, touching, untouched, with_item}
@@ -163,8 +163,8 @@ event_touches touched x e own tells d = ap (λ s. set.contains s d) own ∙ cont
     turned y z = grind (arith, common_steps)
 
 -- the runs have touched what they had
-same_runs : (n m : Reading) (g : Grips) (marks : List Mark) → m.run ≡ n.run → MarksAreKept n g marks → IsLineOf n.line (item_has_touched m g) marks
-same_runs n m g marks run kept = line_retold kept (λ i d there. each i d)
+same_runs : (n m : Reading) (g : Grips) (marks : List Mark) → m.run ≡ n.run → MarksAreKept n g marks → IsLineOf n.line (item_has_touched m g) (has_ended m) marks
+same_runs n m g marks run kept = line_retold kept (λ i d there. each i d) (λ q there. λ i. is_some ((sym run i) q).ended)
   where
     each : (i : Item) (d : ℕ) → item_has_touched n g i d ≡ item_has_touched m g i d
     each (Ran q) d = λ i. is_some (((sym run i) q.0).on d).view || grips_command g q.0 d
@@ -174,8 +174,8 @@ same_runs n m g marks run kept = line_retold kept (λ i d there. each i d)
 -- a device fails
 pub marks_fell : (w : Setting) (n : Reading) (g : Grips) (d : DeviceNo) (marks : List Mark) → MarksAreKept n g marks → MarksAreKept (entry w n (Fell d)) g (with_item (event_place_of w n d.0) (Failed d (n.fell d.0 + 1)) marks)
 marks_fell w n g d marks kept =
-    subst (λ l. IsLineOf l (item_has_touched (entry w n (Fell d)) g) (with_item (event_place_of w n d.0) x marks)) (sym (put_at (of_run (awaits_there w n d.0)) x n.line))
-    (line_inserted (event_place_of w n d.0) x (same_runs n (entry w n (Fell d)) g marks refl kept) (event_touches (item_has_touched (entry w n (Fell d)) g) x d refl (λ e. refl)))
+    subst (λ l. IsLineOf l (item_has_touched (entry w n (Fell d)) g) (has_ended (entry w n (Fell d))) (with_item (event_place_of w n d.0) x marks)) (sym (put_at (of_run (awaits_there w n d.0)) x n.line))
+    (line_inserted (event_place_of w n d.0) x (same_runs n (entry w n (Fell d)) g marks refl kept) (event_touches (item_has_touched (entry w n (Fell d)) g) x d refl (λ e. refl)) refl)
   where
     x : Item
     x = Failed d (n.fell d.0 + 1)
@@ -183,8 +183,8 @@ marks_fell w n g d marks kept =
 -- .. or comes back
 pub marks_rose : (w : Setting) (n : Reading) (g : Grips) (d : DeviceNo) (marks : List Mark) → MarksAreKept n g marks → MarksAreKept (entry w n (Rose d)) g (with_item (event_place_of w n d.0) (Back d (n.rose d.0 + 1)) marks)
 marks_rose w n g d marks kept =
-    subst (λ l. IsLineOf l (item_has_touched (entry w n (Rose d)) g) (with_item (event_place_of w n d.0) x marks)) (sym (put_at (of_run (awaits_there w n d.0)) x n.line))
-    (line_inserted (event_place_of w n d.0) x (same_runs n (entry w n (Rose d)) g marks refl kept) (event_touches (item_has_touched (entry w n (Rose d)) g) x d refl (λ e. refl)))
+    subst (λ l. IsLineOf l (item_has_touched (entry w n (Rose d)) g) (has_ended (entry w n (Rose d))) (with_item (event_place_of w n d.0) x marks)) (sym (put_at (of_run (awaits_there w n d.0)) x n.line))
+    (line_inserted (event_place_of w n d.0) x (same_runs n (entry w n (Rose d)) g marks refl kept) (event_touches (item_has_touched (entry w n (Rose d)) g) x d refl (λ e. refl)) refl)
   where
     x : Item
     x = Back d (n.rose d.0 + 1)
@@ -219,7 +219,7 @@ restart_absent w n g d marks read kept = ap (list_any (is_item (Back d (n.rose d
 
 -- the run touches the device of its command by the answer
 pub marks_told : (w : Setting) (n : Reading) (g : Grips) (r k : ℕ) (a : Answer) (marks : List Mark) → MarksAreKept n g marks → MarksAreKept (entry w n (Did (run_no r) k a)) g (touching r (command_at w.runs r k).device.0 marks)
-marks_told w n g r k a marks kept = line_touching r d kept also
+marks_told w n g r k a marks kept = line_touching r d ends also
   where
     c : Command
     c = command_at w.runs r k
@@ -262,6 +262,9 @@ marks_told w n g r k a marks kept = line_touching r d kept also
     ran q e true h = tells (did next q e) (grips_command g q e) (did n q e) (e == d) (ap (λ y. did next y e) (equal q r h) ∙ own e ∙ own_told e (e == d) refl ∙ ap (λ y. (e == d) || did n y e) (sym (equal q r h)))
     ran q e false h = stays (did next q e) (grips_command g q e) (did n q e) (e == d) (ap (λ (o : OfRun). is_some (o.on e).view) (put_other n.run r _ q (differ q r h)))
 
+    ends : IsLineOf n.line (item_has_touched n g) (has_ended next) marks
+    ends = line_retold kept (λ i e there. refl) (λ q there. sym (put_keeps (λ o. is_some o.ended) n.run r _ refl q))
+
     also : (i : Item) (e : ℕ) → item_has_touched next g i e ≡ ((is_ran r i && (e == d)) || item_has_touched n g i e)
     also (Ran q) e = ran q.0 e (q.0 == r) refl
     also (Failed y j) e = refl
@@ -271,8 +274,8 @@ marks_told w n g r k a marks kept = line_touching r d kept also
 
 -- it is no touch that a device goes out for a probe, ..
 pub marks_probe_out : (n : Reading) (g : Grips) (d m : ℕ) (v : Option ℕ) (marks : List Mark) → g d ≡ None → MarksAreKept n g marks → MarksAreKept n (put g d (Some (record { maker = m; purpose = Probes v }))) marks
-marks_probe_out n g d m v marks home kept = marks_same n n g (put g d (Some (record { maker = m; purpose = Probes v }))) marks refl (λ q e. ap (λ b. did n q e || b) (probe_out_grip g d m v home e q).command) kept
+marks_probe_out n g d m v marks home kept = marks_same n n g (put g d (Some (record { maker = m; purpose = Probes v }))) marks refl (λ q e. ap (λ b. did n q e || b) (probe_out_grip g d m v home e q).command) (λ q. refl) kept
 
 -- .. and that it comes home from one
 pub marks_probe_home : (n : Reading) (g : Grips) (d m : ℕ) (v : Option ℕ) (marks : List Mark) → g d ≡ Some (record { maker = m; purpose = Probes v }) → MarksAreKept n g marks → MarksAreKept n (put g d None) marks
-marks_probe_home n g d m v marks out kept = marks_same n n g (put g d None) marks refl (λ q e. ap (λ b. did n q e || b) (probe_home_grip g d m v out e q).command) kept
+marks_probe_home n g d m v marks out kept = marks_same n n g (put g d None) marks refl (λ q e. ap (λ b. did n q e || b) (probe_home_grip g d m v out e q).command) (λ q. refl) kept

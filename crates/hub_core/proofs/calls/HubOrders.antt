@@ -48,7 +48,7 @@ use Rattle.lineage_table.specs.Accesses.{IsDisciplined}
 use Rattle.lineage_table.specs.Lineages.{LineageState, accesses_at, committed_lineage, lineage_at, removed, undone, with_lineage}
 use Rattle.lock_leasing.specs.Configurations.{Commands, Configuration, Grip, Grips, Probes, Purpose, Undoes, is_command, is_undo, read_of}
 use Rattle.lock_leasing.specs.Standings.{IsRosterFor, IsStandingOf}
-use Rattle.serial_line.specs.Marks.{Mark, Marked, items_of, stands, touching, with_item, without}
+use Rattle.serial_line.specs.Marks.{Mark, Marked, items_of, settling, stands, touching, with_item, without}
 use Rattle.std.proofs.Common.{ap, ap₂, arith, length-append, refl, subst, sym, ◌∙◌}
 use Rattle.std.proofs.lemmas.Grind.{common_steps}
 use Rattle.std.proofs.lemmas.List.{length-map}
@@ -187,10 +187,10 @@ joins_whole h t r m enters joined k = entered_whole h t r m _ Going enters (λ f
 
 -- A run ends
 
-pub commits_whole : {D : Type 0} {stands turns probes faults : D → ℕ} (h t : Inside D) (r m : ℕ) → IsEntered h t r m (Ended (run_no r) Committed ∷ []) (Ending Committed) → t.order.line ≡ h.order.line → ChangesEach (λ d. committed_lineage r) h.order.table t.order.table
+pub commits_whole : {D : Type 0} {stands turns probes faults : D → ℕ} (h t : Inside D) (r m : ℕ) → IsEntered h t r m (Ended (run_no r) Committed ∷ []) (Ending Committed) → t.order.line.marks ≡ settling r h.order.line.marks → t.order.line.spare ≡ h.order.line.spare → ChangesEach (λ d. committed_lineage r) h.order.table t.order.table
     → IsWhole stands turns probes faults h → IsWhole stands turns probes faults t
-commits_whole h t r m enters line table k = entered_whole h t r m _ (Ending Committed) enters (λ formed.
-    order_committed h.history _ _ r h.order.line t.order.line h.order.table t.order.table (read_whole h k) k.shown.configuration.order.grips refl formed line table k.order) k
+commits_whole h t r m enters marks spare table k = entered_whole h t r m _ (Ending Committed) enters (λ formed.
+    order_committed h.history _ _ r h.order.line t.order.line h.order.table t.order.table (read_whole h k) k.shown.configuration.order.grips refl formed marks spare table k.order) k
 
 -- the run has left the line, and has no access any more
 pub record IsWithdrawn {D : Type 0} (h t : Inside D) (r : ℕ) : Type 0 where

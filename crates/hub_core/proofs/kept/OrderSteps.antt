@@ -30,7 +30,7 @@ use Rattle.lineage_table.specs.Accesses.{is_scheduled, status_of}
 use Rattle.lineage_table.specs.Lineages.{IsOpened, LineageState, committed_lineage, lineage_at, removed, undone, with_lineage}
 use Rattle.lineage_table.specs.declared.accesses.Status.TheVariants.{Acquired, Scheduled}
 use Rattle.lock_leasing.specs.Configurations.{Commands, Grip, Grips, Purpose, Undoes, grips_command, is_command, no_grips}
-use Rattle.serial_line.specs.Marks.{Mark, Marked, items_of, touching, untouched, with_item, with_touch, without}
+use Rattle.serial_line.specs.Marks.{Mark, Marked, items_of, settling, touching, untouched, with_end, with_item, with_touch, without}
 use Rattle.std.proofs.Common.{ap, arith, cond, length-append, refl, subst, sym, ◌∙◌}
 use Rattle.hub_core.proofs.kept.Sizes.{count_cons, one_at_most}
 use Rattle.std.proofs.lemmas.List.{length-map, take-append-drop}
@@ -128,12 +128,12 @@ order_placed {rounds = rounds} h h₂ g r at m line after table later read fit f
 -- A run commits
 
 pub order_committed : {rounds : ℕ} (h h₂ : HistoryState) (g : Grips) (r : ℕ) (line after : Marked) (table later : List LineageState) → IsRead h.setting (read_in h) → GripsFit h.setting (read_in h) g → h₂ ≡ with_entry h r (Ended (run_no r) Committed) → IsWellFormed h₂.setting (entries_of h₂.history)
-    → after ≡ line → ChangesEach (λ d. committed_lineage r) table later → OrderIsBeside rounds h g line table → OrderIsBeside rounds h₂ g after later
-order_committed {rounds = rounds} h h₂ g r line after table later read fit new formed same changes kept = entry_kept h h₂ g r (Ended (run_no r) Committed) after later new (subst (λ (x : Marked). IsOrderOf rounds w (entry w n (Ended (run_no r) Committed)) g x later) (sym same) (record {
+    → after.marks ≡ settling r line.marks → after.spare ≡ line.spare → ChangesEach (λ d. committed_lineage r) table later → OrderIsBeside rounds h g line table → OrderIsBeside rounds h₂ g after later
+order_committed {rounds = rounds} h h₂ g r line after table later read fit new formed marks spare changes kept = entry_kept h h₂ g r (Ended (run_no r) Committed) after later new (record {
   table_is = committed_table w n g r table later read fit may changes kept.table_is;
-  line_is = marks_committed w n g r line.marks kept.line_is;
-  room = omega (arith, kept.room);
-}))
+  line_is = subst (MarksAreKept (entry w n (Ended (run_no r) Committed)) g) (sym marks) (marks_committed w n g r line.marks kept.line_is);
+  room = let size = ap (λ (x : List Mark). length x) marks ∙ length-map line.marks (with_end r) in omega (arith, size, spare, kept.room);
+})
   where
     w : Setting
     w = h.setting

@@ -8,5 +8,6 @@ invariant_of-result c = record {
   once = search rules;
   room = search rules;
   few = search rules;
+  front = search rules;
   places = subst (λ ms. ArePlaces ms (replicate 65 None)) (sym c.new.ensures.items) (no_places 65);
 }
