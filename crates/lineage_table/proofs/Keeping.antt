@@ -108,7 +108,7 @@ none_behind r x (y ∷ b) o h = step r x y (has_access r b) o h.0 (none_behind r
     step : (r : ℕ) (x y : Access) (q : Bool) → is_of r x ≡ true → AreOfTwoRuns x y → q ≡ false → (is_of r y || q) ≡ false
     step r x y q o h n = grind (arith, common_steps)
 
-rest : (R : Access → Access → Type 0) (a : List Access) (x : Access) (b : List Access) → Pairs R (a ++ x ∷ b) → AllByRecursion (R x) b
+pub rest : (R : Access → Access → Type 0) (a : List Access) (x : Access) (b : List Access) → Pairs R (a ++ x ∷ b) → AllByRecursion (R x) b
 unfolding Pairs
 rest R a x b h = (pairs_back R a (x ∷ b) h).0
 
@@ -321,11 +321,15 @@ with_accesses s l room = record s { accesses = l; room = room }
 with_all : LineageState → ℕ → List Access → ℕ → LineageState
 with_all s v l room = record s { committed = v; accesses = l; room = room }
 
+-- the accesses with one changed in its place
+pub changed_items : (s now : LineageState) (r i : ℕ) (x : Access) (f : Access → Access) → s ≡ now → position (is_of r) now.accesses ≡ Some i → x ≡ get_or s.accesses i x → slice_set s.accesses i (f x) ≡ with_change r f s.accesses
+changed_items s now r i x f e h is = ap (λ z. slice_set s.accesses i (f z)) is ∙ change_set r i s.accesses x f (ap (λ (t : LineageState). position (is_of r) t.accesses) e ∙ h)
+
 pub changed_state : (s now : LineageState) (r i : ℕ) (x : Access) (f : Access → Access) → s ≡ now → position (is_of r) now.accesses ≡ Some i → x ≡ get_or s.accesses i x
     → record s { accesses = slice_set s.accesses i (f x) } ≡ record now { accesses = with_change r f now.accesses }
 unfolding with_accesses
 changed_state s now r i x f e h is =
-    ap (λ (l : List Access). with_accesses s l s.room) (ap (λ z. slice_set s.accesses i (f z)) is ∙ change_set r i s.accesses x f (ap (λ (t : LineageState). position (is_of r) t.accesses) e ∙ h))
+    ap (λ (l : List Access). with_accesses s l s.room) (changed_items s now r i x f e h is)
     ∙ ap (λ (t : LineageState). with_accesses t (with_change r f t.accesses) t.room) e
 
 change_none : (r : ℕ) (f : Access → Access) (xs : List Access) → has_access r xs ≡ false → with_change r f xs ≡ xs

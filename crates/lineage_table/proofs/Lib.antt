@@ -4,6 +4,7 @@ pub mod Keeping
 pub mod Standing
 pub mod Steps
 pub mod Undoing
+pub mod Writers
 pub mod KeptTables
 pub mod RunSets
 pub mod RunAccesses

@@ -26,14 +26,18 @@ passing_stands r c (x ∷ xs) = at (is_of r x) (λ v. passing_stands r v xs)
     at true h = h c
     at false h = h (unwrap_or x.wrote c)
 
+-- what an access makes after a change as before it, the accesses make so too
+pub change_folds : {B : Type 0} (g : B → Access → B) (r : ℕ) (f : Access → Access) → ((b : B) (x : Access) → g b (f x) ≡ g b x) → (b : B) (xs : List Access) → fold g b (with_change r f xs) ≡ fold g b xs
+change_folds g r f same b [] = refl
+change_folds g r f same b (x ∷ xs) = at (change_folds g r f same (g b x) xs) (is_of r x)
+  where
+    at : fold g (g b x) (with_change r f xs) ≡ fold g (g b x) xs → (t : Bool) → fold g b (if t then (f x ∷ xs) else (x ∷ with_change r f xs)) ≡ fold g b (x ∷ xs)
+    at h true = ap (λ c. fold g c xs) (same b x)
+    at h false = h
+
 -- a change that keeps the written value keeps the value that stands
 pub change_stands : (r : ℕ) (f : Access → Access) → ((x : Access) → (f x).wrote ≡ x.wrote) → (c : ℕ) (xs : List Access) → standing_value c (with_change r f xs) ≡ standing_value c xs
-change_stands r f same c [] = refl
-change_stands r f same c (x ∷ xs) = at (change_stands r f same (unwrap_or x.wrote c) xs) (is_of r x)
-  where
-    at : standing_value (unwrap_or x.wrote c) (with_change r f xs) ≡ standing_value (unwrap_or x.wrote c) xs → (b : Bool) → standing_value c (if b then (f x ∷ xs) else (x ∷ with_change r f xs)) ≡ standing_value c (x ∷ xs)
-    at h true = ap (λ o. standing_value (unwrap_or o c) xs) (same x)
-    at h false = h
+change_stands r f same c xs = change_folds (λ value x. unwrap_or x.wrote value) r f (λ value x. ap (λ o. unwrap_or o value) (same x)) c xs
 
 -- the run's value, with what stands behind it, is what stands
 pub behind_stands : (r : ℕ) (v c : ℕ) (xs : List Access) → written_by r xs ≡ Some v → standing_value v (behind r xs) ≡ standing_value c xs
@@ -61,33 +65,36 @@ is_writer r writer = unwrap_or (option_map (λ q. q.0 == r) writer) false
 abbrev pub writer_from : Option RunNo → List Access → Option RunNo
 writer_from writer xs = fold (λ w x. if is_some x.wrote then Some x.run else w) writer xs
 
--- the list without a run that did not write what stands
-without_from : (r : ℕ) (v u : ℕ) (w : Option RunNo) (xs : List Access) → (is_writer r w ≡ false → u ≡ v) → is_writer r (writer_from w xs) ≡ false → standing_value u (without r xs) ≡ standing_value v xs
-without_from r v u w [] h e = h e
-without_from r v u w (x ∷ xs) h e =
+-- what goes by written values alone goes by the list without a run that did not write last as by the list
+without_from : {B : Type 0} (g : B → Access → B) → ((b : B) (x : Access) → x.wrote ≡ None → g b x ≡ b) → ((b c : B) (x : Access) (k : ℕ) → x.wrote ≡ Some k → g b x ≡ g c x)
+    → (r : ℕ) (v u : B) (w : Option RunNo) (xs : List Access) → (is_writer r w ≡ false → u ≡ v) → is_writer r (writer_from w xs) ≡ false → fold g u (without r xs) ≡ fold g v xs
+without_from g quiet over r v u w [] h e = h e
+without_from g quiet over r v u w (x ∷ xs) h e =
     at (is_of r x) refl
-    (λ q. without_from r (unwrap_or x.wrote v) u (if is_some x.wrote then Some x.run else w) xs (gone x.wrote q) e)
-    (without_from r (unwrap_or x.wrote v) (unwrap_or x.wrote u) (if is_some x.wrote then Some x.run else w) xs (stays x.wrote) e)
+    (λ q. without_from g quiet over r (g v x) u (if is_some x.wrote then Some x.run else w) xs (gone q x.wrote refl) e)
+    (without_from g quiet over r (g v x) (g u x) (if is_some x.wrote then Some x.run else w) xs (stays x.wrote refl) e)
   where
-    gone : (o : Option ℕ) → is_of r x ≡ true → is_writer r (if is_some o then Some x.run else w) ≡ false → u ≡ unwrap_or o v
-    gone None q f = h f
-    gone (Some k) q f = absurd (two (is_of r x) q f)
+    gone : is_of r x ≡ true → (o : Option ℕ) → x.wrote ≡ o → is_writer r (if is_some o then Some x.run else w) ≡ false → u ≡ g v x
+    gone q None i f = h f ∙ sym (quiet v x i)
+    gone q (Some k) i f = absurd (two (is_of r x) q f)
       where
         two : (b : Bool) → b ≡ true → b ≡ false → ⊥
         two b s t = cc
 
-    stays : (o : Option ℕ) → is_writer r (if is_some o then Some x.run else w) ≡ false → unwrap_or o u ≡ unwrap_or o v
-    stays None f = h f
-    stays (Some k) f = refl
+    stays : (o : Option ℕ) → x.wrote ≡ o → is_writer r (if is_some o then Some x.run else w) ≡ false → g u x ≡ g v x
+    stays None i f = quiet u x i ∙ h f ∙ sym (quiet v x i)
+    stays (Some k) i f = over u v x k i
 
-    at : (b : Bool) → is_of r x ≡ b → (is_of r x ≡ true → standing_value u (without r xs) ≡ standing_value (unwrap_or x.wrote v) xs)
-        → standing_value (unwrap_or x.wrote u) (without r xs) ≡ standing_value (unwrap_or x.wrote v) xs
-        → standing_value u (if not b then (x ∷ without r xs) else without r xs) ≡ standing_value v (x ∷ xs)
-    at true q f g = f q
-    at false q f g = g
+    at : (b : Bool) → is_of r x ≡ b → (is_of r x ≡ true → fold g u (without r xs) ≡ fold g (g v x) xs) → fold g (g u x) (without r xs) ≡ fold g (g v x) xs
+        → fold g u (if not b then (x ∷ without r xs) else without r xs) ≡ fold g v (x ∷ xs)
+    at true q f k = f q
+    at false q f k = k
 
 pub without_stands : (r c : ℕ) (xs : List Access) → is_writer r (effective_writer xs) ≡ false → standing_value c (without r xs) ≡ standing_value c xs
-without_stands r c xs e = without_from r c c None xs (λ f. refl) e
+without_stands r c xs e = without_from (λ value x. unwrap_or x.wrote value) (λ b x i. ap (λ o. unwrap_or o b) i) (λ b d x k i. ap (λ o. unwrap_or o b) i ∙ sym (ap (λ o. unwrap_or o d) i)) r c c None xs (λ f. refl) e
+
+pub without_writer : (r : ℕ) (xs : List Access) → is_writer r (effective_writer xs) ≡ false → effective_writer (without r xs) ≡ effective_writer xs
+without_writer r xs e = without_from (λ w x. if is_some x.wrote then Some x.run else w) (λ b x i. ap (λ o. if is_some o then Some x.run else b) i) (λ b d x k i. ap (λ o. if is_some o then Some x.run else b) i ∙ sym (ap (λ o. if is_some o then Some x.run else d) i)) r None None None xs (λ f. refl) e
 
 pub not_writer : (r : RunNo) (w : Option RunNo) → w ≢ Some r → is_writer r.0 w ≡ false
 not_writer r None h = refl
@@ -120,7 +127,7 @@ committed_stands c (x ∷ xs) e = at x.wrote (committed_stands c xs) (some_wrote
     at (Some k) f g e = absurd (g e)
 
 -- the effective writer is that of what stands behind, where some run wrote there
-writer_later : (w : Option RunNo) (q : RunNo) (xs : List Access) → effective_writer xs ≡ Some q → writer_from w xs ≡ Some q
+pub writer_later : (w : Option RunNo) (q : RunNo) (xs : List Access) → effective_writer xs ≡ Some q → writer_from w xs ≡ Some q
 writer_later w q [] e = absurd (cc)
 writer_later w q (x ∷ xs) e = at x.wrote (writer_later w q xs) e
   where
@@ -129,7 +136,7 @@ writer_later w q (x ∷ xs) e = at x.wrote (writer_later w q xs) e
     at (Some k) f e = e
 
 -- .. else the one before
-writer_earlier : (w : Option RunNo) (xs : List Access) → effective_writer xs ≡ None → writer_from w xs ≡ w
+pub writer_earlier : (w : Option RunNo) (xs : List Access) → effective_writer xs ≡ None → writer_from w xs ≡ w
 writer_earlier w [] e = refl
 writer_earlier w (x ∷ xs) e = at x.wrote (writer_earlier w xs) (some_wrote x.run xs) e
   where

@@ -16,19 +16,20 @@ use std::marker::Model;
 pub struct Lineage {
     committed: Value,
     accesses: Vec<Access>,
+    // the run of the last access that has a written value
+    writer: Option<RunNo>,
     up: bool,
 }
 
 impl Model for Lineage {
     ghost use Rattle.std.specs.Prelude.{◌-◌, vec_capacity, vec_len};
-    ghost use Rattle.lineage_table.specs.Accesses.{IsDisciplined};
-    ghost use Rattle.lineage_table.specs.Lineages.{LineageState};
+    ghost use Rattle.lineage_table.specs.Lineages.{IsSoundLineage, LineageState};
 
     ghost Value = { LineageState };
 
     ghost view = { λ l. record { committed = l.committed; accesses = l.accesses.items; room = vec_capacity l.accesses - vec_len l.accesses; up = l.up } };
 
-    ghost invariant = { λ l. IsDisciplined l.accesses.items };
+    ghost invariant = { λ l. IsSoundLineage l.accesses.items l.writer };
 }
 
 impl Lineage {
@@ -42,6 +43,7 @@ impl Lineage {
         Ok(Lineage {
             committed: stand.value,
             accesses,
+            writer: None,
             up: stand.up,
         })
     }
@@ -59,6 +61,8 @@ impl Lineage {
             Ok(()) => {}
             Err(_) => unreachable!(),
         }
+        let stays = access.wrote.is_none();
+        self.writer = writer_of(stays, self.writer, self.accesses.as_slice());
     }
 
     /// The run has its first answer on the device, and sees it so from then on.
@@ -86,6 +90,8 @@ impl Lineage {
             wrote: Some(v),
             ..self.accesses[at]
         };
+        let is_last = self.writer.is_none() || self.writer == Some(r);
+        self.writer = writer_of(is_last, Some(r), self.accesses.as_slice());
     }
 
     /// The run is done with the device.
@@ -109,6 +115,8 @@ impl Lineage {
                 wrote: None,
                 ..self.accesses[at]
             };
+            let of_another = self.writer != Some(r);
+            self.writer = writer_of(of_another, self.writer, self.accesses.as_slice());
         }
     }
 
@@ -120,6 +128,8 @@ impl Lineage {
         match self.place_of(r) {
             Some(at) => {
                 self.accesses.remove(at);
+                let stays = self.writer != Some(r);
+                self.writer = writer_of(stays, self.writer, self.accesses.as_slice());
                 true
             }
             None => false,
@@ -134,6 +144,11 @@ impl Lineage {
         let at = self.place(r);
         self.committed = self.accesses[at].wrote.unwrap();
         self.accesses.drain(..=at);
+        self.writer = if self.writer == Some(r) {
+            None
+        } else {
+            self.writer
+        };
     }
 
     /// Sets the committed value. There are no accesses.
@@ -217,10 +232,10 @@ impl Lineage {
     pub fn stand(&self) -> Value
         ensures { result ≡ standing_value self.now.committed self.now.accesses }
     {
-        self.accesses.iter().fold(
-            self.committed,
-            |value, access| access.wrote.unwrap_or(value),
-        )
+        match self.writer {
+            Some(r) => self.accesses[self.place(r)].wrote.unwrap(),
+            None => self.committed,
+        }
     }
 
     /// The value that stands without the run's access: the last one that another run wrote, else the committed one.
@@ -240,12 +255,7 @@ impl Lineage {
     pub fn effective_writer(&self) -> Option<RunNo>
         ensures { result ≡ effective_writer self.now.accesses }
     {
-        self.accesses
-            .iter()
-            .fold(None, |writer, access| match access.wrote {
-                Some(_) => Some(access.run),
-                None => writer,
-            })
+        self.writer
     }
 
     /// The place of an access that will stand before that of this run, last where none is named.
@@ -273,4 +283,27 @@ impl Lineage {
     {
         self.accesses.iter().position(|access| access.run == r)
     }
+}
+
+/// The run of the last of these accesses that has a written value: `writer`, where it is known to be that.
+fn writer_of(known: bool, writer: Option<RunNo>, accesses: &[Access]) -> Option<RunNo>
+    requires { IsTrue known → writer ≡ effective_writer accesses.now }
+    ensures { result ≡ effective_writer accesses.now }
+{
+    if known { writer } else { last_writer(accesses) }
+}
+
+/// The run of the last of these accesses that has a written value.
+fn last_writer(accesses: &[Access]) -> Option<RunNo>
+    ensures { result ≡ effective_writer accesses.now }
+{
+    let mut left = accesses.len();
+    'accesses: while left != 0 {
+        left -= 1;
+        let access = accesses[left];
+        if access.wrote.is_some() {
+            return Some(access.run);
+        }
+    }
+    None
 }

@@ -1,10 +1,20 @@
+use Rattle.lineage_table.proofs.Writers.{keeps_scheduled, nothing_written}
 use Rattle.lineage_table.proofs.lineages.Lineage.schedule.Goals as goal
 use Rattle.lineage_table.proofs.Keeping.{scheduled_state, schedules}
-use Rattle.std.proofs.Common.{ap, arith, ◌-◌, ◌<◌, ◌≡◌}
+use Rattle.lineage_table.specs.Accesses.{effective_writer}
+use Rattle.std.proofs.Common.{ap, arith, sym, ◌∙◌, ◌-◌, ◌<◌, ◌≡◌}
 use Rattle.std.specs.Prelude.{vec_capacity, vec_len}
 
+pub writer_of-self-inside-requires : goal.writer_of-self-inside-requires
+writer_of-self-inside-requires c = λ stays.
+    keeps_scheduled _ c.args.self.now c.self.inside.writer c.self.view_is c.self.invariant c.args.before c.place_before-at.result c.args.access c.insert.new.self.items c.place_before-at.ensures c.in-Ok.ensures.items (nothing_written c.args.access.wrote c.is_none-stays.result c.is_none-stays.ensures stays)
+    ∙ ap effective_writer (sym c.as_slice.ensures.value)
+
 pub invariant_of-self : goal.invariant_of-self
-invariant_of-self c = schedules _ c.args.self.now c.args.before c.place_before-at.result c.args.access c.insert.new.self.items c.self.view_is c.self.invariant c.place_before-at.ensures c.requires.before c.requires.scheduled c.requires.new c.in-Ok.ensures.items
+invariant_of-self c = record {
+  turns = schedules _ c.args.self.now c.args.before c.place_before-at.result c.args.access c.insert.new.self.items c.self.view_is c.self.invariant.turns c.place_before-at.ensures c.requires.before c.requires.scheduled c.requires.new c.in-Ok.ensures.items;
+  last = c.writer_of-self-inside.ensures ∙ ap effective_writer c.as_slice.ensures.value;
+}
 
 pub returns : goal.returns
 returns c =
