@@ -1,8 +1,10 @@
 -- What each call does with the list of accesses, and that it keeps the discipline.
 use Rattle.home_types.specs.declared.commands.View.{View}
-use Rattle.lineage_table.proofs.Pairs.{Pairs, all_from_pairs, every_so, pairs_back, pairs_changed, pairs_from_all, pairs_put}
-use Rattle.lineage_table.proofs.Splits.{any_access, access_at, behind_at, before_at, change_at, cut_at, put_at, without_at, without_none}
+use Rattle.lineage_table.proofs.Pairs.{Pairs, all_from_pairs, every_so, pairs_back, pairs_changed, pairs_from_all, pairs_front, pairs_put}
+use Rattle.lineage_table.proofs.Splits.{Cut, any_access, access_at, behind_at, before_at, change_at, cut_at, put_at, without_at, without_none}
 use Rattle.lineage_table.specs.Accesses.{AreInTurn, AreOfTwoRuns, IsDisciplined, access_of, before, behind, has_access, is_acquired, is_of, is_released, is_scheduled, place_before, put_before, put_before_run, some_acquired, some_scheduled, status_of, with_change, without, written_by}
+use Rattle.lineage_table.specs.Answers.{MayAnswer}
+use Rattle.lineage_table.specs.contracts.accesses.StatusPartialEq.TheImpl.{eq-value}
 use Rattle.lineage_table.specs.declared.accesses.Access.{Access}
 use Rattle.lineage_table.specs.declared.accesses.Status.TheVariants.{Acquired, Released, Scheduled}
 use Rattle.lineage_table.specs.declared.accesses.Status.{Status}
@@ -10,11 +12,12 @@ use Rattle.home_types.specs.declared.numbers.RunNo.{RunNo}
 use Rattle.lineage_table.specs.Lineages.{LineageState, removed, scheduled, settled}
 use Rattle.std.specs.Option.{ForSome}
 use Rattle.std.proofs.lemmas.List.Quantifiers.{position-Some}
-use Rattle.std.proofs.Common.{rules, ◌-◌, Bool, IsSome, IsTrue, List, None, Option, Some, [], add-one, ap, ap₂, arith, drop, false, get_or, length, refl, set, subst, suc, sym, take, true, zero, ℕ, ◌++◌, ◌+◌, ◌∙◌, ◌∷◌, ◌≡◌}
+use Rattle.std.proofs.Common.{rules, ◌-◌, Bool, IsSome, IsTrue, List, None, Option, Some, [], add-one, ap, ap₂, arith, drop, false, get_or, inl, inr, length, refl, set, subst, suc, sym, take, true, zero, ℕ, ◌++◌, ◌+◌, ◌<◌, ◌∙◌, ◌≤◌, ◌∷◌, ◌≡◌}
 use Rattle.std.proofs.lemmas.Grind.{common_steps}
 use Rattle.std.proofs.lemmas.List.Edits.{insert_end, length-remove}
 use Rattle.std.proofs.lemmas.List.Kept.{AllPairs-filter}
-use Rattle.std.proofs.lemmas.List.{append-nil, drop_at, get_or_at, set_at, take-append-drop, take_at}
+use Rattle.std.proofs.lemmas.List.Folds.{list_any-append}
+use Rattle.std.proofs.lemmas.List.{append-nil, drop_at, get_or_at, set_at, take-append-drop, take_at, take_more}
 use Rattle.std.specs.List.{position_or_len, AllByRecursion, AllPairs, insert, remove}
 use Rattle.std.specs.Prelude.{nat_lt, if◌then◌else◌, is_some, not, option_and_then, option_map, position, unwrap_or, slice_set, ◌||◌}
 
@@ -24,6 +27,11 @@ use Rattle.std.specs.Prelude.{nat_lt, if◌then◌else◌, is_some, not, option_
 pub found_by_status : (r : ℕ) (xs : List Access) (s : Status) → status_of r xs ≡ Some s → IsTrue (has_access r xs)
 found_by_status r [] s h = absurd (cc)
 found_by_status r (x ∷ xs) s h = grind (arith, common_steps, found_by_status r xs s)
+
+-- .. as one that may answer has
+pub found_to_answer : (r : ℕ) (xs : List Access) → MayAnswer r xs → IsTrue (has_access r xs)
+found_to_answer r xs (inl e) = found_by_status r xs Acquired e
+found_to_answer r xs (inr p) = found_by_status r xs Scheduled p.0
 
 pub found_by_value : (r : ℕ) (xs : List Access) → IsTrue (is_some (written_by r xs)) → IsTrue (has_access r xs)
 found_by_value r [] h = grind (arith, common_steps)
@@ -183,6 +191,19 @@ in_front u x y a b h = let r = released_if u.status a b in grind (arith, common_
 behind_scheduled : (x v : Access) → x.status ≡ Scheduled → AreInTurn x v → is_scheduled v.status ≡ true
 behind_scheduled x v e h = grind (arith, common_steps)
 
+-- none of the first ones is acquired
+quiet : (a b : List Access) → some_acquired (a ++ b) ≡ false → some_acquired a ≡ false
+quiet [] b n = refl
+quiet (x ∷ a) b n = grind (arith, common_steps, quiet a b)
+
+-- what stands behind released ones may change
+behind_released : (x y : Access) (a : List Access) → some_acquired a ≡ false → some_scheduled a ≡ false → AllByRecursion (λ u. AreInTurn u x → AreInTurn u y) a
+behind_released x y [] n f = tt
+behind_released x y (u ∷ a) n f =
+    let p = neither (is_acquired u.status) (some_acquired a) n in
+    let q = neither (is_scheduled u.status) (some_scheduled a) f in
+    (in_front u x y p.0 q.0, behind_released x y a p.1 q.1)
+
 -- the run touches the device: none before it is acquired or scheduled
 pub acquire_keeps : (xs : List Access) (r i : ℕ) (x : Access) (v : View) → IsDisciplined xs → position (is_of r) xs ≡ Some i → x ≡ get_or xs i x
     → status_of r xs ≡ Some Scheduled → some_acquired xs ≡ false → some_scheduled (before r xs) ≡ false → IsDisciplined (slice_set xs i (record x { status = Acquired; view = Some v }))
@@ -195,24 +216,13 @@ acquire_keeps xs r i x v k h is s n f =
     (sym (ap (λ z. set xs i (record z { status = Acquired; view = Some v })) here ∙ ap (λ l. set l i y) c.list ∙ set_at c.front c.access c.rest y i c.size))
     (
     kept_at c.front c.access y c.rest refl
-    (front c.access y c.front (quiet c.front (c.access ∷ c.rest) (ap some_acquired (sym c.list) ∙ n)) (ap some_scheduled (sym (ap (before r) c.list ∙ before_at r c.front c.access c.rest c.none c.own)) ∙ f))
+    (behind_released c.access y c.front (quiet c.front (c.access ∷ c.rest) (ap some_acquired (sym c.list) ∙ n)) (ap some_scheduled (sym (ap (before r) c.list ∙ before_at r c.front c.access c.rest c.none c.own)) ∙ f))
     (every_so (λ z. AreInTurn c.access z → AreInTurn y z) c.rest (λ z. back c.access z y status))
     (subst IsDisciplined c.list k)
     )
   where
-    quiet : (a b : List Access) → some_acquired (a ++ b) ≡ false → some_acquired a ≡ false
-    quiet [] b n = refl
-    quiet (x ∷ a) b n = grind (arith, common_steps, quiet a b)
-
     back : (x z y : Access) → x.status ≡ Scheduled → AreInTurn x z → AreInTurn y z
     back x z y e t = grind (arith, common_steps)
-
-    front : (x y : Access) (a : List Access) → some_acquired a ≡ false → some_scheduled a ≡ false → AllByRecursion (λ u. AreInTurn u x → AreInTurn u y) a
-    front x y [] n f = tt
-    front x y (u ∷ a) n f =
-        let p = neither (is_acquired u.status) (some_acquired a) n in
-        let q = neither (is_scheduled u.status) (some_scheduled a) f in
-        (in_front u x y p.0 q.0, front x y a p.1 q.1)
 
 -- the run is done with the device
 pub release_keeps : (xs : List Access) (r i : ℕ) (x : Access) → IsDisciplined xs → position (is_of r) xs ≡ Some i → x ≡ get_or xs i x
@@ -236,6 +246,81 @@ release_keeps xs r i x k h is s =
 
     back : (x y v : Access) → y.status ≡ Released → AreInTurn x v → AreInTurn y v
     back x y v e h = grind (arith, common_steps)
+
+-- the run notes an answer, where none before it is scheduled
+pub answer_keeps : (xs : List Access) (r i : ℕ) (x y : Access) → IsDisciplined xs → position (is_of r) xs ≡ Some i → x ≡ get_or xs i x → MayAnswer r xs → some_scheduled (before r xs) ≡ false → y.run.0 ≡ x.run.0 → IsDisciplined (slice_set xs i y)
+answer_keeps xs r i x y k h is may f same =
+    let turn = in_its_turn may in
+    subst IsDisciplined
+    (sym (ap (λ l. set l i y) c.list ∙ set_at c.front c.access c.rest y i c.size))
+    (
+    kept_at c.front c.access y c.rest (same ∙ ap (λ (z : Access). z.run.0) here)
+    (behind_released c.access y c.front turn.1 (ap some_scheduled (sym (ap (before r) c.list ∙ before_at r c.front c.access c.rest c.none c.own)) ∙ f))
+    (every_so (λ z. AreInTurn c.access z → AreInTurn y z) c.rest (λ z. back c.access z y turn.0))
+    old
+    )
+  where
+    c : Cut r i xs
+    c = cut_at r i xs x h
+
+    old : IsDisciplined (c.front ++ c.access ∷ c.rest)
+    old = subst IsDisciplined c.list k
+
+    here : x ≡ c.access
+    here = is ∙ ap (λ l. get_or l i x) c.list ∙ get_or_at c.front c.access c.rest x i c.size
+
+    status : (s : Status) → status_of r xs ≡ Some s → c.access.status ≡ s
+    status s e = status_there r c.access (sym (ap (option_map (λ x. x.status)) (ap (access_of r) c.list ∙ access_at r c.front c.access c.rest c.none c.own)) ∙ e)
+
+    back : (x z y : Access) → is_released x.status ≡ false → AreInTurn x z → AreInTurn y z
+    back x z y e t = grind (arith, common_steps)
+
+    only_released : (x : Access) (a : List Access) → x.status ≡ Acquired → AllByRecursion (λ u. AreInTurn u x) a → some_acquired a ≡ false
+    only_released x [] e h = refl
+    only_released x (u ∷ a) e h = both (is_acquired u.status) (some_acquired a) (at u.status refl) (only_released x a e h.1)
+      where
+        at : (s : Status) → u.status ≡ s → is_acquired s ≡ false
+        at Released q = refl
+        at Acquired q = let t : IsTrue (is_released u.status || is_scheduled x.status) = h.0 in absurd (grind (arith, common_steps))
+        at Scheduled q = refl
+
+    in_its_turn : MayAnswer r xs → (is_released c.access.status ≡ false) × (some_acquired c.front ≡ false)
+    in_its_turn (inl e) = (ap is_released (status Acquired e), only_released c.access c.front (status Acquired e) (pairs_front AreInTurn c.front c.access c.rest (pairs_from_all AreInTurn (c.front ++ c.access ∷ c.rest) old.in_turn)))
+    in_its_turn (inr p) = (ap is_released (status Scheduled p.0), quiet c.front (c.access ∷ c.rest) (ap some_acquired (sym c.list) ∙ p.1))
+
+-- the test of the code
+pub tests_scheduled : (s : Status) → eq-value.it s Scheduled ≡ is_scheduled s
+tests_scheduled Released = refl
+tests_scheduled Acquired = refl
+tests_scheduled Scheduled = refl
+
+-- the accesses up to here, where this one, which stands there and is not scheduled, is in turn with each
+none_scheduled : (xs : List Access) (d z : Access) (n : ℕ) → n ≤ length xs → ((j : ℕ) → j < n → AreInTurn (get_or xs j d) z) → is_scheduled z.status ≡ false → some_scheduled (take n xs) ≡ false
+none_scheduled xs d z zero within turns e = refl
+none_scheduled [] d z (suc n) within turns e = absurd (omega (arith, within))
+none_scheduled (x ∷ xs) d z (suc n) within turns e = both (is_scheduled x.status) (some_scheduled (take n xs)) (one x z (turns 0 (omega arith)) e) (none_scheduled xs d z n (omega (arith, within)) (λ j q. turns (suc j) (omega (arith, q))) e)
+  where
+    one : (x z : Access) → AreInTurn x z → is_scheduled z.status ≡ false → is_scheduled x.status ≡ false
+    one x z t e = at x.status refl
+      where
+        at : (s : Status) → x.status ≡ s → is_scheduled s ≡ false
+        at Released f = refl
+        at Acquired f = refl
+        at Scheduled f = absurd (grind (arith, common_steps))
+
+-- whether a scheduled access is among those before a place is told by the last of them
+pub last_tells : (xs : List Access) (i : ℕ) (d : Access) → IsDisciplined xs → i < length xs → some_scheduled (take (i + 1) xs) ≡ is_scheduled (get_or xs i d).status
+last_tells xs i d k within =
+    ap some_scheduled (take_more xs i d within) ∙ list_any-append (λ (x : Access). is_scheduled x.status) (take i xs) (get_or xs i d ∷ [])
+    ∙ at (is_scheduled (get_or xs i d).status) refl
+  where
+    at : (b : Bool) → is_scheduled (get_or xs i d).status ≡ b → (some_scheduled (take i xs) || (b || false)) ≡ b
+    at true e = or_true (some_scheduled (take i xs))
+      where
+        or_true : (b : Bool) → (b || true) ≡ true
+        or_true true = refl
+        or_true false = refl
+    at false e = ap (λ b. b || false) (none_scheduled xs d (get_or xs i d) i (omega (arith, within)) (λ j q. k.in_turn j i d q within) e)
 
 -- the discipline where an access is put in
 put_keeps : (a : List Access) (y : Access) (b : List Access) → y.status ≡ Scheduled → has_access y.run.0 a ≡ false → has_access y.run.0 b ≡ false → AllByRecursion (λ v. v.status ≡ Scheduled) b
@@ -420,3 +505,8 @@ pub schedules : (s now : LineageState) (before : Option RunNo) (i : ℕ) (y : Ac
     → ForSome before (λ r. status_of r.0 now.accesses ≡ Some Scheduled) → y.status ≡ Scheduled → has_access y.run.0 now.accesses ≡ false → items ≡ insert s.accesses i y → IsDisciplined items
 schedules s now before i y items e k h st t n is =
     subst IsDisciplined (sym is) (schedule_place_keeps s.accesses before i y k (ap (λ (u : LineageState). place_before before u.accesses) e ∙ h) (λ r q. ap (λ (u : LineageState). status_of r.0 u.accesses) e ∙ st r q) t (ap (λ (u : LineageState). has_access y.run.0 u.accesses) e ∙ n))
+
+pub answers : (s now : LineageState) (r i : ℕ) (x y : Access) → s ≡ now → IsDisciplined s.accesses → position (is_of r) now.accesses ≡ Some i → x ≡ get_or s.accesses i x → MayAnswer r now.accesses → some_scheduled (before r now.accesses) ≡ false → y.run.0 ≡ x.run.0
+    → IsDisciplined (slice_set s.accesses i y)
+answers s now r i x y e k h is may f same =
+    answer_keeps s.accesses r i x y k (ap (λ (t : LineageState). position (is_of r) t.accesses) e ∙ h) is (subst (λ (t : LineageState). MayAnswer r t.accesses) (sym e) may) (ap (λ (t : LineageState). some_scheduled (before r t.accesses)) e ∙ f) same

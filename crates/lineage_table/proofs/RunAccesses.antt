@@ -1,9 +1,12 @@
 -- Which runs have an access, as the accesses to a device change.
+use Rattle.home_types.specs.declared.commands.View.{View}
 use Rattle.home_types.specs.declared.numbers.RunNo.{RunNo}
 use Rattle.lineage_table.proofs.DeviceCounts.{any_next}
 use Rattle.lineage_table.proofs.Keeping.{none_behind}
 use Rattle.lineage_table.proofs.Pairs.{Pairs, pairs_from_all}
 use Rattle.lineage_table.specs.Accesses.{AreOfTwoRuns, IsDisciplined, access_of, before, behind, has_access, is_of, put_before, put_before_run, with_change, without}
+use Rattle.lineage_table.specs.Answers.{answered_access, answered_if}
+use Rattle.lineage_table.specs.Lineages.{LineageState}
 use Rattle.lineage_table.specs.declared.accesses.Access.{Access}
 use Rattle.std.proofs.Common.{List, None, Option, Some, [], ap, arith, get_or, length, refl, sym, take, ℕ, ◌++◌, ◌+◌, ◌<◌, ◌∙◌, ◌∷◌, ◌≡◌}
 use Rattle.std.proofs.lemmas.Grind.{common_steps}
@@ -17,6 +20,11 @@ change_has q r f (x ∷ xs) stays = at_ (is_of r x) (change_has q r f xs stays)
     at_ : (b : Bool) → has_access q (with_change r f xs) ≡ has_access q xs → has_access q (if b then (f x ∷ xs) else (x ∷ with_change r f xs)) ≡ (is_of q x || has_access q xs)
     at_ true rest = ap (λ k. (k == q) || has_access q xs) (stays x)
     at_ false rest = ap (λ b. is_of q x || b) rest
+
+-- a run notes an answer
+pub answered_has : (q r : ℕ) (noted : Bool) (view : View) (wrote : Option ℕ) (last : Bool) (s : LineageState) → has_access q (answered_if noted r view wrote last s).accesses ≡ has_access q s.accesses
+answered_has q r true view wrote last s = change_has q r (answered_access view wrote last) s.accesses (λ x. refl)
+answered_has q r false view wrote last s = refl
 
 swap : (a b c : Bool) → (a || (b || c)) ≡ (b || (a || c))
 swap true true c = refl

@@ -8,7 +8,8 @@ use Rattle.lineage_table.proofs.Standing.{change_folds, committed_stands, effect
 use Rattle.lineage_table.proofs.Steps.{written_at}
 use Rattle.lineage_table.proofs.Undoing.{undone_writer}
 use Rattle.lineage_table.specs.Accesses.{AreOfTwoRuns, IsDisciplined, behind, effective_writer, has_access, is_of, place_before, put_before, put_before_run, standing_value, with_change, written_by}
-use Rattle.lineage_table.specs.Lineages.{IsSoundLineage, LineageState}
+use Rattle.lineage_table.specs.KeptWriters.{IsSoundLineage}
+use Rattle.lineage_table.specs.Lineages.{LineageState}
 use Rattle.lineage_table.specs.declared.accesses.Access.{Access}
 use Rattle.std.proofs.Common.{Bool, IsTrue, List, None, Option, Some, [], ap, arith, drop, false, get_or, length, refl, subst, sym, take, true, ℕ, ◌++◌, ◌+◌, ◌<◌, ◌∙◌, ◌∷◌, ◌≡◌}
 use Rattle.std.proofs.lemmas.Grind.{common_steps}
@@ -67,13 +68,10 @@ not_own r q b none wrote = at (q.0 == r) refl
     at false e = e
 
 -- a run writes where no other run's write stands: its own does
-pub written_writer : (r : RunNo) (i v : ℕ) (xs : List Access) → IsDisciplined xs → position (is_of r.0) xs ≡ Some i → ((q : RunNo) → effective_writer xs ≡ Some q → q ≡ r)
-    → effective_writer (with_change r.0 (λ x. record x { wrote = Some v }) xs) ≡ Some r
-written_writer r i v xs disciplined place only = ap effective_writer now ∙ writer_at c.front (wrote c.access) c.rest v refl ∙ at (effective_writer c.rest) refl
+pub written_writer : (r : RunNo) (i v : ℕ) (wrote : Access → Access) → ((x : Access) → (wrote x).wrote ≡ Some v) → ((x : Access) → (wrote x).run ≡ x.run) → (xs : List Access) → IsDisciplined xs → position (is_of r.0) xs ≡ Some i
+    → ((q : RunNo) → effective_writer xs ≡ Some q → q ≡ r) → effective_writer (with_change r.0 wrote xs) ≡ Some r
+written_writer r i v wrote value run xs disciplined place only = ap effective_writer now ∙ writer_at c.front (wrote c.access) c.rest v (value c.access) ∙ ap (λ q. writer_from (Some q) c.rest) (run c.access) ∙ at (effective_writer c.rest) refl
   where
-    wrote : Access → Access
-    wrote x = record x { wrote = Some v }
-
     c : Cut r.0 i xs
     c = cut_at r.0 i xs any_access place
 
@@ -153,11 +151,12 @@ module _ (s now : LineageState) (w : Option RunNo) (e : s ≡ now) (sound : IsSo
   keeps_changed r i x f h is wrote run = sound.last ∙ sym (ap effective_writer (changed_items s now r i x f e h is) ∙ change_writer r f wrote run s.accesses)
 
   -- a run writes where no other run's write stands
-  pub keeps_written : (r : RunNo) (i v : ℕ) (x : Access) → position (is_of r.0) now.accesses ≡ Some i → x ≡ get_or s.accesses i x → ((q : RunNo) → w ≡ Some q → q ≡ r) → Some r ≡ effective_writer (slice_set s.accesses i (record x { wrote = Some v }))
-  keeps_written r i v x h is only =
+  pub keeps_written : (r : RunNo) (i v : ℕ) (x : Access) (f : Access → Access) → position (is_of r.0) now.accesses ≡ Some i → x ≡ get_or s.accesses i x → ((y : Access) → (f y).wrote ≡ Some v) → ((y : Access) → (f y).run ≡ y.run) → ((q : RunNo) → w ≡ Some q → q ≡ r)
+      → Some r ≡ effective_writer (slice_set s.accesses i (f x))
+  keeps_written r i v x f h is value run only =
       sym (
-      ap effective_writer (changed_items s now r.0 i x (λ (y : Access). record y { wrote = Some v }) e h is)
-      ∙ written_writer r i v s.accesses sound.turns (ap (λ (t : LineageState). position (is_of r.0) t.accesses) e ∙ h) (λ q o. only q (sound.last ∙ o))
+      ap effective_writer (changed_items s now r.0 i x f e h is)
+      ∙ written_writer r i v f value run s.accesses sound.turns (ap (λ (t : LineageState). position (is_of r.0) t.accesses) e ∙ h) (λ q o. only q (sound.last ∙ o))
       )
 
   -- another run's write is undone

@@ -5,7 +5,7 @@ use Rattle.home_types.specs.Limits.{most_devices}
 use Rattle.home_types.specs.declared.commands.View.{View}
 use Rattle.home_types.specs.declared.numbers.RunNo.{RunNo}
 use Rattle.home_types.specs.declared.worlds.Stand.{Stand}
-use Rattle.lineage_table.specs.Accesses.{IsDisciplined, access_of, behind, effective_writer, put_before, with_change, without, written_by}
+use Rattle.lineage_table.specs.Accesses.{IsDisciplined, access_of, behind, put_before, with_change, without, written_by}
 use Rattle.lineage_table.specs.declared.accesses.Access.{Access}
 use Rattle.lineage_table.specs.declared.accesses.Status.TheVariants.{Acquired, Released}
 use Rattle.std.specs.List.{list_any}
@@ -17,11 +17,6 @@ pub record LineageState : Type 0 where
   pub accesses : List Access
   pub room : ℕ
   pub up : Bool
-
--- what is kept of the accesses: they are in turn, and the last one that has a written value is of this run
-pub record IsSoundLineage (accesses : List Access) (writer : Option RunNo) : Type 0 where
-  pub turns : IsDisciplined accesses
-  pub last : writer ≡ effective_writer accesses
 
 -- One lineage after a call
 

@@ -1,7 +1,9 @@
-ghost use Rattle.std.specs.Prelude.{◌≡◌, ◌<◌, ◌≤◌, [], false, IfOk, IsSome, IsTrue, None, Some, length, not, option_map, position, slice_index_or};
+ghost use Rattle.std.specs.Prelude.{◌≡◌, ◌<◌, ◌≤◌, [], false, IfOk, IsSome, IsTrue, None, Some, length, not, option_map, position, slice_index_or, take};
 ghost use Rattle.std.specs.Option.{ForSome};
 ghost use Rattle.lineage_table.specs.declared.accesses.Access.{Access};
 ghost use Rattle.lineage_table.specs.Accesses.{IsDisciplined, IsFirstBefore, access_of, before, effective_writer, has_access, is_of, place_before, some_acquired, some_scheduled, standing_value, status_of, without, written_by};
+ghost use Rattle.lineage_table.specs.Answers.{MayAnswer, answered_access, answered_if};
+ghost use Rattle.home_types.specs.declared.numbers.RunNo.{RunNo};
 ghost use Rattle.lineage_table.specs.Lineages.{IsNew, acquired, counted_up, released, removed, scheduled, settled, undone, with_committed, written};
 
 use crate::accesses::{Access, Status};
@@ -23,7 +25,8 @@ pub struct Lineage {
 
 impl Model for Lineage {
     ghost use Rattle.std.specs.Prelude.{◌-◌, vec_capacity, vec_len};
-    ghost use Rattle.lineage_table.specs.Lineages.{IsSoundLineage, LineageState};
+    ghost use Rattle.lineage_table.specs.KeptWriters.{IsSoundLineage};
+    ghost use Rattle.lineage_table.specs.Lineages.{LineageState};
 
     ghost Value = { LineageState };
 
@@ -90,8 +93,28 @@ impl Lineage {
             wrote: Some(v),
             ..self.accesses[at]
         };
-        let is_last = self.writer.is_none() || self.writer == Some(r);
-        self.writer = writer_of(is_last, Some(r), self.accesses.as_slice());
+        self.writer = writer_with(self.writer, r, self.accesses.as_slice());
+    }
+
+    /// The run notes an answer on the device: with its first one it acquires it, and sees it so; then the value that it
+    /// wrote, where there is one; and with its last one it is done there.
+    ///
+    /// Answers false, and changes nothing, where a scheduled access stands before its own.
+    pub fn note(&mut self, r: RunNo, view: View, wrote: Option<Value>, is_last: bool) -> bool
+        requires { MayAnswer r.0 self.old.accesses }
+        ensures turn { result ≡ not (some_scheduled (before r.0 self.old.accesses)) }
+        ensures noted { self.new ≡ answered_if result r.0 view wrote is_last self.old }
+    {
+        let at = self.place(r);
+        if self.waits_before(at) {
+            return false;
+        }
+        self.accesses[at] = answered(self.accesses[at], view, wrote, is_last);
+        self.writer = match wrote {
+            Some(_) => writer_with(self.writer, r, self.accesses.as_slice()),
+            None => self.writer,
+        };
+        true
     }
 
     /// The run is done with the device.
@@ -269,6 +292,14 @@ impl Lineage {
         }
     }
 
+    /// Whether a scheduled access stands before this place. The one that stands directly before it tells.
+    fn waits_before(&self, at: usize) -> bool
+        requires { at ≤ length self.now.accesses }
+        ensures { result ≡ some_scheduled (take at self.now.accesses) }
+    {
+        at != 0 && self.accesses[at - 1].status == Status::Scheduled
+    }
+
     /// The place of the run's access, counted from 0. It has one.
     pub(crate) fn place(&self, r: RunNo) -> usize
         requires { IsTrue (has_access r.0 self.now.accesses) }
@@ -283,6 +314,36 @@ impl Lineage {
     {
         self.accesses.iter().position(|access| access.run == r)
     }
+}
+
+/// The access when its run has noted an answer.
+fn answered(access: Access, view: View, wrote: Option<Value>, is_last: bool) -> Access
+    ensures { result ≡ answered_access view wrote is_last access }
+{
+    Access {
+        status: if is_last {
+            Status::Released
+        } else {
+            Status::Acquired
+        },
+        view: if access.status == Status::Scheduled {
+            Some(view)
+        } else {
+            access.view
+        },
+        wrote: wrote.or(access.wrote),
+        ..access
+    }
+}
+
+/// The run of the last of these accesses that has a written value, when this run has just written, and it was `writer`
+/// before.
+fn writer_with(writer: Option<RunNo>, r: RunNo, accesses: &[Access]) -> Option<RunNo>
+    requires { ((q : RunNo) → writer ≡ Some q → q ≡ r) → Some r ≡ effective_writer accesses.now }
+    ensures { result ≡ effective_writer accesses.now }
+{
+    let is_last = writer.is_none() || writer == Some(r);
+    writer_of(is_last, Some(r), accesses)
 }
 
 /// The run of the last of these accesses that has a written value: `writer`, where it is known to be that.

@@ -1,10 +1,11 @@
-ghost use Rattle.std.specs.Prelude.{◌≡◌, ◌+◌, ◌<◌, ◌≤◌, ◌==◌, ◌||◌, ◌^◌, [], false, if◌then◌else◌, IfOk, IfSome, IsSome, IsTrue, Some, length, option_map, slice_index_or, ℕ};
+ghost use Rattle.std.specs.Prelude.{◌≡◌, ◌+◌, ◌<◌, ◌≤◌, ◌==◌, ◌||◌, ◌^◌, [], false, if◌then◌else◌, IfOk, IfSome, IsSome, IsTrue, Some, length, not, option_map, slice_index_or, ℕ};
 ghost use Rattle.std.specs.List.{list_any};
 ghost use Rattle.std.specs.Option.{ForSome};
 ghost use Rattle.command_rules.specs.Rosters.{is_on, runs_of};
 ghost use Rattle.lineage_table.specs.Accesses.{IsDisciplined, IsFirstBefore, access_of, before, effective_writer, has_access, some_acquired, some_scheduled, standing_value, status_of, without, written_by};
 ghost use Rattle.home_types.specs.DeviceSets.{IsFirstFrom};
 ghost use Rattle.home_types.specs.Limits.{most_devices};
+ghost use Rattle.lineage_table.specs.Answers.{MayAnswer, answered_if};
 ghost use Rattle.lineage_table.specs.RunDevices.{HasLess};
 ghost use Rattle.lineage_table.specs.Lineages.{IsOpened, accesses_at, acquired, counted_up, lineage_at, released, removed, runs_on, scheduled, settled, undone, with_committed, with_lineage, written};
 
@@ -98,6 +99,28 @@ impl Table {
     {
         self.lineages[d.0 as usize].note_write(r, v);
         self.lineages[d.0 as usize].kept();
+    }
+
+    /// The run notes an answer on the device: with its first one it acquires it, and sees it so; then the value that it
+    /// wrote, where there is one; and with its last one it is done there.
+    ///
+    /// Answers false, and changes nothing, where a scheduled access stands before its own.
+    pub fn note(
+        &mut self,
+        d: DeviceNo,
+        r: RunNo,
+        view: View,
+        wrote: Option<Value>,
+        is_last: bool,
+    ) -> bool
+        requires device { d.0 < length self.old }
+        requires may { MayAnswer r.0 (accesses_at self.old d.0) }
+        ensures turn { result ≡ not (some_scheduled (before r.0 (accesses_at self.old d.0))) }
+        ensures noted { self.new ≡ with_lineage self.old d.0 (answered_if result r.0 view wrote is_last) }
+    {
+        let noted = self.lineages[d.0 as usize].note(r, view, wrote, is_last);
+        self.lineages[d.0 as usize].kept();
+        noted
     }
 
     /// Marks that the run, whose access is acquired, is done with the device.
