@@ -5,14 +5,13 @@ ghost use Rattle.abort_rollback.specs.Undos.{next_undo};
 ghost use Rattle.command_rules.specs.Rosters.{commands_of, is_run, runs_of, touches};
 ghost use Rattle.home_types.specs.Limits.{most_devices};
 ghost use Rattle.home_types.specs.declared.items.Item.TheVariants.{Ran};
-ghost use Rattle.hub_core.specs.KeptOrders.{MayNote, acquired_first, is_first, noted_first};
+ghost use Rattle.hub_core.specs.KeptOrders.{MayNote, is_first, noted_first};
 ghost use Rattle.hub_core.specs.OpenHubs.{purpose_of};
 ghost use Rattle.hub_core.specs.PlansInTurn.{planned_in_turn};
-ghost use Rattle.lineage_table.specs.Accesses.{status_of};
 ghost use Rattle.lineage_table.specs.Lineages.{IsOpened, accesses_at, committed_lineage, lineage_at, removed, undone, with_lineage};
 ghost use Rattle.lock_leasing.specs.Configurations.{is_command, is_undo};
 ghost use Rattle.serial_line.specs.Marks.{items_of, settling, stands, touching, with_item, without};
-ghost use Rattle.window_order.specs.TableChanges.{ChangesEach, IsNewOn, first_with_access, scheduled_on, written_if, doomed_unless};
+ghost use Rattle.window_order.specs.TableChanges.{ChangesEach, IsNewOn, first_with_access, scheduled_on, doomed_unless};
 
 use crate::plans::{PlannedUse, planned_uses};
 use crate::purposes::Purpose;
@@ -141,38 +140,10 @@ impl KeptOrder {
         ensures line { self.new.line ≡ self.old.line }
         ensures table { self.new.table ≡ with_lineage self.old.table d.0 (noted_first r.0 (is_first r.0 (lineage_at self.old.table d.0)) told.view told.wrote told.is_last) }
     {
-        self.acquire_first(d, r, told.view);
-        self.note_write(d, r, told.wrote);
-        if told.is_last {
-            self.table.release(d, r);
-        }
-    }
-
-    /// The run touches the device, and sees it so, where it has not touched it before; then those are passed that wait
-    /// before it.
-    fn acquire_first(&mut self, d: DeviceNo, r: RunNo, view: View)
-        requires device { d.0 < length self.old.table }
-        requires turn { MayNote r.0 (lineage_at self.old.table d.0) }
-        ensures line { self.new.line ≡ self.old.line }
-        ensures table { self.new.table ≡ with_lineage self.old.table d.0 (acquired_first (is_first r.0 (lineage_at self.old.table d.0)) r.0 view) }
-        ensures acquired { status_of r.0 (accesses_at self.new.table d.0) ≡ Some Status.Acquired }
-    {
-        if self.is_first(d, r) {
+        self.table.kept();
+        if !self.table.note(d, r, told.view, told.wrote, told.is_last) {
             pass_before(&mut self.table, d, r);
-            self.table.acquire(d, r, view);
-        }
-    }
-
-    /// The run, whose access is acquired, wrote the value, where there is one.
-    fn note_write(&mut self, d: DeviceNo, r: RunNo, wrote: Option<Value>)
-        requires device { d.0 < length self.old.table }
-        requires acquired { status_of r.0 (accesses_at self.old.table d.0) ≡ Some Status.Acquired }
-        ensures line { self.new.line ≡ self.old.line }
-        ensures table { self.new.table ≡ with_lineage self.old.table d.0 (written_if wrote r.0) }
-        ensures acquired { status_of r.0 (accesses_at self.new.table d.0) ≡ Some Status.Acquired }
-    {
-        if let Some(v) = wrote {
-            self.table.note_write(d, r, v);
+            self.table.note(d, r, told.view, told.wrote, told.is_last);
         }
     }
 

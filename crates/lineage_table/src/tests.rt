@@ -148,6 +148,9 @@ fn keeps_the_lineage_of_a_device(rt: HostRuntime) {
     assert!(rt; table.stand(HEAT) == 25 && table.stand_without(HEAT, A) == 21);
     assert!(rt; table.effective_writer(HEAT) == Some(A));
     assert!(rt; has_status(&table, HEAT, A, Status::Acquired));
+    assert!(rt; table.note(HEAT, A, View::Down, None, false));
+    assert!(rt; table.devices() == 1 && table.stand(HEAT) == 25);
+    assert!(rt; has_status(&table, HEAT, A, Status::Acquired));
     table.release(HEAT, A);
     assert!(rt;
         table

@@ -46,7 +46,7 @@ fn roster(alloc: Global) -> Result<Roster, NoMemory>
     Ok(Roster { runs })
 }
 
-/// A line with run 1 alone, which has touched the lamp.
+/// A line with run 1 alone, which has touched the lamp and has ended.
 fn line(alloc: Global) -> Result<Line, NoMemory> {
     let mut line = Line::new(alloc);
     line.reserve(1)?;
@@ -54,6 +54,7 @@ fn line(alloc: Global) -> Result<Line, NoMemory> {
     if line.place_of(Item::Ran(A)).is_some() {
         line.mark(A, LAMP);
     }
+    line.settle(A);
     Ok(line)
 }
 
