@@ -22,13 +22,12 @@ impl Model for RunEntries {
 }
 
 impl RunEntries {
-    /// No entries. Takes no memory.
-    fn none(alloc: Global) -> RunEntries
-        ensures { result ≡ [] }
+    /// No entries, with room for so many.
+    fn with_room(alloc: Global, room: usize) -> Result<RunEntries, AllocError>
+        ensures { IfOk result (λ entries. entries ≡ []) }
     {
-        RunEntries {
-            entries: Vec::new(alloc),
-        }
+        let entries = Vec::with_capacity(alloc, room)?;
+        Ok(RunEntries { entries })
     }
 
     /// Puts the entry behind the others.
@@ -68,21 +67,23 @@ pub(crate) fn entries_by_run(
     ensures runs { IfOk result (λ parts. length parts.items ≡ runs) }
     ensures apart { IfOk result (λ parts. AreApart parts.items history.now) }
 {
-    let mut parts = empty_parts(alloc, runs)?;
+    // a run that commits has fewer answers than its share of the entries, where each run has as many
+    let room = history.len().checked_div(runs).unwrap_or(0);
+    let mut parts = empty_parts(alloc, runs, room)?;
     'entries: for kept in history {
         put_to_run(&mut parts, *kept)?;
     }
     Ok(parts)
 }
 
-/// No entries for each of so many runs.
-fn empty_parts(alloc: Global, runs: usize) -> Result<Vec<RunEntries>, AllocError>
+/// No entries for each of so many runs, with room for so many.
+fn empty_parts(alloc: Global, runs: usize, room: usize) -> Result<Vec<RunEntries>, AllocError>
     ensures runs { IfOk result (λ parts. length parts.items ≡ runs) }
     ensures apart { IfOk result (λ parts. AreApart parts.items []) }
 {
     let mut parts = Vec::with_capacity(alloc, runs)?;
     'runs: for _ in 0..runs {
-        parts.push_reserved(RunEntries::none(alloc));
+        parts.push_reserved(RunEntries::with_room(alloc, room)?);
     }
     Ok(parts)
 }
