@@ -6,6 +6,7 @@ pub mod Searching
 pub mod HubStates
 pub mod NextUndos
 pub mod HubChoices
+pub mod EndedRuns
 pub mod HubCloses
 pub mod HubLaws
 pub mod HubChanges

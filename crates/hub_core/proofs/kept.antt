@@ -11,6 +11,8 @@ pub mod TableStands
 pub mod HubReads
 pub mod Sizes
 pub mod EndedOnce
+pub mod TableFits
+pub mod KeptByModel
 pub mod OrderSteps
 pub mod FallenOrders
 pub mod Finds

@@ -1,6 +1,8 @@
 -- The runs that are marked, each at a device, as numbers.
 use Rattle.hub_core.specs.BlockedRuns.{IsBlocked, next_device}
 use Rattle.lock_leasing.specs.Configurations.{Configuration}
+use Rattle.hub_core.specs.declared.turns.Turn.TheVariants.{Absent, Go, Moved, Over, Wait}
+use Rattle.hub_core.specs.declared.turns.Turn.{Turn}
 use Rattle.std.specs.Int.{bit_at}
 use Rattle.std.specs.Prelude.{Bool, List, None, Option, Some, false, nat_lt, slice_index_or, true, ℕ, ◌&&◌, ◌-◌, ◌==◌, ◌≡◌, ◌⊎◌}
 
@@ -42,3 +44,24 @@ pub record AreBlocked (s : Configuration) (b : BlockedState) : Type 0 where
 abbrev pub MayHaveMarked : BlockedState → ℕ → Option ℕ → BlockedState → Type 0
 MayHaveMarked b r None after = b ≡ after
 MayHaveMarked b r (Some d) after = HasMarked b r d after
+
+-- Under the weak model
+
+-- the run is told to wait
+abbrev pub is_waiting : {D : Type 0} → Turn D → Bool
+is_waiting (Go grip) = false
+is_waiting (Moved made) = false
+is_waiting (Wait why) = true
+is_waiting (Over end made) = false
+is_waiting Absent = false
+
+-- where it waits it may be marked at this device
+abbrev pub MarkedIf : Bool → BlockedState → ℕ → Option ℕ → BlockedState → Type 0
+MarkedIf true freed r d after = MayHaveMarked freed r d after
+MarkedIf false freed r d after = freed ≡ after
+
+-- no run is marked any more, but for this one where it waits, which may be marked at this device
+pub record AreFreedWeakly (waiting : Bool) (r : ℕ) (d : Option ℕ) (after : BlockedState) : Type 0 where
+  pub freed : BlockedState
+  pub none : NoneMarked freed
+  pub marked : MarkedIf waiting freed r d after

@@ -1,7 +1,7 @@
 -- Runs that are known to wait at every moment, and the steps that end no wait of theirs.
 use Rattle.command_rules.specs.Rosters.{command_at, is_run}
 use Rattle.history_book.specs.Histories.{entries_of}
-use Rattle.history_book.specs.Readings.{Reading, is_doomed, is_live, next_command}
+use Rattle.history_book.specs.Readings.{is_doomed, is_live, next_command}
 use Rattle.history_book.specs.Settings.{Setting}
 use Rattle.history_book.specs.declared.entries.Entry.{Entry}
 use Rattle.history_book.specs.declared.entries.Entry.TheVariants.{Arrived, Did, Doomed, Ended, Fell, Placed, Rose, Undid}
@@ -10,7 +10,7 @@ use Rattle.hub_core.specs.Steps.{Absent, Choice, HandsOut, Moves, Over, Waits, c
 use Rattle.lock_leasing.specs.Configurations.{Configuration, read_of}
 use Rattle.lock_leasing.specs.Waits.{grip_wait}
 use Rattle.std.specs.List.{list_all}
-use Rattle.std.specs.Prelude.{Bool, IsTrue, List, None, Option, false, if◌then◌else◌, is_none, not, option_map, true, ℕ, ◌&&◌, ◌++◌, ◌==◌, ◌≡◌, ◌≤◌}
+use Rattle.std.specs.Prelude.{Bool, List, None, Option, false, if◌then◌else◌, is_none, not, option_map, true, ℕ, ◌&&◌, ◌++◌, ◌==◌, ◌≡◌, ◌≤◌}
 
 -- the run is told to wait
 abbrev pub is_wait : Choice → Bool

@@ -3,12 +3,21 @@ use Rattle.home_types.specs.declared.worlds.Stand.{Stand}
 use Rattle.hub_core.specs.OpenHubs.{device_at}
 use Rattle.hub_core.specs.declared.known.DeviceProgress.{DeviceProgress}
 use Rattle.lineage_table.specs.Accesses.{standing_value}
-use Rattle.lineage_table.specs.Lineages.{LineageState}
-use Rattle.std.specs.Prelude.{List, Some, length, slice_get, slice_index_or, ℕ, ◌+◌, ◌<◌, ◌≡◌, ◌≤◌}
+use Rattle.lineage_table.specs.Lineages.{LineageState, lineage_at}
+use Rattle.std.specs.Prelude.{List, Some, [], length, slice_get, slice_index_or, suc, zero, ℕ, ◌++◌, ◌+◌, ◌<◌, ◌∷◌, ◌≡◌, ◌≤◌}
 
 -- how the lineage of a device leaves it: at the value that stands, up or down as it is counted
 abbrev pub stand_left : LineageState → Stand
 stand_left s = record { value = standing_value s.committed s.accesses; up = s.up }
+
+-- how a device is left under the weak model: where it is known to stand, up or down as it is counted
+abbrev pub known_left : List DeviceProgress → List LineageState → ℕ → Stand
+known_left known table d = record { value = (device_at known d).held; up = (lineage_at table d).up }
+
+-- .. the first so many devices
+abbrev pub all_known_left : List DeviceProgress → List LineageState → ℕ → List Stand
+all_known_left known table zero = []
+all_known_left known table (suc n) = all_known_left known table n ++ known_left known table n ∷ []
 
 -- each device is known, and its count is not below that of the opening
 pub record NoneFell {D : Type 0} (count : D → ℕ) (count_then : DeviceProgress → ℕ) (known : List DeviceProgress) (devices : List D) : Type 0 where

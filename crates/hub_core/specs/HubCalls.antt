@@ -20,7 +20,7 @@ use Rattle.hub_core.specs.CleanReads.{ReadsAreClean}
 use Rattle.hub_core.specs.Homes.{HomeState}
 use Rattle.hub_core.specs.HubSteps.{Carried, Chose, Give, GiveProbe, Gave, HubStep, Probed, Refused, Returned, Take, TakeProbe, task_of}
 use Rattle.hub_core.specs.JustifiedAborts.{IsJustified}
-use Rattle.hub_core.specs.LegalWindows.{IsLegalWindow}
+use Rattle.hub_core.specs.LegalWindows.{IsLegalWindow, history_of}
 use Rattle.hub_core.specs.OpenHubs.{OpenHub, configuration_of, device_at, state_of}
 use Rattle.hub_core.specs.Stage.{StageAllows, has_must_check}
 use Rattle.hub_core.specs.Steps.{Absent as IsAbsent, Choice, HandsOut, Moves, Over as IsOver, Waits, choice_of, opened}
@@ -107,6 +107,11 @@ pub record NoneFails (w : Setting) (faults : List ℕ) : Type 0 where
   pub up : (d : ℕ) → d < length w.first → (stand_at w.first d).up ≡ true
   pub steady : (d : ℕ) → d < length w.first → slice_index_or faults d 0 ≡ 0
 
+-- every run of the window has ended, and where runs are served as they come and no device fails, each that has no must `check` has committed
+pub record RunsHaveEnded (w : Setting) (closed : WindowRecord) : Type 0 where
+  pub ended : (r : ℕ) → is_run w.runs r ≡ true → is_some ((reading w (history_of closed)).run r).ended ≡ true
+  pub commits : w.mode.scheduler ≡ Fcfs → NoneFails w closed.faults.items → (r : ℕ) → is_run w.runs r ≡ true → has_must_check w.runs r ≡ false → ((reading w (history_of closed)).run r).ended ≡ Some Committed
+
 -- the window was closed with this record, and leaves this home: its devices are those of the hub, and their counts rose as the record says, the probes by those that were taken
 pub record IsClosed {D : Type 0} (turns probes faults : D → ℕ) (s : OpenHub D) (home : HomeState D) (closed : WindowRecord) : Type 0 where
   pub legal : IsLegalWindow s.setting closed
@@ -115,9 +120,8 @@ pub record IsClosed {D : Type 0} (turns probes faults : D → ℕ) (s : OpenHub 
   pub last : home.world ≡ closed.last.devices.items
   pub opened : home.opened ≡ s.opened + 1
   pub places : s.places ≡ all_home home.devices
-  -- where runs are served as they come and no device fails, every run that has no must `check` commits
-  pub commits : s.setting.mode.scheduler ≡ Fcfs → NoneFails s.setting closed.faults.items → (r : ℕ) → is_run s.setting.runs r ≡ true → has_must_check s.setting.runs r ≡ false → ((reading s.setting (entries_of closed.history.items)).run r).ended ≡ Some Committed
-  -- and where no device fails, each is up
+  pub ends : RunsHaveEnded s.setting closed
+  -- where no device fails, each is up
   pub up : NoneFails s.setting closed.faults.items → (d : ℕ) → d < length home.world → (stand_at home.world d).up ≡ true
   pub turns_rose : (d : ℕ) (device : D) → slice_get home.devices d ≡ Some device → turns device ≡ (device_at s.devices d).at_opening.turns + slice_index_or closed.turns.items d 0
   pub probes_rose : (d : ℕ) (device : D) → slice_get home.devices d ≡ Some device → probes device ≡ (device_at s.devices d).at_opening.probes + (s.rounds - (device_at s.devices d).probes_left)
@@ -173,6 +177,8 @@ pub record HubStands {D : Type 0} (stands turns probes faults : D → ℕ) (s : 
   pub clean : is_weak s.setting.mode ≡ false → ReadsAreClean s.setting (entries_of s.history)
   pub places : is_weak s.setting.mode ≡ false → PlacesAreScheduled s.setting (entries_of s.history)
   pub justified : IsJustified s.setting (entries_of s.history)
+  -- no moment that the history tells is later than the last one
+  pub moment : (read_of (configuration_of s)).moment ≤ s.moment
   pub stand : DevicesStand stands s
   pub told : CallsAreTold turns probes faults s
   -- the window is one of those that this stage works

@@ -1,7 +1,7 @@
 -- What is kept of a hub's configuration in each of its steps.
 use Rattle.history_book.specs.Histories.{entries_of}
 use Rattle.history_book.specs.Readings.{Reading, is_live}
-use Rattle.history_book.specs.Settings.{Setting, is_strict}
+use Rattle.history_book.specs.Settings.{Setting, is_strict, is_weak}
 use Rattle.history_book.specs.WellFormed.{IsWellFormed}
 use Rattle.history_book.specs.declared.entries.Cause.TheVariants.{DownAtEnd, Lost, MustDown, Refuted, Revoked}
 use Rattle.history_book.specs.declared.entries.Entry.{Entry}
@@ -102,9 +102,10 @@ pub record HistoryIsKept (s : Configuration) : Type 0 where
   pub in_turn : ActsInTurn s.setting (read_of s) s.grips
   pub first : NoneAnsweredDoomed (read_of s) s.grips
 
--- what is kept of a configuration in which each device stands, or stood as it went out, at this value: of a window that may be opened, and that this stage works
+-- what is kept of a configuration in which each device stands, or stood as it went out, at this value: of a window under a model with an order, that may be opened, and that this stage works
 pub record ConfigurationIsKept (s : Configuration) (rounds opened : ℕ) (held : ℕ → ℕ) : Type 0 where
   pub opens : MayOpen s.setting rounds opened
+  pub strong : is_weak s.setting.mode ≡ false
   pub stage : StageAllows s.setting rounds
   pub kinds : length s.setting.kinds ≡ length s.setting.first
   -- each restart answers a probe, and no more probes of a device are taken than there are rounds

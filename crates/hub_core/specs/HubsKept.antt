@@ -13,14 +13,14 @@ use Rattle.hub_core.specs.AccountedCalls.{told_calls}
 use Rattle.hub_core.specs.Homes.{CountsAreLow}
 use Rattle.hub_core.specs.Bounds.{most_entries, most_items}
 use Rattle.hub_core.specs.HubCalls.{faults_told, probes_taken}
-use Rattle.hub_core.specs.HubKept.{ConfigurationIsKept}
 use Rattle.hub_core.specs.HubSteps.{task_of}
 use Rattle.hub_core.specs.OpenHubs.{OpenHub, configuration_of, device_at, events_in, held_in, purpose_of}
+use Rattle.hub_core.specs.KeptByModel.{IsKeptByModel}
 use Rattle.hub_core.specs.KeptOrders.{OrderIsBeside}
 use Rattle.hub_core.specs.ReadHistories.{HistoryState}
 use Rattle.hub_core.specs.declared.open_windows.ClosingLists.{ClosingLists}
 use Rattle.hub_core.specs.declared.open_windows.OpenWindow.TheInside.{Inside}
-use Rattle.lock_leasing.specs.Configurations.{Grips, read_of}
+use Rattle.lock_leasing.specs.Configurations.{Configuration, Grips, read_of}
 use Rattle.lock_leasing.specs.Waits.{grip_wait}
 use Rattle.std.specs.Prelude.{Bool, IsTrue, List, Option, Some, [], count_by, false, length, nat_lt, option_map, slice_get, suc, sum_by, true, ℕ, ◌+◌, ◌-◌, ◌<◌, ◌≡◌, ◌≤◌}
 
@@ -58,9 +58,9 @@ abbrev pub is_away : {D : Type 0} → Place D → Bool
 is_away (Home device) = false
 is_away (Out slip task) = nat_lt 0 slip.maker
 
--- what is kept of what a hub shows
-pub record HubIsKept {D : Type 0} (stands turns probes faults : D → ℕ) (s : OpenHub D) : Type 0 where
-  pub configuration : ConfigurationIsKept (configuration_of s) s.rounds s.opened (held_in s)
+-- what is kept of what a hub shows, where this is kept of its configuration
+pub record HubIsKeptBy (Kept : Configuration → ℕ → ℕ → (ℕ → ℕ) → Type 0) {D : Type 0} (stands turns probes faults : D → ℕ) (s : OpenHub D) : Type 0 where
+  pub configuration : Kept (configuration_of s) s.rounds s.opened (held_in s)
   pub devices_size : length s.devices ≡ length s.setting.first
   pub places_size : length s.places ≡ length s.setting.first
   pub home : (d : ℕ) (device : D) → slice_get s.places d ≡ Some (Home device) → FitsAtHome stands turns probes faults s d device
@@ -71,6 +71,10 @@ pub record HubIsKept {D : Type 0} (stands turns probes faults : D → ℕ) (s : 
   pub events : (d : ℕ) → d < length s.setting.first → (device_at s.devices d).events ≡ events_in (read_of (configuration_of s)) d
   -- each ticket is of a call that is told, of a device that is out for a run, or of a probe
   pub few_tickets : s.tickets ≤ length s.history + count_by is_away s.places + all_probes_taken s
+
+-- .. in each model
+abbrev pub HubIsKept : {D : Type 0} → (D → ℕ) → (D → ℕ) → (D → ℕ) → (D → ℕ) → OpenHub D → Type 0
+HubIsKept stands turns probes faults s = HubIsKeptBy IsKeptByModel stands turns probes faults s
 
 -- an empty list with so much room
 abbrev pub IsEmptyFor : {T : Type 0} → Listed T → ℕ → Type 0

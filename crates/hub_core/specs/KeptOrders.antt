@@ -1,6 +1,7 @@
 -- What the line and the table of a window ask for, and what is kept of them.
-use Rattle.history_book.specs.Readings.{Reading}
-use Rattle.history_book.specs.Settings.{Setting}
+use Rattle.command_rules.specs.Rosters.{command_at, commands_of, is_run}
+use Rattle.history_book.specs.Readings.{Reading, next_of}
+use Rattle.history_book.specs.Settings.{Setting, is_weak}
 use Rattle.hub_core.specs.Bounds.{most_items}
 use Rattle.hub_core.specs.ReadHistories.{HistoryState, read_in}
 use Rattle.failure_serialization.specs.Events.{event_place}
@@ -14,9 +15,9 @@ use Rattle.lineage_table.specs.Lineages.{LineageState, accesses_at, counted_up, 
 use Rattle.lineage_table.specs.declared.accesses.Status.TheVariants.{Acquired, Scheduled}
 use Rattle.lock_leasing.specs.Configurations.{Grips}
 use Rattle.serial_line.specs.Marks.{Marked, stands, with_item}
-use Rattle.std.specs.Prelude.{Bool, List, None, Option, Some, false, if◌then◌else◌, length, option_map, slice_index_or, true, unwrap_or, ℕ, ◌+◌, ◌-◌, ◌<◌, ◌≡◌, ◌≤◌}
+use Rattle.std.specs.Prelude.{Bool, List, None, Option, Some, [], false, if◌then◌else◌, length, option_map, slice_index_or, true, unwrap_or, ℕ, ◌+◌, ◌-◌, ◌<◌, ◌≡◌, ◌≤◌}
 use Rattle.window_order.specs.MarksKept.{MarksAreKept}
-use Rattle.window_order.specs.TableChanges.{ChangesEach, IsWaiting, acquired_if, doomed_unless, noted, passed_if}
+use Rattle.window_order.specs.TableChanges.{ChangesEach, IsWaiting, doomed_unless, noted, passed_if}
 use Rattle.window_order.specs.TableKept.{TableIsKept}
 
 -- the run has not touched the device: its access is scheduled
@@ -28,13 +29,18 @@ pub record MayNote (r : ℕ) (s : LineageState) : Type 0 where
   pub status : status_of r s.accesses ≡ Some (if is_first r s then Scheduled else Acquired)
   pub first : is_first r s ≡ true → IsWaiting r s
 
--- the run touches the device, where it has not before: the scheduled accesses before its own are passed, and then its own is acquired
-abbrev pub acquired_first : Bool → ℕ → View → LineageState → LineageState
-acquired_first first r view s = acquired_if first r view (passed_if first r s)
-
--- .. and it notes its answer there
+-- the run's answer on the device is noted; where it has not touched it before, the scheduled accesses before its own are passed first, and its own is acquired
 abbrev pub noted_first : ℕ → Bool → View → Option ℕ → Bool → LineageState → LineageState
 noted_first r first view wrote last s = noted r first view wrote last (passed_if first r s)
+
+-- .. to the command of this number, which was just answered
+pub record MayNoteAnswer (h : HistoryState) (r k d : ℕ) (table : List LineageState) : Type 0 where
+  pub run : is_run h.setting.runs r ≡ true
+  pub there : k < length (commands_of h.setting.runs r)
+  pub device : (command_at h.setting.runs r k).device.0 ≡ d
+  pub answered : next_of (read_in h) r ≡ k + 1
+  pub homed : d < length table
+  pub turn : MayNote r (lineage_at table d)
 
 -- A device fails or comes back
 
@@ -70,9 +76,20 @@ abbrev pub IsLostTo : Option RunNo → List (Option DeviceNo) → List LineageSt
 IsLostTo None hands table later = later ≡ table
 IsLostTo (Some r) hands table later = ChangesEach (doomed_unless (hand_of hands r.0) r.0) table later
 
--- the table is that of the reading and the grips, and the line too, each item with what it has touched; and it has room for all its items, where there are so many rounds of probes
+-- the lineage of a device tells how it is counted, and has no access: under the weak model no run asks for more
+pub record LineageIsBare (n : Reading) (d : ℕ) (s : LineageState) : Type 0 where
+  pub accesses : s.accesses ≡ []
+  pub up : s.up ≡ n.up d
+
+-- the table is that of the reading and the grips, under the weak model a bare one
+pub record TableFits (w : Setting) (n : Reading) (g : Grips) (table : List LineageState) : Type 0 where
+  pub devices : length table ≡ length w.first
+  pub ordered : is_weak w.mode ≡ false → TableIsKept w n g table
+  pub weakly : is_weak w.mode ≡ true → (d : ℕ) → d < length w.first → LineageIsBare n d (lineage_at table d)
+
+-- .. and the line is theirs too, each item with what it has touched; and it has room for all its items, where there are so many rounds of probes
 pub record IsOrderOf (rounds : ℕ) (w : Setting) (n : Reading) (g : Grips) (line : Marked) (table : List LineageState) : Type 0 where
-  pub table_is : TableIsKept w n g table
+  pub table_is : TableFits w n g table
   pub line_is : MarksAreKept n g line.marks
   pub room : most_items (length w.runs) (length w.first) rounds ≤ line.spare + length line.marks
 

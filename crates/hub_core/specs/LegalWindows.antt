@@ -76,6 +76,8 @@ pub record IsWeaklyLegal (w : Setting) (closed : WindowRecord) : Type 0 where
   pub size : length closed.last.devices.items ≡ length w.first
   pub counted : (d : ℕ) → d < length w.first → (stand_at closed.last.devices.items d).up ≡ (reading w (history_of closed)).up d
   pub values : (d : ℕ) → d < length w.first → (stand_at closed.last.devices.items d).value ≡ (reading w (history_of closed)).last d
+  -- no order is claimed
+  pub unclaimed : closed.order.items ≡ []
 
 -- a legal window: weakly legal under the weak model, serially legal under each other one
 abbrev pub IsLegalWindow : Setting → WindowRecord → Type 0

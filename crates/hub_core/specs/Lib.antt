@@ -11,6 +11,8 @@ pub mod HubSteps
 pub mod Openings
 pub mod Stage
 pub mod HubKept
+pub mod WeakKept
+pub mod WeakSteps
 pub mod OpenHubs
 pub mod Bounds
 pub mod Homes
@@ -25,3 +27,4 @@ pub mod KeptOrders
 pub mod BlockedRuns
 pub mod BlockedMarks
 pub mod MarkedRuns
+pub mod KeptByModel

@@ -1,7 +1,7 @@
--- What this stage of the hub is built for: every model but the weak one, with runs placed first come first served, on a home with every device up, runs that follow no run, and no probes.
+-- What this stage of the hub is built for: runs that are placed first come first served, and follow no run. Then how a run steps so in the models with an order.
 use Rattle.command_rules.specs.Rosters.{Run, commands_of, device_no, followed_by, is_run, run_no}
 use Rattle.history_book.specs.Readings.{Reading, next_command, next_of}
-use Rattle.history_book.specs.Settings.{Setting, is_weak}
+use Rattle.history_book.specs.Settings.{Setting}
 use Rattle.history_book.specs.declared.entries.Cause.{Cause}
 use Rattle.history_book.specs.declared.entries.Entry.TheVariants.{Arrived, Placed}
 use Rattle.home_types.specs.declared.commands.Command.{Command}
@@ -30,7 +30,6 @@ has_must_check runs r = list_any is_must_check (commands_of runs r)
 
 -- this stage works the window
 pub record StageAllows (w : Setting) (rounds : ℕ) : Type 0 where
-  pub strong : is_weak w.mode ≡ false
   pub scheduler : w.mode.scheduler ≡ Fcfs
   pub follows_none : (r : ℕ) → followed_by w.runs r ≡ None
 

@@ -1,17 +1,22 @@
-ghost use Rattle.std.specs.Prelude.{◌≡◌, ◌<◌, IsSome, IsTrue, None, [], ◌∷◌, max, option_map};
+ghost use Rattle.std.specs.Prelude.{◌≡◌, ◌<◌, ◌||◌, IsSome, IsTrue, None, Some, [], ◌∷◌, false, if◌then◌else◌, max, not, option_map, true};
 ghost use Rattle.command_rules.specs.Rosters.{is_run};
 ghost use Rattle.lock_leasing.specs.Configurations.{read_of};
 ghost use Rattle.hub_core.specs.Decisions.{told_choice};
 ghost use Rattle.hub_core.specs.HubCalls.{Answers, GoesOut, SameWindow};
 ghost use Rattle.hub_core.specs.OpenHubs.{configuration_of, purpose_of};
-ghost use Rattle.hub_core.specs.ReadHistories.{with_doom};
+ghost use Rattle.hub_core.specs.KeptOrders.{MayNoteAnswer, is_first, noted_first};
+ghost use Rattle.hub_core.specs.ReadHistories.{read_in, with_doom};
 ghost use Rattle.hub_core.specs.Steps.{Waits, Absent, Moves, Over, HandsOut, choice_of};
 ghost use Rattle.history_book.specs.Histories.{entries_made};
+ghost use Rattle.history_book.specs.Readings.{is_doomed, is_fine, is_told, pends};
+ghost use Rattle.history_book.specs.Settings.{is_weak};
+ghost use Rattle.lineage_table.specs.Lineages.{lineage_at, with_lineage};
+ghost use Rattle.lock_leasing.specs.Tables.{view_when};
 ghost use Rattle.history_book.specs.declared.entries.End.TheVariants.{Aborted, Committed};
 ghost use Rattle.window_order.specs.TableChanges.{ChangesEach, doomed_lineage};
 
 use crate::decisions::Chosen;
-use crate::kept_orders::KeptOrder;
+use crate::kept_orders::{KeptOrder, note_of};
 use crate::known::DeviceProgress;
 use crate::open_windows::OpenWindow;
 use crate::purposes::Purpose;
@@ -20,7 +25,7 @@ use device_gate::{Grip, Ready};
 use device_states::Device;
 use fcfs_scheduler::place;
 use history_book::{Cause, Entry, Made};
-use home_types::{Answer, DeviceNo, RunNo};
+use home_types::{Answer, DeviceNo, RunNo, Value};
 
 /// No entries.
 pub(crate) const NONE_MADE: Made = Made {
@@ -58,9 +63,23 @@ impl<D: Device> OpenWindow<D> {
         one_made(self.history.arrive(r, self.moment))
     }
 
-    /// The run is placed where the scheduler says, and the entry, the line and the table are told that place.
-    pub(crate) fn place(&mut self, r: RunNo, moment: u64) -> Made
+    /// The run is placed.
+    pub(crate) fn join(&mut self, r: RunNo, moment: u64) -> Made
         requires { choice_of (configuration_of self.old) r.0 moment ≡ told_choice r.0 (max self.old.moment moment) (read_of (configuration_of self.old)) Chosen.Joins }
+        ensures answer { Answers self.old r.0 moment (Moves (entries_made result)) self.new }
+        ensures window { SameWindow self.old self.new }
+    {
+        if self.history.is_weak() {
+            self.place_at_end(r, moment)
+        } else {
+            self.place(r, moment)
+        }
+    }
+
+    /// The run is placed where the scheduler says, and the entry, the line and the table are told that place.
+    fn place(&mut self, r: RunNo, moment: u64) -> Made
+        requires strong { is_weak self.old.setting.mode ≡ false }
+        requires chosen { choice_of (configuration_of self.old) r.0 moment ≡ told_choice r.0 (max self.old.moment moment) (read_of (configuration_of self.old)) Chosen.Joins }
         ensures answer { Answers self.old r.0 moment (Moves (entries_made result)) self.new }
         ensures window { SameWindow self.old self.new }
     {
@@ -91,8 +110,8 @@ impl<D: Device> OpenWindow<D> {
         let d = self.history.command(r, k).device;
         self.moment = self.moment.max(moment);
         let entry = self.history.answer(r, k, Answer::Down);
-        let is_last = self.history.is_done(r, k, d);
-        self.order.note_down(d, r, is_last);
+        self.order.line.mark(r, d);
+        note_answer(&self.history, &mut self.order, r, k, d, Answer::Down, 0);
         let doomed = doom_for(&mut self.history, &mut self.order, r, must_down(k, must));
         Made {
             a: Some(entry),
@@ -156,6 +175,29 @@ impl<D: Device> OpenWindow<D> {
         self.hands.set(r.0 as u64 - 1, Some(d));
         self.gate.hand_out(d, r.0, known.held, task)
     }
+}
+
+/// The run, whose command with the number `k` was just answered so, notes that on the device, which stands at this value.
+/// Under the weak model it has no access there, and notes nothing.
+pub(crate) fn note_answer(
+    history: &ReadHistory,
+    order: &mut KeptOrder,
+    r: RunNo,
+    k: u32,
+    d: DeviceNo,
+    answer: Answer,
+    held: Value,
+)
+    requires told { is_weak history.now.setting.mode ≡ false → MayNoteAnswer history.now r.0 k d.0 order.old.table }
+    ensures line { order.new.line ≡ order.old.line }
+    ensures weakly { is_weak history.now.setting.mode ≡ true → order.new.table ≡ order.old.table }
+    ensures ordered { is_weak history.now.setting.mode ≡ false → order.new.table ≡ with_lineage order.old.table d.0 (noted_first r.0 (is_first r.0 (lineage_at order.old.table d.0)) (view_when (is_told answer)) (if is_fine answer then Some held else None) (is_doomed (read_in history.now) r.0 || not (pends history.now.setting (read_in history.now) r.0 d.0))) }
+{
+    if history.is_weak() {
+        return;
+    }
+    let is_last = history.is_done(r, k, d);
+    order.note(d, r, note_of(answer, held, is_last));
 }
 
 /// The run is doomed, where there is a cause.

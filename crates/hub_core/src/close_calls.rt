@@ -1,5 +1,5 @@
-ghost use Rattle.std.specs.Prelude.{◌≡◌, ◌≤◌, ◌+◌, IfErr, IfOk, None, Some, length, map, ℕ};
-ghost use Rattle.hub_core.specs.ClosedHomes.{HaveRisen, NoneFell, stand_left};
+ghost use Rattle.std.specs.Prelude.{◌≡◌, ◌≤◌, ◌+◌, IfErr, IfOk, None, Some, [], false, length, map, true, ℕ};
+ghost use Rattle.hub_core.specs.ClosedHomes.{HaveRisen, NoneFell, all_known_left, stand_left};
 ghost use Rattle.hub_core.specs.HubCalls.{IsClosed};
 ghost use Rattle.hub_core.specs.HubsKept.{IsEmptyFor};
 ghost use Rattle.hub_core.specs.OpenHubs.{configuration_of};
@@ -49,6 +49,7 @@ impl<D: Device> OpenWindow<D> {
             hands: _,
             closing,
         } = self;
+        let weak = history.is_weak();
         let ReadHistory {
             roster: _,
             mode,
@@ -69,9 +70,9 @@ impl<D: Device> OpenWindow<D> {
             mode,
             first,
             history: book.into_list(),
-            order: items_in(items, &order.line),
+            order: order_of(weak, items, &order.line),
             last: World {
-                devices: stands_in(last, &order.table),
+                devices: stands_left(weak, last, &order.table, &known),
             },
             turns: turns_in(turns, &known, &devices),
             faults: faults_in(faults, &known, &devices),
@@ -79,13 +80,58 @@ impl<D: Device> OpenWindow<D> {
         let home = Home {
             kinds,
             world: World {
-                devices: stands_in(world, &order.table),
+                devices: stands_left(weak, world, &order.table, &known),
             },
             devices,
             opened: opened + 1,
         };
         (home, record)
     }
+}
+
+/// The order that a record claims: the line, under the weak model none; in a list that has room for it.
+fn order_of(weak: bool, empty: List<Item>, line: &Line) -> List<Item>
+    requires room { IsEmptyFor empty (length line.now.marks) }
+    ensures ordered { weak ≡ false → result.items ≡ items_of line.now.marks }
+    ensures weakly { weak ≡ true → result.items ≡ [] }
+{
+    if weak { empty } else { items_in(empty, line) }
+}
+
+/// How the devices are left, in a list that has room for them.
+fn stands_left(
+    weak: bool,
+    empty: List<Stand>,
+    table: &Table,
+    known: &List<DeviceProgress>,
+) -> List<Stand>
+    requires room { IsEmptyFor empty (length table.now) }
+    requires size { length known.now.items ≡ length table.now }
+    ensures ordered { weak ≡ false → result.items ≡ map stand_left table.now }
+    ensures weakly { weak ≡ true → result.items ≡ all_known_left known.now.items table.now (length table.now) }
+{
+    if weak {
+        stands_known(empty, table, known)
+    } else {
+        stands_in(empty, table)
+    }
+}
+
+/// How the devices are known to stand, in a list that has room for them.
+fn stands_known(empty: List<Stand>, table: &Table, known: &List<DeviceProgress>) -> List<Stand>
+    requires room { IsEmptyFor empty (length table.now) }
+    requires size { length known.now.items ≡ length table.now }
+    ensures { result.items ≡ all_known_left known.now.items table.now (length table.now) }
+{
+    let mut stands = empty;
+    'devices: for at in 0..table.devices() {
+        let pushed = stands.push(Stand {
+            value: known.get(at as u64).unwrap().held,
+            up: table.is_up(DeviceNo(at as u16)),
+        });
+        pushed.unwrap();
+    }
+    stands
 }
 
 /// The items of the line, in a list that has room for them.

@@ -1,6 +1,7 @@
 ghost use Rattle.std.specs.Prelude.{◌≡◌, ◌<◌, ◌≤◌, IsTrue, None, false, find, length, max, option_map, true, unwrap_or, ℕ};
 ghost use Rattle.command_rules.specs.Rosters.{command_at, commands_of, is_run};
 ghost use Rattle.history_book.specs.Readings.{is_live};
+ghost use Rattle.history_book.specs.Settings.{is_weak};
 ghost use Rattle.hub_core.specs.Decisions.{told_choice, unbarred_command};
 ghost use Rattle.hub_core.specs.HubSteps.{command_task, task_of};
 ghost use Rattle.hub_core.specs.OpenHubs.{configuration_of, purpose_of};
@@ -74,6 +75,9 @@ impl<D: Device> OpenWindow<D> {
         if progress.placed.is_none() {
             return Chosen::Joins;
         }
+        if self.history.is_weak() {
+            return self.decide_weakly(r, progress);
+        }
         if let Some(cause) = progress.doomed {
             return self.decide_doomed(r, cause);
         }
@@ -86,6 +90,7 @@ impl<D: Device> OpenWindow<D> {
     /// What `r` is to do, which is doomed for this cause: it undoes its effective writes, by ascending device, and then
     /// ends. A write on a device that is counted down is dropped.
     fn decide_doomed(&self, r: RunNo, cause: Cause) -> Chosen
+        requires strong { is_weak self.now.setting.mode ≡ false }
         requires live { is_live (read_of (configuration_of self.now)) r.0 ≡ true }
         ensures { (m : ℕ) → told_choice r.0 m (read_of (configuration_of self.now)) result ≡ stage_doomed self.now.setting (read_of (configuration_of self.now)) (configuration_of self.now).grips r.0 cause }
     {
@@ -112,6 +117,7 @@ impl<D: Device> OpenWindow<D> {
     /// What `r` is to do, which has all its commands answered: it commits, where the model finds no device down that it
     /// needs up.
     fn decide_answered(&self, r: RunNo) -> Chosen
+        requires strong { is_weak self.now.setting.mode ≡ false }
         requires turn { IsUnderWay (read_of (configuration_of self.now)) r.0 }
         ensures { (m : ℕ) → told_choice r.0 m (read_of (configuration_of self.now)) result ≡ decide_answered self.now.setting (read_of (configuration_of self.now)) (configuration_of self.now).grips r.0 }
     {
@@ -124,6 +130,7 @@ impl<D: Device> OpenWindow<D> {
 
     /// What the next command of `r`, with the number `k`, is to do.
     fn decide_command(&self, r: RunNo, k: u32, command: Command) -> Chosen
+        requires strong { is_weak self.now.setting.mode ≡ false }
         requires turn { IsAtCommand (configuration_of self.now) r.0 k }
         requires command { command_at self.now.setting.runs r.0 k ≡ command }
         ensures { (m : ℕ) → told_choice r.0 m (read_of (configuration_of self.now)) result ≡ stage_command self.now.setting (read_of (configuration_of self.now)) (configuration_of self.now).grips r.0 k command }
@@ -145,6 +152,7 @@ impl<D: Device> OpenWindow<D> {
     /// A run that sees the device down is told so, whether it is home or not. Else the run waits until it is home, and
     /// is told that it is down where it is counted so.
     fn decide_unbarred(&self, r: RunNo, k: u32, command: Command) -> Chosen
+        requires strong { is_weak self.now.setting.mode ≡ false }
         requires turn { IsAtCommand (configuration_of self.now) r.0 k }
         requires command { command_at self.now.setting.runs r.0 k ≡ command }
         ensures { (m : ℕ) → told_choice r.0 m (read_of (configuration_of self.now)) result ≡ unbarred_command self.now.setting (read_of (configuration_of self.now)) (configuration_of self.now).grips r.0 k command }
@@ -172,7 +180,7 @@ impl<D: Device> OpenWindow<D> {
     }
 
     /// Whether the device is out.
-    fn is_out(&self, d: DeviceNo) -> bool
+    pub(crate) fn is_out(&self, d: DeviceNo) -> bool
         ensures { result ≡ is_out (configuration_of self.now).grips d.0 }
     {
         self.gate.slip(d).is_some()

@@ -1,7 +1,7 @@
 //! The runs that a step may have freed are blocked no more.
 ghost use Rattle.std.specs.Prelude.{◌≡◌, ◌≢◌, IsTrue, false, option_to_list, true, ◌⊎◌};
 ghost use Rattle.history_book.specs.Histories.{entries_made};
-ghost use Rattle.hub_core.specs.BlockedMarks.{AreLeft, MayHaveMarked};
+ghost use Rattle.hub_core.specs.BlockedMarks.{AreFreedWeakly, AreLeft, MayHaveMarked, is_waiting};
 ghost use Rattle.hub_core.specs.BlockedRuns.{is_quiet, next_device};
 ghost use Rattle.hub_core.specs.MarkedRuns.{IsAnsweredStill, is_out_for_command};
 ghost use Rattle.hub_core.specs.OpenHubs.{configuration_of};
@@ -9,6 +9,7 @@ ghost use Rattle.std.specs.List.{list_all};
 
 use crate::blocked_runs::BlockedRuns;
 use crate::open_windows::OpenWindow;
+use crate::turns::Turn;
 use device_states::Device;
 use history_book::{Entry, Made};
 use home_types::{DeviceNo, RunNo};
@@ -19,6 +20,25 @@ pub(crate) fn mark_waiting<D: Device>(blocked: &mut BlockedRuns, window: &OpenWi
 {
     if let Some(d) = window.next_device(r) {
         blocked.mark(r, d);
+    }
+}
+
+/// A step of the run under the weak model: it may have freed everybody, and where it waits the run alone is marked.
+pub(crate) fn free_weakly<D: Device>(
+    blocked: &mut BlockedRuns,
+    window: &OpenWindow<D>,
+    turn: &Turn<D>,
+    r: RunNo,
+)
+    ensures { AreFreedWeakly (is_waiting turn.now) r.0 (next_device (configuration_of window.now) r.0) blocked.new }
+{
+    blocked.unmark_all();
+    match turn {
+        Turn::Wait(_) => mark_waiting(blocked, window, r),
+        Turn::Go(_) => {}
+        Turn::Moved(_) => {}
+        Turn::Over(_, _) => {}
+        Turn::Absent => {}
     }
 }
 

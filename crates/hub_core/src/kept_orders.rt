@@ -3,6 +3,7 @@ ghost use Rattle.std.specs.Prelude.{◌≡◌, ◌+◌, ◌<◌, ◌≤◌, ◌^
 ghost use Rattle.std.specs.List.{All};
 ghost use Rattle.abort_rollback.specs.Undos.{next_undo};
 ghost use Rattle.command_rules.specs.Rosters.{commands_of, is_run, runs_of, touches};
+ghost use Rattle.history_book.specs.Readings.{is_fine, is_told};
 ghost use Rattle.home_types.specs.Limits.{most_devices};
 ghost use Rattle.home_types.specs.declared.items.Item.TheVariants.{Ran};
 ghost use Rattle.hub_core.specs.KeptOrders.{MayNote, is_first, noted_first};
@@ -10,6 +11,7 @@ ghost use Rattle.hub_core.specs.OpenHubs.{purpose_of};
 ghost use Rattle.hub_core.specs.PlansInTurn.{planned_in_turn};
 ghost use Rattle.lineage_table.specs.Lineages.{IsOpened, accesses_at, committed_lineage, lineage_at, removed, undone, with_lineage};
 ghost use Rattle.lock_leasing.specs.Configurations.{is_command, is_undo};
+ghost use Rattle.lock_leasing.specs.Tables.{view_when};
 ghost use Rattle.serial_line.specs.Marks.{items_of, settling, stands, touching, with_item, without};
 ghost use Rattle.window_order.specs.TableChanges.{ChangesEach, IsNewOn, first_with_access, scheduled_on, doomed_unless};
 
@@ -19,7 +21,7 @@ use crate::releases::{pass_before, release_all};
 use abort_rollback::{Undo, withdraw};
 use command_rules::Roster;
 use commit_compaction::commit;
-use home_types::{DeviceNo, Item, NoMemory, RunNo, Value, View, World};
+use home_types::{Answer, DeviceNo, Item, NoMemory, RunNo, Value, View, World};
 use lineage_table::{Access, Status, Table};
 use serial_line::Line;
 use std::alloc::Global;
@@ -108,28 +110,6 @@ impl KeptOrder {
         ensures table { self.new.table ≡ with_lineage self.old.table d.0 (undone r.0) }
     {
         self.table.undone(d, r);
-    }
-
-    /// The run notes that it was told of the device that it is down, with no call of it: it has touched it so.
-    pub(crate) fn note_down(&mut self, d: DeviceNo, r: RunNo, is_last: bool)
-        requires run { stands (Ran r) self.old.line.marks ≡ true }
-        requires device { d.0 < most_devices }
-        requires homed { d.0 < length self.old.table }
-        requires turn { MayNote r.0 (lineage_at self.old.table d.0) }
-        ensures marks { self.new.line.marks ≡ touching r.0 d.0 self.old.line.marks }
-        ensures spare { self.new.line.spare ≡ self.old.line.spare }
-        ensures table { self.new.table ≡ with_lineage self.old.table d.0 (noted_first r.0 (is_first r.0 (lineage_at self.old.table d.0)) View.Down None is_last) }
-    {
-        self.line.mark(r, d);
-        self.note(
-            d,
-            r,
-            Noted {
-                view: View::Down,
-                wrote: None,
-                is_last,
-            },
-        );
     }
 
     /// The run notes an answer on the device. Where it is its first one there, the scheduled accesses before its own are
@@ -254,5 +234,30 @@ fn run_with_access(table: &Table, d: DeviceNo, item: Item) -> Option<RunNo>
             }
         }
         Item::Failed(..) | Item::Back(..) => None,
+    }
+}
+
+/// What the answer tells of its device, which stands at this value then.
+pub(crate) fn note_of(answer: Answer, held: Value, is_last: bool) -> Noted
+    ensures view { result.view ≡ view_when (is_told answer) }
+    ensures wrote { result.wrote ≡ (if is_fine answer then Some held else None) }
+    ensures last { result.is_last ≡ is_last }
+{
+    match answer {
+        Answer::Fine => Noted {
+            view: View::Up,
+            wrote: Some(held),
+            is_last,
+        },
+        Answer::Found(_) => Noted {
+            view: View::Up,
+            wrote: None,
+            is_last,
+        },
+        Answer::Down => Noted {
+            view: View::Down,
+            wrote: None,
+            is_last,
+        },
     }
 }

@@ -25,6 +25,7 @@ mod step_calls;
 mod take_calls;
 pub mod turns;
 pub mod waits;
+mod weak_steps;
 
 pub use device_gate::{Done, Grip, Ready, Slip, Stranger, Task, Told};
 pub use homes::Home;

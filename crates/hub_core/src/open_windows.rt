@@ -121,8 +121,9 @@ impl<D: Device> OpenWindow<D> {
         &self.order.table
     }
 
-    /// Table, line, history and roster of the window.
+    /// Table, line, history and roster of the window, outside the weak model.
     pub(crate) fn standing(&self) -> Standing<'_>
+        requires strong { is_weak self.now.setting.mode ≡ false }
         ensures { IsStandingOf (configuration_of self.now) result.table.now result.line.now.marks result.book.now.items (runs_of result.roster.now) }
     {
         self.order.table.kept();
@@ -132,6 +133,13 @@ impl<D: Device> OpenWindow<D> {
             book: self.history.book(),
             roster: self.history.indexed_roster(),
         }
+    }
+
+    /// Whether the window is one of the weak model.
+    pub(crate) fn is_weak(&self) -> bool
+        ensures { result ≡ is_weak self.now.setting.mode }
+    {
+        self.history.is_weak()
     }
 
     /// Whether nothing was done in the window: no entry, the last moment 0, no device out and no probe taken.

@@ -88,6 +88,8 @@ impl<D: Device> OpenWindow<D> {
         self.order.table.kept();
         if self.order.table.is_up(d) {
             None
+        } else if self.history.is_weak() {
+            Some(self.known(d).held)
         } else {
             Some(self.order.table.stand(d))
         }

@@ -1,6 +1,6 @@
 ghost use Rattle.std.specs.Prelude.{◌≡◌, ◌+◌, ◌<◌, ◌^◌, ◌&&◌, ◌||◌, IfSome, IsTrue, None, Some, find, if◌then◌else◌, is_none, length, not, option_map, true, ℕ};
 ghost use Rattle.command_rules.specs.Rosters.{command_at, commands_of, is_run, runs_of};
-ghost use Rattle.history_book.specs.Settings.{run_numbers};
+ghost use Rattle.history_book.specs.Settings.{is_weak, run_numbers};
 ghost use Rattle.history_book.specs.Readings.{is_doomed, is_live, next_command, next_of, pends};
 ghost use Rattle.home_types.specs.Kinds.{kind_at};
 ghost use Rattle.hub_core.specs.Decisions.{died_by, refuted_by};
@@ -72,6 +72,16 @@ impl ReadHistory {
         ensures { result ≡ self.now.setting.mode.model }
     {
         self.mode.model
+    }
+
+    /// Whether the window is one of the weak model.
+    pub(crate) fn is_weak(&self) -> bool
+        ensures { result ≡ is_weak self.now.setting.mode }
+    {
+        match self.mode.model {
+            Visibility::Weak => true,
+            Visibility::Global | Visibility::Partitioned | Visibility::Eventual => false,
+        }
     }
 
     /// Whether the window has the run.
@@ -194,17 +204,17 @@ impl ReadHistory {
     }
 
     /// For what the run is doomed whose command with the number `k` died, the first one on its device or a later one. A run
-    /// that is doomed already is not doomed again.
+    /// that is doomed already is not doomed again. Under the weak model a later one counts as a first one.
     pub(crate) fn died_by(&self, r: RunNo, k: u32, first: bool) -> Option<Cause>
         requires run { IsTrue (is_run self.now.setting.runs r.0) }
         requires there { k < length (commands_of self.now.setting.runs r.0) }
-        ensures { result ≡ died_by self.now.setting (read_in self.now) r.0 k first }
+        ensures { result ≡ died_by self.now.setting (read_in self.now) r.0 k (first || is_weak self.now.setting.mode) }
     {
         if self.progress(r).doomed.is_some() {
             return None;
         }
         let command = self.command(r, k);
-        if first {
+        if first || self.is_weak() {
             must_down(k, command.must)
         } else {
             Some(Cause::Lost(command.device))

@@ -7,12 +7,11 @@ ghost use Rattle.history_book.specs.Readings.{is_fine, is_told};
 ghost use Rattle.lock_leasing.specs.Configurations.{is_undo};
 ghost use Rattle.lock_leasing.specs.Tables.{view_when};
 ghost use Rattle.hub_core.specs.HubCalls.{IsGiven, SameWindow};
-ghost use Rattle.hub_core.specs.OpenHubs.{device_at, purpose_of};
+ghost use Rattle.hub_core.specs.OpenHubs.{device_at, held_after, purpose_of};
 ghost use Rattle.hub_core.specs.Steps.{answer_told};
 
-use crate::changes::{doom_for, one_made};
+use crate::changes::{doom_for, note_answer, one_made};
 use crate::failures::{fallen, first_death, note_fall};
-use crate::kept_orders::Noted;
 use crate::known::{DeviceProgress, Events};
 use crate::open_windows::OpenWindow;
 use crate::purposes::Purpose;
@@ -42,6 +41,18 @@ fn answer_told(told: Told) -> Answer
     }
 }
 
+/// Where a device is known to stand that has come home, and stood at this value before: as the task leaves it, and as
+/// before where the call died.
+fn held_after(told: Told, task: Task, held: Value) -> Value
+    ensures { result ≡ held_after told task held }
+{
+    if has_died(told) {
+        held
+    } else {
+        value_after(task, held)
+    }
+}
+
 /// Where a device stands that stood at the value `stood`, once the task has worked.
 fn value_after(task: Task, stood: Value) -> Value
     ensures { result ≡ value_after task stood }
@@ -49,31 +60,6 @@ fn value_after(task: Task, stood: Value) -> Value
     match task {
         Task::Drive(value) | Task::Probe(Some(value)) => value,
         Task::Sense | Task::Probe(None) => stood,
-    }
-}
-
-/// What the answer tells of its device, which stands at this value then.
-fn noted(answer: Answer, held: Value, is_last: bool) -> Noted
-    ensures view { result.view ≡ view_when (is_told answer) }
-    ensures wrote { result.wrote ≡ (if is_fine answer then Some held else None) }
-    ensures last { result.is_last ≡ is_last }
-{
-    match answer {
-        Answer::Fine => Noted {
-            view: View::Up,
-            wrote: Some(held),
-            is_last,
-        },
-        Answer::Found(_) => Noted {
-            view: View::Up,
-            wrote: None,
-            is_last,
-        },
-        Answer::Down => Noted {
-            view: View::Down,
-            wrote: None,
-            is_last,
-        },
     }
 }
 
@@ -134,8 +120,7 @@ impl<D: Device> OpenWindow<D> {
         let answer = answer_told(told);
         let cause = self.history.refuted(r, k, answer);
         let entry = self.history.answer(r, k, answer);
-        let is_last = self.history.is_done(r, k, d);
-        self.order.note(d, r, noted(answer, held, is_last));
+        note_answer(&self.history, &mut self.order, r, k, d, answer, held);
         let doomed = doom_for(&mut self.history, &mut self.order, r, cause);
         Made {
             a: Some(entry),
@@ -177,8 +162,7 @@ impl<D: Device> OpenWindow<D> {
             first_death(r, first),
         );
         let entry = self.history.answer(r, k, Answer::Down);
-        let is_last = self.history.is_done(r, k, d);
-        self.order.note(d, r, noted(Answer::Down, held, is_last));
+        note_answer(&self.history, &mut self.order, r, k, d, Answer::Down, held);
         let doomed = doom_for(&mut self.history, &mut self.order, r, cause);
         Made {
             a: Some(fell.entry),
@@ -284,7 +268,7 @@ fn take_home<D: Device>(
     ensures tickets { gate.new.tickets ≡ gate.old.tickets }
     ensures devices { devices.new.items ≡ slice_set devices.old.items grip.slip.device.0 (record (device_at devices.old.items grip.slip.device.0) { held = result.held; events = events }) }
     ensures hands { hands.new.items ≡ slice_set hands.old.items (grip.slip.maker - 1) None }
-    ensures held { result.held ≡ value_after grip.task (device_at devices.old.items grip.slip.device.0).held }
+    ensures held { result.held ≡ held_after grip.stage.told grip.task (device_at devices.old.items grip.slip.device.0).held }
     ensures told { result.told ≡ grip.stage.told }
     ensures called { WasCalled grip.stage.told grip.task grip.slip (D.tag grip.device) (D.stands grip.device) (D.turns grip.device) (D.probes grip.device) (D.faults grip.device) }
 {
@@ -304,13 +288,13 @@ pub(crate) fn bring_home<D: Device>(
     ensures places { gate.new.places ≡ slice_set gate.old.places grip.slip.device.0 (Place.Home grip.device) }
     ensures tickets { gate.new.tickets ≡ gate.old.tickets }
     ensures devices { devices.new.items ≡ slice_set devices.old.items grip.slip.device.0 (record (device_at devices.old.items grip.slip.device.0) { held = result.held; events = events }) }
-    ensures held { result.held ≡ value_after grip.task (device_at devices.old.items grip.slip.device.0).held }
+    ensures held { result.held ≡ held_after grip.stage.told grip.task (device_at devices.old.items grip.slip.device.0).held }
     ensures told { result.told ≡ grip.stage.told }
     ensures called { WasCalled grip.stage.told grip.task grip.slip (D.tag grip.device) (D.stands grip.device) (D.turns grip.device) (D.probes grip.device) (D.faults grip.device) }
 {
     let d = grip.slip().device;
     let known = *devices.get(d.0 as u64).unwrap();
-    let held = value_after(grip.task(), known.held);
+    let held = held_after(grip.told(), grip.task(), known.held);
     devices.set(
         d.0 as u64,
         DeviceProgress {

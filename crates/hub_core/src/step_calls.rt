@@ -1,7 +1,7 @@
 ghost use Rattle.std.specs.Prelude.{◌≡◌, ℕ};
 ghost use Rattle.hub_core.specs.HubCalls.{IsGiven, IsProbeGiven, IsProbed, IsTurn, SameWindow};
 
-use crate::freed_runs::{free_back, free_going, free_made, mark_waiting};
+use crate::freed_runs::{free_back, free_going, free_made, free_weakly, mark_waiting};
 use crate::hubs::Hub;
 use crate::turns::Turn;
 use device_gate::{Done, Grip, Ready, Stranger};
@@ -21,6 +21,10 @@ impl<D: Device> Hub<D> {
         self.window.whole();
         let turn = self.window.take(r, moment);
         self.window.whole();
+        if self.window.is_weak() {
+            free_weakly(&mut self.blocked, &self.window, &turn, r);
+            return turn;
+        }
         match &turn {
             Turn::Go(grip) => {
                 let d = grip.slip().device;
@@ -52,7 +56,11 @@ impl<D: Device> Hub<D> {
         match self.window.give(grip, moment) {
             Ok(made) => {
                 self.window.whole();
-                free_back(&mut self.blocked, &self.window, d, &made);
+                if self.window.is_weak() {
+                    self.blocked.unmark_all();
+                } else {
+                    free_back(&mut self.blocked, &self.window, d, &made);
+                }
                 Ok(made)
             }
             Err(refused) => Err(refused),
@@ -70,7 +78,11 @@ impl<D: Device> Hub<D> {
         self.window.whole();
         let probe = self.window.take_probe(d);
         self.window.whole();
-        self.blocked.unmark_at(d);
+        if self.window.is_weak() {
+            self.blocked.unmark_all();
+        } else {
+            self.blocked.unmark_at(d);
+        }
         probe
     }
 
@@ -89,7 +101,11 @@ impl<D: Device> Hub<D> {
         match self.window.give_probe(grip) {
             Ok(made) => {
                 self.window.whole();
-                free_back(&mut self.blocked, &self.window, d, &made);
+                if self.window.is_weak() {
+                    self.blocked.unmark_all();
+                } else {
+                    free_back(&mut self.blocked, &self.window, d, &made);
+                }
                 Ok(made)
             }
             Err(refused) => Err(refused),

@@ -32,7 +32,7 @@ impl<D: Device> OpenWindow<D> {
                 Turn::Wait(why)
             }
             Chosen::Arrives => Turn::Moved(self.arrive(r, moment)),
-            Chosen::Joins => Turn::Moved(self.place(r, moment)),
+            Chosen::Joins => Turn::Moved(self.join(r, moment)),
             Chosen::Drops(d) => Turn::Moved(self.drop_undo(r, moment, d)),
             Chosen::AnswersDown(k, must) => Turn::Moved(self.answer_down(r, moment, k, must)),
             Chosen::FailsAtEnd(d) => Turn::Moved(self.fail_at_end(r, moment, d)),

@@ -18,7 +18,6 @@ pub mod Living
 pub mod Ending
 pub mod EmptyHands
 pub mod Opening
-pub mod EndedRuns
 pub mod Replayed
 pub mod Taking
 pub mod Acting

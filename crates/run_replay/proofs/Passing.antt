@@ -3,9 +3,10 @@ use Rattle.command_rules.specs.Rosters.{is_run}
 use Rattle.history_book.specs.Readings.{Reading}
 use Rattle.history_book.specs.Settings.{Setting}
 use Rattle.history_book.specs.declared.entries.End.{End}
+use Rattle.hub_core.proofs.waiting.Sleepers.{wait_is}
 use Rattle.hub_core.specs.BlockedRuns.{IsBlocked, is_wait}
 use Rattle.hub_core.specs.OpenHubs.{configuration_of}
-use Rattle.hub_core.specs.Steps.{Absent, Choice, HandsOut, Moves, Over, Waits, after_choice, after_take, at_moment, choice_of, decide}
+use Rattle.hub_core.specs.Steps.{Choice, Over, Waits, after_choice, after_take, at_moment, choice_of, decide}
 use Rattle.hub_core.specs.declared.waits.Why.{Why}
 use Rattle.lock_leasing.specs.Configurations.{Configuration, Grips, read_of}
 use Rattle.run_replay.proofs.Picking.{IsGoing, at_own_moment, taken_is_picked}
@@ -27,13 +28,6 @@ waiting_goes w n g r m (Some e) at run wait = absurd (
 
 blocked_goes : (s : Configuration) (r : ℕ) → IsBlocked s r → IsGoing s r
 blocked_goes s r blocked = (blocked.run, waiting_goes s.setting (read_of s) s.grips r _ ((read_of s).run r).ended refl blocked.run (blocked.waits s.moment))
-
-wait_is : (c : Choice) → is_wait c ≡ true → (why : Why) × (c ≡ Waits why)
-wait_is Absent e = absurd (cc)
-wait_is (Over x entries) e = absurd (cc)
-wait_is (Moves entries) e = absurd (cc)
-wait_is (Waits why) e = (why, refl)
-wait_is (HandsOut d purpose) e = absurd (cc)
 
 -- a take of a blocked run leaves the configuration as it is
 blocked_stays : (s : Configuration) (r : ℕ) (why : Why) → choice_of s r s.moment ≡ Waits why → after_take s r s.moment ≡ s

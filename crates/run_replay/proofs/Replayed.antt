@@ -5,17 +5,16 @@ use Rattle.device_gate.specs.declared.gates.Place.{Place}
 use Rattle.device_gate.specs.declared.slips.Told.TheVariants.{Worked}
 use Rattle.history_book.specs.declared.records.WindowRecord.{WindowRecord}
 use Rattle.hub_core.specs.Homes.{HomeState}
-use Rattle.hub_core.specs.HubCalls.{HubStands, IsClosed, NoneFails, SameWindow}
+use Rattle.hub_core.specs.HubCalls.{HubStands, IsClosed, NoneFails, RunsHaveEnded, SameWindow}
 use Rattle.hub_core.specs.LegalWindows.{IsLegalWindow}
 use Rattle.hub_core.specs.OpenHubs.{OpenHub, configuration_of, device_at}
 use Rattle.hub_core.specs.Steps.{not_quiet}
-use Rattle.run_replay.proofs.EndedRuns.{each_has_ended}
 use Rattle.run_replay.proofs.Ending.{quiet_at_end}
 use Rattle.run_replay.proofs.Living.{actors_are}
 use Rattle.run_replay.proofs.Tellings.{replays}
 use Rattle.run_replay.specs.Players.{HavePlans, IsOpened, PlayerIsKept, PlayerState, play_of}
 use Rattle.run_replay.specs.Playing.{IsFinished, IsPlayed}
-use Rattle.run_replay.specs.ReplayedWindows.{IsReplayed, RunsHaveEnded}
+use Rattle.run_replay.specs.ReplayedWindows.{IsReplayed}
 use Rattle.run_replay.specs.Replays.{Course, IsReplay}
 use Rattle.std.proofs.Common.{ap, inl, inr, refl, subst, sym, ◌∙◌}
 use Rattle.std.proofs.lemmas.List.{length-map}
@@ -97,7 +96,7 @@ replayed_so {D = D} tag plan stands turns probes faults hub picks seed rounds fi
   play = play_of last (acts_of hub picks seed rounds first played last went);
   is_replay = is_replay hub picks seed rounds first played last went;
   history = closes.history;
-  ends = subst (λ w. RunsHaveEnded w closed) window.setting (record { ended = each_has_ended last.hub.setting closed closes.legal; commits = closes.commits });
+  ends = subst (λ w. RunsHaveEnded w closed) window.setting closes.ends;
   kinds = closes.kinds ∙ ap (λ w. w.kinds) window.setting;
   last = closes.last;
   opened = closes.opened ∙ ap (λ n. n + 1) window.opened;

@@ -1,6 +1,8 @@
 -- The call of a run died: what the code writes of it, and that what is kept stays so.
+use Rattle.hub_core.proofs.kept.KeptByModel.{undo_ordered}
+use Rattle.hub_core.proofs.kept.TableFits.{either_model}
 use Rattle.command_rules.specs.Rosters.{command_at, commands_of, is_run, run_no}
-use Rattle.device_gate.specs.Calls.{has_died, value_after}
+use Rattle.device_gate.specs.Calls.{has_died}
 use Rattle.device_gate.specs.Grips.{Gripped}
 use Rattle.device_gate.specs.Places.{IsKept}
 use Rattle.device_gate.specs.declared.grips.Done.{Done}
@@ -12,7 +14,7 @@ use Rattle.device_gate.specs.declared.slips.Told.{Told}
 use Rattle.history_book.proofs.Snoc.{put_other}
 use Rattle.history_book.specs.Histories.{entries_made, entries_of, entry, kept_by}
 use Rattle.history_book.specs.Readings.{Reading, did, is_doomed, next_of, pends, put}
-use Rattle.history_book.specs.Settings.{Setting, is_device, is_weak}
+use Rattle.history_book.specs.Settings.{Setting, is_weak}
 use Rattle.history_book.specs.WellFormed.{IsWellFormed}
 use Rattle.history_book.specs.declared.entries.Cause.TheVariants.{Lost, MustDown}
 use Rattle.history_book.specs.declared.entries.Cause.{Cause}
@@ -31,12 +33,12 @@ use Rattle.hub_core.proofs.calls.HubOrders.{read_whole}
 use Rattle.hub_core.proofs.calls.HubReturns.{CameHome, IsForCommand, IsHomeAgain, IsReturned, came_whole, died_events, fallen_by, for_command, returned_below, returned_comes, returned_entries, returned_for, returned_places}
 use Rattle.hub_core.proofs.calls.NotedAnswers.{lineage_set, length_set}
 use Rattle.hub_core.proofs.calls.Turning.{TellsTurn, counted_so, few_turns, may_fall}
-use Rattle.hub_core.proofs.kept.FallenOrders.{order_died, order_undo_died}
+use Rattle.hub_core.proofs.kept.FallenOrders.{order_died, order_died_weakly, order_undo_died}
 use Rattle.hub_core.proofs.kept.OrderSteps.{done_after, may_note, none_out, order_doomed_if, read_more}
 use Rattle.hub_core.specs.Decisions.{died_by}
 use Rattle.hub_core.specs.HubsKept.{IsWhole, open_of}
 use Rattle.hub_core.specs.KeptOrders.{HasFallen, MayNote, MayTurn, OrderIsBeside, is_first, noted_first}
-use Rattle.hub_core.specs.OpenHubs.{OpenHub, configuration_of, device_at, held_in}
+use Rattle.hub_core.specs.OpenHubs.{OpenHub, configuration_of, device_at, held_after, held_in}
 use Rattle.hub_core.specs.ReadHistories.{HistoryState, read_in, with_doom, with_entry, with_more}
 use Rattle.hub_core.specs.declared.open_windows.OpenWindow.TheInside.{Inside}
 use Rattle.hub_core.specs.declared.kept_orders.KeptOrder.{KeptOrder}
@@ -49,10 +51,8 @@ use Rattle.serial_line.specs.Marks.{Marked}
 use Rattle.std.proofs.Common.{ap, append_assoc, ap₂, arith, refl, subst, sym, ◌∙◌}
 use Rattle.std.proofs.lemmas.Option.{slice_get_within}
 use Rattle.std.specs.Prelude.{Bool, IsSome, List, None, Option, Some, [], false, fold, if◌then◌else◌, is_some, length, max, not, option_map, option_to_list, slice_get, suc, true, ℕ, ◌+◌, ◌-◌, ◌<◌, ◌∷◌, ◌≡◌, ◌≤◌, ◌&&◌, ◌||◌}
-use Rattle.window_order.proofs.ReadFacts.{IsRead}
 use Rattle.window_order.proofs.Steps.{home_fits}
-use Rattle.window_order.specs.OrderKept.{OrderIsKept}
-use Rattle.window_order.specs.TableChanges.{ChangesEach, IsWaiting, doomed_lineage, is_done_there}
+use Rattle.window_order.specs.TableChanges.{ChangesEach, IsWaiting, doomed_lineage}
 
 -- the device of a slip that is kept is one of the home
 pub within_home : {D : Type 0} {stands turns probes faults : D → ℕ} (h : Inside D) (s : OpenHub D) (slip : Slip) (task : Task) → open_of h ≡ s → IsKept s.places slip task → IsWhole stands turns probes faults h → slip.device.0 < length h.history.setting.first
@@ -98,27 +98,42 @@ abbrev pub dead_first : {D : Type 0} → Inside D → Slip → Bool
 dead_first h slip = is_first slip.maker (lineage_at h.order.table slip.device.0)
 
 abbrev pub death_of : {D : Type 0} → Inside D → Slip → ℕ → Option Cause
-death_of h slip k = died_by h.history.setting (read_in h.history) slip.maker k (dead_first h slip)
+death_of h slip k = died_by h.history.setting (read_in h.history) slip.maker k (dead_first h slip || is_weak h.history.setting.mode)
 
 abbrev pub death_entries : Slip → ℕ → Option Cause → List Entry
 death_entries slip k cause = Fell slip.device ∷ answer_entries slip.maker k Down cause
 
 -- its answer comes in turn: it is the run's first one on the device, or a later one
-dead_turn : {D : Type 0} {stands turns probes faults : D → ℕ} (h : Inside D) (k tag : ℕ) (grip : Gripped D Done) → IsReturned stands turns probes faults h (ForCommand k) tag grip → IsWhole stands turns probes faults h
+dead_turn : {D : Type 0} {stands turns probes faults : D → ℕ} (h : Inside D) (k tag : ℕ) (grip : Gripped D Done) → IsReturned stands turns probes faults h (ForCommand k) tag grip → is_weak h.history.setting.mode ≡ false → IsWhole stands turns probes faults h
     → (dead_first h grip.slip ≡ not (did (read_in h.history) grip.slip.maker (command_at h.history.setting.runs grip.slip.maker k).device.0)) × MayNote grip.slip.maker (lineage_at h.order.table grip.slip.device.0)
-dead_turn h k tag grip returned whole =
+dead_turn h k tag grip returned strong whole =
     let for = for_command _ _ _ _ (open_of h) grip.slip grip.task k whole.shown returned.there returned.purpose in
-    let turn = may_note h.history.setting (read_in h.history) (configuration_of (open_of h)).grips (held_in (open_of h)) grip.slip.device.0 grip.slip.maker k h.order.table (read_whole h whole) whole.shown.configuration.order for.grip (returned_below h (ForCommand k) tag grip returned whole) whole.order.table_is in
+    let turn = may_note h.history.setting (read_in h.history) (configuration_of (open_of h)).grips (held_in (open_of h)) grip.slip.device.0 grip.slip.maker k h.order.table (read_whole h whole) (whole.shown.configuration.ordered strong).order for.grip (returned_below h (ForCommand k) tag grip returned whole) (whole.order.table_is.ordered strong) in
     (turn.0 ∙ ap (λ x. not (did (read_in h.history) grip.slip.maker x)) (sym for.on), turn.1)
 
--- the doom, by whether the run was doomed before, has had an answer there, and must not fail
-dooms_are : (w : Setting) (n : Reading) (r k : ℕ) (d : DeviceNo) (doomed had weak must : Bool) → weak ≡ false
-    → (if doomed then [] else (if had && not weak then Doomed (run_no r) (Lost d) ∷ [] else (if must then Doomed (run_no r) (MustDown k) ∷ [] else []))) ≡ option_to_list (option_map (λ c. Doomed (run_no r) c) (if doomed then None else (if not had then (if must then Some (MustDown k) else None) else Some (Lost d))))
-dooms_are w n r k d true had weak must strong = refl
-dooms_are w n r k d false true false must strong = refl
-dooms_are w n r k d false true true must strong = absurd (cc)
-dooms_are w n r k d false false weak true strong = refl
-dooms_are w n r k d false false weak false strong = refl
+-- the doom, by whether the run was doomed before, has had an answer there, and must not fail; under the weak model no access is lost
+dooms_are : (w : Setting) (n : Reading) (r k : ℕ) (d : DeviceNo) (doomed had weak must first : Bool) → (weak ≡ false → first ≡ not had)
+    → (if doomed then [] else (if had && not weak then Doomed (run_no r) (Lost d) ∷ [] else (if must then Doomed (run_no r) (MustDown k) ∷ [] else []))) ≡ option_to_list (option_map (λ c. Doomed (run_no r) c) (if doomed then None else (if first || weak then (if must then Some (MustDown k) else None) else Some (Lost d))))
+dooms_are w n r k d true had weak must first told = refl
+dooms_are w n r k d false had true must first told = ap (λ b. if b then Doomed (run_no r) (Lost d) ∷ [] else (if must then Doomed (run_no r) (MustDown k) ∷ [] else [])) (never had) ∙ by_must must ∙ ap (λ b. option_to_list (option_map (λ c. Doomed (run_no r) c) (if b then (if must then Some (MustDown k) else None) else Some (Lost d)))) (sym (always first))
+  where
+    never : (b : Bool) → (b && not true) ≡ false
+    never true = refl
+    never false = refl
+
+    always : (b : Bool) → (b || true) ≡ true
+    always true = refl
+    always false = refl
+
+    by_must : (b : Bool) → (if b then Doomed (run_no r) (MustDown k) ∷ [] else []) ≡ option_to_list (option_map (λ c. Doomed (run_no r) c) (if b then Some (MustDown k) else None))
+    by_must true = refl
+    by_must false = refl
+dooms_are w n r k d false true false must first told = ap (λ b. option_to_list (option_map (λ c. Doomed (run_no r) c) (if b || false then (if must then Some (MustDown k) else None) else Some (Lost d)))) (sym (told refl))
+dooms_are w n r k d false false false must first told = by_must must ∙ ap (λ b. option_to_list (option_map (λ c. Doomed (run_no r) c) (if b || false then (if must then Some (MustDown k) else None) else Some (Lost d)))) (sym (told refl))
+  where
+    by_must : (b : Bool) → (if b then Doomed (run_no r) (MustDown k) ∷ [] else []) ≡ option_to_list (option_map (λ c. Doomed (run_no r) c) (if b then Some (MustDown k) else None))
+    by_must true = refl
+    by_must false = refl
 
 -- its entries
 death_gives : {D : Type 0} {stands turns probes faults : D → ℕ} (h : Inside D) (k tag : ℕ) (grip : Gripped D Done) → IsReturned stands turns probes faults h (ForCommand k) tag grip → has_died grip.stage.told ≡ true → IsWhole stands turns probes faults h
@@ -149,14 +164,13 @@ death_gives h k tag grip returned died whole =
     device_is = λ i. record { 0 = for.on i }
 
     dooms : (if is_doomed n r then [] else (if did n r c.device.0 && not (is_weak w.mode) then Doomed (run_no r) (Lost c.device) ∷ [] else (if c.must then Doomed (run_no r) (MustDown k) ∷ [] else []))) ≡ option_to_list (option_map (λ x. Doomed (run_no r) x) (death_of h grip.slip k))
-    dooms = dooms_are w n r k c.device (is_doomed n r) (did n r c.device.0) (is_weak w.mode) c.must whole.shown.configuration.stage.strong
-        ∙ ap (λ b. option_to_list (option_map (λ x. Doomed (run_no r) x) (died_by w n r k b))) (sym (dead_turn h k tag grip returned whole).0)
+    dooms = dooms_are w n r k c.device (is_doomed n r) (did n r c.device.0) (is_weak w.mode) c.must (dead_first h grip.slip) (λ strong. (dead_turn h k tag grip returned strong whole).0)
 
 -- it tells the failure of the device, and then of the run alone
 death_tells : {D : Type 0} {stands turns probes faults : D → ℕ} (h : Inside D) (k tag : ℕ) (grip : Gripped D Done) → IsReturned stands turns probes faults h (ForCommand k) tag grip → has_died grip.stage.told ≡ true → IsWhole stands turns probes faults h
-    → TellsTurn stands turns probes faults h grip.slip grip.task (Fell grip.slip.device) (answer_entries grip.slip.maker k Down (death_of h grip.slip k)) grip.device (value_after grip.task (device_at h.devices.items grip.slip.device.0).held) (fallen_by grip.stage.told (device_at h.devices.items grip.slip.device.0).events) (max h.moment 0)
+    → TellsTurn stands turns probes faults h grip.slip grip.task (Fell grip.slip.device) (answer_entries grip.slip.maker k Down (death_of h grip.slip k)) grip.device (held_after grip.stage.told grip.task (device_at h.devices.items grip.slip.device.0).held) (fallen_by grip.stage.told (device_at h.devices.items grip.slip.device.0).events) (max h.moment 0)
 death_tells {stands = stands} {turns = turns} {probes = probes} {faults = faults} h k tag grip returned died whole = record {
-  comes = subst (λ es. ComesBack stands turns probes faults (open_of h) grip.slip grip.task es grip.device (value_after grip.task (device_at h.devices.items grip.slip.device.0).held) (fallen_by grip.stage.told (device_at h.devices.items grip.slip.device.0).events) (max h.moment 0)) (death_gives h k tag grip returned died whole) (returned_comes h 0 (ForCommand k) tag grip returned whole);
+  comes = subst (λ es. ComesBack stands turns probes faults (open_of h) grip.slip grip.task es grip.device (held_after grip.stage.told grip.task (device_at h.devices.items grip.slip.device.0).held) (fallen_by grip.stage.told (device_at h.devices.items grip.slip.device.0).events) (max h.moment 0)) (death_gives h k tag grip returned died whole) (returned_comes h 0 (ForCommand k) tag grip returned whole);
   leave = by_cause (death_of h grip.slip k);
 }
   where
@@ -184,11 +198,11 @@ pub record AfterDeath (k : ℕ) (slip : Slip) (cause : Option Cause) (fell : His
   pub next : k ≡ next_of (read_in fell) slip.maker
   pub on : (command_at fell.setting.runs slip.maker k).device.0 ≡ slip.device.0
   pub device : slip.device.0 < length table
-  pub turn : MayNote slip.maker (lineage_at table slip.device.0)
+  pub turn : is_weak fell.setting.mode ≡ false → MayNote slip.maker (lineage_at table slip.device.0)
   pub doom_room : IsSome cause → 1 < fell.spare
 
 pub after_death : {D : Type 0} {stands turns probes faults : D → ℕ} (h : Inside D) (k tag : ℕ) (grip : Gripped D Done) (slip : Slip) (first : Bool) (cause : Option Cause) (fell : HistoryState) (table : List LineageState) → IsReturned stands turns probes faults h (ForCommand k) tag grip → slip ≡ grip.slip → has_died grip.stage.told ≡ true
-    → first ≡ dead_first h slip → cause ≡ died_by h.history.setting (read_in h.history) slip.maker k first → fell ≡ with_entry h.history slip.maker (Fell slip.device) → table ≡ with_lineage h.order.table slip.device.0 (counted_up false) → IsWhole stands turns probes faults h → AfterDeath k slip cause fell table
+    → first ≡ dead_first h slip → cause ≡ died_by h.history.setting (read_in h.history) slip.maker k (first || is_weak h.history.setting.mode) → fell ≡ with_entry h.history slip.maker (Fell slip.device) → table ≡ with_lineage h.order.table slip.device.0 (counted_up false) → IsWhole stands turns probes faults h → AfterDeath k slip cause fell table
 after_death h k tag grip slip first cause fell table returned same died first_is because told counted whole =
     subst (λ (z : Slip). AfterDeath k z cause fell table) (sym same)
     (subst (λ c. AfterDeath k grip.slip c fell table) (sym cause_is)
@@ -201,7 +215,7 @@ after_death h k tag grip slip first cause fell table returned same died first_is
       next = next_is;
       on = for.on;
       device = let size = length_set h.order.table grip.slip.device.0 (counted_up false) in let devices : length h.order.table ≡ length h.history.setting.first = whole.order.table_is.devices in omega (arith, below, size, devices);
-      turn = subst (λ (s : LineageState). MayNote r s) (sym (lineage_set h.order.table grip.slip.device.0 (counted_up false) (let devices : length h.order.table ≡ length h.history.setting.first = whole.order.table_is.devices in omega (arith, below, devices)))) (counted_turn (dead_turn h k tag grip returned whole).1);
+      turn = λ strong. subst (λ (s : LineageState). MayNote r s) (sym (lineage_set h.order.table grip.slip.device.0 (counted_up false) (let devices : length h.order.table ≡ length h.history.setting.first = whole.order.table_is.devices in omega (arith, below, devices)))) (counted_turn (dead_turn h k tag grip returned strong whole).1);
       doom_room = λ some. doomed_room (death_of h grip.slip k) some places;
     }))))
   where
@@ -218,7 +232,7 @@ after_death h k tag grip slip first cause fell table returned same died first_is
     told_is = told ∙ ap (λ (z : Slip). with_entry h.history z.maker (Fell z.device)) same
 
     cause_is : cause ≡ death_of h grip.slip k
-    cause_is = because ∙ ap (λ b. died_by h.history.setting (read_in h.history) slip.maker k b) first_is ∙ ap (λ (z : Slip). death_of h z k) same
+    cause_is = because ∙ ap (λ b. died_by h.history.setting (read_in h.history) slip.maker k (b || is_weak h.history.setting.mode)) first_is ∙ ap (λ (z : Slip). death_of h z k) same
 
     counted_is : table ≡ with_lineage h.order.table grip.slip.device.0 (counted_up false)
     counted_is = counted ∙ ap (λ (z : Slip). with_lineage h.order.table z.device.0 (counted_up false)) same
@@ -245,7 +259,7 @@ pub record IsDead {D : Type 0} (h : Inside D) (grip : Gripped D Done) (k : ℕ) 
   pub same : slip ≡ grip.slip
   pub died : has_died grip.stage.told ≡ true
   pub first_is : first ≡ dead_first h slip
-  pub because : cause ≡ died_by h.history.setting (read_in h.history) slip.maker k first
+  pub because : cause ≡ died_by h.history.setting (read_in h.history) slip.maker k (first || is_weak h.history.setting.mode)
   pub told : fell ≡ with_entry h.history slip.maker (Fell slip.device)
   pub answered : mid ≡ with_entry fell slip.maker (Did (run_no slip.maker) k Down)
   pub doomed : after ≡ with_doom mid slip.maker cause
@@ -258,7 +272,7 @@ died_back h t m value k tag events grip slip first cause fell mid returned home 
       home = home;
       gives = death_gives h k tag grip returned dead.died whole
           ∙ ap (λ (z : Slip). death_entries z k (death_of h z k)) (sym dead.same)
-          ∙ ap (λ b. death_entries slip k (died_by h.history.setting (read_in h.history) slip.maker k b)) (sym dead.first_is)
+          ∙ ap (λ b. death_entries slip k (died_by h.history.setting (read_in h.history) slip.maker k (b || is_weak h.history.setting.mode))) (sym dead.first_is)
           ∙ ap (death_entries slip k) (sym dead.because);
       history_is = dead.doomed ∙ ap (λ (y : HistoryState). with_doom y slip.maker cause) (dead.answered ∙ ap (λ (y : HistoryState). with_entry y slip.maker (Did (run_no slip.maker) k Down)) dead.told)
           ∙ answered_more (with_entry h.history slip.maker (Fell slip.device)) slip.maker k Down cause
@@ -276,17 +290,14 @@ death_made slip k cause e f o fell_is answer_is made = (λ i. entries_made (reco
 
 -- Line and table
 
--- a command is answered Down whose device died, and its run is then doomed where there is a cause
-order_dies : {rounds : ℕ} (h h₁ h₂ h₃ : HistoryState) (g f : Grips) (held : ℕ → ℕ) (d : DeviceNo) (r k number : ℕ) (first last : Bool) (cause : Option Cause) (line fallen mid after : Marked) (table between noted later : List LineageState)
-    → IsRead h.setting (read_in h) → is_weak h.setting.mode ≡ false → OrderIsKept h.setting (read_in h) g held → IsWellFormed h.setting (entries_of h.history) → is_device h.setting d.0 ≡ true → is_run h.setting.runs r ≡ true → g d.0 ≡ Some (record { maker = r; purpose = Commands k }) → d.0 < length h.setting.first
+-- a command was answered Down whose device died, and its run is then doomed where there is a cause
+order_dies : {rounds : ℕ} (h h₁ h₂ h₃ : HistoryState) (g f : Grips) (d : DeviceNo) (r k : ℕ) (cause : Option Cause) (mid after : Marked) (noted later : List LineageState)
+    → GripsFit h.setting (read_in h) g → is_run h.setting.runs r ≡ true → g d.0 ≡ Some (record { maker = r; purpose = Commands k })
     → h₁ ≡ with_entry h r (Fell d) → h₂ ≡ with_entry h₁ r (Did (run_no r) k Down) → h₃ ≡ with_doom h₂ r cause → IsWellFormed h₃.setting (entries_of h₃.history) → f ≡ put g d.0 None
-    → number ≡ (read_in h).fell d.0 + 1 → first ≡ is_first r (lineage_at table d.0) → HasFallen h d (if first then Some (run_no r) else None) number line fallen table between
-    → last ≡ is_done_there h.setting (read_in h) r k → mid ≡ fallen → noted ≡ with_lineage between d.0 (noted_first r (is_first r (lineage_at between d.0)) ViewedDown None last)
     → after ≡ mid → (cause ≡ None → later ≡ noted) → (IsSome cause → ChangesEach (λ e. doomed_lineage r) noted later)
-    → OrderIsBeside rounds h g line table → OrderIsBeside rounds h₃ f after later
-order_dies {rounds = rounds} h h₁ h₂ h₃ g f held d r k number first last cause line fallen mid after table between noted later read strong order formed device run at below one two three formed_after home number_is first_is fell last_is same notes kept unchanged changed beside =
-    order_doomed_if h₂ h₃ f r cause mid after noted later fit none three formed_after kept unchanged changed
-    (order_died h h₁ h₂ g f held d r k number first last line fallen mid table between noted read strong order formed device at below one two home number_is first_is fell last_is same notes beside)
+    → OrderIsBeside rounds h₂ f mid noted → OrderIsBeside rounds h₃ f after later
+order_dies {rounds = rounds} h h₁ h₂ h₃ g f d r k cause mid after noted later fits run at one two three formed_after home kept unchanged changed beside =
+    order_doomed_if h₂ h₃ f r cause mid after noted later fit none three formed_after kept unchanged changed beside
   where
     w : Setting
     w = h.setting
@@ -305,10 +316,10 @@ order_dies {rounds = rounds} h h₁ h₂ h₃ g f held d r k number first last c
 
     fit : GripsFit h₂.setting (read_in h₂) f
     fit = subst (λ x. GripsFit x (read_in h₂) f) (sym reads.0) (subst (λ x. GripsFit w x f) (sym reads.1) (subst (GripsFit w m) (sym home)
-        (home_fits w n m g d.0 r (Commands k) (λ q ne. put_other n.run r _ q ne) run at order.grips)))
+        (home_fits w n m g d.0 r (Commands k) (λ q ne. put_other n.run r _ q ne) run at fits)))
 
     none : (e : ℕ) → grips_command f r e ≡ false
-    none e = ap (λ x. grips_command x r e) home ∙ none_out w n g d.0 r (Commands k) run at order.grips e
+    none e = ap (λ x. grips_command x r e) home ∙ none_out w n g d.0 r (Commands k) run at fits e
 
 -- what line and table note of it
 pub record DeathNoted {D : Type 0} (h t : Inside D) (slip : Slip) (number : ℕ) (first : Bool) (died : Option RunNo) (cause : Option Cause) (mid : HistoryState) (view : View) (wrote : Option ℕ) (last : Bool) (fallen noted : KeptOrder) : Type 0 where
@@ -319,7 +330,8 @@ pub record DeathNoted {D : Type 0} (h t : Inside D) (slip : Slip) (number : ℕ)
   pub wrote_is : wrote ≡ None
   pub last_is : last ≡ (is_doomed (read_in mid) slip.maker || not (pends mid.setting (read_in mid) slip.maker slip.device.0))
   pub line : noted.line ≡ fallen.line
-  pub table : noted.table ≡ with_lineage fallen.table slip.device.0 (noted_first slip.maker (is_first slip.maker (lineage_at fallen.table slip.device.0)) view wrote last)
+  pub table : is_weak h.history.setting.mode ≡ false → noted.table ≡ with_lineage fallen.table slip.device.0 (noted_first slip.maker (is_first slip.maker (lineage_at fallen.table slip.device.0)) view wrote last)
+  pub same_table : is_weak h.history.setting.mode ≡ true → noted.table ≡ fallen.table
   pub line_after : t.order.line ≡ noted.line
   pub unchanged : cause ≡ None → t.order.table ≡ noted.table
   pub changed : IsSome cause → ChangesEach (λ d. doomed_lineage slip.maker) noted.table t.order.table
@@ -329,12 +341,16 @@ order_dead : {D : Type 0} {stands turns probes faults : D → ℕ} (h t : Inside
     → IsReturned stands turns probes faults h (ForCommand k) tag grip → IsHomeAgain h t m value events grip → IsDead h grip k grip.slip first cause fell mid t.history → DeathNoted h t grip.slip number first died cause mid view wrote last fallen noted
     → IsWellFormed t.history.setting (entries_of t.history.history) → (configuration_of (open_of t)).grips ≡ put (configuration_of (open_of h)).grips grip.slip.device.0 None → IsWhole stands turns probes faults h → OrderIsBeside h.rounds t.history (configuration_of (open_of t)).grips t.order.line t.order.table
 order_dead {D = D} h t m value k tag number events grip first died cause fell mid view wrote last fallen noted returned home dead notes formed gripped whole =
-    order_dies h.history fell mid t.history (configuration_of (open_of h)).grips (configuration_of (open_of t)).grips (held_in (open_of h)) grip.slip.device r k number first last cause h.order.line fallen.line noted.line t.order.line h.order.table fallen.table noted.table t.order.table
-    (read_whole h whole) whole.shown.configuration.stage.strong whole.shown.configuration.order whole.shown.configuration.history.well_formed (whole.shown.configuration.order.grips.homed d (ap is_some for.grip)) for.run for.grip below
-    dead.told dead.answered dead.doomed formed gripped (notes.number_is ∙ ap (λ x. x + 1) (counted_so h d below whole).0) dead.first_is
-    (subst (λ o. HasFallen h.history grip.slip.device o number h.order.line fallen.line h.order.table fallen.table) notes.died_is notes.fell)
+    order_dies h.history fell mid t.history g f grip.slip.device r k cause noted.line t.order.line noted.table t.order.table
+    whole.shown.configuration.grips for.run for.grip dead.told dead.answered dead.doomed formed gripped notes.line_after notes.unchanged notes.changed
+    (either_model (OrderIsBeside h.rounds mid f noted.line noted.table) w
+    (λ weak. order_died_weakly h.history fell mid g f grip.slip.device r k number first h.order.line fallen.line noted.line h.order.table fallen.table noted.table weak whole.shown.configuration.grips for.grip below
+    dead.told dead.answered gripped numbered dead.first_is falls notes.line (notes.same_table weak) whole.order)
+    (λ strong. order_died h.history fell mid g f (held_in (open_of h)) grip.slip.device r k number first last h.order.line fallen.line noted.line h.order.table fallen.table noted.table
+    (read_whole h whole) strong (whole.shown.configuration.ordered strong).order whole.shown.configuration.history.well_formed (whole.shown.configuration.grips.homed d (ap is_some for.grip)) for.grip below
+    dead.told dead.answered gripped numbered dead.first_is falls
     (notes.last_is ∙ (λ i. is_doomed (reads.1 i) r || not (pends (reads.0 i) (reads.1 i) r d)) ∙ done_after w (entry w n (Fell grip.slip.device)) r k Down d for.next for.on)
-    notes.line (notes.table ∙ ap₂ (λ v x. with_lineage fallen.table d (noted_first r (is_first r (lineage_at fallen.table d)) v x last)) notes.view_is notes.wrote_is) notes.line_after notes.unchanged notes.changed whole.order
+    notes.line (notes.table strong ∙ ap₂ (λ v x. with_lineage fallen.table d (noted_first r (is_first r (lineage_at fallen.table d)) v x last)) notes.view_is notes.wrote_is) whole.order))
   where
     w : Setting
     w = h.history.setting
@@ -353,6 +369,18 @@ order_dead {D = D} h t m value k tag number events grip first died cause fell mi
 
     below : d < length w.first
     below = returned_below h (ForCommand k) tag grip returned whole
+
+    g : Grips
+    g = (configuration_of (open_of h)).grips
+
+    f : Grips
+    f = (configuration_of (open_of t)).grips
+
+    numbered : number ≡ n.fell d + 1
+    numbered = notes.number_is ∙ ap (λ x. x + 1) (counted_so h d below whole).0
+
+    falls : HasFallen h.history grip.slip.device (if first then Some (run_no r) else None) number h.order.line fallen.line h.order.table fallen.table
+    falls = subst (λ o. HasFallen h.history grip.slip.device o number h.order.line fallen.line h.order.table fallen.table) notes.died_is notes.fell
 
     reads : (mid.setting ≡ w) × (read_in mid ≡ entry w (entry w n (Fell grip.slip.device)) (Did (run_no r) k Down))
     reads = (
@@ -380,9 +408,9 @@ drop_gives {D = D} h v grip died = ap (λ x. returned_by x) (died_told grip.stag
     returned_by told = returned_entries (open_of h) (record grip { stage = record { told = told } }) (ForUndo v)
 
 drop_tells : {D : Type 0} {stands turns probes faults : D → ℕ} (h : Inside D) (v tag : ℕ) (grip : Gripped D Done) → IsReturned stands turns probes faults h (ForUndo v) tag grip → has_died grip.stage.told ≡ true → IsWhole stands turns probes faults h
-    → TellsTurn stands turns probes faults h grip.slip grip.task (Fell grip.slip.device) (Undid (run_no grip.slip.maker) grip.slip.device false ∷ []) grip.device (value_after grip.task (device_at h.devices.items grip.slip.device.0).held) (fallen_by grip.stage.told (device_at h.devices.items grip.slip.device.0).events) (max h.moment 0)
+    → TellsTurn stands turns probes faults h grip.slip grip.task (Fell grip.slip.device) (Undid (run_no grip.slip.maker) grip.slip.device false ∷ []) grip.device (held_after grip.stage.told grip.task (device_at h.devices.items grip.slip.device.0).held) (fallen_by grip.stage.told (device_at h.devices.items grip.slip.device.0).events) (max h.moment 0)
 drop_tells {stands = stands} {turns = turns} {probes = probes} {faults = faults} h v tag grip returned died whole = record {
-  comes = subst (λ es. ComesBack stands turns probes faults (open_of h) grip.slip grip.task es grip.device (value_after grip.task (device_at h.devices.items grip.slip.device.0).held) (fallen_by grip.stage.told (device_at h.devices.items grip.slip.device.0).events) (max h.moment 0)) (drop_gives h v grip died) (returned_comes h 0 (ForUndo v) tag grip returned whole);
+  comes = subst (λ es. ComesBack stands turns probes faults (open_of h) grip.slip grip.task es grip.device (held_after grip.stage.told grip.task (device_at h.devices.items grip.slip.device.0).held) (fallen_by grip.stage.told (device_at h.devices.items grip.slip.device.0).events) (max h.moment 0)) (drop_gives h v grip died) (returned_comes h 0 (ForUndo v) tag grip returned whole);
   leave = refl;
 }
 
@@ -431,7 +459,8 @@ dropped_whole h t m value v tag number events grip slip fell returned home drops
     order_dropped_dead : IsDropped h t grip grip.slip number fell → (configuration_of (open_of t)).grips ≡ put (configuration_of (open_of h)).grips grip.slip.device.0 None → OrderIsBeside h.rounds t.history (configuration_of (open_of t)).grips t.order.line t.order.table
     order_dropped_dead own gripped =
         let for = returned_for h (ForUndo v) tag grip returned whole in
+        let strong : is_weak h.history.setting.mode ≡ false = undo_ordered (configuration_of (open_of h)) h.rounds h.opened (held_in (open_of h)) grip.slip.device.0 grip.slip.maker v for.grip whole.shown.configuration in
         let below = returned_below h (ForUndo v) tag grip returned whole in
         order_undo_died h.history fell t.history (configuration_of (open_of h)).grips (configuration_of (open_of t)).grips (held_in (open_of h)) grip.slip.device grip.slip.maker v number h.order.line t.order.line h.order.table t.order.table
-        (read_whole h whole) whole.shown.configuration.stage.strong whole.shown.configuration.order whole.shown.configuration.history.well_formed (whole.shown.configuration.order.grips.homed grip.slip.device.0 (ap is_some for.grip)) for.grip below
+        (read_whole h whole) strong (whole.shown.configuration.ordered strong).order whole.shown.configuration.history.well_formed (whole.shown.configuration.grips.homed grip.slip.device.0 (ap is_some for.grip)) for.grip below
         own.told own.undone gripped (own.number_is ∙ ap (λ x. x + 1) (counted_so h grip.slip.device.0 below whole).0) own.falls whole.order

@@ -21,7 +21,8 @@ use Rattle.hub_core.proofs.kept.Sizes.{count_cons}
 use Rattle.hub_core.specs.AccountedCalls.{tells_call, told_calls, told_falls}
 use Rattle.hub_core.specs.Homes.{CountsAreLow}
 use Rattle.home_types.specs.Kinds.{has_value, kind_at}
-use Rattle.hub_core.specs.HubKept.{ConfigurationIsKept, probes_of}
+use Rattle.hub_core.specs.HubKept.{probes_of}
+use Rattle.hub_core.specs.KeptByModel.{IsKeptByModel}
 use Rattle.hub_core.specs.HubSteps.{carrying, task_of}
 use Rattle.hub_core.specs.HubsKept.{FitsAtHome, FitsOut, HubIsKept, all_probes_taken, is_away}
 use Rattle.hub_core.specs.OpenHubs.{OpenHub, configuration_of, device_at, grip_in, held_in, no_device, purpose_of, state_of}
@@ -188,11 +189,11 @@ gone_configuration s r d left t purpose slip task maker within known =
     λ i. record { setting = s.setting; history = s.history; moment = t; probes = probes i; grips = grips i }
 
 pub gone_kept : {D : Type 0} (stands turns probes faults : D → ℕ) (s : OpenHub D) (r d left t : ℕ) (purpose : KeptPurpose) (device : D) (slip : Slip) (task : Task)
-    → slice_get s.places d ≡ Some (Home device) → IsLeaving turns probes faults s r d purpose left device slip task → ConfigurationIsKept (configuration_of (gone s d purpose left slip task t)) s.rounds s.opened (held_in s)
+    → slice_get s.places d ≡ Some (Home device) → IsLeaving turns probes faults s r d purpose left device slip task → IsKeptByModel (configuration_of (gone s d purpose left slip task t)) s.rounds s.opened (held_in s)
     → HubIsKept stands turns probes faults s → HubIsKept stands turns probes faults (gone s d purpose left slip task t)
 gone_kept {D = D} stands turns probes faults s r d left t purpose device slip task at leaves configuration k =
     record {
-      configuration = subst (λ h. ConfigurationIsKept (configuration_of after) s.rounds s.opened h) held configuration;
+      configuration = subst (λ h. IsKeptByModel (configuration_of after) s.rounds s.opened h) held configuration;
       devices_size = length-set s.devices d known_now ∙ k.devices_size;
       places_size = length-set s.places d (Out slip task) ∙ k.places_size;
       home = λ e other there. elim (get_set s.places d e (Out slip task) within) [

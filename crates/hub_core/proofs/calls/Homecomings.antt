@@ -23,7 +23,7 @@ use Rattle.hub_core.specs.AccountedCalls.{told_calls, told_falls}
 use Rattle.hub_core.specs.Bounds.{most_entries}
 use Rattle.hub_core.specs.Homes.{CountsAreLow}
 use Rattle.hub_core.specs.HubCalls.{SameWindow}
-use Rattle.hub_core.specs.HubKept.{ConfigurationIsKept}
+use Rattle.hub_core.specs.KeptByModel.{IsKeptByModel}
 use Rattle.hub_core.specs.HubSteps.{Carried, Gave, HubState, give_if}
 use Rattle.hub_core.specs.HubsKept.{FitsAtHome, HandsAre, HasRoomLeft, HubIsKept, IsWhole, all_probes_taken, is_away, open_of}
 use Rattle.hub_core.specs.KeptOrders.{OrderIsBeside}
@@ -90,7 +90,7 @@ count_back (p ∷ places) (suc d) device slip task at =
 
 -- what the step back makes of its device and its history: what is kept of the configuration, where the device stands, and how its counts rose; all else is as before
 pub record ComesBack {D : Type 0} (stands turns probes faults : D → ℕ) (s : OpenHub D) (slip : Slip) (task : Task) (entries : List Entry) (device : D) (v : ℕ) (events : Events) (t : ℕ) : Type 0 where
-  pub configuration : ConfigurationIsKept (after_back s slip entries t) s.rounds s.opened (put (held_in s) slip.device.0 v)
+  pub configuration : IsKeptByModel (after_back s slip entries t) s.rounds s.opened (put (held_in s) slip.device.0 v)
   pub value : IsTrue (has_value (kind_at s.setting.kinds slip.device.0) v)
   pub stand : (read_of (after_back s slip entries t)).up slip.device.0 ≡ true → stands device ≡ v
   pub turns_rose : turns device + told_calls s.setting.runs (entries_of s.history) slip.device.0 ≡ slip.turns + told_calls s.setting.runs (entries_of (after_back s slip entries t).history) slip.device.0
@@ -161,10 +161,10 @@ back_kept {D = D} stands turns probes faults s slip task entries device v events
     IsFitting e (Home x) = FitsAtHome stands turns probes faults after e x
     IsFitting e (Out x y) = ⊤
 
-    now : ConfigurationIsKept (configuration_of after) s.rounds s.opened (held_in after)
+    now : IsKeptByModel (configuration_of after) s.rounds s.opened (held_in after)
     now =
-        subst (λ (c : Configuration). ConfigurationIsKept c s.rounds s.opened (held_in after)) (sym (back_configuration s slip entries device v events t within known))
-        (subst (λ h. ConfigurationIsKept (after_back s slip entries t) s.rounds s.opened h) (sym (known_set (λ (p : DeviceProgress). p.held) s.devices d known_now known)) back'.configuration)
+        subst (λ (c : Configuration). IsKeptByModel c s.rounds s.opened (held_in after)) (sym (back_configuration s slip entries device v events t within known))
+        (subst (λ h. IsKeptByModel (after_back s slip entries t) s.rounds s.opened h) (sym (known_set (λ (p : DeviceProgress). p.held) s.devices d known_now known)) back'.configuration)
 
     comes : FitsAtHome stands turns probes faults after d device
     comes =

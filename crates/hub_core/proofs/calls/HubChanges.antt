@@ -1,7 +1,8 @@
 -- A step of a run in which no device goes out keeps what the type of a hub keeps, and is the step that it says.
+use Rattle.hub_core.proofs.kept.KeptByModel.{later_kept, taken_kept}
 use Rattle.history_book.proofs.Counts.{fell_is}
 use Rattle.history_book.specs.Histories.{entries_made, entries_of, kept_by, reading}
-use Rattle.history_book.specs.Settings.{Setting}
+use Rattle.history_book.specs.Settings.{Setting, is_weak}
 use Rattle.history_book.specs.WellFormed.{IsWellFormed}
 use Rattle.history_book.specs.declared.entries.Cause.{Cause}
 use Rattle.history_book.specs.declared.entries.End.{End}
@@ -17,13 +18,12 @@ use Rattle.home_types.specs.Limits.{most_devices, most_probes, most_runs}
 use Rattle.command_rules.specs.Rosters.{command_at, run_no}
 use Rattle.device_gate.specs.declared.slips.Task.TheVariants.{Drive, Sense}
 use Rattle.hub_core.proofs.steps.Calls.{take_calls, take_counted, take_falls, take_registers, take_rises}
-use Rattle.hub_core.proofs.kept.Kept.{kept_at, take_kept}
 use Rattle.hub_core.proofs.kept.Sizes.{history_fits}
 use Rattle.hub_core.specs.AccountedCalls.{told_calls, told_falls}
 use Rattle.hub_core.specs.Bounds.{most_entries}
 use Rattle.hub_core.specs.Decisions.{told_choice}
 use Rattle.hub_core.specs.HubCalls.{Answers}
-use Rattle.hub_core.specs.HubKept.{ConfigurationIsKept}
+use Rattle.hub_core.specs.KeptByModel.{IsKeptByModel}
 use Rattle.hub_core.specs.HubSteps.{Chose, HubStep, SlipFits, Take, carried_after, task_of}
 use Rattle.hub_core.specs.HubsKept.{HasRoomLeft, HubIsKept, IsWhole, all_probes_taken, is_away, open_of}
 use Rattle.hub_core.specs.KeptOrders.{OrderIsBeside}
@@ -38,7 +38,7 @@ use Rattle.lock_leasing.specs.Configurations.{Commands, Configuration, Probes, P
 use Rattle.std.proofs.Common.{ap, append_assoc, ap₂, arith, length-append, refl, subst, sym, ◌∙◌}
 use Rattle.std.proofs.lemmas.List.{length-map}
 use Rattle.std.proofs.lemmas.Nat.{mul-le}
-use Rattle.std.specs.Prelude.{List, None, Option, Some, [], count_by, if◌then◌else◌, length, max, option_map, option_to_list, ℕ, ◌*◌, ◌++◌, ◌+◌, ◌-◌, ◌<◌, ◌∷◌, ◌≡◌, ◌≤◌}
+use Rattle.std.specs.Prelude.{Bool, List, None, Option, Some, [], count_by, if◌then◌else◌, length, max, option_map, option_to_list, ℕ, ◌*◌, ◌++◌, ◌+◌, ◌-◌, ◌<◌, ◌∷◌, ◌≡◌, ◌≤◌}
 
 -- where a register is the same, what a device is out for does the same
 pub task_same : (s c : Configuration) (r : ℕ) (purpose : Purpose) → s.setting ≡ c.setting → ((read_of s).run r).register ≡ ((read_of c).run r).register → task_of s r purpose ≡ task_of c r purpose
@@ -56,7 +56,7 @@ events_same w h x d falls rises =
 -- Nothing goes out, and nothing comes home
 
 still_kept : {D : Type 0} (stands turns probes faults : D → ℕ) (s : OpenHub D) (x : List Kept) (m : ℕ)
-    → ConfigurationIsKept (configuration_of (record s { history = x; moment = m })) s.rounds s.opened (held_in s)
+    → IsKeptByModel (configuration_of (record s { history = x; moment = m })) s.rounds s.opened (held_in s)
     → ((d : ℕ) → told_calls s.setting.runs (entries_of x) d ≡ told_calls s.setting.runs (entries_of s.history) d)
     → ((d : ℕ) → told_falls (entries_of x) d ≡ told_falls (entries_of s.history) d)
     → ((d : ℕ) → (reading s.setting (entries_of x)).rose d ≡ (read_of (configuration_of s)).rose d)
@@ -94,7 +94,7 @@ still_kept stands turns probes faults s x m now told falls rises counted registe
 -- the moment alone
 pub reached : {D : Type 0} (stands turns probes faults : D → ℕ) (s : OpenHub D) (m : ℕ) → HubIsKept stands turns probes faults s → HubIsKept stands turns probes faults (record s { moment = max s.moment m })
 reached stands turns probes faults s m k =
-    still_kept stands turns probes faults s s.history (max s.moment m) (kept_at (configuration_of s) s.rounds s.opened m (held_in s) k.configuration) (λ d. refl) (λ d. refl) (λ d. refl) (λ d. refl) (λ q. refl) (omega arith) k
+    still_kept stands turns probes faults s s.history (max s.moment m) (later_kept (configuration_of s) s.rounds s.opened m (held_in s) k.configuration) (λ d. refl) (λ d. refl) (λ d. refl) (λ d. refl) (λ q. refl) (omega arith) k
 
 -- a step that makes entries: the run moves on, or ends
 pub data Making : Type 0 where
@@ -119,7 +119,7 @@ pub entries_kept : {D : Type 0} (stands turns probes faults : D → ℕ) (s : Op
     → HubIsKept stands turns probes faults s → HubIsKept stands turns probes faults (record s { history = s.history ++ kept_by r es; moment = max s.moment m })
 entries_kept {D = D} stands turns probes faults s r m es c is k =
     still_kept stands turns probes faults s (s.history ++ kept_by r es) (max s.moment m)
-    (subst (λ x. ConfigurationIsKept x s.rounds s.opened (held_in s)) step (take_kept (configuration_of s) s.rounds s.opened (held_in s) r m k.configuration))
+    (subst (λ x. IsKeptByModel x s.rounds s.opened (held_in s)) step (taken_kept (configuration_of s) s.rounds s.opened (held_in s) r m k.configuration))
     (λ d. ap (λ (x : Configuration). told_calls s.setting.runs (entries_of x.history) d) (sym step) ∙ take_calls (configuration_of s) r m d)
     (λ d. ap (λ (x : Configuration). told_falls (entries_of x.history) d) (sym step) ∙ take_falls (configuration_of s) r m d)
     (λ d. ap (λ (x : Configuration). (reading s.setting (entries_of x.history)).rose d) (sym step) ∙ take_rises (configuration_of s) r m d)
@@ -148,6 +148,13 @@ entered h r m es order = record h { history = with_more h.history r es; moment =
 pub chosen_here : {D : Type 0} (h : Inside D) (s : OpenHub D) (r m : ℕ) (x : Chosen) → open_of h ≡ s → choice_of (configuration_of s) r m ≡ told_choice r (max s.moment m) (read_of (configuration_of s)) x
     → choice_of (configuration_of (open_of h)) r m ≡ told_choice r (max h.moment m) (read_in h.history) x
 chosen_here {D = D} h s r m x seen is = subst (λ (y : OpenHub D). choice_of (configuration_of y) r m ≡ told_choice r (max y.moment m) (read_of (configuration_of y)) x) (sym seen) is
+
+-- the model has an order, also where it is told of what the hub shows
+pub strong_here : {D : Type 0} (h : Inside D) (s : OpenHub D) (b : Bool) → open_of h ≡ s → is_weak s.setting.mode ≡ b → is_weak h.history.setting.mode ≡ b
+strong_here {D = D} h s b seen model = ap (λ (x : OpenHub D). is_weak x.setting.mode) seen ∙ model
+
+pub strong_seen : {D : Type 0} (h : Inside D) (s : OpenHub D) (b : Bool) → open_of h ≡ s → is_weak h.history.setting.mode ≡ b → is_weak s.setting.mode ≡ b
+strong_seen {D = D} h s b seen model = ap (λ (x : OpenHub D). is_weak x.setting.mode) (sym seen) ∙ model
 
 -- the step of the run at this moment makes these entries: so the parts change
 pub record IsEntered {D : Type 0} (h t : Inside D) (r m : ℕ) (es : List Entry) (c : Making) : Type 0 where

@@ -1,4 +1,9 @@
 -- What the code finds in each case of a step is the choice of the step.
+use Rattle.hub_core.specs.WeakSteps.{weak_choice, weak_rest}
+use Rattle.hub_core.proofs.weak.WeakChoices.{weak_choice_is}
+use Rattle.hub_core.specs.Openings.{names_values_of}
+use Rattle.home_types.specs.Kinds.{kind_at}
+use Rattle.hub_core.proofs.steps.Choices.{decide_is}
 use Rattle.abort_rollback.specs.declared.undos.Undo.TheVariants.{Drive, Drop, Finished}
 use Rattle.abort_rollback.specs.declared.undos.Undo.{Undo}
 use Rattle.command_rules.specs.Rosters.{Run, command_at, commands_of, device_no, is_run, run_no}
@@ -21,9 +26,9 @@ use Rattle.home_types.specs.declared.modes.Visibility.{Visibility}
 use Rattle.home_types.specs.declared.numbers.DeviceNo.{DeviceNo}
 use Rattle.home_types.specs.declared.numbers.RunNo.{RunNo}
 use Rattle.hub_core.proofs.calls.NextUndos.{undo_of}
-use Rattle.hub_core.proofs.stage.StageChoices.{StageSteps, stage_choice_is, stage_holds, stage_steps}
+use Rattle.hub_core.proofs.stage.StageChoices.{StageSteps, stage_choice_is, stage_steps}
 use Rattle.hub_core.specs.Decisions.{unbarred_command}
-use Rattle.hub_core.specs.HubKept.{ConfigurationIsKept}
+use Rattle.hub_core.specs.KeptByModel.{IsKeptByModel}
 use Rattle.hub_core.specs.HubsKept.{HubIsKept}
 use Rattle.hub_core.specs.OpenHubs.{OpenHub, configuration_of, grip_in, held_in, progress_of}
 use Rattle.hub_core.specs.Stage.{stage_choice, stage_command, stage_doomed}
@@ -42,7 +47,7 @@ use Rattle.lock_leasing.specs.declared.touches.Touch.{Touch}
 use Rattle.serial_line.specs.Marks.{Mark}
 use Rattle.std.proofs.Common.{ap, arith, refl, subst, sym, ◌∙◌}
 use Rattle.std.proofs.lemmas.Grind.{common_steps}
-use Rattle.std.specs.Prelude.{Bool, List, None, Option, Some, [], false, if◌then◌else◌, is_none, is_some, length, max, not, option_map, true, unwrap_or, ℕ, ◌&&◌, ◌<◌, ◌==◌, ◌||◌, ◌∷◌, ◌≡◌}
+use Rattle.std.specs.Prelude.{Bool, IsTrue, List, None, Option, Some, [], false, if◌then◌else◌, is_none, is_some, length, max, not, option_map, true, unwrap_or, ℕ, ◌&&◌, ◌<◌, ◌==◌, ◌||◌, ◌∷◌, ◌≡◌}
 use Rattle.visibility_models.specs.Models.{IsDownAtEndOf, IsStrictWaitOf, IsUnderWay, under}
 use Rattle.window_order.proofs.AnsweredDowns.{IsToldDown}
 use Rattle.window_order.proofs.ReadFacts.{read_facts}
@@ -276,15 +281,15 @@ case_command w n g r m c x run going free there placed sound next is = is ∙ sy
 
 -- What the type of a hub keeps makes its steps those of this stage
 
-pub stage_hub : {D : Type 0} (stands turns probes faults : D → ℕ) (s t : OpenHub D) → s ≡ t → HubIsKept stands turns probes faults s → StageSteps t.setting (read_of (configuration_of t))
-stage_hub {D = D} stands turns probes faults s t same k =
-    subst (λ (x : OpenHub D). StageSteps x.setting (read_of (configuration_of x))) same (stage_steps (configuration_of s) s.rounds s.opened (held_in s) k.configuration)
+pub stage_hub : {D : Type 0} (stands turns probes faults : D → ℕ) (s t : OpenHub D) → s ≡ t → is_weak s.setting.mode ≡ false → HubIsKept stands turns probes faults s → StageSteps t.setting (read_of (configuration_of t))
+stage_hub {D = D} stands turns probes faults s t same strong k =
+    subst (λ (x : OpenHub D). StageSteps x.setting (read_of (configuration_of x))) same (stage_steps (configuration_of s) s.rounds s.opened (held_in s) (k.configuration.ordered strong))
 
-pub choice_hub : {D : Type 0} (stands turns probes faults : D → ℕ) (s t : OpenHub D) (r m : ℕ) → s ≡ t → HubIsKept stands turns probes faults s
+pub choice_hub : {D : Type 0} (stands turns probes faults : D → ℕ) (s t : OpenHub D) (r m : ℕ) → s ≡ t → is_weak s.setting.mode ≡ false → HubIsKept stands turns probes faults s
     → choice_of (configuration_of t) r m ≡ stage_choice t.setting (read_of (configuration_of t)) (configuration_of t).grips r (max t.moment m)
-choice_hub {D = D} stands turns probes faults s t r m same k =
+choice_hub {D = D} stands turns probes faults s t r m same strong k =
     subst (λ (x : OpenHub D). choice_of (configuration_of x) r m ≡ stage_choice x.setting (read_of (configuration_of x)) (configuration_of x).grips r (max x.moment m)) same
-    (stage_choice_is (configuration_of s) s.rounds s.opened (held_in s) r m k.configuration)
+    (stage_choice_is (configuration_of s) s.rounds s.opened (held_in s) r m (k.configuration.ordered strong))
 
 -- The last cases, of a run that is under way, by what is kept of it
 
@@ -293,12 +298,12 @@ was_placed : (o : Option PlacedAt) → is_some (option_map (λ p. p.stamp) o) �
 was_placed None e = absurd (cc)
 was_placed (Some p) e = refl
 
-pub hub_answers : {D : Type 0} (stands turns probes faults : D → ℕ) (s t : OpenHub D) (r m : ℕ) (p : RunProgress) (x : Choice) → s ≡ t → HubIsKept stands turns probes faults s
+pub hub_answers : {D : Type 0} (stands turns probes faults : D → ℕ) (s t : OpenHub D) (r m : ℕ) (p : RunProgress) (x : Choice) → s ≡ t → is_weak s.setting.mode ≡ false → HubIsKept stands turns probes faults s
     → true ≡ is_run s.setting.runs r → p ≡ progress_of ((read_of (configuration_of s)).run r) → p.ended ≡ None → None ≡ grip_wait t.setting (configuration_of t).grips r
     → is_some p.arrived ≡ true → is_some p.placed ≡ true → p.doomed ≡ None → None ≡ next_command s.setting (read_of (configuration_of s)) r
     → x ≡ decide_answered t.setting (read_of (configuration_of t)) (configuration_of t).grips r
     → x ≡ choice_of (configuration_of t) r m
-hub_answers {D = D} stands turns probes faults s t r m p x same k run known going free there placed sound none is =
+hub_answers {D = D} stands turns probes faults s t r m p x same strong k run known going free there placed sound none is =
     case_answered s.setting (read_of (configuration_of s)) (configuration_of s).grips r (max s.moment m) x (sym run)
     (ap (λ (y : RunProgress). y.ended) (sym known) ∙ going)
     (free ∙ ap (λ (y : OpenHub D). grip_wait y.setting (configuration_of y).grips r) (sym same))
@@ -307,19 +312,19 @@ hub_answers {D = D} stands turns probes faults s t r m p x same k run known goin
     (ap (λ (y : RunProgress). y.doomed) (sym known) ∙ sound)
     none
     (is ∙ ap (λ (y : OpenHub D). decide_answered y.setting (read_of (configuration_of y)) (configuration_of y).grips r) (sym same))
-    ∙ sym (stage_choice_is (configuration_of s) s.rounds s.opened (held_in s) r m k.configuration)
+    ∙ sym (stage_choice_is (configuration_of s) s.rounds s.opened (held_in s) r m (k.configuration.ordered strong))
     ∙ ap (λ (y : OpenHub D). choice_of (configuration_of y) r m) same
   where
     absent : {A : Type 0} (o : Option A) → is_some o ≡ true → is_none o ≡ false
     absent None e = absurd (cc)
     absent (Some x) e = refl
 
-pub hub_commands : {D : Type 0} (stands turns probes faults : D → ℕ) (s t : OpenHub D) (r m : ℕ) (p : RunProgress) (c : Command) (x : Choice) → s ≡ t → HubIsKept stands turns probes faults s
+pub hub_commands : {D : Type 0} (stands turns probes faults : D → ℕ) (s t : OpenHub D) (r m : ℕ) (p : RunProgress) (c : Command) (x : Choice) → s ≡ t → is_weak s.setting.mode ≡ false → HubIsKept stands turns probes faults s
     → true ≡ is_run s.setting.runs r → p ≡ progress_of ((read_of (configuration_of s)).run r) → p.ended ≡ None → None ≡ grip_wait t.setting (configuration_of t).grips r
     → is_some p.arrived ≡ true → is_some p.placed ≡ true → p.doomed ≡ None → Some c ≡ next_command s.setting (read_of (configuration_of s)) r
     → x ≡ stage_command t.setting (read_of (configuration_of t)) (configuration_of t).grips r p.answered c
     → x ≡ choice_of (configuration_of t) r m
-hub_commands {D = D} stands turns probes faults s t r m p c x same k run known going free there placed sound next is =
+hub_commands {D = D} stands turns probes faults s t r m p c x same strong k run known going free there placed sound next is =
     case_command s.setting (read_of (configuration_of s)) (configuration_of s).grips r (max s.moment m) c x (sym run)
     (ap (λ (y : RunProgress). y.ended) (sym known) ∙ going)
     (free ∙ ap (λ (y : OpenHub D). grip_wait y.setting (configuration_of y).grips r) (sym same))
@@ -328,19 +333,19 @@ hub_commands {D = D} stands turns probes faults s t r m p c x same k run known g
     (ap (λ (y : RunProgress). y.doomed) (sym known) ∙ sound)
     next
     (is ∙ ap (λ (y : OpenHub D). stage_command y.setting (read_of (configuration_of y)) (configuration_of y).grips r p.answered c) (sym same) ∙ ap (λ (y : RunProgress). stage_command s.setting (read_of (configuration_of s)) (configuration_of s).grips r y.answered c) known)
-    ∙ sym (stage_choice_is (configuration_of s) s.rounds s.opened (held_in s) r m k.configuration)
+    ∙ sym (stage_choice_is (configuration_of s) s.rounds s.opened (held_in s) r m (k.configuration.ordered strong))
     ∙ ap (λ (y : OpenHub D). choice_of (configuration_of y) r m) same
   where
     absent : {A : Type 0} (o : Option A) → is_some o ≡ true → is_none o ≡ false
     absent None e = absurd (cc)
     absent (Some y) e = refl
 
-pub hub_dooms : {D : Type 0} (stands turns probes faults : D → ℕ) (s t : OpenHub D) (r m : ℕ) (p : RunProgress) (cause : Cause) (x : Choice) → s ≡ t → HubIsKept stands turns probes faults s
+pub hub_dooms : {D : Type 0} (stands turns probes faults : D → ℕ) (s t : OpenHub D) (r m : ℕ) (p : RunProgress) (cause : Cause) (x : Choice) → s ≡ t → is_weak s.setting.mode ≡ false → HubIsKept stands turns probes faults s
     → true ≡ is_run s.setting.runs r → p ≡ progress_of ((read_of (configuration_of s)).run r) → p.ended ≡ None → None ≡ grip_wait t.setting (configuration_of t).grips r
     → is_some p.arrived ≡ true → is_some p.placed ≡ true → p.doomed ≡ Some cause
     → x ≡ stage_doomed t.setting (read_of (configuration_of t)) (configuration_of t).grips r cause
     → x ≡ choice_of (configuration_of t) r m
-hub_dooms {D = D} stands turns probes faults s t r m p cause x same k run known going free there placed doomed is =
+hub_dooms {D = D} stands turns probes faults s t r m p cause x same strong k run known going free there placed doomed is =
     case_doomed s.setting (read_of (configuration_of s)) (configuration_of s).grips r (max s.moment m) cause x (sym run)
     (ap (λ (y : RunProgress). y.ended) (sym known) ∙ going)
     (free ∙ ap (λ (y : OpenHub D). grip_wait y.setting (configuration_of y).grips r) (sym same))
@@ -348,12 +353,50 @@ hub_dooms {D = D} stands turns probes faults s t r m p cause x same k run known 
     (absent ((read_of (configuration_of s)).run r).placed (was_placed ((read_of (configuration_of s)).run r).placed (ap (λ (y : RunProgress). is_some y.placed) (sym known) ∙ placed)))
     (ap (λ (y : RunProgress). y.doomed) (sym known) ∙ doomed)
     (is ∙ ap (λ (y : OpenHub D). stage_doomed y.setting (read_of (configuration_of y)) (configuration_of y).grips r cause) (sym same))
-    ∙ sym (stage_choice_is (configuration_of s) s.rounds s.opened (held_in s) r m k.configuration)
+    ∙ sym (stage_choice_is (configuration_of s) s.rounds s.opened (held_in s) r m (k.configuration.ordered strong))
     ∙ ap (λ (y : OpenHub D). choice_of (configuration_of y) r m) same
   where
     absent : {A : Type 0} (o : Option A) → is_some o ≡ true → is_none o ≡ false
     absent None e = absurd (cc)
     absent (Some y) e = refl
+
+-- .. under the weak model
+case_rest : (w : Setting) (n : Reading) (g : Grips) (r m : ℕ) (x : Choice) → is_run w.runs r ≡ true → (n.run r).ended ≡ None → None ≡ grip_wait w g r → is_none (n.run r).arrived ≡ false → is_none (n.run r).placed ≡ false → x ≡ weak_rest w n g r → x ≡ weak_choice w n g r m
+case_rest w n g r m x run going free there placed is = is ∙ sym (rw (run, going, ← free, there, placed) refl)
+
+pub hub_weakly : {D : Type 0} (stands turns probes faults : D → ℕ) (s t : OpenHub D) (r m : ℕ) (p : RunProgress) (x : Choice) → s ≡ t → is_weak s.setting.mode ≡ true → HubIsKept stands turns probes faults s
+    → true ≡ is_run s.setting.runs r → p ≡ progress_of ((read_of (configuration_of s)).run r) → p.ended ≡ None → None ≡ grip_wait t.setting (configuration_of t).grips r
+    → is_some p.arrived ≡ true → is_some p.placed ≡ true → x ≡ weak_rest t.setting (read_of (configuration_of t)) (configuration_of t).grips r
+    → x ≡ choice_of (configuration_of t) r m
+hub_weakly {D = D} stands turns probes faults s t r m p x same weak k run known going free there placed is =
+    case_rest s.setting (read_of (configuration_of s)) (configuration_of s).grips r (max s.moment m) x (sym run)
+    (ap (λ (y : RunProgress). y.ended) (sym known) ∙ going)
+    (free ∙ ap (λ (y : OpenHub D). grip_wait y.setting (configuration_of y).grips r) (sym same))
+    (absent ((read_of (configuration_of s)).run r).arrived (ap (λ (y : RunProgress). is_some y.arrived) (sym known) ∙ there))
+    (absent ((read_of (configuration_of s)).run r).placed (was_placed ((read_of (configuration_of s)).run r).placed (ap (λ (y : RunProgress). is_some y.placed) (sym known) ∙ placed)))
+    (is ∙ ap (λ (y : OpenHub D). weak_rest y.setting (read_of (configuration_of y)) (configuration_of y).grips r) (sym same))
+    ∙ sym (weak_choice_is (configuration_of s) s.rounds s.opened (held_in s) r m (k.configuration.weakly weak))
+    ∙ ap (λ (y : OpenHub D). choice_of (configuration_of y) r m) same
+  where
+    absent : {A : Type 0} (o : Option A) → is_some o ≡ true → is_none o ≡ false
+    absent None e = absurd (cc)
+    absent (Some y) e = refl
+
+-- what is left to do, by its cases
+pub rest_aborts : (w : Setting) (n : Reading) (g : Grips) (r : ℕ) (cause : Cause) → (n.run r).doomed ≡ Some cause → aborts r cause ≡ weak_rest w n g r
+rest_aborts w n g r cause doomed = sym (rw doomed refl)
+
+pub rest_commits : (w : Setting) (n : Reading) (g : Grips) (r : ℕ) → (n.run r).doomed ≡ None → next_command w n r ≡ None → Over Committed (Ended (run_no r) Committed ∷ []) ≡ weak_rest w n g r
+rest_commits w n g r sound none = sym (rw (sound, none) refl)
+
+pub rest_waits : (w : Setting) (n : Reading) (g : Grips) (r : ℕ) (c : Command) → (n.run r).doomed ≡ None → next_command w n r ≡ Some c → is_out g c.device.0 ≡ true → Waits (Busy c.device) ≡ weak_rest w n g r
+rest_waits w n g r c sound next out = sym (rw (sound, next, out) refl)
+
+pub rest_goes : (w : Setting) (n : Reading) (g : Grips) (r : ℕ) (c : Command) → (n.run r).doomed ≡ None → next_command w n r ≡ Some c → is_out g c.device.0 ≡ false → n.up c.device.0 ≡ true → HandsOut c.device.0 (Commands (next_of n r)) ≡ weak_rest w n g r
+rest_goes w n g r c sound next home up = sym (rw (sound, next, home, up) refl)
+
+pub rest_downs : (w : Setting) (n : Reading) (g : Grips) (r : ℕ) (c : Command) → (n.run r).doomed ≡ None → next_command w n r ≡ Some c → is_out g c.device.0 ≡ false → n.up c.device.0 ≡ false → Moves (down_entries r (next_of n r) c) ≡ weak_rest w n g r
+rest_downs w n g r c sound next home down = sym (rw (sound, next, home, down) refl)
 
 -- the run is live
 pub hub_is_live : {D : Type 0} (s t : OpenHub D) (r : ℕ) (p : RunProgress) → s ≡ t → p ≡ progress_of ((read_of (configuration_of s)).run r) → p.ended ≡ None → is_some p.placed ≡ true → is_live (read_of (configuration_of t)) r ≡ true
@@ -374,19 +417,20 @@ hub_under_way {D = D} s t r p same known going placed sound = record {
 pub record IsAborting (s : Configuration) (r : ℕ) (cause : Cause) : Type 0 where
   pub live : is_live (read_of s) r ≡ true
   pub doomed : ((read_of s).run r).doomed ≡ Some cause
-  pub over : next_undo_of s.setting (read_of s) s.grips r ≡ None
+  pub over : is_weak s.setting.mode ≡ false → next_undo_of s.setting (read_of s) s.grips r ≡ None
 
-pub aborting : (s : Configuration) (rounds opened : ℕ) (held : ℕ → ℕ) (r m : ℕ) (cause : Cause) → ConfigurationIsKept s rounds opened held → choice_of s r m ≡ aborts r cause → IsAborting s r cause
+pub aborting : (s : Configuration) (rounds opened : ℕ) (held : ℕ → ℕ) (r m : ℕ) (cause : Cause) → IsKeptByModel s rounds opened held → choice_of s r m ≡ aborts r cause → IsAborting s r cause
 aborting s rounds opened held r m cause kept =
-    stage_holds (λ c. c ≡ aborts r cause → IsAborting s r cause) s.setting (read_of s) s.grips r (max s.moment m) (stage_steps s rounds opened held kept) (record {
+    decide_is (λ c. c ≡ aborts r cause → IsAborting s r cause) s.setting (read_of s) s.grips r (max s.moment m) (record {
       absent = λ none is. absurd (cc);
       over = λ e at is. absurd (cc);
       waits = λ why is. absurd (cc);
       arrives = λ run none is. absurd (cc);
-      enters = λ run none is. absurd (cc);
+      enters = λ split enters is. absurd (cc);
       aborted = λ other act doomed over is. record { live = act.live; doomed = doomed ∙ ap (λ c. Some c) (same_cause other cause is); over = over };
       drops = λ other d undoing down is. absurd (cc);
       undoes = λ other d undoing up is. absurd (cc);
+      revokes = λ c x run strong at is. absurd (cc);
       downs = λ c run next home down is. absurd (cc);
       goes = λ c run next home up is. absurd (cc);
       fails_at_end = λ d all at is. absurd (cc);
@@ -397,8 +441,8 @@ aborting s rounds opened held r m cause kept =
     same_cause a b e = cc
 
 -- so the table tells that its undos are finished
-pub finished_is : (s : Configuration) (r : ℕ) (cause : Cause) → IsAborting s r cause → undo_of s.setting (read_of s) s.grips r ≡ Finished
-finished_is s r cause ends = ap (undo_by (read_of s) (value_without s.setting (read_of s) s.grips r)) ends.over
+pub finished_is : (s : Configuration) (r : ℕ) (cause : Cause) → is_weak s.setting.mode ≡ false → IsAborting s r cause → undo_of s.setting (read_of s) s.grips r ≡ Finished
+finished_is s r cause strong ends = ap (undo_by (read_of s) (value_without s.setting (read_of s) s.grips r)) (ends.over strong)
 
 -- the run is at its next command
 pub hub_at_command : {D : Type 0} (stands turns probes faults : D → ℕ) (s t : OpenHub D) (r : ℕ) (p : RunProgress) (c : Command) → s ≡ t → HubIsKept stands turns probes faults s → p ≡ progress_of ((read_of (configuration_of s)).run r) → p.ended ≡ None → is_some p.placed ≡ true → p.doomed ≡ None → Some c ≡ next_command s.setting (read_of (configuration_of s)) r
@@ -424,17 +468,18 @@ pub record IsDropping (s : Configuration) (r d : ℕ) : Type 0 where
   pub live : is_live (read_of s) r ≡ true
   pub device : is_device s.setting d ≡ true
 
-pub dropping : (s : Configuration) (rounds opened : ℕ) (held : ℕ → ℕ) (r m d : ℕ) → ConfigurationIsKept s rounds opened held → choice_of s r m ≡ Moves (Undid (run_no r) (device_no d) false ∷ []) → IsDropping s r d
+pub dropping : (s : Configuration) (rounds opened : ℕ) (held : ℕ → ℕ) (r m d : ℕ) → IsKeptByModel s rounds opened held → choice_of s r m ≡ Moves (Undid (run_no r) (device_no d) false ∷ []) → IsDropping s r d
 dropping s rounds opened held r m d kept =
-    stage_holds (λ c. c ≡ Moves (Undid (run_no r) (device_no d) false ∷ []) → IsDropping s r d) s.setting (read_of s) s.grips r (max s.moment m) (stage_steps s rounds opened held kept) (record {
+    decide_is (λ c. c ≡ Moves (Undid (run_no r) (device_no d) false ∷ []) → IsDropping s r d) s.setting (read_of s) s.grips r (max s.moment m) (record {
       absent = λ none is. absurd (cc);
       over = λ e at is. absurd (cc);
       waits = λ why is. absurd (cc);
       arrives = λ run none is. absurd (cc);
-      enters = λ run none is. absurd (cc);
+      enters = λ split enters is. absurd (cc);
       aborted = λ cause act doomed over is. absurd (cc);
       drops = λ cause e undoing down is. record { live = undoing.act.live; device = subst (λ x. is_device s.setting x ≡ true) (same_device e is) undoing.device };
       undoes = λ cause e undoing up is. absurd (cc);
+      revokes = λ c x run strong at is. absurd (cc);
       downs = λ c run next home down is. absurd (cc);
       goes = λ c run next home up is. absurd (cc);
       fails_at_end = λ e all at is. absurd (cc);
@@ -453,39 +498,46 @@ dropping s rounds opened held r m d kept =
 pub record IsAnsweringDown (s : Configuration) (held : ℕ → ℕ) (r k : ℕ) : Type 0 where
   pub number : k ≡ next_of (read_of s) r
   pub within : k < length (commands_of s.setting.runs r)
-  pub told : IsToldDown s.setting (read_of s) s.grips held r (command_at s.setting.runs r k)
+  pub live : is_live (read_of s) r ≡ true
+  pub free : grip_wait s.setting s.grips r ≡ None
+  pub device : is_device s.setting (command_at s.setting.runs r k).device.0 ≡ true
+  pub told : is_weak s.setting.mode ≡ false → IsToldDown s.setting (read_of s) s.grips held r (command_at s.setting.runs r k)
 
-pub answering : (s : Configuration) (rounds opened : ℕ) (held : ℕ → ℕ) (r m k : ℕ) (must : Bool) → ConfigurationIsKept s rounds opened held → choice_of s r m ≡ Moves (Did (run_no r) k Down ∷ (if must then Doomed (run_no r) (MustDown k) ∷ [] else [])) → IsAnsweringDown s held r k
+pub answering : (s : Configuration) (rounds opened : ℕ) (held : ℕ → ℕ) (r m k : ℕ) (must : Bool) → IsKeptByModel s rounds opened held → choice_of s r m ≡ Moves (Did (run_no r) k Down ∷ (if must then Doomed (run_no r) (MustDown k) ∷ [] else [])) → IsAnsweringDown s held r k
 answering s rounds opened held r m k must kept =
-    let staged = stage_steps s rounds opened held kept in
-    stage_holds (λ c. c ≡ Moves (Did (run_no r) k Down ∷ (if must then Doomed (run_no r) (MustDown k) ∷ [] else [])) → IsAnsweringDown s held r k) s.setting (read_of s) s.grips r (max s.moment m) staged (record {
+    decide_is (λ c. c ≡ Moves (Did (run_no r) k Down ∷ (if must then Doomed (run_no r) (MustDown k) ∷ [] else [])) → IsAnsweringDown s held r k) s.setting (read_of s) s.grips r (max s.moment m) (record {
       absent = λ none is. absurd (cc);
       over = λ e at is. absurd (cc);
       waits = λ why is. absurd (cc);
       arrives = λ run none is. absurd (cc);
-      enters = λ run none is. absurd (cc);
+      enters = λ split enters is. absurd (cc);
       aborted = λ cause act doomed over is. absurd (cc);
       drops = λ cause e undoing down is. absurd (cc);
       undoes = λ cause e undoing up is. absurd (cc);
+      revokes = λ c x run strong at is. absurd (cc);
       downs = λ c run next home down is.
           let same : k ≡ next_of n r = same_number c is in
           let there = next_is (commands_of s.setting.runs r) (next_of n r) c run.next in
+          let command : c ≡ command_at s.setting.runs r k = sym there.1 ∙ ap (command_at s.setting.runs r) (sym same) in
           record {
             number = same;
             within = subst (λ x. x < length (commands_of s.setting.runs r)) (sym same) there.0;
-            told = subst (λ x. IsToldDown s.setting n s.grips held r (command_at s.setting.runs r x)) (sym same) (subst (IsToldDown s.setting n s.grips held r) (sym there.1) (record {
+            live = run.act.live;
+            free = run.act.free;
+            device = subst (λ (x : Command). is_device s.setting x.device.0 ≡ true) command (homed c run.next);
+            told = λ strong. subst (IsToldDown s.setting n s.grips held r) command (record {
               read = read_facts s.setting (entries_of s.history) kept.history.well_formed;
-              strong = staged.strong;
+              strong = strong;
               live = run.act.live;
               sound = run.sound;
               free = run.act.free;
               next = run.next;
-              device = staged.homed r (next_of n r) c run.next;
-              behind = next.first;
+              device = homed c run.next;
+              behind = (next strong).first;
               busy = home;
               down = told_by (is_weak s.setting.mode) (sees_down n r c.device.0) (not (n.up c.device.0)) down;
-              kept = kept.order;
-            }));
+              kept = (kept.ordered strong).order;
+            });
           };
       goes = λ c run next home up is. absurd (cc);
       fails_at_end = λ e all at is. absurd (cc);
@@ -494,6 +546,9 @@ answering s rounds opened held r m k must kept =
   where
     n : Reading
     n = read_of s
+
+    homed : (c : Command) → next_command s.setting n r ≡ Some c → is_device s.setting c.device.0 ≡ true
+    homed c next = let home : IsTrue (is_device s.setting c.device.0 && names_values_of (kind_at s.setting.kinds c.device.0) c.job) = kept.opens.homed r (next_of n r) c next in grind (arith, common_steps)
 
     same_number : (c : Command) → Moves (down_entries r (next_of n r) c) ≡ Moves (Did (run_no r) k Down ∷ (if must then Doomed (run_no r) (MustDown k) ∷ [] else [])) → k ≡ next_of n r
     same_number c is = cc
@@ -508,17 +563,18 @@ pub record IsFailing (s : Configuration) (r : ℕ) : Type 0 where
   pub live : is_live (read_of s) r ≡ true
   pub free : grip_wait s.setting s.grips r ≡ None
 
-pub failing : (s : Configuration) (rounds opened : ℕ) (held : ℕ → ℕ) (r m : ℕ) (d : DeviceNo) → ConfigurationIsKept s rounds opened held → choice_of s r m ≡ Moves (Doomed (run_no r) (DownAtEnd d) ∷ []) → IsFailing s r
+pub failing : (s : Configuration) (rounds opened : ℕ) (held : ℕ → ℕ) (r m : ℕ) (d : DeviceNo) → IsKeptByModel s rounds opened held → choice_of s r m ≡ Moves (Doomed (run_no r) (DownAtEnd d) ∷ []) → IsFailing s r
 failing s rounds opened held r m d kept =
-    stage_holds (λ c. c ≡ Moves (Doomed (run_no r) (DownAtEnd d) ∷ []) → IsFailing s r) s.setting (read_of s) s.grips r (max s.moment m) (stage_steps s rounds opened held kept) (record {
+    decide_is (λ c. c ≡ Moves (Doomed (run_no r) (DownAtEnd d) ∷ []) → IsFailing s r) s.setting (read_of s) s.grips r (max s.moment m) (record {
       absent = λ none is. absurd (cc);
       over = λ e at is. absurd (cc);
       waits = λ why is. absurd (cc);
       arrives = λ run none is. absurd (cc);
-      enters = λ run none is. absurd (cc);
+      enters = λ split enters is. absurd (cc);
       aborted = λ cause act doomed over is. absurd (cc);
       drops = λ cause e undoing down is. absurd (cc);
       undoes = λ cause e undoing up is. absurd (cc);
+      revokes = λ c x run strong at is. absurd (cc);
       downs = λ c run next home down is. absurd (cc);
       goes = λ c run next home up is. absurd (cc);
       fails_at_end = λ e all at is. record { live = all.act.live; free = all.act.free };

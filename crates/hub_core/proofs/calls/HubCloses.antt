@@ -1,40 +1,48 @@
 -- A window that closes: its devices are home, its record is legal, and the home that is left is as every home is kept.
+use Rattle.lock_leasing.specs.Words.{standing_value}
+use Rattle.hub_core.specs.ReadHistories.{read_in}
+use Rattle.history_book.specs.declared.entries.End.TheVariants.{Committed}
+use Rattle.hub_core.specs.KeptByModel.{IsKeptByModel}
+use Rattle.hub_core.proofs.weak.WeakClosings.{weak_ends, weak_legal_window, weak_none_out}
+use Rattle.hub_core.proofs.weak.WeakProbes.{weak_standing}
+use Rattle.hub_core.proofs.kept.TableFits.{counted_told, either_model}
+use Rattle.hub_core.proofs.kept.KeptByModel.{by_model, stands_at_home}
 use Rattle.device_gate.specs.Places.{AllHome, AreNumbered, all_home}
 use Rattle.device_gate.specs.declared.gates.Place.TheVariants.{Home, Out}
 use Rattle.device_gate.specs.declared.gates.Place.{Place}
 use Rattle.history_book.specs.Histories.{entries_of, is_fall_of, reading}
-use Rattle.history_book.specs.Settings.{is_device}
+use Rattle.history_book.specs.Settings.{is_device, is_weak}
 use Rattle.history_book.specs.declared.entries.Entry.{Entry}
 use Rattle.history_book.specs.declared.records.WindowRecord.{WindowRecord}
 use Rattle.home_types.specs.HomeStates.{stand_at}
 use Rattle.home_types.specs.Kinds.{has_value, kind_at}
 use Rattle.home_types.specs.declared.kinds.Kind.{Kind}
 use Rattle.home_types.specs.declared.worlds.Stand.{Stand}
+use Rattle.hub_core.proofs.calls.EndedRuns.{each_has_ended}
 use Rattle.hub_core.proofs.calls.HubChanges.{few_entries}
 use Rattle.hub_core.proofs.stage.CalmHistories.{NoneFailed}
-use Rattle.hub_core.proofs.stage.Closings.{IsLastState, ended_committed, legal_window, none_out, quiet_is, table_leaves}
+use Rattle.hub_core.proofs.stage.Closings.{IsLastState, IsQuiet, ended_committed, legal_window, none_out, quiet_is, table_leaves}
 use Rattle.hub_core.proofs.kept.Kept.{values_fit}
 use Rattle.hub_core.proofs.kept.Sizes.{line_fits, stays_up}
 use Rattle.hub_core.proofs.kept.WrittenValues.{standing_fits, writes_fit}
 use Rattle.hub_core.specs.AccountedCalls.{CallsAreAccounted, tells_call, told_calls, told_falls}
 use Rattle.hub_core.specs.Agreement.{UpDevicesStand}
-use Rattle.hub_core.specs.ClosedHomes.{HaveRisen, NoneFell, stand_left}
+use Rattle.hub_core.specs.ClosedHomes.{HaveRisen, NoneFell, all_known_left, known_left, stand_left}
 use Rattle.hub_core.specs.Homes.{CountsAreLow, HomeIsKept}
 use Rattle.hub_core.specs.HubCalls.{IsClosed, NoneFails, probes_taken}
 use Rattle.hub_core.specs.HubsKept.{FitsAtHome, HubIsKept, IsEmptyFor, IsWhole, open_of}
 use Rattle.hub_core.specs.OpenHubs.{OpenHub, configuration_of, device_at, grip_in, held_in}
+use Rattle.hub_core.specs.LegalWindows.{IsLegalWindow}
 use Rattle.hub_core.specs.Steps.{not_quiet}
 use Rattle.hub_core.specs.declared.open_windows.OpenWindow.TheInside.{Inside}
-use Rattle.lock_leasing.specs.Configurations.{read_of}
+use Rattle.lock_leasing.specs.Configurations.{Configuration, read_of}
 use Rattle.serial_line.specs.Marks.{Mark}
-use Rattle.std.proofs.Common.{ap, arith, inl, inr, refl, sym, ◌∙◌}
+use Rattle.std.proofs.Common.{ap, arith, inl, inr, length-append, refl, subst, sym, ◌∙◌}
 use Rattle.std.proofs.lemmas.Grind.{common_steps}
 use Rattle.std.proofs.lemmas.List.{length-map}
 use Rattle.std.proofs.lemmas.List.Sums.{count_by-le-length}
 use Rattle.std.proofs.lemmas.Option.{slice_get-map, slice_get_cases, slice_get_within}
-use Rattle.std.specs.Prelude.{Bool, IsTrue, List, None, Some, [], count_by, length, map, nat_lt, option_map, slice_get, slice_index_or, suc, take, true, zero, ℕ, ◌*◌, ◌++◌, ◌+◌, ◌<◌, ◌^◌, ◌∷◌, ◌≡◌, ◌≤◌}
-use Rattle.window_order.proofs.ReadFacts.{read_facts}
-use Rattle.window_order.proofs.StandingValues.{stands_home}
+use Rattle.std.specs.Prelude.{Bool, IsTrue, List, None, Some, [], count_by, false, length, map, nat_lt, option_map, slice_get, slice_index_or, suc, take, true, zero, ℕ, ◌*◌, ◌++◌, ◌+◌, ◌<◌, ◌^◌, ◌∷◌, ◌≡◌, ◌≤◌}
 
 -- what is within a list is at its place
 pub at_place : {X : Type 0} (xs : List X) (i : ℕ) → i < length xs → (x : X) × (slice_get xs i ≡ Some x)
@@ -43,16 +51,32 @@ at_place xs i lt = elim (slice_get_cases xs i).1 [
   | inr p ↦ absurd (let past = p.0 in omega (arith, lt, past))
 ]
 
--- where nothing is left to do, every device is home
+-- where nothing is left to do, no device is out
+home_when_quiet : (s : Configuration) (rounds opened : ℕ) (held : ℕ → ℕ) (d : ℕ) → IsKeptByModel s rounds opened held → IsQuiet s → s.grips d ≡ None
+home_when_quiet s rounds opened held d kept quiet = by_model (s.grips d ≡ None) s rounds opened held kept (λ c. none_out s rounds opened held d c quiet) (λ c. weak_none_out s rounds opened held d c quiet)
+
+-- .. and every device is home
 pub all_are_home : {D : Type 0} (stands turns probes faults : D → ℕ) (s : OpenHub D) → HubIsKept stands turns probes faults s → not_quiet (configuration_of s) ≡ None → AllHome s.places
 all_are_home {D = D} stands turns probes faults s kept quiet d lt = by (at_place s.places d lt)
   where
     away : grip_in (slice_get s.places d) (device_at s.devices d).purpose ≡ None
-    away = none_out (configuration_of s) s.rounds s.opened (held_in s) d kept.configuration (quiet_is (configuration_of s) quiet)
+    away = home_when_quiet (configuration_of s) s.rounds s.opened (held_in s) d kept.configuration (quiet_is (configuration_of s) quiet)
 
     by : (x : Place D) × (slice_get s.places d ≡ Some x) → (device : D) × (slice_get s.places d ≡ Some (Home device))
     by (Home device, at) = (device, at)
     by (Out slip task, at) = absurd (let gone = ap (λ p. grip_in p (device_at s.devices d).purpose) at in cc (sym gone ∙ away))
+
+-- the stand of a device in a list with one more, before the last place and there
+stand_before : (xs : List Stand) (x : Stand) (d : ℕ) → d < length xs → stand_at (xs ++ x ∷ []) d ≡ stand_at xs d
+stand_before [] x d less = absurd (omega (arith, less))
+stand_before (y ∷ xs) x zero less = refl
+stand_before (y ∷ xs) x (suc d) less = stand_before xs x d (omega (arith, less))
+
+stand_behind : (xs : List Stand) (x : Stand) (n : ℕ) → length xs ≡ n → stand_at (xs ++ x ∷ []) n ≡ x
+stand_behind [] x zero size = refl
+stand_behind [] x (suc n) size = absurd (omega (arith, size))
+stand_behind (y ∷ xs) x zero size = absurd (omega (arith, size))
+stand_behind (y ∷ xs) x (suc n) size = stand_behind xs x n (omega (arith, size))
 
 -- what a window that closes has: nothing is left to do, and these are its devices, each of its number
 pub record Closes {D : Type 0} (tag stands turns probes faults : D → ℕ) (s : OpenHub D) (devices : List D) : Type 0 where
@@ -92,9 +116,29 @@ few_calls stands turns probes faults s told kept =
 still_low : (opened count then rise : ℕ) → then ≤ opened * 2 ^ 17 → count ≤ then + rise → rise ≤ 60004 → count ≤ (opened + 1) * 2 ^ 17
 still_low opened count then rise low is few = omega arith
 
--- the lineage table leaves each device as the last state has it
-pub hub_leaves : {D : Type 0} {stands turns probes faults : D → ℕ} (h : Inside D) (last : List Stand) → IsWhole stands turns probes faults h → not_quiet (configuration_of (open_of h)) ≡ None → last ≡ map stand_left h.order.table → IsLastState (configuration_of (open_of h)) last
-hub_leaves h last k quiet are = table_leaves (configuration_of (open_of h)) h.rounds h.opened (held_in (open_of h)) h.order.table last k.shown.configuration (quiet_is (configuration_of (open_of h)) quiet) k.order.table_is are
+-- the lineage table leaves each device as the last state has it, and under the weak model what is known of each
+pub hub_leaves : {D : Type 0} {stands turns probes faults : D → ℕ} (h : Inside D) (last : List Stand) → IsWhole stands turns probes faults h → not_quiet (configuration_of (open_of h)) ≡ None → (is_weak h.history.setting.mode ≡ false → last ≡ map stand_left h.order.table)
+    → (is_weak h.history.setting.mode ≡ true → last ≡ all_known_left h.devices.items h.order.table (length h.order.table)) → IsLastState (configuration_of (open_of h)) last
+hub_leaves h last k quiet are known = either_model (IsLastState (configuration_of (open_of h)) last) h.history.setting
+    (λ weak. record {
+      size = ap length (known weak) ∙ known_size (length h.order.table) ∙ k.order.table_is.devices;
+      each = λ d below.
+          ap (λ l. stand_at l d) (known weak) ∙ known_at (length h.order.table) d (omega (arith, below, k.order.table_is.devices))
+          ∙ (λ i. record { value = ((k.shown.configuration.weakly weak).held_is d below ∙ sym (weak_standing (configuration_of (open_of h)) h.rounds h.opened (held_in (open_of h)) d (k.shown.configuration.weakly weak))) i; up = counted_told h.history.setting (read_in h.history) (configuration_of (open_of h)).grips h.order.table d below k.order.table_is i });
+    })
+    (λ strong. table_leaves (configuration_of (open_of h)) h.rounds h.opened (held_in (open_of h)) h.order.table last (k.shown.configuration.ordered strong) (quiet_is (configuration_of (open_of h)) quiet) (k.order.table_is.ordered strong) (are strong))
+  where
+    known_size : (n : ℕ) → length (all_known_left h.devices.items h.order.table n) ≡ n
+    known_size zero = refl
+    known_size (suc n) = let long : length (all_known_left h.devices.items h.order.table n ++ known_left h.devices.items h.order.table n ∷ []) ≡ length (all_known_left h.devices.items h.order.table n) + 1 = length-append (all_known_left h.devices.items h.order.table n) (known_left h.devices.items h.order.table n ∷ []) in omega (arith, long, known_size n)
+
+    known_at : (n d : ℕ) → d < n → stand_at (all_known_left h.devices.items h.order.table n) d ≡ known_left h.devices.items h.order.table d
+    known_at zero d less = absurd (omega (arith, less))
+    known_at (suc n) d less = elim (nat_lt d n) as (λ b. nat_lt d n ≡ b → stand_at (all_known_left h.devices.items h.order.table (suc n)) d ≡ known_left h.devices.items h.order.table d) [
+      | true ↦ (λ e. stand_before (all_known_left h.devices.items h.order.table n) (known_left h.devices.items h.order.table n) d (let lt : d < n = grind (arith, common_steps) in omega (arith, lt, known_size n)) ∙ known_at n d (grind (arith, common_steps)))
+      | false ↦ (λ e. let same : d ≡ n = grind (arith, common_steps, less) in
+          ap (λ x. stand_at (all_known_left h.devices.items h.order.table (suc n)) x) same ∙ stand_behind (all_known_left h.devices.items h.order.table n) (known_left h.devices.items h.order.table n) n (known_size n) ∙ ap (known_left h.devices.items h.order.table) (sym same))
+    ] refl
 
 -- the home that is left is as every home is kept
 pub home_left : {D : Type 0} (tag stands turns probes faults : D → ℕ) (s : OpenHub D) (devices : List D) (kinds : List Kind) (world : List Stand) → Closes tag stands turns probes faults s devices → kinds ≡ s.setting.kinds → IsLastState (configuration_of s) world
@@ -111,10 +155,15 @@ home_left {D = D} tag stands turns probes faults s devices kinds world c kinds_a
       counts = λ d device at. counts d device (fits_at_home tag stands turns probes faults s devices d device c at);
     }
   where
+    standing_value_fits : (d : ℕ) → d < length s.setting.first → IsTrue (has_value (kind_at s.setting.kinds d) (standing_value s.setting (read_of (configuration_of s)) (configuration_of s).grips d))
+    standing_value_fits d within = by_model (IsTrue (has_value (kind_at s.setting.kinds d) (standing_value s.setting (read_of (configuration_of s)) (configuration_of s).grips d))) (configuration_of s) s.rounds s.opened (held_in s) c.kept.configuration
+        (λ k. standing_fits s.setting (read_of (configuration_of s)) (configuration_of s).grips d k.strong (writes_fit s.setting (entries_of s.history) (values_fit (configuration_of s) s.rounds s.opened (held_in s) k) k.history.well_formed) (k.values d within))
+        (λ k. subst (λ v. IsTrue (has_value (kind_at s.setting.kinds d) v)) (k.held_is d within ∙ sym (weak_standing (configuration_of s) s.rounds s.opened (held_in s) d k)) (c.kept.values d within))
+
     value_at : (d : ℕ) → d < length world → IsTrue (has_value (kind_at kinds d) (stand_at world d).value)
     value_at d lt =
         let within : d < length s.setting.first = omega (arith, lt, left.size) in
-        rw (kinds_are, left.each d within) (standing_fits s.setting (read_of (configuration_of s)) (configuration_of s).grips d c.kept.configuration.stage.strong (writes_fit s.setting (entries_of s.history) (values_fit (configuration_of s) s.rounds s.opened (held_in s) c.kept.configuration) c.kept.configuration.history.well_formed) (c.kept.configuration.values d within))
+        rw (kinds_are, left.each d within) (standing_value_fits d within)
 
     stand : UpDevicesStand stands devices world
     stand d device at up =
@@ -122,8 +171,7 @@ home_left {D = D} tag stands turns probes faults s devices kinds world c kinds_a
         let here : is_device s.setting d ≡ true = is_below d (length s.setting.first) within in
         let counted : (read_of (configuration_of s)).up d ≡ true = sym (ap (λ (x : Stand). x.up) (left.each d within)) ∙ up in
         (fits_at_home tag stands turns probes faults s devices d device c at).stand counted
-        ∙ stands_home s.setting (read_of (configuration_of s)) (configuration_of s).grips (held_in s) d (read_facts s.setting (entries_of s.history) c.kept.configuration.history.well_formed) c.kept.configuration.order c.kept.configuration.stage.strong here
-        (none_out (configuration_of s) s.rounds s.opened (held_in s) d c.kept.configuration (quiet_is (configuration_of s) c.quiet)) counted
+        ∙ stands_at_home (configuration_of s) s.rounds s.opened (held_in s) d c.kept.configuration here (home_when_quiet (configuration_of s) s.rounds s.opened (held_in s) d c.kept.configuration (quiet_is (configuration_of s) c.quiet)) counted
         ∙ sym (ap (λ (x : Stand). x.value) (left.each d within))
       where
         is_below : (a b : ℕ) → a < b → nat_lt a b ≡ true
@@ -137,12 +185,18 @@ home_left {D = D} tag stands turns probes faults s devices kinds world c kinds_a
           (let few = c.kept.configuration.opens.few_rounds in let falls = few_calls stands turns probes faults s (is_fall_of d) c.kept in omega (arith, few, falls));
     }
 
+-- two lists of how the devices are left are the same
+pub same_left : {A : Type 0} (weak : Bool) (xs ys one other : List A) → (weak ≡ false → xs ≡ one) → (weak ≡ true → xs ≡ other) → (weak ≡ false → ys ≡ one) → (weak ≡ true → ys ≡ other) → xs ≡ ys
+same_left true xs ys one other a b c d = b refl ∙ sym (d refl)
+same_left false xs ys one other a b c d = a refl ∙ sym (c refl)
+
 -- what the record tells
 pub record Tells {D : Type 0} (turns faults : D → ℕ) (s : OpenHub D) (devices : List D) (closed : WindowRecord) : Type 0 where
   pub mode : closed.mode ≡ s.setting.mode
   pub first : closed.first.devices.items ≡ s.setting.first
   pub history : closed.history.items ≡ s.history
-  pub order : closed.order.items ≡ (read_of (configuration_of s)).line
+  pub order : is_weak s.setting.mode ≡ false → closed.order.items ≡ (read_of (configuration_of s)).line
+  pub unclaimed : is_weak s.setting.mode ≡ true → closed.order.items ≡ []
   pub last : IsLastState (configuration_of s) closed.last.devices.items
   pub turns_rose : HaveRisen turns (λ k. k.at_opening.turns) s.devices devices (length s.devices) closed.turns.items
   pub faults_rose : HaveRisen faults (λ k. k.at_opening.faults) s.devices devices (length s.devices) closed.faults.items
@@ -176,19 +230,17 @@ pub window_closed : {D : Type 0} (tag stands turns probes faults : D → ℕ) (s
     → IsClosed turns probes faults s (record { kinds = kinds; world = world; devices = devices; opened = s.opened + 1 }) closed
 window_closed {D = D} tag stands turns probes faults s devices kinds world closed c tells kinds_are world_is =
     record {
-      legal = legal_window (configuration_of s) s.rounds s.opened (held_in s) closed c.kept.configuration (quiet_is (configuration_of s) c.quiet) (record {
-        mode = tells.mode;
-        first = tells.first;
-        history = tells.history;
-        order = tells.order;
-        last = tells.last;
-        accounted = calls;
-      });
+      legal = legal;
       history = tells.history;
       kinds = kinds_are;
       last = world_is;
       opened = refl;
-      commits = λ first none_fails r run none. ap (λ h. ((reading s.setting (entries_of h)).run r).ended) tells.history ∙ ended_committed (configuration_of s) s.rounds s.opened (held_in s) r c.kept.configuration (quiet_is (configuration_of s) c.quiet) first (none_failed none_fails) run none;
+      ends = record {
+        ended = each_has_ended s.setting closed legal;
+        commits = λ first none_fails r run none. ap (λ h. ((reading s.setting (entries_of h)).run r).ended) tells.history ∙ by_model (((read_of (configuration_of s)).run r).ended ≡ Some Committed) (configuration_of s) s.rounds s.opened (held_in s) c.kept.configuration
+            (λ k. ended_committed (configuration_of s) s.rounds s.opened (held_in s) r k (quiet_is (configuration_of s) c.quiet) first (none_failed none_fails) run none)
+            (λ k. (weak_ends (configuration_of s) s.rounds s.opened (held_in s) k (quiet_is (configuration_of s) c.quiet) (none_failed none_fails)).commits r run none);
+      };
       places = sym c.places;
       up = λ none_fails d lt. up_at_end none_fails d (let same = ap (λ l. length l) world_is in let size = tells.last.size in omega (arith, lt, same, size));
       turns_rose = λ d device at. tells.turns_rose.each d device (known d device at) at;
@@ -198,6 +250,28 @@ window_closed {D = D} tag stands turns probes faults s devices kinds world close
   where
     calls : CallsAreAccounted s.setting (entries_of s.history) closed.turns.items closed.faults.items
     calls = accounted tag stands turns probes faults s devices closed c tells
+
+    legal : IsLegalWindow s.setting closed
+    legal = by_model (IsLegalWindow s.setting closed) (configuration_of s) s.rounds s.opened (held_in s) c.kept.configuration
+        (λ k. legal_window (configuration_of s) s.rounds s.opened (held_in s) closed k (quiet_is (configuration_of s) c.quiet) (record {
+          mode = tells.mode;
+          first = tells.first;
+          history = tells.history;
+          order = tells.order k.strong;
+          last = tells.last;
+          accounted = calls;
+        }))
+        (λ k. weak_legal_window (configuration_of s) s.rounds s.opened (held_in s) closed k (quiet_is (configuration_of s) c.quiet) (record {
+          mode = tells.mode;
+          first = tells.first;
+          history = tells.history;
+          unclaimed = tells.unclaimed k.weak;
+          last = record {
+            size = tells.last.size;
+            each = λ d within. tells.last.each d within ∙ (λ i. record { value = (weak_standing (configuration_of s) s.rounds s.opened (held_in s) d k ∙ sym (k.held_is d within)) i; up = (read_of (configuration_of s)).up d });
+          };
+          accounted = calls;
+        }))
 
     none_failed : NoneFails s.setting closed.faults.items → NoneFailed (configuration_of s)
     none_failed none_fails = record { up = none_fails.up; steady = λ d lt. (let told = calls.faults_of d lt in let none = none_fails.steady d lt in omega (arith, told, none)) }

@@ -1,4 +1,6 @@
 -- What holds of every hub, from what its type keeps.
+use Rattle.hub_core.proofs.weak.WeakChoices.{weak_moves}
+use Rattle.hub_core.proofs.kept.KeptByModel.{by_model, stands_at_home}
 use Rattle.command_rules.specs.Rosters.{commands_of, device_no, is_run, run_no}
 use Rattle.device_gate.specs.Places.{AllHome, IsFirstOut, slip_of}
 use Rattle.device_gate.specs.declared.gates.Place.TheVariants.{Home, Out}
@@ -32,10 +34,9 @@ use Rattle.std.proofs.Common.{ap, arith, refl, subst, sym, ◌∙◌}
 use Rattle.std.proofs.lemmas.Grind.{common_steps}
 use Rattle.std.proofs.lemmas.Option.{slice_get_within}
 use Rattle.std.specs.Option.{option_or}
-use Rattle.std.specs.Prelude.{Bool, IfNone, IfSome, IsTrue, List, None, Option, Some, [], false, find, if◌then◌else◌, is_none, is_some, length, nat_lt, option_map, slice_get, suc, true, zero, ℕ, ◌+◌, ◌<◌, ◌∷◌, ◌≡◌, ◌≤◌, ◌↔◌}
+use Rattle.std.specs.Prelude.{Bool, IfNone, IfSome, IsTrue, List, None, Option, Some, [], false, find, if◌then◌else◌, is_none, is_some, length, nat_lt, option_map, slice_get, suc, true, zero, ℕ, ◌+◌, ◌<◌, ◌↔◌, ◌∷◌, ◌≡◌, ◌≤◌}
 use Rattle.window_order.proofs.Promises.{order_stands}
 use Rattle.window_order.proofs.ReadFacts.{read_facts}
-use Rattle.window_order.proofs.StandingValues.{stands_home}
 
 pub kept_at : {D : Type 0} (stands turns probes faults : D → ℕ) (s t : OpenHub D) → s ≡ t → HubIsKept stands turns probes faults s → HubIsKept stands turns probes faults t
 kept_at {D = D} stands turns probes faults s t same k = subst (λ (x : OpenHub D). HubIsKept stands turns probes faults x) same k
@@ -50,9 +51,11 @@ bounded_hub stands turns probes faults s k = record {
 }
 
 pub moves_hub : {D : Type 0} (stands turns probes faults : D → ℕ) (s : OpenHub D) → HubIsKept stands turns probes faults s → SomeRunMoves (configuration_of s)
-moves_hub stands turns probes faults s k = λ r run going home.
-    let moves = some_run_moves (configuration_of s) s.rounds s.opened (held_in s) r k.configuration home run going in
-    (moves.0, moves.1, moves.2, λ m why waits. absurd (let wait : is_wait (Waits why) ≡ false = ap is_wait (sym waits) ∙ moves.3 m in cc))
+moves_hub stands turns probes faults s k = by_model (SomeRunMoves (configuration_of s)) (configuration_of s) s.rounds s.opened (held_in s) k.configuration
+    (λ c r run going home.
+    let moves = some_run_moves (configuration_of s) s.rounds s.opened (held_in s) r c home run going in
+    (moves.0, moves.1, moves.2, λ m why waits. absurd (let wait : is_wait (Waits why) ≡ false = ap is_wait (sym waits) ∙ moves.3 m in cc)))
+    (λ c. weak_moves (configuration_of s) s.rounds s.opened (held_in s) c)
 
 some_is : {A : Type 0} (x y : A) → Some x ≡ Some y → x ≡ y
 some_is x y e = cc
@@ -70,13 +73,14 @@ stands_hub {D = D} stands turns probes faults s k =
       few_runs = c.opens.few_runs;
       few_devices = c.opens.few_devices;
       well_formed = c.history.well_formed;
-      grips = c.order.grips;
-      order = λ strong. order_stands s.setting (read_of (configuration_of s)) (configuration_of s).grips (held_in s) read c.order;
-      clean = λ strong. c.history.clean;
-      places = λ strong. c.history.places;
+      grips = c.grips;
+      order = λ strong. order_stands s.setting (read_of (configuration_of s)) (configuration_of s).grips (held_in s) read (c.ordered strong).order;
+      clean = λ strong. (c.ordered strong).history.clean;
+      places = λ strong. (c.ordered strong).history.places;
       justified = c.history.justified;
+      moment = c.history.moment;
       stand = λ d device at up. (k.home d device at).stand up
-          ∙ stands_home s.setting (read_of (configuration_of s)) (configuration_of s).grips (held_in s) d read c.order c.stage.strong (device_has s d (Home device) k.places_size at) (ap (λ o. grip_in o (device_at s.devices d).purpose) at) up;
+          ∙ stands_at_home (configuration_of s) s.rounds s.opened (held_in s) d c (device_has s d (Home device) k.places_size at) (ap (λ o. grip_in o (device_at s.devices d).purpose) at) up;
       told = record {
         turns_rose = λ d device at. (k.home d device at).turns_are;
         probes_rose = λ d device at. (k.home d device at).probes_are;
@@ -222,7 +226,7 @@ pub command_out : {D : Type 0} (stands turns probes faults : D → ℕ) (s : Ope
 command_out {D = D} stands turns probes faults s d slip k kept some purpose =
     let n = read_of (configuration_of s) in
     let grip : (configuration_of s).grips d ≡ Some (record { maker = slip.maker; purpose = Commands k }) = grip_by_slip s d slip some ∙ ap (λ (q : KeptPurpose). Some (record { maker = slip.maker; purpose = purpose_of q })) purpose in
-    let out = out_is s.setting n (configuration_of s).grips slip.maker k d kept.configuration.order.grips.runs grip in
+    let out = out_is s.setting n (configuration_of s).grips slip.maker k d kept.configuration.grips.runs grip in
     let shaped = shapes s.setting (entries_of s.history) kept.configuration.history.well_formed in
     let next : slice_get (commands_of s.setting.runs slip.maker) (next_of n slip.maker) ≡ Some out.0 = out.1.next in
     (live_run s.setting n slip.maker shaped out.1.live, omega (arith, slice_get_within (commands_of s.setting.runs slip.maker) (next_of n slip.maker) out.0 next, out.1.number))

@@ -13,10 +13,10 @@ use Rattle.history_book.specs.declared.entries.Kept.{Kept}
 use Rattle.home_types.specs.declared.modes.Mode.{Mode}
 use Rattle.hub_core.proofs.kept.Hands.{no_hands}
 use Rattle.home_types.specs.declared.numbers.DeviceNo.{DeviceNo}
-use Rattle.hub_core.proofs.kept.Kept.{starts}
+use Rattle.hub_core.proofs.kept.KeptByModel.{starts_kept}
 use Rattle.hub_core.specs.Bounds.{most_entries, most_items}
 use Rattle.hub_core.specs.HubCalls.{IsOpened}
-use Rattle.hub_core.specs.HubKept.{ConfigurationIsKept}
+use Rattle.hub_core.specs.KeptByModel.{IsKeptByModel}
 use Rattle.hub_core.specs.HubsKept.{HandsAre, FitsAtHome, HasRoomLeft, HubIsKept}
 use Rattle.hub_core.specs.OpenHubs.{OpenHub, configuration_of, device_at, grip_in, held_in, no_device, no_events}
 use Rattle.hub_core.specs.Openings.{MayOpen}
@@ -212,11 +212,11 @@ first_kept {D = D} tag stands turns probes faults home roster mode rounds known 
     all_held : (λ d. (stand_at w.first d).value) ≡ held_in s
     all_held i d = held d i
 
-    configuration : ConfigurationIsKept (configuration_of s) rounds home.opened (held_in s)
+    configuration : IsKeptByModel (configuration_of s) rounds home.opened (held_in s)
     configuration =
-        subst (λ h. ConfigurationIsKept (configuration_of s) rounds home.opened h) all_held
-        (subst (λ c. ConfigurationIsKept c rounds home.opened (λ d. (stand_at w.first d).value)) (sym (first_configuration tag stands turns probes faults home roster mode rounds known opens))
-        (starts w rounds home.opened opens.may opens.stage opens.kept.kinds opens.kept.values))
+        subst (λ h. IsKeptByModel (configuration_of s) rounds home.opened h) all_held
+        (subst (λ c. IsKeptByModel c rounds home.opened (λ d. (stand_at w.first d).value)) (sym (first_configuration tag stands turns probes faults home roster mode rounds known opens))
+        (starts_kept w rounds home.opened opens.may opens.stage opens.kept.kinds opens.kept.values))
 
     at_home : (d : ℕ) (device : D) → slice_get home.devices d ≡ Some device → FitsAtHome stands turns probes faults s d device
     at_home d device at =

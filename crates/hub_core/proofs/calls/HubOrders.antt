@@ -1,4 +1,12 @@
 -- The line and the table of a hub, in its steps.
+use Rattle.hub_core.specs.WeakSteps.{weak_rest}
+use Rattle.hub_core.specs.declared.known.RunProgress.{RunProgress}
+use Rattle.abort_rollback.specs.declared.undos.Undo.TheVariants.{Finished}
+use Rattle.abort_rollback.specs.Undos.{has_effective_write, next_undo, undo_on}
+use Rattle.hub_core.proofs.calls.NextUndos.{next_undo_is}
+use Rattle.hub_core.specs.KeptByModel.{IsKeptByModel}
+use Rattle.hub_core.proofs.kept.TableFits.{counted_told, either_model}
+use Rattle.hub_core.proofs.kept.KeptByModel.{read_kept}
 use Rattle.command_rules.specs.Footprints.{FitsIndex}
 use Rattle.command_rules.specs.Rosters.{Run, command_at, commands_of, device_no, is_on, is_run, run_no, touches}
 use Rattle.device_gate.specs.Grips.{Gripped}
@@ -6,8 +14,8 @@ use Rattle.device_gate.specs.declared.gates.Place.TheVariants.{Home, Out}
 use Rattle.device_gate.specs.declared.grips.Ready.{Ready}
 use Rattle.device_gate.specs.declared.slips.Task.{Task}
 use Rattle.history_book.specs.Histories.{entries_made, entries_of, entry}
-use Rattle.history_book.specs.Readings.{Reading, is_doomed, next_of, pends, put}
-use Rattle.history_book.specs.Settings.{Setting}
+use Rattle.history_book.specs.Readings.{Reading, is_doomed, next_command, next_of, pends, put}
+use Rattle.history_book.specs.Settings.{Setting, is_device, is_weak}
 use Rattle.history_book.specs.WellFormed.{may_follow}
 use Rattle.history_book.specs.declared.entries.Cause.TheVariants.{DownAtEnd, MustDown}
 use Rattle.history_book.specs.declared.entries.Cause.{Cause}
@@ -22,19 +30,19 @@ use Rattle.home_types.specs.declared.items.Item.TheVariants.{Ran}
 use Rattle.home_types.specs.declared.numbers.DeviceNo.{DeviceNo}
 use Rattle.hub_core.proofs.kept.Hands.{hand_goes}
 use Rattle.hub_core.proofs.calls.HubChanges.{Ending, Going, IsEntered, answer_entries, answered_more, entered_whole, entries_kept, has_places}
-use Rattle.hub_core.proofs.calls.HubChoices.{IsAnsweringDown, IsFailing, answering, dropping, failing}
+use Rattle.hub_core.proofs.calls.HubChoices.{IsAborting, IsAnsweringDown, IsFailing, answering, dropping, failing, finished_is, rest_downs}
 use Rattle.hub_core.proofs.calls.Departures.{device_within}
 use Rattle.hub_core.proofs.calls.HubOuts.{GoesFor, IsHanded, IsHandedOut, handed_out, went_out}
 use Rattle.hub_core.proofs.kept.HubReads.{run_place}
 use Rattle.hub_core.proofs.calls.HubStates.{grips_set}
 use Rattle.hub_core.proofs.kept.LineOrder.{end_line}
 use Rattle.hub_core.proofs.kept.Sizes.{line_fits}
-use Rattle.hub_core.proofs.kept.OrderSteps.{done_after, last_follows, may_note_down, none_commands, order_aborted, order_arrived, order_committed, order_doomed, order_doomed_if, order_dropped, order_out, order_placed, order_told_down, order_undo_out, read_more}
+use Rattle.hub_core.proofs.kept.OrderSteps.{done_after, last_follows, may_note_down, none_commands, order_aborted, order_arrived, order_committed, order_doomed, order_doomed_if, order_dropped, order_joined, order_out, order_placed, order_told_down, order_told_weakly, order_undo_out, read_more}
 use Rattle.hub_core.proofs.steps.Takes.{live_run}
 use Rattle.hub_core.specs.HubKept.{ConfigurationIsKept}
 use Rattle.hub_core.specs.HubsKept.{HandsAre, HubIsKept, IsWhole, open_of}
 use Rattle.hub_core.specs.KeptOrders.{MayNote, OrderIsBeside, is_first, noted_first}
-use Rattle.hub_core.specs.OpenHubs.{configuration_of, device_at, grip_in, held_in, purpose_of}
+use Rattle.hub_core.specs.OpenHubs.{OpenHub, configuration_of, device_at, grip_in, held_in, progress_of, purpose_of}
 use Rattle.hub_core.specs.Openings.{MayOpen, names_values_of}
 use Rattle.hub_core.specs.PlansInTurn.{planned_in_turn}
 use Rattle.hub_core.specs.Steps.{HandsOut, Moves, choice_of}
@@ -44,17 +52,17 @@ use Rattle.hub_core.specs.declared.known.DeviceProgress.{DeviceProgress}
 use Rattle.hub_core.specs.declared.purposes.Purpose.{Purpose as KeptPurpose}
 use Rattle.hub_core.specs.ReadHistories.{HistoryState, read_in, with_doom, with_entry, with_more}
 use Rattle.home_types.specs.Kinds.{kind_at}
-use Rattle.lineage_table.specs.Accesses.{IsDisciplined}
+use Rattle.lineage_table.specs.Accesses.{IsDisciplined, effective_writer}
 use Rattle.lineage_table.specs.Lineages.{LineageState, accesses_at, committed_lineage, lineage_at, removed, undone, with_lineage}
-use Rattle.lock_leasing.specs.Configurations.{Commands, Configuration, Grip, Grips, Probes, Purpose, Undoes, is_command, is_undo, read_of}
+use Rattle.lock_leasing.specs.Configurations.{Commands, Configuration, Grip, Grips, Probes, Purpose, Undoes, is_command, is_out, is_undo, read_of}
 use Rattle.lock_leasing.specs.Standings.{IsRosterFor, IsStandingOf}
 use Rattle.serial_line.specs.Marks.{Mark, Marked, items_of, settling, stands, touching, with_item, without}
 use Rattle.std.proofs.Common.{ap, ap₂, arith, length-append, refl, subst, sym, ◌∙◌}
 use Rattle.std.proofs.lemmas.Grind.{common_steps}
 use Rattle.std.proofs.lemmas.List.{length-map}
 use Rattle.std.proofs.lemmas.Option.{slice_get-get_or, slice_get_within}
-use Rattle.std.specs.List.{All}
-use Rattle.std.specs.Prelude.{Bool, IsSome, List, None, Option, Some, [], drop, false, get_or, if◌then◌else◌, is_none, is_some, length, max, nat_lt, not, option_map, slice_get, suc, true, unwrap_or, zero, ℕ, ◌&&◌, ◌+◌, ◌-◌, ◌<◌, ◌==◌, ◌||◌, ◌∷◌, ◌≡◌, ◌≤◌}
+use Rattle.std.specs.List.{All, range_with_len}
+use Rattle.std.specs.Prelude.{Bool, IsSome, IsTrue, List, None, Option, Some, [], drop, false, find, get_or, if◌then◌else◌, is_none, is_some, length, max, nat_lt, not, option_map, slice_get, suc, true, unwrap_or, zero, ℕ, ◌&&◌, ◌+◌, ◌-◌, ◌<◌, ◌==◌, ◌||◌, ◌∷◌, ◌≡◌, ◌≤◌}
 use Rattle.window_order.proofs.FewAccesses.{few_accesses}
 use Rattle.window_order.proofs.Grips.{HoldsNone, fits_other, holds_none}
 use Rattle.window_order.proofs.PlacedTables.{new_at_end, none_wrote_behind}
@@ -99,7 +107,7 @@ index_fits w rounds opened may =
 pub hub_standing : (s : Configuration) (rounds opened : ℕ) (held : ℕ → ℕ) (spare : ℕ) (line : Marked) (table : List LineageState) → ((d : ℕ) → IsDisciplined (accesses_at table d)) → ConfigurationIsKept s rounds opened held → OrderIsBeside rounds (record { setting = s.setting; history = s.history; spare = spare }) s.grips line table
     → IsStandingOf s table line.marks s.history s.setting.runs
 hub_standing s rounds opened held spare line table disciplined k order = record {
-  ordered = k.stage.strong;
+  ordered = k.strong;
   allowed = roster_allowed s.setting rounds opened k.opens;
   grips = k.order.grips.runs;
   well_formed = k.history.well_formed;
@@ -108,16 +116,16 @@ hub_standing s rounds opened held spare line table disciplined k order = record 
   its_history = refl;
   its_line = order.line_is;
   disciplined = disciplined;
-  its_table = represents s.setting (read_of s) s.grips table disciplined order.table_is;
+  its_table = represents s.setting (read_of s) s.grips table disciplined (order.table_is.ordered k.strong);
 }
 
 -- What is kept of the parts of a hub
 
 pub read_whole : {D : Type 0} {stands turns probes faults : D → ℕ} (h : Inside D) → IsWhole stands turns probes faults h → IsRead h.history.setting (read_in h.history)
-read_whole h k = read_hub _ h.rounds h.opened _ k.shown.configuration
+read_whole h k = read_kept _ h.rounds h.opened _ k.shown.configuration
 
-pub standing_whole : {D : Type 0} {stands turns probes faults : D → ℕ} (h : Inside D) → ((d : ℕ) → IsDisciplined (accesses_at h.order.table d)) → IsWhole stands turns probes faults h → IsStandingOf (configuration_of (open_of h)) h.order.table h.order.line.marks h.history.history h.history.setting.runs
-standing_whole h disciplined k = hub_standing _ h.rounds h.opened _ h.history.spare h.order.line h.order.table disciplined k.shown.configuration k.order
+pub standing_whole : {D : Type 0} {stands turns probes faults : D → ℕ} (h : Inside D) → ((d : ℕ) → IsDisciplined (accesses_at h.order.table d)) → is_weak h.history.setting.mode ≡ false → IsWhole stands turns probes faults h → IsStandingOf (configuration_of (open_of h)) h.order.table h.order.line.marks h.history.history h.history.setting.runs
+standing_whole h disciplined strong k = hub_standing _ h.rounds h.opened _ h.history.spare h.order.line h.order.table disciplined (k.shown.configuration.ordered strong) k.order
 
 -- a device has at most one access for each run
 pub few_whole : {D : Type 0} {stands turns probes faults : D → ℕ} (h : Inside D) → ((d : ℕ) → IsDisciplined (accesses_at h.order.table d)) → IsWhole stands turns probes faults h → (d : ℕ) → length (accesses_at h.order.table d) ≤ length h.history.setting.runs
@@ -128,8 +136,14 @@ few_whole h disciplined k d = by_place (nat_lt d (length h.history.setting.first
     none_beyond (s ∷ table) zero past = absurd (omega (arith, past))
     none_beyond (s ∷ table) (suc e) past = none_beyond table e (omega (arith, past))
 
+    few_here : d < length h.history.setting.first → length (accesses_at h.order.table d) ≤ length h.history.setting.runs
+    few_here below = elim (is_weak h.history.setting.mode) as (λ b. is_weak h.history.setting.mode ≡ b → length (accesses_at h.order.table d) ≤ length h.history.setting.runs) [
+      | true ↦ (λ weak. let none : length (accesses_at h.order.table d) ≡ 0 = ap length (k.order.table_is.weakly weak d below).accesses in omega (arith, none))
+      | false ↦ (λ strong. few_accesses h.history.setting (read_in h.history) (configuration_of (open_of h)).grips d (lineage_at h.order.table d) ((k.order.table_is.ordered strong).each d below) (disciplined d))
+    ] refl
+
     by_place : (b : Bool) → nat_lt d (length h.history.setting.first) ≡ b → length (accesses_at h.order.table d) ≤ length h.history.setting.runs
-    by_place true within = few_accesses h.history.setting (read_in h.history) (configuration_of (open_of h)).grips d (lineage_at h.order.table d) (k.order.table_is.each d (grind (arith, common_steps))) (disciplined d)
+    by_place true within = few_here (grind (arith, common_steps))
     by_place false beyond = let none = none_beyond h.order.table d (let size = k.order.table_is.devices in let past : length h.history.setting.first ≤ d = grind (arith, common_steps) in omega (arith, size, past)) in omega (arith, none)
 
 -- A run arrives
@@ -170,10 +184,10 @@ may_join w n g r m marks table read allowed may line_is table_is = record {
 
 -- .. as the step of the hub does
 pub hub_joins : {D : Type 0} {stands turns probes faults : D → ℕ} (h : Inside D) (r m : ℕ) → choice_of (configuration_of (open_of h)) r m ≡ Moves (Placed (run_no r) (length (read_in h.history).line) (max h.moment m) ∷ [])
-    → IsWhole stands turns probes faults h → MayJoin h.history.setting r (length (read_in h.history).line) h.order.line.marks h.order.table
-hub_joins h r m is k =
+    → is_weak h.history.setting.mode ≡ false → IsWhole stands turns probes faults h → MayJoin h.history.setting r (length (read_in h.history).line) h.order.line.marks h.order.table
+hub_joins h r m is strong k =
     may_join h.history.setting (read_in h.history) _ r (max h.moment m) h.order.line.marks h.order.table (read_whole h k) (roster_allowed h.history.setting h.rounds h.opened k.shown.configuration.opens)
-    (last_follows h.history.setting h.history.history r (Placed (run_no r) (length (read_in h.history).line) (max h.moment m)) (entries_kept _ _ _ _ (open_of h) r m _ Going is k.shown).configuration.history.well_formed) k.order.line_is k.order.table_is
+    (last_follows h.history.setting h.history.history r (Placed (run_no r) (length (read_in h.history).line) (max h.moment m)) (entries_kept _ _ _ _ (open_of h) r m _ Going is k.shown).configuration.history.well_formed) k.order.line_is (k.order.table_is.ordered strong)
 
 -- the run stands at the end of the line, and is scheduled on its devices
 pub record IsJoined {D : Type 0} (h t : Inside D) (r m : ℕ) : Type 0 where
@@ -181,16 +195,59 @@ pub record IsJoined {D : Type 0} (h t : Inside D) (r m : ℕ) : Type 0 where
   pub spare : t.order.line.spare + 1 ≡ h.order.line.spare
   pub table : ChangesEach (scheduled_on h.history.setting.runs r (planned_in_turn (max h.moment m) (commands_of h.history.setting.runs r)) (drop (length (read_in h.history).line) (items_of h.order.line.marks))) h.order.table t.order.table
 
-pub joins_whole : {D : Type 0} {stands turns probes faults : D → ℕ} (h t : Inside D) (r m : ℕ) → IsEntered h t r m (Placed (run_no r) (length (read_in h.history).line) (max h.moment m) ∷ []) Going → IsJoined h t r m → IsWhole stands turns probes faults h → IsWhole stands turns probes faults t
-joins_whole h t r m enters joined k = entered_whole h t r m _ Going enters (λ formed.
-    order_placed h.history _ _ r (length (read_in h.history).line) (max h.moment m) h.order.line t.order.line h.order.table t.order.table (read_whole h k) k.shown.configuration.order.grips k.shown.configuration.stage.scheduler (none_wrote_behind h.history.setting (read_in h.history) r) refl formed joined.marks joined.spare joined.table k.order) k
+pub joins_whole : {D : Type 0} {stands turns probes faults : D → ℕ} (h t : Inside D) (r m : ℕ) → IsEntered h t r m (Placed (run_no r) (length (read_in h.history).line) (max h.moment m) ∷ []) Going → IsJoined h t r m → is_weak h.history.setting.mode ≡ false → IsWhole stands turns probes faults h → IsWhole stands turns probes faults t
+joins_whole h t r m enters joined strong k = entered_whole h t r m _ Going enters (λ formed.
+    order_placed h.history _ _ r (length (read_in h.history).line) (max h.moment m) h.order.line t.order.line h.order.table t.order.table (read_whole h k) k.shown.configuration.grips strong k.shown.configuration.stage.scheduler (none_wrote_behind h.history.setting (read_in h.history) r) refl formed joined.marks joined.spare joined.table k.order) k
+
+-- .. under the weak model it is scheduled on none
+pub enters_whole : {D : Type 0} {stands turns probes faults : D → ℕ} (h t : Inside D) (r m : ℕ) → IsEntered h t r m (Placed (run_no r) (length (read_in h.history).line) (max h.moment m) ∷ []) Going → t.order.line.marks ≡ with_item (length (read_in h.history).line) (Ran (run_no r)) h.order.line.marks → t.order.line.spare + 1 ≡ h.order.line.spare → t.order.table ≡ h.order.table
+    → is_weak h.history.setting.mode ≡ true → IsWhole stands turns probes faults h → IsWhole stands turns probes faults t
+enters_whole h t r m enters marks spare same weak k = entered_whole h t r m _ Going enters (λ formed.
+    subst (OrderIsBeside h.rounds (with_entry h.history r (Placed (run_no r) (length (read_in h.history).line) (max h.moment m))) (configuration_of (open_of h)).grips t.order.line) (sym same)
+    (order_joined h.history _ _ r (length (read_in h.history).line) (max h.moment m) h.order.line t.order.line h.order.table weak (read_whole h k) k.shown.configuration.grips refl formed marks spare k.order)) k
+
+-- the run is in no line before
+abbrev pub IsAbsent : ℕ → List Mark → Type 0
+IsAbsent r marks = stands (Ran (run_no r)) marks ≡ false
+
+pub hub_absent : {D : Type 0} {stands turns probes faults : D → ℕ} (h : Inside D) (r m : ℕ) → choice_of (configuration_of (open_of h)) r m ≡ Moves (Placed (run_no r) (length (read_in h.history).line) (max h.moment m) ∷ [])
+    → IsWhole stands turns probes faults h → IsAbsent r h.order.line.marks
+hub_absent h r m is k =
+    let may : may_follow h.history.setting (read_in h.history) (Placed (run_no r) (length (read_in h.history).line) (max h.moment m)) ≡ true = last_follows h.history.setting h.history.history r (Placed (run_no r) (length (read_in h.history).line) (max h.moment m)) (entries_kept _ _ _ _ (open_of h) r m _ Going is k.shown).configuration.history.well_formed in
+    let none : is_none ((read_in h.history).run r).placed ≡ true = grind (arith, common_steps) in
+    unplaced_absent h.history.setting (read_in h.history) _ r h.order.line.marks (read_whole h k) none k.order.line_is
+
+-- Under the weak model
+
+-- the device of a next command is one of those that the table has
+pub next_home : {D : Type 0} {stands turns probes faults : D → ℕ} (h : Inside D) (r : ℕ) (c : Command) → Some c ≡ next_command h.history.setting (read_in h.history) r → IsWhole stands turns probes faults h → c.device.0 < length h.order.table
+next_home h r c next k =
+    let home : IsTrue (is_device h.history.setting c.device.0 && names_values_of (kind_at h.history.setting.kinds c.device.0) c.job) = k.shown.configuration.opens.homed r (next_of (read_in h.history) r) c (sym next) in
+    let within = device_within h.history.setting c.device.0 (first (is_device h.history.setting c.device.0) (names_values_of (kind_at h.history.setting.kinds c.device.0) c.job) home) in
+    omega (arith, within, k.order.table_is.devices)
+  where
+    first : (a b : Bool) → (a && b) ≡ true → a ≡ true
+    first a b e = grind (arith, common_steps)
+
+-- the run is told Down where its device, which is home, is counted down
+pub hub_downs : {D : Type 0} {stands turns probes faults : D → ℕ} (h : Inside D) (s : OpenHub D) (r : ℕ) (p : RunProgress) (c : Command) → open_of h ≡ s → p ≡ progress_of ((read_of (configuration_of s)).run r) → p.doomed ≡ None → Some c ≡ next_command h.history.setting (read_in h.history) r
+    → is_out (configuration_of s).grips c.device.0 ≡ false → false ≡ (lineage_at h.order.table c.device.0).up → IsWhole stands turns probes faults h
+    → Moves (Did (run_no r) p.answered Down ∷ (if c.must then Doomed (run_no r) (MustDown p.answered) ∷ [] else [])) ≡ weak_rest s.setting (read_of (configuration_of s)) (configuration_of s).grips r
+hub_downs {D = D} h s r p c seen known sound next home down k =
+    ap (λ x. Moves (Did (run_no r) x Down ∷ (if c.must then Doomed (run_no r) (MustDown x) ∷ [] else []))) (ap (λ (x : RunProgress). x.answered) known)
+    ∙ rest_downs s.setting (read_of (configuration_of s)) (configuration_of s).grips r c (ap (λ (x : RunProgress). x.doomed) (sym known) ∙ sound)
+    (ap (λ (x : OpenHub D). next_command x.setting (read_of (configuration_of x)) r) (sym seen) ∙ sym next) home
+    (ap (λ (x : OpenHub D). (read_of (configuration_of x)).up c.device.0) (sym seen) ∙ sym (counted_told h.history.setting (read_in h.history) (configuration_of (open_of h)).grips h.order.table c.device.0 below k.order.table_is) ∙ sym down)
+  where
+    below : c.device.0 < length h.history.setting.first
+    below = let within = next_home h r c next k in omega (arith, within, k.order.table_is.devices)
 
 -- A run ends
 
 pub commits_whole : {D : Type 0} {stands turns probes faults : D → ℕ} (h t : Inside D) (r m : ℕ) → IsEntered h t r m (Ended (run_no r) Committed ∷ []) (Ending Committed) → t.order.line.marks ≡ settling r h.order.line.marks → t.order.line.spare ≡ h.order.line.spare → ChangesEach (λ d. committed_lineage r) h.order.table t.order.table
     → IsWhole stands turns probes faults h → IsWhole stands turns probes faults t
 commits_whole h t r m enters marks spare table k = entered_whole h t r m _ (Ending Committed) enters (λ formed.
-    order_committed h.history _ _ r h.order.line t.order.line h.order.table t.order.table (read_whole h k) k.shown.configuration.order.grips refl formed marks spare table k.order) k
+    order_committed h.history _ _ r h.order.line t.order.line h.order.table t.order.table (read_whole h k) k.shown.configuration.grips refl formed marks spare table k.order) k
 
 -- the run has left the line, and has no access any more
 pub record IsWithdrawn {D : Type 0} (h t : Inside D) (r : ℕ) : Type 0 where
@@ -201,6 +258,29 @@ pub record IsWithdrawn {D : Type 0} (h t : Inside D) (r : ℕ) : Type 0 where
 pub aborts_whole : {D : Type 0} {stands turns probes faults : D → ℕ} (h t : Inside D) (r m : ℕ) (cause : Cause) → IsEntered h t r m (Ended (run_no r) (Aborted cause) ∷ []) (Ending (Aborted cause)) → IsWithdrawn h t r → IsWhole stands turns probes faults h → IsWhole stands turns probes faults t
 aborts_whole h t r m cause enters left k = entered_whole h t r m _ (Ending (Aborted cause)) enters (λ formed.
     order_aborted h.history _ _ r cause h.order.line t.order.line h.order.table t.order.table (read_whole h k) refl formed left.marks left.spare left.table k.order) k
+
+-- its undos are finished, as the table tells
+all_false : {A : Type 0} (p : A → Bool) (xs : List A) → ((x : A) → p x ≡ false) → find p xs ≡ None
+all_false p [] none = refl
+all_false p (x ∷ xs) none = rw (none x) (all_false p xs none)
+
+bare_beyond : (table : List LineageState) (k d : ℕ) → length table ≡ k → ((e : ℕ) → e < k → accesses_at table e ≡ []) → accesses_at table d ≡ []
+bare_beyond table k d size bare = by_place (nat_lt d k) refl
+  where
+    past : (xs : List LineageState) (e : ℕ) → length xs ≤ e → accesses_at xs e ≡ []
+    past [] e over = refl
+    past (s ∷ xs) zero over = absurd (omega (arith, over))
+    past (s ∷ xs) (suc e) over = past xs e (omega (arith, over))
+
+    by_place : (b : Bool) → nat_lt d k ≡ b → accesses_at table d ≡ []
+    by_place true within = bare d (grind (arith, common_steps))
+    by_place false beyond = past table d (let over : k ≤ d = grind (arith, common_steps) in omega (arith, over, size))
+
+pub hub_finished : {D : Type 0} {stands turns probes faults : D → ℕ} (h : Inside D) (r m : ℕ) (cause : Cause) → ((d : ℕ) → IsDisciplined (accesses_at h.order.table d)) → IsAborting (configuration_of (open_of h)) r cause → IsWhole stands turns probes faults h → next_undo h.order.table r ≡ Finished
+hub_finished h r m cause disciplined ends k = either_model (next_undo h.order.table r ≡ Finished) h.history.setting
+    (λ weak. ap (λ o. unwrap_or (option_map (undo_on h.order.table r) o) Finished) (all_false (has_effective_write h.order.table r) (range_with_len 0 (length h.order.table))
+    (λ d. ap (λ xs. unwrap_or (option_map (λ q. q.0 == r) (effective_writer xs)) false) (bare_beyond h.order.table (length h.history.setting.first) d k.order.table_is.devices (λ e below. (k.order.table_is.weakly weak e below).accesses)))))
+    (λ strong. next_undo_is _ _ _ _ _ r (standing_whole h disciplined strong k) ends.live ∙ finished_is _ r cause strong ends)
 
 -- The write of a run is dropped
 
@@ -219,13 +299,13 @@ drops_whole h t r m d enters line table k = entered_whole h t r m _ Going enters
 pub fails_whole : {D : Type 0} {stands turns probes faults : D → ℕ} (h t : Inside D) (r m : ℕ) (d : DeviceNo) → IsEntered h t r m (Doomed (run_no r) (DownAtEnd d) ∷ []) Going → t.order.line ≡ h.order.line → ChangesEach (λ e. doomed_lineage r) h.order.table t.order.table
     → IsWhole stands turns probes faults h → IsWhole stands turns probes faults t
 fails_whole h t r m d enters line table k = entered_whole h t r m _ Going enters (λ formed.
-    order_doomed h.history _ _ r (DownAtEnd d) h.order.line t.order.line h.order.table t.order.table (read_whole h k) k.shown.configuration.order.grips (none_commands h.history.setting _ r none) refl formed line table k.order) k
+    order_doomed h.history _ _ r (DownAtEnd d) h.order.line t.order.line h.order.table t.order.table (read_whole h k) k.shown.configuration.grips (none_commands h.history.setting _ r none) refl formed line table k.order) k
   where
     fails : IsFailing (configuration_of (open_of h)) r
     fails = failing (configuration_of (open_of h)) h.rounds h.opened (held_in (open_of h)) r m d k.shown.configuration enters.chosen
 
     none : HoldsNone (configuration_of (open_of h)).grips r
-    none = holds_none h.history.setting (configuration_of (open_of h)).grips r k.shown.configuration.order.grips.homed fails.free
+    none = holds_none h.history.setting (configuration_of (open_of h)).grips r k.shown.configuration.grips.homed fails.free
 
 -- A run is told Down with no call
 
@@ -246,18 +326,18 @@ pub record MayTellDown {D : Type 0} (h : Inside D) (r k : ℕ) : Type 0 where
   pub stands : stands (Ran (run_no r)) h.order.line.marks ≡ true
   pub low : (command_at h.history.setting.runs r k).device.0 < 256
   pub homed : (command_at h.history.setting.runs r k).device.0 < length h.order.table
-  pub turn : MayNote r (lineage_at h.order.table (command_at h.history.setting.runs r k).device.0)
+  pub turn : is_weak h.history.setting.mode ≡ false → MayNote r (lineage_at h.order.table (command_at h.history.setting.runs r k).device.0)
 
 pub may_tell_down : {D : Type 0} {stands turns probes faults : D → ℕ} (h : Inside D) (r m k : ℕ) (must : Bool) → choice_of (configuration_of (open_of h)) r m ≡ Moves (Did (run_no r) k Down ∷ (if must then Doomed (run_no r) (MustDown k) ∷ [] else [])) → IsWhole stands turns probes faults h → MayTellDown h r k
 may_tell_down h r m k must is whole = record {
-  run = live_run w (read_in h.history) r (read_whole h whole).shaped down.told.live;
+  run = live_run w (read_in h.history) r (read_whole h whole).shaped down.live;
   number = down.number;
   within = down.within;
   few = let least : length (commands_of w.runs r) ≤ 64 = whole.shown.configuration.opens.few_commands r in omega (arith, down.within, least);
-  stands = live_stands w (read_in h.history) (configuration_of (open_of h)).grips r h.order.line.marks (read_whole h whole) down.told.live whole.order.line_is;
+  stands = live_stands w (read_in h.history) (configuration_of (open_of h)).grips r h.order.line.marks (read_whole h whole) down.live whole.order.line_is;
   low = let few : length w.first ≤ 256 = whole.shown.configuration.opens.few_devices in omega (arith, below, few);
   homed = omega (arith, below, whole.order.table_is.devices);
-  turn = (may_note_down w (read_in h.history) (configuration_of (open_of h)).grips (held_in (open_of h)) r (command_at w.runs r k) h.order.table down.told below whole.order.table_is).1;
+  turn = λ strong. (may_note_down w (read_in h.history) (configuration_of (open_of h)).grips (held_in (open_of h)) r (command_at w.runs r k) h.order.table (down.told strong) below (whole.order.table_is.ordered strong)).1;
 }
   where
     w : Setting
@@ -267,7 +347,7 @@ may_tell_down h r m k must is whole = record {
     down = answering (configuration_of (open_of h)) h.rounds h.opened (held_in (open_of h)) r m k must whole.shown.configuration is
 
     below : (command_at w.runs r k).device.0 < length w.first
-    below = device_within w (command_at w.runs r k).device.0 down.told.device
+    below = device_within w (command_at w.runs r k).device.0 down.device
 
 -- what the code wrote of it: the answer, which line and table note, and the doom of the run where it is a must
 pub record IsToldSo {D : Type 0} (h t : Inside D) (r k : ℕ) (must : Bool) (c : Command) (cause : Option Cause) (mid : HistoryState) (last : Bool) (between : KeptOrder) : Type 0 where
@@ -278,7 +358,8 @@ pub record IsToldSo {D : Type 0} (h t : Inside D) (r k : ℕ) (must : Bool) (c :
   pub last_is : last ≡ (is_doomed (read_in mid) r || not (pends mid.setting (read_in mid) r c.device.0))
   pub marks : between.line.marks ≡ touching r c.device.0 h.order.line.marks
   pub spare : between.line.spare ≡ h.order.line.spare
-  pub table : between.table ≡ with_lineage h.order.table c.device.0 (noted_first r (is_first r (lineage_at h.order.table c.device.0)) ViewedDown None last)
+  pub table : is_weak h.history.setting.mode ≡ false → between.table ≡ with_lineage h.order.table c.device.0 (noted_first r (is_first r (lineage_at h.order.table c.device.0)) ViewedDown None last)
+  pub same_table : is_weak h.history.setting.mode ≡ true → between.table ≡ h.order.table
   pub line_after : t.order.line ≡ between.line
   pub unchanged : cause ≡ None → t.order.table ≡ between.table
   pub changed : IsSome cause → ChangesEach (λ d. doomed_lineage r) between.table t.order.table
@@ -324,7 +405,9 @@ pub told_whole : {D : Type 0} {stands turns probes faults : D → ℕ} (h t : In
     → IsWhole stands turns probes faults h → IsWhole stands turns probes faults t
 told_whole {D = D} h t r m k must c cause mid last between is new told whole = entered_whole h t r m es Going enters (λ formed.
     order_doomed_if mid (with_more h.history r es) g r cause between.line t.order.line between.table t.order.table fit (none_commands w g r none) (sym history) formed told.line_after told.unchanged told.changed
-    (order_told_down h.history mid g (held_in (open_of h)) r k last h.order.line between.line h.order.table between.table down.told below down.number told.answered last_is marks told.spare table whole.order)) whole
+    (either_model (OrderIsBeside h.rounds mid g between.line between.table) w
+    (λ weak. order_told_weakly h.history mid g r k h.order.line between.line h.order.table between.table weak told.answered marks told.spare (told.same_table weak) whole.order)
+    (λ strong. order_told_down h.history mid g (held_in (open_of h)) r k last h.order.line between.line h.order.table between.table (down.told strong) below down.number told.answered last_is marks told.spare (table strong) whole.order))) whole
   where
     w : Setting
     w = h.history.setting
@@ -348,16 +431,16 @@ told_whole {D = D} h t r m k must c cause mid last between is new told whole = e
     down = answering (configuration_of (open_of h)) h.rounds h.opened (held_in (open_of h)) r m k must whole.shown.configuration is
 
     below : (command_at w.runs r k).device.0 < length w.first
-    below = device_within w (command_at w.runs r k).device.0 down.told.device
+    below = device_within w (command_at w.runs r k).device.0 down.device
 
     none : HoldsNone g r
-    none = holds_none w g r whole.shown.configuration.order.grips.homed down.told.free
+    none = holds_none w g r whole.shown.configuration.grips.homed down.free
 
     reads : (mid.setting ≡ w) × (read_in mid ≡ entry w n (Did (run_no r) k Down))
     reads = (ap (λ (x : HistoryState). x.setting) told.answered, ap read_in told.answered ∙ read_more w h.history.history r (Did (run_no r) k Down))
 
     fit : GripsFit mid.setting (read_in mid) g
-    fit = subst (λ x. GripsFit x (read_in mid) g) (sym reads.0) (subst (λ x. GripsFit w x g) (sym reads.1) (fits_other w n (entry w n (Did (run_no r) k Down)) g r (λ q ne. put_other n.run r _ q ne) none whole.shown.configuration.order.grips))
+    fit = subst (λ x. GripsFit x (read_in mid) g) (sym reads.0) (subst (λ x. GripsFit w x g) (sym reads.1) (fits_other w n (entry w n (Did (run_no r) k Down)) g r (λ q ne. put_other n.run r _ q ne) none whole.shown.configuration.grips))
 
     last_is : last ≡ is_done_there w n r k
     last_is = told.last_is ∙ (λ i. is_doomed (reads.1 i) r || not (pends (reads.0 i) (reads.1 i) r (told.command i).device.0)) ∙ done_after w n r k Down (command_at w.runs r k).device.0 down.number refl
@@ -365,8 +448,8 @@ told_whole {D = D} h t r m k must c cause mid last between is new told whole = e
     marks : between.line.marks ≡ touching r (command_at w.runs r k).device.0 h.order.line.marks
     marks = told.marks ∙ ap (λ (x : Command). touching r x.device.0 h.order.line.marks) told.command
 
-    table : between.table ≡ with_lineage h.order.table (command_at w.runs r k).device.0 (noted_first r (is_first r (lineage_at h.order.table (command_at w.runs r k).device.0)) ViewedDown None last)
-    table = told.table ∙ ap (λ (x : Command). with_lineage h.order.table x.device.0 (noted_first r (is_first r (lineage_at h.order.table x.device.0)) ViewedDown None last)) told.command
+    table : is_weak w.mode ≡ false → between.table ≡ with_lineage h.order.table (command_at w.runs r k).device.0 (noted_first r (is_first r (lineage_at h.order.table (command_at w.runs r k).device.0)) ViewedDown None last)
+    table strong = told.table strong ∙ ap (λ (x : Command). with_lineage h.order.table x.device.0 (noted_first r (is_first r (lineage_at h.order.table x.device.0)) ViewedDown None last)) told.command
 
 -- the line of a window has as many items as its marks
 pub standing_size : (s : Configuration) (table : List LineageState) (line : List Mark) (history : List Kept) (runs : List Run) → IsStandingOf s table line history runs → length line ≡ length (read_of s).line
@@ -380,9 +463,9 @@ pub record MayMark (r d : ℕ) (marks : List Mark) (table : List LineageState) :
   pub device : d < 256
   pub homed : d < length table
 
-pub may_mark : (s : Configuration) (rounds opened : ℕ) (held : ℕ → ℕ) (r m d : ℕ) (purpose : Purpose) (marks : List Mark) (table : List LineageState) → ConfigurationIsKept s rounds opened held → choice_of s r m ≡ HandsOut d purpose → MarksAreKept (read_of s) s.grips marks → length table ≡ length s.setting.first → MayMark r d marks table
+pub may_mark : (s : Configuration) (rounds opened : ℕ) (held : ℕ → ℕ) (r m d : ℕ) (purpose : Purpose) (marks : List Mark) (table : List LineageState) → IsKeptByModel s rounds opened held → choice_of s r m ≡ HandsOut d purpose → MarksAreKept (read_of s) s.grips marks → length table ≡ length s.setting.first → MayMark r d marks table
 may_mark s rounds opened held r m d purpose marks table k chose line_is size = record {
-  stands = live_stands s.setting (read_of s) s.grips r marks (read_hub s rounds opened held k) out.live line_is;
+  stands = live_stands s.setting (read_of s) s.grips r marks (read_kept s rounds opened held k) out.live line_is;
   device = let few : length s.setting.first ≤ 256 = k.opens.few_devices in omega (arith, within, few);
   homed = omega (arith, within, size);
 }

@@ -19,10 +19,11 @@ use Rattle.hub_core.proofs.calls.HubChanges.{step_is}
 use Rattle.hub_core.proofs.calls.Departures.{IsLeaving, IsSent, at_index, device_within, gone, gone_carries, gone_configuration, gone_kept, home_place, is_there, one_for}
 use Rattle.hub_core.proofs.kept.HubReads.{run_place}
 use Rattle.hub_core.proofs.calls.HubStates.{known_same, put_at}
-use Rattle.hub_core.proofs.kept.Kept.{take_kept}
-use Rattle.hub_core.proofs.stage.StageChoices.{stage_holds, stage_steps}
+use Rattle.hub_core.proofs.kept.KeptByModel.{taken_kept}
+use Rattle.hub_core.proofs.steps.Choices.{decide_is}
+use Rattle.hub_core.specs.Openings.{names_values_of}
 use Rattle.home_types.specs.Kinds.{kind_at}
-use Rattle.hub_core.specs.HubKept.{ConfigurationIsKept}
+use Rattle.hub_core.specs.KeptByModel.{IsKeptByModel}
 use Rattle.hub_core.specs.HubSteps.{Chose, HubStep, Take, carried_after, task_of}
 use Rattle.hub_core.specs.HubCalls.{GoesOut, SameWindow}
 use Rattle.hub_core.specs.HubsKept.{HubIsKept, IsWhole, open_of}
@@ -81,18 +82,31 @@ handed_as : (s : Configuration) (r d e : ℕ) (p q : Purpose) → HandsOut d p �
 handed_as s r d e p q is out = subst (λ x. IsHandedOut s r e x) (same_purpose d e p q is) (subst (λ x. IsHandedOut s r x p) (same_device d e p q is) out)
 
 -- no command goes out but to a device that is home and counted up
-goes_when : (weak sees out up : Bool) → weak ≡ false → ((weak || not sees) && out) ≡ false → ((not weak && sees) || not up) ≡ false → (out ≡ false) × (up ≡ true)
-goes_when weak sees out up strong free seen = (grind (arith, common_steps), grind (arith, common_steps))
+goes_when : (weak sees out up : Bool) → (weak ≡ false → sees ≡ false → out ≡ false) → (weak ≡ true → out ≡ false) → ((not weak && sees) || not up) ≡ false → (out ≡ false) × (up ≡ true)
+goes_when weak sees out up free free_weakly seen = (by_model weak sees free free_weakly seen, second weak sees up seen)
+  where
+    by_model : (a b : Bool) → (a ≡ false → b ≡ false → out ≡ false) → (a ≡ true → out ≡ false) → ((not a && b) || not up) ≡ false → out ≡ false
+    by_model true b f g h = g refl
+    by_model false true f g h = absurd (cc)
+    by_model false false f g h = f refl refl
 
-pub handed_out : (s : Configuration) (rounds opened : ℕ) (held : ℕ → ℕ) (r m d : ℕ) (purpose : Purpose) → ConfigurationIsKept s rounds opened held → choice_of s r m ≡ HandsOut d purpose → IsHandedOut s r d purpose
+    second : (a b c : Bool) → ((not a && b) || not c) ≡ false → c ≡ true
+    second a b c h = grind (arith, common_steps)
+
+-- a wait for a device that is out, by the model
+home_when : (weak sees out : Bool) → ((weak || not sees) && out) ≡ false → (weak ≡ false → sees ≡ false → out ≡ false) × (weak ≡ true → out ≡ false)
+home_when true sees out free = (λ strong. absurd (cc), λ w. free)
+home_when false true out free = (λ w seen. absurd (cc), λ weak. absurd (cc))
+home_when false false out free = (λ w seen. free, λ weak. absurd (cc))
+
+pub handed_out : (s : Configuration) (rounds opened : ℕ) (held : ℕ → ℕ) (r m d : ℕ) (purpose : Purpose) → IsKeptByModel s rounds opened held → choice_of s r m ≡ HandsOut d purpose → IsHandedOut s r d purpose
 handed_out s rounds opened held r m d purpose kept =
-    let staged = stage_steps s rounds opened held kept in
-    stage_holds (λ c. c ≡ HandsOut d purpose → IsHandedOut s r d purpose) s.setting (read_of s) s.grips r (max s.moment m) staged (record {
+    decide_is (λ c. c ≡ HandsOut d purpose → IsHandedOut s r d purpose) s.setting (read_of s) s.grips r (max s.moment m) (record {
       absent = λ none is. absurd (cc);
       over = λ e at is. absurd (cc);
       waits = λ why is. absurd (cc);
       arrives = λ run none is. absurd (cc);
-      enters = λ run none is. absurd (cc);
+      enters = λ split enters is. absurd (cc);
       aborted = λ cause act doomed over is. absurd (cc);
       drops = λ cause e undoing down is. absurd (cc);
       undoes = λ cause e undoing up is. handed_as s r e d (Undoes (value_without s.setting (read_of s) s.grips r e)) purpose is (record {
@@ -104,22 +118,29 @@ handed_out s rounds opened held r m d purpose kept =
         free = undoing.act.free;
         for = record { doomed = ap is_some undoing.doomed; effect = undoing.effect; value = refl };
       });
+      revokes = λ c x run strong at is. absurd (cc);
       downs = λ c run next home down is. absurd (cc);
-      goes = λ c run next home up is. let goes = goes_when (is_weak s.setting.mode) (sees_down (read_of s) r c.device.0) (is_out s.grips c.device.0) ((read_of s).up c.device.0) staged.strong home up in handed_as s r c.device.0 d (Commands (next_of (read_of s) r)) purpose is (record {
-        run = run.act.run;
-        live = run.act.live;
-        home = goes.0;
-        up = goes.1;
-        device = staged.homed r (next_of (read_of s) r) c run.next;
-        free = run.act.free;
-        for = record { number = refl; sound = ap is_some run.sound; command = c; next = run.next; on = refl };
-      });
+      goes = λ c run next home up is.
+          let free = home_when (is_weak s.setting.mode) (sees_down (read_of s) r c.device.0) (is_out s.grips c.device.0) home in
+          let goes = goes_when (is_weak s.setting.mode) (sees_down (read_of s) r c.device.0) (is_out s.grips c.device.0) ((read_of s).up c.device.0) free.0 free.1 up in
+          handed_as s r c.device.0 d (Commands (next_of (read_of s) r)) purpose is (record {
+            run = run.act.run;
+            live = run.act.live;
+            home = goes.0;
+            up = goes.1;
+            device = homed c run.next;
+            free = run.act.free;
+            for = record { number = refl; sound = ap is_some run.sound; command = c; next = run.next; on = refl };
+          });
       fails_at_end = λ e all at is. absurd (cc);
       commits = λ all up is. absurd (cc);
     })
+  where
+    homed : (c : Command) → next_command s.setting (read_of s) r ≡ Some c → is_device s.setting c.device.0 ≡ true
+    homed c next = let home : IsTrue (is_device s.setting c.device.0 && names_values_of (kind_at s.setting.kinds c.device.0) c.job) = kept.opens.homed r (next_of (read_of s) r) c next in grind (arith, common_steps)
 
 -- the run of a step that hands a device out has the command
-pub command_there : {D : Type 0} (s : OpenHub D) (rounds opened : ℕ) (held : ℕ → ℕ) (r m d k : ℕ) (purpose : Purpose) → ConfigurationIsKept (configuration_of s) rounds opened held → choice_of (configuration_of s) r m ≡ HandsOut d purpose
+pub command_there : {D : Type 0} (s : OpenHub D) (rounds opened : ℕ) (held : ℕ → ℕ) (r m d k : ℕ) (purpose : Purpose) → IsKeptByModel (configuration_of s) rounds opened held → choice_of (configuration_of s) r m ≡ HandsOut d purpose
     → purpose ≡ Commands k → IsTrue (is_run s.setting.runs r) × (k < length (commands_of s.setting.runs r))
 command_there s rounds opened held r m d k purpose kept is for =
     let out = handed_out (configuration_of s) rounds opened held r m d purpose kept is in
@@ -231,10 +252,10 @@ went_out {D = D} {stands = stands} {turns = turns} {probes = probes} {faults = f
         positive : (x : ℕ) → x ≡ suc (x - 1) → nat_lt 0 x ≡ true
         positive x some = grind (arith, common_steps, some)
 
-    configuration : ConfigurationIsKept (configuration_of t') s.rounds s.opened (held_in s)
+    configuration : IsKeptByModel (configuration_of t') s.rounds s.opened (held_in s)
     configuration =
-        subst (λ (c : Configuration). ConfigurationIsKept c s.rounds s.opened (held_in s)) (sym (went_configuration s r d m purpose grip.slip task sent.maker within within_devices))
-        (subst (λ c. ConfigurationIsKept (after_choice (at_moment (configuration_of s) m) r c) s.rounds s.opened (held_in s)) handed.chosen (take_kept (configuration_of s) s.rounds s.opened (held_in s) r m k.shown.configuration))
+        subst (λ (c : Configuration). IsKeptByModel c s.rounds s.opened (held_in s)) (sym (went_configuration s r d m purpose grip.slip task sent.maker within within_devices))
+        (subst (λ c. IsKeptByModel (after_choice (at_moment (configuration_of s) m) r c) s.rounds s.opened (held_in s)) handed.chosen (taken_kept (configuration_of s) s.rounds s.opened (held_in s) r m k.shown.configuration))
 
     leaves : IsLeaving turns probes faults s r d purpose (device_at s.devices d).probes_left grip.device grip.slip task
     leaves =

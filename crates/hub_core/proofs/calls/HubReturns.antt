@@ -37,8 +37,8 @@ use Rattle.hub_core.proofs.calls.Departures.{device_within, one_for}
 use Rattle.hub_core.proofs.calls.Homecomings.{ComesBack, IsBack, StepsBack, after_back, back_grips, back_places, back_steps, back_whole, taken_in}
 use Rattle.hub_core.proofs.kept.HubReads.{run_place}
 use Rattle.hub_core.proofs.calls.HubStates.{kept_is}
-use Rattle.hub_core.proofs.kept.ReturnsKept.{BringsFor, IsOut, give_kept, out_is}
-use Rattle.hub_core.proofs.stage.StageChoices.{StageSteps, stage_steps}
+use Rattle.hub_core.proofs.kept.KeptByModel.{given_kept, undo_ordered}
+use Rattle.hub_core.proofs.kept.ReturnsKept.{BringsFor, IsOut, out_is}
 use Rattle.hub_core.proofs.steps.Takes.{live_run}
 use Rattle.hub_core.proofs.kept.WrittenValues.{nearest_has}
 use Rattle.hub_core.specs.AccountedCalls.{told_calls, told_falls}
@@ -49,7 +49,7 @@ use Rattle.hub_core.specs.HubSteps.{Gave, Given, Returned, command_task, give, g
 use Rattle.hub_core.specs.HubsKept.{FitsOut, HubIsKept, IsWhole, open_of}
 use Rattle.hub_core.specs.KeptOrders.{OrderIsBeside}
 use Rattle.hub_core.specs.Openings.{names_values_of}
-use Rattle.hub_core.specs.OpenHubs.{OpenHub, configuration_of, device_at, grip_in, held_in, purpose_of, state_of}
+use Rattle.hub_core.specs.OpenHubs.{OpenHub, configuration_of, device_at, grip_in, held_after, held_in, purpose_of, state_of}
 use Rattle.hub_core.specs.ReadHistories.{HistoryState, read_in, with_doom, with_entry, with_more}
 use Rattle.hub_core.specs.Steps.{answer_told, at_moment, give_entries}
 use Rattle.hub_core.specs.declared.open_windows.OpenWindow.TheInside.{Inside}
@@ -124,7 +124,7 @@ for_command stands turns probes faults s slip task k kept there purpose =
       does = does;
       stood = fits.stand (subst (λ x. IsTrue (is_counted_up x)) (sym does) (task_up (kind_at w.kinds (command_at w.runs r k).device.0) (command_at w.runs r k).job (n.run r).register));
       value = subst (λ x. IsTrue (has_value (kind_at w.kinds slip.device.0) (value_after x (held_in s slip.device.0)))) (sym (does ∙ ap (λ d. if reads (command_at w.runs r k).job then Sense else Drive (driven (kind_at w.kinds d) (command_at w.runs r k).job (n.run r).register)) on))
-          (task_value (kind_at w.kinds slip.device.0) (command_at w.runs r k).job (n.run r).register (held_in s slip.device.0) (subst (λ (c : Command). IsTrue (names_values_of (kind_at w.kinds slip.device.0) c.job)) (sym same) named) (kept.values slip.device.0 (device_within w slip.device.0 (subst (λ d. is_device w d ≡ true) out.1.on (staged.homed r (next_of n r) out.0 out.1.next)))));
+          (task_value (kind_at w.kinds slip.device.0) (command_at w.runs r k).job (n.run r).register (held_in s slip.device.0) (subst (λ (c : Command). IsTrue (names_values_of (kind_at w.kinds slip.device.0) c.job)) (sym same) named) (kept.values slip.device.0 (device_within w slip.device.0 (subst (λ d. is_device w d ≡ true) out.1.on (homed)))));
     }
   where
     w : Setting
@@ -136,9 +136,6 @@ for_command stands turns probes faults s slip task k kept there purpose =
     r : ℕ
     r = slip.maker
 
-    staged : StageSteps w n
-    staged = stage_steps (configuration_of s) s.rounds s.opened (held_in s) kept.configuration
-
     read : IsRead w n
     read = read_facts w (entries_of s.history) kept.configuration.history.well_formed
 
@@ -146,7 +143,7 @@ for_command stands turns probes faults s slip task k kept there purpose =
     grip = grip_there s slip task there ∙ ap (λ (p : KeptPurpose). Some (record { maker = r; purpose = purpose_of p })) purpose
 
     out : (c : Command) × IsOut w n r k slip.device.0 c
-    out = out_is w n (configuration_of s).grips r k slip.device.0 kept.configuration.order.grips.runs grip
+    out = out_is w n (configuration_of s).grips r k slip.device.0 kept.configuration.grips.runs grip
 
     same : command_at w.runs r k ≡ out.0
     same = ap (command_at w.runs r) out.1.number ∙ command_is w n r out.0 out.1.next
@@ -162,6 +159,9 @@ for_command stands turns probes faults s slip task k kept there purpose =
 
     does : task ≡ command_task (configuration_of s) r (command_at w.runs r k)
     does = fits.does ∙ ap (λ (p : KeptPurpose). task_of (configuration_of s) r (purpose_of p)) purpose
+
+    homed : is_device w out.0.device.0 ≡ true
+    homed = let home : IsTrue (is_device w out.0.device.0 && names_values_of (kind_at w.kinds out.0.device.0) out.0.job) = kept.configuration.opens.homed r (next_of n r) out.0 out.1.next in grind (arith, common_steps)
 
     named : IsTrue (names_values_of (kind_at w.kinds slip.device.0) out.0.job)
     named =
@@ -180,7 +180,7 @@ for_undo stands turns probes faults s slip task v kept there purpose =
       does = does;
       calls = ap turns_of does;
       stood = fits.stand (subst (λ x. IsTrue (is_counted_up x)) (sym does) refl);
-      value = subst (λ x. IsTrue (has_value (kind_at s.setting.kinds slip.device.0) (value_after x (held_in s slip.device.0)))) (sym does) (kept.configuration.undos slip.device.0 (record { maker = slip.maker; purpose = Undoes v }) grip);
+      value = subst (λ x. IsTrue (has_value (kind_at s.setting.kinds slip.device.0) (value_after x (held_in s slip.device.0)))) (sym does) ((kept.configuration.ordered (undo_ordered (configuration_of s) s.rounds s.opened (held_in s) slip.device.0 slip.maker v grip kept.configuration)).undos slip.device.0 (record { maker = slip.maker; purpose = Undoes v }) grip);
     }
   where
     n : Reading
@@ -194,7 +194,7 @@ for_undo stands turns probes faults s slip task v kept there purpose =
 
     live : is_live n slip.maker ≡ true
     live =
-        let may : IsTrue (is_live n slip.maker && is_doomed n slip.maker && has_written n slip.maker slip.device.0 && not ((n.run slip.maker).on slip.device.0).undid) = kept.configuration.order.grips.runs.undos slip.device.0 slip.maker v grip in
+        let may : IsTrue (is_live n slip.maker && is_doomed n slip.maker && has_written n slip.maker slip.device.0 && not ((n.run slip.maker).on slip.device.0).undid) = kept.configuration.grips.runs.undos slip.device.0 slip.maker v grip in
         grind (arith, common_steps)
 
     fits : FitsOut s slip.device.0 slip task
@@ -225,7 +225,7 @@ run_purpose stands turns probes faults s slip task kept there maker = by_purpose
     by_purpose (ForCommand k) is = refl
     by_purpose (ForUndo v) is = refl
     by_purpose (ForProbe v) is = absurd (
-        let none : slip.maker ≡ 0 = kept.configuration.order.grips.probes slip.device.0 slip.maker v (grip_there s slip task there ∙ ap (λ (p : KeptPurpose). Some (record { maker = slip.maker; purpose = purpose_of p })) is) in
+        let none : slip.maker ≡ 0 = kept.configuration.grips.probes slip.device.0 slip.maker v (grip_there s slip task there ∙ ap (λ (p : KeptPurpose). Some (record { maker = slip.maker; purpose = purpose_of p })) is) in
         omega (arith, none, maker))
 
 -- a device that is out for a run does what the run is to do
@@ -281,7 +281,7 @@ found_brings s held r k d x stood task does fits at = by_reading (reads job) ref
     by_reading false e is tells = absurd (let none : false ≡ true = subst (λ y. IsTrue (may_tell y stood (Sensed x))) (is ∙ ap (λ b. if b then Sense else Drive value) e) tells in cc)
 
 -- the cases; of a device that died nothing is known
-brings_back : {D : Type 0} (s : OpenHub D) (slip : Slip) (task : Task) (purpose : Purpose) (told : Told) → IsForRun s slip task purpose → IsTrue (may_tell task slip.stood told) → BringsFor (configuration_of s) (held_in s) slip.maker slip.device.0 (value_after task (held_in s slip.device.0)) purpose told
+brings_back : {D : Type 0} (s : OpenHub D) (slip : Slip) (task : Task) (purpose : Purpose) (told : Told) → IsForRun s slip task purpose → IsTrue (may_tell task slip.stood told) → BringsFor (configuration_of s) (held_in s) slip.maker slip.device.0 (held_after told task (held_in s slip.device.0)) purpose told
 brings_back s slip task (Commands k) Worked for fits = wrote_brings (configuration_of s) (held_in s) slip.maker k slip.device.0 slip.stood task for.on for.does fits
 brings_back s slip task (Commands k) (Sensed x) for fits = found_brings (configuration_of s) (held_in s) slip.maker k slip.device.0 x slip.stood task for.does fits for.stood
 brings_back s slip task (Commands k) Died for fits = tt
@@ -323,7 +323,7 @@ some_entry s slip (Probes v) told of_run = absurd (cc)
 -- another device is not out for the same run
 other_maker : {D : Type 0} (stands turns probes faults : D → ℕ) (s : OpenHub D) (slip : Slip) (task : Task) (purpose : Purpose) (e : ℕ) (other : Slip) (does : Task) → HubIsKept stands turns probes faults s → IsForRun s slip task purpose → e ≢ slip.device.0 → slice_get s.places e ≡ Some (Out other does) → other.maker ≢ slip.maker
 other_maker stands turns probes faults s slip task purpose e other does kept for apart there same =
-    apart (kept.configuration.order.grips.runs.one e slip.device.0 (slip.maker - 1) (purpose_of (device_at s.devices e).purpose) purpose
+    apart (kept.configuration.grips.runs.one e slip.device.0 (slip.maker - 1) (purpose_of (device_at s.devices e).purpose) purpose
     (ap (λ o. grip_in o (device_at s.devices e).purpose) there ∙ ap (λ m. Some (record { maker = m; purpose = purpose_of (device_at s.devices e).purpose })) (same ∙ first))
     (for.grip ∙ ap (λ m. Some (record { maker = m; purpose = purpose })) first))
   where
@@ -349,11 +349,11 @@ died_events told events died = ap (λ b. record events { fell = events.fell + (i
 -- where the call lived the device is as the task leaves it; where it died the device is counted down
 pub run_back : {D : Type 0} (stands turns probes faults : D → ℕ) (s : OpenHub D) (slip : Slip) (task : Task) (purpose : Purpose) (told : Told) (device : D) (m tag : ℕ)
     → IsForRun s slip task purpose → WasCalled told task slip tag (stands device) (turns device) (probes device) (faults device) → slip.device.0 < length s.setting.first
-    → HubIsKept stands turns probes faults s → ComesBack stands turns probes faults s slip task (entries_for s slip purpose told) device (value_after task (held_in s slip.device.0)) (fallen_by told (device_at s.devices slip.device.0).events) (max s.moment m)
+    → HubIsKept stands turns probes faults s → ComesBack stands turns probes faults s slip task (entries_for s slip purpose told) device (held_after told task (held_in s slip.device.0)) (fallen_by told (device_at s.devices slip.device.0).events) (max s.moment m)
 run_back {D = D} stands turns probes faults s slip task purpose told device m tag for called below kept =
     record {
-      configuration = give_kept (configuration_of s) s.rounds s.opened (held_in s) d m (value_after task (held_in s d)) grip told for.grip (brings_back s slip task purpose told for called.fits) for.value kept.configuration;
-      value = for.value;
+      configuration = given_kept (configuration_of s) s.rounds s.opened (held_in s) d m (held_after told task (held_in s d)) grip told for.grip (brings_back s slip task purpose told for called.fits) (λ died. ap (λ b. if b then held_in s d else value_after task (held_in s d)) died) fits kept.configuration;
+      value = fits;
       stand = by_told (has_died told) refl;
       turns_rose =
           let rose : turns device ≡ slip.turns + calls_told told = turns_so told task slip.turns (turns device) for.calls called.turns_rose in
@@ -383,12 +383,19 @@ run_back {D = D} stands turns probes faults s slip task purpose told device m ta
     at_most true = omega arith
     at_most false = omega arith
 
+    fits : IsTrue (has_value (kind_at s.setting.kinds d) (held_after told task (held_in s d)))
+    fits = by_death (has_died told)
+      where
+        by_death : (b : Bool) → IsTrue (has_value (kind_at s.setting.kinds d) (if b then held_in s d else value_after task (held_in s d)))
+        by_death true = kept.values d below
+        by_death false = for.value
+
     down : has_died told ≡ true → (read_of after).up d ≡ false
     down died = give_ups (configuration_of s) d d grip told for.of_run for.on ∙ ap (λ b. if b then put (read_of (configuration_of s)).up d false d else (read_of (configuration_of s)).up d) died ∙ put_same (read_of (configuration_of s)).up d false
 
-    by_told : (b : Bool) → has_died told ≡ b → (read_of after).up d ≡ true → stands device ≡ value_after task (held_in s d)
+    by_told : (b : Bool) → has_died told ≡ b → (read_of after).up d ≡ true → stands device ≡ held_after told task (held_in s d)
     by_told true died up = absurd (let both : true ≡ false = sym up ∙ down died in cc)
-    by_told false lives up = subst (λ b. IfSome (if b then None else Some (value_after task slip.stood)) (λ v. stands device ≡ v)) lives called.stands_there ∙ ap (value_after task) for.stood
+    by_told false lives up = subst (λ b. IfSome (if b then None else Some (value_after task slip.stood)) (λ v. stands device ≡ v)) lives called.stands_there ∙ ap (value_after task) for.stood ∙ sym (ap (λ b. if b then held_in s d else value_after task (held_in s d)) lives)
 
     calls : (e : ℕ) → told_calls s.setting.runs (entries_of after.history) e ≡ told_calls s.setting.runs (entries_of s.history) e + (if d == e then calls_told told else 0)
     calls e = give_calls (configuration_of s) d e grip told for.of_run for.on
@@ -494,7 +501,7 @@ returned_below h why tag grip returned k =
 
 -- how its device comes back
 pub returned_comes : {D : Type 0} {stands turns probes faults : D → ℕ} (h : Inside D) (m : ℕ) (why : KeptPurpose) (tag : ℕ) (grip : Gripped D Done) → IsReturned stands turns probes faults h why tag grip → IsWhole stands turns probes faults h
-    → ComesBack stands turns probes faults (open_of h) grip.slip grip.task (returned_entries (open_of h) grip why) grip.device (value_after grip.task (device_at h.devices.items grip.slip.device.0).held) (fallen_by grip.stage.told (device_at h.devices.items grip.slip.device.0).events) (max h.moment m)
+    → ComesBack stands turns probes faults (open_of h) grip.slip grip.task (returned_entries (open_of h) grip why) grip.device (held_after grip.stage.told grip.task (device_at h.devices.items grip.slip.device.0).held) (fallen_by grip.stage.told (device_at h.devices.items grip.slip.device.0).events) (max h.moment m)
 returned_comes h m why tag grip returned k = run_back _ _ _ _ (open_of h) grip.slip grip.task (purpose_of why) grip.stage.told grip.device m tag (returned_for h why tag grip returned k) returned.called (returned_below h why tag grip returned k) k.shown
 
 -- The room for its entries
@@ -515,7 +522,7 @@ back_place h why tag grip returned k =
 -- the device is home again, stands there, and has failed so often: so the parts change, but for the history and the order
 pub record IsHomeAgain {D : Type 0} (h t : Inside D) (m value : ℕ) (events : Events) (grip : Gripped D Done) : Type 0 where
   pub moment_is : t.moment ≡ max h.moment m
-  pub value_is : value ≡ value_after grip.task (device_at h.devices.items grip.slip.device.0).held
+  pub value_is : value ≡ held_after grip.stage.told grip.task (device_at h.devices.items grip.slip.device.0).held
   pub events_are : events ≡ fallen_by grip.stage.told (device_at h.devices.items grip.slip.device.0).events
   pub devices_are : t.devices.items ≡ slice_set h.devices.items grip.slip.device.0 (record (device_at h.devices.items grip.slip.device.0) { held = value; events = events })
   pub places_are : t.gate.places ≡ slice_set h.gate.places grip.slip.device.0 (Home grip.device)
@@ -538,7 +545,7 @@ run_is_back {D = D} {stands = stands} {turns = turns} {probes = probes} {faults 
       there = came.returned.there;
       comes = subst (λ es. ComesBack stands turns probes faults (open_of h) grip.slip grip.task es grip.device value events (max h.moment m)) came.gives
           (subst (λ x. ComesBack stands turns probes faults (open_of h) grip.slip grip.task (returned_entries (open_of h) grip why) grip.device x events (max h.moment m)) (sym came.home.value_is)
-          (subst (λ x. ComesBack stands turns probes faults (open_of h) grip.slip grip.task (returned_entries (open_of h) grip why) grip.device (value_after grip.task (device_at h.devices.items grip.slip.device.0).held) x (max h.moment m)) (sym came.home.events_are)
+          (subst (λ x. ComesBack stands turns probes faults (open_of h) grip.slip grip.task (returned_entries (open_of h) grip why) grip.device (held_after grip.stage.told grip.task (device_at h.devices.items grip.slip.device.0).held) x (max h.moment m)) (sym came.home.events_are)
           (returned_comes h m why tag grip came.returned k)));
       moment_is = came.home.moment_is;
       devices_are = came.home.devices_are;
@@ -547,7 +554,7 @@ run_is_back {D = D} {stands = stands} {turns = turns} {probes = probes} {faults 
       history_is = came.history_is;
       hands =
           let for = returned_for h why tag grip came.returned k in
-          hand_comes h.history.setting (read_in h.history) (configuration_of (open_of h)).grips (put (configuration_of (open_of h)).grips grip.slip.device.0 None) grip.slip.maker grip.slip.device.0 (purpose_of why) h.hands.items t.hands.items for.run for.grip k.shown.configuration.order.grips refl came.home.hands_are k.hands;
+          hand_comes h.history.setting (read_in h.history) (configuration_of (open_of h)).grips (put (configuration_of (open_of h)).grips grip.slip.device.0 None) grip.slip.maker grip.slip.device.0 (purpose_of why) h.hands.items t.hands.items for.run for.grip k.shown.configuration.grips refl came.home.hands_are k.hands;
       new = came.home.new;
     }
 

@@ -1,6 +1,8 @@
 -- What a probe found: its device is back, or has failed.
+use Rattle.hub_core.proofs.kept.FallenOrders.{weak_place}
+use Rattle.hub_core.proofs.kept.TableFits.{either_model}
 use Rattle.command_rules.specs.Rosters.{is_run, run_no}
-use Rattle.device_gate.specs.Calls.{has_died, value_after}
+use Rattle.device_gate.specs.Calls.{has_died}
 use Rattle.device_gate.specs.Grips.{Gripped}
 use Rattle.device_gate.specs.declared.grips.Done.{Done}
 use Rattle.device_gate.specs.declared.slips.Slip.{Slip}
@@ -9,7 +11,7 @@ use Rattle.history_book.proofs.Searches.{each_found}
 use Rattle.history_book.proofs.Snoc.{each_more, entries_on}
 use Rattle.history_book.specs.Histories.{entries_made, entries_of, entry}
 use Rattle.history_book.specs.Readings.{Reading, has_written, is_doomed, is_live, is_open, pends, sees_up}
-use Rattle.history_book.specs.Settings.{Setting, is_device, is_weak}
+use Rattle.history_book.specs.Settings.{Setting, is_device}
 use Rattle.history_book.specs.WellFormed.{IsWellFormed, may_follow}
 use Rattle.history_book.specs.declared.entries.Cause.TheVariants.{Lost}
 use Rattle.history_book.specs.declared.entries.Entry.TheVariants.{Doomed, Fell, Rose}
@@ -30,7 +32,7 @@ use Rattle.hub_core.proofs.kept.OrderSteps.{read_more}
 use Rattle.hub_core.proofs.kept.ProbeSteps.{order_fell, order_lost, order_probe_home, order_rose}
 use Rattle.hub_core.specs.HubsKept.{HandsAre, IsWhole, open_of}
 use Rattle.hub_core.specs.KeptOrders.{HasFallen, HasRisen, IsLostTo, MayTurn, OrderIsBeside, hand_of}
-use Rattle.hub_core.specs.OpenHubs.{OpenHub, configuration_of, device_at, held_in}
+use Rattle.hub_core.specs.OpenHubs.{OpenHub, configuration_of, device_at, held_after, held_in}
 use Rattle.hub_core.specs.ReadHistories.{HistoryState, read_in, with_entry, with_lost, with_more}
 use Rattle.hub_core.specs.declared.open_windows.OpenWindow.TheInside.{Inside}
 use Rattle.hub_core.specs.declared.kept_orders.KeptOrder.{KeptOrder}
@@ -63,12 +65,12 @@ pub back_may : {D : Type 0} {stands turns probes faults : D → ℕ} (h : Inside
     → events ≡ record before { rose = before.rose + 1 } → IsWhole stands turns probes faults h → MayTurn false (Back sl.device events.rose) h.history.spare sl.device h.order.line h.order.table
 back_may {D = D} {stands = stands} {turns = turns} {probes = probes} {faults = faults} h s tag grip sl before events known down lives more k =
     let here = probe_here h s tag grip sl before known k in
-    let tells : TellsTurn stands turns probes faults h grip.slip grip.task (Rose grip.slip.device) [] grip.device (value_after grip.task (held_in (open_of h) grip.slip.device.0)) events h.moment = record {
+    let tells : TellsTurn stands turns probes faults h grip.slip grip.task (Rose grip.slip.device) [] grip.device (held_after grip.stage.told grip.task (held_in (open_of h) grip.slip.device.0)) events h.moment = record {
       comes = probe_back stands turns probes faults (open_of h) grip.slip grip.task here.v grip.stage.told grip.device tag (Rose grip.slip.device ∷ []) events here.for known.maker known.called (back_told h s tag grip sl before events known down lives more here) k.shown;
       leave = refl;
     } in
     subst (λ (z : Slip). MayTurn false (Back z.device events.rose) h.history.spare z.device h.order.line h.order.table) (sym known.same)
-    (may_rise h grip.slip grip.task grip.slip.device [] grip.device (value_after grip.task (held_in (open_of h) grip.slip.device.0)) events h.moment events.rose tells here.below (ap (λ (e : Events). e.rose) more ∙ ap (λ (e : Events). e.rose + 1) here.before_is) k)
+    (may_rise h grip.slip grip.task grip.slip.device [] grip.device (held_after grip.stage.told grip.task (held_in (open_of h) grip.slip.device.0)) events h.moment events.rose tells here.below (ap (λ (e : Events). e.rose) more ∙ ap (λ (e : Events). e.rose + 1) here.before_is) k)
 
 -- what line and table make of it
 pub record IsRisen {D : Type 0} (h t : Inside D) (sl : Slip) (events : Events) : Type 0 where
@@ -77,8 +79,9 @@ pub record IsRisen {D : Type 0} (h t : Inside D) (sl : Slip) (events : Events) :
 
 -- where its event stands
 place_told : {D : Type 0} {stands turns probes faults : D → ℕ} (h : Inside D) (d : DeviceNo) → d.0 < length h.history.setting.first → IsWhole stands turns probes faults h → event_place h.history.history None (accesses_at h.order.table d.0) h.order.line.marks ≡ event_place_of h.history.setting (read_in h.history) d.0
-place_told h d below k =
-    event_told h.history.setting (read_in h.history) (configuration_of (open_of h)).grips (held_in (open_of h)) d.0 h.history.history (lineage_at h.order.table d.0) h.order.line.marks (read_whole h k) k.shown.configuration.stage.strong (within d.0 (length h.history.setting.first) below) k.shown.configuration.order (k.order.table_is.each d.0 below) k.order.line_is (λ q. sound_is h.history.setting h.history.history q k.shown.configuration.history.well_formed)
+place_told h d below k = either_model (event_place h.history.history None (accesses_at h.order.table d.0) h.order.line.marks ≡ event_place_of h.history.setting (read_in h.history) d.0) h.history.setting
+    (λ weak. weak_place h.history.setting (read_in h.history) (configuration_of (open_of h)).grips d.0 h.history.history (accesses_at h.order.table d.0) h.order.line.marks weak (k.order.table_is.weakly weak d.0 below).accesses k.order.line_is)
+    (λ strong. event_told h.history.setting (read_in h.history) (configuration_of (open_of h)).grips (held_in (open_of h)) d.0 h.history.history (lineage_at h.order.table d.0) h.order.line.marks (read_whole h k) strong (within d.0 (length h.history.setting.first) below) (k.shown.configuration.ordered strong).order ((k.order.table_is.ordered strong).each d.0 below) k.order.line_is (λ q. sound_is h.history.setting h.history.history q k.shown.configuration.history.well_formed))
   where
     within : (a b : ℕ) → a < b → nat_lt a b ≡ true
     within a b lt = grind (arith, common_steps, lt)
@@ -120,8 +123,9 @@ few_events_here {D = D} h s slip sl before seen below same before_is k =
 
 -- the run that is lost, as the code finds it
 pub lost_is : {D : Type 0} {stands turns probes faults : D → ℕ} (h : Inside D) (d : ℕ) (v : Option ℕ) → (configuration_of (open_of h)).grips d ≡ Some (record { maker = 0; purpose = Probes v }) → d < length h.history.setting.first → IsWhole stands turns probes faults h → option_map (λ (r : RunNo). r.0) (lost_run h.history.history (accesses_at h.order.table d)) ≡ lost_by h.history.setting (read_in h.history) d
-lost_is h d v at below k =
-    lost_told h.history.setting (read_in h.history) (configuration_of (open_of h)).grips (held_in (open_of h)) d h.history.history (lineage_at h.order.table d) (read_whole h k) k.shown.configuration.stage.strong (within d (length h.history.setting.first) below) (probe_commands (configuration_of (open_of h)).grips d 0 v at) k.shown.configuration.order (k.order.table_is.each d below) (λ q. sound_is h.history.setting h.history.history q k.shown.configuration.history.well_formed)
+lost_is h d v at below k = either_model (option_map (λ (r : RunNo). r.0) (lost_run h.history.history (accesses_at h.order.table d)) ≡ lost_by h.history.setting (read_in h.history) d) h.history.setting
+    (λ weak. ap (λ xs. option_map (λ (r : RunNo). r.0) (lost_run h.history.history xs)) (k.order.table_is.weakly weak d below).accesses ∙ sym (ap (λ b. if b then None else find (λ x. is_open h.history.setting (read_in h.history) x d && sees_up (read_in h.history) x d) (live_runs (read_in h.history) (read_in h.history).line)) weak))
+    (λ strong. lost_told h.history.setting (read_in h.history) (configuration_of (open_of h)).grips (held_in (open_of h)) d h.history.history (lineage_at h.order.table d) (read_whole h k) strong (within d (length h.history.setting.first) below) (probe_commands (configuration_of (open_of h)).grips d 0 v at) (k.shown.configuration.ordered strong).order ((k.order.table_is.ordered strong).each d below) (λ q. sound_is h.history.setting h.history.history q k.shown.configuration.history.well_formed))
   where
     within : (a b : ℕ) → a < b → nat_lt a b ≡ true
     within a b lt = grind (arith, common_steps, lt)
@@ -132,10 +136,12 @@ pub record IsLostRun (w : Setting) (n : Reading) (r : ℕ) : Type 0 where
   pub sound : is_doomed n r ≡ false
   pub run : is_run w.runs r ≡ true
 
-pub lost_runs : (w : Setting) (n : Reading) (d r : ℕ) → IsRead w n → is_weak w.mode ≡ false → lost_by w n d ≡ Some r → IsLostRun w n r
-lost_runs w n d r read strong lost =
+pub lost_runs : (w : Setting) (n : Reading) (d r : ℕ) → IsRead w n → lost_by w n d ≡ Some r → IsLostRun w n r
+lost_runs w n d r read lost = either_model (IsLostRun w n r) w
+    (λ weak. absurd (let none : None ≡ Some r = sym (ap (λ b. if b then None else find (λ x. is_open w n x d && sees_up n x d) (live_runs n n.line)) weak) ∙ lost in cc))
+    (λ strong.
     let found = each_found (λ x. is_live n x ≡ true) (λ x. is_open w n x d && sees_up n x d) (live_runs n n.line) r (live_runs_live n n.line) (sym (ap (λ b. if b then None else find (λ x. is_open w n x d && sees_up n x d) (live_runs n n.line)) strong) ∙ lost) in
-    record { live = found.0; sound = third (is_live n r) (is_doomed n r) (pends w n r d) (sees_up n r d) found.1; run = live_run w n r read found.0 }
+    record { live = found.0; sound = third (is_live n r) (is_doomed n r) (pends w n r d) (sees_up n r d) found.1; run = live_run w n r read found.0 })
   where
     third : (a b c e : Bool) → ((a && not b && c) && e) ≡ true → b ≡ false
     third a b c e h = grind (arith, common_steps)
@@ -260,7 +266,7 @@ dead_told h s tag grip sl before events known up died more here =
     dead_tells h.history.setting (read_in h.history) grip.slip.device.0 here.v grip.stage.told events (counted_here h s grip.slip.device.0 true known.seen up) died (more ∙ ap (λ (e : Events). record e { fell = e.fell + 1 }) here.before_is)
 
 dead_comes : {D : Type 0} {stands turns probes faults : D → ℕ} (h : Inside D) (s : OpenHub D) (tag : ℕ) (grip : Gripped D Done) (sl : Slip) (before events : Events) → ProbeKnown stands turns probes faults h s tag grip sl before → (read_of (configuration_of s)).up grip.slip.device.0 ≡ true → has_died grip.stage.told ≡ true
-    → events ≡ record before { fell = before.fell + 1 } → IsWhole stands turns probes faults h → ComesBack stands turns probes faults (open_of h) grip.slip grip.task (dead_entries grip.slip.device.0 (lost_by h.history.setting (read_in h.history) grip.slip.device.0)) grip.device (value_after grip.task (held_in (open_of h) grip.slip.device.0)) events h.moment
+    → events ≡ record before { fell = before.fell + 1 } → IsWhole stands turns probes faults h → ComesBack stands turns probes faults (open_of h) grip.slip grip.task (dead_entries grip.slip.device.0 (lost_by h.history.setting (read_in h.history) grip.slip.device.0)) grip.device (held_after grip.stage.told grip.task (held_in (open_of h) grip.slip.device.0)) events h.moment
 dead_comes {D = D} {stands = stands} {turns = turns} {probes = probes} {faults = faults} h s tag grip sl before events known up died more k =
     let here = probe_here h s tag grip sl before known k in
     probe_back stands turns probes faults (open_of h) grip.slip grip.task here.v grip.stage.told grip.device tag _ events here.for known.maker known.called (dead_told h s tag grip sl before events known up died more here) k.shown
@@ -270,12 +276,12 @@ pub dead_may : {D : Type 0} {stands turns probes faults : D → ℕ} (h : Inside
     → events ≡ record before { fell = before.fell + 1 } → IsWhole stands turns probes faults h → MayTurn true (Failed sl.device events.fell) h.history.spare sl.device h.order.line h.order.table
 dead_may {D = D} {stands = stands} {turns = turns} {probes = probes} {faults = faults} h s tag grip sl before events known up died more k =
     let here = probe_here h s tag grip sl before known k in
-    let tells : TellsTurn stands turns probes faults h grip.slip grip.task (Fell grip.slip.device) (lost_entries (lost_by h.history.setting (read_in h.history) grip.slip.device.0)) grip.device (value_after grip.task (held_in (open_of h) grip.slip.device.0)) events h.moment = record {
+    let tells : TellsTurn stands turns probes faults h grip.slip grip.task (Fell grip.slip.device) (lost_entries (lost_by h.history.setting (read_in h.history) grip.slip.device.0)) grip.device (held_after grip.stage.told grip.task (held_in (open_of h) grip.slip.device.0)) events h.moment = record {
       comes = dead_comes h s tag grip sl before events known up died more k;
       leave = leaves (lost_by h.history.setting (read_in h.history) grip.slip.device.0);
     } in
     subst (λ (z : Slip). MayTurn true (Failed z.device events.fell) h.history.spare z.device h.order.line h.order.table) (sym known.same)
-    (may_fall h grip.slip grip.task grip.slip.device (lost_entries (lost_by h.history.setting (read_in h.history) grip.slip.device.0)) grip.device (value_after grip.task (held_in (open_of h) grip.slip.device.0)) events h.moment events.fell tells here.below (ap (λ (e : Events). e.fell) more ∙ ap (λ (e : Events). e.fell + 1) here.before_is) k)
+    (may_fall h grip.slip grip.task grip.slip.device (lost_entries (lost_by h.history.setting (read_in h.history) grip.slip.device.0)) grip.device (held_after grip.stage.told grip.task (held_in (open_of h) grip.slip.device.0)) events h.moment events.fell tells here.below (ap (λ (e : Events). e.fell) more ∙ ap (λ (e : Events). e.fell + 1) here.before_is) k)
   where
     lost_entries : Option ℕ → List Entry
     lost_entries lost = option_to_list (option_map (λ x. Doomed (run_no x) (Lost grip.slip.device)) lost)
@@ -318,7 +324,7 @@ lost_fits {D = D} {stands = stands} {turns = turns} {probes = probes} {faults = 
     runs : (o : Option RunNo) → option_map (λ (r : RunNo). r.0) o ≡ lost_by w n d → IfSome o (λ r. IsTrue (is_run w.runs r.0) × (r.0 ≤ length h.hands.items))
     runs None is = tt
     runs (Some r) is =
-        let of = lost_runs w n d r.0 (read_whole h k) k.shown.configuration.stage.strong (sym is) in
+        let of = lost_runs w n d r.0 (read_whole h k) (sym is) in
         let place = run_place w.runs r.0 of.run in
         (of.run, omega (arith, place.0, place.1, k.hands.size))
 
@@ -398,7 +404,7 @@ fallen_whole {D = D} {stands = stands} {turns = turns} {probes = probes} {faults
     (λ home. order_probe_home t.history.setting (read_in t.history) (configuration_of (open_of h)).grips (configuration_of (open_of t)).grips d.0 here.v t.order.line t.order.table here.for.grip home
     (order_fallen w h.history fell t.history (configuration_of (open_of h)).grips (held_in (open_of h)) d here.v events.fell lost h.hands.items h.order.line fallen.line t.order.line h.order.table fallen.table t.order.table refl (table_place h d.0 here.below k) own.told (place_told h d here.below k)
     (ap (λ (e : Events). e.fell) more ∙ ap (λ (e : Events). e.fell + 1) here.before_is) own.falls k.shown.configuration.history.well_formed
-    (first_may w h.history.history grip.slip.maker (Fell d) _ (dead_comes h s tag grip sl before events known up died more k).configuration.history.well_formed) k.shown.configuration.order.grips k.hands (one lost loses) own.doomed own.line own.table k.order)) k
+    (first_may w h.history.history grip.slip.maker (Fell d) _ (dead_comes h s tag grip sl before events known up died more k).configuration.history.well_formed) k.shown.configuration.grips k.hands (one lost loses) own.doomed own.line own.table k.order)) k
   where
     w : Setting
     w = h.history.setting
@@ -420,7 +426,7 @@ fallen_whole {D = D} {stands = stands} {turns = turns} {probes = probes} {faults
 
     one : (o : Option RunNo) → option_map (λ (r : RunNo). r.0) o ≡ lost_by w n d.0 → IfSome o (λ r. IsLostRun w n r.0)
     one None is = tt
-    one (Some r) is = lost_runs w n d.0 r.0 (read_whole h k) k.shown.configuration.stage.strong (sym is)
+    one (Some r) is = lost_runs w n d.0 r.0 (read_whole h k) (sym is)
 
 -- the entries that the code made are these
 pub fallen_made : (d : DeviceNo) (lost : Option RunNo) (e : Entry) (o : Option Entry) → e ≡ Fell d → o ≡ option_map (λ r. Doomed r (Lost d)) lost → entries_made (record { a = Some e; b = o; c = None }) ≡ dead_entries d.0 (option_map (λ (r : RunNo). r.0) lost)

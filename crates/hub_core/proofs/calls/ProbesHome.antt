@@ -1,4 +1,5 @@
 -- A probe that comes home keeps what the type of a hub keeps, whatever it found, and is the step that it says.
+use Rattle.hub_core.proofs.kept.KeptByModel.{probe_counted, probe_given_kept, restored_fits}
 use Rattle.command_rules.specs.Rosters.{device_no, is_run, run_no}
 use Rattle.device_gate.specs.Calls.{answered, failed, has_died, is_counted_up, probed, turns_of, value_after}
 use Rattle.device_gate.specs.Grips.{Gripped, WasCalled}
@@ -23,17 +24,17 @@ use Rattle.hub_core.proofs.calls.Homecomings.{ComesBack, IsBack, StepsBack, afte
 use Rattle.hub_core.proofs.calls.Departures.{one_for}
 use Rattle.hub_core.proofs.calls.HubStates.{kept_is}
 use Rattle.hub_core.proofs.kept.Hands.{probe_comes}
-use Rattle.hub_core.proofs.kept.ReturnsKept.{BringsFor, give_probe_kept}
+use Rattle.hub_core.proofs.kept.ReturnsKept.{BringsFor}
 use Rattle.hub_core.proofs.steps.Afters.{read_with}
 use Rattle.hub_core.proofs.steps.Calls.{calls_with, falls_with}
 use Rattle.hub_core.specs.AccountedCalls.{told_calls, told_falls}
 use Rattle.hub_core.specs.HubCalls.{IsProbeGiven, SameWindow, carried_by}
-use Rattle.hub_core.specs.HubKept.{ConfigurationIsKept}
+use Rattle.hub_core.specs.KeptByModel.{IsKeptByModel}
 use Rattle.hub_core.specs.HubSteps.{Gave, Given, Returned, give_if, give_probe, task_of}
 use Rattle.hub_core.specs.HubsKept.{HandsAre, HubIsKept, IsWhole, open_of}
 use Rattle.hub_core.proofs.kept.ProbeSteps.{order_probe_home}
 use Rattle.hub_core.specs.KeptOrders.{OrderIsBeside}
-use Rattle.hub_core.specs.OpenHubs.{OpenHub, configuration_of, device_at, events_in, grip_in, held_in, purpose_of, state_of}
+use Rattle.hub_core.specs.OpenHubs.{OpenHub, configuration_of, device_at, events_in, grip_in, held_after, held_in, purpose_of, state_of}
 use Rattle.hub_core.specs.ReadHistories.{HistoryState, read_in, with_more}
 use Rattle.hub_core.specs.Steps.{probe_entries, with_entries, with_grip}
 use Rattle.hub_core.specs.declared.open_windows.OpenWindow.TheInside.{Inside}
@@ -47,7 +48,6 @@ use Rattle.std.proofs.Common.{ap, arith, refl, subst, sym, ◌∙◌}
 use Rattle.std.proofs.lemmas.Grind.{common_steps}
 use Rattle.std.proofs.lemmas.Option.{slice_get_within}
 use Rattle.std.specs.Prelude.{Bool, IfSome, IsTrue, List, None, Ok, Option, Some, [], false, fold, if◌then◌else◌, is_none, length, nat_lt, not, option_map, option_to_list, slice_get, slice_set, true, ℕ, ◌&&◌, ◌++◌, ◌+◌, ◌-◌, ◌<◌, ◌==◌, ◌∷◌, ◌≡◌, ◌≢◌, ◌≤◌}
-use Rattle.window_order.proofs.OutDevices.{asked_up, restored_down}
 use Rattle.window_order.proofs.ReadFacts.{read_facts}
 use Rattle.window_order.proofs.Runs.{live_run}
 
@@ -56,6 +56,7 @@ use Rattle.window_order.proofs.Runs.{live_run}
 -- for the detector: what it restores says how the device is counted, and is a value of its kind
 pub record IsForProbe {D : Type 0} (s : OpenHub D) (slip : Slip) (task : Task) (v : Option ℕ) : Type 0 where
   pub grip : (configuration_of s).grips slip.device.0 ≡ Some (record { maker = 0; purpose = Probes v })
+  pub below : slip.device.0 < length s.setting.first
   pub does : task ≡ Probe v
   pub up : (read_of (configuration_of s)).up slip.device.0 ≡ is_none v
   pub value : IsTrue (has_value (kind_at s.setting.kinds slip.device.0) (value_after (Probe v) (held_in s slip.device.0)))
@@ -83,22 +84,22 @@ for_probe stands turns probes faults s slip task kept there none = by_purpose (d
     within = let lt : slip.device.0 < length s.places = slice_get_within s.places slip.device.0 (Out slip task) there in let size : length s.places ≡ length s.setting.first = kept.places_size in omega (arith, lt, size)
 
     counted : (v : Option ℕ) → (configuration_of s).grips slip.device.0 ≡ Some (record { maker = 0; purpose = Probes v }) → n.up slip.device.0 ≡ is_none v
-    counted None at = asked_up s.setting n (configuration_of s).grips (held_in s) slip.device.0 0 at kept.configuration.order
-    counted (Some u) at = restored_down s.setting n (configuration_of s).grips (held_in s) slip.device.0 0 u at kept.configuration.order
+    counted v at = probe_counted (configuration_of s) s.rounds s.opened (held_in s) slip.device.0 0 v at kept.configuration
 
     valued : (v : Option ℕ) → (configuration_of s).grips slip.device.0 ≡ Some (record { maker = 0; purpose = Probes v }) → IsTrue (has_value (kind_at s.setting.kinds slip.device.0) (value_after (Probe v) (held_in s slip.device.0)))
     valued None at = kept.values slip.device.0 within
-    valued (Some u) at = kept.configuration.undos slip.device.0 (record { maker = 0; purpose = Probes (Some u) }) at
+    valued (Some u) at = restored_fits (configuration_of s) s.rounds s.opened (held_in s) slip.device.0 0 u at within (kept.values slip.device.0 within) kept.configuration
 
     by_purpose : (p : KeptPurpose) → (device_at s.devices slip.device.0).purpose ≡ p → (v : Option ℕ) × IsForProbe s slip task v
-    by_purpose (ForCommand k) is = absurd (no_run (of_three (is_live n slip.maker) (is_next_on s.setting n slip.maker slip.device.0) (k == next_of n slip.maker) (kept.configuration.order.grips.runs.commands slip.device.0 slip.maker k (out (ForCommand k) is))))
-    by_purpose (ForUndo u) is = absurd (no_run (of_four (is_live n slip.maker) (is_doomed n slip.maker) (has_written n slip.maker slip.device.0) (not ((n.run slip.maker).on slip.device.0).undid) (kept.configuration.order.grips.runs.undos slip.device.0 slip.maker u (out (ForUndo u) is))))
+    by_purpose (ForCommand k) is = absurd (no_run (of_three (is_live n slip.maker) (is_next_on s.setting n slip.maker slip.device.0) (k == next_of n slip.maker) (kept.configuration.grips.runs.commands slip.device.0 slip.maker k (out (ForCommand k) is))))
+    by_purpose (ForUndo u) is = absurd (no_run (of_four (is_live n slip.maker) (is_doomed n slip.maker) (has_written n slip.maker slip.device.0) (not ((n.run slip.maker).on slip.device.0).undid) (kept.configuration.grips.runs.undos slip.device.0 slip.maker u (out (ForUndo u) is))))
     by_purpose (ForProbe v) is =
         let grip : (configuration_of s).grips slip.device.0 ≡ Some (record { maker = 0; purpose = Probes v }) = out (ForProbe v) is ∙ ap (λ m. Some (record { maker = m; purpose = Probes v })) none in
         let does : task ≡ Probe v = (kept.out slip.device.0 slip task there).does ∙ ap (λ (q : KeptPurpose). task_of (configuration_of s) slip.maker (purpose_of q)) is in (
           v,
           record {
             grip = grip;
+            below = within;
             does = does;
             up = counted v grip;
             value = valued v grip;
@@ -122,7 +123,7 @@ pub record ProbeTells (w : Setting) (n : Reading) (d : ℕ) (v : Option ℕ) (to
   pub counted : events ≡ events_in (fold (entry w) n entries) d
 
 -- what it brings
-brings_probe : (s : Configuration) (held : ℕ → ℕ) (d : ℕ) (v : Option ℕ) (told : Told) → BringsFor s held 0 d (value_after (Probe v) (held d)) (Probes v) told
+brings_probe : (s : Configuration) (held : ℕ → ℕ) (d : ℕ) (v : Option ℕ) (told : Told) → BringsFor s held 0 d (held_after told (Probe v) (held d)) (Probes v) told
 brings_probe s held d None Worked = refl
 brings_probe s held d None (Sensed x) = refl
 brings_probe s held d None Died = tt
@@ -137,15 +138,15 @@ value_so (Some u) stood held same = refl
 
 pub probe_back : {D : Type 0} (stands turns probes faults : D → ℕ) (s : OpenHub D) (slip : Slip) (task : Task) (v : Option ℕ) (told : Told) (device : D) (tag : ℕ) (entries : List Entry) (events : Events)
     → IsForProbe s slip task v → slip.maker ≡ 0 → WasCalled told task slip tag (stands device) (turns device) (probes device) (faults device) → ProbeTells s.setting (read_of (configuration_of s)) slip.device.0 v told entries events
-    → HubIsKept stands turns probes faults s → ComesBack stands turns probes faults s slip task entries device (value_after task (held_in s slip.device.0)) events s.moment
+    → HubIsKept stands turns probes faults s → ComesBack stands turns probes faults s slip task entries device (held_after told task (held_in s slip.device.0)) events s.moment
 probe_back {D = D} stands turns probes faults s slip task v told device tag entries events for none called tells kept =
     record {
       configuration =
-          subst (λ x. ConfigurationIsKept (after_back s slip entries s.moment) s.rounds s.opened (put (held_in s) d (value_after x (held_in s d)))) (sym for.does)
-          (subst (λ es. ConfigurationIsKept (with_grip (with_entries (configuration_of s) slip.maker es) d None) s.rounds s.opened (put (held_in s) d (value_after (Probe v) (held_in s d)))) tells.gives
-          (subst (λ m. ConfigurationIsKept (with_grip (with_entries (configuration_of s) m (probe_entries s.setting n d told)) d None) s.rounds s.opened (put (held_in s) d (value_after (Probe v) (held_in s d)))) (sym none)
-          (give_probe_kept (configuration_of s) s.rounds s.opened (held_in s) d (value_after (Probe v) (held_in s d)) (record { maker = 0; purpose = Probes v }) told for.grip (brings_probe (configuration_of s) (held_in s) d v told) for.value kept.configuration)));
-      value = subst (λ x. IsTrue (has_value (kind_at s.setting.kinds d) (value_after x (held_in s d)))) (sym for.does) for.value;
+          subst (λ x. IsKeptByModel (after_back s slip entries s.moment) s.rounds s.opened (put (held_in s) d (held_after told x (held_in s d)))) (sym for.does)
+          (subst (λ es. IsKeptByModel (with_grip (with_entries (configuration_of s) slip.maker es) d None) s.rounds s.opened (put (held_in s) d (held_after told (Probe v) (held_in s d)))) tells.gives
+          (subst (λ m. IsKeptByModel (with_grip (with_entries (configuration_of s) m (probe_entries s.setting n d told)) d None) s.rounds s.opened (put (held_in s) d (held_after told (Probe v) (held_in s d)))) (sym none)
+          (probe_given_kept (configuration_of s) s.rounds s.opened (held_in s) d (held_after told (Probe v) (held_in s d)) (record { maker = 0; purpose = Probes v }) told for.grip (brings_probe (configuration_of s) (held_in s) d v told) (λ died. ap (λ b. if b then held_in s d else value_after (Probe v) (held_in s d)) died) fits kept.configuration)));
+      value = subst (λ x. IsTrue (has_value (kind_at s.setting.kinds d) (held_after told x (held_in s d)))) (sym for.does) fits;
       stand = λ up. stands_so (tells.up_here (sym (ap (λ (x : Reading). x.up d) reads) ∙ up));
       turns_rose =
           let rose : turns device ≡ slip.turns + answered (Probe v) told = called.turns_rose ∙ ap (λ x. slip.turns + answered x told) for.does in
@@ -180,10 +181,17 @@ probe_back {D = D} stands turns probes faults s slip task v told device tag entr
     at_most true = omega arith
     at_most false = omega arith
 
-    stands_so : has_died told ≡ false → stands device ≡ value_after task (held_in s d)
+    fits : IsTrue (has_value (kind_at s.setting.kinds d) (held_after told (Probe v) (held_in s d)))
+    fits = by_death (has_died told)
+      where
+        by_death : (b : Bool) → IsTrue (has_value (kind_at s.setting.kinds d) (if b then held_in s d else value_after (Probe v) (held_in s d)))
+        by_death true = kept.values d for.below
+        by_death false = for.value
+
+    stands_so : has_died told ≡ false → stands device ≡ held_after told task (held_in s d)
     stands_so lives =
         subst (λ b. IfSome (if b then None else Some (value_after task slip.stood)) (λ x. stands device ≡ x)) lives called.stands_there
-        ∙ ap (λ x. value_after x slip.stood) for.does ∙ value_so v slip.stood (held_in s d) for.stood ∙ ap (λ x. value_after x (held_in s d)) (sym for.does)
+        ∙ ap (λ x. value_after x slip.stood) for.does ∙ value_so v slip.stood (held_in s d) for.stood ∙ ap (λ x. value_after x (held_in s d)) (sym for.does) ∙ sym (ap (λ b. if b then held_in s d else value_after task (held_in s d)) lives)
 
 -- it is as it was counted
 pub same_tells : (w : Setting) (n : Reading) (d : ℕ) (v : Option ℕ) (told : Told) (events : Events) → n.up d ≡ is_none v → n.up d ≡ not (has_died told) → events ≡ events_in n d → ProbeTells w n d v told [] events
@@ -329,7 +337,7 @@ probe_returned {D = D} h s tag grip seen there none called = record { there = ap
 
 -- the device is home again: so the parts change, but for the history and the order
 pub record ProbeCame {D : Type 0} (h t : Inside D) (value : ℕ) (events : Events) (grip : Gripped D Done) (entries : List Entry) : Type 0 where
-  pub value_is : value ≡ value_after grip.task (device_at h.devices.items grip.slip.device.0).held
+  pub value_is : value ≡ held_after grip.stage.told grip.task (device_at h.devices.items grip.slip.device.0).held
   pub devices_are : t.devices.items ≡ slice_set h.devices.items grip.slip.device.0 (record (device_at h.devices.items grip.slip.device.0) { held = value; events = events })
   pub places_are : t.gate.places ≡ slice_set h.gate.places grip.slip.device.0 (Home grip.device)
   pub tickets_are : t.gate.tickets ≡ h.gate.tickets

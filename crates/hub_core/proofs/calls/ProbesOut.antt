@@ -1,20 +1,22 @@
 -- A probe that goes out keeps what the type of a hub keeps, and is the step that it says.
+use Rattle.hub_core.proofs.kept.TableFits.{counted_told}
+use Rattle.hub_core.proofs.weak.WeakProbes.{weak_standing}
 use Rattle.device_gate.specs.Calls.{is_counted_up}
 use Rattle.device_gate.specs.Grips.{Gripped}
 use Rattle.device_gate.specs.declared.gates.Place.TheVariants.{Home, Out}
 use Rattle.device_gate.specs.declared.grips.Ready.{Ready}
 use Rattle.device_gate.specs.declared.slips.Task.TheVariants.{Probe}
 use Rattle.history_book.specs.Readings.{put}
-use Rattle.history_book.specs.Settings.{is_device}
+use Rattle.history_book.specs.Settings.{is_device, is_weak}
 use Rattle.hub_core.proofs.calls.Departures.{IsLeaving, IsSent, at_index, device_within, gone, gone_carries, gone_configuration, gone_kept}
 use Rattle.hub_core.proofs.calls.HubStates.{known_same}
 use Rattle.hub_core.proofs.kept.Hands.{probe_goes}
 use Rattle.hub_core.proofs.kept.ProbeSteps.{order_probe_out}
-use Rattle.hub_core.proofs.kept.ProbesKept.{take_probe_kept}
+use Rattle.hub_core.proofs.kept.KeptByModel.{probe_taken_kept}
 use Rattle.hub_core.proofs.kept.TableStands.{stand_told}
 use Rattle.hub_core.proofs.calls.HubOrders.{standing_whole}
 use Rattle.hub_core.specs.HubCalls.{IsProbed, SameWindow}
-use Rattle.hub_core.specs.HubKept.{ConfigurationIsKept}
+use Rattle.hub_core.specs.KeptByModel.{IsKeptByModel}
 use Rattle.hub_core.specs.HubSteps.{ProbeTaken, Probed, take_probe, carrying}
 use Rattle.hub_core.specs.HubsKept.{HandsAre, HubIsKept, IsWhole, open_of}
 use Rattle.hub_core.specs.KeptOrders.{OrderIsBeside}
@@ -32,7 +34,7 @@ use Rattle.lock_leasing.specs.Words.{standing_value}
 use Rattle.std.proofs.Common.{ap, arith, refl, subst, sym, ◌∙◌}
 use Rattle.std.proofs.lemmas.Grind.{common_steps}
 use Rattle.std.proofs.lemmas.Option.{slice_get_within}
-use Rattle.std.specs.Prelude.{Bool, IsTrue, None, Option, Some, false, if◌then◌else◌, is_some, nat_lt, not, slice_get, slice_set, true, ℕ, ◌&&◌, ◌+◌, ◌-◌, ◌≡◌}
+use Rattle.std.specs.Prelude.{Bool, IsTrue, None, Option, Some, false, if◌then◌else◌, is_some, length, nat_lt, not, slice_get, slice_set, true, ℕ, ◌&&◌, ◌+◌, ◌-◌, ◌<◌, ◌≡◌}
 use Rattle.window_order.specs.TableKept.{LineageIsKept}
 
 -- Whether one may go out
@@ -56,14 +58,25 @@ may_parts s d may = by_parts (is_device s.setting d) (is_out s.grips d) (nat_lt 
 
 -- the value at which the device should stand, as the table tells it, where it is counted down
 pub restores : {D : Type 0} {stands turns probes faults : D → ℕ} (h : Inside D) (s : OpenHub D) (d value : ℕ) (up : Bool) → open_of h ≡ s → ((e : ℕ) → IsDisciplined (accesses_at h.order.table e)) → is_device s.setting d ≡ true → up ≡ (lineage_at h.order.table d).up → up ≡ false → value ≡ accesses_standing (lineage_at h.order.table d).committed (accesses_at h.order.table d)
-    → IsWhole stands turns probes faults h → Some value ≡ restored (configuration_of s) d
-restores {D = D} h s d value up seen disciplined device up_is down value_is k =
-    subst (λ (x : OpenHub D). is_device x.setting d ≡ true → Some value ≡ restored (configuration_of x) d) seen (λ there. as_told (k.order.table_is.each d (device_within h.history.setting d there))) device
+    → is_weak h.history.setting.mode ≡ false → IsWhole stands turns probes faults h → Some value ≡ restored (configuration_of s) d
+restores {D = D} h s d value up seen disciplined device up_is down value_is strong k =
+    subst (λ (x : OpenHub D). is_device x.setting d ≡ true → Some value ≡ restored (configuration_of x) d) seen (λ there. as_told ((k.order.table_is.ordered strong).each d (device_within h.history.setting d there))) device
   where
     as_told : LineageIsKept h.history.setting (read_in h.history) (configuration_of (open_of h)).grips d (lineage_at h.order.table d) → Some value ≡ restored (configuration_of (open_of h)) d
     as_told own =
-        ap Some (value_is ∙ stand_told h.history.setting (read_in h.history) (configuration_of (open_of h)).grips d (lineage_at h.order.table d) (facts_of (configuration_of (open_of h)) h.order.table h.order.line.marks h.history.history h.history.setting.runs (standing_whole h disciplined k)) k.shown.configuration.stage.strong own)
+        ap Some (value_is ∙ stand_told h.history.setting (read_in h.history) (configuration_of (open_of h)).grips d (lineage_at h.order.table d) (facts_of (configuration_of (open_of h)) h.order.table h.order.line.marks h.history.history h.history.setting.runs (standing_whole h disciplined strong k)) strong own)
         ∙ sym (ap (λ b. if b then None else Some (standing_value h.history.setting (read_in h.history) (configuration_of (open_of h)).grips d)) (sym own.up ∙ sym up_is ∙ down))
+
+-- .. under the weak model where it is known to stand
+pub restores_weakly : {D : Type 0} {stands turns probes faults : D → ℕ} (h : Inside D) (s : OpenHub D) (d value : ℕ) (up : Bool) → open_of h ≡ s → is_device s.setting d ≡ true → up ≡ (lineage_at h.order.table d).up → up ≡ false → value ≡ (device_at s.devices d).held
+    → is_weak h.history.setting.mode ≡ true → IsWhole stands turns probes faults h → Some value ≡ restored (configuration_of s) d
+restores_weakly {D = D} h s d value up seen device up_is down value_is weak k =
+    subst (λ (x : OpenHub D). is_device x.setting d ≡ true → value ≡ (device_at x.devices d).held → Some value ≡ restored (configuration_of x) d) seen (λ there is. as_told (device_within h.history.setting d there) is) device value_is
+  where
+    as_told : d < length h.history.setting.first → value ≡ held_in (open_of h) d → Some value ≡ restored (configuration_of (open_of h)) d
+    as_told below is =
+        ap Some (is ∙ (k.shown.configuration.weakly weak).held_is d below ∙ sym (weak_standing (configuration_of (open_of h)) h.rounds h.opened (held_in (open_of h)) d (k.shown.configuration.weakly weak)))
+        ∙ sym (ap (λ b. if b then None else Some (standing_value h.history.setting (read_in h.history) (configuration_of (open_of h)).grips d)) (sym (counted_told h.history.setting (read_in h.history) (configuration_of (open_of h)).grips h.order.table d below k.order.table_is) ∙ sym up_is ∙ down))
 
 -- one that restores nothing is for a device that is counted up
 pub counted_then : (s : Configuration) (d : ℕ) (value : Option ℕ) → value ≡ restored s d → IsTrue (is_counted_up (Probe value)) → (read_of s).up d ≡ true
@@ -139,8 +152,8 @@ sent_whole {D = D} {stands = stands} {turns = turns} {probes = probes} {faults =
           (probe_goes h.history.setting (configuration_of (open_of h)).grips (configuration_of (open_of t)).grips d (Probes value) h.hands.items home gone_grips k.hands);
     })
   where
-    configuration : ConfigurationIsKept (configuration_of (gone (open_of h) d (ForProbe value) (left_of h d) grip.slip (Probe value) h.moment)) h.rounds h.opened (held_in (open_of h))
-    configuration = subst (λ (c : Configuration). ConfigurationIsKept c h.rounds h.opened (held_in (open_of h))) (sym (probe_configuration h t d value known grip out)) (take_probe_kept (configuration_of (open_of h)) h.rounds h.opened (held_in (open_of h)) d k.shown.configuration)
+    configuration : IsKeptByModel (configuration_of (gone (open_of h) d (ForProbe value) (left_of h d) grip.slip (Probe value) h.moment)) h.rounds h.opened (held_in (open_of h))
+    configuration = subst (λ (c : Configuration). IsKeptByModel c h.rounds h.opened (held_in (open_of h))) (sym (probe_configuration h t d value known grip out)) (probe_taken_kept (configuration_of (open_of h)) h.rounds h.opened (held_in (open_of h)) d k.shown.configuration)
 
     home : (configuration_of (open_of h)).grips d ≡ None
     home = home_is (configuration_of (open_of h)).grips d (may_parts (configuration_of (open_of h)) d out.may).home

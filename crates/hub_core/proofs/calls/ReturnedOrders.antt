@@ -1,4 +1,5 @@
 -- The line and the table of a hub, when a device comes home.
+use Rattle.hub_core.proofs.kept.TableFits.{either_model}
 use Rattle.command_rules.specs.Rosters.{command_at, commands_of, is_run, run_no}
 use Rattle.device_gate.specs.Calls.{has_died, value_after}
 use Rattle.device_gate.specs.Grips.{Gripped}
@@ -10,7 +11,7 @@ use Rattle.device_gate.specs.declared.slips.Task.{Task}
 use Rattle.history_book.proofs.Snoc.{each_at, entries_on, put_other}
 use Rattle.history_book.specs.Histories.{entries_of, entry, kept_by}
 use Rattle.history_book.specs.Readings.{Reading, is_doomed, is_fine, is_told, next_of, nothing_read, pends, put}
-use Rattle.history_book.specs.Settings.{Setting}
+use Rattle.history_book.specs.Settings.{Setting, is_weak}
 use Rattle.history_book.specs.WellFormed.{IsWellFormed, may_act, may_follow, suits}
 use Rattle.history_book.specs.declared.entries.Entry.TheVariants.{Did, Doomed, Undid}
 use Rattle.home_types.specs.Commands.{driven, reads, writes}
@@ -24,7 +25,7 @@ use Rattle.home_types.specs.declared.commands.View.{View}
 use Rattle.hub_core.proofs.calls.HubOrders.{read_whole}
 use Rattle.hub_core.proofs.calls.HubChanges.{answer_entries}
 use Rattle.hub_core.proofs.calls.HubReturns.{IsAnswered, IsForCommand, IsHomeAgain, IsReturned, answered_back, came_whole, for_command, returned_for, undone_back}
-use Rattle.hub_core.proofs.kept.OrderSteps.{ToldOf, done_after, last_follows, may_note, none_out, order_answered, order_doomed_if, order_undone, read_more}
+use Rattle.hub_core.proofs.kept.OrderSteps.{done_after, last_follows, may_note, none_out, order_answered, order_answered_weakly, order_doomed_if, order_undone, read_more}
 use Rattle.hub_core.specs.HubsKept.{IsWhole, open_of}
 use Rattle.hub_core.specs.KeptOrders.{MayNote, OrderIsBeside, is_first, noted_first}
 use Rattle.hub_core.specs.OpenHubs.{configuration_of, device_at, held_in}
@@ -46,9 +47,7 @@ use Rattle.history_book.specs.declared.entries.Cause.{Cause}
 use Rattle.history_book.specs.declared.entries.Entry.{Entry}
 use Rattle.lock_leasing.specs.Places.{GripsFit}
 use Rattle.std.proofs.lemmas.List.{append_assoc}
-use Rattle.window_order.proofs.ReadFacts.{IsRead}
 use Rattle.window_order.proofs.Steps.{home_fits}
-use Rattle.window_order.specs.OrderKept.{OrderIsKept}
 
 -- What the answer tells
 
@@ -81,15 +80,15 @@ first_follows h h₁ h₂ r e cause one two formed =
 -- The device that came home
 
 -- what the table asks for
-pub record MayTell (table : List LineageState) (sl : Slip) : Type 0 where
+pub record MayTell (w : Setting) (table : List LineageState) (sl : Slip) : Type 0 where
   pub device : sl.device.0 < length table
-  pub turn : MayNote sl.maker (lineage_at table sl.device.0)
+  pub turn : is_weak w.mode ≡ false → MayNote sl.maker (lineage_at table sl.device.0)
 
-pub may_tell : {D : Type 0} {stands turns probes faults : D → ℕ} (h : Inside D) (k tag : ℕ) (grip : Gripped D Done) (slip : Slip) → IsReturned stands turns probes faults h (ForCommand k) tag grip → slip ≡ grip.slip → IsWhole stands turns probes faults h → MayTell h.order.table slip
+pub may_tell : {D : Type 0} {stands turns probes faults : D → ℕ} (h : Inside D) (k tag : ℕ) (grip : Gripped D Done) (slip : Slip) → IsReturned stands turns probes faults h (ForCommand k) tag grip → slip ≡ grip.slip → IsWhole stands turns probes faults h → MayTell h.history.setting h.order.table slip
 may_tell h k tag grip slip returned same whole =
-    subst (MayTell h.order.table) (sym same) (record {
+    subst (MayTell h.history.setting h.order.table) (sym same) (record {
       device = let size : length h.order.table ≡ length h.history.setting.first = whole.order.table_is.devices in omega (arith, within, size);
-      turn = (may_note h.history.setting (read_in h.history) (configuration_of (open_of h)).grips (held_in (open_of h)) grip.slip.device.0 grip.slip.maker k h.order.table (read_whole h whole) whole.shown.configuration.order for.grip within whole.order.table_is).1;
+      turn = λ strong. (may_note h.history.setting (read_in h.history) (configuration_of (open_of h)).grips (held_in (open_of h)) grip.slip.device.0 grip.slip.maker k h.order.table (read_whole h whole) (whole.shown.configuration.ordered strong).order for.grip within (whole.order.table_is.ordered strong)).1;
     })
   where
     for : IsForCommand (open_of h) grip.slip grip.task k
@@ -98,15 +97,14 @@ may_tell h k tag grip slip returned same whole =
     within : grip.slip.device.0 < length h.history.setting.first
     within = let there : grip.slip.device.0 < length h.gate.places = slice_get_within h.gate.places grip.slip.device.0 (Out grip.slip grip.task) returned.there in let size : length h.gate.places ≡ length h.history.setting.first = whole.shown.places_size in omega (arith, there, size)
 
--- line and table when a command is answered, and its run is then doomed where there is a cause
-order_told : {rounds : ℕ} (h h₁ h₂ : HistoryState) (g f : Grips) (held : ℕ → ℕ) (d r k : ℕ) (a : Answer) (cause : Option Cause) (view : View) (wrote : Option ℕ) (last : Bool) (line mid after : Marked) (table between later : List LineageState)
-    → IsRead h.setting (read_in h) → OrderIsKept h.setting (read_in h) g held → is_run h.setting.runs r ≡ true → g d ≡ Some (record { maker = r; purpose = Commands k }) → d < length h.setting.first
-    → h₁ ≡ with_entry h r (Did (run_no r) k a) → h₂ ≡ with_doom h₁ r cause → IsWellFormed h₂.setting (entries_of h₂.history) → f ≡ put g d None → ToldOf h.setting (read_in h) r k a view wrote last
-    → mid ≡ line → between ≡ with_lineage table d (noted_first r (is_first r (lineage_at table d)) view wrote last) → after ≡ mid → (cause ≡ None → later ≡ between) → (IsSome cause → ChangesEach (λ d. doomed_lineage r) between later)
-    → OrderIsBeside rounds h g line table → OrderIsBeside rounds h₂ f after later
-order_told {rounds = rounds} h h₁ h₂ g f held d r k a cause view wrote last line mid after table between later read order run at below one two formed home told same noted kept unchanged changed beside =
-    order_doomed_if h₁ h₂ f r cause mid after between later fit none two formed kept unchanged changed
-    (order_answered h h₁ g f held d r k a view wrote last line mid table between read order at below one home told same noted beside)
+-- line and table when a command was answered, and its run is then doomed where there is a cause
+order_told : {rounds : ℕ} (h h₁ h₂ : HistoryState) (g f : Grips) (d r k : ℕ) (a : Answer) (cause : Option Cause) (mid after : Marked) (between later : List LineageState)
+    → GripsFit h.setting (read_in h) g → is_run h.setting.runs r ≡ true → g d ≡ Some (record { maker = r; purpose = Commands k })
+    → h₁ ≡ with_entry h r (Did (run_no r) k a) → h₂ ≡ with_doom h₁ r cause → IsWellFormed h₂.setting (entries_of h₂.history) → f ≡ put g d None
+    → after ≡ mid → (cause ≡ None → later ≡ between) → (IsSome cause → ChangesEach (λ d. doomed_lineage r) between later)
+    → OrderIsBeside rounds h₁ f mid between → OrderIsBeside rounds h₂ f after later
+order_told {rounds = rounds} h h₁ h₂ g f d r k a cause mid after between later fits run at one two formed home kept unchanged changed beside =
+    order_doomed_if h₁ h₂ f r cause mid after between later fit none two formed kept unchanged changed beside
   where
     did : Entry
     did = Did (run_no r) k a
@@ -116,10 +114,10 @@ order_told {rounds = rounds} h h₁ h₂ g f held d r k a cause view wrote last 
 
     fit : GripsFit h₁.setting (read_in h₁) f
     fit = subst (λ w. GripsFit w (read_in h₁) f) (sym reads.0) (subst (λ n. GripsFit h.setting n f) (sym reads.1) (subst (GripsFit h.setting (entry h.setting (read_in h) did)) (sym home)
-        (home_fits h.setting (read_in h) (entry h.setting (read_in h) did) g d r (Commands k) (λ q ne. put_other (read_in h).run r _ q ne) run at order.grips)))
+        (home_fits h.setting (read_in h) (entry h.setting (read_in h) did) g d r (Commands k) (λ q ne. put_other (read_in h).run r _ q ne) run at fits)))
 
     none : (e : ℕ) → grips_command f r e ≡ false
-    none e = ap (λ x. grips_command x r e) home ∙ none_out h.setting (read_in h) g d r (Commands k) run at order.grips e
+    none e = ap (λ x. grips_command x r e) home ∙ none_out h.setting (read_in h) g d r (Commands k) run at fits e
 
 -- what line and table note of a command that came back: what it tells of its device, and then the doom of its run where there is a cause
 pub record IsNoted {D : Type 0} (h t : Inside D) (value : ℕ) (slip : Slip) (a : Answer) (cause : Option Cause) (mid : HistoryState) (view : View) (wrote : Option ℕ) (last : Bool) (between : KeptOrder) : Type 0 where
@@ -127,7 +125,8 @@ pub record IsNoted {D : Type 0} (h t : Inside D) (value : ℕ) (slip : Slip) (a 
   pub wrote_is : wrote ≡ (if is_fine a then Some value else None)
   pub last_is : last ≡ (is_doomed (read_in mid) slip.maker || not (pends mid.setting (read_in mid) slip.maker slip.device.0))
   pub line : between.line ≡ h.order.line
-  pub table : between.table ≡ with_lineage h.order.table slip.device.0 (noted_first slip.maker (is_first slip.maker (lineage_at h.order.table slip.device.0)) view wrote last)
+  pub table : is_weak h.history.setting.mode ≡ false → between.table ≡ with_lineage h.order.table slip.device.0 (noted_first slip.maker (is_first slip.maker (lineage_at h.order.table slip.device.0)) view wrote last)
+  pub same_table : is_weak h.history.setting.mode ≡ true → between.table ≡ h.order.table
   pub line_after : t.order.line ≡ between.line
   pub unchanged : cause ≡ None → t.order.table ≡ between.table
   pub changed : IsSome cause → ChangesEach (λ d. doomed_lineage slip.maker) between.table t.order.table
@@ -137,13 +136,17 @@ order_came : {D : Type 0} {stands turns probes faults : D → ℕ} (h t : Inside
     → IsReturned stands turns probes faults h (ForCommand k) tag grip → IsHomeAgain h t m value events grip → IsAnswered h grip k slip a cause mid t.history → IsNoted h t value slip a cause mid view wrote last between
     → IsWellFormed t.history.setting (entries_of t.history.history) → (configuration_of (open_of t)).grips ≡ put (configuration_of (open_of h)).grips grip.slip.device.0 None → IsWhole stands turns probes faults h → OrderIsBeside h.rounds t.history (configuration_of (open_of t)).grips t.order.line t.order.table
 order_came {D = D} h t m value k tag events grip slip a cause mid view wrote last between returned home answered noted formed gripped whole =
-    order_told h.history mid t.history (configuration_of (open_of h)).grips (configuration_of (open_of t)).grips (held_in (open_of h)) d r k a cause view wrote last h.order.line between.line t.order.line h.order.table between.table t.order.table
-    (read_whole h whole) whole.shown.configuration.order for.run for.grip below new doomed formed gripped (record {
+    order_told h.history mid t.history (configuration_of (open_of h)).grips (configuration_of (open_of t)).grips d r k a cause between.line t.order.line between.table t.order.table
+    whole.shown.configuration.grips for.run for.grip new doomed formed gripped noted.line_after noted.unchanged
+    (λ some. subst (λ (z : Slip). ChangesEach (λ e. doomed_lineage z.maker) between.table t.order.table) answered.same (noted.changed some))
+    (either_model (OrderIsBeside h.rounds mid (configuration_of (open_of t)).grips between.line between.table) w
+    (λ weak. order_answered_weakly h.history mid (configuration_of (open_of h)).grips (configuration_of (open_of t)).grips d r k a h.order.line between.line h.order.table between.table weak whole.shown.configuration.grips for.grip new gripped noted.line (noted.same_table weak) whole.order)
+    (λ strong. order_answered h.history mid (configuration_of (open_of h)).grips (configuration_of (open_of t)).grips (held_in (open_of h)) d r k a view wrote last h.order.line between.line h.order.table between.table
+    (read_whole h whole) strong (whole.shown.configuration.ordered strong).order for.grip below new gripped (record {
       view_is = noted.view_is;
-      wrote_is = noted.wrote_is ∙ wrote_is w n r (command_at w.runs r k) a grip.task value (device_at h.devices.items d).held suited for.does home.value_is;
+      wrote_is = noted.wrote_is ∙ wrote_is w n r (command_at w.runs r k) a grip.task value (device_at h.devices.items d).held suited for.does (home.value_is ∙ ap (λ b. if b then (device_at h.devices.items d).held else value_after grip.task (device_at h.devices.items d).held) answered.lives);
       last_is = noted.last_is ∙ (λ i. is_doomed (read_in (new i)) (answered.same i).maker || not (pends (new i).setting (read_in (new i)) (answered.same i).maker (answered.same i).device.0)) ∙ ap (λ x. is_doomed x r || not (pends w x r d)) (read_more w h.history.history r (Did (run_no r) k a)) ∙ done_after w n r k a d for.next for.on;
-    }) noted.line (subst (λ (z : Slip). between.table ≡ with_lineage h.order.table z.device.0 (noted_first z.maker (is_first z.maker (lineage_at h.order.table z.device.0)) view wrote last)) answered.same noted.table) noted.line_after noted.unchanged
-    (λ some. subst (λ (z : Slip). ChangesEach (λ e. doomed_lineage z.maker) between.table t.order.table) answered.same (noted.changed some)) whole.order
+    }) noted.line (subst (λ (z : Slip). between.table ≡ with_lineage h.order.table z.device.0 (noted_first z.maker (is_first z.maker (lineage_at h.order.table z.device.0)) view wrote last)) answered.same (noted.table strong)) whole.order))
   where
     w : Setting
     w = h.history.setting

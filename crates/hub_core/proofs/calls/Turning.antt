@@ -1,4 +1,5 @@
 -- A device that fails or comes back as it comes home: it may, and line and history have room for it.
+use Rattle.hub_core.proofs.kept.TableFits.{counted_told, no_detector}
 use Rattle.device_gate.specs.declared.slips.Slip.{Slip}
 use Rattle.device_gate.specs.declared.slips.Task.{Task}
 use Rattle.history_book.proofs.Snoc.{each_at, entries_on}
@@ -13,7 +14,7 @@ use Rattle.home_types.specs.declared.items.Item.TheVariants.{Back, Failed}
 use Rattle.home_types.specs.declared.numbers.DeviceNo.{DeviceNo}
 use Rattle.hub_core.proofs.calls.Homecomings.{ComesBack, after_back, back_places}
 use Rattle.hub_core.proofs.calls.HubOrders.{read_whole}
-use Rattle.hub_core.proofs.kept.EventsTold.{line_size, none_of_detector}
+use Rattle.hub_core.proofs.kept.EventsTold.{line_size}
 use Rattle.hub_core.proofs.kept.OrderSteps.{length_with}
 use Rattle.hub_core.proofs.kept.Sizes.{few_events, line_fits}
 use Rattle.hub_core.proofs.steps.Afters.{read_with}
@@ -25,7 +26,6 @@ use Rattle.hub_core.specs.ReadHistories.{read_in}
 use Rattle.hub_core.specs.declared.open_windows.OpenWindow.TheInside.{Inside}
 use Rattle.hub_core.specs.declared.known.Events.{Events}
 use Rattle.history_book.specs.Readings.{put}
-use Rattle.lineage_table.specs.Lineages.{lineage_at}
 use Rattle.lock_leasing.specs.Configurations.{Grips, read_of}
 use Rattle.serial_line.specs.Marks.{Mark, stands as stands_item}
 use Rattle.std.proofs.Common.{ap, arith, subst, sym, ◌∙◌}
@@ -68,12 +68,11 @@ turn_room h slip task e es device v events t tells longer k = (
 pub may_fall : {D : Type 0} {stands turns probes faults : D → ℕ} (h : Inside D) (slip : Slip) (task : Task) (d : DeviceNo) (es : List Entry) (device : D) (v : ℕ) (events : Events) (t number : ℕ) → TellsTurn stands turns probes faults h slip task (Fell d) es device v events t → d.0 < length h.history.setting.first
     → number ≡ (read_in h.history).fell d.0 + 1 → IsWhole stands turns probes faults h → MayTurn true (Failed d number) h.history.spare d h.order.line h.order.table
 may_fall h slip task d es device v events t number tells below number_is k =
-    let own = k.order.table_is.each d.0 below in
     let room = turn_room h slip task (Fell d) es device v events t tells (fell_line h.history.setting (read_in h.history) (configuration_of (open_of h)).grips d h.order.line.marks k.order.line_is) k in
     record {
       device = let size : length h.order.table ≡ length h.history.setting.first = k.order.table_is.devices in omega (arith, below, size);
-      runs = none_of_detector h.history.setting (read_in h.history) (configuration_of (open_of h)).grips d.0 (lineage_at h.order.table d.0) (read_whole h k) own;
-      counted = own.up ∙ (let may : may_follow h.history.setting (read_in h.history) (Fell d) ≡ true = first_may h.history.setting h.history.history slip.maker (Fell d) es tells.comes.configuration.history.well_formed in grind (arith, common_steps));
+      runs = no_detector h.history.setting (read_in h.history) (configuration_of (open_of h)).grips h.order.table d.0 (read_whole h k) below k.order.table_is;
+      counted = counted_told h.history.setting (read_in h.history) (configuration_of (open_of h)).grips h.order.table d.0 below k.order.table_is ∙ (let may : may_follow h.history.setting (read_in h.history) (Fell d) ≡ true = first_may h.history.setting h.history.history slip.maker (Fell d) es tells.comes.configuration.history.well_formed in grind (arith, common_steps));
       place = room.0;
       absent = (λ i. stands_in (number_is i)) ∙ failure_absent h.history.setting (read_in h.history) (configuration_of (open_of h)).grips d h.order.line.marks (read_whole h k) k.order.line_is;
       entry = room.1;
@@ -86,12 +85,11 @@ may_fall h slip task d es device v events t number tells below number_is k =
 pub may_rise : {D : Type 0} {stands turns probes faults : D → ℕ} (h : Inside D) (slip : Slip) (task : Task) (d : DeviceNo) (es : List Entry) (device : D) (v : ℕ) (events : Events) (t number : ℕ) → TellsTurn stands turns probes faults h slip task (Rose d) es device v events t → d.0 < length h.history.setting.first
     → number ≡ (read_in h.history).rose d.0 + 1 → IsWhole stands turns probes faults h → MayTurn false (Back d number) h.history.spare d h.order.line h.order.table
 may_rise h slip task d es device v events t number tells below number_is k =
-    let own = k.order.table_is.each d.0 below in
     let room = turn_room h slip task (Rose d) es device v events t tells (rose_line h.history.setting (read_in h.history) (configuration_of (open_of h)).grips d h.order.line.marks k.order.line_is) k in
     record {
       device = let size : length h.order.table ≡ length h.history.setting.first = k.order.table_is.devices in omega (arith, below, size);
-      runs = none_of_detector h.history.setting (read_in h.history) (configuration_of (open_of h)).grips d.0 (lineage_at h.order.table d.0) (read_whole h k) own;
-      counted = own.up ∙ (let may : may_follow h.history.setting (read_in h.history) (Rose d) ≡ true = first_may h.history.setting h.history.history slip.maker (Rose d) es tells.comes.configuration.history.well_formed in grind (arith, common_steps));
+      runs = no_detector h.history.setting (read_in h.history) (configuration_of (open_of h)).grips h.order.table d.0 (read_whole h k) below k.order.table_is;
+      counted = counted_told h.history.setting (read_in h.history) (configuration_of (open_of h)).grips h.order.table d.0 below k.order.table_is ∙ (let may : may_follow h.history.setting (read_in h.history) (Rose d) ≡ true = first_may h.history.setting h.history.history slip.maker (Rose d) es tells.comes.configuration.history.well_formed in grind (arith, common_steps));
       place = room.0;
       absent = (λ i. stands_in (number_is i)) ∙ restart_absent h.history.setting (read_in h.history) (configuration_of (open_of h)).grips d h.order.line.marks (read_whole h k) k.order.line_is;
       entry = room.1;

@@ -9,24 +9,7 @@ use Rattle.std.proofs.lemmas.Option.{unwrap_or-slice_get}
 use Rattle.std.specs.Int.{bit_not, w64}
 use Rattle.std.specs.Prelude.{List, None, Option, Some, bit_and, bit_or, false, length, not, slice_get, slice_index_or, slice_set, true, unwrap_or, ℕ, ◌&&◌, ◌<◌, ◌==◌, ◌^◌, ◌||◌, ◌≡◌, ◌≢◌, ◌⊎◌}
 
--- a run that is left after two steps was left after the first
-pub left_then : {P Q : ℕ → Type 0} (a b c : BlockedState) → AreLeft a b P → AreLeft b c Q → AreLeft a c (λ d. P d × Q d)
-left_then a b c first next = record {
-  marked = λ r after. first.marked r (next.marked r after);
-  there = λ r d after before.
-      let held = first.there r d (next.marked r after) before in
-      let still = next.there r d after held.1 in
-      ((held.0, still.0), still.1);
-}
-
--- .. where none is left, this holds of the device of each that is
-pub none_left : {P : ℕ → Type 0} (b after : BlockedState) → NoneMarked after → AreLeft b after P
-none_left b after none = record {
-  marked = λ r marked. absurd (let no : false ≡ true = sym (none r) ∙ marked in cc);
-  there = λ r d marked before. absurd (let no : false ≡ true = sym (none r) ∙ marked in cc);
-}
-
--- .. and where nothing changes, what holds of every device
+-- where nothing changes, a run is left where this holds of every device
 pub all_left : {P : ℕ → Type 0} (b : BlockedState) → ((d : ℕ) → P d) → AreLeft b b P
 all_left b every = record { marked = λ r marked. marked; there = λ r d marked before. (every d, before) }
 

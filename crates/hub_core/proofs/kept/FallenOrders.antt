@@ -1,9 +1,16 @@
 -- A device fails, and line and table are kept: where its failure stands, and with the entry that comes behind it.
+use Rattle.window_order.proofs.EventPlaces.{awaits_there}
+use Rattle.lock_leasing.specs.Words.{live_runs}
+use Rattle.lineage_table.specs.Accesses.{is_scheduled, status_of}
+use Rattle.lineage_table.specs.declared.accesses.Access.{Access}
+use Rattle.lock_leasing.specs.Places.{GripsFit}
+use Rattle.window_order.proofs.Grips.{fits_same}
+use Rattle.hub_core.proofs.kept.ProbeSteps.{order_fell}
 use Rattle.command_rules.specs.Rosters.{command_at, run_no}
 use Rattle.failure_serialization.proofs.ToldByTable.{died_waits}
 use Rattle.failure_serialization.specs.Events.{event_place, place_or_end}
 use Rattle.history_book.specs.Histories.{entries_of, entry}
-use Rattle.history_book.specs.Readings.{Reading, did, put}
+use Rattle.history_book.specs.Readings.{Reading, did, is_open, put}
 use Rattle.history_book.specs.Settings.{Setting, is_device, is_weak}
 use Rattle.history_book.specs.WellFormed.{IsWellFormed}
 use Rattle.history_book.specs.declared.entries.Entry.TheVariants.{Did, Fell, Undid}
@@ -12,8 +19,8 @@ use Rattle.home_types.specs.declared.commands.Answer.TheVariants.{Down}
 use Rattle.home_types.specs.declared.commands.View.TheVariants.{Down as ViewedDown}
 use Rattle.home_types.specs.declared.items.Item.TheVariants.{Failed}
 use Rattle.home_types.specs.declared.numbers.DeviceNo.{DeviceNo}
-use Rattle.hub_core.proofs.kept.EventsTold.{event_told, sound_is}
-use Rattle.hub_core.proofs.kept.OrderSteps.{entry_kept, length_with, may_note, read_more}
+use Rattle.hub_core.proofs.kept.EventsTold.{event_told, line_size, sound_is}
+use Rattle.hub_core.proofs.kept.OrderSteps.{entry_kept, length_with, may_note, order_answered_weakly, read_more}
 use Rattle.hub_core.specs.KeptOrders.{HasFallen, IsOrderOf, MayNote, OrderIsBeside, is_first, noted_first}
 use Rattle.hub_core.specs.ReadHistories.{HistoryState, read_in, with_entry}
 use Rattle.lineage_table.specs.Lineages.{LineageState, accesses_at, counted_up, lineage_at, with_lineage}
@@ -22,12 +29,13 @@ use Rattle.lock_leasing.specs.Configurations.{Commands, Grips, Undoes}
 use Rattle.serial_line.specs.Marks.{Mark, Marked, with_item}
 use Rattle.std.proofs.Common.{ap, arith, refl, subst, sym, ◌∙◌}
 use Rattle.std.proofs.lemmas.Grind.{common_steps}
-use Rattle.std.specs.Prelude.{Bool, List, None, Some, false, if◌then◌else◌, length, not, true, ℕ, ◌+◌, ◌<◌, ◌==◌, ◌≡◌}
+use Rattle.std.specs.Prelude.{Bool, List, None, Some, [], false, find, if◌then◌else◌, length, not, option_map, true, unwrap_or, ℕ, ◌&&◌, ◌+◌, ◌<◌, ◌==◌, ◌∷◌, ◌≡◌}
 use Rattle.window_order.proofs.ReadFacts.{IsRead}
 use Rattle.window_order.proofs.Steps.{IsOut, out_is}
 use Rattle.window_order.proofs.TableSteps.{changes_one}
 use Rattle.window_order.proofs.TouchedLines.{marks_undo_home, marks_undone}
-use Rattle.window_order.proofs.TurnedLines.{event_place_of, marks_died, marks_fell}
+use Rattle.hub_core.proofs.kept.TableFits.{fits_ordered}
+use Rattle.window_order.proofs.TurnedLines.{event_last, event_place_of, marks_died, marks_fell}
 use Rattle.window_order.proofs.TurnedTables.{died_table, undo_died_table}
 use Rattle.window_order.specs.MarksKept.{MarksAreKept}
 use Rattle.window_order.specs.OrderKept.{OrderIsKept}
@@ -66,7 +74,7 @@ order_died {rounds = rounds} h h₁ h₂ g f held d r k number first last line f
     (subst (λ m. IsOrderOf rounds w (entry w m (Did (run_no r) k Down)) f after later) (sym (read_more w h.history r (Fell d)))
     (subst (λ (x : Grips). IsOrderOf rounds w (entry w (entry w n (Fell d)) (Did (run_no r) k Down)) x after later) (sym home)
     (subst (λ (x : Marked). IsOrderOf rounds w (entry w (entry w n (Fell d)) (Did (run_no r) k Down)) (put g d.0 None) x later) (sym same) (record {
-      table_is = died_table w n g held d.0 r k d Down table later read order at changes kept.table_is;
+      table_is = fits_ordered w _ _ later strong (died_table w n g held d.0 r k d Down table later read order at changes (kept.table_is.ordered strong));
       line_is = subst (MarksAreKept (entry w (entry w n (Fell d)) (Did (run_no r) k Down)) (put g d.0 None)) (sym (fell.marks ∙ (λ i. with_item (place i) (Failed d (number_is i)) line.marks))) (marks_died w n g d.0 r k d Down line.marks out at kept.line_is);
       room = let size = ap (λ (x : List Mark). length x) fell.marks ∙ length_with (event_place h.history (if first then Some (run_no r) else None) (accesses_at table d.0) line.marks) (Failed d number) line.marks in omega (arith, size, fell.spare, kept.room);
     })))))
@@ -81,10 +89,10 @@ order_died {rounds = rounds} h h₁ h₂ g f held d r k number first last line f
     out = out_is w n g d.0 r k order.grips at
 
     own : LineageIsKept w n g d.0 (lineage_at table d.0)
-    own = kept.table_is.each d.0 below
+    own = (kept.table_is.ordered strong).each d.0 below
 
     turn : (is_first r (lineage_at table d.0) ≡ not (did n r d.0)) × MayNote r (lineage_at table d.0)
-    turn = may_note w n g held d.0 r k table read order at below kept.table_is
+    turn = may_note w n g held d.0 r k table read order at below (kept.table_is.ordered strong)
 
     place : event_place h.history (if first then Some (run_no r) else None) (accesses_at table d.0) line.marks ≡ event_place_of w n d.0
     place = ap (λ b. event_place h.history (if b then Some (run_no r) else None) (accesses_at table d.0) line.marks) first_is ∙ first_died h.history r (lineage_at table d.0) line.marks turn.1
@@ -121,6 +129,46 @@ order_died {rounds = rounds} h h₁ h₂ g f held d r k number first last line f
           ∙ (λ i. if e == d.0 then counted_up false (if e == out.device i then answered_lineage w n r k Down (lineage_at table e) else lineage_at table e) else (if e == out.device i then answered_lineage w n r k Down (lineage_at table e) else lineage_at table e));
     }
 
+-- Under the weak model
+
+all_false : {A : Type 0} (p : A → Bool) (xs : List A) → ((x : A) → p x ≡ false) → find p xs ≡ None
+all_false p [] none = refl
+all_false p (x ∷ xs) none = rw (none x) (all_false p xs none)
+
+-- an event comes last, as the table tells that has no access
+pub weak_place : (w : Setting) (n : Reading) (g : Grips) (d : ℕ) (h : List Kept) (accesses : List Access) (marks : List Mark) → is_weak w.mode ≡ true → accesses ≡ [] → MarksAreKept n g marks → event_place h None accesses marks ≡ event_place_of w n d
+weak_place w n g d h accesses marks weak none lines =
+    ap (λ xs. event_place h None xs marks) none ∙ line_size n g marks lines
+    ∙ sym (event_last w n d (all_false (awaits_there w n d) (live_runs n n.line) (λ r. ap (λ b. not b && is_open w n r d && not (did n r d)) weak)))
+
+-- a command is answered Down whose device died
+pub order_died_weakly : {rounds : ℕ} (h h₁ h₂ : HistoryState) (g f : Grips) (d : DeviceNo) (r k number : ℕ) (first : Bool) (line fallen after : Marked) (table between later : List LineageState)
+    → is_weak h.setting.mode ≡ true → GripsFit h.setting (read_in h) g → g d.0 ≡ Some (record { maker = r; purpose = Commands k }) → d.0 < length h.setting.first
+    → h₁ ≡ with_entry h r (Fell d) → h₂ ≡ with_entry h₁ r (Did (run_no r) k Down) → f ≡ put g d.0 None
+    → number ≡ (read_in h).fell d.0 + 1 → first ≡ is_first r (lineage_at table d.0) → HasFallen h d (if first then Some (run_no r) else None) number line fallen table between
+    → after ≡ fallen → later ≡ between → OrderIsBeside rounds h g line table → OrderIsBeside rounds h₂ f after later
+order_died_weakly {rounds = rounds} h h₁ h₂ g f d r k number first line fallen after table between later weak fit at below one two home number_is first_is fell same still kept =
+    order_answered_weakly h₁ h₂ g f d.0 r k Down fallen after between later (ap (λ (x : HistoryState). is_weak x.setting.mode) one ∙ weak) fit_then at two home same still
+    (order_fell h h₁ g r d.0 number (event_place h.history (if first then Some (run_no r) else None) (accesses_at table d.0) line.marks) line fallen table between (subst (λ x. d.0 < x) (sym kept.table_is.devices) below) one place number_is fell.marks fell.spare fell.counted kept)
+  where
+    w : Setting
+    w = h.setting
+
+    n : Reading
+    n = read_in h
+
+    bare : accesses_at table d.0 ≡ []
+    bare = (kept.table_is.weakly weak d.0 below).accesses
+
+    not_first : first ≡ false
+    not_first = first_is ∙ ap (λ xs. unwrap_or (option_map is_scheduled (status_of r xs)) false) bare
+
+    place : event_place h.history (if first then Some (run_no r) else None) (accesses_at table d.0) line.marks ≡ event_place_of w n d.0
+    place = ap (λ b. event_place h.history (if b then Some (run_no r) else None) (accesses_at table d.0) line.marks) not_first ∙ weak_place w n g d.0 h.history (accesses_at table d.0) line.marks weak bare kept.line_is
+
+    fit_then : GripsFit h₁.setting (read_in h₁) g
+    fit_then = subst (λ (x : HistoryState). GripsFit x.setting (read_in x) g) (sym one) (subst (λ m. GripsFit w m g) (sym (read_more w h.history r (Fell d))) (fits_same w n (entry w n (Fell d)) g (λ q e j. refl) (λ q e. refl) fit))
+
 -- a write is dropped that was to be undone on a device which died
 pub order_undo_died : {rounds : ℕ} (h h₁ h₂ : HistoryState) (g f : Grips) (held : ℕ → ℕ) (d : DeviceNo) (r v number : ℕ) (line after : Marked) (table later : List LineageState)
     → IsRead h.setting (read_in h) → is_weak h.setting.mode ≡ false → OrderIsKept h.setting (read_in h) g held → IsWellFormed h.setting (entries_of h.history) → is_device h.setting d.0 ≡ true → g d.0 ≡ Some (record { maker = r; purpose = Undoes v }) → d.0 < length h.setting.first
@@ -131,7 +179,7 @@ order_undo_died {rounds = rounds} h h₁ h₂ g f held d r v number line after t
     (subst (λ (x : HistoryState). IsOrderOf rounds x.setting (entry x.setting (read_in x) (Undid (run_no r) d false)) f after later) (sym one)
     (subst (λ m. IsOrderOf rounds w (entry w m (Undid (run_no r) d false)) f after later) (sym (read_more w h.history r (Fell d)))
     (subst (λ (x : Grips). IsOrderOf rounds w (entry w (entry w n (Fell d)) (Undid (run_no r) d false)) x after later) (sym home) (record {
-      table_is = undo_died_table w n g d.0 r v false table later at counted kept.table_is;
+      table_is = fits_ordered w _ _ later strong (undo_died_table w n g d.0 r v false table later at counted (kept.table_is.ordered strong));
       line_is = subst (MarksAreKept (entry w (entry w n (Fell d)) (Undid (run_no r) d false)) (put g d.0 None)) (sym (fell.marks ∙ (λ i. with_item (place i) (Failed d (number_is i)) line.marks)))
           (marks_undone w (entry w n (Fell d)) (put g d.0 None) r d.0 false _ (marks_undo_home (entry w n (Fell d)) g r d.0 v _ at (marks_fell w n g d line.marks kept.line_is)));
       room = let size = ap (λ (x : List Mark). length x) fell.marks ∙ length_with (event_place h.history None (accesses_at table d.0) line.marks) (Failed d number) line.marks in omega (arith, size, fell.spare, kept.room);
@@ -144,7 +192,7 @@ order_undo_died {rounds = rounds} h h₁ h₂ g f held d r v number line after t
     n = read_in h
 
     place : event_place h.history None (accesses_at table d.0) line.marks ≡ event_place_of w n d.0
-    place = event_told w n g held d.0 h.history (lineage_at table d.0) line.marks read strong device order (kept.table_is.each d.0 below) kept.line_is (λ q. sound_is w h.history q formed)
+    place = event_told w n g held d.0 h.history (lineage_at table d.0) line.marks read strong device order ((kept.table_is.ordered strong).each d.0 below) kept.line_is (λ q. sound_is w h.history q formed)
 
     counted : ChangesEach (turned_change d.0 false) table later
     counted = subst (ChangesEach (turned_change d.0 false) table) (sym fell.counted) (changes_one table d.0 (counted_up false) (subst (λ x. d.0 < x) (sym kept.table_is.devices) below))

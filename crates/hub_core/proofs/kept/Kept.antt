@@ -85,6 +85,7 @@ pub kept_after : (s : Configuration) (rounds opened : ℕ) (held after : ℕ →
 kept_after s rounds opened held after h m g history fewer undos order kept =
     record {
       opens = kept.opens;
+      strong = kept.strong;
       stage = kept.stage;
       kinds = kept.kinds;
       probes = λ d. omega (arith, fewer d, kept.probes d);
@@ -143,7 +144,7 @@ pub out_less : (g : Grips) (test : ℕ → Grip → Bool) (d : ℕ) → EachOut 
 out_less g test d all e p at = all e p (less_one g d e p at)
 
 -- a run that is not live has no grip
-gripless : (w : Setting) (n : Reading) (g : Grips) (r d : ℕ) → GripsFit w n g → is_run w.runs r ≡ true → is_live n r ≡ false → has_grip g r d ≡ false
+pub gripless : (w : Setting) (n : Reading) (g : Grips) (r d : ℕ) → GripsFit w n g → is_run w.runs r ≡ true → is_live n r ≡ false → has_grip g r d ≡ false
 gripless w n g r d fit run gone = by_grip (g d) refl
   where
     not_live : is_live n r ≡ true → ⊥
@@ -323,11 +324,12 @@ take_kept s rounds opened held r m kept =
 
 -- The start
 
-pub starts : (w : Setting) (rounds opened' : ℕ) → MayOpen w rounds opened' → StageAllows w rounds → length w.kinds ≡ length w.first → ((d : ℕ) → d < length w.first → IsTrue (has_value (kind_at w.kinds d) (stand_at w.first d).value))
+pub starts : (w : Setting) (rounds opened' : ℕ) → MayOpen w rounds opened' → is_weak w.mode ≡ false → StageAllows w rounds → length w.kinds ≡ length w.first → ((d : ℕ) → d < length w.first → IsTrue (has_value (kind_at w.kinds d) (stand_at w.first d).value))
     → ConfigurationIsKept (opened w rounds) rounds opened' (λ d. (stand_at w.first d).value)
-starts w rounds opened' opens stage kinds values =
+starts w rounds opened' opens strong stage kinds values =
     record {
       opens = opens;
+      strong = strong;
       stage = stage;
       kinds = kinds;
       probes = λ d. few (is_device w d);

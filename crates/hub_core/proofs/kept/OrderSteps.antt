@@ -7,7 +7,7 @@ use Rattle.history_book.proofs.Standing.{stands_in}
 use Rattle.history_book.proofs.Snoc.{along_on, each_at, entries_on, put_same, reading_more}
 use Rattle.history_book.specs.Histories.{entries_of, entry, kept_by, reading}
 use Rattle.history_book.specs.Readings.{OfRun, Reading, did, is_doomed, next_of, nothing_read, pends, put}
-use Rattle.history_book.specs.Settings.{Setting}
+use Rattle.history_book.specs.Settings.{Setting, is_weak}
 use Rattle.history_book.specs.WellFormed.{IsWellFormed, along, cause_fits, is_well_formed, may_act, may_follow}
 use Rattle.history_book.specs.declared.entries.End.TheVariants.{Aborted, Committed}
 use Rattle.history_book.specs.declared.entries.Entry.TheVariants.{Arrived, Did, Doomed, Ended, Placed, Undid}
@@ -23,7 +23,7 @@ use Rattle.home_types.specs.declared.items.Item.{Item}
 use Rattle.home_types.specs.declared.modes.Scheduler.TheVariants.{Fcfs}
 use Rattle.hub_core.proofs.calls.PlannedInTurn.{planned_first_come}
 use Rattle.hub_core.specs.Bounds.{most_items}
-use Rattle.hub_core.specs.KeptOrders.{IsOrderOf, MayNote, OrderIsBeside, is_first, noted_first}
+use Rattle.hub_core.specs.KeptOrders.{IsOrderOf, MayNote, OrderIsBeside, TableFits, is_first, noted_first}
 use Rattle.hub_core.specs.PlansInTurn.{planned_in_turn}
 use Rattle.hub_core.specs.ReadHistories.{HistoryState, read_in, with_doom, with_entry}
 use Rattle.lineage_table.specs.Accesses.{is_scheduled, status_of}
@@ -33,6 +33,7 @@ use Rattle.lock_leasing.specs.Configurations.{Commands, Grip, Grips, Purpose, Un
 use Rattle.serial_line.specs.Marks.{Mark, Marked, items_of, settling, touching, untouched, with_end, with_item, with_touch, without}
 use Rattle.std.proofs.Common.{ap, arith, cond, length-append, refl, subst, sym, ◌∙◌}
 use Rattle.hub_core.proofs.kept.Sizes.{count_cons, one_at_most}
+use Rattle.hub_core.proofs.kept.TableFits.{committed_bare, doomed_bare, fits_changed, fits_ordered, fits_still, fits_weakly, removed_bare, undone_change_bare}
 use Rattle.std.proofs.lemmas.List.{length-map, take-append-drop}
 use Rattle.std.specs.Prelude.{Bool, IsSome, IsTrue, List, None, Option, Some, [], count_by, drop, false, if◌then◌else◌, is_some, length, not, option_map, suc, take, true, unwrap_or, ℕ, ◌&&◌, ◌++◌, ◌+◌, ◌<◌, ◌==◌, ◌||◌, ◌∷◌, ◌≡◌, ◌≤◌}
 use Rattle.window_order.proofs.AnsweredDowns.{IsToldDown}
@@ -77,7 +78,11 @@ entry_kept {rounds = rounds} h h₂ g maker e line table new kept =
 
 pub order_begins : (rounds : ℕ) (w : Setting) (line : Marked) (table : List LineageState) → line.marks ≡ [] → most_items (length w.runs) (length w.first) rounds ≤ line.spare → IsOpened w.runs w.first table → IsOrderOf rounds w (nothing_read w) no_grips line table
 order_begins rounds w line table none room opened = record {
-  table_is = opened_table w no_grips table opened;
+  table_is = record {
+    devices = opened.devices;
+    ordered = λ strong. opened_table w no_grips table opened;
+    weakly = λ weak d below. let new = opened.each d below in record { accesses = new.none; up = new.up };
+  };
   line_is = subst (MarksAreKept (nothing_read w) no_grips) (sym none) (marks_begin w);
   room = omega (arith, room);
 }
@@ -86,7 +91,7 @@ order_begins rounds w line table none room opened = record {
 
 pub order_arrived : {rounds : ℕ} (h h₂ : HistoryState) (g : Grips) (r m : ℕ) (line : Marked) (table : List LineageState) → h₂ ≡ with_entry h r (Arrived (run_no r) m) → OrderIsBeside rounds h g line table → OrderIsBeside rounds h₂ g line table
 order_arrived {rounds = rounds} h h₂ g r m line table new kept = entry_kept h h₂ g r (Arrived (run_no r) m) line table new (record {
-  table_is = arrived_table h.setting (read_in h) g r m table kept.table_is;
+  table_is = fits_still h.setting (read_in h) _ g g table (λ d. refl) (λ own. arrived_table h.setting (read_in h) g r m table own) kept.table_is;
   line_is = marks_arrived h.setting (read_in h) g r m line.marks kept.line_is;
   room = omega (arith, kept.room);
 })
@@ -101,12 +106,12 @@ length_with at x marks =
     omega (arith, after, before, whole)
 
 -- .. where no committed run behind its place has written one of its devices
-pub order_placed : {rounds : ℕ} (h h₂ : HistoryState) (g : Grips) (r at m : ℕ) (line after : Marked) (table later : List LineageState) → IsRead h.setting (read_in h) → GripsFit h.setting (read_in h) g → h.setting.mode.scheduler ≡ Fcfs → NoneWroteBehind h.setting (read_in h) r at
+pub order_placed : {rounds : ℕ} (h h₂ : HistoryState) (g : Grips) (r at m : ℕ) (line after : Marked) (table later : List LineageState) → IsRead h.setting (read_in h) → GripsFit h.setting (read_in h) g → is_weak h.setting.mode ≡ false → h.setting.mode.scheduler ≡ Fcfs → NoneWroteBehind h.setting (read_in h) r at
     → h₂ ≡ with_entry h r (Placed (run_no r) at m) → IsWellFormed h₂.setting (entries_of h₂.history)
     → after.marks ≡ with_item at (Ran (run_no r)) line.marks → after.spare + 1 ≡ line.spare → ChangesEach (scheduled_on h.setting.runs r (planned_in_turn m (commands_of h.setting.runs r)) (drop at (items_of line.marks))) table later
     → OrderIsBeside rounds h g line table → OrderIsBeside rounds h₂ g after later
-order_placed {rounds = rounds} h h₂ g r at m line after table later read fit first_come clear new formed marks spare changes kept = entry_kept h h₂ g r (Placed (run_no r) at m) after later new (record {
-  table_is = placed_table w n g r at m table later read may clear changed kept.table_is;
+order_placed {rounds = rounds} h h₂ g r at m line after table later read fit strong first_come clear new formed marks spare changes kept = entry_kept h h₂ g r (Placed (run_no r) at m) after later new (record {
+  table_is = fits_ordered w _ g later strong (placed_table w n g r at m table later read may clear changed (kept.table_is.ordered strong));
   line_is = subst (MarksAreKept (entry w n (Placed (run_no r) at m)) g) (sym marks) (marks_placed w n g r at m line.marks read fit may kept.line_is);
   room = let size = ap (λ (x : List Mark). length x) marks ∙ length_with at (Ran (run_no r)) line.marks in omega (arith, size, spare, kept.room);
 })
@@ -125,12 +130,30 @@ order_placed {rounds = rounds} h h₂ g r at m line after table later read fit f
     changed = subst (λ planned. ChangesEach (scheduled_on w.runs r planned (drop at n.line)) table later) (sym (planned_first_come w n r (take at n.line) m first_come))
         (subst (λ is. ChangesEach (scheduled_on w.runs r (planned_in_turn m (commands_of w.runs r)) (drop at is)) table later) kept.line_is.items changes)
 
+-- .. under the weak model, where it has no access
+pub order_joined : {rounds : ℕ} (h h₂ : HistoryState) (g : Grips) (r at m : ℕ) (line after : Marked) (table : List LineageState) → is_weak h.setting.mode ≡ true → IsRead h.setting (read_in h) → GripsFit h.setting (read_in h) g → h₂ ≡ with_entry h r (Placed (run_no r) at m) → IsWellFormed h₂.setting (entries_of h₂.history)
+    → after.marks ≡ with_item at (Ran (run_no r)) line.marks → after.spare + 1 ≡ line.spare → OrderIsBeside rounds h g line table → OrderIsBeside rounds h₂ g after table
+order_joined {rounds = rounds} h h₂ g r at m line after table weak read fit new formed marks spare kept = entry_kept h h₂ g r (Placed (run_no r) at m) after table new (record {
+  table_is = fits_weakly w n _ g g table weak (λ d. refl) kept.table_is;
+  line_is = subst (MarksAreKept (entry w n (Placed (run_no r) at m)) g) (sym marks) (marks_placed w n g r at m line.marks read fit may kept.line_is);
+  room = let size = ap (λ (x : List Mark). length x) marks ∙ length_with at (Ran (run_no r)) line.marks in omega (arith, size, spare, kept.room);
+})
+  where
+    w : Setting
+    w = h.setting
+
+    n : Reading
+    n = read_in h
+
+    may : may_follow w n (Placed (run_no r) at m) ≡ true
+    may = last_follows w h.history r (Placed (run_no r) at m) (subst (λ (x : HistoryState). IsWellFormed x.setting (entries_of x.history)) new formed)
+
 -- A run commits
 
 pub order_committed : {rounds : ℕ} (h h₂ : HistoryState) (g : Grips) (r : ℕ) (line after : Marked) (table later : List LineageState) → IsRead h.setting (read_in h) → GripsFit h.setting (read_in h) g → h₂ ≡ with_entry h r (Ended (run_no r) Committed) → IsWellFormed h₂.setting (entries_of h₂.history)
     → after.marks ≡ settling r line.marks → after.spare ≡ line.spare → ChangesEach (λ d. committed_lineage r) table later → OrderIsBeside rounds h g line table → OrderIsBeside rounds h₂ g after later
 order_committed {rounds = rounds} h h₂ g r line after table later read fit new formed marks spare changes kept = entry_kept h h₂ g r (Ended (run_no r) Committed) after later new (record {
-  table_is = committed_table w n g r table later read fit may changes kept.table_is;
+  table_is = fits_changed w n _ g g (λ d. committed_lineage r) table later (λ d. refl) (λ d. committed_bare r) changes (λ own. committed_table w n g r table later read fit may changes own) kept.table_is;
   line_is = subst (MarksAreKept (entry w n (Ended (run_no r) Committed)) g) (sym marks) (marks_committed w n g r line.marks kept.line_is);
   room = let size = ap (λ (x : List Mark). length x) marks ∙ length-map line.marks (with_end r) in omega (arith, size, spare, kept.room);
 })
@@ -152,7 +175,7 @@ length_touching r d marks = length-map marks (with_touch r d)
 pub order_out : {rounds : ℕ} (h : HistoryState) (g f : Grips) (r d k : ℕ) (line after : Marked) (table later : List LineageState) → g d ≡ None → is_doomed (read_in h) r ≡ false → pends h.setting (read_in h) r d ≡ true → f ≡ put g d (Some (record { maker = r; purpose = Commands k }))
     → after.marks ≡ touching r d line.marks → after.spare ≡ line.spare → later ≡ table → OrderIsBeside rounds h g line table → OrderIsBeside rounds h f after later
 order_out {rounds = rounds} h g f r d k line after table later home sound pending out marks spare same kept = subst (λ (x : Grips). IsOrderOf rounds w n x after later) (sym out) (record {
-  table_is = subst (TableIsKept w n (put g d (Some (record { maker = r; purpose = Commands k })))) (sym same) (command_out_table w n g d r k table home sound pending kept.table_is);
+  table_is = subst (TableFits w n (put g d (Some (record { maker = r; purpose = Commands k })))) (sym same) (fits_still w n n g _ table (λ e. refl) (λ own. command_out_table w n g d r k table home sound pending own) kept.table_is);
   line_is = subst (MarksAreKept n (put g d (Some (record { maker = r; purpose = Commands k })))) (sym marks) (marks_out n g r d k line.marks home kept.line_is);
   room = let size = ap (λ (x : List Mark). length x) marks ∙ length_touching r d line.marks in omega (arith, size, spare, kept.room);
 })
@@ -168,7 +191,7 @@ order_out {rounds = rounds} h g f r d k line after table later home sound pendin
 pub order_undo_out : {rounds : ℕ} (h : HistoryState) (g f : Grips) (r d v : ℕ) (line after : Marked) (table later : List LineageState) → IsRead h.setting (read_in h) → g d ≡ None → d < length table → f ≡ put g d (Some (record { maker = r; purpose = Undoes v }))
     → after.marks ≡ line.marks → after.spare ≡ line.spare → later ≡ with_lineage table d (undone r) → OrderIsBeside rounds h g line table → OrderIsBeside rounds h f after later
 order_undo_out {rounds = rounds} h g f r d v line after table later read home below out marks spare changed kept = subst (λ (x : Grips). IsOrderOf rounds w n x after later) (sym out) (record {
-  table_is = undo_out_table w n g d r v table later read home (subst (ChangesEach (undone_change r d) table) (sym changed) (changes_one table d (undone r) below)) kept.table_is;
+  table_is = fits_changed w n n g _ (undone_change r d) table later (λ e. refl) (λ e. undone_change_bare r d e) changes (λ own. undo_out_table w n g d r v table later read home changes own) kept.table_is;
   line_is = subst (MarksAreKept n (put g d (Some (record { maker = r; purpose = Undoes v })))) (sym marks) (marks_undo_out n g r d v line.marks home kept.line_is);
   room = let size = ap (λ (x : List Mark). length x) marks in omega (arith, size, spare, kept.room);
 })
@@ -178,6 +201,9 @@ order_undo_out {rounds = rounds} h g f r d v line after table later read home be
 
     n : Reading
     n = read_in h
+
+    changes : ChangesEach (undone_change r d) table later
+    changes = subst (ChangesEach (undone_change r d) table) (sym changed) (changes_one table d (undone r) below)
 
 -- A command is answered
 
@@ -221,12 +247,12 @@ pub record ToldOf (w : Setting) (n : Reading) (r k : ℕ) (a : Answer) (view : V
   pub last_is : last ≡ is_done_there w n r k
 
 pub order_answered : {rounds : ℕ} (h h₂ : HistoryState) (g f : Grips) (held : ℕ → ℕ) (d r k : ℕ) (a : Answer) (view : View) (wrote : Option ℕ) (last : Bool) (line after : Marked) (table later : List LineageState)
-    → IsRead h.setting (read_in h) → OrderIsKept h.setting (read_in h) g held → g d ≡ Some (record { maker = r; purpose = Commands k }) → d < length h.setting.first
+    → IsRead h.setting (read_in h) → is_weak h.setting.mode ≡ false → OrderIsKept h.setting (read_in h) g held → g d ≡ Some (record { maker = r; purpose = Commands k }) → d < length h.setting.first
     → h₂ ≡ with_entry h r (Did (run_no r) k a) → f ≡ put g d None → ToldOf h.setting (read_in h) r k a view wrote last → after ≡ line → later ≡ with_lineage table d (noted_first r (is_first r (lineage_at table d)) view wrote last)
     → OrderIsBeside rounds h g line table → OrderIsBeside rounds h₂ f after later
-order_answered {rounds = rounds} h h₂ g f held d r k a view wrote last line after table later read order at below new home told same changed kept =
+order_answered {rounds = rounds} h h₂ g f held d r k a view wrote last line after table later read strong order at below new home told same changed kept =
     entry_kept h h₂ f r (Did (run_no r) k a) after later new (subst (λ (x : Grips). IsOrderOf rounds w m x after later) (sym home) (subst (λ (x : Marked). IsOrderOf rounds w m (put g d None) x later) (sym same) (record {
-      table_is = answered_table w n g held d r k a table later read order at changes kept.table_is;
+      table_is = fits_ordered w _ _ later strong (answered_table w n g held d r k a table later read order at changes (kept.table_is.ordered strong));
       line_is = marks_answered w n g d r k a line.marks out at kept.line_is;
       room = omega (arith, kept.room);
     })))
@@ -244,7 +270,7 @@ order_answered {rounds = rounds} h h₂ g f held d r k a view wrote last line af
     out = out_is w n g d r k order.grips at
 
     first : is_first r (lineage_at table d) ≡ not (did n r (command_at w.runs r k).device.0)
-    first = (may_note w n g held d r k table read order at below kept.table_is).0 ∙ ap (λ x. not (did n r x)) out.device
+    first = (may_note w n g held d r k table read order at below (kept.table_is.ordered strong)).0 ∙ ap (λ x. not (did n r x)) out.device
 
     one : LineageState → LineageState
     one = noted_first r (is_first r (lineage_at table d)) view wrote last
@@ -260,6 +286,27 @@ order_answered {rounds = rounds} h h₂ g f held d r k a view wrote last line af
       devices = single.devices;
       each = λ e lt. single.each e lt ∙ (λ i. if e == out.device i then is_answered (lineage_at table e) i else lineage_at table e);
     })
+
+-- .. under the weak model, which notes it in the line alone
+pub order_answered_weakly : {rounds : ℕ} (h h₂ : HistoryState) (g f : Grips) (d r k : ℕ) (a : Answer) (line after : Marked) (table later : List LineageState)
+    → is_weak h.setting.mode ≡ true → GripsFit h.setting (read_in h) g → g d ≡ Some (record { maker = r; purpose = Commands k })
+    → h₂ ≡ with_entry h r (Did (run_no r) k a) → f ≡ put g d None → after ≡ line → later ≡ table
+    → OrderIsBeside rounds h g line table → OrderIsBeside rounds h₂ f after later
+order_answered_weakly {rounds = rounds} h h₂ g f d r k a line after table later weak fit at new home same still kept =
+    entry_kept h h₂ f r (Did (run_no r) k a) after later new (subst (λ (x : Grips). IsOrderOf rounds w m x after later) (sym home) (subst (λ (x : Marked). IsOrderOf rounds w m (put g d None) x later) (sym same) (subst (IsOrderOf rounds w m (put g d None) line) (sym still) (record {
+      table_is = fits_weakly w n m g (put g d None) table weak (λ e. refl) kept.table_is;
+      line_is = marks_answered w n g d r k a line.marks (out_is w n g d r k fit at) at kept.line_is;
+      room = omega (arith, kept.room);
+    }))))
+  where
+    w : Setting
+    w = h.setting
+
+    n : Reading
+    n = read_in h
+
+    m : Reading
+    m = entry w n (Did (run_no r) k a)
 
 -- A command is answered Down with no call
 
@@ -283,7 +330,7 @@ pub order_told_down : {rounds : ℕ} (h h₂ : HistoryState) (g : Grips) (held :
     → later ≡ with_lineage table (command_at h.setting.runs r k).device.0 (noted_first r (is_first r (lineage_at table (command_at h.setting.runs r k).device.0)) ViewedDown None last)
     → OrderIsBeside rounds h g line table → OrderIsBeside rounds h₂ g after later
 order_told_down {rounds = rounds} h h₂ g held r k last line after table later told below number new last_is marks spare changed kept = entry_kept h h₂ g r (Did (run_no r) k Down) after later new (record {
-  table_is = subst (λ j. TableIsKept w (entry w n (Did (run_no r) j Down)) g later) (sym number) (told_table w n g held r c table later told (subst (λ j. ChangesEach (answered_change w n r j Down) table later) number changes) kept.table_is);
+  table_is = fits_ordered w _ g later told.strong (subst (λ j. TableIsKept w (entry w n (Did (run_no r) j Down)) g later) (sym number) (told_table w n g held r c table later told (subst (λ j. ChangesEach (answered_change w n r j Down) table later) number changes) (kept.table_is.ordered told.strong)));
   line_is = subst (MarksAreKept (entry w n (Did (run_no r) k Down)) g) (sym marks) (marks_told w n g r k Down line.marks kept.line_is);
   room = let size = ap (λ (x : List Mark). length x) marks ∙ length_touching r c.device.0 line.marks in omega (arith, size, spare, kept.room);
 })
@@ -298,7 +345,7 @@ order_told_down {rounds = rounds} h h₂ g held r k last line after table later 
     c = command_at w.runs r k
 
     first : is_first r (lineage_at table c.device.0) ≡ not (did n r c.device.0)
-    first = (may_note_down w n g held r c table told below kept.table_is).0
+    first = (may_note_down w n g held r c table told below (kept.table_is.ordered told.strong)).0
 
     one : LineageState → LineageState
     one = noted_first r (is_first r (lineage_at table c.device.0)) ViewedDown None last
@@ -315,12 +362,28 @@ order_told_down {rounds = rounds} h h₂ g held r k last line after table later 
       each = λ e lt. single.each e lt ∙ (λ i. if e == c.device.0 then is_answered (lineage_at table e) i else lineage_at table e);
     })
 
+-- .. under the weak model
+pub order_told_weakly : {rounds : ℕ} (h h₂ : HistoryState) (g : Grips) (r k : ℕ) (line after : Marked) (table later : List LineageState)
+    → is_weak h.setting.mode ≡ true → h₂ ≡ with_entry h r (Did (run_no r) k Down) → after.marks ≡ touching r (command_at h.setting.runs r k).device.0 line.marks → after.spare ≡ line.spare → later ≡ table
+    → OrderIsBeside rounds h g line table → OrderIsBeside rounds h₂ g after later
+order_told_weakly {rounds = rounds} h h₂ g r k line after table later weak new marks spare still kept = entry_kept h h₂ g r (Did (run_no r) k Down) after later new (subst (IsOrderOf rounds w (entry w n (Did (run_no r) k Down)) g after) (sym still) (record {
+  table_is = fits_weakly w n _ g g table weak (λ d. refl) kept.table_is;
+  line_is = subst (MarksAreKept (entry w n (Did (run_no r) k Down)) g) (sym marks) (marks_told w n g r k Down line.marks kept.line_is);
+  room = let size = ap (λ (x : List Mark). length x) marks ∙ length_touching r (command_at w.runs r k).device.0 line.marks in omega (arith, size, spare, kept.room);
+}))
+  where
+    w : Setting
+    w = h.setting
+
+    n : Reading
+    n = read_in h
+
 -- A run is doomed
 
 pub order_doomed : {rounds : ℕ} (h h₂ : HistoryState) (g : Grips) (r : ℕ) (cause : Cause) (line after : Marked) (table later : List LineageState) → IsRead h.setting (read_in h) → GripsFit h.setting (read_in h) g → ((d : ℕ) → grips_command g r d ≡ false)
     → h₂ ≡ with_entry h r (Doomed (run_no r) cause) → IsWellFormed h₂.setting (entries_of h₂.history) → after ≡ line → ChangesEach (λ d. doomed_lineage r) table later → OrderIsBeside rounds h g line table → OrderIsBeside rounds h₂ g after later
 order_doomed {rounds = rounds} h h₂ g r cause line after table later read fit none new formed same changes kept = entry_kept h h₂ g r (Doomed (run_no r) cause) after later new (subst (λ (x : Marked). IsOrderOf rounds w (entry w n (Doomed (run_no r) cause)) g x later) (sym same) (record {
-  table_is = doomed_table w n g r cause table later read fit sound (doomed_each g r None table later none changes) kept.table_is;
+  table_is = fits_changed w n _ g g (λ d. doomed_lineage r) table later (λ d. refl) (λ d. doomed_bare r) changes (λ own. doomed_table w n g r cause table later read fit sound (doomed_each g r None table later none changes) own) kept.table_is;
   line_is = marks_doomed w n g r cause line.marks kept.line_is;
   room = omega (arith, kept.room);
 }))
@@ -381,7 +444,7 @@ none_out w n g d r p run at fit e = at_ (put g d None e) refl
 
 pub order_undone : {rounds : ℕ} (h h₂ : HistoryState) (g f : Grips) (r d v : ℕ) (line : Marked) (table : List LineageState) → h₂ ≡ with_entry h r (Undid (run_no r) (device_no d) true) → g d ≡ Some (record { maker = r; purpose = Undoes v }) → f ≡ put g d None → OrderIsBeside rounds h g line table → OrderIsBeside rounds h₂ f line table
 order_undone {rounds = rounds} h h₂ g f r d v line table new out home kept = entry_kept h h₂ f r (Undid (run_no r) (device_no d) true) line table new (subst (λ (x : Grips). IsOrderOf rounds w (entry w n (Undid (run_no r) (device_no d) true)) x line table) (sym home) (record {
-  table_is = undid_table w n g d r v table out kept.table_is;
+  table_is = fits_still w n _ g _ table (λ e. refl) (λ own. undid_table w n g d r v table out own) kept.table_is;
   line_is = marks_undone w n (put g d None) r d true line.marks (marks_undo_home n g r d v line.marks out kept.line_is);
   room = omega (arith, kept.room);
 }))
@@ -396,7 +459,7 @@ order_undone {rounds = rounds} h h₂ g f r d v line table new out home kept = e
 pub order_dropped : {rounds : ℕ} (h h₂ : HistoryState) (g : Grips) (r d : ℕ) (line after : Marked) (table later : List LineageState) → IsRead h.setting (read_in h) → d < length table → h₂ ≡ with_entry h r (Undid (run_no r) (device_no d) false) → after ≡ line → later ≡ with_lineage table d (undone r)
     → OrderIsBeside rounds h g line table → OrderIsBeside rounds h₂ g after later
 order_dropped {rounds = rounds} h h₂ g r d line after table later read below new same changed kept = entry_kept h h₂ g r (Undid (run_no r) (device_no d) false) after later new (subst (λ (x : Marked). IsOrderOf rounds w (entry w n (Undid (run_no r) (device_no d) false)) g x later) (sym same) (record {
-  table_is = undo_dropped_table w n g d r false table later read (subst (ChangesEach (undone_change r d) table) (sym changed) (changes_one table d (undone r) below)) kept.table_is;
+  table_is = fits_changed w n _ g g (undone_change r d) table later (λ e. refl) (λ e. undone_change_bare r d e) changes (λ own. undo_dropped_table w n g d r false table later read changes own) kept.table_is;
   line_is = marks_undone w n g r d false line.marks kept.line_is;
   room = omega (arith, kept.room);
 }))
@@ -406,6 +469,9 @@ order_dropped {rounds = rounds} h h₂ g r d line after table later read below n
 
     n : Reading
     n = read_in h
+
+    changes : ChangesEach (undone_change r d) table later
+    changes = subst (ChangesEach (undone_change r d) table) (sym changed) (changes_one table d (undone r) below)
 
 -- A run is aborted
 
@@ -422,7 +488,7 @@ length_without r (m ∷ marks) = at_ (length_without r marks) (is_ran r m.item) 
 pub order_aborted : {rounds : ℕ} (h h₂ : HistoryState) (g : Grips) (r : ℕ) (cause : Cause) (line after : Marked) (table later : List LineageState) → IsRead h.setting (read_in h) → h₂ ≡ with_entry h r (Ended (run_no r) (Aborted cause)) → IsWellFormed h₂.setting (entries_of h₂.history)
     → after.marks ≡ without r line.marks → after.spare ≡ line.spare + 1 → ChangesEach (λ d. removed r) table later → OrderIsBeside rounds h g line table → OrderIsBeside rounds h₂ g after later
 order_aborted {rounds = rounds} h h₂ g r cause line after table later read new formed marks spare changes kept = entry_kept h h₂ g r (Ended (run_no r) (Aborted cause)) after later new (record {
-  table_is = aborted_table w n g r cause table later read may changes kept.table_is;
+  table_is = fits_changed w n _ g g (λ d. removed r) table later (λ d. refl) (λ d. removed_bare r) changes (λ own. aborted_table w n g r cause table later read may changes own) kept.table_is;
   line_is = subst (MarksAreKept (entry w n (Ended (run_no r) (Aborted cause))) g) (sym marks) (marks_aborted w n g r cause line.marks kept.line_is);
   room =
       let size = ap (λ (x : List Mark). length x) marks in

@@ -19,15 +19,39 @@ use Rattle.std.specs.Prelude.{Bool, None, Some, false, if◌then◌else◌, nat_
 use Rattle.window_order.proofs.ProbedOrders.{probe_goes_kept}
 use Rattle.window_order.proofs.ReadFacts.{read_facts}
 
+may_parts : (a b c : Bool) → (a && not b && c) ≡ true → (a ≡ true) × (b ≡ false) × (c ≡ true)
+may_parts a b c h = (grind (arith, common_steps), grind (arith, common_steps), grind (arith, common_steps))
+
+-- the device is one of the home, and there, and a probe of it is left
+pub probe_may : (s : Configuration) (d : ℕ) → may_probe s d ≡ true → (is_device s.setting d ≡ true) × (is_out s.grips d ≡ false) × (nat_lt 0 (s.probes d) ≡ true)
+probe_may s d may = may_parts (is_device s.setting d) (is_out s.grips d) (nat_lt 0 (s.probes d)) may
+
+-- a probe more is out, and one less is left
+pub probes_asked : (s : Configuration) (d : ℕ) → may_probe s d ≡ true → (e : ℕ) → probes_of (record s { probes = put s.probes d (s.probes d - 1); grips = put s.grips d (Some (probe_grip s d)) }) e ≤ probes_of s e
+probes_asked s d may e = few (e == d) refl
+  where
+    left : (k : ℕ) → nat_lt 0 k ≡ true → k - 1 + 1 ≡ k
+    left k h = grind (arith, common_steps)
+
+    few : (b : Bool) → (e == d) ≡ b
+        → (read_of s).rose e + (if unwrap_or (option_map (λ grip. not (is_of_run grip.purpose)) (if b then Some (probe_grip s d) else s.grips e)) false then 1 else 0) + (if b then s.probes d - 1 else s.probes e) ≤ probes_of s e
+    few true at =
+        let same : e ≡ d = grind (arith, common_steps) in
+        let one : s.probes d - 1 + 1 ≡ s.probes d = left (s.probes d) (probe_may s d may).2 in
+        let here : s.probes d ≡ s.probes e = ap s.probes (sym same) in
+        omega (arith, one, here)
+    few false at = omega arith
+
 -- a probe that may goes out, and one less is left
 probe_kept : (s : Configuration) (rounds opened : ℕ) (held : ℕ → ℕ) (d : ℕ) → may_probe s d ≡ true → ConfigurationIsKept s rounds opened held
     → ConfigurationIsKept (record s { probes = put s.probes d (s.probes d - 1); grips = put s.grips d (Some (probe_grip s d)) }) rounds opened held
 probe_kept s rounds opened held d may kept =
     record {
       opens = kept.opens;
+      strong = kept.strong;
       stage = kept.stage;
       kinds = kept.kinds;
-      probes = λ e. few e (e == d) refl;
+      probes = λ e. omega (arith, probes_asked s d may e, kept.probes e);
       values = kept.values;
       undos = out_with s.grips (λ e q. undo_fits (kind_at w.kinds e) q.purpose) d new (by_up (n.up d)) kept.undos;
       history = record {
@@ -42,7 +66,7 @@ probe_kept s rounds opened held d may kept =
         in_turn = grip_turn w n s.grips 0 d (Probes (restored s d)) (λ live. absurd (no_run live)) kept.history.in_turn;
         first = out_with s.grips (λ e q. not (is_command q.purpose && (n.run q.maker).answered_doomed)) d new refl kept.history.first;
       };
-      order = probe_goes_kept w n s.grips held d (read_facts w (entries_of s.history) kept.history.well_formed) kept.stage.strong (parts (is_device w d) (is_out s.grips d) (nat_lt 0 (s.probes d)) may).0 (parts (is_device w d) (is_out s.grips d) (nat_lt 0 (s.probes d)) may).1 kept.order;
+      order = probe_goes_kept w n s.grips held d (read_facts w (entries_of s.history) kept.history.well_formed) kept.strong parts.0 parts.1 kept.order;
     }
   where
     w : Setting
@@ -54,14 +78,11 @@ probe_kept s rounds opened held d may kept =
     new : Grip
     new = probe_grip s d
 
-    parts : (a b c : Bool) → (a && not b && c) ≡ true → (a ≡ true) × (b ≡ false) × (c ≡ true)
-    parts a b c h = (grind (arith, common_steps), grind (arith, common_steps), grind (arith, common_steps))
+    parts : (is_device w d ≡ true) × (is_out s.grips d ≡ false) × (nat_lt 0 (s.probes d) ≡ true)
+    parts = probe_may s d may
 
     values : ValuesFit w
     values = values_fit s rounds opened held kept
-
-    left : (k : ℕ) → nat_lt 0 k ≡ true → k - 1 + 1 ≡ k
-    left k h = grind (arith, common_steps)
 
     -- the detector is no run
     no_run : is_live n 0 ≡ true → ⊥
@@ -70,17 +91,7 @@ probe_kept s rounds opened held d may kept =
     -- it restores a value of the device's kind
     by_up : (b : Bool) → undo_fits (kind_at w.kinds d) (Probes (if b then None else Some (standing_value w n s.grips d))) ≡ true
     by_up true = refl
-    by_up false = standing_fits w n s.grips d kept.stage.strong (writes_fit w (entries_of s.history) values kept.history.well_formed) (values.first d (parts (is_device w d) (is_out s.grips d) (nat_lt 0 (s.probes d)) may).0)
-
-    few : (e : ℕ) (b : Bool) → (e == d) ≡ b
-        → n.rose e + (if unwrap_or (option_map (λ grip. not (is_of_run grip.purpose)) (if b then Some new else s.grips e)) false then 1 else 0) + (if b then s.probes d - 1 else s.probes e) ≤ rounds
-    few e true at =
-        let same : e ≡ d = grind (arith, common_steps) in
-        let most : probes_of s e ≤ rounds = kept.probes e in
-        let one : s.probes d - 1 + 1 ≡ s.probes d = left (s.probes d) (parts (is_device w d) (is_out s.grips d) (nat_lt 0 (s.probes d)) may).2 in
-        let here : s.probes d ≡ s.probes e = ap s.probes (sym same) in
-        omega (arith, most, one, here)
-    few e false at = kept.probes e
+    by_up false = standing_fits w n s.grips d kept.strong (writes_fit w (entries_of s.history) values kept.history.well_formed) (values.first d parts.0)
 
 -- what is kept stays so where a probe is asked for
 pub take_probe_kept : (s : Configuration) (rounds opened : ℕ) (held : ℕ → ℕ) (d : ℕ) → ConfigurationIsKept s rounds opened held → ConfigurationIsKept (after_take_probe s d) rounds opened held

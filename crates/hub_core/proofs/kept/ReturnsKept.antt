@@ -366,14 +366,14 @@ died_home s rounds opened held r k d now v out value later kept = by_doomed (is_
     KeptWith more = ConfigurationIsKept (home_with s r d now (fall ∷ answer ∷ more)) rounds opened after
 
     goes_on : (did n r d ≡ true → is_doomed n r ≡ true) → (fails c Down ≡ true → is_doomed n r ≡ true) → KeptWith []
-    goes_on kept_it may_fail = comes_home s rounds opened r d now held after (fall ∷ answer ∷ []) (first_then s r now home fall (answer ∷ []) kept_answered) (probes_home s r now d (fall ∷ answer ∷ []) refl) (died_kept w n s.grips held after d r k back.1.read kept.stage.strong out kept_it may_fail still kept.order) kept
+    goes_on kept_it may_fail = comes_home s rounds opened r d now held after (fall ∷ answer ∷ []) (first_then s r now home fall (answer ∷ []) kept_answered) (probes_home s r now d (fall ∷ answer ∷ []) refl) (died_kept w n s.grips held after d r k back.1.read kept.strong out kept_it may_fail still kept.order) kept
 
     dooms : (cause : Cause) → ((x : ℕ) → moment_of cause x ≡ x) → keeps_leases (Doomed (run_no r) cause) ≡ true → IsMade (Doomed (run_no r) cause ∷ []) → KeptWith (Doomed (run_no r) cause ∷ [])
     dooms cause steady keeps is_made =
         comes_home s rounds opened r d now held after (fall ∷ answer ∷ Doomed (run_no r) cause ∷ [])
         (first_then s r now home fall (answer ∷ Doomed (run_no r) cause ∷ []) (first_then fallen r now home answer (Doomed (run_no r) cause ∷ [])
         (history_added answered r now home (Doomed (run_no r) cause) (doom_may answered r now cause (ap (λ x. may_follow w x (Doomed (run_no r) cause)) read_answered ∙ (both (may_follow w down (Doomed (run_no r) cause)) true is_made.0).0) (λ first_come. keeps) (ap (λ x. shows w x r cause) read_answered ∙ (both (shows w down r cause) true is_made.1).0) (subst (λ x. x ≤ now) (sym (steady (read_of answered).moment)) kept_answered.moment) kept_answered) kept_answered)))
-        (probes_home s r now d (fall ∷ answer ∷ Doomed (run_no r) cause ∷ []) refl) (died_doomed_kept w n s.grips held after d r k cause back.1.read kept.stage.strong out still kept.order) kept
+        (probes_home s r now d (fall ∷ answer ∷ Doomed (run_no r) cause ∷ []) refl) (died_doomed_kept w n s.grips held after d r k cause back.1.read kept.strong out still kept.order) kept
 
     not_lost : (a b : Bool) → (a && not b) ≡ false → b ≡ false → a ≡ true → ⊥
     not_lost a b h strong e = grind (arith, common_steps)
@@ -383,7 +383,7 @@ died_home s rounds opened held r k d now v out value later kept = by_doomed (is_
 
     by_must : lost ≡ false → (b : Bool) → c.must ≡ b → IsMade (doom false false b) → KeptWith (doom false false b)
     by_must unlost true e is_made = dooms (MustDown k) (λ x. refl) refl is_made
-    by_must unlost false e is_made = goes_on (λ h. absurd (not_lost (did n r c.device.0) (is_weak w.mode) unlost kept.stage.strong (ap (did n r) on ∙ h))) (λ h. absurd (not_must c.must (refutes c.job Down) e h))
+    by_must unlost false e is_made = goes_on (λ h. absurd (not_lost (did n r c.device.0) (is_weak w.mode) unlost kept.strong (ap (did n r) on ∙ h))) (λ h. absurd (not_must c.must (refutes c.job Down) e h))
 
     by_lost : (b : Bool) → lost ≡ b → IsMade (doom false b c.must) → KeptWith (doom false b c.must)
     by_lost true e is_made = dooms (Lost c.device) (λ x. refl) refl is_made
@@ -439,7 +439,7 @@ dropped_home : (s : Configuration) (rounds opened : ℕ) (held : ℕ → ℕ) (r
 dropped_home s rounds opened held r d now v u out later kept =
     comes_home s rounds opened r d now held (put held d v) (fall ∷ drop ∷ [])
     (first_then s r now (put s.grips d None) fall (drop ∷ []) (history_added fallen r now (put s.grips d None) drop (undo_may fallen r d now false (ap (λ x. may_follow w x drop) (read_with s r (fall ∷ [])) ∙ follows.1) kept_fallen.moment kept.stage.scheduler kept_fallen) kept_fallen))
-    (probes_home s r now d (fall ∷ drop ∷ []) refl) (undo_died_kept w n s.grips held (put held d v) d r u (read_facts w (entries_of s.history) kept.history.well_formed) kept.stage.strong out (λ e ne. put_other held d v e ne) kept.order) kept
+    (probes_home s r now d (fall ∷ drop ∷ []) refl) (undo_died_kept w n s.grips held (put held d v) d r u (read_facts w (entries_of s.history) kept.history.well_formed) kept.strong out (λ e ne. put_other held d v e ne) kept.order) kept
   where
     w : Setting
     w = s.setting
@@ -476,10 +476,10 @@ missed_home s rounds opened held r d now v u out later kept =
     comes_home s rounds opened r d now held (put held d v) [] (no_news s r d now later kept.history) (probes_home s r now d [] refl) (probe_missed_kept s.setting (read_of s) s.grips held (put held d v) d r u out (λ e ne. put_other held d v e ne) kept.order) kept
 
 -- its entries, where the device was counted up or down
-counted_up : (n : Reading) (d : ℕ) (entries others : List Entry) → n.up d ≡ true → (if n.up d then entries else others) ≡ entries
+pub counted_up : (n : Reading) (d : ℕ) (entries others : List Entry) → n.up d ≡ true → (if n.up d then entries else others) ≡ entries
 counted_up n d entries others up = ap (λ b. if b then entries else others) up
 
-counted_down : (n : Reading) (d : ℕ) (entries others : List Entry) → n.up d ≡ false → (if n.up d then others else entries) ≡ entries
+pub counted_down : (n : Reading) (d : ℕ) (entries others : List Entry) → n.up d ≡ false → (if n.up d then others else entries) ≡ entries
 counted_down n d entries others down = ap (λ b. if b then others else entries) down
 
 -- the device has failed, and the run that sees it up, if there is one with more to do there, has lost it
@@ -546,16 +546,32 @@ fell_home s rounds opened held r d now v out later kept = subst KeptWith (sym en
         doom_may fallen x now (Lost (device_no d)) (ap (λ y. may_follow w y (doom x)) read_fallen ∙ follows.1) (λ first_come. refl) (ap (λ y. shows w y x (Lost (device_no d))) read_fallen ∙ shown.0) kept_fallen.moment kept_fallen
 
     by_lost : (o : Option ℕ) → lost_by w n d ≡ o → IsMade (with_doom o) → KeptWith (with_doom o)
-    by_lost None e is_made = comes_home s rounds opened r d now held after (fall ∷ []) kept_fallen (probes_home s r now d (fall ∷ []) refl) (probe_died_kept w n s.grips held after d r read kept.stage.strong out e still kept.order) kept
+    by_lost None e is_made = comes_home s rounds opened r d now held after (fall ∷ []) kept_fallen (probes_home s r now d (fall ∷ []) refl) (probe_died_kept w n s.grips held after d r read kept.strong out e still kept.order) kept
     by_lost (Some x) e is_made = comes_home s rounds opened r d now held after (fall ∷ doom x ∷ []) (first_then s r now home fall (doom x ∷ []) (history_added fallen r now home (doom x) (loses x is_made) kept_fallen)) (probes_home s r now d (fall ∷ doom x ∷ []) refl)
-        (probe_died_doomed_kept w n s.grips held after d r x (Lost (device_no d)) read kept.stage.strong out e still kept.order) kept
+        (probe_died_doomed_kept w n s.grips held after d r x (Lost (device_no d)) read kept.strong out e still kept.order) kept
+
+-- one restart more, and one probe less out
+pub probes_answered : (s : Configuration) (r d now u : ℕ) → s.grips d ≡ Some (record { maker = r; purpose = Probes (Some u) }) → (e : ℕ) → probes_of (record s { history = s.history ++ kept_by r (Rose (device_no d) ∷ []); moment = now; grips = put s.grips d None }) e ≤ probes_of s e
+probes_answered s r d now u out e = subst (λ k. k + (if is_probed (put s.grips d None) e then 1 else 0) + s.probes e ≤ probes_of s e) (sym (ap (λ (x : Reading). x.rose e) (read_with s r (Rose (device_no d) ∷ [])))) (counts (e == d) refl)
+  where
+    n : Reading
+    n = read_of s
+
+    counts : (b : Bool) → (e == d) ≡ b
+        → (if b then n.rose d + 1 else n.rose e) + (if unwrap_or (option_map (λ grip. not (is_of_run grip.purpose)) (if b then None else s.grips e)) false then 1 else 0) + s.probes e ≤ n.rose e + (if is_probed s.grips e then 1 else 0) + s.probes e
+    counts true at =
+        let same : e ≡ d = grind (arith, common_steps) in
+        let here : n.rose d ≡ n.rose e = ap n.rose (sym same) in
+        let probed : ◌≡◌ {A = ℕ} (if is_probed s.grips e then 1 else 0) 1 = ap (λ o. if unwrap_or (option_map (λ (grip : Grip). not (is_of_run grip.purpose)) o) false then 1 else 0) (ap s.grips same ∙ out) in
+        omega (arith, here, probed)
+    counts false at = omega arith
 
 -- the device is back: it has answered a probe
 rose_home : (s : Configuration) (rounds opened : ℕ) (held : ℕ → ℕ) (r d now v u : ℕ) → s.grips d ≡ Some (record { maker = r; purpose = Probes (Some u) }) → v ≡ u → (read_of s).moment ≤ now → ConfigurationIsKept s rounds opened held
     → ConfigurationIsKept (home_with s r d now (Rose (device_no d) ∷ [])) rounds opened (put held d v)
 rose_home s rounds opened held r d now v u out brings later kept =
-    comes_home s rounds opened r d now held (put held d v) (rise ∷ []) (history_added s r now (put s.grips d None) rise (rose_may s d now (put s.grips d None) follows later (less_one s.grips d) kept.history) kept.history) probes
-    (subst (λ y. OrderIsKept w (entry w n rise) (put s.grips d None) (put held d y)) (sym brings) (restarted_kept w n s.grips held d r u (read_facts w (entries_of s.history) kept.history.well_formed) kept.stage.strong out kept.order)) kept
+    comes_home s rounds opened r d now held (put held d v) (rise ∷ []) (history_added s r now (put s.grips d None) rise (rose_may s d now (put s.grips d None) follows later (less_one s.grips d) kept.history) kept.history) (probes_answered s r d now u out)
+    (subst (λ y. OrderIsKept w (entry w n rise) (put s.grips d None) (put held d y)) (sym brings) (restarted_kept w n s.grips held d r u (read_facts w (entries_of s.history) kept.history.well_formed) kept.strong out kept.order)) kept
   where
     w : Setting
     w = s.setting
@@ -568,19 +584,6 @@ rose_home s rounds opened held r d now v u out brings later kept =
 
     follows : may_follow w n rise ≡ true
     follows = and_is (kept.order.grips.homed d (ap is_some out)) (ap not (restored_down w n s.grips held d r u out kept.order))
-
-    -- one restart more, and one probe less out
-    counts : (e : ℕ) (b : Bool) → (e == d) ≡ b
-        → (if b then n.rose d + 1 else n.rose e) + (if unwrap_or (option_map (λ grip. not (is_of_run grip.purpose)) (if b then None else s.grips e)) false then 1 else 0) + s.probes e ≤ n.rose e + (if is_probed s.grips e then 1 else 0) + s.probes e
-    counts e true at =
-        let same : e ≡ d = grind (arith, common_steps) in
-        let here : n.rose d ≡ n.rose e = ap n.rose (sym same) in
-        let probed : ◌≡◌ {A = ℕ} (if is_probed s.grips e then 1 else 0) 1 = ap (λ o. if unwrap_or (option_map (λ (grip : Grip). not (is_of_run grip.purpose)) o) false then 1 else 0) (ap s.grips same ∙ out) in
-        omega (arith, here, probed)
-    counts e false at = omega arith
-
-    probes : (e : ℕ) → probes_of (home_with s r d now (rise ∷ [])) e ≤ probes_of s e
-    probes e = subst (λ k. k + (if is_probed (put s.grips d None) e then 1 else 0) + s.probes e ≤ probes_of s e) (sym (ap (λ (x : Reading). x.rose e) (read_with s r (rise ∷ [])))) (counts e (e == d) refl)
 
 -- What is kept stays so when a device comes home
 

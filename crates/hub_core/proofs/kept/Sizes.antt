@@ -17,6 +17,7 @@ use Rattle.history_book.specs.declared.entries.End.TheVariants.{Aborted, Committ
 use Rattle.history_book.specs.declared.entries.Entry.{Entry}
 use Rattle.history_book.specs.declared.entries.Entry.TheVariants.{Arrived, Did, Doomed, Ended, Fell, Placed, Rose, Undid}
 use Rattle.home_types.specs.HomeStates.{stand_at}
+use Rattle.home_types.specs.Limits.{most_commands}
 use Rattle.home_types.specs.Kinds.{kind_at}
 use Rattle.home_types.specs.declared.commands.Answer.{Answer}
 use Rattle.home_types.specs.declared.commands.Command.{Command}
@@ -25,7 +26,8 @@ use Rattle.home_types.specs.declared.items.Item.{Item}
 use Rattle.home_types.specs.declared.numbers.DeviceNo.{DeviceNo}
 use Rattle.hub_core.specs.AccountedCalls.{told_falls}
 use Rattle.hub_core.specs.Bounds.{most_entries, most_events, most_items}
-use Rattle.hub_core.specs.HubKept.{ConfigurationIsKept}
+use Rattle.hub_core.specs.HubKept.{probes_of}
+use Rattle.hub_core.specs.KeptByModel.{IsKeptByModel}
 use Rattle.lock_leasing.specs.Configurations.{Configuration, read_of}
 use Rattle.std.proofs.Common.{ap, arith, cond, length-append, refl, subst, sym, ◌∙◌}
 use Rattle.std.proofs.lemmas.Grind.{common_steps}
@@ -310,24 +312,39 @@ take_turns : (w : Setting) (h : List Entry) → IsWellFormed w h → TakeTurns w
 take_turns w h ok = turns_from w (nothing_read w) h (λ d. refl) ok
 
 -- a device that is up as the window opens, and of which no failure is told, is counted up
-pub stays_up : (s : Configuration) (rounds opened d : ℕ) (held : ℕ → ℕ) → ConfigurationIsKept s rounds opened held → (stand_at s.setting.first d).up ≡ true → told_falls (entries_of s.history) d ≡ 0 → (read_of s).up d ≡ true
+pub steady_up : (w : Setting) (h : List Entry) (d : ℕ) → IsWellFormed w h → (stand_at w.first d).up ≡ true → told_falls h d ≡ 0 → (reading w h).up d ≡ true
 unfolding one_if
-stays_up s rounds opened d held kept up steady = by_up ((read_of s).up d) (take_turns s.setting (entries_of s.history) kept.history.well_formed d)
+steady_up w h d ok up steady = by_up ((reading w h).up d) (take_turns w h ok d)
   where
-    by_up : (b : Bool) → (read_of s).fell d + one_if b ≡ (read_of s).rose d + one_if (stand_at s.setting.first d).up → b ≡ true
+    by_up : (b : Bool) → (reading w h).fell d + one_if b ≡ (reading w h).rose d + one_if (stand_at w.first d).up → b ≡ true
     by_up true turns = refl
     by_up false turns =
-        let none : (read_of s).fell d ≡ 0 = fell_is s.setting (entries_of s.history) d ∙ steady in
-        let one : one_if (stand_at s.setting.first d).up ≡ 1 = ap one_if up in
+        let none : (reading w h).fell d ≡ 0 = fell_is w h d ∙ steady in
+        let one : one_if (stand_at w.first d).up ≡ 1 = ap one_if up in
         absurd (omega (arith, turns, none, one))
 
--- a device fails at most once more often than it comes back, and comes back at most once in a round of probes
-pub few_events : (s : Configuration) (rounds opened : ℕ) (held : ℕ → ℕ) (d : ℕ) → ConfigurationIsKept s rounds opened held → (read_of s).fell d + (read_of s).rose d ≤ 2 * rounds + 1
-few_events s rounds opened held d kept = omega (arith, take_turns s.setting (entries_of s.history) kept.history.well_formed d, kept.probes d, at_most_one (stand_at s.setting.first d).up)
+pub stays_up : (s : Configuration) (rounds opened d : ℕ) (held : ℕ → ℕ) → IsKeptByModel s rounds opened held → (stand_at s.setting.first d).up ≡ true → told_falls (entries_of s.history) d ≡ 0 → (read_of s).up d ≡ true
+stays_up s rounds opened d held kept up steady = steady_up s.setting (entries_of s.history) d kept.history.well_formed up steady
 
-events_fit : (s : Configuration) (rounds opened : ℕ) (held : ℕ → ℕ) → ConfigurationIsKept s rounds opened held → events_told (read_of s) (length s.setting.first) ≤ most_events (length s.setting.first) rounds
-events_fit s rounds opened held kept =
-    let fits : events_told (read_of s) (length s.setting.first) ≤ length s.setting.first * (2 * rounds + 1) = sum_fits (λ d. (read_of s).fell d + (read_of s).rose d) (length s.setting.first) (2 * rounds + 1) (λ d. few_events s rounds opened held d kept) in
+-- what its sizes rest on: a history that is well formed, restarts that each answer a probe, and runs with few commands
+pub record IsSized (s : Configuration) (rounds : ℕ) : Type 0 where
+  pub well_formed : IsWellFormed s.setting (entries_of s.history)
+  pub probes : (d : ℕ) → probes_of s d ≤ rounds
+  pub few_commands : (r : ℕ) → length (commands_of s.setting.runs r) ≤ most_commands
+
+pub is_sized : (s : Configuration) (rounds opened : ℕ) (held : ℕ → ℕ) → IsKeptByModel s rounds opened held → IsSized s rounds
+is_sized s rounds opened held kept = record { well_formed = kept.history.well_formed; probes = kept.probes; few_commands = kept.opens.few_commands }
+
+-- a device fails at most once more often than it comes back, and comes back at most once in a round of probes
+pub sized_events : (s : Configuration) (rounds d : ℕ) → IsSized s rounds → (read_of s).fell d + (read_of s).rose d ≤ 2 * rounds + 1
+sized_events s rounds d sized = omega (arith, take_turns s.setting (entries_of s.history) sized.well_formed d, sized.probes d, at_most_one (stand_at s.setting.first d).up)
+
+pub few_events : (s : Configuration) (rounds opened : ℕ) (held : ℕ → ℕ) (d : ℕ) → IsKeptByModel s rounds opened held → (read_of s).fell d + (read_of s).rose d ≤ 2 * rounds + 1
+few_events s rounds opened held d kept = sized_events s rounds d (is_sized s rounds opened held kept)
+
+events_fit : (s : Configuration) (rounds : ℕ) → IsSized s rounds → events_told (read_of s) (length s.setting.first) ≤ most_events (length s.setting.first) rounds
+events_fit s rounds sized =
+    let fits : events_told (read_of s) (length s.setting.first) ≤ length s.setting.first * (2 * rounds + 1) = sum_fits (λ d. (read_of s).fell d + (read_of s).rose d) (length s.setting.first) (2 * rounds + 1) (λ d. sized_events s rounds d sized) in
     omega (arith, fits, each_device (length s.setting.first) rounds)
   where
     each_device : (k r : ℕ) → k * (2 * r + 1) ≡ 2 * (r * k) + k
@@ -339,14 +356,17 @@ length_map f [] = refl
 length_map f (x ∷ xs) = ap suc (length_map f xs)
 
 -- the history has room for what its runs and devices can tell
-pub history_fits : (s : Configuration) (rounds opened : ℕ) (held : ℕ → ℕ) → ConfigurationIsKept s rounds opened held → length s.history ≤ most_entries (length s.setting.runs) (length s.setting.first) rounds
-history_fits s rounds opened held kept =
+pub sized_history : (s : Configuration) (rounds : ℕ) → IsSized s rounds → length s.history ≤ most_entries (length s.setting.runs) (length s.setting.first) rounds
+sized_history s rounds sized =
     let size : (read_of s).size ≡ length (entries_of s.history) = size_is s.setting (entries_of s.history) in
-    let told : IsTold s.setting (read_of s) = told_from s.setting (nothing_read s.setting) (entries_of s.history) (told_start s.setting) kept.history.well_formed in
-    let fits : sum_below (λ i. told_of (length s.setting.first) ((read_of s).run (suc i))) (length s.setting.runs) ≤ length s.setting.runs * 132 = sum_fits (λ i. told_of (length s.setting.first) ((read_of s).run (suc i))) (length s.setting.runs) 132 (λ i. told_fits s.setting (read_of s) (suc i) (shapes s.setting (entries_of s.history) kept.history.well_formed) (kept.opens.few_commands (suc i))) in
-    let events : events_told (read_of s) (length s.setting.first) ≤ most_events (length s.setting.first) rounds = events_fit s rounds opened held kept in
+    let told : IsTold s.setting (read_of s) = told_from s.setting (nothing_read s.setting) (entries_of s.history) (told_start s.setting) sized.well_formed in
+    let fits : sum_below (λ i. told_of (length s.setting.first) ((read_of s).run (suc i))) (length s.setting.runs) ≤ length s.setting.runs * 132 = sum_fits (λ i. told_of (length s.setting.first) ((read_of s).run (suc i))) (length s.setting.runs) 132 (λ i. told_fits s.setting (read_of s) (suc i) (shapes s.setting (entries_of s.history) sized.well_formed) (sized.few_commands (suc i))) in
+    let events : events_told (read_of s) (length s.setting.first) ≤ most_events (length s.setting.first) rounds = events_fit s rounds sized in
     let same : length (entries_of s.history) ≡ length s.history = length_map (λ k. k.entry) s.history in
     omega (arith, size, told, fits, events, same)
+
+pub history_fits : (s : Configuration) (rounds opened : ℕ) (held : ℕ → ℕ) → IsKeptByModel s rounds opened held → length s.history ≤ most_entries (length s.setting.runs) (length s.setting.first) rounds
+history_fits s rounds opened held kept = sized_history s rounds (is_sized s rounds opened held kept)
 
 -- How long a line can grow
 
@@ -452,19 +472,22 @@ items_counted k (Ran q ∷ is) each = at_run (items_counted k is (λ r there. ea
         omega (arith, rest, more, events)
 
 -- a line has at most an item for each run, each failure and each restart
-pub line_fits : (s : Configuration) (rounds opened : ℕ) (held : ℕ → ℕ) → ConfigurationIsKept s rounds opened held → length (read_of s).line ≤ most_items (length s.setting.runs) (length s.setting.first) rounds
-line_fits s rounds opened held kept =
+pub sized_line : (s : Configuration) (rounds : ℕ) → IsSized s rounds → length (read_of s).line ≤ most_items (length s.setting.runs) (length s.setting.first) rounds
+sized_line s rounds sized =
     let counted : ItemsFit (length s.setting.runs) (read_of s).line = items_counted (length s.setting.runs) (read_of s).line each in
     let few : sum_below (λ i. count_by (is_ran (suc i)) (read_of s).line) (length s.setting.runs) ≤ length s.setting.runs * 1 = sum_fits (λ i. count_by (is_ran (suc i)) (read_of s).line) (length s.setting.runs) 1 (λ i. one_at_most (stands_in ((read_of s).run (suc i))) _ (read.once (suc i))) in
-    let events : HasEvents s.setting (read_of s) = has_events s.setting (entries_of s.history) kept.history.well_formed in
-    let fits : events_told (read_of s) (length s.setting.first) ≤ most_events (length s.setting.first) rounds = events_fit s rounds opened held kept in
+    let events : HasEvents s.setting (read_of s) = has_events s.setting (entries_of s.history) sized.well_formed in
+    let fits : events_told (read_of s) (length s.setting.first) ≤ most_events (length s.setting.first) rounds = events_fit s rounds sized in
     omega (arith, counted, few, events, fits)
   where
     read : IsRead s.setting (read_of s)
-    read = read_facts s.setting (entries_of s.history) kept.history.well_formed
+    read = read_facts s.setting (entries_of s.history) sized.well_formed
 
     each : (r : ℕ) → list_any (is_ran r) (read_of s).line ≡ true → (0 < r) × (r ≤ length s.setting.runs)
     each r there =
         let stands : stands_in ((read_of s).run r) ≡ true = sym (read.standing.line r) ∙ there in
         let placed : is_some ((read_of s).run r).placed ≡ true = grind (arith, common_steps) in
         run_within s.setting.runs r ((read.shaped r).known ((read.shaped r).arrived placed))
+
+pub line_fits : (s : Configuration) (rounds opened : ℕ) (held : ℕ → ℕ) → IsKeptByModel s rounds opened held → length (read_of s).line ≤ most_items (length s.setting.runs) (length s.setting.first) rounds
+line_fits s rounds opened held kept = sized_line s rounds (is_sized s rounds opened held kept)

@@ -3,10 +3,10 @@ use Rattle.command_rules.specs.Rosters.{command_at, commands_of, no_command, run
 use Rattle.history_book.proofs.Searches.{each_found, own_devices}
 use Rattle.history_book.proofs.Shapes.{put_all}
 use Rattle.history_book.proofs.Snoc.{put_keeps}
-use Rattle.history_book.specs.Histories.{answered, entries_of, entry, is_fall_of, more_if}
+use Rattle.history_book.specs.Histories.{answered, entries_of, entry, is_fall_of, more_if, reading}
 use Rattle.history_book.specs.Readings.{First, Last, Event, Mark, OfRun, OnDevice, Reading, events_of, is_access, is_fall, is_last, is_told, next_command, nothing_read, put, same_answer, sees_down, sees_up, span_of, view_by}
 use Rattle.history_book.specs.Settings.{Setting, devices_of, is_device, is_strict}
-use Rattle.history_book.specs.WellFormed.{along, may_follow}
+use Rattle.history_book.specs.WellFormed.{IsWellFormed, along, each_entry, may_follow}
 use Rattle.history_book.specs.declared.entries.Cause.{Cause}
 use Rattle.history_book.specs.declared.entries.Cause.TheVariants.{DownAtEnd, Lost, MustDown, Refuted, Revoked}
 use Rattle.history_book.specs.declared.entries.End.TheVariants.{Aborted, Committed}
@@ -24,9 +24,9 @@ use Rattle.hub_core.proofs.kept.Sizes.{count_cons}
 use Rattle.hub_core.specs.AccountedCalls.{told_falls}
 use Rattle.hub_core.specs.CleanReads.{entry_is_clean}
 use Rattle.hub_core.specs.HubKept.{ConfigurationIsKept, keeps_leases}
-use Rattle.hub_core.specs.JustifiedAborts.{abort_is_justified, equals_some, has_answer}
-use Rattle.hub_core.specs.Openings.{names_values_of}
-use Rattle.lock_leasing.specs.Configurations.{Configuration, no_grips, read_of}
+use Rattle.hub_core.specs.JustifiedAborts.{IsJustified, abort_is_justified, equals_some, has_answer}
+use Rattle.hub_core.specs.Openings.{MayOpen, names_values_of}
+use Rattle.lock_leasing.specs.Configurations.{Configuration, no_grips}
 use Rattle.lock_leasing.specs.Waits.{down_at_end}
 use Rattle.lock_leasing.specs.Words.{has_touched}
 use Rattle.std.proofs.Common.{ap, append-nil, arith, cond, refl, sym, ◌∙◌}
@@ -144,7 +144,7 @@ abbrev pub AllUp : Setting → Type 0
 AllUp w = (d : ℕ) → d < length w.first → (stand_at w.first d).up ≡ true
 
 -- each command is on a device of the home
-abbrev AllHomed : Setting → Type 0
+abbrev pub AllHomed : Setting → Type 0
 AllHomed w = (r k : ℕ) (c : Command) → slice_get (commands_of w.runs r) k ≡ Some c → is_device w c.device.0 ≡ true
 
 clash : (b : Bool) → b ≡ true → b ≡ false → ⊥
@@ -221,8 +221,13 @@ none_at_end w n r up p = by_model (is_strict w.mode) (find (λ d. has_touched n 
     by_model true (Some d) e = absurd (found d e)
     by_model false o e = refl
 
+-- the answer Down is told where the device is counted down, or where the run saw it down before
+abbrev pub downs_told : Setting → Reading → Entry → Bool
+downs_told w n (Did r c Down) = not (n.up (command_at w.runs r.0 c).device.0) || sees_down n r.0 (command_at w.runs r.0 c).device.0
+downs_told w n e = true
+
 -- what follows is calm, where no device fails
-entry_calm : (w : Setting) (n : Reading) (e : Entry) → AllUp w → AllHomed w → CalmReads w n → may_follow w n e ≡ true → entry_is_clean w n e ≡ true → abort_is_justified w n e ≡ true → keeps_leases e ≡ true → ((d : ℕ) → d < length w.first → is_fall_of d e ≡ false) → calm_entry e ≡ true
+entry_calm : (w : Setting) (n : Reading) (e : Entry) → AllUp w → AllHomed w → CalmReads w n → may_follow w n e ≡ true → downs_told w n e ≡ true → abort_is_justified w n e ≡ true → keeps_leases e ≡ true → ((d : ℕ) → d < length w.first → is_fall_of d e ≡ false) → calm_entry e ≡ true
 entry_calm w n (Arrived r m) up homed p ok clean shown kept none = refl
 entry_calm w n (Placed r at m) up homed p ok clean shown kept none = refl
 entry_calm w n (Did r c Fine) up homed p ok clean shown kept none = refl
@@ -242,7 +247,7 @@ entry_calm w n (Doomed r (DownAtEnd d)) up homed p ok clean shown kept none = ab
 entry_calm w n (Ended r e) up homed p ok clean shown kept none = refl
 
 -- no failure of these devices is told
-abbrev NoneFalls : Setting → List Entry → Type 0
+abbrev pub NoneFalls : Setting → List Entry → Type 0
 NoneFalls w h = (d : ℕ) → d < length w.first → told_falls h d ≡ 0
 
 first_falls : (w : Setting) (e : Entry) (h : List Entry) → NoneFalls w (e ∷ h) → ((d : ℕ) → d < length w.first → is_fall_of d e ≡ false) × NoneFalls w h
@@ -256,7 +261,7 @@ first_falls w e h none = (λ d within. not_one (is_fall_of d e) (count_by (is_fa
     no_more true k e = absurd (omega (arith, e))
     no_more false k e = omega (arith, e)
 
-all_calm : (w : Setting) (n : Reading) (h : List Entry) → AllUp w → AllHomed w → CalmReads w n → IsTrue (along w (may_follow w) n h) → IsTrue (along w (entry_is_clean w) n h) → IsTrue (along w (abort_is_justified w) n h) → IsTrue (list_all keeps_leases h) → NoneFalls w h → IsTrue (list_all calm_entry h)
+all_calm : (w : Setting) (n : Reading) (h : List Entry) → AllUp w → AllHomed w → CalmReads w n → IsTrue (along w (may_follow w) n h) → IsTrue (along w (downs_told w) n h) → IsTrue (along w (abort_is_justified w) n h) → IsTrue (list_all keeps_leases h) → NoneFalls w h → IsTrue (list_all calm_entry h)
 all_calm w n [] up homed p ok clean shown kept none = refl
 all_calm w n (e ∷ h) up homed p ok clean shown kept none =
     let split = first_falls w e h none in
@@ -269,11 +274,51 @@ pub record NoneFailed (s : Configuration) : Type 0 where
   pub up : AllUp s.setting
   pub steady : (d : ℕ) → d < length s.setting.first → told_falls (entries_of s.history) d ≡ 0
 
-pub calm_entries : (s : Configuration) (rounds opened : ℕ) (held : ℕ → ℕ) → ConfigurationIsKept s rounds opened held → s.setting.mode.scheduler ≡ Fcfs → NoneFailed s → IsTrue (list_all calm_entry (entries_of s.history))
-calm_entries s rounds opened held kept first none =
-    all_calm s.setting (nothing_read s.setting) (entries_of s.history) none.up
-    (λ r k c at. let home : IsTrue (is_device s.setting c.device.0 && names_values_of (kind_at s.setting.kinds c.device.0) c.job) = kept.opens.homed r k c at in grind (arith, common_steps))
-    (calm_unread s.setting) kept.history.well_formed kept.history.clean kept.history.justified (kept.history.unrevoked first) none.steady
+-- what is known of the history of a window, under each model: each command is on a device of the home, where Down is told its device is down, dooms show their causes, and none is for a lease
+pub record IsPlain (w : Setting) (h : List Entry) : Type 0 where
+  pub homed : AllHomed w
+  pub well_formed : IsWellFormed w h
+  pub downs : IsTrue (each_entry w (downs_told w) h)
+  pub justified : IsJustified w h
+  pub unrevoked : IsTrue (list_all keeps_leases h)
+
+-- a test that says less
+pub along_less : (w : Setting) (test less : Reading → Entry → Bool) (n : Reading) (h : List Entry) → ((m : Reading) (e : Entry) → test m e ≡ true → less m e ≡ true) → IsTrue (along w test n h) → IsTrue (along w less n h)
+along_less w test less n [] step all = refl
+along_less w test less n (e ∷ h) step all =
+    let parts = both_of (test n e) (along w test (entry w n e) h) all in
+    let here = step n e parts.0 in
+    let rest : IsTrue (along w less (entry w n e) h) = along_less w test less (entry w n e) h step parts.1 in
+    rw (here, rest) refl
+
+-- each command of a window that may be opened is on a device of the home
+pub all_homed : (w : Setting) (rounds opened : ℕ) → MayOpen w rounds opened → AllHomed w
+all_homed w rounds opened opens r k c at = let home : IsTrue (is_device w c.device.0 && names_values_of (kind_at w.kinds c.device.0) c.job) = opens.homed r k c at in grind (arith, common_steps)
+
+pub is_plain : (s : Configuration) (rounds opened : ℕ) (held : ℕ → ℕ) → ConfigurationIsKept s rounds opened held → s.setting.mode.scheduler ≡ Fcfs → IsPlain s.setting (entries_of s.history)
+is_plain s rounds opened held kept first =
+    record {
+      homed = all_homed s.setting rounds opened kept.opens;
+      well_formed = kept.history.well_formed;
+      downs = along_less s.setting (entry_is_clean s.setting) (downs_told s.setting) (nothing_read s.setting) (entries_of s.history) told kept.history.clean;
+      justified = kept.history.justified;
+      unrevoked = kept.history.unrevoked first;
+    }
+  where
+    told : (n : Reading) (e : Entry) → entry_is_clean s.setting n e ≡ true → downs_told s.setting n e ≡ true
+    told n (Arrived r m) clean = refl
+    told n (Placed r at m) clean = refl
+    told n (Did r c Fine) clean = refl
+    told n (Did r c (Found x)) clean = refl
+    told n (Did r c Down) clean = clean
+    told n (Undid r d drove) clean = refl
+    told n (Fell d) clean = refl
+    told n (Rose d) clean = refl
+    told n (Doomed r cause) clean = refl
+    told n (Ended r e) clean = refl
+
+pub calm_entries : (w : Setting) (h : List Entry) → IsPlain w h → AllUp w → NoneFalls w h → IsTrue (list_all calm_entry h)
+calm_entries w h plain up steady = all_calm w (nothing_read w) h up plain.homed (calm_unread w) plain.well_formed plain.downs plain.justified plain.unrevoked steady
 
 -- Dooms
 
@@ -315,5 +360,5 @@ refuted_from w n [] all calm shown = all
 refuted_from w n (e ∷ h) all calm shown = refuted_from w (entry w n e) h (refuted_step w n e (grind (arith, common_steps)) (grind (arith, common_steps)) all) (grind (arith, common_steps)) (grind (arith, common_steps))
 
 -- in such a window
-pub dooms_are_refuted : (s : Configuration) (rounds opened : ℕ) (held : ℕ → ℕ) → ConfigurationIsKept s rounds opened held → s.setting.mode.scheduler ≡ Fcfs → NoneFailed s → DoomsAreRefuted s.setting (read_of s)
-dooms_are_refuted s rounds opened held kept first none = refuted_from s.setting (nothing_read s.setting) (entries_of s.history) (λ r. refl) (calm_entries s rounds opened held kept first none) kept.history.justified
+pub dooms_are_refuted : (w : Setting) (h : List Entry) → IsPlain w h → AllUp w → NoneFalls w h → DoomsAreRefuted w (reading w h)
+dooms_are_refuted w h plain up steady = refuted_from w (nothing_read w) h (λ r. refl) (calm_entries w h plain up steady) plain.justified

@@ -24,7 +24,7 @@ use Rattle.home_types.specs.declared.items.Item.TheVariants.{Back, Failed, Ran}
 use Rattle.home_types.specs.declared.modes.Scheduler.TheVariants.{Fcfs}
 use Rattle.home_types.specs.declared.worlds.Stand.{Stand}
 use Rattle.hub_core.proofs.kept.Sizes.{run_there, run_within}
-use Rattle.hub_core.proofs.stage.CalmHistories.{NoneFailed, dooms_are_refuted, is_refuted}
+use Rattle.hub_core.proofs.stage.CalmHistories.{IsPlain, NoneFailed, dooms_are_refuted, is_plain, is_refuted}
 use Rattle.hub_core.specs.AccountedCalls.{CallsAreAccounted}
 use Rattle.hub_core.specs.Agreement.{AgreesWithSerial}
 use Rattle.hub_core.specs.CleanReads.{ReadsAreClean}
@@ -41,7 +41,7 @@ use Rattle.lineage_table.specs.Accesses.{standing_value as accesses_standing}
 use Rattle.lineage_table.specs.Lineages.{LineageState, lineage_at, no_lineage}
 use Rattle.lineage_table.specs.declared.accesses.Access.{Access}
 use Rattle.lock_leasing.specs.Configurations.{Configuration, Grip, is_out, read_of}
-use Rattle.lock_leasing.specs.Places.{PlacesAreScheduled}
+use Rattle.lock_leasing.specs.Places.{GripsFit, PlacesAreScheduled}
 use Rattle.lock_leasing.specs.Tables.{uses}
 use Rattle.lock_leasing.specs.Words.{standing_value}
 use Rattle.std.proofs.Common.{ap, arith, cond, refl, subst, sym, ◌∙◌}
@@ -134,27 +134,34 @@ sound_without w r (Some (Lost d)) shown none = absurd (cc)
 sound_without w r (Some (Revoked lender d deadline m)) shown none = absurd (cc)
 sound_without w r (Some (DownAtEnd d)) shown none = absurd (cc)
 
--- and has ended committed, where runs are served as they come and no device fails
-pub ended_committed : (s : Configuration) (rounds opened : ℕ) (held : ℕ → ℕ) (r : ℕ) → ConfigurationIsKept s rounds opened held → IsQuiet s → s.setting.mode.scheduler ≡ Fcfs → NoneFailed s → is_run s.setting.runs r ≡ true → has_must_check s.setting.runs r ≡ false → ((read_of s).run r).ended ≡ Some Committed
-ended_committed s rounds opened held r kept quiet first calm run none = committed ((read_of s).run r).ended (quiet.ended r run) (λ aborts. (shapes s.setting (entries_of s.history) kept.history.well_formed r).aborts aborts)
+-- and has ended committed, where no device fails
+pub plain_committed : (s : Configuration) (r : ℕ) → IsPlain s.setting (entries_of s.history) → IsQuiet s → NoneFailed s → is_run s.setting.runs r ≡ true → has_must_check s.setting.runs r ≡ false → ((read_of s).run r).ended ≡ Some Committed
+plain_committed s r plain quiet calm run none = committed ((read_of s).run r).ended (quiet.ended r run) (λ aborts. (shapes s.setting (entries_of s.history) plain.well_formed r).aborts aborts)
   where
     sound : is_some ((read_of s).run r).doomed ≡ false
-    sound = sound_without s.setting r ((read_of s).run r).doomed (dooms_are_refuted s rounds opened held kept first calm r) none
+    sound = sound_without s.setting r ((read_of s).run r).doomed (dooms_are_refuted s.setting (entries_of s.history) plain calm.up calm.steady r) none
 
     committed : (o : Option End) → is_some o ≡ true → (unwrap_or (option_map is_abort o) false ≡ true → is_some ((read_of s).run r).doomed ≡ true) → o ≡ Some Committed
     committed None e doomed = absurd (cc)
     committed (Some Committed) e doomed = refl
     committed (Some (Aborted cause)) e doomed = absurd (let both : true ≡ false = sym (doomed refl) ∙ sound in cc)
 
+-- .. where runs are served as they come
+pub ended_committed : (s : Configuration) (rounds opened : ℕ) (held : ℕ → ℕ) (r : ℕ) → ConfigurationIsKept s rounds opened held → IsQuiet s → s.setting.mode.scheduler ≡ Fcfs → NoneFailed s → is_run s.setting.runs r ≡ true → has_must_check s.setting.runs r ≡ false → ((read_of s).run r).ended ≡ Some Committed
+ended_committed s rounds opened held r kept quiet first calm run none = plain_committed s r (is_plain s rounds opened held kept first) quiet calm run none
+
 -- and no device is out
-pub none_out : (s : Configuration) (rounds opened : ℕ) (held : ℕ → ℕ) (d : ℕ) → ConfigurationIsKept s rounds opened held → IsQuiet s → s.grips d ≡ None
-none_out s rounds opened held d kept quiet = by_grip (s.grips d) refl
+pub homed_in : (s : Configuration) (d : ℕ) → GripsFit s.setting (read_of s) s.grips → IsQuiet s → s.grips d ≡ None
+homed_in s d fit quiet = by_grip (s.grips d) refl
   where
     by_grip : (o : Option Grip) → s.grips d ≡ o → o ≡ None
     by_grip None e = refl
     by_grip (Some p) e =
         let out : is_out s.grips d ≡ true = ap (λ x. is_some x) e in
-        absurd (let both : true ≡ false = sym out ∙ quiet.home d (kept.order.grips.homed d out) in cc)
+        absurd (let both : true ≡ false = sym out ∙ quiet.home d (fit.homed d out) in cc)
+
+pub none_out : (s : Configuration) (rounds opened : ℕ) (held : ℕ → ℕ) (d : ℕ) → ConfigurationIsKept s rounds opened held → IsQuiet s → s.grips d ≡ None
+none_out s rounds opened held d kept quiet = homed_in s d kept.order.grips quiet
 
 -- What a quiet window promises
 
@@ -180,7 +187,7 @@ pub serial_is : (s : Configuration) (rounds opened : ℕ) (held : ℕ → ℕ) (
 serial_is s rounds opened held last kept quiet at = record { applies = agrees.applies; answers = agrees.answers; home = agrees.home; counted = agrees.counted }
   where
     agrees : AgreesAtEnd s.setting (read_of s) last
-    agrees = agrees_at_end s.setting (read_of s) s.grips held last (read_facts s.setting (entries_of s.history) kept.history.well_formed) kept.order kept.stage.strong (none_live s rounds opened held kept quiet) at.size at.each
+    agrees = agrees_at_end s.setting (read_of s) s.grips held last (read_facts s.setting (entries_of s.history) kept.history.well_formed) kept.order kept.strong (none_live s rounds opened held kept quiet) at.size at.each
 
 -- where no run has an access, there is none
 none_along : (has_one covering : ℕ → Bool) (access : ℕ → Access) (line : List Item) → ((r : ℕ) → has_one r ≡ false) → accesses_along has_one covering access line ≡ []
@@ -213,7 +220,7 @@ table_leaves s rounds opened held table last kept quiet fits are =
         let lineage = fits.each d within in
         let none : accesses_read w n s.grips lineage.passed d n.line ≡ [] = none_along (uses w n d) (commits_write n d) (access_read w n s.grips lineage.passed d) n.line (λ r. ap (λ b. b && touches w.runs r d && not (passed_by w n r d)) (over r)) in
         let stands : accesses_standing (lineage_at table d).committed (lineage_at table d).accesses ≡ standing_value w n s.grips d =
-        ap (accesses_standing (lineage_at table d).committed) (lineage.accesses ∙ none) ∙ lineage.committed ∙ sym (standing_committed w n s.grips held d (read_facts w (entries_of s.history) kept.history.well_formed) kept.order kept.stage.strong over) in
+        ap (accesses_standing (lineage_at table d).committed) (lineage.accesses ∙ none) ∙ lineage.committed ∙ sym (standing_committed w n s.grips held d (read_facts w (entries_of s.history) kept.history.well_formed) kept.order kept.strong over) in
         (λ i. record { value = stands i; up = lineage.up i })
 
 each_ended : (s : Configuration) (a k : ℕ) → ((r : ℕ) → a ≤ r → r < a + k → is_some ((read_of s).run r).ended ≡ true) → IsTrue (list_all (λ r. is_some ((read_of s).run r).ended) (range_with_len a k))
@@ -254,7 +261,7 @@ legal_is s rounds opened held closed kept quiet told =
     of_history P p = subst (λ h. P (entries_of h)) (sym told.history) p
 
 pub legal_window : (s : Configuration) (rounds opened : ℕ) (held : ℕ → ℕ) (closed : WindowRecord) → ConfigurationIsKept s rounds opened held → IsQuiet s → IsRecordOf s closed → IsLegalWindow s.setting closed
-legal_window s rounds opened held closed kept quiet told = subst under_weak (sym kept.stage.strong) (legal_is s rounds opened held closed kept quiet told)
+legal_window s rounds opened held closed kept quiet told = subst under_weak (sym kept.strong) (legal_is s rounds opened held closed kept quiet told)
   where
     under_weak : Bool → Type 0
     under_weak true = IsWeaklyLegal s.setting closed

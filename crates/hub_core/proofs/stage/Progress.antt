@@ -88,7 +88,7 @@ first_live n r (Back d k ∷ is) there live = let rest : (q : ℕ) × IsFirst n 
 
 -- The runs that go on
 
-home_free : (w : Setting) (g : Grips) (r : ℕ) → ((d : ℕ) → g d ≡ None) → grip_wait w g r ≡ None
+pub home_free : (w : Setting) (g : Grips) (r : ℕ) → ((d : ℕ) → g d ≡ None) → grip_wait w g r ≡ None
 home_free w g r home = none (device_numbers w)
   where
     none : (ds : List ℕ) → find (has_grip g r) ds ≡ None

@@ -39,11 +39,11 @@ use Rattle.std.specs.Prelude.{Bool, IsTrue, List, None, Option, Some, [], false,
 
 -- Two choices by cases that differ behind a case are the same where they are so when the case is past
 
-same_test : {A : Type 0} (b : Bool) (x s t : A) → (b ≡ false → s ≡ t) → unwrap_or (only_if b x) s ≡ unwrap_or (only_if b x) t
+pub same_test : {A : Type 0} (b : Bool) (x s t : A) → (b ≡ false → s ≡ t) → unwrap_or (only_if b x) s ≡ unwrap_or (only_if b x) t
 same_test true x s t rest = refl
 same_test false x s t rest = rest refl
 
-same_map : {A : Type 0} {B : Type 0} (f h : B → A) (o : Option B) (s t : A) → ((y : B) → o ≡ Some y → f y ≡ h y) → (o ≡ None → s ≡ t) → unwrap_or (option_map f o) s ≡ unwrap_or (option_map h o) t
+pub same_map : {A : Type 0} {B : Type 0} (f h : B → A) (o : Option B) (s t : A) → ((y : B) → o ≡ Some y → f y ≡ h y) → (o ≡ None → s ≡ t) → unwrap_or (option_map f o) s ≡ unwrap_or (option_map h o) t
 same_map f h None s t some none = none refl
 same_map f h (Some y) s t some none = some y refl
 
@@ -108,8 +108,8 @@ pub take_all : (line : List Item) → length (take (length line) line) ≡ lengt
 take_all [] = refl
 take_all (i ∷ is) = ap suc (take_all is)
 
-place_is : (w : Setting) (n : Reading) (g : Grips) (r m : ℕ) → StageSteps w n → decide_arrived w n g r m ≡ Moves (Placed (run_no r) (length n.line) m ∷ [])
-place_is w n g r m p = rw (no_leader w n r (p.follows_none r), p.scheduler) (ap (λ k. Moves (Placed (run_no r) k m ∷ [])) (take_all n.line))
+pub place_is : (w : Setting) (n : Reading) (g : Grips) (r m : ℕ) → scheduler_of w.mode ≡ Fcfs → followed_by w.runs r ≡ None → decide_arrived w n g r m ≡ Moves (Placed (run_no r) (length n.line) m ∷ [])
+place_is w n g r m first none = rw (no_leader w n r none, first) (ap (λ k. Moves (Placed (run_no r) k m ∷ [])) (take_all n.line))
 
 command_is : (w : Setting) (n : Reading) (g : Grips) (r m k : ℕ) (c : Command) → StageSteps w n → is_live n r ≡ true → decide_command w n g r m k c ≡ stage_command w n g r k c
 command_is w n g r m k c p live =
@@ -126,7 +126,7 @@ stage_decides w n g r m p =
     same_map (λ e. Over e []) (λ e. Over e []) (n.run r).ended _ _ (λ e at. refl) (λ going.
     same_map (λ d. Waits (Busy (device_no d))) (λ d. Waits (Busy (device_no d))) (grip_wait w g r) _ _ (λ d at. refl) (λ free.
     same_test (is_none (n.run r).arrived) (Moves (Arrived (run_no r) m ∷ [])) _ _ (λ came.
-    ap (λ c. unwrap_or (only_if (is_none (n.run r).placed) c) (first_case (option_map (decide_doomed w n g r) (n.run r).doomed ∷ option_map (decide_command w n g r m (next_of n r)) (next_command w n r) ∷ []) (decide_answered w n g r))) (place_is w n g r m p) ∙ same_test (is_none (n.run r).placed) (Moves (Placed (run_no r) (length n.line) m ∷ [])) _ _ (λ placed.
+    ap (λ c. unwrap_or (only_if (is_none (n.run r).placed) c) (first_case (option_map (decide_doomed w n g r) (n.run r).doomed ∷ option_map (decide_command w n g r m (next_of n r)) (next_command w n r) ∷ []) (decide_answered w n g r))) (place_is w n g r m p.scheduler (p.follows_none r)) ∙ same_test (is_none (n.run r).placed) (Moves (Placed (run_no r) (length n.line) m ∷ [])) _ _ (λ placed.
     same_map (decide_doomed w n g r) (stage_doomed w n g r) (n.run r).doomed _ _ (λ cause at. doomed_is w n g r cause p) (λ sound.
     same_map (decide_command w n g r m (next_of n r)) (stage_command w n g r (next_of n r)) (next_command w n r) _ _ (λ c at. command_is w n g r m (next_of n r) c p (live going placed)) (λ none. refl)))))))
   where
@@ -145,7 +145,7 @@ live_stands n r standing live = standing.line r ∙ stands (n.run r).placed (n.r
     stands (Some p) (Some e) f = absurd (cc)
 
 -- runs are placed first come first served
-first_served : (model : Visibility) (scheduler : Scheduler) → scheduler ≡ Fcfs → scheduler_of (record { model = model; scheduler = scheduler }) ≡ Fcfs
+pub first_served : (model : Visibility) (scheduler : Scheduler) → scheduler ≡ Fcfs → scheduler_of (record { model = model; scheduler = scheduler }) ≡ Fcfs
 first_served Weak scheduler e = refl
 first_served Global scheduler e = refl
 first_served Partitioned scheduler e = refl
@@ -154,7 +154,7 @@ first_served Eventual scheduler e = e
 pub stage_steps : (s : Configuration) (rounds opened : ℕ) (held : ℕ → ℕ) → ConfigurationIsKept s rounds opened held → StageSteps s.setting (read_of s)
 stage_steps s rounds opened held kept =
     record {
-      strong = kept.stage.strong;
+      strong = kept.strong;
       scheduler = first_served s.setting.mode.model s.setting.mode.scheduler kept.stage.scheduler;
       follows_none = kept.stage.follows_none;
       homed = λ r k c at. let home : IsTrue (is_device s.setting c.device.0 && names_values_of (kind_at s.setting.kinds c.device.0) c.job) = kept.opens.homed r k c at in grind (arith, common_steps);

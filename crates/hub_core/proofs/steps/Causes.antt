@@ -170,6 +170,10 @@ weak_is_not_strict Global s e = absurd (cc)
 weak_is_not_strict Partitioned s e = absurd (cc)
 weak_is_not_strict Eventual s e = absurd (cc)
 
+-- no run of it fails at its end for a device that is down
+pub never_down_at_end : (w : Setting) (n : Reading) (g : Grips) (r : ℕ) → is_weak w.mode ≡ true → down_at_end w n g r ≡ None
+never_down_at_end w n g r weak = ap (λ b. if b then find (λ e. has_touched n g r e && not (n.up e)) (devices_of w r) else None) (weak_is_not_strict w.mode.model w.mode.scheduler weak)
+
 abbrev pub IsAllowed : Setting → Reading → Choice → Type 0
 IsAllowed w n c = IsTrue (along w (weakly_allowed w) n (made_by c))
 
@@ -188,10 +192,6 @@ take_is_allowed w n g r m weak passes =
       revokes = λ c x run strong at. absurd (let both' : true ≡ false = sym weak ∙ strong in cc);
       downs = λ c run next home down. weakly_down w n r c weak run.next down;
       goes = λ c run next home up. refl;
-      fails_at_end = λ d all at. absurd (never d (is_strict w.mode) (weak_is_not_strict w.mode.model w.mode.scheduler weak) at);
+      fails_at_end = λ d all at. absurd (let both' : None ≡ Some d = sym (never_down_at_end w n g r weak) ∙ at in cc);
       commits = λ all up. and_is (passes all.sound) refl;
     })
-  where
-    never : (d : ℕ) (b : Bool) → b ≡ false → (if b then find (λ e. has_touched n g r e && not (n.up e)) (devices_of w r) else None) ≡ Some d → ⊥
-    never d true e f = absurd (cc)
-    never d false e f = absurd (cc)

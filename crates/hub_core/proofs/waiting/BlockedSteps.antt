@@ -1,5 +1,5 @@
 -- The runs that are marked as blocked stay so in each step of a hub, but for those that the step may have freed.
-use Rattle.command_rules.specs.Rosters.{command_at, device_no, is_run, run_no}
+use Rattle.command_rules.specs.Rosters.{device_no, is_run, run_no}
 use Rattle.history_book.proofs.Snoc.{entries_on, put_other, put_same}
 use Rattle.history_book.specs.Histories.{entries_of, kept_by}
 use Rattle.history_book.specs.Readings.{Reading, did, is_doomed, is_live, pends, put}
@@ -8,7 +8,6 @@ use Rattle.history_book.specs.declared.entries.Cause.TheVariants.{Lost}
 use Rattle.history_book.specs.declared.entries.Entry.{Entry}
 use Rattle.history_book.specs.declared.entries.Entry.TheVariants.{Did, Doomed, Fell, Rose}
 use Rattle.home_types.specs.declared.commands.Answer.{Answer}
-use Rattle.home_types.specs.declared.commands.Command.{Command}
 use Rattle.home_types.specs.declared.numbers.RunNo.{RunNo}
 use Rattle.device_gate.specs.declared.slips.Told.{Told}
 use Rattle.device_gate.specs.declared.slips.Told.TheVariants.{Died, Sensed, Worked}
@@ -16,24 +15,24 @@ use Rattle.hub_core.proofs.kept.BlockedMarks.{all_left}
 use Rattle.hub_core.proofs.kept.Finds.{find_same}
 use Rattle.hub_core.proofs.kept.HubReads.{run_place}
 use Rattle.hub_core.proofs.kept.Hands.{IsOf, others_hold}
-use Rattle.hub_core.proofs.steps.Choices.{Commanding, decide_is}
+use Rattle.hub_core.proofs.steps.Choices.{decide_is}
 use Rattle.hub_core.proofs.steps.GiveCauses.{next_pends}
 use Rattle.hub_core.proofs.waiting.HeldDevices.{did_now, held_waits, next_after_answer, next_kept}
 use Rattle.hub_core.proofs.waiting.Moments.{waits_on}
 use Rattle.hub_core.proofs.waiting.OtherDevices.{stays_blocked}
 use Rattle.hub_core.specs.BlockedMarks.{AreBlocked, AreLeft, BlockedState, MayHaveMarked, is_marked, is_marked_at}
-use Rattle.hub_core.specs.BlockedRuns.{IsBlocked, IsElsewhere, is_quiet, is_wait, next_device}
+use Rattle.hub_core.specs.BlockedRuns.{IsBlocked, is_quiet, is_wait, next_device}
 use Rattle.hub_core.specs.HubKept.{ConfigurationIsKept}
 use Rattle.hub_core.specs.MarkedRuns.{IsAnsweredStill, is_out_for_command}
-use Rattle.hub_core.specs.Steps.{Absent, Choice, HandsOut, Moves, Over, Waits, after_give, at_moment, choice_of, decide, give_entries, with_entries, with_grip}
+use Rattle.hub_core.specs.Steps.{Absent, Choice, HandsOut, Moves, Over, Waits, at_moment, choice_of, decide, give_entries, with_entries, with_grip}
 use Rattle.hub_core.specs.declared.waits.Why.{Why}
-use Rattle.lock_leasing.specs.Configurations.{Commands, Configuration, Grip, Grips, Probes, Purpose, Undoes, grips_command, has_grip, is_command, is_out, read_of}
+use Rattle.lock_leasing.specs.Configurations.{Commands, Configuration, Grip, Grips, Probes, Purpose, Undoes, grips_command, has_grip, is_command, read_of}
 use Rattle.lock_leasing.specs.Waits.{grip_wait, lost_by}
 use Rattle.std.proofs.Common.{ap, arith, inl, inr, refl, subst, sym, ◌∙◌}
 use Rattle.std.proofs.lemmas.Grind.{common_steps}
 use Rattle.std.proofs.lemmas.List.{append-nil}
 use Rattle.std.specs.List.{list_all}
-use Rattle.std.specs.Prelude.{Bool, List, None, Option, Some, [], false, if◌then◌else◌, is_some, max, not, option_map, option_to_list, true, unwrap_or, ℕ, ⊤, ◌&&◌, ◌++◌, ◌==◌, ◌||◌, ◌∷◌, ◌≡◌, ◌≢◌, ◌≤◌, ◌⊎◌}
+use Rattle.std.specs.Prelude.{Bool, List, None, Option, Some, [], false, if◌then◌else◌, is_some, max, option_map, option_to_list, true, unwrap_or, ℕ, ⊤, ◌++◌, ◌==◌, ◌||◌, ◌∷◌, ◌≡◌, ◌≢◌, ◌≤◌, ◌⊎◌}
 use Rattle.window_order.proofs.GripWords.{own_command}
 use Rattle.window_order.proofs.Grips.{holds_none}
 

@@ -133,7 +133,7 @@ behind_waits w n g r m k c strong current behind =
 pub held_waits : (s : Configuration) (rounds opened : ℕ) (held : ℕ → ℕ) (x q d : ℕ) → ConfigurationIsKept s rounds opened held → is_live (read_of s) x ≡ true → is_doomed (read_of s) x ≡ false → has_touched (read_of s) s.grips x d ≡ true
     → pends s.setting (read_of s) x d ≡ true → q ≢ x → next_device s q ≡ Some d → IsBlocked s q
 held_waits s rounds opened held x q d kept live sound touched pending other next =
-    calm_waits s q d 0 at (kept_calm s rounds opened held q d d kept at) (ap is_wait (command_choice s q d 0 at) ∙ behind_waits w n s.grips q (max s.moment 0) (next_of n q) at.command kept.stage.strong (kept_calm s rounds opened held q d at.command.device.0 kept at (max s.moment 0)) behind)
+    calm_waits s q d 0 at (kept_calm s rounds opened held q d d kept at) (ap is_wait (command_choice s q d 0 at) ∙ behind_waits w n s.grips q (max s.moment 0) (next_of n q) at.command kept.strong (kept_calm s rounds opened held q d at.command.device.0 kept at (max s.moment 0)) behind)
   where
     w : Setting
     w = s.setting

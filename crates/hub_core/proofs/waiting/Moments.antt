@@ -57,7 +57,8 @@ waits_on s rounds opened held r d kept next m why waits = let at = at_command s 
 
 -- In this stage each wait lasts as long as no step is made
 
-alike : (absent : Bool) (ended : Option End) (grip : Option ℕ) (fresh unplaced : Bool) (x y a b : List Entry) (rest : Choice) (f : ℕ → Why)
+-- what stands behind does not count the moment
+pub alike : (absent : Bool) (ended : Option End) (grip : Option ℕ) (fresh unplaced : Bool) (x y a b : List Entry) (rest : Choice) (f : ℕ → Why)
     → is_wait (first_case (only_if absent Absent ∷ option_map (λ e. Over e []) ended ∷ option_map (λ d. Waits (f d)) grip ∷ only_if fresh (Moves x) ∷ only_if unplaced (Moves y) ∷ []) rest)
     ≡ is_wait (first_case (only_if absent Absent ∷ option_map (λ e. Over e []) ended ∷ option_map (λ d. Waits (f d)) grip ∷ only_if fresh (Moves a) ∷ only_if unplaced (Moves b) ∷ []) rest)
 alike true ended grip fresh unplaced x y a b rest f = refl

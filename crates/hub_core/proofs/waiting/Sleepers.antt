@@ -1,21 +1,18 @@
 -- Who may sleep: a take of a blocked run changes nothing but the moment, and each sleeper that no step has called is blocked.
 use Rattle.command_rules.specs.Rosters.{is_run}
-use Rattle.history_book.specs.Readings.{put}
 use Rattle.hub_core.proofs.waiting.Moments.{wait_lasts}
-use Rattle.hub_core.specs.BlockedMarks.{AreBlocked, BlockedState, is_marked}
 use Rattle.hub_core.specs.BlockedRuns.{IsBlocked, is_wait}
 use Rattle.hub_core.specs.HubKept.{ConfigurationIsKept}
 use Rattle.hub_core.specs.Steps.{Absent, Choice, HandsOut, Moves, Over, Waits, after_choice, after_take, at_moment, choice_of, decide}
 use Rattle.hub_core.specs.declared.waits.Why.{Why}
 use Rattle.lock_leasing.specs.Configurations.{Configuration, read_of}
 use Rattle.lock_leasing.specs.Waits.{grip_wait}
-use Rattle.std.proofs.Common.{ap, arith, refl, subst, sym, ◌∙◌}
-use Rattle.std.proofs.lemmas.Grind.{common_steps}
-use Rattle.std.specs.Prelude.{Bool, None, false, if◌then◌else◌, max, true, ℕ, ◌&&◌, ◌==◌, ◌≡◌, ◌≤◌}
-use Rattle.window_order.proofs.Runs.{both}
+use Rattle.std.proofs.Common.{ap, arith, refl, sym, ◌∙◌}
+use Rattle.std.specs.Prelude.{Bool, None, false, max, true, ℕ, ◌≡◌, ◌≤◌}
 
 -- Takes of a blocked run
 
+-- what is a wait waits for something
 pub wait_is : (c : Choice) → is_wait c ≡ true → (why : Why) × (c ≡ Waits why)
 wait_is Absent e = absurd (cc)
 wait_is (Over end entries) e = absurd (cc)
@@ -49,32 +46,13 @@ blocked_later s r m blocked = record {
 abbrev pub SleepersAreBlocked : Configuration → (ℕ → Bool) → Type 0
 SleepersAreBlocked s sleeping = (r : ℕ) → sleeping r ≡ true → IsBlocked s r
 
--- those that sleep on, where the others that are not marked are called
-abbrev pub left_sleeping : BlockedState → (ℕ → Bool) → ℕ → Bool
-left_sleeping b sleeping r = sleeping r && is_marked b r
-
--- after a step in which each sleeper that is not marked is called, each one left is blocked
-pub sleepers_after_step : (t : Configuration) (b : BlockedState) (sleeping : ℕ → Bool) → AreBlocked t b → SleepersAreBlocked t (left_sleeping b sleeping)
-sleepers_after_step t b sleeping are r sleeps = are.blocked r (both (sleeping r) (is_marked b r) sleeps).1
-
--- .. and where none is called, since each is marked
-pub sleepers_marked : (t : Configuration) (b : BlockedState) (sleeping : ℕ → Bool) → AreBlocked t b → ((r : ℕ) → sleeping r ≡ true → is_marked b r ≡ true) → SleepersAreBlocked t sleeping
-sleepers_marked t b sleeping are marked r sleeps = are.blocked r (marked r sleeps)
-
 -- the clock wakes nobody
 pub sleepers_later : (s : Configuration) (m : ℕ) (sleeping : ℕ → Bool) → SleepersAreBlocked s sleeping → SleepersAreBlocked (at_moment s m) sleeping
 sleepers_later s m sleeping blocked r sleeps = blocked_later s r m (blocked r sleeps)
 
--- a blocked run may fall asleep
-pub sleeps_too : (s : Configuration) (sleeping : ℕ → Bool) (r : ℕ) → IsBlocked s r → SleepersAreBlocked s sleeping → SleepersAreBlocked s (put sleeping r true)
-sleeps_too s sleeping r own blocked q sleeps = elim (q == r) as (λ b. (q == r) ≡ b → (if b then true else sleeping q) ≡ true → IsBlocked s q) [
-  | true ↦ (λ e f. let same : q ≡ r = grind (arith, common_steps) in subst (IsBlocked s) (sym same) own)
-  | false ↦ (λ e f. blocked q f)
-] refl sleeps
-
--- in this stage a run that is told to wait and holds no grip is blocked, marked or not
-pub told_sleeps : (s : Configuration) (rounds opened : ℕ) (held : ℕ → ℕ) (r m : ℕ) (why : Why) → ConfigurationIsKept s rounds opened held → grip_wait s.setting s.grips r ≡ None → choice_of s r m ≡ Waits why → IsBlocked s r
-told_sleeps s rounds opened held r m why kept free waits = record { run = by_run (is_run s.setting.runs r) refl; free = free; waits = λ a. wait_lasts s rounds opened held r a m kept ∙ ap is_wait waits }
+-- a run that is told to wait is one of the window
+pub waiting_run : (s : Configuration) (r m : ℕ) (why : Why) → choice_of s r m ≡ Waits why → is_run s.setting.runs r ≡ true
+waiting_run s r m why waits = by_run (is_run s.setting.runs r) refl
   where
     by_run : (b : Bool) → is_run s.setting.runs r ≡ b → is_run s.setting.runs r ≡ true
     by_run true e = e
@@ -82,3 +60,7 @@ told_sleeps s rounds opened held r m why kept free waits = record { run = by_run
       where
         none : is_run s.setting.runs r ≡ false → choice_of s r m ≡ Absent
         none e = rw e refl
+
+-- in this stage a run that is told to wait and holds no grip is blocked, marked or not
+pub told_sleeps : (s : Configuration) (rounds opened : ℕ) (held : ℕ → ℕ) (r m : ℕ) (why : Why) → ConfigurationIsKept s rounds opened held → grip_wait s.setting s.grips r ≡ None → choice_of s r m ≡ Waits why → IsBlocked s r
+told_sleeps s rounds opened held r m why kept free waits = record { run = waiting_run s r m why waits; free = free; waits = λ a. wait_lasts s rounds opened held r a m kept ∙ ap is_wait waits }

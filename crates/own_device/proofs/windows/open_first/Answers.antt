@@ -1,5 +1,5 @@
 use Rattle.command_rules.specs.Rosters.{runs_of}
-use Rattle.own_device.proofs.Openings.{may_open, stage_allows}
+use Rattle.hub_core.proofs.FirstWindows.{may_open, stage_allows}
 use Rattle.own_device.proofs.windows.open_first.Goals as goal
 use Rattle.routine_reader.specs.Rosters.{kinds_of, script_runs}
 use Rattle.std.proofs.Common.{rules, ◌≡◌}

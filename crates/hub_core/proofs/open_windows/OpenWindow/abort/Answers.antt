@@ -1,8 +1,7 @@
 use Rattle.history_book.specs.declared.entries.End.TheVariants.{Aborted}
 use Rattle.hub_core.proofs.calls.HubChanges.{Ending, chosen_here, has_place}
-use Rattle.hub_core.proofs.calls.HubChoices.{aborting, finished_is}
-use Rattle.hub_core.proofs.calls.HubOrders.{aborts_whole, read_whole, standing_whole}
-use Rattle.hub_core.proofs.calls.NextUndos.{next_undo_is}
+use Rattle.hub_core.proofs.calls.HubChoices.{aborting}
+use Rattle.hub_core.proofs.calls.HubOrders.{aborts_whole, hub_finished, read_whole}
 use Rattle.hub_core.proofs.open_windows.OpenWindow.abort.Goals as goal
 use Rattle.hub_core.specs.ReadHistories.{with_entry}
 use Rattle.hub_core.specs.declared.decisions.Chosen.TheVariants.{Aborts}
@@ -17,7 +16,7 @@ withdraw-requires-clause-run g c =
 pub withdraw-requires-clause-finished : goal.withdraw-requires-clause-finished
 withdraw-requires-clause-finished g c =
     let ends = aborting _ _ _ _ c.args.r.0 c.args.moment c.args.cause c.self.invariant.shown.configuration (chosen_here c.self.inside c.args.self.now c.args.r.0 c.args.moment (Aborts c.args.cause) c.self.view_is c.requires) in
-    next_undo_is _ _ _ _ _ c.args.r.0 (standing_whole c.self.inside c.kept.ensures c.self.invariant) ends.live ∙ finished_is _ c.args.r.0 c.args.cause ends
+    hub_finished c.self.inside c.args.r.0 c.args.moment c.args.cause c.kept.ensures ends c.self.invariant
 
 pub abort-requires-clause-room : goal.abort-requires-clause-room
 abort-requires-clause-room g c = has_place c.self.inside c.args.r.0 c.args.moment _ (Ending (Aborted c.args.cause)) (chosen_here c.self.inside c.args.self.now c.args.r.0 c.args.moment (Aborts c.args.cause) c.self.view_is c.requires) c.self.invariant

@@ -1,4 +1,5 @@
 use Rattle.command_rules.specs.Rosters.{is_run}
+use Rattle.history_book.specs.Settings.{is_weak}
 use Rattle.home_types.specs.declared.commands.Answer.TheVariants.{Down}
 use Rattle.hub_core.proofs.calls.Deaths.{after_death, death_entries, death_known, death_made, death_may, death_number, died_back, died_whole, fallen_few}
 use Rattle.hub_core.proofs.calls.HubReturns.{CameHome, back_given, command_back, grip_back, hand_back}
@@ -7,7 +8,7 @@ use Rattle.hub_core.proofs.steps.LastAnswers.{just_answered}
 use Rattle.hub_core.specs.ReadHistories.{HistoryState, with_entry}
 use Rattle.hub_core.specs.declared.open_windows.OpenWindow.TheInside.{Inside}
 use Rattle.hub_core.specs.declared.purposes.Purpose.TheVariants.{Command as ForCommand}
-use Rattle.std.proofs.Common.{ap, arith, refl, ◌∙◌}
+use Rattle.std.proofs.Common.{ap, arith, refl, sym, ◌∙◌}
 use Rattle.std.specs.Prelude.{Some, ◌<◌}
 
 pub fallen-events-requires : goal.fallen-events-requires
@@ -37,35 +38,20 @@ answer-entry-requires-clause-room g c = (after_death c.self.inside c.args.k _ c.
 pub answer-entry-requires-clause-few : goal.answer-entry-requires-clause-few
 answer-entry-requires-clause-few g c = (after_death c.self.inside c.args.k _ c.args.grip c.slip-slip.result c.is_first-first.result c.died_by-cause.result c.note_fall-fell.new.history c.note_fall-fell.new.order.table (grip_back c.self.inside c.args.self.now (ForCommand c.args.k) _ c.args.grip c.self.view_is c.requires.kept c.requires.maker c.requires.purpose c.take_home-held.ensures.called) c.slip-slip.ensures c.requires.died c.is_first-first.ensures c.died_by-cause.ensures c.note_fall-fell.ensures.history c.note_fall-fell.ensures.order.counted c.self.invariant).few
 
-pub is_done-is_last-requires-clause-run : goal.is_done-is_last-requires-clause-run
-is_done-is_last-requires-clause-run g c =
+pub note_answer-requires : goal.note_answer-requires
+note_answer-requires g c =
     let after = (after_death c.self.inside c.args.k _ c.args.grip c.slip-slip.result c.is_first-first.result c.died_by-cause.result c.note_fall-fell.new.history c.note_fall-fell.new.order.table (grip_back c.self.inside c.args.self.now (ForCommand c.args.k) _ c.args.grip c.self.view_is c.requires.kept c.requires.maker c.requires.purpose c.take_home-held.ensures.called) c.slip-slip.ensures c.requires.died c.is_first-first.ensures c.died_by-cause.ensures c.note_fall-fell.ensures.history c.note_fall-fell.ensures.order.counted c.self.invariant) in
     let last = just_answered c.note_fall-fell.new.history c.answer-entry.new.self c.slip-slip.result.maker c.slip-slip.result.maker c.args.k c.slip-slip.result.device.0 c.answer-entry.result Down after.run after.next after.there after.on refl c.answer-entry.ensures.entry c.answer-entry.ensures.new in
-    last.run
-
-pub is_done-is_last-requires-clause-there : goal.is_done-is_last-requires-clause-there
-is_done-is_last-requires-clause-there g c =
-    let after = (after_death c.self.inside c.args.k _ c.args.grip c.slip-slip.result c.is_first-first.result c.died_by-cause.result c.note_fall-fell.new.history c.note_fall-fell.new.order.table (grip_back c.self.inside c.args.self.now (ForCommand c.args.k) _ c.args.grip c.self.view_is c.requires.kept c.requires.maker c.requires.purpose c.take_home-held.ensures.called) c.slip-slip.ensures c.requires.died c.is_first-first.ensures c.died_by-cause.ensures c.note_fall-fell.ensures.history c.note_fall-fell.ensures.order.counted c.self.invariant) in
-    let last = just_answered c.note_fall-fell.new.history c.answer-entry.new.self c.slip-slip.result.maker c.slip-slip.result.maker c.args.k c.slip-slip.result.device.0 c.answer-entry.result Down after.run after.next after.there after.on refl c.answer-entry.ensures.entry c.answer-entry.ensures.new in
-    last.there
-
-pub is_done-is_last-requires-clause-device : goal.is_done-is_last-requires-clause-device
-is_done-is_last-requires-clause-device g c =
-    let after = (after_death c.self.inside c.args.k _ c.args.grip c.slip-slip.result c.is_first-first.result c.died_by-cause.result c.note_fall-fell.new.history c.note_fall-fell.new.order.table (grip_back c.self.inside c.args.self.now (ForCommand c.args.k) _ c.args.grip c.self.view_is c.requires.kept c.requires.maker c.requires.purpose c.take_home-held.ensures.called) c.slip-slip.ensures c.requires.died c.is_first-first.ensures c.died_by-cause.ensures c.note_fall-fell.ensures.history c.note_fall-fell.ensures.order.counted c.self.invariant) in
-    let last = just_answered c.note_fall-fell.new.history c.answer-entry.new.self c.slip-slip.result.maker c.slip-slip.result.maker c.args.k c.slip-slip.result.device.0 c.answer-entry.result Down after.run after.next after.there after.on refl c.answer-entry.ensures.entry c.answer-entry.ensures.new in
-    last.device
-
-pub is_done-is_last-requires-clause-answered : goal.is_done-is_last-requires-clause-answered
-is_done-is_last-requires-clause-answered g c =
-    let after = (after_death c.self.inside c.args.k _ c.args.grip c.slip-slip.result c.is_first-first.result c.died_by-cause.result c.note_fall-fell.new.history c.note_fall-fell.new.order.table (grip_back c.self.inside c.args.self.now (ForCommand c.args.k) _ c.args.grip c.self.view_is c.requires.kept c.requires.maker c.requires.purpose c.take_home-held.ensures.called) c.slip-slip.ensures c.requires.died c.is_first-first.ensures c.died_by-cause.ensures c.note_fall-fell.ensures.history c.note_fall-fell.ensures.order.counted c.self.invariant) in
-    let last = just_answered c.note_fall-fell.new.history c.answer-entry.new.self c.slip-slip.result.maker c.slip-slip.result.maker c.args.k c.slip-slip.result.device.0 c.answer-entry.result Down after.run after.next after.there after.on refl c.answer-entry.ensures.entry c.answer-entry.ensures.new in
-    last.answered
-
-pub note-requires-clause-device : goal.note-requires-clause-device
-note-requires-clause-device g c = (after_death c.self.inside c.args.k _ c.args.grip c.slip-slip.result c.is_first-first.result c.died_by-cause.result c.note_fall-fell.new.history c.note_fall-fell.new.order.table (grip_back c.self.inside c.args.self.now (ForCommand c.args.k) _ c.args.grip c.self.view_is c.requires.kept c.requires.maker c.requires.purpose c.take_home-held.ensures.called) c.slip-slip.ensures c.requires.died c.is_first-first.ensures c.died_by-cause.ensures c.note_fall-fell.ensures.history c.note_fall-fell.ensures.order.counted c.self.invariant).device
-
-pub note-requires-clause-turn : goal.note-requires-clause-turn
-note-requires-clause-turn g c = (after_death c.self.inside c.args.k _ c.args.grip c.slip-slip.result c.is_first-first.result c.died_by-cause.result c.note_fall-fell.new.history c.note_fall-fell.new.order.table (grip_back c.self.inside c.args.self.now (ForCommand c.args.k) _ c.args.grip c.self.view_is c.requires.kept c.requires.maker c.requires.purpose c.take_home-held.ensures.called) c.slip-slip.ensures c.requires.died c.is_first-first.ensures c.died_by-cause.ensures c.note_fall-fell.ensures.history c.note_fall-fell.ensures.order.counted c.self.invariant).turn
+    record {
+      told = λ strong. record {
+        run = last.run;
+        there = last.there;
+        device = last.device;
+        answered = last.answered;
+        homed = after.device;
+        turn = after.turn (ap (λ (x : HistoryState). is_weak x.setting.mode) (sym c.answer-entry.ensures.new) ∙ strong);
+      };
+    }
 
 pub doom_for-doomed-requires-clause-run : goal.doom_for-doomed-requires-clause-run
 doom_for-doomed-requires-clause-run g c = ap (λ s. is_run s.setting.runs c.slip-slip.result.maker) c.answer-entry.ensures.new ∙ (after_death c.self.inside c.args.k _ c.args.grip c.slip-slip.result c.is_first-first.result c.died_by-cause.result c.note_fall-fell.new.history c.note_fall-fell.new.order.table (grip_back c.self.inside c.args.self.now (ForCommand c.args.k) _ c.args.grip c.self.view_is c.requires.kept c.requires.maker c.requires.purpose c.take_home-held.ensures.called) c.slip-slip.ensures c.requires.died c.is_first-first.ensures c.died_by-cause.ensures c.note_fall-fell.ensures.history c.note_fall-fell.ensures.order.counted c.self.invariant).run
@@ -75,7 +61,7 @@ doom_for-doomed-requires-clause-room g c = λ some. let more : 1 < c.note_fall-f
 
 pub invariant_of-self : goal.invariant_of-self
 invariant_of-self g c =
-    died_whole c.self.inside _ c.args.moment c.take_home-held.result.held c.args.k _ c.fallen-events.result.fell c.fallen-events.result c.args.grip c.slip-slip.result c.is_first-first.result c.first_death.result c.died_by-cause.result c.note_fall-fell.new.history c.answer-entry.new.self _ _ _ c.note_fall-fell.new.order c.note.new.self (grip_back c.self.inside c.args.self.now (ForCommand c.args.k) _ c.args.grip c.self.view_is c.requires.kept c.requires.maker c.requires.purpose c.take_home-held.ensures.called) (record { moment_is = c.max-self-inside.ensures; value_is = c.take_home-held.ensures.held; events_are = death_known c.self.inside c.args.self.now c.args.grip.slip c.slip-slip.result c.args.grip.stage.told c.events.result c.fallen-events.result c.self.view_is c.events.ensures c.fallen-events.ensures c.slip-slip.ensures c.requires.died; devices_are = c.take_home-held.ensures.devices; places_are = c.take_home-held.ensures.places; tickets_are = c.take_home-held.ensures.tickets; hands_are = c.take_home-held.ensures.hands; new = refl }) (record {
+    died_whole c.self.inside _ c.args.moment c.take_home-held.result.held c.args.k _ c.fallen-events.result.fell c.fallen-events.result c.args.grip c.slip-slip.result c.is_first-first.result c.first_death.result c.died_by-cause.result c.note_fall-fell.new.history c.answer-entry.new.self _ _ _ c.note_fall-fell.new.order c.note_answer.new.order (grip_back c.self.inside c.args.self.now (ForCommand c.args.k) _ c.args.grip c.self.view_is c.requires.kept c.requires.maker c.requires.purpose c.take_home-held.ensures.called) (record { moment_is = c.max-self-inside.ensures; value_is = c.take_home-held.ensures.held; events_are = death_known c.self.inside c.args.self.now c.args.grip.slip c.slip-slip.result c.args.grip.stage.told c.events.result c.fallen-events.result c.self.view_is c.events.ensures c.fallen-events.ensures c.slip-slip.ensures c.requires.died; devices_are = c.take_home-held.ensures.devices; places_are = c.take_home-held.ensures.places; tickets_are = c.take_home-held.ensures.tickets; hands_are = c.take_home-held.ensures.hands; new = refl }) (record {
       same = c.slip-slip.ensures;
       died = c.requires.died;
       first_is = c.is_first-first.ensures;
@@ -87,11 +73,12 @@ invariant_of-self g c =
       died_is = c.first_death.ensures;
       fell = c.note_fall-fell.ensures.order;
       number_is = (death_number c.self.inside c.args.self.now c.slip-slip.result c.events.result c.fallen-events.result c.self.view_is c.events.ensures c.fallen-events.ensures);
-      view_is = c.noted.ensures.view;
-      wrote_is = c.noted.ensures.wrote;
-      last_is = c.noted.ensures.last ∙ c.is_done-is_last.ensures;
-      line = c.note.ensures.line;
-      table = c.note.ensures.table;
+      view_is = refl;
+      wrote_is = refl;
+      last_is = refl;
+      line = c.note_answer.ensures.line;
+      table = λ strong. c.note_answer.ensures.ordered ((ap (λ (x : HistoryState). is_weak x.setting.mode) c.answer-entry.ensures.new ∙ ap (λ (x : HistoryState). is_weak x.setting.mode) c.note_fall-fell.ensures.history) ∙ strong);
+      same_table = λ weak. c.note_answer.ensures.weakly ((ap (λ (x : HistoryState). is_weak x.setting.mode) c.answer-entry.ensures.new ∙ ap (λ (x : HistoryState). is_weak x.setting.mode) c.note_fall-fell.ensures.history) ∙ weak);
       line_after = c.doom_for-doomed.ensures.line;
       unchanged = c.doom_for-doomed.ensures.table;
       changed = c.doom_for-doomed.ensures.doomed;

@@ -1,4 +1,5 @@
 use Rattle.command_rules.specs.Rosters.{is_run}
+use Rattle.history_book.specs.Settings.{is_weak}
 use Rattle.history_book.specs.Readings.{next_of}
 use Rattle.hub_core.proofs.calls.HubChanges.{answer_entries}
 use Rattle.hub_core.proofs.calls.HubReturns.{CameHome, answer_made, answered_back, back_given, back_place, command_back, doom_place, grip_back, hand_back, lived_events}
@@ -7,7 +8,7 @@ use Rattle.hub_core.proofs.calls.ReturnedOrders.{answered_whole, may_tell}
 use Rattle.hub_core.proofs.open_windows.OpenWindow.answer_lived.Goals as goal
 use Rattle.device_gate.specs.declared.slips.Slip.{Slip}
 use Rattle.hub_core.specs.OpenHubs.{OpenHub, device_at}
-use Rattle.hub_core.specs.ReadHistories.{read_in, with_doom, with_entry}
+use Rattle.hub_core.specs.ReadHistories.{HistoryState, read_in, with_doom, with_entry}
 use Rattle.hub_core.specs.Steps.{answer_told}
 use Rattle.hub_core.specs.declared.open_windows.OpenWindow.TheInside.{Inside}
 use Rattle.hub_core.specs.declared.purposes.Purpose.TheVariants.{Command as ForCommand}
@@ -38,35 +39,21 @@ answer-entry-requires-clause-few g c =
     let number : next_of (read_in c.self.inside.history) c.slip-slip.result.maker ≡ c.args.k = ap (λ s. next_of (read_in c.self.inside.history) s.maker) c.slip-slip.ensures ∙ sym command.next in
     omega (arith, number, command.few)
 
-pub is_done-is_last-requires-clause-run : goal.is_done-is_last-requires-clause-run
-is_done-is_last-requires-clause-run g c =
+pub note_answer-requires : goal.note_answer-requires
+note_answer-requires g c =
     let command = command_back c.self.inside c.args.self.now c.args.grip.slip c.args.grip.task c.args.k c.self.view_is c.requires.kept c.requires.purpose c.self.invariant in
     let last = just_answered c.self.inside.history c.answer-entry.new.self c.args.grip.slip.maker c.slip-slip.result.maker c.args.k c.slip-slip.result.device.0 c.answer-entry.result c.answer_told-answer.result command.run command.next command.within (command.on ∙ ap (λ s. s.device.0) (sym c.slip-slip.ensures)) (ap (λ s. s.maker) c.slip-slip.ensures) c.answer-entry.ensures.entry c.answer-entry.ensures.new in
-    last.run
-
-pub is_done-is_last-requires-clause-there : goal.is_done-is_last-requires-clause-there
-is_done-is_last-requires-clause-there g c =
-    let command = command_back c.self.inside c.args.self.now c.args.grip.slip c.args.grip.task c.args.k c.self.view_is c.requires.kept c.requires.purpose c.self.invariant in
-    let last = just_answered c.self.inside.history c.answer-entry.new.self c.args.grip.slip.maker c.slip-slip.result.maker c.args.k c.slip-slip.result.device.0 c.answer-entry.result c.answer_told-answer.result command.run command.next command.within (command.on ∙ ap (λ s. s.device.0) (sym c.slip-slip.ensures)) (ap (λ s. s.maker) c.slip-slip.ensures) c.answer-entry.ensures.entry c.answer-entry.ensures.new in
-    last.there
-
-pub is_done-is_last-requires-clause-device : goal.is_done-is_last-requires-clause-device
-is_done-is_last-requires-clause-device g c =
-    let command = command_back c.self.inside c.args.self.now c.args.grip.slip c.args.grip.task c.args.k c.self.view_is c.requires.kept c.requires.purpose c.self.invariant in
-    let last = just_answered c.self.inside.history c.answer-entry.new.self c.args.grip.slip.maker c.slip-slip.result.maker c.args.k c.slip-slip.result.device.0 c.answer-entry.result c.answer_told-answer.result command.run command.next command.within (command.on ∙ ap (λ s. s.device.0) (sym c.slip-slip.ensures)) (ap (λ s. s.maker) c.slip-slip.ensures) c.answer-entry.ensures.entry c.answer-entry.ensures.new in
-    last.device
-
-pub is_done-is_last-requires-clause-answered : goal.is_done-is_last-requires-clause-answered
-is_done-is_last-requires-clause-answered g c =
-    let command = command_back c.self.inside c.args.self.now c.args.grip.slip c.args.grip.task c.args.k c.self.view_is c.requires.kept c.requires.purpose c.self.invariant in
-    let last = just_answered c.self.inside.history c.answer-entry.new.self c.args.grip.slip.maker c.slip-slip.result.maker c.args.k c.slip-slip.result.device.0 c.answer-entry.result c.answer_told-answer.result command.run command.next command.within (command.on ∙ ap (λ s. s.device.0) (sym c.slip-slip.ensures)) (ap (λ s. s.maker) c.slip-slip.ensures) c.answer-entry.ensures.entry c.answer-entry.ensures.new in
-    last.answered
-
-pub note-requires-clause-device : goal.note-requires-clause-device
-note-requires-clause-device g c = (may_tell c.self.inside c.args.k _ c.args.grip c.slip-slip.result (grip_back c.self.inside c.args.self.now (ForCommand c.args.k) _ c.args.grip c.self.view_is c.requires.kept c.requires.maker c.requires.purpose c.take_home-told.ensures.called) c.slip-slip.ensures c.self.invariant).device
-
-pub note-requires-clause-turn : goal.note-requires-clause-turn
-note-requires-clause-turn g c = (may_tell c.self.inside c.args.k _ c.args.grip c.slip-slip.result (grip_back c.self.inside c.args.self.now (ForCommand c.args.k) _ c.args.grip c.self.view_is c.requires.kept c.requires.maker c.requires.purpose c.take_home-told.ensures.called) c.slip-slip.ensures c.self.invariant).turn
+    let tells = may_tell c.self.inside c.args.k _ c.args.grip c.slip-slip.result (grip_back c.self.inside c.args.self.now (ForCommand c.args.k) _ c.args.grip c.self.view_is c.requires.kept c.requires.maker c.requires.purpose c.take_home-told.ensures.called) c.slip-slip.ensures c.self.invariant in
+    record {
+      told = λ strong. record {
+        run = last.run;
+        there = last.there;
+        device = last.device;
+        answered = last.answered;
+        homed = tells.device;
+        turn = tells.turn (ap (λ (x : HistoryState). is_weak x.setting.mode) (sym c.answer-entry.ensures.new) ∙ strong);
+      };
+    }
 
 pub doom_for-doomed-requires-clause-run : goal.doom_for-doomed-requires-clause-run
 doom_for-doomed-requires-clause-run g c = ap (λ s. is_run s.setting.runs c.slip-slip.result.maker) c.answer-entry.ensures.new ∙ ap (λ s. is_run c.self.inside.history.setting.runs s.maker) c.slip-slip.ensures ∙ (command_back c.self.inside c.args.self.now c.args.grip.slip c.args.grip.task c.args.k c.self.view_is c.requires.kept c.requires.purpose c.self.invariant).run
@@ -83,7 +70,7 @@ doom_for-doomed-requires-clause-room g c = λ some. doom_place c.self.inside c.a
 
 pub invariant_of-self : goal.invariant_of-self
 invariant_of-self g c =
-    answered_whole c.self.inside _ c.args.moment c.take_home-told.result.held c.args.k _ c.events-events.result c.args.grip c.slip-slip.result c.answer_told-answer.result c.refuted-cause.result c.answer-entry.new.self _ _ _ c.note.new.self (grip_back c.self.inside c.args.self.now (ForCommand c.args.k) _ c.args.grip c.self.view_is c.requires.kept c.requires.maker c.requires.purpose c.take_home-told.ensures.called) (record { moment_is = c.max-self-inside.ensures; value_is = c.take_home-told.ensures.held; events_are = c.events-events.ensures ∙ ap (λ (x : Slip). (device_at c.args.self.now.devices x.device.0).events) c.slip-slip.ensures ∙ ap (λ (x : OpenHub g.row.D.Denot). (device_at x.devices c.args.grip.slip.device.0).events) (sym c.self.view_is) ∙ lived_events c.args.grip.stage.told _ c.requires.lives; devices_are = c.take_home-told.ensures.devices; places_are = c.take_home-told.ensures.places; tickets_are = c.take_home-told.ensures.tickets; hands_are = c.take_home-told.ensures.hands; new = refl }) (record {
+    answered_whole c.self.inside _ c.args.moment c.take_home-told.result.held c.args.k _ c.events-events.result c.args.grip c.slip-slip.result c.answer_told-answer.result c.refuted-cause.result c.answer-entry.new.self _ _ _ c.note_answer.new.order (grip_back c.self.inside c.args.self.now (ForCommand c.args.k) _ c.args.grip c.self.view_is c.requires.kept c.requires.maker c.requires.purpose c.take_home-told.ensures.called) (record { moment_is = c.max-self-inside.ensures; value_is = c.take_home-told.ensures.held; events_are = c.events-events.ensures ∙ ap (λ (x : Slip). (device_at c.args.self.now.devices x.device.0).events) c.slip-slip.ensures ∙ ap (λ (x : OpenHub g.row.D.Denot). (device_at x.devices c.args.grip.slip.device.0).events) (sym c.self.view_is) ∙ lived_events c.args.grip.stage.told _ c.requires.lives; devices_are = c.take_home-told.ensures.devices; places_are = c.take_home-told.ensures.places; tickets_are = c.take_home-told.ensures.tickets; hands_are = c.take_home-told.ensures.hands; new = refl }) (record {
       same = c.slip-slip.ensures;
       lives = c.requires.lives;
       told = c.answer_told-answer.ensures ∙ ap answer_told c.take_home-told.ensures.told;
@@ -91,11 +78,12 @@ invariant_of-self g c =
       answered = c.answer-entry.ensures.new ∙ ap (with_entry c.self.inside.history c.slip-slip.result.maker) c.answer-entry.ensures.entry;
       doomed = c.doom_for-doomed.ensures.history;
     }) (record {
-      view_is = c.noted.ensures.view;
-      wrote_is = c.noted.ensures.wrote;
-      last_is = c.noted.ensures.last ∙ c.is_done-is_last.ensures;
-      line = c.note.ensures.line;
-      table = c.note.ensures.table;
+      view_is = refl;
+      wrote_is = refl;
+      last_is = refl;
+      line = c.note_answer.ensures.line;
+      table = λ strong. c.note_answer.ensures.ordered (ap (λ (x : HistoryState). is_weak x.setting.mode) c.answer-entry.ensures.new ∙ strong);
+      same_table = λ weak. c.note_answer.ensures.weakly (ap (λ (x : HistoryState). is_weak x.setting.mode) c.answer-entry.ensures.new ∙ weak);
       line_after = c.doom_for-doomed.ensures.line;
       unchanged = c.doom_for-doomed.ensures.table;
       changed = c.doom_for-doomed.ensures.doomed;

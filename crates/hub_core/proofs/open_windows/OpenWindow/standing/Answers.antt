@@ -1,11 +1,12 @@
 use Rattle.command_rules.specs.Rosters.{runs_of}
+use Rattle.hub_core.proofs.calls.HubChanges.{strong_here}
 use Rattle.hub_core.proofs.calls.HubOrders.{standing_whole}
 use Rattle.hub_core.proofs.open_windows.OpenWindow.standing.Goals as goal
 use Rattle.hub_core.specs.OpenHubs.{OpenHub, configuration_of}
 use Rattle.lock_leasing.specs.Standings.{IsStandingOf}
-use Rattle.std.proofs.Common.{subst}
+use Rattle.std.proofs.Common.{false, subst}
 
 pub returns : goal.returns
 returns g c =
     subst (λ (t : OpenHub g.row.D.Denot). IsStandingOf (configuration_of t) c.self.inside.order.table c.self.inside.order.line.marks c.book.result.now.items (runs_of c.indexed_roster.result.now)) c.self.view_is
-    (rw (c.book.ensures, c.indexed_roster.ensures) (standing_whole c.self.inside c.kept.ensures c.self.invariant))
+    (rw (c.book.ensures, c.indexed_roster.ensures) (standing_whole c.self.inside c.kept.ensures (strong_here c.self.inside c.args.self.now false c.self.view_is c.requires.strong) c.self.invariant))

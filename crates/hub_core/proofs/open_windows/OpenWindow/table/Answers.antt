@@ -10,7 +10,7 @@ use Rattle.std.proofs.Common.{false, length, subst, ◌≡◌, ◌≤◌, ℕ}
 pub returns-clause-represents : goal.returns-clause-represents
 returns-clause-represents g c =
     subst (λ (t : OpenHub g.row.D.Denot). is_weak t.setting.mode ≡ false → Represents t.setting (read_of (configuration_of t)) (configuration_of t).grips c.self.inside.order.table) c.self.view_is
-    (λ strong. (standing_whole c.self.inside c.kept.ensures c.self.invariant).its_table)
+    (λ strong. (standing_whole c.self.inside c.kept.ensures strong c.self.invariant).its_table)
 
 -- at most one access for each run
 pub returns-clause-few : goal.returns-clause-few

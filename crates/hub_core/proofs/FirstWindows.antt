@@ -1,4 +1,4 @@
--- The first window of a sound script may be opened on its new home, where no run of it follows another.
+-- The first window of a sound script may be opened on its new home under the eventual model, where no run of it follows another.
 use Rattle.command_rules.specs.Rosters.{Run, commands_of, followed_by, run_at, runs_of}
 use Rattle.command_rules.specs.declared.rosters.Roster.{Roster}
 use Rattle.home_types.specs.Kinds.{kind_at}
@@ -121,7 +121,7 @@ both : (a b : Bool) → a ≡ true → b ≡ true → (a && b) ≡ true
 both true b left right = right
 both false b left right = absurd (cc)
 
--- the mode of the example
+-- the mode
 
 abbrev pub mode : Mode
 mode = record { model = Eventual; scheduler = Fcfs }
@@ -168,4 +168,4 @@ may_open tag stands turns probes faults script window home roster is =
 pub stage_allows : {D : Type 0} (script : Script) (window : WindowText) (home : HomeState D) (roster : Roster) → runs_of roster ≡ script_runs script 0 → slice_get script.windows.items 0 ≡ Some window → list_any (λ run. is_some run.follows) window.runs.items ≡ false → StageAllows (setting_for home roster mode) window.probes
 stage_allows script window home roster runs at none =
     subst (λ rs. StageAllows (record { runs = rs; mode = mode; kinds = home.kinds; first = home.world }) window.probes) (runs_are script window roster at runs)
-    (record { strong = refl; scheduler = refl; follows_none = λ r. follows_none script window r none })
+    (record { scheduler = refl; follows_none = λ r. follows_none script window r none })

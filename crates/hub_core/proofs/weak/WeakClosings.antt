@@ -1,0 +1,205 @@
+-- What follows of a window of the weak model: its sizes, and what it is when it is closed.
+use Rattle.history_book.specs.Histories.{entries_of, entry, reading}
+use Rattle.history_book.specs.Readings.{Reading, nothing_read, sees_down}
+use Rattle.history_book.specs.Settings.{Setting}
+use Rattle.history_book.specs.WellFormed.{IsWellFormed, along, each_entry}
+use Rattle.history_book.specs.declared.entries.Cause.TheVariants.{DownAtEnd, Lost, MustDown, Refuted, Revoked}
+use Rattle.history_book.specs.declared.entries.End.TheVariants.{Committed}
+use Rattle.history_book.specs.declared.entries.Entry.TheVariants.{Arrived, Did, Doomed, Ended, Fell, Placed, Rose, Undid}
+use Rattle.history_book.specs.declared.entries.Entry.{Entry}
+use Rattle.history_book.specs.declared.records.WindowRecord.{WindowRecord}
+use Rattle.home_types.specs.HomeStates.{stand_at}
+use Rattle.home_types.specs.Kinds.{has_value, kind_at}
+use Rattle.home_types.specs.declared.commands.Answer.TheVariants.{Down, Fine, Found}
+use Rattle.home_types.specs.declared.worlds.Stand.{Stand}
+use Rattle.hub_core.proofs.kept.EndedOnce.{dooms_fit, ends_fit}
+use Rattle.hub_core.proofs.kept.Sizes.{IsSized, sized_events, sized_history, sized_line, steady_up}
+use Rattle.hub_core.proofs.stage.CalmHistories.{IsPlain, NoneFailed, all_homed, along_less, downs_told}
+use Rattle.hub_core.proofs.stage.Closings.{IsQuiet, all_have_ended, homed_in, plain_committed}
+use Rattle.hub_core.specs.AccountedCalls.{CallsAreAccounted}
+use Rattle.hub_core.specs.Bounds.{is_doom, is_end, most_entries, most_items}
+use Rattle.hub_core.specs.HubKept.{UndosFit, keeps_leases, undo_fits}
+use Rattle.hub_core.specs.JustifiedAborts.{IsJustified, abort_is_justified}
+use Rattle.hub_core.specs.LegalWindows.{IsLegalWindow, IsSeriallyLegal, IsWeaklyLegal, all_ended, history_of, weakly_allowed}
+use Rattle.hub_core.specs.Stage.{has_must_check}
+use Rattle.hub_core.specs.WeakKept.{WeakIsKept}
+use Rattle.lock_leasing.specs.Configurations.{Commands, Configuration, Probes, Purpose, Undoes, read_of}
+use Rattle.command_rules.specs.Rosters.{command_at, is_run}
+use Rattle.std.proofs.Common.{ap, arith, refl, subst, sym, ◌∙◌}
+use Rattle.std.proofs.lemmas.Grind.{common_steps}
+use Rattle.std.specs.List.{list_all}
+use Rattle.std.specs.Prelude.{Bool, IsTrue, List, None, Some, [], count_by, false, is_some, length, nat_lt, not, true, ℕ, ◌&&◌, ◌*◌, ◌+◌, ◌<◌, ◌==◌, ◌||◌, ◌∷◌, ◌≡◌, ◌≤◌}
+
+-- Sizes
+
+pub record SizesFit (s : Configuration) (rounds : ℕ) : Type 0 where
+  pub history : length s.history ≤ most_entries (length s.setting.runs) (length s.setting.first) rounds
+  pub line : length (read_of s).line ≤ most_items (length s.setting.runs) (length s.setting.first) rounds
+  pub ends : count_by is_end (entries_of s.history) ≤ length s.setting.runs
+  pub dooms : count_by is_doom (entries_of s.history) ≤ length s.setting.runs
+  pub events : (d : ℕ) → (read_of s).fell d + (read_of s).rose d ≤ 2 * rounds + 1
+
+pub weak_sized : (s : Configuration) (rounds opened : ℕ) (held : ℕ → ℕ) → WeakIsKept s rounds opened held → IsSized s rounds
+weak_sized s rounds opened held kept = record { well_formed = kept.well_formed; probes = kept.probes; few_commands = kept.opens.few_commands }
+
+pub weak_sizes : (s : Configuration) (rounds opened : ℕ) (held : ℕ → ℕ) → WeakIsKept s rounds opened held → SizesFit s rounds
+weak_sizes s rounds opened held kept =
+    let sized : IsSized s rounds = weak_sized s rounds opened held kept in
+    record {
+      history = sized_history s rounds sized;
+      line = sized_line s rounds sized;
+      ends = ends_fit s.setting (entries_of s.history) kept.well_formed;
+      dooms = dooms_fit s.setting (entries_of s.history) kept.well_formed;
+      events = λ d. sized_events s rounds d sized;
+    }
+
+-- What is allowed under the weak model
+
+-- a doom shows its cause
+allowed_shows : (w : Setting) (n : Reading) (e : Entry) → weakly_allowed w n e ≡ true → abort_is_justified w n e ≡ true
+allowed_shows w n (Arrived r m) ok = refl
+allowed_shows w n (Placed r at m) ok = refl
+allowed_shows w n (Did r c a) ok = refl
+allowed_shows w n (Undid r d drove) ok = refl
+allowed_shows w n (Fell d) ok = refl
+allowed_shows w n (Rose d) ok = refl
+allowed_shows w n (Doomed r (MustDown c)) ok = ok
+allowed_shows w n (Doomed r (Refuted c x)) ok = ok
+allowed_shows w n (Doomed r (Lost d)) ok = absurd (cc)
+allowed_shows w n (Doomed r (Revoked lender d deadline m)) ok = absurd (cc)
+allowed_shows w n (Doomed r (DownAtEnd d)) ok = absurd (cc)
+allowed_shows w n (Ended r e) ok = refl
+
+pub weak_justified : (s : Configuration) (rounds opened : ℕ) (held : ℕ → ℕ) → WeakIsKept s rounds opened held → IsJustified s.setting (entries_of s.history)
+weak_justified s rounds opened held kept = along_less s.setting (weakly_allowed s.setting) (abort_is_justified s.setting) (nothing_read s.setting) (entries_of s.history) (allowed_shows s.setting) kept.allowed
+
+-- Down is told where the device is counted down
+allowed_downs : (w : Setting) (n : Reading) (e : Entry) → weakly_allowed w n e ≡ true → downs_told w n e ≡ true
+allowed_downs w n (Arrived r m) ok = refl
+allowed_downs w n (Placed r at m) ok = refl
+allowed_downs w n (Did r c Fine) ok = refl
+allowed_downs w n (Did r c (Found x)) ok = refl
+allowed_downs w n (Did r c Down) ok = ap (λ b. b || sees_down n r.0 (command_at w.runs r.0 c).device.0) ok
+allowed_downs w n (Undid r d drove) ok = refl
+allowed_downs w n (Fell d) ok = refl
+allowed_downs w n (Rose d) ok = refl
+allowed_downs w n (Doomed r cause) ok = refl
+allowed_downs w n (Ended r e) ok = refl
+
+-- no doom is for a lease
+allowed_leases : (w : Setting) (n : Reading) (e : Entry) → weakly_allowed w n e ≡ true → keeps_leases e ≡ true
+allowed_leases w n (Arrived r m) ok = refl
+allowed_leases w n (Placed r at m) ok = refl
+allowed_leases w n (Did r c a) ok = refl
+allowed_leases w n (Undid r d drove) ok = refl
+allowed_leases w n (Fell d) ok = refl
+allowed_leases w n (Rose d) ok = refl
+allowed_leases w n (Doomed r (MustDown c)) ok = refl
+allowed_leases w n (Doomed r (Refuted c x)) ok = refl
+allowed_leases w n (Doomed r (Lost d)) ok = refl
+allowed_leases w n (Doomed r (Revoked lender d deadline m)) ok = absurd (cc)
+allowed_leases w n (Doomed r (DownAtEnd d)) ok = refl
+allowed_leases w n (Ended r e) ok = refl
+
+-- a test of the entries alone
+all_along : (w : Setting) (test : Entry → Bool) (n : Reading) (h : List Entry) → IsTrue (along w (λ m e. test e) n h) → IsTrue (list_all test h)
+all_along w test n [] all = refl
+all_along w test n (e ∷ h) all = let rest : IsTrue (list_all test h) = all_along w test (entry w n e) h (tail (test e) (along w (λ m x. test x) (entry w n e) h) all) in rw (head (test e) (along w (λ m x. test x) (entry w n e) h) all, rest) refl
+  where
+    head : (a b : Bool) → (a && b) ≡ true → a ≡ true
+    head a b e = grind (arith, common_steps)
+
+    tail : (a b : Bool) → (a && b) ≡ true → b ≡ true
+    tail a b e = grind (arith, common_steps)
+
+weak_plain : (s : Configuration) (rounds opened : ℕ) (held : ℕ → ℕ) → WeakIsKept s rounds opened held → IsPlain s.setting (entries_of s.history)
+weak_plain s rounds opened held kept =
+    record {
+      homed = all_homed s.setting rounds opened kept.opens;
+      well_formed = kept.well_formed;
+      downs = along_less w (weakly_allowed w) (downs_told w) (nothing_read w) (entries_of s.history) (allowed_downs w) kept.allowed;
+      justified = weak_justified s rounds opened held kept;
+      unrevoked = all_along w keeps_leases (nothing_read w) (entries_of s.history) (along_less w (weakly_allowed w) (λ n e. keeps_leases e) (nothing_read w) (entries_of s.history) (allowed_leases w) kept.allowed);
+    }
+  where
+    w : Setting
+    w = s.setting
+
+-- What is out
+
+-- a probe restores a value of its device's kind, where the hub holds such values
+pub weak_undos : (s : Configuration) (rounds opened : ℕ) (held : ℕ → ℕ) → ((d : ℕ) → d < length s.setting.first → IsTrue (has_value (kind_at s.setting.kinds d) (held d))) → WeakIsKept s rounds opened held → UndosFit s.setting s.grips
+weak_undos s rounds opened held values kept d grip at = by_purpose grip.purpose at
+  where
+    within : d < length s.setting.first
+    within = below d (length s.setting.first) (kept.grips.homed d (ap is_some at))
+      where
+        below : (a b : ℕ) → nat_lt a b ≡ true → a < b
+        below a b e = grind (arith, common_steps)
+
+    last_of : (b : Bool) (v last : ℕ) → (not b && (v == last)) ≡ true → v ≡ last
+    last_of b v last e = grind (arith, common_steps)
+
+    by_purpose : (p : Purpose) → s.grips d ≡ Some (record { maker = grip.maker; purpose = p }) → undo_fits (kind_at s.setting.kinds d) p ≡ true
+    by_purpose (Commands k) out = refl
+    by_purpose (Undoes v) out = absurd (let undoes : false ≡ true = kept.out d (record { maker = grip.maker; purpose = Undoes v }) out in cc)
+    by_purpose (Probes None) out = refl
+    by_purpose (Probes (Some v)) out = ap (has_value (kind_at s.setting.kinds d)) (last_of ((read_of s).up d) v ((read_of s).last d) (kept.out d (record { maker = grip.maker; purpose = Probes (Some v) }) out) ∙ sym (kept.held_is d within)) ∙ values d within
+
+-- A quiet window
+
+-- no device is out
+pub weak_none_out : (s : Configuration) (rounds opened : ℕ) (held : ℕ → ℕ) (d : ℕ) → WeakIsKept s rounds opened held → IsQuiet s → s.grips d ≡ None
+weak_none_out s rounds opened held d kept quiet = homed_in s d kept.grips quiet
+
+-- the last state has each device at the value that the hub holds, up or down as it is counted
+pub record IsHeldState (s : Configuration) (held : ℕ → ℕ) (last : List Stand) : Type 0 where
+  pub size : length last ≡ length s.setting.first
+  pub each : (d : ℕ) → d < length s.setting.first → stand_at last d ≡ record { value = held d; up = (read_of s).up d }
+
+-- what its record tells, which claims no order
+pub record IsWeakRecordOf (s : Configuration) (held : ℕ → ℕ) (closed : WindowRecord) : Type 0 where
+  pub mode : closed.mode ≡ s.setting.mode
+  pub first : closed.first.devices.items ≡ s.setting.first
+  pub history : closed.history.items ≡ s.history
+  pub unclaimed : closed.order.items ≡ []
+  pub last : IsHeldState s held closed.last.devices.items
+  pub accounted : CallsAreAccounted s.setting (entries_of s.history) closed.turns.items closed.faults.items
+
+-- it is a legal window
+pub weak_legal : (s : Configuration) (rounds opened : ℕ) (held : ℕ → ℕ) (closed : WindowRecord) → WeakIsKept s rounds opened held → IsQuiet s → IsWeakRecordOf s held closed → IsWeaklyLegal s.setting closed
+weak_legal s rounds opened held closed kept quiet told =
+    record {
+      mode = told.mode;
+      first = told.first;
+      well_formed = of_history (λ h. IsWellFormed s.setting h) kept.well_formed;
+      ended = of_history (λ h. IsTrue (all_ended s.setting h)) (all_have_ended s quiet);
+      accounted = of_history (λ h. CallsAreAccounted s.setting h closed.turns.items closed.faults.items) told.accounted;
+      allowed = of_history (λ h. IsTrue (each_entry s.setting (weakly_allowed s.setting) h)) kept.allowed;
+      size = told.last.size;
+      counted = λ d within. of_history (λ h. (stand_at closed.last.devices.items d).up ≡ (reading s.setting h).up d) (ap (λ (x : Stand). x.up) (told.last.each d within));
+      values = λ d within. of_history (λ h. (stand_at closed.last.devices.items d).value ≡ (reading s.setting h).last d) (ap (λ (x : Stand). x.value) (told.last.each d within) ∙ kept.held_is d within);
+      unclaimed = told.unclaimed;
+    }
+  where
+    of_history : (P : List Entry → Type 0) → P (entries_of s.history) → P (history_of closed)
+    of_history P p = subst (λ h. P (entries_of h)) (sym told.history) p
+
+pub weak_legal_window : (s : Configuration) (rounds opened : ℕ) (held : ℕ → ℕ) (closed : WindowRecord) → WeakIsKept s rounds opened held → IsQuiet s → IsWeakRecordOf s held closed → IsLegalWindow s.setting closed
+weak_legal_window s rounds opened held closed kept quiet told = subst under_weak (sym kept.weak) (weak_legal s rounds opened held closed kept quiet told)
+  where
+    under_weak : Bool → Type 0
+    under_weak true = IsWeaklyLegal s.setting closed
+    under_weak false = IsSeriallyLegal s.setting closed
+
+-- where no device fails, each run that has no must `check` has committed, and each device is up
+pub record EndsWell (s : Configuration) : Type 0 where
+  pub commits : (r : ℕ) → is_run s.setting.runs r ≡ true → has_must_check s.setting.runs r ≡ false → ((read_of s).run r).ended ≡ Some Committed
+  pub up : (d : ℕ) → d < length s.setting.first → (read_of s).up d ≡ true
+
+pub weak_ends : (s : Configuration) (rounds opened : ℕ) (held : ℕ → ℕ) → WeakIsKept s rounds opened held → IsQuiet s → NoneFailed s → EndsWell s
+weak_ends s rounds opened held kept quiet calm =
+    record {
+      commits = λ r run none. plain_committed s r (weak_plain s rounds opened held kept) quiet calm run none;
+      up = λ d within. steady_up s.setting (entries_of s.history) d kept.well_formed (calm.up d within) (calm.steady d within);
+    }

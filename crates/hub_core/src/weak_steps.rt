@@ -1,0 +1,60 @@
+//! The steps of runs under the weak model, where they are others than in the models with an order.
+ghost use Rattle.std.specs.Prelude.{◌≡◌, false, is_some, max, true, ℕ};
+ghost use Rattle.command_rules.specs.Rosters.{is_run};
+ghost use Rattle.history_book.specs.Histories.{entries_made};
+ghost use Rattle.history_book.specs.Settings.{is_weak};
+ghost use Rattle.hub_core.specs.Decisions.{told_choice};
+ghost use Rattle.hub_core.specs.HubCalls.{Answers, SameWindow};
+ghost use Rattle.hub_core.specs.OpenHubs.{configuration_of, progress_of};
+ghost use Rattle.hub_core.specs.Steps.{Moves, choice_of};
+ghost use Rattle.hub_core.specs.WeakSteps.{weak_rest};
+ghost use Rattle.lock_leasing.specs.Configurations.{read_of};
+
+use crate::changes::one_made;
+use crate::decisions::Chosen;
+use crate::known::RunProgress;
+use crate::open_windows::OpenWindow;
+use crate::purposes::Purpose;
+use crate::waits::Why;
+use device_states::Device;
+use history_book::Made;
+use home_types::{Item, RunNo};
+
+impl<D: Device> OpenWindow<D> {
+    /// What the run is to do, which is placed and has not ended: it ends at once where it is doomed, else its next command
+    /// waits for a device that is out, is told that it is down, or goes out, and with none left the run commits.
+    pub(crate) fn decide_weakly(&self, r: RunNo, progress: RunProgress) -> Chosen
+        requires run { is_run self.now.setting.runs r.0 ≡ true }
+        requires known { progress ≡ progress_of ((read_of (configuration_of self.now)).run r.0) }
+        ensures { (m : ℕ) → told_choice r.0 m (read_of (configuration_of self.now)) result ≡ weak_rest self.now.setting (read_of (configuration_of self.now)) (configuration_of self.now).grips r.0 }
+    {
+        if let Some(cause) = progress.doomed {
+            return Chosen::Aborts(cause);
+        }
+        let Some(command) = self.history.next_command(r) else {
+            return Chosen::Commits;
+        };
+        let d = command.device;
+        if self.is_out(d) {
+            return Chosen::Waits(Why::Busy(d));
+        }
+        if self.order.table.is_up(d) {
+            Chosen::HandsOut(d, Purpose::Command(progress.answered))
+        } else {
+            Chosen::AnswersDown(progress.answered, command.must)
+        }
+    }
+
+    /// The run is placed at the end of the line, and has no access.
+    pub(crate) fn place_at_end(&mut self, r: RunNo, moment: u64) -> Made
+        requires weak { is_weak self.old.setting.mode ≡ true }
+        requires chosen { choice_of (configuration_of self.old) r.0 moment ≡ told_choice r.0 (max self.old.moment moment) (read_of (configuration_of self.old)) Chosen.Joins }
+        ensures answer { Answers self.old r.0 moment (Moves (entries_made result)) self.new }
+        ensures window { SameWindow self.old self.new }
+    {
+        let at = self.order.line.len();
+        self.moment = self.moment.max(moment);
+        self.order.line.insert(at, Item::Ran(r));
+        one_made(self.history.place(r, at, self.moment))
+    }
+}
