@@ -1,0 +1,6 @@
+pub mod Added
+pub mod Plans
+pub mod Named
+pub mod RunWords
+pub mod Holding
+mod Worked

@@ -1,0 +1,8 @@
+use Rattle.std.proofs.Common.{◌≡◌}
+use Rattle.hub_threads.proofs.detectors.detect.Given as goal
+
+abbrev pub invariant-loop : goal.invariant-loop
+invariant-loop g l = l.share.parts ≡ l.fn.share.parts
+
+abbrev pub invariant-loop-d : goal.invariant-loop-d
+invariant-loop-d g l = l.share.parts ≡ l.fn.share.parts

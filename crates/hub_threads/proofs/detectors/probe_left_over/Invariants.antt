@@ -1,0 +1,9 @@
+use Rattle.std.proofs.Common.{◌≡◌}
+use Rattle.hub_threads.proofs.detectors.probe_left_over.Given as goal
+
+abbrev pub invariant-loop : goal.invariant-loop
+invariant-loop g l =
+    (goal.iterator-loop g).can_next l.iterator' × (goal.iterator-loop g).is_finite l.iterator' × (l.share.parts ≡ l.fn.share.parts)
+
+abbrev pub invariant-loop-d : goal.invariant-loop-d
+invariant-loop-d g l = l.share.parts ≡ l.fn.share.parts

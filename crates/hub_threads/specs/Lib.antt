@@ -1,0 +1,4 @@
+pub mod Named
+pub mod Sleepers
+pub mod Holding
+pub mod WorkedWindows

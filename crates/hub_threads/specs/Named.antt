@@ -1,0 +1,76 @@
+-- A hub that is of the window of a name, and what the calls of one answer: the plan of a device that goes out, and the entries.
+use Rattle.device_gate.specs.Grips.{Gripped}
+use Rattle.device_gate.specs.declared.gates.Place.TheVariants.{Home, Out}
+use Rattle.device_gate.specs.declared.gates.Place.{Place}
+use Rattle.history_book.specs.Histories.{entries_made}
+use Rattle.history_book.specs.Settings.{Setting}
+use Rattle.history_book.specs.declared.entries.Entry.{Entry}
+use Rattle.history_book.specs.declared.entries.Made.{Made}
+use Rattle.hub_core.specs.OpenHubs.{OpenHub, device_at}
+use Rattle.hub_core.specs.declared.known.Counts.{Counts}
+use Rattle.hub_core.specs.declared.turns.Turn.TheVariants.{Absent, Go, Moved, Over, Wait}
+use Rattle.hub_core.specs.declared.turns.Turn.{Turn}
+use Rattle.std.specs.Prelude.{Bool, Err, List, None, Ok, Option, Result, Some, [], false, length, slice_get, true, ℕ, ⊤, ◌≡◌, ◌≤◌}
+
+-- a device's plan, where it tells one
+abbrev pub Plan : Type 0
+Plan = Option (List (ℕ × ℕ))
+
+-- each device that is home has this plan
+abbrev pub HavePlans : {D : Type 0} → (D → Plan) → (ℕ → Plan) → List (Place D) → Type 0
+HavePlans {D} plan plans places = (d : ℕ) (device : D) → slice_get places d ≡ Some (Home device) → plan device ≡ plans d
+
+-- the plan of the device that is home in this place
+abbrev pub plan_in : {D : Type 0} → (D → Plan) → Option (Place D) → Plan
+plan_in plan None = None
+plan_in plan (Some (Home device)) = plan device
+plan_in plan (Some (Out slip task)) = None
+
+-- the hub is of the window of which this is the name
+pub record IsNamed {D : Type 0} (plan : D → Plan) (w : Setting) (rounds opened : ℕ) (opening : ℕ → Counts) (plans : ℕ → Plan) (latest : ℕ) (s : OpenHub D) : Type 0 where
+  pub setting : s.setting ≡ w
+  pub rounds_are : s.rounds ≡ rounds
+  pub opened_are : s.opened ≡ opened
+  pub at_opening : (d : ℕ) → (device_at s.devices d).at_opening ≡ opening d
+  pub moment : s.moment ≤ latest
+  pub have_plans : HavePlans plan plans s.places
+
+-- the device of the grip has the plan of its place
+abbrev pub HasPlan : {D S : Type 0} → (D → Plan) → (ℕ → Plan) → Gripped D S → Type 0
+HasPlan plan plans grip = plan grip.device ≡ plans grip.slip.device.0
+
+-- .. where the step hands one out
+abbrev pub TurnHasPlan : {D : Type 0} → (D → Plan) → (ℕ → Plan) → Turn D → Type 0
+TurnHasPlan plan plans (Go grip) = HasPlan plan plans grip
+TurnHasPlan plan plans (Moved made) = ⊤
+TurnHasPlan plan plans (Wait why) = ⊤
+TurnHasPlan plan plans (Over end made) = ⊤
+TurnHasPlan plan plans Absent = ⊤
+
+-- the step has done nothing: the run waits, or there is none
+abbrev pub is_idle : {D : Type 0} → Turn D → Bool
+is_idle (Go grip) = false
+is_idle (Moved made) = false
+is_idle (Wait why) = true
+is_idle (Over end made) = false
+is_idle Absent = true
+
+-- the entries in the answer to a run's step
+abbrev pub entries_told : {D : Type 0} → Turn D → List Entry
+entries_told (Go grip) = []
+entries_told (Moved made) = entries_made made
+entries_told (Wait why) = []
+entries_told (Over end made) = entries_made made
+entries_told Absent = []
+
+-- .. and to a grip that comes back
+abbrev pub entries_given : {E : Type 0} → Result Made E → List Entry
+entries_given (Ok made) = entries_made made
+entries_given (Err e) = []
+
+-- how many they are
+abbrev pub turn_entries : {D : Type 0} → Turn D → ℕ
+turn_entries turn = length (entries_told turn)
+
+abbrev pub given_entries : {E : Type 0} → Result Made E → ℕ
+given_entries answer = length (entries_given answer)

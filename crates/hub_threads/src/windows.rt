@@ -1,0 +1,260 @@
+ghost use Rattle.std.specs.Prelude.{◌≡◌, ◌+◌, ◌<◌, ◌≤◌, IfErr, IfOk, IsTrue, [], length, vec_capacity, ℕ};
+ghost use Rattle.device_gate.specs.Places.{AreNumbered};
+ghost use Rattle.hub_core.specs.HubCalls.{HubStands, IsClosed};
+ghost use Rattle.hub_core.specs.OpenHubs.{configuration_of};
+ghost use Rattle.hub_core.specs.Steps.{opened};
+ghost use Rattle.hub_threads.specs.Named.{IsNamed};
+ghost use Rattle.hub_threads.specs.WorkedWindows.{IsWorked, NoneIsLeft};
+
+use crate::bells::{Bells, Naps};
+use crate::detectors::{detect, probe_again, probe_left_over};
+use crate::held::Held;
+use crate::names::Name;
+use crate::workers::{Door, Spent, Unstarted, work};
+use day_clock::Clock;
+use device_states::Device;
+use history_book::WindowRecord;
+use home_types::{DeviceNo, NoMemory, RunNo};
+use hub_core::{Home, Hub};
+use std::alloc::Global;
+use std::marker::Brand;
+use std::sync::ledger::{Blank, Share};
+use std::sync::{Mutex, Wait};
+use std::thread;
+use std::thread::{JoinHandle, Threads};
+
+/// By what means a window is worked.
+#[derive(Clone, Copy, Debug)]
+pub(crate) struct Means {
+    /// How many threads are started at most.
+    pub(crate) threads: u32,
+    pub(crate) naps: Naps,
+}
+
+/// A thread for each run.
+const USUAL: Means = Means {
+    threads: u32::MAX,
+    naps: Naps {
+        blocked: 100,
+        restless: 10,
+    },
+};
+
+/// Works a window of a hub in which nothing was done yet: a thread for each run, which the system may refuse, and the
+/// calling thread as the detector, which comes so often to each device. Each moment is an answer of the clock.
+///
+/// Answers `NoMemory` where there is none to be had, before any thread starts, and gives the hub back. It may wait: what
+/// is said of its answer holds if it returns.
+pub fn run_window<R: Threads + Wait + Sync, D: Device + Send, C: Clock + Sync>(
+    rt: &R,
+    alloc: Global,
+    hub: Hub<D>,
+    rounds: u32,
+    clock: &C,
+) -> Result<(Home<D>, WindowRecord), (Hub<D>, NoMemory)>
+    requires fresh { configuration_of hub ≡ opened hub.setting hub.rounds }
+    requires rounds { (d : ℕ) → d < length hub.setting.first → (configuration_of hub).probes d ≡ rounds }
+    ensures worked { IfOk result (λ closed. IsWorked D.tag D.plan D.turns D.probes D.faults (C.latest clock.now) hub closed.0 closed.1) }
+    ensures refused { IfErr result (λ refused. refused.0 ≡ hub) }
+{
+    run_window_by(rt, alloc, hub, rounds, clock, USUAL)
+}
+
+/// Works a window by these means. Each window has a name of its own.
+pub(crate) fn run_window_by<R: Threads + Wait + Sync, D: Device + Send, C: Clock + Sync>(
+    rt: &R,
+    alloc: Global,
+    hub: Hub<D>,
+    rounds: u32,
+    clock: &C,
+    means: Means,
+) -> Result<(Home<D>, WindowRecord), (Hub<D>, NoMemory)>
+    requires fresh { configuration_of hub ≡ opened hub.setting hub.rounds }
+    ensures worked { IfOk result (λ closed. IsWorked D.tag D.plan D.turns D.probes D.faults (C.latest clock.now) hub closed.0 closed.1) }
+    ensures refused { IfErr result (λ refused. refused.0 ≡ hub) }
+{
+    hub.kept();
+    let devices = hub.device_count() as u16;
+    let runs = hub.run_count();
+    let blank = Blank::new(u64::from(runs) + 1);
+    match run_named::<R, D, C, Brand>(rt, alloc, hub, blank, runs, rounds, devices, clock, means) {
+        Ok(last) => Ok(closed(rt, last)),
+        Err(refused) => Err(refused),
+    }
+}
+
+/// The steps of a window, with no type of its name among the arguments and the answer.
+fn run_named<R: Threads + Wait + Sync, D: Device + Send, C: Clock + Sync, N: Name + Send + Sync>(
+    rt: &R,
+    alloc: Global,
+    hub: Hub<D>,
+    blank: Blank,
+    runs: u32,
+    rounds: u32,
+    devices: u16,
+    clock: &C,
+    means: Means,
+) -> Result<Hub<D>, (Hub<D>, NoMemory)>
+    requires name { blank.name ≡ N.name }
+    requires parts { (blank.parts ≡ N.parts) × (blank.parts ≡ runs + 1) }
+    requires latest { C.latest clock.now ≡ N.latest }
+    requires named { IsNamed D.plan N.setting N.rounds N.opened N.opening N.plans N.latest hub }
+    requires fresh { hub.history ≡ [] }
+    ensures named { IfOk result (λ last. IsNamed D.plan N.setting N.rounds N.opened N.opening N.plans N.latest last) }
+    ensures refused { IfErr result (λ refused. refused.0 ≡ hub) }
+{
+    match run_counted::<R, D, C, N>(rt, alloc, hub, blank, runs, rounds, devices, clock, means) {
+        Ok((last, _)) => Ok(last),
+        Err(refused) => Err(refused),
+    }
+}
+
+/// The steps of a window, and the whole ledger: it counts what all of them have answered.
+fn run_counted<R: Threads + Wait + Sync, D: Device + Send, C: Clock + Sync, N: Name + Send + Sync>(
+    rt: &R,
+    alloc: Global,
+    hub: Hub<D>,
+    blank: Blank,
+    runs: u32,
+    rounds: u32,
+    devices: u16,
+    clock: &C,
+    means: Means,
+) -> Result<(Hub<D>, Share<N>), (Hub<D>, NoMemory)>
+    requires name { blank.name ≡ N.name }
+    requires parts { (blank.parts ≡ N.parts) × (blank.parts ≡ runs + 1) }
+    requires latest { C.latest clock.now ≡ N.latest }
+    requires named { IsNamed D.plan N.setting N.rounds N.opened N.opening N.plans N.latest hub }
+    requires fresh { hub.history ≡ [] }
+    ensures named { IfOk result (λ last. IsNamed D.plan N.setting N.rounds N.opened N.opening N.plans N.latest last.0) }
+    ensures counted { IfOk result (λ last. length last.0.history ≡ last.1.amount) }
+    ensures refused { IfErr result (λ refused. refused.0 ≡ hub) }
+{
+    let Ok(bells) = Bells::new(alloc, runs, means.naps) else {
+        let _ = blank.open::<N>();
+        return Err((hub, NoMemory));
+    };
+    let Ok(handles) = room_for(alloc, runs) else {
+        let _ = blank.open::<N>();
+        return Err((hub, NoMemory));
+    };
+    let (book, all) = blank.open::<N>();
+    let door = Door {
+        held: Mutex::new(Held::new(hub, book)),
+        bells,
+        unstarted: Unstarted::new(),
+    };
+    let mut all = in_threads(rt, &door, all, handles, runs, rounds, devices, clock, means);
+    let Door {
+        held,
+        bells: _,
+        unstarted: _,
+    } = door;
+    let last = held.into_inner().ended(&mut all);
+    Ok((last, all))
+}
+
+/// Room for the handles of so many workers.
+fn room_for<N: Name>(alloc: Global, workers: u32) -> Result<Vec<JoinHandle<Spent<N>>>, NoMemory>
+    ensures room { IfOk result (λ handles. workers ≤ vec_capacity handles) }
+    ensures none { IfOk result (λ handles. handles.items ≡ []) }
+{
+    Vec::with_capacity(alloc, workers as usize).map_err(|_| NoMemory)
+}
+
+/// Starts the workers, detects, joins the workers and gathers their shares.
+fn in_threads<R: Threads + Wait + Sync, D: Device + Send, C: Clock + Sync, N: Name + Send + Sync>(
+    rt: &R,
+    door: &Door<Held<D, N>>,
+    all: Share<N>,
+    handles: Vec<JoinHandle<Spent<N>>>,
+    runs: u32,
+    rounds: u32,
+    devices: u16,
+    clock: &C,
+    means: Means,
+) -> Share<N>
+    requires parts { (all.parts ≡ N.parts) × (all.parts ≡ runs + 1) × (all.amount ≡ 0) }
+    requires latest { C.latest clock.now ≡ N.latest }
+    requires room { runs ≤ vec_capacity handles }
+    requires none { handles.items ≡ [] }
+    ensures { result.parts ≡ N.parts }
+{
+    thread::scope(
+        thread::scope_env(),
+        rt,
+        move |scope| -> Share<N>
+            requires { (all.parts ≡ N.parts) × (all.parts ≡ runs + 1) × (all.amount ≡ 0) × (C.latest clock.now ≡ N.latest) × (runs ≤ vec_capacity handles) × (handles.items ≡ []) }
+            ensures { result.parts ≡ N.parts }
+        {
+            let mut all = all;
+            let mut handles = handles;
+            for i in 0..runs {
+                let r = RunNo(i + 1);
+                if means.threads <= i {
+                    door.unstarted.add(r);
+                    continue;
+                }
+                let share = all.split_off(1, 0);
+                let job = move || -> Spent<N>
+                    requires { (share.parts ≡ 1) × (C.latest clock.now ≡ N.latest) }
+                { work(rt, door, share, r, clock) };
+                match scope.spawn(job) {
+                    Ok(handle) => handles.push_reserved(handle),
+                    Err(refused) => {
+                        // The job, called here, makes no step, since its run has no thread: it hands its share back.
+                        door.unstarted.add(r);
+                        let Spent { share } = (refused.value)();
+                        all.merge(share);
+                    }
+                }
+            }
+            let mut passed = detect(rt, door, &mut all, runs, rounds, devices, clock);
+            while let Some(handle) = handles.pop() {
+                passed = probe_again(rt, door, &mut all, devices, passed);
+                let Spent { share } = handle.join(rt);
+                all.merge(share);
+            }
+            probe_left_over(rt, door, &mut all, devices);
+            all
+        },
+    )
+}
+
+/// Closes the window once it is quiet and no probe is left. After the joins it is: this does not wait then.
+fn closed<R: Wait, D: Device>(rt: &R, hub: Hub<D>) -> (Home<D>, WindowRecord)
+    ensures stands { HubStands D.stands D.turns D.probes D.faults hub }
+    ensures closed { IsClosed D.turns D.probes D.faults hub result.0 result.1 }
+    ensures none_left { NoneIsLeft hub }
+    ensures numbered { AreNumbered D.tag result.0.devices }
+{
+    hub.kept();
+    let mut hub = hub;
+    for _ in rt.forever() {
+        if !none_is_left(&hub) {
+            thread::yield_now();
+            continue;
+        }
+        match hub.close_window() {
+            Ok(closed) => {
+                closed.0.kept();
+                return closed;
+            }
+            Err((back, _)) => hub = back,
+        }
+    }
+    unreachable!()
+}
+
+/// Whether no probe of a device is left.
+fn none_is_left<D: Device>(hub: &Hub<D>) -> bool
+    ensures { IsTrue result → NoneIsLeft hub.now }
+{
+    hub.kept();
+    'devices: for d in 0..hub.device_count() {
+        if hub.probes_left(DeviceNo(d as u16)) != 0 {
+            return false;
+        }
+    }
+    true
+}

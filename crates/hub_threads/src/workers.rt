@@ -1,0 +1,258 @@
+ghost use Rattle.std.specs.Prelude.{◌≡◌, ◌<◌, ◌≤◌, IfErr, IfSome};
+ghost use Rattle.hub_threads.specs.Named.{HasPlan};
+
+use crate::bells::Bells;
+use crate::held::Steps;
+use crate::names::Name;
+use crate::sleepers::bit_of;
+use day_clock::Clock;
+use device_states::Device;
+use home_types::{DeviceNo, RunNo};
+use hub_core::{Done, Grip, Ready, Turn};
+use std::sync::atomic::{AtomicU64, Ordering};
+use std::sync::ledger::Share;
+use std::sync::{Mutex, MutexGuard, Wait};
+use std::thread;
+
+/// The lock, and what stands beside it.
+#[derive(Drop)]
+pub(crate) struct Door<S> {
+    pub(crate) held: Mutex<S>,
+    pub(crate) bells: Bells,
+    pub(crate) unstarted: Unstarted,
+}
+
+/// The runs that have no thread of their own. The calling thread steps them, and it alone writes them down here.
+#[derive(Drop)]
+pub(crate) struct Unstarted {
+    runs: AtomicU64,
+}
+
+/// What came of a step.
+#[derive(Clone, Copy, Debug, PartialEq, Eq)]
+pub(crate) enum Stepped {
+    Moved,
+    Waits,
+    Over,
+}
+
+/// What a worker hands back: its part of the ledger.
+#[derive(Drop)]
+pub(crate) struct Spent<N: Name> {
+    pub(crate) share: Share<N>,
+    pub(crate) ghost one_part: { share.parts ≡ 1 },
+}
+
+impl Unstarted {
+    /// Every run has a thread.
+    pub(crate) fn new() -> Unstarted {
+        Unstarted {
+            runs: AtomicU64::new(0),
+        }
+    }
+
+    /// The run has none.
+    pub(crate) fn add(&self, r: RunNo) {
+        self.runs.store(
+            self.runs.load(Ordering::SeqCst) | bit_of(r),
+            Ordering::SeqCst,
+        );
+    }
+
+    /// Whether the run has none.
+    pub(crate) fn has(&self, r: RunNo) -> bool {
+        self.runs.load(Ordering::SeqCst) & bit_of(r) != 0
+    }
+
+    /// Whether each run has one.
+    pub(crate) fn is_empty(&self) -> bool {
+        self.runs.load(Ordering::SeqCst) == 0
+    }
+}
+
+/// Works the run to its end, unless the calling thread steps it.
+pub(crate) fn work<D: Device, N: Name, S: Steps<D, N, Grip<D, Done>>, R: Wait, C: Clock>(
+    rt: &R,
+    door: &Door<S>,
+    share: Share<N>,
+    r: RunNo,
+    clock: &C,
+) -> Spent<N>
+    requires part { share.parts ≡ 1 }
+    requires latest { C.latest clock.now ≡ N.latest }
+{
+    if door.unstarted.has(r) {
+        return Spent { share };
+    }
+    let mut share = share;
+    for _ in rt.forever() {
+        if step(rt, door, &mut share, r, clock, true) == Stepped::Over {
+            break;
+        }
+    }
+    Spent { share }
+}
+
+/// Makes a step of the run under the lock, and where a device goes out its call, outside the lock, and the step back.
+/// Where the run waits it may sleep.
+pub(crate) fn step<D: Device, N: Name, S: Steps<D, N, Grip<D, Done>>, R: Wait, C: Clock>(
+    rt: &R,
+    door: &Door<S>,
+    share: &mut Share<N>,
+    r: RunNo,
+    clock: &C,
+    sleeps: bool,
+) -> Stepped
+    requires share { 0 < share.old.parts }
+    requires latest { C.latest clock.now ≡ N.latest }
+    ensures { share.new.parts ≡ share.old.parts }
+{
+    let mut guard = door.held.lock(rt);
+    let turn = guard.take(share, r, clock.now());
+    match turn {
+        Turn::Go(grip) => {
+            unlock::<D, N, S>(&door.bells, guard);
+            give(rt, door, share, grip.act(), clock);
+            Stepped::Moved
+        }
+        Turn::Moved(_) => {
+            unlock::<D, N, S>(&door.bells, guard);
+            Stepped::Moved
+        }
+        Turn::Over(_, _) => {
+            unlock::<D, N, S>(&door.bells, guard);
+            Stepped::Over
+        }
+        Turn::Wait(_) => {
+            if sleeps {
+                let is_blocked = guard.sleep(r);
+                door.bells.sleep(rt, guard, r, is_blocked);
+            }
+            Stepped::Waits
+        }
+        Turn::Absent => Stepped::Over,
+    }
+}
+
+/// Leaves the lock, and wakes the runs that a step under it may have freed.
+fn unlock<D: Device, N: Name, S: Steps<D, N, Grip<D, Done>>>(bells: &Bells, guard: MutexGuard<S>) {
+    let mut guard = guard;
+    let woken = guard.wake();
+    drop(guard);
+    bells.ring(woken);
+}
+
+/// Gives the grip of a run back until it is taken in.
+fn give<D: Device, N: Name, S: Steps<D, N, Grip<D, Done>>, R: Wait, C: Clock>(
+    rt: &R,
+    door: &Door<S>,
+    share: &mut Share<N>,
+    grip: Grip<D, Done>,
+    clock: &C,
+)
+    requires share { 0 < share.old.parts }
+    requires latest { C.latest clock.now ≡ N.latest }
+    requires plan { HasPlan D.plan N.plans grip }
+    ensures { share.new.parts ≡ share.old.parts }
+{
+    let mut grip = grip;
+    for _ in rt.forever() {
+        match give_once(rt, door, share, grip, clock) {
+            None => return,
+            Some(back) => {
+                grip = back;
+                thread::yield_now();
+            }
+        }
+    }
+    unreachable!()
+}
+
+/// Gives the grip of a run back once. Where it is refused as a stranger it comes back.
+fn give_once<D: Device, N: Name, S: Steps<D, N, Grip<D, Done>>, R: Wait, C: Clock>(
+    rt: &R,
+    door: &Door<S>,
+    share: &mut Share<N>,
+    grip: Grip<D, Done>,
+    clock: &C,
+) -> Option<Grip<D, Done>>
+    requires share { 0 < share.old.parts }
+    requires latest { C.latest clock.now ≡ N.latest }
+    requires plan { HasPlan D.plan N.plans grip }
+    ensures parts { share.new.parts ≡ share.old.parts }
+    ensures same { IfSome result (λ back. back ≡ grip) }
+{
+    let mut guard = door.held.lock(rt);
+    match guard.give(share, grip, clock.now()) {
+        Ok(_) => {
+            unlock::<D, N, S>(&door.bells, guard);
+            None
+        }
+        Err((back, _)) => Some(back),
+    }
+}
+
+/// Takes a probe of the device, where one may be taken, and tells whether it did.
+pub(crate) fn probe<D: Device, N: Name, S: Steps<D, N, Grip<D, Done>>, R: Wait>(
+    rt: &R,
+    door: &Door<S>,
+    share: &mut Share<N>,
+    d: DeviceNo,
+) -> bool
+    requires share { 0 < share.old.parts }
+    ensures { share.new.parts ≡ share.old.parts }
+{
+    let Some(grip) = take_probe(rt, door, share, d) else {
+        return false;
+    };
+    let mut grip = grip.act();
+    for _ in rt.forever() {
+        match give_probe_once(rt, door, share, grip) {
+            None => return true,
+            Some(back) => {
+                grip = back;
+                thread::yield_now();
+            }
+        }
+    }
+    unreachable!()
+}
+
+/// Takes a probe of the device under the lock.
+fn take_probe<D: Device, N: Name, S: Steps<D, N, Grip<D, Done>>, R: Wait>(
+    rt: &R,
+    door: &Door<S>,
+    share: &mut Share<N>,
+    d: DeviceNo,
+) -> Option<Grip<D, Ready>>
+    requires share { 0 < share.old.parts }
+    ensures parts { share.new.parts ≡ share.old.parts }
+    ensures plan { IfSome result (λ grip. HasPlan D.plan N.plans grip) }
+{
+    let mut guard = door.held.lock(rt);
+    let probe = guard.take_probe(share, d);
+    unlock::<D, N, S>(&door.bells, guard);
+    probe
+}
+
+/// Gives the detector's grip back once. Where it is refused as a stranger it comes back.
+fn give_probe_once<D: Device, N: Name, S: Steps<D, N, Grip<D, Done>>, R: Wait>(
+    rt: &R,
+    door: &Door<S>,
+    share: &mut Share<N>,
+    grip: Grip<D, Done>,
+) -> Option<Grip<D, Done>>
+    requires share { 0 < share.old.parts }
+    requires plan { HasPlan D.plan N.plans grip }
+    ensures parts { share.new.parts ≡ share.old.parts }
+    ensures same { IfSome result (λ back. back ≡ grip) }
+{
+    let mut guard = door.held.lock(rt);
+    match guard.give_probe(share, grip) {
+        Ok(_) => {
+            unlock::<D, N, S>(&door.bells, guard);
+            None
+        }
+        Err((back, _)) => Some(back),
+    }
+}
