@@ -77,7 +77,11 @@ words trial 01
 words "$(printf 'replay\377')"
 words replay "$(printf '\377')"
 
-call replay --model wv
+call replay --scheduler jit
+ends 8 'later top'
+words run twice
+words run --model wv --model wv
+call run --scheduler jit
 ends 8 'later top'
 
 call='replay of no standard input'
@@ -102,6 +106,14 @@ printf '%s' "$input" | "$room/hub_main" replay >"$room/out" 2>"$room/err"
 got=$?
 if [ "$got" != 0 ] || [ -s "$room/err" ] || ! cmp -s stdout "$room/out"; then
     echo "edge: replay of one light: status $got and '$(cat "$room/err")'" >&2
+    failed=1
+fi
+
+# the same day run with threads has the same record, since it has one run
+printf '%s' "$input" | "$room/hub_main" run >"$room/out" 2>"$room/err"
+got=$?
+if [ "$got" != 0 ] || [ -s "$room/err" ] || ! cmp -s stdout "$room/out"; then
+    echo "edge: run of one light: status $got and '$(cat "$room/err")'" >&2
     failed=1
 fi
 exit "$failed"

@@ -2,7 +2,10 @@ mod Snocs
 mod DaysUnderWay
 pub mod Openings
 mod PlayedWindows
+mod WorkedWays
+mod NextWindows
 mod OverLimit
 mod Texts
-mod Replays
+mod PlayedDays
 mod LaterScripts
+mod ProbedDays

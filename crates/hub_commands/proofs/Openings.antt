@@ -1,7 +1,6 @@
 -- A window of a sound script without later forms may be opened, and the first one on a new home.
 use Rattle.command_rules.specs.Rosters.{Run, commands_of, followed_by, run_at, runs_of}
 use Rattle.command_rules.specs.declared.rosters.Roster.{Roster}
-use Rattle.home_types.specs.HomeStates.{stand_at}
 use Rattle.home_types.specs.Kinds.{kind_at}
 use Rattle.home_types.specs.declared.commands.Command.{Command}
 use Rattle.home_types.specs.declared.commands.Job.TheVariants.{Check, Load, Set, Store}
@@ -17,13 +16,13 @@ use Rattle.hub_core.specs.Homes.{HomeIsKept, HomeState, setting_for}
 use Rattle.hub_core.specs.Openings.{MayOpen, is_fcfs, is_mode, names_values_of}
 use Rattle.hub_core.specs.Stage.{StageAllows}
 use Rattle.hub_commands.specs.Played.{setting_on}
-use Rattle.later_forms.proofs.BuiltModes.{goes_fcfs, not_weak}
+use Rattle.later_forms.proofs.BuiltModes.{goes_fcfs}
 use Rattle.later_forms.proofs.NoLaterForms.{no_follows}
 use Rattle.later_forms.proofs.SoundScripts.{routine_is_sound, window_is_sound}
 use Rattle.later_forms.specs.CommandLines.{is_later_mode}
 use Rattle.later_forms.specs.Scripts.{first_later}
 use Rattle.routine_reader.proofs.RosterLemmas.{runs-there}
-use Rattle.routine_reader.specs.Rosters.{kinds_of, routine_at, run_of_text, script_runs, start_home, start_stand}
+use Rattle.routine_reader.specs.Rosters.{kinds_of, routine_at, run_of_text, script_runs}
 use Rattle.routine_reader.specs.Scripts.{plain_device, plain_script}
 use Rattle.routine_reader.specs.Sound.{IsSound, IsSoundCommand, device_kinds, suits}
 use Rattle.routine_reader.specs.declared.scripts.DeviceText.{DeviceText}
@@ -155,7 +154,6 @@ pub stage_allows : {D : Type 0} (script : Script) (mode : Mode) (k : ℕ) (windo
     → StageAllows (setting_on script mode k home) window.probes
 stage_allows script mode k window home none built at =
     rw (sym (runs-there script k window at)) (record {
-      strong = not_weak mode built;
       scheduler = goes_fcfs mode built;
       follows_none = λ r. no_follower script k r window none at;
     })

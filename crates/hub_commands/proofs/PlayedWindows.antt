@@ -1,4 +1,4 @@
--- A window that was opened on a home and replayed is played.
+-- A window that was opened on a home and worked is played.
 use Rattle.device_gate.specs.Places.{AreNumbered}
 use Rattle.device_gate.specs.declared.gates.Place.TheVariants.{Home}
 use Rattle.device_gate.specs.declared.gates.Place.{Place}
@@ -6,32 +6,28 @@ use Rattle.history_book.specs.Settings.{Setting}
 use Rattle.history_book.specs.declared.records.WindowRecord.{WindowRecord}
 use Rattle.home_types.specs.declared.modes.Mode.{Mode}
 use Rattle.hub_core.specs.Homes.{HomeState}
-use Rattle.hub_core.specs.HubCalls.{IsOpened, NoneFails}
+use Rattle.hub_core.specs.HubCalls.{IsOpened, NoneFails, RunsHaveEnded}
 use Rattle.hub_core.specs.LegalWindows.{IsLegalWindow}
-use Rattle.hub_core.specs.OpenHubs.{OpenHub, device_at}
-use Rattle.hub_commands.specs.Played.{IsPlayed, setting_on}
+use Rattle.hub_core.specs.OpenHubs.{OpenHub}
+use Rattle.hub_commands.specs.Played.{IsPlayed, IsWorkedAs, setting_on}
 use Rattle.routine_reader.specs.declared.scripts.Script.{Script}
 use Rattle.routine_reader.specs.declared.scripts.WindowText.{WindowText}
-use Rattle.run_replay.specs.Replays.{IsReplay}
-use Rattle.run_replay.specs.ReplayedWindows.{IsReplayed, RunsHaveEnded}
 use Rattle.std.proofs.Common.{ap, subst, sym, ◌∙◌}
 use Rattle.std.proofs.lemmas.List.{length-map}
 use Rattle.std.proofs.lemmas.Option.{slice_get-map}
-use Rattle.std.specs.Prelude.{List, Option, Some, length, option_map, slice_get, slice_index_or, ℕ, ◌+◌, ◌-◌, ◌≡◌}
+use Rattle.std.specs.Prelude.{List, Option, Some, length, option_map, slice_get, slice_index_or, ℕ, ◌+◌, ◌≡◌}
 
--- the turns, the seed and the rounds are those of the window
-pub as_played : {D : Type 0} (tag : D → ℕ) (plan : D → Option (List (ℕ × ℕ))) (turns probes faults : D → ℕ) (script : Script) (mode : Mode) (k : ℕ) (window : WindowText) (w : Setting) (home after : HomeState D) (hub : OpenHub D) (picks : List ℕ) (closed : WindowRecord)
-    → slice_get script.windows.items k ≡ Some window → picks ≡ window.turns.items → w ≡ setting_on script mode k home
-    → IsOpened turns probes faults w window.probes home hub → AreNumbered tag home.devices → IsReplayed tag plan turns probes faults hub picks window.seed window.probes after closed
-    → IsPlayed tag plan turns probes faults script mode k home after closed
-as_played {D = D} tag plan turns probes faults script mode k window w home after hub picks closed at same setting opened numbered is = record {
+-- the hub was opened for this window of the script on this home
+pub as_played : {D : Type 0} (works : Setting → WindowText → WindowRecord → (ℕ → ℕ) → Type 0) (tag : D → ℕ) (plan : D → Option (List (ℕ × ℕ))) (turns probes faults : D → ℕ) (script : Script) (mode : Mode) (k : ℕ) (window : WindowText) (w : Setting) (home after : HomeState D) (hub : OpenHub D) (closed : WindowRecord)
+    → slice_get script.windows.items k ≡ Some window → w ≡ setting_on script mode k home
+    → IsOpened turns probes faults w window.probes home hub → AreNumbered tag home.devices → IsWorkedAs works tag plan turns probes faults hub window after closed
+    → IsPlayed works tag plan turns probes faults script mode k home after closed
+as_played {D = D} works tag plan turns probes faults script mode k window w home after hub closed at setting opened numbered is = record {
   window = window;
   at = at;
-  play = is.play;
+  taken = is.taken;
+  worked = subst (λ v. works v window closed is.taken) here is.worked;
   legal = subst (λ v. IsLegalWindow v closed) here is.legal;
-  replay = subst (λ ts. IsReplay (setting_on script mode k home) window.probes window.probes ts window.seed is.play) same
-      (subst (λ v. IsReplay v window.probes window.probes picks window.seed is.play) here (subst (λ n. IsReplay hub.setting n window.probes picks window.seed is.play) opened.rounds_are is.is_replay));
-  history = is.history;
   ends = subst (λ v. RunsHaveEnded v closed) here is.ends;
   kinds = is.kinds ∙ ap (λ v. v.kinds) here;
   last = is.last;
@@ -43,7 +39,7 @@ as_played {D = D} tag plan turns probes faults script mode k window w home after
     same_plan = is.plans d x y out y_at;
     turns_rose = is.turns_rose d y y_at ∙ ap (λ n. n + slice_index_or closed.turns.items d 0) (opened.turns_then d x x_at);
     faults_rose = is.faults_rose d y y_at ∙ ap (λ n. n + slice_index_or closed.faults.items d 0) (opened.faults_then d x x_at);
-    probes_rose = is.probes_rose d y y_at ∙ ap (λ n. (device_at hub.devices d).at_opening.probes + (n - is.play.configuration.probes d)) opened.rounds_are ∙ ap (λ n. n + (window.probes - is.play.configuration.probes d)) (opened.probes_then d x x_at);
+    probes_rose = is.probes_rose d y y_at ∙ ap (λ n. n + is.taken d) (opened.probes_then d x x_at);
   };
 }
   where

@@ -1,59 +1,52 @@
 -- A day under way: what was played and written of it.
 use Rattle.day_report.specs.Days.{head_text, total_text, window_texts}
+use Rattle.history_book.specs.Settings.{Setting}
 use Rattle.history_book.specs.declared.records.WindowRecord.{WindowRecord}
 use Rattle.home_types.specs.declared.modes.Mode.{Mode}
 use Rattle.hub_core.specs.Homes.{HomeState}
+use Rattle.hub_core.specs.HubCalls.{RunsHaveEnded}
 use Rattle.hub_core.specs.LegalDays.{DevicesAreLeft, RecordsAreLegal, setting_of, state_after}
 use Rattle.routine_reader.specs.Rosters.{kinds_of}
 use Rattle.routine_reader.specs.declared.scripts.Script.{Script}
 use Rattle.routine_reader.specs.declared.scripts.WindowText.{WindowText}
-use Rattle.run_replay.specs.ReplayedWindows.{RunsHaveEnded}
-use Rattle.run_replay.specs.Replays.{IsReplay, Play}
-use Rattle.std.specs.Prelude.{Bool, List, Option, Some, [], if◌then◌else◌, length, slice_get, true, ℕ, ◌+◌, ◌++◌, ◌-◌, ◌<◌, ◌==◌, ◌∷◌, ◌≡◌, ◌≤◌}
+use Rattle.std.specs.Prelude.{Bool, List, Option, Some, [], if◌then◌else◌, length, slice_get, sum_by, ℕ, ◌+◌, ◌++◌, ◌==◌, ◌≡◌, ◌≤◌}
 
--- the window's record has the history of this replay of its turns and its seed, with its rounds of probes
-pub record IsReplayOf (script : Script) (mode : Mode) (records : List WindowRecord) (k : ℕ) (window : WindowText) (closed : WindowRecord) (p : Play) : Type 0 where
-  pub replay : IsReplay (setting_of script mode records k) window.probes window.probes window.turns.items window.seed p
-  pub history : closed.history.items ≡ p.configuration.history
+-- each record is that of a window that was worked in this way, with so many probes of each device, in order
+pub record AreWorked (works : Setting → WindowText → WindowRecord → (ℕ → ℕ) → Type 0) (script : Script) (mode : Mode) (records : List WindowRecord) (takes : List (ℕ → ℕ)) : Type 0 where
+  pub count : length takes ≡ length records
+  pub each : (k : ℕ) (window : WindowText) (closed : WindowRecord) (taken : ℕ → ℕ) → slice_get script.windows.items k ≡ Some window → slice_get records k ≡ Some closed → slice_get takes k ≡ Some taken
+      → works (setting_of script mode records k) window closed taken
 
--- each record is that of one of these replays, in order
-pub record AreReplays (script : Script) (mode : Mode) (records : List WindowRecord) (plays : List Play) : Type 0 where
-  pub count : length plays ≡ length records
-  pub each : (k : ℕ) (window : WindowText) (closed : WindowRecord) (p : Play) → slice_get script.windows.items k ≡ Some window → slice_get records k ≡ Some closed → slice_get plays k ≡ Some p
-      → IsReplayOf script mode records k window closed p
+-- the probes that were taken of the device in all these windows
+abbrev pub probes_taken : List (ℕ → ℕ) → ℕ → ℕ
+probes_taken takes d = sum_by (λ taken. taken d) takes
 
--- the probes that the replays of these windows took of the device: of each one its rounds, less those that are left
-abbrev pub probes_taken : List WindowText → List Play → ℕ → ℕ
-probes_taken [] plays d = 0
-probes_taken (window ∷ windows) [] d = 0
-probes_taken (window ∷ windows) (p ∷ plays) d = (window.probes - p.configuration.probes d) + probes_taken windows plays d
-
--- in each window every run has ended, and each that has no must `check` has committed
+-- in each window every run has ended, and where runs are served as they come and no device fails each that has no must `check` has committed
 abbrev pub AllHaveEnded : Script → Mode → List WindowRecord → Type 0
 AllHaveEnded script mode records = (k : ℕ) (closed : WindowRecord) → slice_get records k ≡ Some closed → RunsHaveEnded (setting_of script mode records k) closed
 
--- the windows so far are legal, each the replay of its turns and its seed, and every run has ended
-pub record WindowsArePlayed (script : Script) (mode : Mode) (records : List WindowRecord) (plays : List Play) : Type 0 where
+-- the windows so far are legal, each was worked in this way with these probes, and every run has ended
+pub record WindowsArePlayed (works : Setting → WindowText → WindowRecord → (ℕ → ℕ) → Type 0) (script : Script) (mode : Mode) (records : List WindowRecord) (takes : List (ℕ → ℕ)) : Type 0 where
   pub count : length records ≤ length script.windows.items
   pub legal : RecordsAreLegal script mode records
-  pub replays : AreReplays script mode records plays
+  pub worked : AreWorked works script mode records takes
   pub ends : AllHaveEnded script mode records
 
--- the devices were probed as often as the replays took probes of them
-abbrev pub DevicesAreProbed : {D : Type 0} → (D → ℕ) → Script → List Play → List D → Type 0
-DevicesAreProbed {D} probes script plays devices = (d : ℕ) (device : D) → slice_get devices d ≡ Some device → probes device ≡ probes_taken script.windows.items plays d
+-- the devices were probed as often as probes were taken of them in the windows
+abbrev pub DevicesAreProbed : {D : Type 0} → (D → ℕ) → List (ℕ → ℕ) → List D → Type 0
+DevicesAreProbed {D} probes takes devices = (d : ℕ) (device : D) → slice_get devices d ≡ Some device → probes device ≡ probes_taken takes d
 
 -- the home after the windows so far
-pub record IsUnderWay {D : Type 0} (tag : D → ℕ) (plan : D → Option (List (ℕ × ℕ))) (stands turns probes faults : D → ℕ) (script : Script) (mode : Mode) (home : HomeState D) (records : List WindowRecord) : Type 0 where
-  pub plays : List Play
-  pub played : WindowsArePlayed script mode records plays
+pub record IsUnderWay {D : Type 0} (works : Setting → WindowText → WindowRecord → (ℕ → ℕ) → Type 0) (tag : D → ℕ) (plan : D → Option (List (ℕ × ℕ))) (stands turns probes faults : D → ℕ) (script : Script) (mode : Mode) (home : HomeState D) (records : List WindowRecord) : Type 0 where
+  pub takes : List (ℕ → ℕ)
+  pub played : WindowsArePlayed works script mode records takes
   pub left : DevicesAreLeft tag plan stands turns faults script records home.devices
-  pub probed : DevicesAreProbed probes script plays home.devices
+  pub probed : DevicesAreProbed probes takes home.devices
   pub kinds : home.kinds ≡ kinds_of script
   pub world : home.world ≡ state_after script records (length records)
   pub opened : home.opened ≡ length records
 
--- the device after a window: the same one, whose calls rose as the record says, and its probes by those that the replay took
+-- the device after a window: the same one, whose calls rose as the record says, and its probes by those that were taken
 pub record IsPlayedOn {D : Type 0} (tag : D → ℕ) (plan : D → Option (List (ℕ × ℕ))) (turns probes faults : D → ℕ) (called failed probed : ℕ) (before after : D) : Type 0 where
   pub same_tag : tag after ≡ tag before
   pub same_plan : plan after ≡ plan before

@@ -1,5 +1,5 @@
--- How the top call ends: by its fault, what was read, played and written.
-use Rattle.command_words.specs.declared.command_lines.CommandLine.TheVariants.{Replay}
+-- How a call ends: by its fault, what was read, played and written.
+use Rattle.command_words.specs.declared.command_lines.CommandLine.TheVariants.{Replay, Run}
 use Rattle.command_words.specs.declared.command_lines.CommandLine.{CommandLine}
 use Rattle.command_words.specs.declared.command_lines.Options.{Options}
 use Rattle.day_clock.specs.Sinks.{AppendsPart}
@@ -8,12 +8,13 @@ use Rattle.day_report.specs.Days.{day_text}
 use Rattle.home_types.specs.Limits.{most_script_bytes}
 use Rattle.home_types.specs.Listed.{Listed}
 use Rattle.hub_core.specs.LegalDays.{IsLegalCutDay, IsLegalDay}
+use Rattle.history_book.specs.Settings.{Setting}
 use Rattle.history_book.specs.declared.records.WindowRecord.{WindowRecord}
 use Rattle.hub_commands.specs.Days.{DevicesAreProbed, WindowsArePlayed, text_due, text_so_far}
 use Rattle.hub_commands.specs.declared.faults.Fault.TheVariants.{Check, Later, Memory, Read, Script as Refuses, Words, Write}
 use Rattle.hub_commands.specs.declared.faults.Fault.{Fault}
 use Rattle.hub_commands.specs.declared.finishes.Day.{Day}
-use Rattle.later_forms.specs.CommandLines.{is_later}
+use Rattle.later_forms.specs.CommandLines.{is_later, is_later_mode}
 use Rattle.later_forms.specs.Scripts.{first_later}
 use Rattle.routine_reader.specs.Readings.{script_reading}
 use Rattle.routine_reader.specs.Scripts.{plain_script}
@@ -21,9 +22,9 @@ use Rattle.routine_reader.specs.Spots.{is_memory, top}
 use Rattle.routine_reader.specs.declared.faults.ReadFault.{ReadFault}
 use Rattle.routine_reader.specs.declared.faults.Spot.{Spot}
 use Rattle.routine_reader.specs.declared.scripts.Script.{Script}
-use Rattle.run_replay.specs.Replays.{Play}
+use Rattle.routine_reader.specs.declared.scripts.WindowText.{WindowText}
 use Rattle.std.specs.Io.KnownBytes.{Appends, IsAtEnd, Keeps}
-use Rattle.std.specs.Prelude.{Err, IfSome, List, None, Ok, Option, Result, Some, [], false, take, true, ℕ, ◌+◌, ◌++◌, ◌<◌, ◌∷◌, ◌≡◌, ◌⊎◌}
+use Rattle.std.specs.Prelude.{Err, IfSome, List, None, Ok, Option, Result, Some, [], false, slice_get, sum_by, take, true, ℕ, ◌+◌, ◌++◌, ◌<◌, ◌∷◌, ◌≡◌, ◌⊎◌}
 
 -- what the call does to its source: the bytes to come before and after it, where the source tells them, and its faults
 pub record Reads : Type 0 where
@@ -120,41 +121,41 @@ pub record Shown (D : Type 0) : Type 0 where
 abbrev pub shown_by : {D : Type 0} → (D → ℕ) → (D → Option (List (ℕ × ℕ))) → (D → ℕ) → (D → ℕ) → (D → ℕ) → (D → ℕ) → Shown D
 shown_by tag plan stands turns probes faults = record { tag = tag; plan = plan; stands = stands; turns = turns; probes = probes; faults = faults }
 
--- the day that is handed back is whole and legal in the mode of the words, each of its windows is the replay of its turns and its seed, in each every run has ended and each that has no must `check` has committed, and the sink got its text;
--- no mode that is built has the weak model, so in each window the printed order holds each committed run once, and the answers and the last state are those of its serial execution; at the day's end each device that is up stands so
-pub record IsWhole {D : Type 0} (shown : Shown D) (script : Script) (options : Options) (sink : Writes) (o : Option (Day D)) : Type 0 where
+-- the day that is handed back is whole and legal in the mode of the words, each of its windows was worked in this way, in each every run has ended, and where no device fails each that has no must `check` has committed, and the sink got its text;
+-- outside the weak model the printed order of each window holds each committed run once, and the answers and the last state are those of its serial execution; under it no order is claimed; at the day's end each device that is up stands so
+pub record IsWhole {D : Type 0} (works : Setting → WindowText → WindowRecord → (ℕ → ℕ) → Type 0) (shown : Shown D) (script : Script) (options : Options) (sink : Writes) (o : Option (Day D)) : Type 0 where
   pub day : Day D
   pub given : o ≡ Some day
   pub devices : Listed D
   pub there : day.devices ≡ Some devices
   pub legal : IsLegalDay shown.tag shown.plan shown.stands shown.turns shown.faults script options.mode day.windows.items devices.items
-  pub plays : List Play
-  pub played : WindowsArePlayed script options.mode day.windows.items plays
-  pub probed : DevicesAreProbed shown.probes script plays devices.items
+  pub takes : List (ℕ → ℕ)
+  pub played : WindowsArePlayed works script options.mode day.windows.items takes
+  pub probed : DevicesAreProbed shown.probes takes devices.items
   pub text : Appends sink.held sink.holds (day_text script day.windows.items options.mode options.trace)
   pub calm : sink.faults_after ≡ sink.faults
 
 -- the day was cut short where the sink failed: it is legal up to there, and the sink got a first part of its text, and not all
-pub record IsCut {D : Type 0} (shown : Shown D) (script : Script) (options : Options) (sink : Writes) (o : Option (Day D)) : Type 0 where
+pub record IsCut {D : Type 0} (works : Setting → WindowText → WindowRecord → (ℕ → ℕ) → Type 0) (shown : Shown D) (script : Script) (options : Options) (sink : Writes) (o : Option (Day D)) : Type 0 where
   pub day : Day D
   pub given : o ≡ Some day
   pub devices : Listed D
   pub there : day.devices ≡ Some devices
   pub legal : IsLegalCutDay shown.tag shown.plan shown.stands shown.turns shown.faults script options.mode day.windows.items devices.items
-  pub plays : List Play
-  pub played : WindowsArePlayed script options.mode day.windows.items plays
-  pub probed : DevicesAreProbed shown.probes script plays devices.items
+  pub takes : List (ℕ → ℕ)
+  pub played : WindowsArePlayed works script options.mode day.windows.items takes
+  pub probed : DevicesAreProbed shown.probes takes devices.items
   pub text : AppendsPart sink.held sink.holds (text_due script options.mode options.trace day.windows.items)
   pub as_closed : IsWrittenAsClosed script options sink day.windows.items
   pub failed : sink.faults < sink.faults_after
 
 -- the day was cut short for want of memory: its windows are legal up to there, no device is handed back, and the sink got a first part of its text
-pub record IsStarved {D : Type 0} (script : Script) (options : Options) (sink : Writes) (o : Option (Day D)) : Type 0 where
+pub record IsStarved {D : Type 0} (works : Setting → WindowText → WindowRecord → (ℕ → ℕ) → Type 0) (script : Script) (options : Options) (sink : Writes) (o : Option (Day D)) : Type 0 where
   pub day : Day D
   pub given : o ≡ Some day
   pub no_devices : day.devices ≡ None
-  pub plays : List Play
-  pub played : WindowsArePlayed script options.mode day.windows.items plays
+  pub takes : List (ℕ → ℕ)
+  pub played : WindowsArePlayed works script options.mode day.windows.items takes
   pub text : AppendsFirst sink.held sink.holds (text_due script options.mode options.trace day.windows.items)
   pub as_closed : IsWrittenAsClosed script options sink day.windows.items
   pub calm : sink.faults_after ≡ sink.faults
@@ -167,29 +168,29 @@ pub record IsUnplayed {D : Type 0} (sink : Writes) (o : Option (Day D)) : Type 0
   pub no_devices : day.devices ≡ None
   pub keeps : IsUnwritten sink
 
--- how the replay of a script ends
-abbrev pub ReplayEnds : {D : Type 0} → Shown D → Script → Options → Writes → Option (Day D) → Option Fault → Type 0
-ReplayEnds shown script options sink day None = IsWhole shown script options sink day
-ReplayEnds shown script options sink day (Some (Refuses fault)) = ⊥
-ReplayEnds shown script options sink day (Some Words) = ⊥
-ReplayEnds shown script options sink day (Some Read) = ⊥
-ReplayEnds shown script options sink day (Some Write) = IsCut shown script options sink day
-ReplayEnds shown script options sink day (Some Memory) = IsStarved script options sink day
-ReplayEnds shown script options sink day (Some (Later spot)) = ⊥
-ReplayEnds shown script options sink day (Some (Check window place name)) = ⊥
+-- how the day of a script ends
+abbrev pub DayEnds : {D : Type 0} → (Setting → WindowText → WindowRecord → (ℕ → ℕ) → Type 0) → Shown D → Script → Options → Writes → Option (Day D) → Option Fault → Type 0
+DayEnds works shown script options sink day None = IsWhole works shown script options sink day
+DayEnds works shown script options sink day (Some (Refuses fault)) = ⊥
+DayEnds works shown script options sink day (Some Words) = ⊥
+DayEnds works shown script options sink day (Some Read) = ⊥
+DayEnds works shown script options sink day (Some Write) = IsCut works shown script options sink day
+DayEnds works shown script options sink day (Some Memory) = IsStarved works script options sink day
+DayEnds works shown script options sink day (Some (Later spot)) = ⊥
+DayEnds works shown script options sink day (Some (Check window place name)) = ⊥
 
--- the words ask for a replay in a mode that is built
+-- the command line asks for a replay or a run in a mode that is built
 abbrev pub AsksFor : Option CommandLine → Options → Type 0
-AsksFor line options = (line ≡ Some (Replay options)) × (is_later (Replay options) ≡ false)
+AsksFor line options = ((line ≡ Some (Replay options)) ⊎ (line ≡ Some (Run options))) × (is_later_mode options.mode ≡ false)
 
--- the script that was read is replayed: it has no form that is not built
-pub record IsReplayed {D : Type 0} (shown : Shown D) (line : Option CommandLine) (source : Reads) (sink : Writes) (day : Option (Day D)) (fault : Option Fault) : Type 0 where
+-- the day of the script that was read is played: it has no form that is not built
+pub record DayIsPlayed {D : Type 0} (works : Setting → WindowText → WindowRecord → (ℕ → ℕ) → Type 0) (shown : Shown D) (line : Option CommandLine) (source : Reads) (sink : Writes) (day : Option (Day D)) (fault : Option Fault) : Type 0 where
   pub options : Options
   pub asked : AsksFor line options
   pub script : Script
   pub read : IsRead source script
   pub built : first_later script ≡ None
-  pub ends : ReplayEnds shown script options sink day fault
+  pub ends : DayEnds works shown script options sink day fault
 
 -- the command or its mode is not built, and nothing was read
 pub record CommandIsLater {D : Type 0} (line : Option CommandLine) (spot : Spot) (source : Reads) (sink : Writes) (day : Option (Day D)) : Type 0 where
@@ -217,13 +218,23 @@ pub record EndsBefore {D : Type 0} (line : Option CommandLine) (sink : Writes) (
   pub no_day : day ≡ None
   pub unwritten : IsUnwritten sink
 
--- how the call ends, by its fault, for the command line that the words are, if any
-abbrev pub CallEnds : {D : Type 0} → Shown D → Option CommandLine → Reads → Writes → Option (Day D) → Option Fault → Type 0
-CallEnds shown line source sink day None = IsReplayed shown line source sink day None
-CallEnds shown line source sink day (Some (Refuses fault)) = EndsBefore line sink day × IsRefused source fault
-CallEnds shown line source sink day (Some Words) = (line ≡ None) × IsUnread source × (day ≡ None) × IsUnwritten sink
-CallEnds shown line source sink day (Some Read) = EndsBefore line sink day × InputFails source
-CallEnds shown line source sink day (Some Write) = IsReplayed shown line source sink day (Some Write)
-CallEnds shown line source sink day (Some Memory) = ((day ≡ None) × IsUnwritten sink × InputIsStarved source) ⊎ IsReplayed shown line source sink day (Some Memory)
-CallEnds shown line source sink day (Some (Later spot)) = CommandIsLater line spot source sink day ⊎ ScriptIsLater line spot source sink day
-CallEnds shown line source sink day (Some (Check window place name)) = ⊥
+-- how a call ends that works windows in this way, by its fault, for the command line that it takes the words for, if any
+abbrev pub CallEnds : {D : Type 0} → (Setting → WindowText → WindowRecord → (ℕ → ℕ) → Type 0) → Shown D → Option CommandLine → Reads → Writes → Option (Day D) → Option Fault → Type 0
+CallEnds works shown line source sink day None = DayIsPlayed works shown line source sink day None
+CallEnds works shown line source sink day (Some (Refuses fault)) = EndsBefore line sink day × IsRefused source fault
+CallEnds works shown line source sink day (Some Words) = (line ≡ None) × IsUnread source × (day ≡ None) × IsUnwritten sink
+CallEnds works shown line source sink day (Some Read) = EndsBefore line sink day × InputFails source
+CallEnds works shown line source sink day (Some Write) = DayIsPlayed works shown line source sink day (Some Write)
+CallEnds works shown line source sink day (Some Memory) = ((day ≡ None) × IsUnwritten sink × InputIsStarved source) ⊎ DayIsPlayed works shown line source sink day (Some Memory)
+CallEnds works shown line source sink day (Some (Later spot)) = CommandIsLater line spot source sink day ⊎ ScriptIsLater line spot source sink day
+CallEnds works shown line source sink day (Some (Check window place name)) = ⊥
+
+-- a whole day was handed back, and each of its devices was probed as often as the windows of the script say together; the script is the one that was read, where the source tells its bytes. Where it does not, the same follows of the script of CallEnds, from the probes of each window
+pub record IsProbedInAll {D : Type 0} (probes : D → ℕ) (source : Reads) (o : Option (Day D)) : Type 0 where
+  pub script : Script
+  pub read : IsRead source script
+  pub day : Day D
+  pub given : o ≡ Some day
+  pub devices : Listed D
+  pub there : day.devices ≡ Some devices
+  pub probed : (d : ℕ) (device : D) → slice_get devices.items d ≡ Some device → probes device ≡ sum_by (λ window. window.probes) script.windows.items

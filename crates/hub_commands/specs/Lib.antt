@@ -1,6 +1,9 @@
+pub mod Ways
 pub mod Days
 pub mod Played
 pub mod Statuses
 pub mod FaultTexts
+pub mod CommandsTaken
 pub mod Finishes
 pub mod Pieces
+pub mod Going

@@ -1,13 +1,19 @@
 // The commands of the program: each takes words, a source and a sink, and answers how it ended.
 #![tactic(auto)]
 
+mod days;
 mod faults;
 mod finishes;
 mod inputs;
 mod pieces;
 mod plays;
+mod runs;
 mod stills;
+#[cfg(test)]
+mod tests;
+mod ways;
 
 pub use faults::{Fault, Place};
 pub use finishes::{Day, Finish};
+pub use runs::run_command;
 pub use stills::still_command;

@@ -1,8 +1,7 @@
-ghost use Rattle.std.specs.Prelude.{◌≡◌, ◌<◌, ◌≤◌, ◌++◌, ◌∷◌, [], None, IfErr, IfOk, false, length, true};
+ghost use Rattle.std.specs.Prelude.{◌≡◌, ◌<◌, ◌≤◌, ◌++◌, ◌∷◌, [], None, IfErr, IfOk, false, length};
 ghost use Rattle.home_types.specs.Limits.{most_windows};
-ghost use Rattle.home_types.specs.HomeStates.{stand_at};
-ghost use Rattle.hub_commands.specs.Days.{IsUnderWay};
-ghost use Rattle.hub_commands.specs.Played.{HasGoneOn, IsPlayed};
+ghost use Rattle.hub_commands.specs.Played.{NextIsOpened};
+ghost use Rattle.hub_core.specs.Homes.{HomeIsKept};
 ghost use Rattle.later_forms.specs.CommandLines.{is_later_mode};
 ghost use Rattle.later_forms.specs.Scripts.{first_later};
 ghost use Rattle.routine_reader.specs.Rosters.{kinds_of};
@@ -12,9 +11,8 @@ ghost use Rattle.routine_reader.specs.Sound.{IsSound};
 use device_states::Device;
 use history_book::WindowRecord;
 use home_types::{List, Mode, NoMemory};
-use hub_core::Home;
+use hub_core::{Home, Hub};
 use routine_reader::{Script, roster};
-use run_replay::replay_window;
 use std::alloc::Global;
 
 /// A day under way: the home after its last window, and the records of its windows.
@@ -24,21 +22,24 @@ pub struct DayUnderWay<Dev: Device> {
     pub windows: List<WindowRecord>,
 }
 
-/// Plays the next window of the script.
+/// Opens the next window of the script on the home, and takes the memory for its record.
 ///
-/// Where memory is wanted the records of the windows before come back; the home is dropped.
-pub fn play_next<Dev: Device>(
+/// The records of the windows before come back; where memory is wanted the home is dropped.
+pub fn open_next<Dev: Device>(
     alloc: Global,
     script: &Script,
     mode: Mode,
     day: DayUnderWay<Dev>,
-) -> Result<DayUnderWay<Dev>, List<WindowRecord>>
+) -> Result<(Hub<Dev>, List<WindowRecord>), List<WindowRecord>>
     requires sound { IsSound (plain_script script.now) }
     requires built { first_later script.now ≡ None }
     requires mode { is_later_mode mode ≡ false }
     requires next { length day.windows.items < length script.now.windows.items }
-    requires under_way { IsUnderWay Dev.tag Dev.plan Dev.stands Dev.turns Dev.probes Dev.faults script.now mode day.home day.windows.items }
-    ensures played { IfOk result (λ next. HasGoneOn Dev.tag Dev.plan Dev.stands Dev.turns Dev.probes Dev.faults script.now mode day.windows.items next.home next.windows.items) }
+    requires kinds { day.home.kinds ≡ kinds_of script.now }
+    requires few { day.home.opened ≤ most_windows }
+    ensures opened { IfOk result (λ opened. NextIsOpened Dev.tag Dev.turns Dev.probes Dev.faults script.now mode (length day.windows.items) day.home opened.0) }
+    ensures records { IfOk result (λ opened. opened.1.items ≡ day.windows.items) }
+    ensures room { IfOk result (λ opened. 0 < opened.1.spare) }
     ensures starved { IfErr result (λ windows. windows.items ≡ day.windows.items) }
 {
     let DayUnderWay { home, mut windows } = day;
@@ -46,48 +47,51 @@ pub fn play_next<Dev: Device>(
     if windows.reserve(left).is_err() {
         return Err(windows);
     }
-    let number = windows.len() as u32;
-    match play_window(alloc, script, number, mode, home) {
-        Ok((home, closed)) => {
-            home.kept();
-            let kept = windows.push(closed);
-            kept.unwrap();
-            Ok(DayUnderWay { home, windows })
-        }
+    match open_window(alloc, script, windows.len() as u32, mode, home) {
+        Ok(hub) => Ok((hub, windows)),
         Err(NoMemory) => Err(windows),
     }
 }
 
-/// Plays the window of this number, from 0, on the home.
-fn play_window<Dev: Device>(
+/// Opens the window of this number, from 0, on the home.
+fn open_window<Dev: Device>(
     alloc: Global,
     script: &Script,
     number: u32,
     mode: Mode,
     home: Home<Dev>,
-) -> Result<(Home<Dev>, WindowRecord), NoMemory>
+) -> Result<Hub<Dev>, NoMemory>
     requires sound { IsSound (plain_script script.now) }
     requires built { first_later script.now ≡ None }
     requires mode { is_later_mode mode ≡ false }
     requires there { number < length script.now.windows.items }
     requires kinds { home.kinds ≡ kinds_of script.now }
     requires few { home.opened ≤ most_windows }
-    ensures { IfOk result (λ done. IsPlayed Dev.tag Dev.plan Dev.turns Dev.probes Dev.faults script.now mode number home done.0 done.1) }
+    ensures { IfOk result (λ hub. NextIsOpened Dev.tag Dev.turns Dev.probes Dev.faults script.now mode number home hub) }
 {
     let window = &script.windows.as_slice()[number as usize];
     let roster = roster(alloc, script, number)?;
     home.kept();
-    let Ok(hub) = home.open_window(alloc, roster, mode, window.probes) else {
-        return Err(NoMemory);
-    };
-    match replay_window(
-        alloc,
-        hub,
-        window.turns.as_slice(),
-        window.seed,
-        window.probes,
-    ) {
-        Ok(done) => Ok(done),
-        Err((_, NoMemory)) => Err(NoMemory),
+    match home.open_window(alloc, roster, mode, window.probes) {
+        Ok(hub) => Ok(hub),
+        Err(_) => Err(NoMemory),
     }
+}
+
+/// The day with one window more: the home that it left, and its record.
+pub fn close_next<Dev: Device>(
+    windows: List<WindowRecord>,
+    home: Home<Dev>,
+    closed: WindowRecord,
+) -> DayUnderWay<Dev>
+    requires room { 0 < windows.spare }
+    ensures home { result.home ≡ home }
+    ensures kept { HomeIsKept Dev.tag Dev.stands Dev.turns Dev.probes Dev.faults home }
+    ensures windows { result.windows.items ≡ windows.items ++ closed ∷ [] }
+{
+    home.kept();
+    let mut windows = windows;
+    let kept = windows.push(closed);
+    kept.unwrap();
+    DayUnderWay { home, windows }
 }

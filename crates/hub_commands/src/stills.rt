@@ -1,109 +1,83 @@
-ghost use Rattle.std.specs.Prelude.{◌≡◌, ◌<◌, ◌≤◌, ◌++◌, ◌∷◌, [], IfOk, IfSome, None, Some, false, length, map, string_bytes};
-ghost use Rattle.home_types.specs.Limits.{most_windows};
-ghost use Rattle.command_words.specs.CommandLines.{command_line_of};
-ghost use Rattle.day_report.specs.Days.{window_text as window_lines_of};
-ghost use Rattle.hub_commands.specs.Finishes.{CallEnds, ReplayEnds, read_off, shown_by, written};
-ghost use Rattle.hub_commands.specs.Pieces.{StopEnds};
+ghost use Rattle.std.specs.Prelude.{◌≡◌, ◌<◌, Err, IfErr, IfOk, None, Some, false, length, map, string_bytes};
+ghost use Rattle.hub_commands.specs.CommandsTaken.{still_line_of};
+ghost use Rattle.hub_commands.specs.Days.{IsUnderWay};
+ghost use Rattle.hub_commands.specs.Finishes.{CallEnds, DayEnds, read_off, shown_by, written};
+ghost use Rattle.hub_commands.specs.Played.{HasGoneOn, IsWorkedAs};
 ghost use Rattle.hub_commands.specs.Statuses.{status_of};
+ghost use Rattle.hub_commands.specs.Ways.{IsReplayOf};
+ghost use Rattle.hub_core.specs.OpenHubs.{configuration_of};
+ghost use Rattle.hub_core.specs.Steps.{opened};
 ghost use Rattle.later_forms.specs.CommandLines.{is_later_mode};
 ghost use Rattle.later_forms.specs.Scripts.{first_later as first_later_of};
 ghost use Rattle.routine_reader.specs.Scripts.{plain_script};
 ghost use Rattle.routine_reader.specs.Sound.{IsSound};
 
+use crate::days::{begin, end, end_without_devices, go_on, refuse};
 use crate::faults::Fault;
-use crate::finishes::{Day, Finish};
+use crate::finishes::Finish;
 use crate::inputs::read_input;
-use crate::pieces::{PieceFault, write_piece};
-use crate::plays::{DayUnderWay, play_next};
+use crate::plays::{DayUnderWay, close_next, open_next};
+use crate::ways::StepByStep;
 use command_words::{CommandLine, Options, WordFault, read_words};
 use day_clock::{Sink, Source};
-use day_report::{head_text, total_text, window_text};
 use device_states::{Bench, Device};
 use history_book::WindowRecord;
-use home_types::{Bytes, List, NoMemory};
-use hub_core::Home;
+use home_types::{List, Mode, NoMemory};
+use hub_core::{Home, Hub};
 use later_forms::{first_later, is_later};
-use routine_reader::{Script, Spot};
+use routine_reader::{Script, Spot, WindowText};
+use run_replay::replay_window;
 use std::alloc::Global;
 
-/// Ends the call before there is a day.
-fn refuse<Dev: Device>(fault: Fault) -> Finish<Dev>
-    ensures fault { result.fault ≡ Some fault }
-    ensures day { result.day ≡ None }
-    ensures status { result.status ≡ status_of result.fault }
+/// Replays the window of this text, which was just opened. Where memory is wanted the hub is dropped.
+fn replay_opened<D: Device>(
+    alloc: Global,
+    hub: Hub<D>,
+    window: &WindowText,
+) -> Result<(Home<D>, WindowRecord), NoMemory>
+    requires fresh { configuration_of hub ≡ opened hub.setting hub.rounds }
+    requires rounds { hub.rounds ≡ window.now.probes }
+    ensures { IfOk result (λ done. IsWorkedAs IsReplayOf D.tag D.plan D.turns D.probes D.faults hub window.now done.0 done.1) }
 {
-    Finish {
-        status: fault.status(),
-        day: None,
-        fault: Some(fault),
+    let turns = window.turns.as_slice();
+    match replay_window(alloc, hub, turns, window.seed, window.probes) {
+        Ok(done) => Ok(done),
+        Err((_, NoMemory)) => Err(NoMemory),
     }
 }
 
-/// Ends the call with the windows that were closed, and without devices.
-fn end_without_devices<Dev: Device>(windows: List<WindowRecord>, fault: Fault) -> Finish<Dev>
-    ensures fault { result.fault ≡ Some fault }
-    ensures day { result.day ≡ Some (record { windows = windows; devices = None }) }
-    ensures status { result.status ≡ status_of result.fault }
-{
-    Finish {
-        status: fault.status(),
-        day: Some(Day {
-            windows,
-            devices: None,
-        }),
-        fault: Some(fault),
-    }
-}
-
-/// Ends a day on which a piece of the record was not written: with its devices where the sink failed, and without them
-/// where memory was wanted.
-fn stop<Dev: Device>(day: DayUnderWay<Dev>, fault: PieceFault) -> Finish<Dev>
-    ensures status { result.status ≡ status_of result.fault }
-    ensures ends { StopEnds day.windows day.home.devices fault result.day result.fault }
-{
-    let DayUnderWay { home, windows } = day;
-    match fault {
-        PieceFault::Sink => Finish {
-            status: Fault::Write.status(),
-            day: Some(Day {
-                windows,
-                devices: Some(home.into_devices()),
-            }),
-            fault: Some(Fault::Write),
-        },
-        PieceFault::Memory => end_without_devices(windows, Fault::Memory),
-    }
-}
-
-/// The lines of the day's last window.
-fn last_lines(
+/// Replays the next window of the script, by its turns and its seed.
+///
+/// Where memory is wanted the records of the windows before come back; the home is dropped.
+fn replay_next<D: Device>(
     alloc: Global,
     script: &Script,
-    options: Options,
-    windows: &List<WindowRecord>,
-) -> Result<Bytes, NoMemory>
-    requires some { 0 < length windows.now.items }
-    requires few { length windows.now.items ≤ most_windows }
-    ensures { (before : _) (closed : _) → windows.now.items ≡ before ++ closed ∷ []
-        → IfOk result (λ lines. lines ≡ window_lines_of script.now (length before) closed options.mode options.trace) }
+    mode: Mode,
+    day: DayUnderWay<D>,
+) -> Result<DayUnderWay<D>, List<WindowRecord>>
+    requires sound { IsSound (plain_script script.now) }
+    requires built { first_later_of script.now ≡ None }
+    requires mode { is_later_mode mode ≡ false }
+    requires next { length day.windows.items < length script.now.windows.items }
+    requires under_way { IsUnderWay IsReplayOf D.tag D.plan D.stands D.turns D.probes D.faults script.now mode day.home day.windows.items }
+    ensures played { IfOk result (λ next. HasGoneOn IsReplayOf D.tag D.plan D.stands D.turns D.probes D.faults script.now mode day.windows.items next.home next.windows.items) }
+    ensures starved { IfErr result (λ windows. windows.items ≡ day.windows.items) }
 {
-    let number = windows.len() - 1;
-    let Some(closed) = windows.get(number) else {
-        return Err(NoMemory);
+    let (hub, windows) = match open_next(alloc, script, mode, day) {
+        Ok(opened) => opened,
+        Err(windows) => return Err(windows),
     };
-    window_text(
-        alloc,
-        script,
-        number as u32,
-        closed,
-        options.mode,
-        options.trace,
-    )
+    let number = windows.len() as usize;
+    let window = &script.windows.as_slice()[number];
+    match replay_opened(alloc, hub, window) {
+        Ok(done) => Ok(close_next(windows, done.0, done.1)),
+        Err(NoMemory) => Err(windows),
+    }
 }
 
-/// Plays the script's day on devices of the bench, and writes its record: the head, each window as it closes, and the
+/// Replays the script's day on devices of the bench, and writes its record: the head, each window as it closes, and the
 /// total.
-fn replay<K: Sink, B: Bench>(
+fn replay_day<K: Sink, B: Bench>(
     alloc: Global,
     script: &Script,
     options: Options,
@@ -114,52 +88,48 @@ fn replay<K: Sink, B: Bench>(
     requires built { first_later_of script.now ≡ None }
     requires mode { is_later_mode options.mode ≡ false }
     ensures status { result.status ≡ status_of result.fault }
-    ensures ends { ReplayEnds (shown_by B.Dev.tag B.Dev.plan B.Dev.stands B.Dev.turns B.Dev.probes B.Dev.faults)
+    ensures ends { DayEnds IsReplayOf
+        (shown_by B.Dev.tag B.Dev.plan B.Dev.stands B.Dev.turns B.Dev.probes B.Dev.faults)
         script.now options
         (written (K.holds sink.old) (K.holds sink.new) (K.faults sink.old) (K.faults sink.new))
         result.day result.fault }
 {
-    let Ok(home) = Home::build(alloc, bench, script) else {
-        return end_without_devices(List::new(alloc), Fault::Memory);
+    let mut day = match begin(&StepByStep, alloc, script, options, sink, bench) {
+        Ok(day) => day,
+        Err(finish) => return finish,
     };
-    let mut day = DayUnderWay {
-        home,
-        windows: List::new(alloc),
-    };
-    if let Err(fault) = write_piece(sink, head_text(alloc, options.mode)) {
-        return stop(day, fault);
-    }
     'windows: for _ in 0..script.windows.len() {
-        day = match play_next(alloc, script, options.mode, day) {
-            Ok(next) => next,
-            Err(windows) => return end_without_devices(windows, Fault::Memory),
+        let next = replay_next(alloc, script, options.mode, day);
+        day = match go_on(&StepByStep, alloc, script, options, next, sink) {
+            Ok(day) => day,
+            Err(finish) => return finish,
         };
-        let lines = last_lines(alloc, script, options, &day.windows);
-        if let Err(fault) = write_piece(sink, lines) {
-            return stop(day, fault);
-        }
     }
-    if let Err(fault) = write_piece(sink, total_text(alloc, &day.windows)) {
-        return stop(day, fault);
-    }
-    let DayUnderWay { home, windows } = day;
-    Finish {
-        status: 0,
-        day: Some(Day {
-            windows,
-            devices: Some(home.into_devices()),
-        }),
-        fault: None,
+    end(&StepByStep, alloc, script, options, day, sink)
+}
+
+/// Reads the words of a command that waits for nobody.
+fn read_still_words(alloc: Global, words: &[String]) -> Result<CommandLine, WordFault>
+    ensures meaning { IfOk result (λ line. still_line_of (map string_bytes words.now) ≡ Some line) }
+    ensures refused { result ≡ Err WordFault.Words → still_line_of (map string_bytes words.now) ≡ None }
+{
+    match read_words(alloc, words) {
+        Ok(CommandLine::Run(_)) => Err(WordFault::Words),
+        Ok(CommandLine::Replay(options)) => Ok(CommandLine::Replay(options)),
+        Ok(CommandLine::Check) => Ok(CommandLine::Check),
+        Ok(CommandLine::Trial(number)) => Ok(CommandLine::Trial(number)),
+        Err(fault) => Err(fault),
     }
 }
 
 /// Runs a command that waits for nobody.
 ///
 /// `replay` reads a day's script from the source, plays its windows on devices of the bench by their turns and their
-/// seeds, and writes the record to the sink. The words are those on the command line, without the program's name.
+/// seeds, and writes the record to the sink. The words are those on the command line, without the program's name; `run`
+/// is refused as words.
 ///
 /// The status tells how the call ended: 0, the record is written; 1, the script is refused; 2, the words are of no
-/// command; 3, the source failed; 4, the sink failed, and holds a first part of the record; 5, want of memory, and the
+/// command that this call takes; 3, the source failed; 4, the sink failed, and holds a first part of the record; 5, want of memory, and the
 /// sink holds a first part of the record; 8, what is asked for is not built yet. At 1, 2, 3 and 8 nothing is written.
 /// docs/FORMATS.md has the words, the script and the record.
 pub fn still_command<S: Source, K: Sink, B: Bench>(
@@ -170,13 +140,14 @@ pub fn still_command<S: Source, K: Sink, B: Bench>(
     bench: &mut B,
 ) -> Finish<B::Dev>
     ensures status { result.status ≡ status_of result.fault }
-    ensures ends { CallEnds (shown_by B.Dev.tag B.Dev.plan B.Dev.stands B.Dev.turns B.Dev.probes B.Dev.faults)
-        (command_line_of (map string_bytes words.now))
+    ensures ends { CallEnds IsReplayOf
+        (shown_by B.Dev.tag B.Dev.plan B.Dev.stands B.Dev.turns B.Dev.probes B.Dev.faults)
+        (still_line_of (map string_bytes words.now))
         (read_off (S.left source.old) (S.left source.new) (S.faults source.old) (S.faults source.new))
         (written (K.holds sink.old) (K.holds sink.new) (K.faults sink.old) (K.faults sink.new))
         result.day result.fault }
 {
-    let line = match read_words(alloc, words) {
+    let line = match read_still_words(alloc, words) {
         Ok(line) => line,
         Err(WordFault::Words) => return refuse(Fault::Words),
         Err(WordFault::NoMemory) => return refuse(Fault::Memory),
@@ -190,6 +161,6 @@ pub fn still_command<S: Source, K: Sink, B: Bench>(
     };
     match first_later(&script) {
         Some(spot) => end_without_devices(List::new(alloc), Fault::Later(spot)),
-        None => replay(alloc, &script, options, sink, bench),
+        None => replay_day(alloc, &script, options, sink, bench),
     }
 }

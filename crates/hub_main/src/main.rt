@@ -4,22 +4,20 @@
 ghost use Rattle.std.specs.Prelude.{◌≡◌};
 ghost use Rattle.hub_commands.specs.Statuses.{fault_status};
 
-use day_clock::{StdSink, StdSource};
-use device_states::SimBench;
-use hub_commands::{Fault, still_command};
+use day_clock::{Clock, Sink, Source, StdClock, StdSink, StdSource};
+use device_states::{SimBench, SimDevice};
+use hub_commands::{Fault, Finish, run_command, still_command};
+use std::alloc::Global;
 use std::env;
 use std::io::ErrorKind;
 use std::process::ExitCode;
+use std::sync::Wait;
+use std::thread::Threads;
 
 fn main(rt: HostRuntime) -> ExitCode {
-    ExitCode::from(run(&rt))
-}
-
-/// Makes the real objects, runs the command, and answers its status. Where that is not 0, standard error tells why.
-fn run(rt: &HostRuntime) -> u8 {
-    let words = match words_of(rt) {
+    let words = match words_of(&rt) {
         Ok(words) => words,
-        Err(fault) => return tell(rt, &fault),
+        Err(fault) => return ExitCode::from(tell(&rt, &fault)),
     };
     let given: &[String] = match words.as_slice() {
         [_, given @ ..] => given,
@@ -27,11 +25,33 @@ fn run(rt: &HostRuntime) -> u8 {
     };
     let mut source = StdSource::new(rt.stdin());
     let mut sink = StdSink::new(rt.stdout());
-    let finish = still_command(rt.alloc(), given, &mut source, &mut sink, &mut SimBench);
-    match &finish.fault {
-        Some(fault) => tell(rt, fault),
+    let clock = StdClock::new(&rt);
+    let finish = call(&rt, rt.alloc(), given, &mut source, &mut sink, &clock);
+    ExitCode::from(match &finish.fault {
+        Some(fault) => tell(&rt, fault),
         None => finish.status,
+    })
+}
+
+/// Makes the call that takes the command: the first word tells which.
+fn call<R: Threads + Wait + Sync, S: Source, K: Sink, C: Clock + Sync>(
+    rt: &R,
+    alloc: Global,
+    words: &[String],
+    source: &mut S,
+    sink: &mut K,
+    clock: &C,
+) -> Finish<SimDevice> {
+    if asks_for_run(words) {
+        run_command(rt, alloc, words, source, sink, &mut SimBench, clock)
+    } else {
+        still_command(alloc, words, source, sink, &mut SimBench)
     }
+}
+
+/// Whether the first word is `run`.
+fn asks_for_run(words: &[String]) -> bool {
+    matches!(words.first(), Some(word) if word.as_str() == "run")
 }
 
 /// The words of the command line, the program's name before them.

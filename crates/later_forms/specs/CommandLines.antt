@@ -4,16 +4,7 @@ use Rattle.command_words.specs.declared.command_lines.CommandLine.{CommandLine}
 use Rattle.home_types.specs.declared.modes.Mode.{Mode}
 use Rattle.home_types.specs.declared.modes.Scheduler.TheVariants.{Fcfs, JustInTime, Timeline}
 use Rattle.home_types.specs.declared.modes.Scheduler.{Scheduler}
-use Rattle.home_types.specs.declared.modes.Visibility.TheVariants.{Eventual, Global, Partitioned, Weak}
-use Rattle.home_types.specs.declared.modes.Visibility.{Visibility}
-use Rattle.std.specs.Prelude.{Bool, false, true, ◌||◌}
-
--- the weak model
-abbrev pub is_later_model : Visibility → Bool
-is_later_model Weak = true
-is_later_model Global = false
-is_later_model Partitioned = false
-is_later_model Eventual = false
+use Rattle.std.specs.Prelude.{Bool, false, true}
 
 -- every scheduler but first come first served
 abbrev pub is_later_scheduler : Scheduler → Bool
@@ -22,11 +13,11 @@ is_later_scheduler JustInTime = true
 is_later_scheduler Timeline = true
 
 abbrev pub is_later_mode : Mode → Bool
-is_later_mode mode = is_later_model mode.model || is_later_scheduler mode.scheduler
+is_later_mode mode = is_later_scheduler mode.scheduler
 
--- every command but a replay in a mode that is built
+-- every command but a run and a replay in a mode that is built
 abbrev pub is_later : CommandLine → Bool
-is_later (Run options) = true
+is_later (Run options) = is_later_mode options.mode
 is_later (Replay options) = is_later_mode options.mode
 is_later Check = true
 is_later (Trial n) = true

@@ -1,7 +1,8 @@
-use Rattle.command_words.specs.CommandLines.{command_line_of}
 use Rattle.hub_commands.proofs.LaterScripts.{later_script}
 use Rattle.hub_commands.proofs.stills.still_command.Goals as goal
+use Rattle.hub_commands.specs.CommandsTaken.{still_line_of}
 use Rattle.hub_commands.specs.Finishes.{read_off, shown_by}
+use Rattle.hub_commands.specs.Ways.{IsReplayOf}
 use Rattle.std.proofs.Common.{map, rules, string_bytes}
 
 pub returns-in-Some-clause-ends : goal.returns-in-Some-clause-ends
@@ -9,7 +10,7 @@ returns-in-Some-clause-ends g c =
     let D = g.B.Dev.Device in
     let K = g.K.Sink in
     let S = g.S.Source in
-    later_script (shown_by D.tag D.plan D.stands D.turns D.probes D.faults) (command_line_of (map string_bytes c.args.words.now)) c.in-Ok.line
+    later_script IsReplayOf (shown_by D.tag D.plan D.stands D.turns D.probes D.faults) (still_line_of (map string_bytes c.args.words.now)) c.in-Ok.line
     c.in-Ok-read_input.script c.in-Some.spot
     (read_off (S.left c.args.source.now) (S.left c.read_input.new.source) (S.faults c.args.source.now) (S.faults c.read_input.new.source))
     (K.holds c.args.sink.now) (K.faults c.args.sink.now)

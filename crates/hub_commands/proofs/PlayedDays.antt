@@ -1,6 +1,7 @@
--- The replay of a script: what holds before each window, and how it ends.
+-- The day of a script: what holds before each window, and how it ends.
 use Rattle.day_report.specs.Days.{head_text, total_text, window_text}
 use Rattle.command_words.specs.declared.command_lines.Options.{Options}
+use Rattle.history_book.specs.Settings.{Setting}
 use Rattle.history_book.specs.declared.records.WindowRecord.{WindowRecord}
 use Rattle.day_clock.specs.Sinks.{AppendsPart}
 use Rattle.home_types.specs.Listed.{Listed}
@@ -11,7 +12,8 @@ use Rattle.hub_commands.proofs.DaysUnderWay.{cut_is_legal, day_is_legal, no_wind
 use Rattle.hub_commands.proofs.Snocs.{no_snoc, snoc_front}
 use Rattle.hub_commands.proofs.Texts.{appends_keeps, appends_more, due_whole, keeps_appends, part_more, part_wider, text_more, text_starts, text_whole, whole_first}
 use Rattle.hub_commands.specs.Days.{DevicesAreProbed, IsUnderWay, WindowsArePlayed, text_due, text_so_far}
-use Rattle.hub_commands.specs.Finishes.{AppendsFirst, IsCut, IsStarved, IsWhole, IsWrittenAsClosed, ReplayEnds, Shown, Writes, written}
+use Rattle.hub_commands.specs.Finishes.{AppendsFirst, DayEnds, IsCut, IsStarved, IsWhole, IsWrittenAsClosed, Shown, written}
+use Rattle.hub_commands.specs.Going.{IsGoingOn}
 use Rattle.hub_commands.specs.Pieces.{PieceEnds, StopEnds}
 use Rattle.hub_commands.specs.Played.{HasGoneOn}
 use Rattle.hub_commands.specs.declared.faults.Fault.TheVariants.{Memory as WantsMemory}
@@ -21,15 +23,10 @@ use Rattle.hub_commands.specs.declared.pieces.PieceFault.TheVariants.{Memory, Si
 use Rattle.hub_commands.specs.declared.pieces.PieceFault.{PieceFault}
 use Rattle.routine_reader.specs.Rosters.{kinds_of, start_home}
 use Rattle.routine_reader.specs.declared.scripts.Script.{Script}
+use Rattle.routine_reader.specs.declared.scripts.WindowText.{WindowText}
 use Rattle.std.proofs.Common.{ap, append-nil, append_assoc, arith, refl, subst, sym, ◌∙◌}
 use Rattle.std.specs.Io.KnownBytes.{Appends, Keeps}
 use Rattle.std.specs.Prelude.{Err, IfOk, List, None, Ok, Option, Result, Some, [], if◌then◌else◌, length, take, ℕ, ◌++◌, ◌==◌, ◌∷◌, ◌≡◌}
-
--- the home is under way, and the sink got the texts so far
-pub record IsReplaying {D : Type 0} (shown : Shown D) (script : Script) (options : Options) (sink : Writes) (home : HomeState D) (records : List WindowRecord) : Type 0 where
-  pub under_way : IsUnderWay shown.tag shown.plan shown.stands shown.turns shown.probes shown.faults script options.mode home records
-  pub text : Appends sink.held sink.holds (text_so_far script options.mode options.trace records)
-  pub calm : sink.faults_after ≡ sink.faults
 
 -- what follows the texts so far in the text that is due
 abbrev after_texts : Script → List WindowRecord → List ℕ
@@ -81,71 +78,71 @@ lead_whole script options held holds f f_after records bytes leads got =
     lead_written script options held holds f f_after records bytes [] leads (subst (λ t. Appends held holds t) (sym (append-nil bytes)) got)
 
 -- a piece was not written: the sink has all before it, and a first part of it
-stopped : {D M : Type 0} (shown : Shown D) (script : Script) (options : Options) (held mid holds : Option (List ℕ)) (f f_mid f_after : ℕ) (home : HomeState D) (windows : Listed WindowRecord) (before : List ℕ) (piece : Result (List ℕ) M) (fault : PieceFault) (day : Option (Day D)) (why : Option Fault)
-    → IsUnderWay shown.tag shown.plan shown.stands shown.turns shown.probes shown.faults script options.mode home windows.items
+stopped : {D M : Type 0} (works : Setting → WindowText → WindowRecord → (ℕ → ℕ) → Type 0) (shown : Shown D) (script : Script) (options : Options) (held mid holds : Option (List ℕ)) (f f_mid f_after : ℕ) (home : HomeState D) (windows : Listed WindowRecord) (before : List ℕ) (piece : Result (List ℕ) M) (fault : PieceFault) (day : Option (Day D)) (why : Option Fault)
+    → IsUnderWay works shown.tag shown.plan shown.stands shown.turns shown.probes shown.faults script options.mode home windows.items
     → Appends held mid before → LeadWith script options windows.items before → f_mid ≡ f
     → PieceEnds (written mid holds f_mid f_after) piece (Err fault) → StopEnds windows home.devices fault day why
     → (tail : List ℕ) × (text_due script options.mode options.trace windows.items ≡ before ++ tail)
     → ((bytes : List ℕ) → piece ≡ Ok bytes → (rest : List ℕ) × (text_due script options.mode options.trace windows.items ≡ (before ++ bytes) ++ rest))
-    → ReplayEnds shown script options (written held holds f f_after) day why
-stopped shown script options held mid holds f f_mid f_after home windows before piece Sink day why under first leads calm ended stop tail due =
+    → DayEnds works shown script options (written held holds f f_after) day why
+stopped works shown script options held mid holds f f_mid f_after home windows before piece Sink day why under first leads calm ended stop tail due =
     let rest = due ended.0 ended.1 in
-    let cut : IsCut shown script options (written held holds f f_after) day = record {
+    let cut : IsCut works shown script options (written held holds f f_after) day = record {
       day = record { windows = windows; devices = Some stop.0 };
       given = stop.2;
       devices = stop.0;
       there = refl;
       legal = subst (λ ds. IsLegalCutDay shown.tag shown.plan shown.stands shown.turns shown.faults script options.mode windows.items ds) (sym stop.1)
-          (cut_is_legal shown.tag shown.plan shown.stands shown.turns shown.probes shown.faults script options.mode home windows.items under);
-      plays = under.plays;
+          (cut_is_legal works shown.tag shown.plan shown.stands shown.turns shown.probes shown.faults script options.mode home windows.items under);
+      takes = under.takes;
       played = under.played;
-      probed = subst (λ ds. DevicesAreProbed shown.probes script under.plays ds) (sym stop.1) under.probed;
+      probed = subst (λ ds. DevicesAreProbed shown.probes under.takes ds) (sym stop.1) under.probed;
       text = subst (λ t. AppendsPart held holds t) (sym rest.1) (part_wider held holds (before ++ ended.0) rest.0 (part_more held mid holds before ended.0 first ended.2));
       as_closed = lead_written script options held holds f f_after windows.items before (take ended.2.0 ended.0) leads (appends_more held mid holds before (take ended.2.0 ended.0) first ended.2.2);
       failed = let late = ended.3 in omega (arith, late, calm);
     } in
-    subst (λ (w : Option Fault). ReplayEnds shown script options (written held holds f f_after) day w) (sym stop.3) cut
-stopped shown script options held mid holds f f_mid f_after home windows before piece Memory day why under first leads calm ended stop tail due =
-    let starved : IsStarved script options (written held holds f f_after) day = record {
+    subst (λ (w : Option Fault). DayEnds works shown script options (written held holds f f_after) day w) (sym stop.3) cut
+stopped works shown script options held mid holds f f_mid f_after home windows before piece Memory day why under first leads calm ended stop tail due =
+    let starved : IsStarved works script options (written held holds f f_after) day = record {
       day = record { windows = windows; devices = None };
       given = stop.0;
       no_devices = refl;
-      plays = under.plays;
+      takes = under.takes;
       played = under.played;
       text = subst (λ t. AppendsFirst held holds t) (sym tail.1) (whole_first held holds before tail.0 (appends_keeps held mid holds before first ended.0));
       as_closed = lead_whole script options held holds f f_after windows.items before leads (appends_keeps held mid holds before first ended.0);
       calm = ended.1 ∙ calm;
     } in
-    subst (λ (w : Option Fault). ReplayEnds shown script options (written held holds f f_after) day w) (sym stop.1) starved
+    subst (λ (w : Option Fault). DayEnds works shown script options (written held holds f f_after) day w) (sym stop.1) starved
 
 -- the home before its first window
-home_starts : {D : Type 0} (shown : Shown D) (script : Script) (mode : Mode) (home : HomeState D) (records : List WindowRecord)
+home_starts : {D : Type 0} (works : Setting → WindowText → WindowRecord → (ℕ → ℕ) → Type 0) (shown : Shown D) (script : Script) (mode : Mode) (home : HomeState D) (records : List WindowRecord)
     → AreNew shown.tag shown.plan shown.stands shown.turns shown.probes shown.faults script.devices.items home.devices → home.kinds ≡ kinds_of script → home.world ≡ start_home script → home.opened ≡ 0 → records ≡ []
-    → IsUnderWay shown.tag shown.plan shown.stands shown.turns shown.probes shown.faults script mode home records
-home_starts shown script mode home records are kinds world opened none =
-    subst (λ rs. IsUnderWay shown.tag shown.plan shown.stands shown.turns shown.probes shown.faults script mode home rs) (sym none)
-    (starts shown.tag shown.plan shown.stands shown.turns shown.probes shown.faults script mode home are kinds world opened)
+    → IsUnderWay works shown.tag shown.plan shown.stands shown.turns shown.probes shown.faults script mode home records
+home_starts works shown script mode home records are kinds world opened none =
+    subst (λ rs. IsUnderWay works shown.tag shown.plan shown.stands shown.turns shown.probes shown.faults script mode home rs) (sym none)
+    (starts works shown.tag shown.plan shown.stands shown.turns shown.probes shown.faults script mode home are kinds world opened)
 
 -- the head is written
-pub begun : {D M : Type 0} (shown : Shown D) (script : Script) (options : Options) (held holds : Option (List ℕ)) (f f_after : ℕ) (home : HomeState D) (records : List WindowRecord) (piece : Result (List ℕ) M)
+pub begun : {D M : Type 0} (works : Setting → WindowText → WindowRecord → (ℕ → ℕ) → Type 0) (shown : Shown D) (script : Script) (options : Options) (held holds : Option (List ℕ)) (f f_after : ℕ) (home : HomeState D) (records : List WindowRecord) (piece : Result (List ℕ) M)
     → AreNew shown.tag shown.plan shown.stands shown.turns shown.probes shown.faults script.devices.items home.devices → home.kinds ≡ kinds_of script → home.world ≡ start_home script → home.opened ≡ 0 → records ≡ []
     → IfOk piece (λ b. b ≡ head_text options.mode) → PieceEnds (written held holds f f_after) piece (Ok tt)
-    → IsReplaying shown script options (written held holds f f_after) home records
-begun shown script options held holds f f_after home records piece are kinds world opened none ok ended = record {
-  under_way = home_starts shown script options.mode home records are kinds world opened none;
+    → IsGoingOn works shown script options (written held holds f f_after) home records
+begun works shown script options held holds f f_after home records piece are kinds world opened none ok ended = record {
+  under_way = home_starts works shown script options.mode home records are kinds world opened none;
   text = subst (λ t. Appends held holds t)
       (said piece (head_text options.mode) ended.0 ok ended.1 ∙ sym (text_starts script options.mode options.trace) ∙ ap (λ rs. text_so_far script options.mode options.trace rs) (sym none)) ended.2;
   calm = ended.3;
 }
 
 -- the head is not written
-pub head_stopped : {D M : Type 0} (shown : Shown D) (script : Script) (options : Options) (held holds : Option (List ℕ)) (f f_after : ℕ) (home : HomeState D) (windows : Listed WindowRecord) (piece : Result (List ℕ) M) (fault : PieceFault) (day : Option (Day D)) (why : Option Fault)
+pub head_stopped : {D M : Type 0} (works : Setting → WindowText → WindowRecord → (ℕ → ℕ) → Type 0) (shown : Shown D) (script : Script) (options : Options) (held holds : Option (List ℕ)) (f f_after : ℕ) (home : HomeState D) (windows : Listed WindowRecord) (piece : Result (List ℕ) M) (fault : PieceFault) (day : Option (Day D)) (why : Option Fault)
     → AreNew shown.tag shown.plan shown.stands shown.turns shown.probes shown.faults script.devices.items home.devices → home.kinds ≡ kinds_of script → home.world ≡ start_home script → home.opened ≡ 0 → windows.items ≡ []
     → IfOk piece (λ b. b ≡ head_text options.mode) → PieceEnds (written held holds f f_after) piece (Err fault) → StopEnds windows home.devices fault day why
-    → ReplayEnds shown script options (written held holds f f_after) day why
-head_stopped shown script options held holds f f_after home windows piece fault day why are kinds world opened none ok ended stop =
-    stopped shown script options held held holds f f f_after home windows [] piece fault day why
-    (home_starts shown script options.mode home windows.items are kinds world opened none)
+    → DayEnds works shown script options (written held holds f f_after) day why
+head_stopped works shown script options held holds f f_after home windows piece fault day why are kinds world opened none ok ended stop =
+    stopped works shown script options held held holds f f f_after home windows [] piece fault day why
+    (home_starts works shown script options.mode home windows.items are kinds world opened none)
     (keeps_appends held held (keeps_same held)) (none_leads script options windows.items [] none) refl ended stop
     (text_due script options.mode options.trace windows.items, refl)
     (λ bytes is. (
@@ -155,13 +152,13 @@ head_stopped shown script options held holds f f_after home windows piece fault 
     ))
 
 -- a window was played, and its lines are written
-pub goes_on : {D M : Type 0} (shown : Shown D) (script : Script) (options : Options) (held mid holds : Option (List ℕ)) (f f_mid f_after : ℕ) (home next : HomeState D) (records more : List WindowRecord) (piece : Result (List ℕ) M)
-    → IsReplaying shown script options (written held mid f f_mid) home records
-    → HasGoneOn shown.tag shown.plan shown.stands shown.turns shown.probes shown.faults script options.mode records next more
+pub goes_on : {D M : Type 0} (works : Setting → WindowText → WindowRecord → (ℕ → ℕ) → Type 0) (shown : Shown D) (script : Script) (options : Options) (held mid holds : Option (List ℕ)) (f f_mid f_after : ℕ) (home next : HomeState D) (records more : List WindowRecord) (piece : Result (List ℕ) M)
+    → IsGoingOn works shown script options (written held mid f f_mid) home records
+    → HasGoneOn works shown.tag shown.plan shown.stands shown.turns shown.probes shown.faults script options.mode records next more
     → ((before : List WindowRecord) (closed : WindowRecord) → more ≡ before ++ closed ∷ [] → IfOk piece (λ lines. lines ≡ window_text script (length before) closed options.mode options.trace))
     → PieceEnds (written mid holds f_mid f_after) piece (Ok tt)
-    → IsReplaying shown script options (written held holds f f_after) next more
-goes_on shown script options held mid holds f f_mid f_after home next records more piece day gone lines ended =
+    → IsGoingOn works shown script options (written held holds f f_after) next more
+goes_on works shown script options held mid holds f f_mid f_after home next records more piece day gone lines ended =
     let own = said piece (window_text script (length records) gone.closed options.mode options.trace) ended.0 (lines records gone.closed gone.more) ended.1 in
     record {
       under_way = gone.under_way;
@@ -172,14 +169,14 @@ goes_on shown script options held mid holds f f_mid f_after home next records mo
     }
 
 -- its lines are not written
-pub lines_stopped : {D M : Type 0} (shown : Shown D) (script : Script) (options : Options) (held mid holds : Option (List ℕ)) (f f_mid f_after : ℕ) (home next : HomeState D) (records : List WindowRecord) (windows : Listed WindowRecord) (piece : Result (List ℕ) M) (fault : PieceFault) (day : Option (Day D)) (why : Option Fault)
-    → IsReplaying shown script options (written held mid f f_mid) home records
-    → HasGoneOn shown.tag shown.plan shown.stands shown.turns shown.probes shown.faults script options.mode records next windows.items
+pub lines_stopped : {D M : Type 0} (works : Setting → WindowText → WindowRecord → (ℕ → ℕ) → Type 0) (shown : Shown D) (script : Script) (options : Options) (held mid holds : Option (List ℕ)) (f f_mid f_after : ℕ) (home next : HomeState D) (records : List WindowRecord) (windows : Listed WindowRecord) (piece : Result (List ℕ) M) (fault : PieceFault) (day : Option (Day D)) (why : Option Fault)
+    → IsGoingOn works shown script options (written held mid f f_mid) home records
+    → HasGoneOn works shown.tag shown.plan shown.stands shown.turns shown.probes shown.faults script options.mode records next windows.items
     → ((before : List WindowRecord) (closed : WindowRecord) → windows.items ≡ before ++ closed ∷ [] → IfOk piece (λ lines. lines ≡ window_text script (length before) closed options.mode options.trace))
     → PieceEnds (written mid holds f_mid f_after) piece (Err fault) → StopEnds windows next.devices fault day why
-    → ReplayEnds shown script options (written held holds f f_after) day why
-lines_stopped shown script options held mid holds f f_mid f_after home next records windows piece fault day why under gone lines ended stop =
-    stopped shown script options held mid holds f f_mid f_after next windows (text_so_far script options.mode options.trace records) piece fault day why
+    → DayEnds works shown script options (written held holds f f_after) day why
+lines_stopped works shown script options held mid holds f f_mid f_after home next records windows piece fault day why under gone lines ended stop =
+    stopped works shown script options held mid holds f f_mid f_after next windows (text_so_far script options.mode options.trace records) piece fault day why
     gone.under_way under.text (rest_lead script options records gone.closed windows.items gone.more) under.calm ended stop
     (own ++ after_texts script windows.items, due ∙ append_assoc (text_so_far script options.mode options.trace records) own (after_texts script windows.items))
     (λ bytes is. (
@@ -196,14 +193,14 @@ lines_stopped shown script options held mid holds f f_mid f_after home next reco
         (ap (λ rs. text_so_far script options.mode options.trace rs) gone.more ∙ text_more script options.mode options.trace records gone.closed)
 
 -- the total is not written
-pub total_stopped : {D M : Type 0} (shown : Shown D) (script : Script) (options : Options) (held mid holds : Option (List ℕ)) (f f_mid f_after : ℕ) (home : HomeState D) (windows : Listed WindowRecord) (piece : Result (List ℕ) M) (fault : PieceFault) (day : Option (Day D)) (why : Option Fault)
-    → IsReplaying shown script options (written held mid f f_mid) home windows.items
+pub total_stopped : {D M : Type 0} (works : Setting → WindowText → WindowRecord → (ℕ → ℕ) → Type 0) (shown : Shown D) (script : Script) (options : Options) (held mid holds : Option (List ℕ)) (f f_mid f_after : ℕ) (home : HomeState D) (windows : Listed WindowRecord) (piece : Result (List ℕ) M) (fault : PieceFault) (day : Option (Day D)) (why : Option Fault)
+    → IsGoingOn works shown script options (written held mid f f_mid) home windows.items
     → length windows.items ≡ length script.windows.items
     → IfOk piece (λ b. b ≡ total_text windows.items)
     → PieceEnds (written mid holds f_mid f_after) piece (Err fault) → StopEnds windows home.devices fault day why
-    → ReplayEnds shown script options (written held holds f f_after) day why
-total_stopped shown script options held mid holds f f_mid f_after home windows piece fault day why under all ok ended stop =
-    stopped shown script options held mid holds f f_mid f_after home windows (text_so_far script options.mode options.trace windows.items) piece fault day why
+    → DayEnds works shown script options (written held holds f f_after) day why
+total_stopped works shown script options held mid holds f f_mid f_after home windows piece fault day why under all ok ended stop =
+    stopped works shown script options held mid holds f f_mid f_after home windows (text_so_far script options.mode options.trace windows.items) piece fault day why
     under.under_way under.text (all_lead script options windows.items) under.calm ended stop
     (after_texts script windows.items, refl)
     (λ bytes is. (
@@ -214,22 +211,22 @@ total_stopped shown script options held mid holds f f_mid f_after home windows p
     ))
 
 -- all is written
-pub finished : {D M : Type 0} (shown : Shown D) (script : Script) (options : Options) (held mid holds : Option (List ℕ)) (f f_mid f_after : ℕ) (home : HomeState D) (windows : Listed WindowRecord) (devices : Listed D) (piece : Result (List ℕ) M)
-    → IsReplaying shown script options (written held mid f f_mid) home windows.items
+pub finished : {D M : Type 0} (works : Setting → WindowText → WindowRecord → (ℕ → ℕ) → Type 0) (shown : Shown D) (script : Script) (options : Options) (held mid holds : Option (List ℕ)) (f f_mid f_after : ℕ) (home : HomeState D) (windows : Listed WindowRecord) (devices : Listed D) (piece : Result (List ℕ) M)
+    → IsGoingOn works shown script options (written held mid f f_mid) home windows.items
     → length windows.items ≡ length script.windows.items
     → IfOk piece (λ b. b ≡ total_text windows.items)
     → PieceEnds (written mid holds f_mid f_after) piece (Ok tt) → devices.items ≡ home.devices
-    → IsWhole shown script options (written held holds f f_after) (Some (record { windows = windows; devices = Some devices }))
-finished shown script options held mid holds f f_mid f_after home windows devices piece day all ok ended same = record {
+    → IsWhole works shown script options (written held holds f f_after) (Some (record { windows = windows; devices = Some devices }))
+finished works shown script options held mid holds f f_mid f_after home windows devices piece day all ok ended same = record {
   day = record { windows = windows; devices = Some devices };
   given = refl;
   devices = devices;
   there = refl;
   legal = subst (λ ds. IsLegalDay shown.tag shown.plan shown.stands shown.turns shown.faults script options.mode windows.items ds) (sym same)
-      (day_is_legal shown.tag shown.plan shown.stands shown.turns shown.probes shown.faults script options.mode home windows.items day.under_way all);
-  plays = day.under_way.plays;
+      (day_is_legal works shown.tag shown.plan shown.stands shown.turns shown.probes shown.faults script options.mode home windows.items day.under_way all);
+  takes = day.under_way.takes;
   played = day.under_way.played;
-  probed = subst (λ ds. DevicesAreProbed shown.probes script day.under_way.plays ds) (sym same) day.under_way.probed;
+  probed = subst (λ ds. DevicesAreProbed shown.probes day.under_way.takes ds) (sym same) day.under_way.probed;
   text = subst (λ t. Appends held holds t)
       (ap (λ t. text_so_far script options.mode options.trace windows.items ++ t) (said piece (total_text windows.items) ended.0 ok ended.1) ∙ text_whole script options.mode options.trace windows.items)
       (appends_more held mid holds (text_so_far script options.mode options.trace windows.items) ended.0 day.text ended.2);
@@ -237,38 +234,38 @@ finished shown script options held mid holds f f_mid f_after home windows device
 }
 
 -- no memory for the next window
-pub starved : {D : Type 0} (shown : Shown D) (script : Script) (options : Options) (held holds : Option (List ℕ)) (f f_after : ℕ) (home : HomeState D) (records : List WindowRecord) (windows : Listed WindowRecord) (day : Option (Day D)) (why : Option Fault)
-    → IsReplaying shown script options (written held holds f f_after) home records → windows.items ≡ records
+pub starved : {D : Type 0} (works : Setting → WindowText → WindowRecord → (ℕ → ℕ) → Type 0) (shown : Shown D) (script : Script) (options : Options) (held holds : Option (List ℕ)) (f f_after : ℕ) (home : HomeState D) (records : List WindowRecord) (windows : Listed WindowRecord) (day : Option (Day D)) (why : Option Fault)
+    → IsGoingOn works shown script options (written held holds f f_after) home records → windows.items ≡ records
     → day ≡ Some (record { windows = windows; devices = None }) → why ≡ Some WantsMemory
-    → ReplayEnds shown script options (written held holds f f_after) day why
-starved shown script options held holds f f_after home records windows day why under same given because =
-    let ends : IsStarved script options (written held holds f f_after) day = record {
+    → DayEnds works shown script options (written held holds f f_after) day why
+starved works shown script options held holds f f_after home records windows day why under same given because =
+    let ends : IsStarved works script options (written held holds f f_after) day = record {
       day = record { windows = windows; devices = None };
       given = given;
       no_devices = refl;
-      plays = under.under_way.plays;
-      played = subst (λ rs. WindowsArePlayed script options.mode rs under.under_way.plays) (sym same) under.under_way.played;
+      takes = under.under_way.takes;
+      played = subst (λ rs. WindowsArePlayed works script options.mode rs under.under_way.takes) (sym same) under.under_way.played;
       text = subst (λ rs. AppendsFirst held holds (text_due script options.mode options.trace rs)) (sym same)
           (whole_first held holds (text_so_far script options.mode options.trace records) (after_texts script records) under.text);
       as_closed = subst (λ rs. IsWrittenAsClosed script options (written held holds f f_after) rs) (sym same)
           (lead_whole script options held holds f f_after records (text_so_far script options.mode options.trace records) (all_lead script options records) under.text);
       calm = under.calm;
     } in
-    subst (λ (w : Option Fault). ReplayEnds shown script options (written held holds f f_after) day w) (sym because) ends
+    subst (λ (w : Option Fault). DayEnds works shown script options (written held holds f f_after) day w) (sym because) ends
 
 -- no memory for the home
-pub unbuilt : {D : Type 0} (shown : Shown D) (script : Script) (options : Options) (held : Option (List ℕ)) (f : ℕ) (windows : Listed WindowRecord) (day : Option (Day D)) (why : Option Fault)
+pub unbuilt : {D : Type 0} (works : Setting → WindowText → WindowRecord → (ℕ → ℕ) → Type 0) (shown : Shown D) (script : Script) (options : Options) (held : Option (List ℕ)) (f : ℕ) (windows : Listed WindowRecord) (day : Option (Day D)) (why : Option Fault)
     → windows.items ≡ [] → day ≡ Some (record { windows = windows; devices = None }) → why ≡ Some WantsMemory
-    → ReplayEnds shown script options (written held held f f) day why
-unbuilt shown script options held f windows day why none given because =
-    let ends : IsStarved script options (written held held f f) day = record {
+    → DayEnds works shown script options (written held held f f) day why
+unbuilt works shown script options held f windows day why none given because =
+    let ends : IsStarved works script options (written held held f f) day = record {
       day = record { windows = windows; devices = None };
       given = given;
       no_devices = refl;
-      plays = [];
-      played = subst (λ rs. WindowsArePlayed script options.mode rs []) (sym none) (no_window script options.mode);
+      takes = [];
+      played = subst (λ rs. WindowsArePlayed works script options.mode rs []) (sym none) (no_window works script options.mode);
       text = (0, keeps_appends held held (keeps_same held));
       as_closed = lead_whole script options held held f f windows.items [] (none_leads script options windows.items [] none) (keeps_appends held held (keeps_same held));
       calm = refl;
     } in
-    subst (λ (w : Option Fault). ReplayEnds shown script options (written held held f f) day w) (sym because) ends
+    subst (λ (w : Option Fault). DayEnds works shown script options (written held held f f) day w) (sym because) ends

@@ -1,0 +1,39 @@
+use Rattle.hub_commands.proofs.PlayedDays.{begun, head_stopped, unbuilt}
+use Rattle.hub_commands.proofs.days.begin.Goals as goal
+use Rattle.hub_commands.specs.Finishes.{shown_by}
+use Rattle.std.proofs.Common.{ap, length}
+
+pub returns-in_default : goal.returns-in_default
+returns-in_default g c =
+    let D = g.B.Dev.Device in
+    let K = g.K.Sink in (
+      c.end_without_devices.ensures.status,
+      unbuilt (g.W.Way.works c.args._way.now) (shown_by D.tag D.plan D.stands D.turns D.probes D.faults) c.args.script.now c.args.options
+          (K.holds c.args.sink.now) (K.faults c.args.sink.now)
+          c.new.result c.end_without_devices.result.day c.end_without_devices.result.fault
+          c.new.ensures.empty c.end_without_devices.ensures.day c.end_without_devices.ensures.fault,
+    )
+
+pub returns-in-Ok-write_piece : goal.returns-in-Ok-write_piece
+returns-in-Ok-write_piece g c =
+    let D = g.B.Dev.Device in
+    let K = g.K.Sink in (
+      ap (λ ws. length ws) c.new-2.ensures.empty,
+      begun (g.W.Way.works c.args._way.now) (shown_by D.tag D.plan D.stands D.turns D.probes D.faults) c.args.script.now c.args.options
+          (K.holds c.args.sink.now) (K.holds c.write_piece.new.sink) (K.faults c.args.sink.now) (K.faults c.write_piece.new.sink)
+          c.in-Ok.home c.new-2.result.items c.head_text.result
+          c.in-Ok.ensures.devices c.in-Ok.ensures.kinds c.in-Ok.ensures.world c.in-Ok.ensures.opened c.new-2.ensures.empty
+          c.head_text.ensures c.in-Ok-write_piece.ensures,
+    )
+
+pub returns-in-Err : goal.returns-in-Err
+returns-in-Err g c =
+    let D = g.B.Dev.Device in
+    let K = g.K.Sink in (
+      c.stop.ensures.status,
+      head_stopped (g.W.Way.works c.args._way.now) (shown_by D.tag D.plan D.stands D.turns D.probes D.faults) c.args.script.now c.args.options
+          (K.holds c.args.sink.now) (K.holds c.write_piece.new.sink) (K.faults c.args.sink.now) (K.faults c.write_piece.new.sink)
+          c.in-Ok.home c.new-2.result c.head_text.result c.in-Err.fault c.stop.result.day c.stop.result.fault
+          c.in-Ok.ensures.devices c.in-Ok.ensures.kinds c.in-Ok.ensures.world c.in-Ok.ensures.opened c.new-2.ensures.empty
+          c.head_text.ensures c.in-Err.ensures c.stop.ensures.ends,
+    )

@@ -1,0 +1,47 @@
+-- A day that goes on: what was played of it, and what the sink got.
+use Rattle.command_words.specs.declared.command_lines.Options.{Options}
+use Rattle.history_book.specs.Settings.{Setting}
+use Rattle.history_book.specs.declared.records.WindowRecord.{WindowRecord}
+use Rattle.home_types.specs.Listed.{Listed}
+use Rattle.home_types.specs.declared.modes.Mode.{Mode}
+use Rattle.hub_commands.specs.Days.{IsUnderWay, text_so_far}
+use Rattle.hub_commands.specs.Finishes.{DayEnds, Shown, Writes, written}
+use Rattle.hub_commands.specs.Played.{HasGoneOn}
+use Rattle.hub_commands.specs.Statuses.{status_of}
+use Rattle.hub_commands.specs.declared.faults.Fault.{Fault}
+use Rattle.hub_commands.specs.declared.finishes.Day.{Day}
+use Rattle.hub_commands.specs.declared.finishes.Finish.{Finish}
+use Rattle.hub_commands.specs.declared.plays.DayUnderWay.{DayUnderWay}
+use Rattle.hub_core.specs.Homes.{HomeState}
+use Rattle.routine_reader.specs.declared.scripts.Script.{Script}
+use Rattle.routine_reader.specs.declared.scripts.WindowText.{WindowText}
+use Rattle.std.specs.Io.KnownBytes.{Appends}
+use Rattle.std.specs.Prelude.{Err, List, Ok, Option, Result, length, suc, ℕ, ◌≡◌}
+
+-- the home is under way, and the sink got the texts so far
+pub record IsGoingOn {D : Type 0} (works : Setting → WindowText → WindowRecord → (ℕ → ℕ) → Type 0) (shown : Shown D) (script : Script) (options : Options) (sink : Writes) (home : HomeState D) (records : List WindowRecord) : Type 0 where
+  pub under_way : IsUnderWay works shown.tag shown.plan shown.stands shown.turns shown.probes shown.faults script options.mode home records
+  pub text : Appends sink.held sink.holds (text_so_far script options.mode options.trace records)
+  pub calm : sink.faults_after ≡ sink.faults
+
+-- what came of the next window: the day has gone on by it, or memory was wanted
+abbrev pub NextIs : {D : Type 0} → (Setting → WindowText → WindowRecord → (ℕ → ℕ) → Type 0) → Shown D → Script → Mode → List WindowRecord → Result (DayUnderWay D) (Listed WindowRecord) → Type 0
+NextIs works shown script mode records (Ok day) = HasGoneOn works shown.tag shown.plan shown.stands shown.turns shown.probes shown.faults script mode records day.home day.windows.items
+NextIs works shown script mode records (Err windows) = windows.items ≡ records
+
+-- the day goes on with so many windows, or it has ended
+abbrev pub GoesOn : {D : Type 0} → (Setting → WindowText → WindowRecord → (ℕ → ℕ) → Type 0) → Shown D → Script → Options → Writes → ℕ → Result (DayUnderWay D) (Finish D) → Type 0
+GoesOn works shown script options sink count (Ok day) = (length day.windows.items ≡ count) × IsGoingOn works shown script options sink day.home day.windows.items
+GoesOn works shown script options sink count (Err finish) = (finish.status ≡ status_of finish.fault) × DayEnds works shown script options sink finish.day finish.fault
+
+-- what came of the next window was written, whatever the sink held as the day began: with the lines of the window the day goes on, or it has ended
+abbrev pub HasWritten : {D : Type 0} → (Setting → WindowText → WindowRecord → (ℕ → ℕ) → Type 0) → Shown D → Script → Options → Writes → Result (DayUnderWay D) (Listed WindowRecord) → Result (DayUnderWay D) (Finish D) → Type 0
+HasWritten {D} works shown script options sink next result = (held : Option (List ℕ)) (f : ℕ) (home : HomeState D) (records : List WindowRecord)
+    → IsGoingOn works shown script options (written held sink.held f sink.faults) home records → NextIs works shown script options.mode records next
+    → GoesOn works shown script options (written held sink.holds f sink.faults_after) (suc (length records)) result
+
+-- the day ended behind its last window, whatever the sink held as it began
+abbrev pub HasEnded : {D : Type 0} → (Setting → WindowText → WindowRecord → (ℕ → ℕ) → Type 0) → Shown D → Script → Options → Writes → DayUnderWay D → Option (Day D) → Option Fault → Type 0
+HasEnded works shown script options sink last day fault = (held : Option (List ℕ)) (f : ℕ)
+    → IsGoingOn works shown script options (written held sink.held f sink.faults) last.home last.windows.items → length last.windows.items ≡ length script.windows.items
+    → DayEnds works shown script options (written held sink.holds f sink.faults_after) day fault

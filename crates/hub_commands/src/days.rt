@@ -1,0 +1,182 @@
+ghost use Rattle.std.specs.Prelude.{◌≡◌, ◌<◌, ◌≤◌, ◌++◌, ◌∷◌, [], IfOk, None, Some, length};
+ghost use Rattle.day_report.specs.Days.{window_text as window_lines_of};
+ghost use Rattle.home_types.specs.Limits.{most_windows};
+ghost use Rattle.hub_commands.specs.Finishes.{shown_by, written};
+ghost use Rattle.hub_commands.specs.Going.{GoesOn, HasEnded, HasWritten};
+ghost use Rattle.hub_commands.specs.Pieces.{StopEnds};
+ghost use Rattle.hub_commands.specs.Statuses.{status_of};
+ghost use Rattle.routine_reader.specs.Scripts.{plain_script};
+ghost use Rattle.routine_reader.specs.Sound.{IsSound};
+
+use crate::faults::Fault;
+use crate::finishes::{Day, Finish};
+use crate::pieces::{PieceFault, write_piece};
+use crate::plays::DayUnderWay;
+use crate::ways::Way;
+use command_words::Options;
+use day_clock::Sink;
+use day_report::{head_text, total_text, window_text};
+use device_states::{Bench, Device};
+use history_book::WindowRecord;
+use home_types::{Bytes, List, NoMemory};
+use hub_core::Home;
+use routine_reader::Script;
+use std::alloc::Global;
+
+/// Ends the call before there is a day.
+pub fn refuse<Dev: Device>(fault: Fault) -> Finish<Dev>
+    ensures fault { result.fault ≡ Some fault }
+    ensures day { result.day ≡ None }
+    ensures status { result.status ≡ status_of result.fault }
+{
+    Finish {
+        status: fault.status(),
+        day: None,
+        fault: Some(fault),
+    }
+}
+
+/// Ends the call with the windows that were closed, and without devices.
+pub fn end_without_devices<Dev: Device>(windows: List<WindowRecord>, fault: Fault) -> Finish<Dev>
+    ensures fault { result.fault ≡ Some fault }
+    ensures day { result.day ≡ Some (record { windows = windows; devices = None }) }
+    ensures status { result.status ≡ status_of result.fault }
+{
+    Finish {
+        status: fault.status(),
+        day: Some(Day {
+            windows,
+            devices: None,
+        }),
+        fault: Some(fault),
+    }
+}
+
+/// Ends a day on which a piece of the record was not written: with its devices where the sink failed, and without them
+/// where memory was wanted.
+fn stop<Dev: Device>(day: DayUnderWay<Dev>, fault: PieceFault) -> Finish<Dev>
+    ensures status { result.status ≡ status_of result.fault }
+    ensures ends { StopEnds day.windows day.home.devices fault result.day result.fault }
+{
+    let DayUnderWay { home, windows } = day;
+    match fault {
+        PieceFault::Sink => Finish {
+            status: Fault::Write.status(),
+            day: Some(Day {
+                windows,
+                devices: Some(home.into_devices()),
+            }),
+            fault: Some(Fault::Write),
+        },
+        PieceFault::Memory => end_without_devices(windows, Fault::Memory),
+    }
+}
+
+/// The lines of the day's last window.
+fn last_lines(
+    alloc: Global,
+    script: &Script,
+    options: Options,
+    windows: &List<WindowRecord>,
+) -> Result<Bytes, NoMemory>
+    requires some { 0 < length windows.now.items }
+    requires few { length windows.now.items ≤ most_windows }
+    ensures { (before : _) (closed : _) → windows.now.items ≡ before ++ closed ∷ []
+        → IfOk result (λ lines. lines ≡ window_lines_of script.now (length before) closed options.mode options.trace) }
+{
+    let number = windows.len() - 1;
+    let Some(closed) = windows.get(number) else {
+        return Err(NoMemory);
+    };
+    window_text(
+        alloc,
+        script,
+        number as u32,
+        closed,
+        options.mode,
+        options.trace,
+    )
+}
+
+/// Begins the script's day: has the devices built by the bench, and writes the head of the record.
+pub fn begin<W: Way, K: Sink, B: Bench>(
+    _way: &W,
+    alloc: Global,
+    script: &Script,
+    options: Options,
+    sink: &mut K,
+    bench: &mut B,
+) -> Result<DayUnderWay<B::Dev>, Finish<B::Dev>>
+    requires sound { IsSound (plain_script script.now) }
+    ensures { GoesOn (W.works _way.now)
+        (shown_by B.Dev.tag B.Dev.plan B.Dev.stands B.Dev.turns B.Dev.probes B.Dev.faults)
+        script.now options
+        (written (K.holds sink.old) (K.holds sink.new) (K.faults sink.old) (K.faults sink.new))
+        0 result }
+{
+    let Ok(home) = Home::build(alloc, bench, script) else {
+        return Err(end_without_devices(List::new(alloc), Fault::Memory));
+    };
+    let day = DayUnderWay {
+        home,
+        windows: List::new(alloc),
+    };
+    match write_piece(sink, head_text(alloc, options.mode)) {
+        Ok(()) => Ok(day),
+        Err(fault) => Err(stop(day, fault)),
+    }
+}
+
+/// Goes on with what came of the next window: writes its lines.
+pub fn go_on<W: Way, D: Device, K: Sink>(
+    _way: &W,
+    alloc: Global,
+    script: &Script,
+    options: Options,
+    next: Result<DayUnderWay<D>, List<WindowRecord>>,
+    sink: &mut K,
+) -> Result<DayUnderWay<D>, Finish<D>>
+    requires some { IfOk next (λ day. 0 < length day.windows.items) }
+    requires few { IfOk next (λ day. length day.windows.items ≤ most_windows) }
+    ensures { HasWritten (W.works _way.now) (shown_by D.tag D.plan D.stands D.turns D.probes D.faults) script.now options
+        (written (K.holds sink.old) (K.holds sink.new) (K.faults sink.old) (K.faults sink.new))
+        next result }
+{
+    let day = match next {
+        Ok(day) => day,
+        Err(windows) => return Err(end_without_devices(windows, Fault::Memory)),
+    };
+    let lines = last_lines(alloc, script, options, &day.windows);
+    match write_piece(sink, lines) {
+        Ok(()) => Ok(day),
+        Err(fault) => Err(stop(day, fault)),
+    }
+}
+
+/// Ends a day whose windows were all played: writes the total.
+pub fn end<W: Way, D: Device, K: Sink>(
+    _way: &W,
+    alloc: Global,
+    script: &Script,
+    options: Options,
+    day: DayUnderWay<D>,
+    sink: &mut K,
+) -> Finish<D>
+    ensures status { result.status ≡ status_of result.fault }
+    ensures ends { HasEnded (W.works _way.now) (shown_by D.tag D.plan D.stands D.turns D.probes D.faults) script.now options
+        (written (K.holds sink.old) (K.holds sink.new) (K.faults sink.old) (K.faults sink.new))
+        day result.day result.fault }
+{
+    if let Err(fault) = write_piece(sink, total_text(alloc, &day.windows)) {
+        return stop(day, fault);
+    }
+    let DayUnderWay { home, windows } = day;
+    Finish {
+        status: 0,
+        day: Some(Day {
+            windows,
+            devices: Some(home.into_devices()),
+        }),
+        fault: None,
+    }
+}

@@ -1,0 +1,181 @@
+ghost use Rattle.std.specs.Prelude.{◌≡◌, ◌<◌, Err, IfErr, IfOk, None, Some, false, length, map, string_bytes};
+ghost use Rattle.hub_commands.specs.CommandsTaken.{run_line_of};
+ghost use Rattle.hub_commands.specs.Days.{IsUnderWay};
+ghost use Rattle.hub_commands.specs.Finishes.{CallEnds, DayEnds, IsProbedInAll, read_off, shown_by, written};
+ghost use Rattle.hub_commands.specs.Played.{HasGoneOn, IsWorkedAs};
+ghost use Rattle.hub_commands.specs.Statuses.{status_of};
+ghost use Rattle.hub_commands.specs.Ways.{IsRunWithin};
+ghost use Rattle.hub_core.specs.OpenHubs.{configuration_of};
+ghost use Rattle.hub_core.specs.Steps.{opened};
+ghost use Rattle.later_forms.specs.CommandLines.{is_later_mode};
+ghost use Rattle.later_forms.specs.Scripts.{first_later as first_later_of};
+ghost use Rattle.routine_reader.specs.Scripts.{plain_script};
+ghost use Rattle.routine_reader.specs.Sound.{IsSound};
+
+use crate::days::{begin, end, end_without_devices, go_on, refuse};
+use crate::faults::Fault;
+use crate::finishes::Finish;
+use crate::inputs::read_input;
+use crate::plays::{DayUnderWay, close_next, open_next};
+use crate::ways::InThreads;
+use command_words::{CommandLine, Options, WordFault, read_words};
+use day_clock::{Clock, Sink, Source};
+use device_states::{Bench, Device};
+use history_book::WindowRecord;
+use home_types::{List, Mode, NoMemory};
+use hub_core::{Home, Hub};
+use hub_threads::run_window;
+use later_forms::{first_later, is_later};
+use routine_reader::{Script, Spot, WindowText};
+use std::alloc::Global;
+use std::sync::Wait;
+use std::thread::Threads;
+
+/// Runs the window of this text, which was just opened, with threads. Where memory is wanted the hub is dropped.
+fn run_opened<R: Threads + Wait + Sync, D: Device + Send, C: Clock + Sync>(
+    rt: &R,
+    alloc: Global,
+    hub: Hub<D>,
+    window: &WindowText,
+    clock: &C,
+) -> Result<(Home<D>, WindowRecord), NoMemory>
+    requires fresh { configuration_of hub ≡ opened hub.setting hub.rounds }
+    requires rounds { hub.rounds ≡ window.now.probes }
+    ensures { IfOk result (λ done. IsWorkedAs (IsRunWithin (C.latest clock.now)) D.tag D.plan D.turns D.probes D.faults hub window.now done.0 done.1) }
+{
+    match run_window(rt, alloc, hub, window.probes, clock) {
+        Ok(done) => Ok(done),
+        Err((_, NoMemory)) => Err(NoMemory),
+    }
+}
+
+/// Runs the next window of the script, with threads.
+///
+/// Where memory is wanted the records of the windows before come back; the home is dropped.
+fn run_next<R: Threads + Wait + Sync, D: Device + Send, C: Clock + Sync>(
+    rt: &R,
+    alloc: Global,
+    script: &Script,
+    mode: Mode,
+    day: DayUnderWay<D>,
+    clock: &C,
+) -> Result<DayUnderWay<D>, List<WindowRecord>>
+    requires sound { IsSound (plain_script script.now) }
+    requires built { first_later_of script.now ≡ None }
+    requires mode { is_later_mode mode ≡ false }
+    requires next { length day.windows.items < length script.now.windows.items }
+    requires under_way { IsUnderWay (IsRunWithin (C.latest clock.now)) D.tag D.plan D.stands D.turns D.probes D.faults script.now mode day.home day.windows.items }
+    ensures played { IfOk result (λ next. HasGoneOn (IsRunWithin (C.latest clock.now)) D.tag D.plan D.stands D.turns D.probes D.faults script.now mode day.windows.items next.home next.windows.items) }
+    ensures starved { IfErr result (λ windows. windows.items ≡ day.windows.items) }
+{
+    let (hub, windows) = match open_next(alloc, script, mode, day) {
+        Ok(opened) => opened,
+        Err(windows) => return Err(windows),
+    };
+    let number = windows.len() as usize;
+    let window = &script.windows.as_slice()[number];
+    match run_opened(rt, alloc, hub, window, clock) {
+        Ok(done) => Ok(close_next(windows, done.0, done.1)),
+        Err(NoMemory) => Err(windows),
+    }
+}
+
+/// Runs the script's day on devices of the bench, with threads, and writes its record: the head, each window as it
+/// closes, and the total.
+fn run_day<R: Threads + Wait + Sync, K: Sink, B: Bench, C: Clock + Sync>(
+    rt: &R,
+    alloc: Global,
+    script: &Script,
+    options: Options,
+    sink: &mut K,
+    bench: &mut B,
+    clock: &C,
+) -> Finish<B::Dev>
+where
+    B::Dev: Send,
+    requires sound { IsSound (plain_script script.now) }
+    requires built { first_later_of script.now ≡ None }
+    requires mode { is_later_mode options.mode ≡ false }
+    ensures status { result.status ≡ status_of result.fault }
+    ensures ends { DayEnds (IsRunWithin (C.latest clock.now))
+        (shown_by B.Dev.tag B.Dev.plan B.Dev.stands B.Dev.turns B.Dev.probes B.Dev.faults)
+        script.now options
+        (written (K.holds sink.old) (K.holds sink.new) (K.faults sink.old) (K.faults sink.new))
+        result.day result.fault }
+{
+    let way = InThreads { clock };
+    let mut day = match begin(&way, alloc, script, options, sink, bench) {
+        Ok(day) => day,
+        Err(finish) => return finish,
+    };
+    'windows: for _ in 0..script.windows.len() {
+        let next = run_next(rt, alloc, script, options.mode, day, clock);
+        day = match go_on(&way, alloc, script, options, next, sink) {
+            Ok(day) => day,
+            Err(finish) => return finish,
+        };
+    }
+    end(&way, alloc, script, options, day, sink)
+}
+
+/// Reads the words of `run`.
+fn read_run_words(alloc: Global, words: &[String]) -> Result<CommandLine, WordFault>
+    ensures meaning { IfOk result (λ line. run_line_of (map string_bytes words.now) ≡ Some line) }
+    ensures refused { result ≡ Err WordFault.Words → run_line_of (map string_bytes words.now) ≡ None }
+{
+    match read_words(alloc, words) {
+        Ok(CommandLine::Run(options)) => Ok(CommandLine::Run(options)),
+        Ok(CommandLine::Replay(_)) => Err(WordFault::Words),
+        Ok(CommandLine::Check) => Err(WordFault::Words),
+        Ok(CommandLine::Trial(_)) => Err(WordFault::Words),
+        Err(fault) => Err(fault),
+    }
+}
+
+/// Runs the command that may wait.
+///
+/// `run` reads a day's script from the source, works its windows on devices of the bench with a thread for each run, at
+/// the moments of the clock, and writes the record to the sink. The turns and the seeds of windows are not heeded. The
+/// words are those on the command line, without the program's name; every other command is refused as words.
+///
+/// The status tells how the call ended, as that of `still_command` does. It may wait: what is said of its answer holds if
+/// it returns.
+pub fn run_command<R: Threads + Wait + Sync, S: Source, K: Sink, B: Bench, C: Clock + Sync>(
+    rt: &R,
+    alloc: Global,
+    words: &[String],
+    source: &mut S,
+    sink: &mut K,
+    bench: &mut B,
+    clock: &C,
+) -> Finish<B::Dev>
+where
+    B::Dev: Send,
+    ensures status { result.status ≡ status_of result.fault }
+    ensures ends { CallEnds (IsRunWithin (C.latest clock.now))
+        (shown_by B.Dev.tag B.Dev.plan B.Dev.stands B.Dev.turns B.Dev.probes B.Dev.faults)
+        (run_line_of (map string_bytes words.now))
+        (read_off (S.left source.old) (S.left source.new) (S.faults source.old) (S.faults source.new))
+        (written (K.holds sink.old) (K.holds sink.new) (K.faults sink.old) (K.faults sink.new))
+        result.day result.fault }
+    ensures probed { result.fault ≡ None → IsProbedInAll B.Dev.probes
+        (read_off (S.left source.old) (S.left source.new) (S.faults source.old) (S.faults source.new))
+        result.day }
+{
+    let line = match read_run_words(alloc, words) {
+        Ok(line) => line,
+        Err(WordFault::Words) => return refuse(Fault::Words),
+        Err(WordFault::NoMemory) => return refuse(Fault::Memory),
+    };
+    let (CommandLine::Run(options), false) = (line, is_later(line)) else {
+        return refuse(Fault::Later(Spot::TOP));
+    };
+    let script = match read_input(alloc, source) {
+        Ok(script) => script,
+        Err(fault) => return refuse(fault),
+    };
+    match first_later(&script) {
+        Some(spot) => end_without_devices(List::new(alloc), Fault::Later(spot)),
+        None => run_day(rt, alloc, &script, options, sink, bench, clock),
+    }
+}
