@@ -6,8 +6,12 @@ use Rattle.std.proofs.Common.{ap, arith, ◌∙◌}
 use Rattle.std.proofs.lemmas.Grind.{common_steps}
 use Rattle.std.specs.Prelude.{if◌then◌else◌, length, true, ℕ, ◌<◌, ◌≡◌, ◌≤◌}
 
+pub rounds_are : {D : Type 0} (hub : OpenHub D) (rounds : ℕ) → configuration_of hub ≡ opened hub.setting hub.rounds → hub.rounds ≡ rounds → (d : ℕ) → d < length hub.setting.first → (configuration_of hub).probes d ≡ rounds
+rounds_are hub rounds fresh is d low =
+    let there : is_device hub.setting d ≡ true = grind (arith, common_steps, low) in
+    ap (λ c. c.probes d) fresh ∙ ap (λ b. if b then hub.rounds else 0) there ∙ is
+
 pub rounds_left : {D : Type 0} (hub : OpenHub D) (rounds : ℕ) → configuration_of hub ≡ opened hub.setting hub.rounds → hub.rounds ≡ rounds → (d : ℕ) → d < length hub.setting.first → rounds ≤ (configuration_of hub).probes d
 rounds_left hub rounds fresh is d low =
-    let there : is_device hub.setting d ≡ true = grind (arith, common_steps, low) in
-    let all : (configuration_of hub).probes d ≡ hub.rounds = ap (λ c. c.probes d) fresh ∙ ap (λ b. if b then hub.rounds else 0) there in
-    omega (arith, all, is)
+    let all = rounds_are hub rounds fresh is d low in
+    omega (arith, all)

@@ -5,7 +5,7 @@ use crate::openings::Dev;
 use crate::serial_orders::is_serial;
 use day_report::window_text;
 use history_book::{Made, WindowRecord};
-use home_types::{Mode, NoMemory};
+use home_types::{Mode, NoMemory, Visibility};
 use hub_core::Home;
 use routine_reader::Script;
 use std::alloc::{AllocError, Global};
@@ -23,7 +23,7 @@ pub fn push_made(text: &mut String, made: Made) -> Result<(), AllocError> {
 }
 
 /// Appends the text of a closed window with its trace, the turns and faults of its devices, how many windows were opened
-/// on the home, and whether the order, done from the first state, agrees with the record.
+/// on the home, and the judgement.
 pub fn push_closed(
     alloc: Global,
     text: &mut String,
@@ -46,6 +46,22 @@ pub fn push_closed(
     let faults = closed.faults.as_slice();
     let opened = home.opened();
     writeln!(text, "turns {turns:?} faults {faults:?} opened {opened}")?;
+    push_judgement(alloc, text, script, mode, closed)
+}
+
+/// Appends whether the order, done from the first state, agrees with the record. The weak model claims no order.
+pub fn push_judgement(
+    alloc: Global,
+    text: &mut String,
+    script: &Script,
+    mode: Mode,
+    closed: &WindowRecord,
+) -> Result<(), AllocError>
+    requires sound { IsSound (plain_script script.now) }
+{
+    if mode.model == Visibility::Weak {
+        return text.push_str("no order claimed\n");
+    }
     match is_serial(alloc, script, closed) {
         Ok(true) => text.push_str("serial agrees\n"),
         Ok(false) => text.push_str("serial differs\n"),

@@ -1,5 +1,7 @@
 use crate::desks::push_steps;
 use crate::plays::{push_play, push_replay};
+use crate::runs::push_run;
+use day_clock::Clock;
 use home_types::{Mode, Scheduler, Visibility};
 use routine_reader::read_script;
 use run_replay::Draws;
@@ -7,6 +9,7 @@ use std::alloc::{AllocError, Global};
 use std::fmt::Write;
 use std::str;
 use std::sync::Wait;
+use std::thread::Threads;
 
 /// A line of the table: its name, and what is to be done.
 #[derive(Clone, Copy)]
@@ -22,7 +25,7 @@ enum Task<'a> {
         state: u64,
         bounds: &'a str,
     },
-    /// `play`, `replay`, or steps with commas between them, in the first window of the script.
+    /// `play`, `replay`, `run`, or steps with commas between them, in the first window of the script.
     Window {
         mode: Mode,
         calls: &'a str,
@@ -31,9 +34,10 @@ enum Task<'a> {
 }
 
 /// Does what the line says, and appends its name and the answers.
-pub fn push_row<R: Wait>(
+pub fn push_row<R: Threads + Wait + Sync, C: Clock + Sync>(
     rt: &R,
     alloc: Global,
+    clock: &C,
     text: &mut String,
     line: &[u8],
 ) -> Result<(), AllocError> {
@@ -41,7 +45,7 @@ pub fn push_row<R: Wait>(
         Ok(line) => match read_row(line) {
             Some(row) => {
                 writeln!(text, "{}", row.name)?;
-                push_answers(rt, alloc, text, row.task)
+                push_answers(rt, alloc, clock, text, row.task)
             }
             None => text.push_str("no row\n"),
         },
@@ -92,9 +96,10 @@ fn read_scheduler(word: &str) -> Option<Scheduler> {
     }
 }
 
-fn push_answers<R: Wait>(
+fn push_answers<R: Threads + Wait + Sync, C: Clock + Sync>(
     rt: &R,
     alloc: Global,
+    clock: &C,
     text: &mut String,
     task: Task<'_>,
 ) -> Result<(), AllocError> {
@@ -108,6 +113,7 @@ fn push_answers<R: Wait>(
             Ok(script) => match calls {
                 "play" => push_play(rt, alloc, text, &script, mode),
                 "replay" => push_replay(alloc, text, &script, mode),
+                "run" => push_run(rt, alloc, clock, text, &script, mode),
                 steps => push_steps(rt, alloc, text, &script, mode, steps),
             },
             Err(fault) => writeln!(text, "{fault}"),
