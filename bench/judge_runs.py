@@ -1,0 +1,290 @@
+#!/usr/bin/env python3
+"""Runs small days with threads, and judges each record by a serial execution of its own.
+
+    judge_runs.py [DAYS [SEED [PROGRAM]]]
+
+DAYS is 2000 by default, SEED is 1, and PROGRAM crates/hub_main/out/hub_main, which `rt run` builds. Each day is drawn
+by a generator from its seed: 1 to 4 devices that fail in calls of listed numbers, 1 to 3 windows of 1 to 6 runs with
+rounds of probes, routines of 1 to 5 commands of every job, must and best-effort. It is played by `run --trace` under
+one model after another. Which threads step first is not the day's to say, so no record is expected: each is judged.
+
+Under each model: the history goes on as the rules have it, every run ends, and the lines of the runs, the home and the
+total say what the history says. Outside the weak model: the printed order holds each committed run, each failure and
+each restart once, and no aborted run; its serial execution, which knows nothing of the hub, gives each committed run's
+answers and the state of the home. Under the weak model: a read finds what the last write left, `Down` is answered where
+the device is down, and the home is as the last writes left it. Prints the first record that is not so, and ends with 1;
+a day that has not ended after a minute counts as one.
+"""
+import collections
+import json
+import os
+import random
+import subprocess
+import sys
+
+HERE = os.path.dirname(os.path.abspath(__file__))
+PROGRAM = os.path.join(HERE, "..", "crates", "hub_main", "out", "hub_main")
+MODELS = ["ev", "psv", "gsv", "wv"]
+MINUTE = 60
+
+
+class Wrong(Exception):
+    """What of a record is not as it should be."""
+
+
+def expect(true, what):
+    if not true:
+        raise Wrong(what)
+
+
+# Days
+
+def device(draw, d):
+    made = {"name": f"d{d}"}
+    if draw.random() < 0.5:
+        states = [f"s{v}" for v in range(draw.randint(1, 3))]
+        made.update(states=states, start=draw.choice(states))
+    else:
+        low = draw.randint(0, 2)
+        high = low + draw.randint(0, 3)
+        made.update(low=low, high=high, start=draw.randint(low, high))
+    if draw.random() < 0.5:
+        downs, call = [], 1
+        for _ in range(draw.randint(1, 3)):
+            call += draw.randint(0, 3)
+            downs.append([call, call + draw.choice([1, 1, 2, 3, 40])])
+            call = downs[-1][1]
+        made["down"] = downs
+    return made
+
+
+def values(device):
+    return device["states"] if "states" in device else list(range(device["low"], device["high"] + 1))
+
+
+def command(draw, devices):
+    on = draw.choice(devices)
+    made = {"on": on["name"], "do": draw.choice(["set", "set", "set", "check", "load", "store"])}
+    if made["do"] in ("set", "check"):
+        made["to"] = draw.choice(values(on))
+    if draw.random() < 0.4:
+        made["must"] = False
+    return made
+
+
+def day(draw):
+    devices = [device(draw, d) for d in range(draw.randint(1, 4))]
+    routines = [
+        {"name": f"r{r}", "commands": [command(draw, devices) for _ in range(draw.randint(1, 5))]}
+        for r in range(draw.randint(1, 4))
+    ]
+    windows = [
+        {
+            "at": f"2021-04-26T07:0{k}:00",
+            "probes": draw.choice([0, 1, 2, 5]),
+            "runs": [{"routine": draw.choice(routines)["name"]} for _ in range(draw.randint(1, 6))],
+        }
+        for k in range(draw.randint(1, 3))
+    ]
+    return {"safehome": 1, "devices": devices, "routines": routines, "windows": windows}
+
+
+# Serial execution
+
+def value_of(device, word):
+    """The number of a printed value."""
+    return device["states"].index(word) if "states" in device else int(word)
+
+
+def nearest(device, number):
+    if "states" in device:
+        return min(number, len(device["states"]) - 1)
+    return max(device["low"], min(device["high"], number))
+
+
+def wanted(device, command):
+    to = command["to"]
+    return device["states"].index(to) if "states" in device else to
+
+
+def fails(device, command, answer):
+    """Whether the answer is that of a must command that has failed."""
+    if not command.get("must", True):
+        return False
+    return answer == "-" or (command["do"] == "check" and answer != wanted(device, command))
+
+
+def executed(home, devices, commands):
+    """The answers of a routine that is executed alone on the home, which it changes."""
+    register, answers = 0, []
+    for command in commands:
+        device, place = devices[command["on"]], home[command["on"]]
+        if not place["up"]:
+            answers.append("-")
+        elif command["do"] in ("set", "store"):
+            place["value"] = wanted(device, command) if command["do"] == "set" else nearest(device, register)
+            answers.append(".")
+        else:
+            answers.append(place["value"])
+            if command["do"] == "load":
+                register = place["value"]
+        expect(not fails(device, command, answers[-1]), "a run of the order has a must command that fails serially")
+    return answers
+
+
+# Records
+
+class Window:
+    """The lines of one window of a record."""
+
+    def __init__(self, lines, head, devices, runs):
+        self.devices = devices
+        self.entries, self.ends, self.runs = [], {}, runs
+        expect(lines.pop(0) == head, f"no line {head}")
+        while lines and lines[0].startswith("# "):
+            self.entries.append(lines.pop(0)[2:].split(" "))
+        for r, commands in enumerate(runs, 1):
+            words = lines.pop(0).split(" ")
+            expect(words[:2] == ["run", str(r)], f"no line of the run {r}")
+            self.ends[r] = words[3:]
+        self.order = lines.pop(0).split(" ")[1:]
+        self.home = lines.pop(0).split(" ")[1:]
+
+    def command(self, word):
+        """The run and the command of `R.C`."""
+        r, c = map(int, word.split("."))
+        return r, self.runs[r - 1][c - 1]
+
+    def answer(self, command, word):
+        return word if word in (".", "-") else value_of(self.devices[command["on"]], word)
+
+
+def walked(window, home, weak):
+    """Goes along the history: the answers of each run, and the items that the order must have; the home is as at its end."""
+    answers = {r: [] for r in window.ends}
+    doomed, ended, events, last = {}, {}, [], 0
+    begun = {"arrived": [], "placed": []}
+    for entry in window.entries:
+        kind = entry[0]
+        if kind in ("arrived", "placed"):
+            begun[kind].append(int(entry[1]))
+            expect(entry[-2] == "at" and int(entry[-1]) >= last, "a moment falls")
+            last = int(entry[-1])
+        elif kind == "did":
+            r, command = window.command(entry[1])
+            answer, place = window.answer(command, entry[2]), home[command["on"]]
+            expect(r not in ended and command is window.runs[r - 1][len(answers[r])], "a command is answered out of turn")
+            answers[r].append(answer)
+            seen = [a for c, a in zip(window.runs[r - 1], answers[r][:-1]) if c["on"] == command["on"]]
+            expect(answer != "-" or not place["up"] or (not weak and "-" in seen[:1]), "Down is answered where the device is up")
+            if weak and answer not in (".", "-"):
+                expect(answer == place["value"], "a read finds another value than the last write left")
+            if weak and answer == ".":
+                place["value"] = written(window.devices[command["on"]], command, window.runs[r - 1], answers[r])
+        elif kind in ("fell", "rose"):
+            place = home[entry[1]]
+            expect(place["up"] == (kind == "fell"), "a device fails that is down, or comes back that is up")
+            place["up"] = kind == "rose"
+            events.append(("fail" if kind == "fell" else "back") + f"({entry[1]})")
+        elif kind == "doomed":
+            expect(entry[1] not in doomed, "a run is doomed twice")
+            doomed[entry[1]] = entry[2:]
+        elif kind == "ended":
+            expect((entry[1] in doomed) == (entry[2] == "aborted"), "a doomed run commits, or another is aborted")
+            ended[int(entry[1])] = entry[2:] + doomed.get(entry[1], [])
+        else:
+            expect(kind == "undid" and not weak and entry[1] in doomed, "a run that is not doomed is undone")
+    for runs in (ended, begun["arrived"], begun["placed"]):
+        expect(sorted(runs) == sorted(window.ends), "a run has not arrived, is not placed or has not ended, or does so twice")
+    return answers, ended, events
+
+
+def written(device, command, commands, answers):
+    """What a store or a set writes whose run has these answers."""
+    if command["do"] == "set":
+        return wanted(device, command)
+    register = 0
+    for before, answer in zip(commands, answers):
+        if before["do"] == "load" and answer != "-":
+            register = answer
+    return nearest(device, register)
+
+
+def judged(window, home, model):
+    """Judges one window that begins with this home, and leaves the home as it ends."""
+    serial = {name: dict(place) for name, place in home.items()}
+    answers, ended, events = walked(window, home, model == "wv")
+    committed = [r for r in ended if ended[r] == ["committed"]]
+    for r, words in window.ends.items():
+        expect(words[:1] == ["committed"] if r in committed else words == ended[r], "a run's line and its history differ")
+        if r in committed:
+            said = [window.answer(c, word) for c, word in zip(window.runs[r - 1], words[1:], strict=True)]
+            expect(said == answers[r], "a run's line has other answers than its history")
+            for command, answer in zip(window.runs[r - 1], said):
+                expect(not fails(window.devices[command["on"]], command, answer), "a run commits with a failed must command")
+    if model == "wv":
+        expect(window.order == ["unclaimed"], "the weak model claims an order")
+    else:
+        order = [] if window.order == ["none"] else window.order
+        expect(sorted(order) == sorted(events + [str(r) for r in committed]), "the order holds other items than the history")
+        for item in order:
+            if item.isdigit():
+                given = executed(serial, window.devices, window.runs[int(item) - 1])
+                expect(given == answers[int(item)], f"the run {item} is answered otherwise in its serial execution")
+            else:
+                serial[item[5:-1]]["up"] = item.startswith("back")
+        for name, place in home.items():
+            expect(serial[name]["up"] == place["up"], f"the device {name} is counted otherwise in the serial execution")
+            place["value"] = serial[name]["value"]
+    for word, (name, place) in zip(window.home, home.items(), strict=True):
+        device, value = word.split("=")
+        expect(device == name and value.endswith("!") != place["up"], f"the home has {word}")
+        if place["up"] or model != "wv":
+            expect(value_of(window.devices[name], value.rstrip("!")) == place["value"], f"the home has {word}")
+    return len(committed)
+
+
+def judge(script, record, model):
+    devices = {d["name"]: d for d in script["devices"]}
+    routines = {r["name"]: r["commands"] for r in script["routines"]}
+    home = {name: {"value": value_of(d, str(d["start"])), "up": True} for name, d in devices.items()}
+    lines = record.split("\n")
+    expect(lines.pop() == "" and lines[:2] == ["safehome day", f"model {model} fcfs"], "no head")
+    lines = lines[2:]
+    runs = committed = 0
+    for k, given in enumerate(script["windows"], 1):
+        window = Window(lines, f"window {k} {given['at']}", devices, [routines[run["routine"]] for run in given["runs"]])
+        committed += judged(window, home, model)
+        runs += len(given["runs"])
+    total = f"total windows {len(script['windows'])} runs {runs} committed {committed} aborted {runs - committed}"
+    expect(lines == [total], "another total")
+    return runs, committed
+
+
+def main():
+    days, seed = (int(word) for word in (sys.argv[1:3] + ["2000", "1"][len(sys.argv[1:3]):]))
+    program = sys.argv[3] if len(sys.argv) > 3 else PROGRAM
+    draw = random.Random(seed)
+    counts = collections.Counter()
+    for k in range(days):
+        script, model = day(draw), MODELS[k % len(MODELS)]
+        words = [program, "run", "--trace", "--model", model]
+        try:
+            done = subprocess.run(words, input=json.dumps(script), capture_output=True, text=True, timeout=MINUTE)
+            expect(done.returncode == 0, f"status {done.returncode}: {done.stderr}")
+            runs, committed = judge(script, done.stdout, model)
+            counts["runs"] += runs
+            counts["committed"] += committed
+            counts["fell"] += done.stdout.count("# fell ")
+            counts["rose"] += done.stdout.count("# rose ")
+        except (Wrong, ValueError, IndexError, subprocess.TimeoutExpired) as wrong:
+            print(f"day {k} under {model}: {wrong}\n{json.dumps(script)}")
+            if not isinstance(wrong, subprocess.TimeoutExpired):
+                print(done.stdout)
+            sys.exit(1)
+    print(f"{days} days of the seed {seed}: {counts['runs']} runs, {counts['committed']} committed,"
+          f" {counts['fell']} failures, {counts['rose']} restarts; each record as its serial execution")
+
+
+if __name__ == "__main__":
+    main()

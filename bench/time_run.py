@@ -1,0 +1,53 @@
+#!/usr/bin/env python3
+"""Times a dense day that is run with a thread for each run, beside its replay.
+
+    time_run.py [PROGRAM]
+
+PROGRAM is crates/hub_main/out/hub_main by default, which `rt run` builds. The day is that of time_replay.py. It is run
+on all processors and, where `taskset` is installed, on two of them: the time, the processor time, and how often the
+system put one thread in the place of another, because the thread slept or because its time was over.
+"""
+import os
+import shutil
+import subprocess
+import sys
+import tempfile
+import time
+
+from time_replay import PROGRAM, dense_day
+
+MODELS = ["gsv", "psv", "ev"]
+
+
+def timed(words, script):
+    with tempfile.TemporaryFile() as given:
+        given.write(script)
+        given.seek(0)
+        begun = time.monotonic()
+        child = subprocess.Popen(words, stdin=given, stdout=subprocess.DEVNULL)
+        _, status, used = os.wait4(child.pid, 0)
+        child.returncode = os.waitstatus_to_exitcode(status)
+    return child.returncode, time.monotonic() - begun, used
+
+
+def show(name, words, script):
+    status, spent, used = timed(words, script)
+    print(f"{name}: status {status}, {spent:.2f} s, {used.ru_utime:.2f} s of processor time and {used.ru_stime:.2f} s of"
+          f" the system's, {used.ru_nvcsw} switches of threads that slept, {used.ru_nivcsw} others,"
+          f" {used.ru_maxrss / 1024:.0f} MB at most", flush=True)
+
+
+def main():
+    program = sys.argv[1] if len(sys.argv) > 1 else PROGRAM
+    print("load", *(f"{load:.1f}" for load in os.getloadavg()), flush=True)
+    dense, threads = dense_day(), dense_day(288, 64, 1)
+    for model in MODELS:
+        show(f"dense, {model}, replay", [program, "replay", "--model", model], dense)
+        show(f"dense, {model}, run", [program, "run", "--model", model], dense)
+        if shutil.which("taskset"):
+            show(f"dense, {model}, run on two processors", ["taskset", "-c", "0,1", program, "run", "--model", model], dense)
+    show("one command a run, ev, run", [program, "run"], threads)
+
+
+if __name__ == "__main__":
+    main()
