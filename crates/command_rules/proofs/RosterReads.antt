@@ -1,5 +1,5 @@
--- A run's commands, by its place in the roster.
-use Rattle.command_rules.specs.Rosters.{commands_of, is_run, plain_run, runs_of}
+-- A run's commands, and the run that it follows, by its place in the roster.
+use Rattle.command_rules.specs.Rosters.{commands_of, followed_by, is_run, plain_run, runs_of}
 use Rattle.command_rules.specs.declared.rosters.Roster.{Roster}
 use Rattle.command_rules.specs.declared.rosters.RosterRun.{RosterRun}
 use Rattle.std.proofs.Common.{IsTrue, Some, ap, arith, refl, slice_get, suc, zero, ℕ, ◌-◌, ◌∙◌, ◌≡◌}
@@ -15,3 +15,10 @@ commands_of-run roster zero run there at = cc
 commands_of-run roster (suc i) run there at =
     let same : i ≡ suc i - 1 = omega arith in
     commands_at roster i run (ap (slice_get roster.runs.items) same ∙ at)
+
+pub followed_by-run : (roster : Roster) (r : ℕ) (run : RosterRun) → IsTrue (is_run (runs_of roster) r) → slice_get roster.runs.items (r - 1) ≡ Some run → run.follows ≡ followed_by (runs_of roster) r
+followed_by-run roster zero run there at = absurd (cc)
+followed_by-run roster (suc i) run there at =
+    let same : i ≡ suc i - 1 = omega arith in
+    let found : slice_get roster.runs.items i ≡ Some run = ap (slice_get roster.runs.items) same ∙ at in
+    rw (slice_get-map plain_run roster.runs.items i, found) refl

@@ -63,6 +63,13 @@ impl IndexedRoster {
         &self.roster
     }
 
+    /// Does nothing. Its contract is what holds of every indexed roster.
+    pub fn kept(&self)
+        ensures { FitsIndex (runs_of self.now) }
+    {
+        let _ = &self.footprints;
+    }
+
     /// The commands of `r`, in order.
     pub fn commands(&self, r: RunNo) -> &[Command]
         requires { IsTrue (is_run (runs_of self.now) r.0) }

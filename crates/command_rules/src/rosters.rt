@@ -19,7 +19,7 @@ pub struct Roster {
 }
 
 impl Roster {
-    ghost use Rattle.command_rules.specs.Rosters.{runs_of, is_run, commands_of, touches, first_on, last_on, reads_first, writes_on, estimate_to_last, shares};
+    ghost use Rattle.command_rules.specs.Rosters.{runs_of, is_run, commands_of, touches, first_on, last_on, reads_first, writes_on, estimate_to_last, followed_by, shares};
 
     /// The commands of `r`, in order.
     pub fn commands(&self, r: RunNo) -> &[Command]
@@ -87,6 +87,15 @@ impl Roster {
         ensures { result ≡ estimate_to_last d.0 (commands_of (runs_of self.now) r.0) }
     {
         sum_to_last(self.commands(r), d)
+    }
+
+    /// The run that `r` follows.
+    pub fn followed_by(&self, r: RunNo) -> Option<RunNo>
+        requires { IsTrue (is_run (runs_of self.now) r.0) }
+        ensures { result ≡ followed_by (runs_of self.now) r.0 }
+    {
+        let follower = self.runs.get(r.0 as u64 - 1).unwrap();
+        follower.follows
     }
 
     /// Whether some device is touched by both `a` and `b`.

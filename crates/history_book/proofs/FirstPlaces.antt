@@ -1,6 +1,6 @@
 -- The places of first entries: what stands at them, and what they are after one more entry.
-use Rattle.history_book.specs.BookParts.{ArePlaces, entry_at, first_place, noted}
-use Rattle.history_book.specs.Books.{doom_in, end_in, first_told}
+use Rattle.history_book.specs.BookParts.{ArePlaces, entry_at, noted}
+use Rattle.history_book.specs.Books.{doom_in, end_in, first_place, first_told, placing_in}
 use Rattle.history_book.specs.declared.entries.Cause.{Cause}
 use Rattle.history_book.specs.declared.entries.End.{End}
 use Rattle.history_book.specs.declared.entries.Entry.TheVariants.{Arrived, Did, Doomed, Ended, Fell, Placed, Rose, Undid}
@@ -14,7 +14,7 @@ use Rattle.std.specs.List.{position, position_or_len}
 use Rattle.std.specs.Option.{option_and_then, option_or}
 use Rattle.std.specs.Prelude.{Bool, List, None, Option, Some, [], false, if◌then◌else◌, is_none, is_some, length, nat_lt, option_map, replicate, slice_index_or, slice_set, suc, true, zero, ℕ, ◌&&◌, ◌++◌, ◌+◌, ◌<◌, ◌==◌, ◌∷◌, ◌≡◌, ◌≢◌}
 
-position_cons : {A : Type 0} (p : A → Bool) (x : A) (xs : List A) → position p (x ∷ xs) ≡ (if p x then Some 0 else option_map (λ k. k + 1) (position p xs))
+pub position_cons : {A : Type 0} (p : A → Bool) (x : A) (xs : List A) → position p (x ∷ xs) ≡ (if p x then Some 0 else option_map (λ k. k + 1) (position p xs))
 position_cons p x xs = by_cases (p x) refl
   where
     further : (b : Bool) → nat_lt (position_or_len p xs) (length xs) ≡ b → cond (nat_lt (1 + position_or_len p xs) (suc (length xs))) (Some (1 + position_or_len p xs)) None ≡ option_map (λ k. k + 1) (cond b (Some (position_or_len p xs)) None)
@@ -142,11 +142,8 @@ end_tells e q end is r = rw is (some_if (q.0 == r) end)
 pub doom_tells : (e : Entry) (q : RunNo) (cause : Cause) → e ≡ Doomed q cause → (r : ℕ) → is_some (doom_in r e) ≡ (q.0 == r)
 doom_tells e q cause is r = rw is (some_if (q.0 == r) cause)
 
-pub end_dooms_none : (e : Entry) (q : RunNo) (end : End) → e ≡ Ended q end → (r : ℕ) → is_some (doom_in r e) ≡ false
-end_dooms_none e q end is r = rw is refl
-
-pub doom_ends_none : (e : Entry) (q : RunNo) (cause : Cause) → e ≡ Doomed q cause → (r : ℕ) → is_some (end_in r e) ≡ false
-doom_ends_none e q cause is r = rw is refl
+pub placing_tells : (e : Entry) (q : RunNo) (place m : ℕ) → e ≡ Placed q place m → (r : ℕ) → is_some (placing_in r e) ≡ (q.0 == r)
+placing_tells e q place m is r = rw is (some_if (q.0 == r) place)
 
 pub other_ends_none : (e : Entry) → ((q : RunNo) (end : End) → e ≢ Ended q end) → (r : ℕ) → is_some (end_in r e) ≡ false
 other_ends_none (Arrived q m) other r = refl
@@ -167,3 +164,13 @@ other_dooms_none (Fell d) other r = refl
 other_dooms_none (Rose d) other r = refl
 other_dooms_none (Doomed q cause) other r = absurd (other q cause refl)
 other_dooms_none (Ended q end) other r = refl
+
+pub other_places_none : (e : Entry) → ((q : RunNo) (place m : ℕ) → e ≢ Placed q place m) → (r : ℕ) → is_some (placing_in r e) ≡ false
+other_places_none (Arrived q m) other r = refl
+other_places_none (Placed q place m) other r = absurd (other q place m refl)
+other_places_none (Did q c a) other r = refl
+other_places_none (Undid q d drove) other r = refl
+other_places_none (Fell d) other r = refl
+other_places_none (Rose d) other r = refl
+other_places_none (Doomed q cause) other r = refl
+other_places_none (Ended q end) other r = refl

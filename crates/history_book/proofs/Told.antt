@@ -1,7 +1,8 @@
--- What the book tells of the end and of the doom of a run is what the history says.
-use Rattle.history_book.specs.Books.{doom_in, doom_of, end_in, end_of}
+-- What the book tells of the end, the doom and the placing of a run is what the history says.
+use Rattle.history_book.proofs.FirstPlaces.{position_cons}
+use Rattle.history_book.specs.Books.{doom_in, doom_of, end_in, end_of, placing_in, placing_of}
 use Rattle.history_book.specs.Histories.{entries_of, entry, reading}
-use Rattle.history_book.specs.Readings.{OfRun, Reading, nothing_read, put}
+use Rattle.history_book.specs.Readings.{OfRun, PlacedAt, Reading, nothing_read, put}
 use Rattle.history_book.specs.Settings.{Setting}
 use Rattle.history_book.specs.WellFormed.{IsWellFormed, along, may_follow}
 use Rattle.history_book.specs.declared.entries.Cause.{Cause}
@@ -12,7 +13,7 @@ use Rattle.history_book.specs.declared.entries.Kept.{Kept}
 use Rattle.std.proofs.Common.{ap, arith, refl, sym, ◌∙◌}
 use Rattle.std.proofs.lemmas.Grind.{common_steps}
 use Rattle.std.specs.Option.{option_or}
-use Rattle.std.specs.Prelude.{Bool, IsTrue, List, None, Option, Some, [], false, fold, if◌then◌else◌, is_none, is_some, true, ℕ, ◌==◌, ◌∷◌, ◌≡◌}
+use Rattle.std.specs.Prelude.{Bool, IsTrue, List, None, Option, Some, [], false, fold, if◌then◌else◌, is_none, is_some, option_map, true, ℕ, ◌+◌, ◌==◌, ◌∷◌, ◌≡◌}
 
 or_none : {T : Type 0} (o : Option T) → o ≡ option_or o None
 or_none None = refl
@@ -69,6 +70,38 @@ doom_told w n (Doomed q cause) r ok = told_part (λ o. o.doomed) n.run q.0 r _ c
     unsome (Some x) e = absurd (cc)
 doom_told w n (Ended q e) r ok = kept_part (λ o. o.doomed) n.run q.0 r _ refl
 
+-- the number of entries before the run's placing
+abbrev pub stamp_in : OfRun → Option ℕ
+stamp_in o = option_map (λ p. p.stamp) o.placed
+
+placing_told : (w : Setting) (n : Reading) (e : Entry) (r : ℕ) → IsTrue (may_follow w n e) → stamp_in ((entry w n e).run r) ≡ option_or (stamp_in (n.run r)) (if is_some (placing_in r e) then Some n.size else None)
+placing_told w n (Arrived q m) r ok = kept_part stamp_in n.run q.0 r _ refl
+placing_told w n (Placed q at m) r ok = told_part stamp_in n.run q.0 r _ n.size refl (unplaced (n.run q.0).placed (grind (arith, common_steps))) ∙ as_told (q.0 == r)
+  where
+    unplaced : (o : Option PlacedAt) → is_none o ≡ true → option_map (λ p. p.stamp) o ≡ None
+    unplaced None e = refl
+    unplaced (Some p) e = absurd (cc)
+
+    as_told : (b : Bool) → option_or (stamp_in (n.run r)) (if b then Some n.size else None) ≡ option_or (stamp_in (n.run r)) (if is_some (if b then Some at else None) then Some n.size else None)
+    as_told true = refl
+    as_told false = refl
+placing_told w n (Did q c a) r ok = kept_part stamp_in n.run q.0 r _ refl
+placing_told w n (Undid q d drove) r ok = kept_part stamp_in n.run q.0 r _ refl
+placing_told w n (Fell d) r ok = or_none (stamp_in (n.run r))
+placing_told w n (Rose d) r ok = or_none (stamp_in (n.run r))
+placing_told w n (Doomed q cause) r ok = kept_part stamp_in n.run q.0 r _ refl
+placing_told w n (Ended q e) r ok = kept_part stamp_in n.run q.0 r _ refl
+
+one_larger : (w : Setting) (n : Reading) (e : Entry) → (entry w n e).size ≡ n.size + 1
+one_larger w n (Arrived q m) = refl
+one_larger w n (Placed q at m) = refl
+one_larger w n (Did q c a) = refl
+one_larger w n (Undid q d drove) = refl
+one_larger w n (Fell d) = refl
+one_larger w n (Rose d) = refl
+one_larger w n (Doomed q cause) = refl
+one_larger w n (Ended q e) = refl
+
 end_from : (w : Setting) (n : Reading) (h : List Kept) (r : ℕ) → IsTrue (along w (may_follow w) n (entries_of h)) → ((fold (entry w) n (entries_of h)).run r).ended ≡ option_or (n.run r).ended (end_of h r)
 end_from w n [] r ok = or_none (n.run r).ended
 end_from w n (k ∷ h) r ok =
@@ -90,3 +123,24 @@ end_is w h r ok = sym (end_from w (nothing_read w) h r ok)
 -- .. and its doom
 pub doom_is : (w : Setting) (h : List Kept) (r : ℕ) → IsWellFormed w (entries_of h) → doom_of h r ≡ ((reading w (entries_of h)).run r).doomed
 doom_is w h r ok = sym (doom_from w (nothing_read w) h r ok)
+
+placing_from : (w : Setting) (n : Reading) (h : List Kept) (r : ℕ) → IsTrue (along w (may_follow w) n (entries_of h)) → stamp_in ((fold (entry w) n (entries_of h)).run r) ≡ option_or (stamp_in (n.run r)) (option_map (λ k. n.size + k) (placing_of h r))
+placing_from w n [] r ok = or_none (stamp_in (n.run r))
+placing_from w n (k ∷ h) r ok =
+    placing_from w (entry w n k.entry) h r (grind (arith, common_steps))
+    ∙ ap (λ o. option_or o (option_map (λ i. (entry w n k.entry).size + i) (placing_of h r))) (placing_told w n k.entry r (grind (arith, common_steps)))
+    ∙ or_or (stamp_in (n.run r)) (if is_some (placing_in r k.entry) then Some n.size else None) _
+    ∙ ap (option_or (stamp_in (n.run r))) (further (is_some (placing_in r k.entry)) (placing_of h r) (entry w n k.entry).size (one_larger w n k.entry) ∙ ap (option_map (λ i. n.size + i)) (sym (position_cons (λ (x : Kept). is_some (placing_in r x.entry)) k h)))
+  where
+    further : (b : Bool) (o : Option ℕ) (size : ℕ) → size ≡ n.size + 1 → option_or (if b then Some n.size else None) (option_map (λ i. size + i) o) ≡ option_map (λ i. n.size + i) (if b then Some 0 else option_map (λ i. i + 1) o)
+    further true o size e = ap Some (omega arith)
+    further false None size e = refl
+    further false (Some i) size e = ap Some (omega (arith, e))
+
+-- .. and how many entries stood before its placing
+pub placing_is : (w : Setting) (h : List Kept) (r : ℕ) → IsWellFormed w (entries_of h) → placing_of h r ≡ option_map (λ p. p.stamp) ((reading w (entries_of h)).run r).placed
+placing_is w h r ok = counted (placing_of h r) ∙ sym (placing_from w (nothing_read w) h r ok)
+  where
+    counted : (o : Option ℕ) → o ≡ option_map (λ i. 0 + i) o
+    counted None = refl
+    counted (Some i) = ap Some (omega arith)

@@ -1,15 +1,10 @@
 -- What is true of the parts of each book.
-use Rattle.history_book.specs.Books.{doom_in, end_in}
+use Rattle.history_book.specs.Books.{doom_in, end_in, first_place, placing_in}
 use Rattle.history_book.specs.declared.books.Book.TheInside.{Inside}
 use Rattle.history_book.specs.declared.entries.Entry.{Entry}
 use Rattle.history_book.specs.declared.entries.Kept.{Kept}
-use Rattle.std.specs.List.{position}
 use Rattle.std.specs.Option.{option_and_then}
-use Rattle.std.specs.Prelude.{List, None, Option, Some, if◌then◌else◌, is_none, is_some, length, nat_lt, option_map, slice_get, slice_index_or, slice_set, ℕ, ◌&&◌, ◌<◌, ◌≡◌}
-
--- the place of the first entry that tells something
-abbrev pub first_place : {T : Type 0} → (Entry → Option T) → List Kept → Option ℕ
-first_place told history = position (λ k. is_some (told k.entry)) history
+use Rattle.std.specs.Prelude.{List, None, Option, Some, if◌then◌else◌, is_none, length, nat_lt, option_map, slice_get, slice_index_or, slice_set, ℕ, ◌&&◌, ◌<◌, ◌≡◌}
 
 -- the places are, by the numbers of the runs, those of the first entry that tells something of the run
 abbrev pub ArePlaces : {T : Type 0} → (ℕ → Entry → Option T) → List Kept → List (Option ℕ) → Type 0
@@ -18,6 +13,7 @@ ArePlaces told history places = (r : ℕ) → r < length places → slice_index_
 pub record IsPlaced (book : Inside) : Type 0 where
   pub ends : ArePlaces end_in book.kept.items book.ends
   pub dooms : ArePlaces doom_in book.kept.items book.dooms
+  pub placings : ArePlaces placing_in book.kept.items book.placings
 
 -- the entry at the place, where there is one
 abbrev pub entry_at : List Kept → Option ℕ → Option Entry

@@ -1,16 +1,21 @@
--- What a history tells of the end of a run.
+-- What a history tells of the placing, the doom and the end of a run.
 use Rattle.history_book.specs.declared.entries.Cause.{Cause}
 use Rattle.history_book.specs.declared.entries.End.{End}
 use Rattle.history_book.specs.declared.entries.Entry.TheVariants.{Arrived, Did, Doomed, Ended, Fell, Placed, Rose, Undid}
 use Rattle.history_book.specs.declared.entries.Entry.{Entry}
 use Rattle.history_book.specs.declared.entries.Kept.{Kept}
+use Rattle.std.specs.List.{position}
 use Rattle.std.specs.Option.{option_or}
-use Rattle.std.specs.Prelude.{List, None, Option, Some, [], if◌then◌else◌, ℕ, ◌==◌, ◌∷◌}
+use Rattle.std.specs.Prelude.{List, None, Option, Some, [], if◌then◌else◌, is_some, ℕ, ◌==◌, ◌∷◌}
 
 -- what the first entry that tells something tells
 abbrev pub first_told : {T : Type 0} → (Entry → Option T) → List Kept → Option T
 first_told told [] = None
 first_told told (kept ∷ history) = option_or (told kept.entry) (first_told told history)
+
+-- the place of that entry
+abbrev pub first_place : {T : Type 0} → (Entry → Option T) → List Kept → Option ℕ
+first_place told history = position (λ k. is_some (told k.entry)) history
 
 -- the end of the run, where the entry is its end
 abbrev pub end_in : ℕ → Entry → Option End
@@ -34,6 +39,17 @@ doom_in r (Rose d) = None
 doom_in r (Doomed q cause) = if q.0 == r then Some cause else None
 doom_in r (Ended q end) = None
 
+-- the place in the line, where the entry places the run
+abbrev pub placing_in : ℕ → Entry → Option ℕ
+placing_in r (Arrived q m) = None
+placing_in r (Placed q place m) = if q.0 == r then Some place else None
+placing_in r (Did q c a) = None
+placing_in r (Undid q d drove) = None
+placing_in r (Fell d) = None
+placing_in r (Rose d) = None
+placing_in r (Doomed q cause) = None
+placing_in r (Ended q end) = None
+
 -- the end of the run
 abbrev pub end_of : List Kept → ℕ → Option End
 end_of history r = first_told (end_in r) history
@@ -41,3 +57,7 @@ end_of history r = first_told (end_in r) history
 -- the cause with which the run was doomed
 abbrev pub doom_of : List Kept → ℕ → Option Cause
 doom_of history r = first_told (doom_in r) history
+
+-- the number of entries before the run was placed
+abbrev pub placing_of : List Kept → ℕ → Option ℕ
+placing_of history r = first_place (placing_in r) history

@@ -1,6 +1,6 @@
-ghost use Rattle.std.specs.Prelude.{◌≡◌, ◌+◌, ◌<◌, ◌≤◌, [], ◌∷◌, ◌++◌, length, max, OnOk, OnErr, slice_get};
+ghost use Rattle.std.specs.Prelude.{◌≡◌, ◌+◌, ◌<◌, ◌≤◌, [], ◌∷◌, ◌++◌, is_some, length, max, OnOk, OnErr, slice_get};
 ghost use Rattle.history_book.specs.BookParts.{entry_at, noted};
-ghost use Rattle.history_book.specs.Books.{doom_in, doom_of, end_in, end_of};
+ghost use Rattle.history_book.specs.Books.{doom_in, doom_of, end_in, end_of, placing_in, placing_of};
 
 use crate::entries::{Cause, End, Entry, Kept};
 use home_types::{List, NoMemory, RunNo, limits};
@@ -14,10 +14,10 @@ const PLACES: usize = limits::RUNS as usize + 1;
 #[derive(Drop)]
 pub struct Book {
     kept: List<Kept>,
-    // the places of each run's first `Ended` entry, and of its first `Doomed` entry, so that a question about them reads
-    // no others
+    // the places of each run's first `Ended`, `Doomed` and `Placed` entry, so that a question about them reads no others
     ends: [Option<u64>; PLACES],
     dooms: [Option<u64>; PLACES],
+    placings: [Option<u64>; PLACES],
 }
 
 impl Model for Book {
@@ -42,6 +42,7 @@ impl Book {
             kept: List::new(alloc),
             ends: [None; PLACES],
             dooms: [None; PLACES],
+            placings: [None; PLACES],
         }
     }
 
@@ -68,6 +69,7 @@ impl Book {
         match kept.entry {
             Entry::Ended(r, _) => note(&mut self.ends, r, place),
             Entry::Doomed(r, _) => note(&mut self.dooms, r, place),
+            Entry::Placed(r, _, _) => note(&mut self.placings, r, place),
             _ => {}
         }
         let pushed = self.kept.push(kept);
@@ -116,6 +118,16 @@ impl Book {
         }
     }
 
+    /// How many entries stood before the first `Placed` entry of the run `r`. `None` where it has none.
+    pub fn placing_of(&self, r: RunNo) -> Option<u64>
+        ensures { result ≡ placing_of self.now.items r.0 }
+    {
+        match self.placings.get(r.0 as usize) {
+            Some(place) => *place,
+            None => first_placing(self.kept.as_slice(), r).map(|place| place as u64),
+        }
+    }
+
     /// The entry at this place, where there is one.
     fn entry_at(&self, place: Option<u64>) -> Option<Entry>
         ensures { result ≡ entry_at self.now.items place }
@@ -149,6 +161,13 @@ fn first_doom(history: &[Kept], r: RunNo) -> Option<Cause>
     history.iter().find_map(|kept| doom_in(r, kept.entry))
 }
 
+/// How many entries stood before the first one that places the run `r`.
+fn first_placing(history: &[Kept], r: RunNo) -> Option<usize>
+    ensures { result ≡ placing_of history.now r.0 }
+{
+    history.iter().position(|kept| places(r, kept.entry))
+}
+
 /// The end of the run `r`, where the entry is its end.
 fn end_in(r: RunNo, entry: Entry) -> Option<End>
     ensures { result ≡ end_in r.0 entry }
@@ -167,4 +186,11 @@ fn doom_in(r: RunNo, entry: Entry) -> Option<Cause>
         Entry::Doomed(run, cause) if run == r => Some(cause),
         _ => None,
     }
+}
+
+/// Whether the entry places the run `r`.
+fn places(r: RunNo, entry: Entry) -> bool
+    ensures { result ≡ is_some (placing_in r.0 entry) }
+{
+    matches!(entry, Entry::Placed(run, _, _) if run == r)
 }

@@ -2,7 +2,7 @@
 use Rattle.home_types.specs.declared.commands.View.{View}
 use Rattle.lineage_table.proofs.Pairs.{Pairs, all_from_pairs, every_so, pairs_back, pairs_changed, pairs_from_all, pairs_front, pairs_put}
 use Rattle.lineage_table.proofs.Splits.{Cut, any_access, access_at, behind_at, before_at, change_at, cut_at, put_at, without_at, without_none}
-use Rattle.lineage_table.specs.Accesses.{AreInTurn, AreOfTwoRuns, IsDisciplined, access_of, before, behind, has_access, is_acquired, is_of, is_released, is_scheduled, place_before, put_before, put_before_run, some_acquired, some_scheduled, status_of, with_change, without, written_by}
+use Rattle.lineage_table.specs.Accesses.{AreInTurn, AreOfTwoRuns, IsDisciplined, access_of, before, behind, has_access, is_acquired, is_of, is_released, is_scheduled, place_before, put_before, put_before_run, run_behind, some_acquired, some_scheduled, status_of, with_change, without, written_by}
 use Rattle.lineage_table.specs.Answers.{MayAnswer}
 use Rattle.lineage_table.specs.contracts.accesses.StatusPartialEq.TheImpl.{eq-value}
 use Rattle.lineage_table.specs.declared.accesses.Access.{Access}
@@ -17,9 +17,10 @@ use Rattle.std.proofs.lemmas.Grind.{common_steps}
 use Rattle.std.proofs.lemmas.List.Edits.{insert_end, length-remove}
 use Rattle.std.proofs.lemmas.List.Kept.{AllPairs-filter}
 use Rattle.std.proofs.lemmas.List.Folds.{list_any-append}
+use Rattle.std.proofs.lemmas.Option.{slice_get-get_or, slice_get_past}
 use Rattle.std.proofs.lemmas.List.{append-nil, drop_at, get_or_at, set_at, take-append-drop, take_at, take_more}
 use Rattle.std.specs.List.{position_or_len, AllByRecursion, AllPairs, insert, remove}
-use Rattle.std.specs.Prelude.{nat_lt, if◌then◌else◌, is_some, not, option_and_then, option_map, position, unwrap_or, slice_set, ◌||◌}
+use Rattle.std.specs.Prelude.{nat_lt, if◌then◌else◌, is_some, not, option_and_then, option_map, position, slice_get, unwrap_or, slice_set, ◌||◌}
 
 -- Places
 
@@ -485,6 +486,42 @@ read_there s now r i x e h is = ap (λ (z : Access). Some z) is ∙ sym (access_
 
 pub wrote_there : (s now : LineageState) (r i : ℕ) (x : Access) → s ≡ now → position (is_of r) now.accesses ≡ Some i → x ≡ get_or s.accesses i x → IsSome (written_by r now.accesses) → IsSome x.wrote
 wrote_there s now r i x e h is w = subst IsSome (ap (option_and_then (λ (a : Access). a.wrote)) (sym (read_there s now r i x e h is))) w
+
+-- the access behind that of the run stands in the next place
+
+none_next : (r : ℕ) (xs : List Access) → has_access r xs ≡ false → behind r xs ≡ []
+none_next r [] h = refl
+none_next r (x ∷ xs) h = grind (arith, common_steps, none_next r xs)
+
+next_at : (a : List Access) (x : Access) (b : List Access) (i : ℕ) → length a ≡ i → slice_get (a ++ x ∷ b) (i + 1) ≡ slice_get b 0
+next_at a x b i e = ap (slice_get (a ++ x ∷ b)) place ∙ by_front a
+  where
+    place : i + 1 ≡ suc (length a)
+    place = omega (arith, e)
+
+    by_front : (a : List Access) → slice_get (a ++ x ∷ b) (suc (length a)) ≡ slice_get b 0
+    by_front [] = refl
+    by_front (y ∷ a) = by_front a
+
+next_there : (r i : ℕ) (xs : List Access) → position (is_of r) xs ≡ Some i → slice_get (behind r xs) 0 ≡ slice_get xs (i + 1)
+next_there r i xs h =
+    let c = cut_at r i xs any_access h in
+    ap (λ l. slice_get (behind r l) 0) c.list
+    ∙ ap (λ l. slice_get l 0) (behind_at r c.front c.access c.rest c.none c.own)
+    ∙ sym (ap (λ l. slice_get l (i + 1)) c.list ∙ next_at c.front c.access c.rest i c.size)
+
+pub no_run_behind : (r : ℕ) (xs : List Access) → position (is_of r) xs ≡ None → None ≡ run_behind r xs
+no_run_behind r xs h = ap (λ l. option_map (λ (x : Access). x.run) (slice_get l 0)) (sym (none_next r xs (has_place r xs ∙ ap is_some h)))
+
+pub last_there : (s now : LineageState) (r i : ℕ) (seen : List Access) → s ≡ now → seen ≡ s.accesses → position (is_of r) now.accesses ≡ Some i → length seen ≤ i + 1 → None ≡ run_behind r now.accesses
+last_there s now r i seen e is h past =
+    ap (option_map (λ (x : Access). x.run)) (sym (next_there r i now.accesses h ∙ ap (λ l. slice_get l (i + 1)) (sym (is ∙ ap (λ (t : LineageState). t.accesses) e)) ∙ slice_get_past seen (i + 1) past))
+
+pub behind_there : (s now : LineageState) (r i : ℕ) (seen : List Access) (x : Access) → s ≡ now → seen ≡ s.accesses → position (is_of r) now.accesses ≡ Some i → i + 1 < length seen → x ≡ get_or seen (i + 1) x → Some x.run ≡ run_behind r now.accesses
+behind_there s now r i seen x e is h within at =
+    ap (option_map (λ (y : Access). y.run)) (
+    ap (λ (y : Access). Some y) at ∙ sym (next_there r i now.accesses h ∙ ap (λ l. slice_get l (i + 1)) (sym (is ∙ ap (λ (t : LineageState). t.accesses) e)) ∙ slice_get-get_or seen (i + 1) x within)
+    )
 
 -- The discipline of the fields
 

@@ -4,7 +4,7 @@ use Rattle.lineage_table.specs.declared.accesses.Access.{Access}
 use Rattle.lineage_table.specs.declared.accesses.Status.TheVariants.{Acquired, Released, Scheduled}
 use Rattle.lineage_table.specs.declared.accesses.Status.{Status}
 use Rattle.std.specs.List.{AllPairs, list_any}
-use Rattle.std.specs.Prelude.{Bool, IsTrue, List, None, Option, Some, [], false, filter, find, fold, if◌then◌else◌, is_some, length, not, option_and_then, option_map, position, true, unwrap_or, ℕ, ◌++◌, ◌==◌, ◌||◌, ◌∷◌, ◌≡◌}
+use Rattle.std.specs.Prelude.{Bool, IsTrue, List, None, Option, Some, [], false, filter, find, fold, if◌then◌else◌, is_some, length, not, option_and_then, option_map, position, slice_get, true, unwrap_or, ℕ, ◌++◌, ◌==◌, ◌||◌, ◌∷◌, ◌≡◌}
 
 -- How an access stands
 
@@ -59,6 +59,10 @@ before r (x ∷ xs) = if is_of r x then [] else (x ∷ before r xs)
 abbrev pub behind : ℕ → List Access → List Access
 behind r [] = []
 behind r (x ∷ xs) = if is_of r x then xs else behind r xs
+
+-- the run of the access immediately behind that of the run
+abbrev pub run_behind : ℕ → List Access → Option RunNo
+run_behind r accesses = option_map (λ x. x.run) (slice_get (behind r accesses) 0)
 
 -- the accesses of the other runs
 abbrev pub without : ℕ → List Access → List Access

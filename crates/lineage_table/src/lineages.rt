@@ -1,7 +1,7 @@
 ghost use Rattle.std.specs.Prelude.{◌≡◌, ◌<◌, ◌≤◌, [], false, IfOk, IsSome, IsTrue, None, Some, length, not, option_map, position, slice_index_or, take};
 ghost use Rattle.std.specs.Option.{ForSome};
 ghost use Rattle.lineage_table.specs.declared.accesses.Access.{Access};
-ghost use Rattle.lineage_table.specs.Accesses.{IsDisciplined, IsFirstBefore, access_of, before, effective_writer, has_access, is_of, place_before, some_acquired, some_scheduled, standing_value, status_of, without, written_by};
+ghost use Rattle.lineage_table.specs.Accesses.{IsDisciplined, IsFirstBefore, access_of, before, effective_writer, has_access, is_of, place_before, run_behind, some_acquired, some_scheduled, standing_value, status_of, without, written_by};
 ghost use Rattle.lineage_table.specs.Answers.{MayAnswer, answered_access, answered_if};
 ghost use Rattle.home_types.specs.declared.numbers.RunNo.{RunNo};
 ghost use Rattle.lineage_table.specs.Lineages.{IsNew, acquired, counted_up, released, removed, scheduled, settled, undone, with_committed, written};
@@ -225,6 +225,15 @@ impl Lineage {
             }
         }
         None
+    }
+
+    /// The run of the access immediately behind that of the run. `None` where none is.
+    pub fn run_behind(&self, r: RunNo) -> Option<RunNo>
+        ensures { result ≡ run_behind r.0 self.now.accesses }
+    {
+        let at = self.place_of(r)?;
+        let access = self.accesses.get(at + 1)?;
+        Some(access.run)
     }
 
     /// Does nothing. Its contract is what the accesses of every lineage keep: the released ones stand before the acquired

@@ -2,7 +2,7 @@ ghost use Rattle.std.specs.Prelude.{◌≡◌, ◌+◌, ◌<◌, ◌≤◌, ◌=
 ghost use Rattle.std.specs.List.{list_any};
 ghost use Rattle.std.specs.Option.{ForSome};
 ghost use Rattle.command_rules.specs.Rosters.{is_on, runs_of};
-ghost use Rattle.lineage_table.specs.Accesses.{IsDisciplined, IsFirstBefore, access_of, before, effective_writer, has_access, some_acquired, some_scheduled, standing_value, status_of, without, written_by};
+ghost use Rattle.lineage_table.specs.Accesses.{IsDisciplined, IsFirstBefore, access_of, before, effective_writer, has_access, run_behind, some_acquired, some_scheduled, standing_value, status_of, without, written_by};
 ghost use Rattle.home_types.specs.DeviceSets.{IsFirstFrom};
 ghost use Rattle.home_types.specs.Limits.{most_devices};
 ghost use Rattle.lineage_table.specs.Answers.{MayAnswer, answered_if};
@@ -183,6 +183,14 @@ impl Table {
         ensures { IsFirstBefore (F.post test) r.0 (accesses_at self.now d.0) result }
     {
         self.lineages[d.0 as usize].first_before(r, test)
+    }
+
+    /// The run of the access immediately behind that of the run. `None` where none is.
+    pub fn run_behind(&self, d: DeviceNo, r: RunNo) -> Option<RunNo>
+        requires { d.0 < length self.now }
+        ensures { result ≡ run_behind r.0 (accesses_at self.now d.0) }
+    {
+        self.lineages[d.0 as usize].run_behind(r)
     }
 
     /// Does nothing. Its contract is what the accesses to each device keep: the released ones stand before the acquired

@@ -158,6 +158,7 @@ fn keeps_the_lineage_of_a_device(rt: HostRuntime) {
             .is_some_and(|access| access.to == 1500)
     );
     assert!(rt; table.first_before(HEAT, RunNo(2), |access| access.run == A) == Some(A));
+    assert!(rt; table.run_behind(HEAT, A).is_none());
     assert!(rt; table.next_device(A, DeviceNo(0)) == Some(HEAT));
     assert!(rt; settle(&mut table, HEAT, A));
     assert!(rt; table.devices() == 1);
