@@ -1,13 +1,11 @@
 -- What is answered by the first place and the first denial is what just-in-time admission says.
-use Rattle.command_rules.specs.Items.{of_run}
-use Rattle.command_rules.specs.Rosters.{Run, commands_of, device_no, is_on, is_run, run_no, touches}
+use Rattle.command_rules.proofs.Indexes.{device_below}
+use Rattle.command_rules.specs.Rosters.{Run, commands_of, device_no, is_run, run_no, touches}
 use Rattle.history_book.specs.Lines.{split_at}
 use Rattle.history_book.specs.Readings.{Reading, is_live}
 use Rattle.history_book.specs.Settings.{Setting}
 use Rattle.history_book.specs.declared.entries.Kept.{Kept}
 use Rattle.home_types.specs.Limits.{most_devices}
-use Rattle.home_types.specs.declared.commands.Command.{Command}
-use Rattle.home_types.specs.declared.items.Item.{Item}
 use Rattle.jit_scheduler.proofs.Deniers.{denial_is, plain_denial}
 use Rattle.jit_scheduler.specs.Admissions.{Admitting, IsAdmissionOf, IsPlacingOf, IsToBePlaced, IsWithin, MayAdmit, admission, answer_by, placing_of}
 use Rattle.jit_scheduler.specs.Denials.{first_denial}
@@ -15,16 +13,16 @@ use Rattle.jit_scheduler.specs.declared.answers.Admit.TheVariants.{At, Denied, P
 use Rattle.jit_scheduler.specs.declared.answers.Admit.{Admit}
 use Rattle.jit_scheduler.specs.declared.denials.Denial.{Denial as FoundDenial}
 use Rattle.lineage_table.specs.Lineages.{LineageState}
+use Rattle.lock_leasing.proofs.ClearPlaces.{place_within}
 use Rattle.lock_leasing.proofs.Facts.{facts_of}
 use Rattle.lock_leasing.specs.Configurations.{Grips, read_of}
 use Rattle.lock_leasing.specs.FirstPlaces.{IsFirstPlaceOf}
-use Rattle.lock_leasing.specs.Places.{At as PlacedAt, Denial, DeniedBy, Placing, binds, denial_of, first_place, just_in_time, patience, up_to_first, up_to_last}
+use Rattle.lock_leasing.specs.Places.{At as PlacedAt, Denial, DeniedBy, Placing, denial_of, first_place, just_in_time, patience}
 use Rattle.serial_line.specs.Marks.{Mark}
 use Rattle.std.proofs.Common.{ap, arith, refl, subst, sym, ◌∙◌}
 use Rattle.std.proofs.lemmas.Grind.{common_steps}
 use Rattle.std.proofs.lemmas.List.{length-map}
-use Rattle.std.specs.List.{list_any}
-use Rattle.std.specs.Prelude.{Bool, IsTrue, List, None, Option, Some, [], false, if◌then◌else◌, is_some, length, max, nat_le, option_map, slice_get, suc, true, unwrap_or, zero, ℕ, ◌+◌, ◌<◌, ◌==◌, ◌||◌, ◌∷◌, ◌≡◌, ◌≤◌}
+use Rattle.std.specs.Prelude.{Bool, IsTrue, List, None, Option, Some, false, if◌then◌else◌, is_some, length, nat_le, option_map, true, unwrap_or, ℕ, ◌+◌, ◌<◌, ◌≡◌, ◌≤◌}
 
 -- A run that is to be placed
 
@@ -43,14 +41,6 @@ pub may_fit : (table : List LineageState) (line : List Mark) (history : List Kep
 may_fit table line history runs r came (Admitting s parts turn) = let size = parts.its_table.devices in let few = parts.allowed.few_devices in omega (arith, size, few)
 
 -- .. and has those of the run
-device_below : (d size : ℕ) (cs : List Command) → ((k : ℕ) (c : Command) → slice_get cs k ≡ Some c → c.device.0 < size) → list_any (is_on d) cs ≡ true → d < size
-device_below d size [] homed some = absurd (cc)
-device_below d size (c ∷ cs) homed some = at (c.device.0 == d) refl some (device_below d size cs (λ k e there. homed (suc k) e there))
-  where
-    at : (b : Bool) → (c.device.0 == d) ≡ b → (b || list_any (is_on d) cs) ≡ true → (list_any (is_on d) cs ≡ true → d < size) → d < size
-    at true e some behind = let same : c.device.0 ≡ d = grind (arith, common_steps) in let here : c.device.0 < size = homed zero c refl in subst (λ k. k < size) same here
-    at false e some behind = behind some
-
 pub may_reach : (table : List LineageState) (line : List Mark) (history : List Kept) (runs : List Run) (r came : ℕ) → MayAdmit table line history runs r came → (d : ℕ) → touches runs r d ≡ true → d < length table
 may_reach table line history runs r came (Admitting s parts turn) d on =
     let size = parts.its_table.devices in
@@ -94,33 +84,6 @@ placing_is w n g r m = at (denial_of w n g r)
         waited : (b : Bool) → placing_of n.line (if b then Patience else Denied (device_no x.device) (run_no x.run)) ≡ (if b then PlacedAt (split_at n.line (length n.line)) else DeniedBy x.device x.run)
         waited true = refl
         waited false = refl
-
--- the place is one of the line
-
-last_within : (test : Item → Bool) (is : List Item) → up_to_last test is ≤ length is
-last_within test [] = omega arith
-last_within test (i ∷ is) = at (list_any test (i ∷ is)) (last_within test is)
-  where
-    at : (b : Bool) → up_to_last test is ≤ length is → (if b then up_to_last test is + 1 else 0) ≤ length (i ∷ is)
-    at true behind = omega (arith, behind)
-    at false behind = omega arith
-
-first_within : (test : Item → Bool) (is : List Item) → up_to_first test is ≤ length is
-first_within test [] = omega arith
-first_within test (i ∷ is) = at (test i) (first_within test is)
-  where
-    at : (b : Bool) → up_to_first test is ≤ length is → (if b then 0 else up_to_first test is + 1) ≤ length (i ∷ is)
-    at true behind = omega arith
-    at false behind = omega (arith, behind)
-
-place_within : (w : Setting) (n : Reading) (g : Grips) (r : ℕ) → first_place w n g r ≤ length n.line
-place_within w n g r =
-    let last = last_within (binds w n g r) n.line in
-    let live = first_within (of_run (is_live n)) n.line in
-    both (up_to_last (binds w n g r) n.line) (up_to_first (of_run (is_live n)) n.line) (length n.line) last live
-  where
-    both : (a b c : ℕ) → a ≤ c → b ≤ c → max a b ≤ c
-    both a b c e h = omega (arith, e, h)
 
 -- The clauses
 

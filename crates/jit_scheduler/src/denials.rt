@@ -3,12 +3,10 @@ ghost use Rattle.command_rules.specs.Rosters.{is_run, runs_of, touches};
 ghost use Rattle.home_types.specs.Limits.{most_devices};
 ghost use Rattle.jit_scheduler.specs.Denials.{denier, first_denial, only_before, stands_before};
 ghost use Rattle.lineage_table.specs.Lineages.{accesses_at};
-ghost use Rattle.lock_leasing.specs.Holders.{access_holds, holder_before};
+ghost use Rattle.lock_leasing.specs.Holders.{holder_before};
 
-use history_book::Book;
 use home_types::{DeviceNo, Item, RunNo};
-use lineage_table::{Access, Status};
-use lock_leasing::Standing;
+use lock_leasing::{Standing, first_holder};
 use serial_line::Line;
 
 /// A device that is denied, and the run by which it is.
@@ -54,31 +52,11 @@ fn find_holder_before(s: &Standing, d: DeviceNo, r: RunNo, place: u32) -> Option
     requires { d.0 < length s.now.table.now }
     ensures { result ≡ only_before place s.now.line.now.marks (holder_before s.now.book.now.items r.0 (accesses_at s.now.table.now d.0)) }
 {
-    let x = find_holder(s, d, r)?;
+    let x = first_holder(s, d, r)?;
     if stands_before(s.line, x, place) {
         Some(x)
     } else {
         None
-    }
-}
-
-/// The first run with an access to the device, before that of `r` if it has one, that holds it.
-fn find_holder(s: &Standing, d: DeviceNo, r: RunNo) -> Option<RunNo>
-    requires { d.0 < length s.now.table.now }
-    ensures { result ≡ holder_before s.now.book.now.items r.0 (accesses_at s.now.table.now d.0) }
-{
-    let writer = s.table.effective_writer(d);
-    s.table
-        .first_before(d, r, |access| holds(s.book, writer, access))
-}
-
-/// Whether the run of an access holds the device, whose effective writer is `writer`.
-fn holds(book: &Book, writer: Option<RunNo>, access: Access) -> bool
-    ensures { result ≡ access_holds book.now.items writer access }
-{
-    match book.doom_of(access.run) {
-        Some(_) => writer == Some(access.run),
-        None => access.status != Status::Released,
     }
 }
 

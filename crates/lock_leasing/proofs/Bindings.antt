@@ -45,7 +45,7 @@ any_at p [] k x at passes = absurd (cc)
 any_at p (y ∷ ys) zero x at passes = let same : y ≡ x = ap (λ o. unwrap_or o x) at in let here : p y ≡ true = ap p same ∙ passes in rw here refl
 any_at p (y ∷ ys) (suc k) x at passes = let rest : list_any p ys ≡ true = any_at p ys k x at passes in grind (arith, common_steps)
 
-any_filter : {A : Type 0} (p t : A → Bool) (xs : List A) → list_any p (filter t xs) ≡ list_any (λ x. t x && p x) xs
+pub any_filter : {A : Type 0} (p t : A → Bool) (xs : List A) → list_any p (filter t xs) ≡ list_any (λ x. t x && p x) xs
 any_filter p t [] = refl
 any_filter {A} p t (x ∷ xs) = at (t x) (any_filter p t xs)
   where
@@ -53,7 +53,7 @@ any_filter {A} p t (x ∷ xs) = at (t x) (any_filter p t xs)
     at true rest = ap (λ b. p x || b) rest
     at false rest = rest
 
-any_range : (q : ℕ → Bool) (a k d : ℕ) → a ≤ d → d < a + k → q d ≡ true → list_any q (range_with_len a k) ≡ true
+pub any_range : (q : ℕ → Bool) (a k d : ℕ) → a ≤ d → d < a + k → q d ≡ true → list_any q (range_with_len a k) ≡ true
 any_range q a zero d from below passes = absurd (omega (arith, from, below))
 any_range q a (suc k) d from below passes = at (a == d) refl (λ next. any_range q (a + 1) k d next (omega (arith, below)) passes)
   where

@@ -1,24 +1,12 @@
 -- Counts of items of the line, as its touches and the history's ends tell them.
 use Rattle.command_rules.proofs.LastPlaces.{last_told, last_within}
-use Rattle.command_rules.specs.Rosters.{followed_by, is_run, plain_run, runs_of}
-use Rattle.command_rules.specs.declared.rosters.Roster.{Roster}
-use Rattle.command_rules.specs.declared.rosters.RosterRun.{RosterRun}
 use Rattle.home_types.specs.declared.items.Item.{Item}
 use Rattle.serial_line.proofs.Once.{place_is, place_unfound}
 use Rattle.serial_line.specs.Marks.{Mark, all_differ, is_item, items_of, place_of, untouched}
 use Rattle.command_rules.specs.Searches.{last_place}
-use Rattle.std.proofs.Common.{ap, arith, refl, sym, ◌∙◌}
-use Rattle.std.proofs.lemmas.Option.{slice_get-map}
+use Rattle.std.proofs.Common.{ap, refl, sym, ◌∙◌}
 use Rattle.std.specs.Option.{option_or}
-use Rattle.std.specs.Prelude.{IsTrue, List, None, Option, Some, [], if◌then◌else◌, option_map, slice_get, suc, true, zero, ℕ, ◌+◌, ◌-◌, ◌∷◌, ◌≡◌}
-
--- the run with the number r stands at the place before r
-pub followed_by-run : (roster : Roster) (r : ℕ) (run : RosterRun) → IsTrue (is_run (runs_of roster) r) → slice_get roster.runs.items (r - 1) ≡ Some run → run.follows ≡ followed_by (runs_of roster) r
-followed_by-run roster zero run there at = absurd (cc)
-followed_by-run roster (suc i) run there at =
-    let same : i ≡ suc i - 1 = omega arith in
-    let found : slice_get roster.runs.items i ≡ Some run = ap (slice_get roster.runs.items) same ∙ at in
-    rw (slice_get-map plain_run roster.runs.items i, found) refl
+use Rattle.std.specs.Prelude.{List, None, Option, Some, [], if◌then◌else◌, option_map, true, ℕ, ◌+◌, ◌∷◌, ◌≡◌}
 
 -- the last place of an item that stands once is its place
 pub place_last : (x : Item) (ms : List Mark) → all_differ (items_of ms) ≡ true → place_of x ms ≡ last_place (is_item x) (items_of ms)

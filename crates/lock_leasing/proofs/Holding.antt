@@ -51,7 +51,7 @@ module _ (w : Setting) (n : Reading) (g : Grips) (f : Facts w n g) (d : ℕ) whe
   HasIfHeld held r i is = of_run (λ q. (is_live n q && held q) || (q == r)) i ≡ true → (of_run (uses w n d) i && not (list_any (covers n d) is)) ≡ true
 
   -- an access tells the test of its run
-  abbrev TellsTest : (ℕ → Bool) → (Access → Bool) → Type 0
+  abbrev pub TellsTest : (ℕ → Bool) → (Access → Bool) → Type 0
   TellsTest held test = (x : Access) (rest : List Access) → TellsOfRun w n g d x rest → uses w n d x.run.0 ≡ true → test x ≡ held x.run.0
 
   abbrev Same : (ℕ → Bool) → (Access → Bool) → ℕ → List Item → List Access → Type 0
@@ -163,18 +163,28 @@ module _ (w : Setting) (n : Reading) (g : Grips) (f : Facts w n g) (d : ℕ) whe
       each (Failed e k) is has yes' = absurd (cc)
       each (Back e k) is has yes' = absurd (cc)
 
+  -- a run that is not doomed holds the device where its access is not released
+  pub sound_holds : (x : Access) (rest : List Access) → TellsOfRun w n g d x rest → uses w n d x.run.0 ≡ true → is_doomed n x.run.0 ≡ false → not (is_released x.status) ≡ holds_device w n g x.run.0 d
+  sound_holds x rest tells used e = ap (λ s. not (is_released s)) (tells.status (rw e refl)) ∙ by_status (did n r d) (pends w n r d) (grips_command g r d) refl refl refl ∙ whole (grind (arith, common_steps))
+    where
+      r : ℕ
+      r = x.run.0
+
+      by_status : (a b c : Bool) → did n r d ≡ a → pends w n r d ≡ b → grips_command g r d ≡ c → not (is_released (status_by_answers w n g r d)) ≡ pends w n r d
+      by_status true true c e1 e2 e3 = rw (e1, e, e2) refl
+      by_status true false true e1 e2 e3 = absurd (cc (command_pends w n g r d f e3, e2))
+      by_status true false false e1 e2 e3 = rw (e1, e, e2, e3) refl
+      by_status false true c e1 e2 e3 = rw (e1, e2) refl
+      by_status false false c e1 e2 e3 = absurd (grind (arith, common_steps))
+
+      whole : is_live n r ≡ true → pends w n r d ≡ holds_device w n g r d
+      whole live = rw (live, e) refl
+
   tells_holds : (history : List Kept) (writer : Option RunNo) → ((r : ℕ) → is_some (doom_of history r) ≡ is_doomed n r) → run_in w n g f d writer ≡ live_writer w n g f d (effective_write n g d) → TellsTest (λ q. holds_device w n g q d) (access_holds history writer)
   tells_holds history writer dooms same x rest tells used = at (is_doomed n x.run.0) refl
     where
       r : ℕ
       r = x.run.0
-
-      by_status : (a b c : Bool) → did n r d ≡ a → pends w n r d ≡ b → grips_command g r d ≡ c → is_doomed n r ≡ false → not (is_released (status_by_answers w n g r d)) ≡ pends w n r d
-      by_status true true c e1 e2 e3 sound = rw (e1, sound, e2) refl
-      by_status true false true e1 e2 e3 sound = absurd (cc (command_pends w n g r d f e3, e2))
-      by_status true false false e1 e2 e3 sound = rw (e1, sound, e2, e3) refl
-      by_status false true c e1 e2 e3 sound = rw (e1, e2) refl
-      by_status false false c e1 e2 e3 sound = absurd (grind (arith, common_steps))
 
       at : (b : Bool) → is_doomed n r ≡ b → access_holds history writer x ≡ holds_device w n g r d
       at true e =
@@ -186,20 +196,20 @@ module _ (w : Setting) (n : Reading) (g : Grips) (f : Facts w n g) (d : ℕ) whe
           whole live on = rw (live, e, on) refl
       at false e =
           let sound : is_some (doom_of history r) ≡ false = dooms r ∙ e in
-          let status : x.status ≡ status_by_answers w n g r d = tells.status (rw e refl) in
-          ap (λ b. if b then is_writer writer x else not (is_released x.status)) sound
-          ∙ ap (λ s. not (is_released s)) status
-          ∙ by_status (did n r d) (pends w n r d) (grips_command g r d) refl refl refl e
-          ∙ whole (grind (arith, common_steps))
-        where
-          whole : is_live n r ≡ true → pends w n r d ≡ holds_device w n g r d
-          whole live = rw (live, e) refl
+          ap (λ b. if b then is_writer writer x else not (is_released x.status)) sound ∙ sound_holds x rest tells used e
+
+  -- the first run before r of which a test holds that asks that the run holds the device
+  pub first_holder : (held : ℕ → Bool) (test : Access → Bool) (r : ℕ) (xs : List Access) → ((q : ℕ) → held q ≡ true → holds_device w n g q d ≡ true) → TellsTest held test → is_open w n r d ≡ true
+      → map (λ x. x.run.0) xs ≡ runs_with_access w n d n.line → EachTellsOfRun w n g d xs → run_in w n g f d (first_before test r xs) ≡ find held (live_before n r)
+  first_holder held test r xs holds tells opened runs told = walk_same held test r tells n.line xs (has_if held r opened (λ q yes'. holds_works q (both q yes'))) (runs, told)
+    where
+      both : (q : ℕ) → (is_live n q && held q) ≡ true → (is_live n q && holds_device w n g q d) ≡ true
+      both q yes' = let holding : holds_device w n g q d ≡ true = holds q (grind (arith, common_steps)) in grind (arith, common_steps)
 
   pub holder_is : (history : List Kept) (r : ℕ) (xs : List Access) → ((q : ℕ) → is_some (doom_of history q) ≡ is_doomed n q) → is_open w n r d ≡ true
       → map (λ x. x.run.0) xs ≡ runs_with_access w n d n.line → EachTellsOfRun w n g d xs → run_in w n g f d (holder_before history r xs) ≡ behind_wait w n g r d
   holder_is history r xs dooms opened runs tells =
-      walk_same (λ q. holds_device w n g q d) (access_holds history (effective_writer xs)) r (tells_holds history (effective_writer xs) dooms (writer_is w n g f d xs runs tells)) n.line xs
-      (has_if (λ q. holds_device w n g q d) r opened holds_works) (runs, tells)
+      first_holder (λ q. holds_device w n g q d) (access_holds history (effective_writer xs)) r xs (λ q yes'. yes') (tells_holds history (effective_writer xs) dooms (writer_is w n g f d xs runs tells)) opened runs tells
 
   -- A dirty read
 

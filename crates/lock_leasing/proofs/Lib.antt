@@ -9,3 +9,6 @@ pub mod Holding
 pub mod Meetings
 pub mod Floors
 pub mod Bindings
+pub mod Borrowers
+pub mod ClearPlaces
+pub mod TouchCounts

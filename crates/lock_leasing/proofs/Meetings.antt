@@ -11,7 +11,7 @@ use Rattle.lock_leasing.proofs.Facts.{facts_of, live_stands, next_is_left}
 use Rattle.lock_leasing.proofs.Holding.{dirty_is, holder_is}
 use Rattle.lock_leasing.specs.Configurations.{Configuration, read_of}
 use Rattle.lock_leasing.specs.Holders.{dirty_writer, holder_before}
-use Rattle.lock_leasing.specs.Standings.{IsAtCommand, IsStandingOf, MayTouch, Touching}
+use Rattle.lock_leasing.specs.Standings.{IsAsking, IsAtCommand, IsStandingOf, MayTouch, Touching}
 use Rattle.lock_leasing.specs.Tables.{IsLineageOf}
 use Rattle.lock_leasing.specs.Touches.{IsTouchOf, touch_by, touch_of}
 use Rattle.lock_leasing.specs.declared.touches.Touch.TheVariants.{Behind, Dirty, Free}
@@ -39,6 +39,18 @@ item_same {A} xs ys k d e same within = ap (λ l. slice_index_or l k d) same ∙
 own_run : (r : ℕ) → (r == r) ≡ true
 own_run r = grind (arith, common_steps)
 
+-- A run at a command asks for its device, and a run that asks for a device has more to do there
+
+pub asks_at : (s : Configuration) (r c : ℕ) → IsAtCommand s r c → IsAsking s r (command_at s.setting.runs r c).device.0
+asks_at s r c turn =
+    let on : unwrap_or (option_map (is_on (command_at s.setting.runs r c).device.0) (slice_get (commands_of s.setting.runs r) c)) false ≡ true = ap (λ o. unwrap_or (option_map (is_on (command_at s.setting.runs r c).device.0) o) false) (item_there (commands_of s.setting.runs r) c no_command turn.command) ∙ own_run (command_at s.setting.runs r c).device.0 in
+    record { live = turn.live; sound = turn.sound; next = ap (λ k. unwrap_or (option_map (is_on (command_at s.setting.runs r c).device.0) (slice_get (commands_of s.setting.runs r) k)) false) turn.next ∙ on }
+
+pub asking_opens : (s : Configuration) (r d : ℕ) → IsAsking s r d → is_open s.setting (read_of s) r d ≡ true
+asking_opens s r d turn = let pending = next_is_left d (commands_of s.setting.runs r) (next_of (read_of s) r) turn.next in rw (turn.live, turn.sound, pending) refl
+
+-- What it meets
+
 module _ (s : Configuration) (table : List LineageState) (line : List Mark) (r c : ℕ) (parts : IsStandingOf s table line s.history s.setting.runs) (turn : IsAtCommand s r c) where
   -- the command's device is one of the home
   homed_at : (command_at s.setting.runs r c).device.0 < length s.setting.first
@@ -48,10 +60,7 @@ module _ (s : Configuration) (table : List LineageState) (line : List Mark) (r c
   lineage = parts.its_table.each (command_at s.setting.runs r c).device.0 homed_at
 
   opened : is_open s.setting (read_of s) r (command_at s.setting.runs r c).device.0 ≡ true
-  opened =
-      let on : unwrap_or (option_map (is_on (command_at s.setting.runs r c).device.0) (slice_get (commands_of s.setting.runs r) c)) false ≡ true = ap (λ o. unwrap_or (option_map (is_on (command_at s.setting.runs r c).device.0) o) false) (item_there (commands_of s.setting.runs r) c no_command turn.command) ∙ own_run (command_at s.setting.runs r c).device.0 in
-      let pending = next_is_left (command_at s.setting.runs r c).device.0 (commands_of s.setting.runs r) (next_of (read_of s) r) (ap (λ k. unwrap_or (option_map (is_on (command_at s.setting.runs r c).device.0) (slice_get (commands_of s.setting.runs r) k)) false) turn.next ∙ on) in
-      rw (turn.live, turn.sound, pending) refl
+  opened = asking_opens s r (command_at s.setting.runs r c).device.0 (asks_at s r c turn)
 
   among : list_any (is_ran r) (read_of s).line ≡ true
   among = let f = facts_of s table line s.history s.setting.runs parts in f.line.line r ∙ live_stands (read_of s) r turn.live

@@ -7,5 +7,6 @@ pub mod Tables
 pub mod Standings
 pub mod Touches
 pub mod Holders
+pub mod Leases
 pub mod Counts
 pub mod FirstPlaces

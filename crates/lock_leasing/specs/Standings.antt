@@ -9,14 +9,14 @@ use Rattle.home_types.specs.declared.commands.Command.{Command}
 use Rattle.home_types.specs.declared.items.Item.TheVariants.{Back, Failed, Ran}
 use Rattle.home_types.specs.declared.items.Item.{Item}
 use Rattle.home_types.specs.declared.numbers.RunNo.{RunNo}
-use Rattle.lineage_table.specs.Accesses.{IsDisciplined}
+use Rattle.lineage_table.specs.Accesses.{IsDisciplined, has_access}
 use Rattle.lineage_table.specs.Lineages.{LineageState, accesses_at}
 use Rattle.lock_leasing.specs.Configurations.{Configuration, Grips, read_of}
 use Rattle.lock_leasing.specs.Order.{OrderStands}
 use Rattle.lock_leasing.specs.Places.{MayBeOut}
 use Rattle.lock_leasing.specs.Tables.{Represents}
 use Rattle.lock_leasing.specs.Words.{has_touched}
-use Rattle.history_book.specs.Readings.{Reading, is_doomed, is_live, next_of}
+use Rattle.history_book.specs.Readings.{Reading, is_doomed, is_live, is_next_on, next_of}
 use Rattle.serial_line.specs.Marks.{Mark}
 use Rattle.serial_line.specs.Ties.{IsLineOf}
 use Rattle.std.specs.Prelude.{Bool, List, Some, [], false, is_some, length, slice_get, true, ℕ, ◌<◌, ◌==◌, ◌≡◌, ◌≤◌}
@@ -77,3 +77,17 @@ pub record IsAtCommand (s : Configuration) (r c : ℕ) : Type 0 where
 -- the parts belong to one window, which is not of the weak model, and the run may do this command
 pub data MayTouch (table : List LineageState) (line : List Mark) (history : List Kept) (runs : List Run) (r c : ℕ) : Type 0 where
   Touching : (s : Configuration) (parts : IsStandingOf s table line history runs) (turn : IsAtCommand s r c) → MayTouch table line history runs r c
+
+-- the run may do its next command, which is on the device
+pub record IsAsking (s : Configuration) (r d : ℕ) : Type 0 where
+  pub live : is_live (read_of s) r ≡ true
+  pub sound : is_doomed (read_of s) r ≡ false
+  pub next : is_next_on s.setting (read_of s) r d ≡ true
+
+-- the parts belong to one window, which is not of the weak model, and the run asks for the device
+pub data MayAsk (table : List LineageState) (line : List Mark) (history : List Kept) (runs : List Run) (r d : ℕ) : Type 0 where
+  Asking : (s : Configuration) (parts : IsStandingOf s table line history runs) (turn : IsAsking s r d) → MayAsk table line history runs r d
+
+-- the parts belong to one window, which is not of the weak model, and the run has an access to the device
+pub data MayLease (table : List LineageState) (line : List Mark) (history : List Kept) (runs : List Run) (r d : ℕ) : Type 0 where
+  Leasing : (s : Configuration) (parts : IsStandingOf s table line history runs) (access : has_access r (accesses_at table d) ≡ true) → MayLease table line history runs r d

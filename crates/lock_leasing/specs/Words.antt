@@ -105,6 +105,14 @@ lease_deadline w n r d = min (planned_end (n.run r).planned d + tenth_up (estima
 abbrev pub stamp_of : Reading → ℕ → ℕ
 stamp_of n r = unwrap_or (option_map (λ p. p.stamp) (n.run r).placed) 0
 
+-- x, which stands before r, has the device on a lease from it: x was placed later, holds the device, and is not doomed
+abbrev pub is_borrower : Setting → Reading → Grips → ℕ → ℕ → ℕ → Bool
+is_borrower w n g r d x = not (is_doomed n x) && nat_lt (stamp_of n r) (stamp_of n x) && holds_device w n g x d
+
+-- the first one in line order
+abbrev pub borrower_from : Setting → Reading → Grips → ℕ → ℕ → Option ℕ
+borrower_from w n g r d = find (is_borrower w n g r d) (live_before n r)
+
 -- the lease of x, which stands before r, is overdue for r, whose next command is on the device: x was placed later, holds the device, is not doomed, and the moment is past its deadline
 abbrev pub is_overdue : Setting → Reading → Grips → ℕ → ℕ → ℕ → ℕ → Bool
 is_overdue w n g r d m x = not (is_doomed n x) && nat_lt (stamp_of n r) (stamp_of n x) && holds_device w n g x d && nat_lt (lease_deadline w n x d) m

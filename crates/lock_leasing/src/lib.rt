@@ -2,11 +2,13 @@
 #![tactic(auto)]
 
 mod first_places;
+mod leases;
 mod standings;
 #[cfg(test)]
 mod tests;
 mod touches;
 
 pub use first_places::first_place;
+pub use leases::{deadline, lends, overdue};
 pub use standings::Standing;
-pub use touches::{Touch, test_touch};
+pub use touches::{Touch, first_holder, test_touch};

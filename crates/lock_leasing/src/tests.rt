@@ -1,13 +1,15 @@
-//! The first place of a run: right behind a committed run that has touched its device.
+//! The first place of a run: right behind a committed run that has touched its device. The lease of a run that was placed
+//! in front of another: its deadline, and when it is overdue.
 ghost use Rattle.std.specs.Prelude.{◌≡◌, ◌∷◌, [], IfOk, IsTrue};
 ghost use Rattle.command_rules.specs.Footprints.{FitsIndex};
 ghost use Rattle.command_rules.specs.Rosters.{is_run, runs_of};
 
+use crate::leases::{find_overdue, lease_deadline};
 use crate::{Standing, first_place};
 use command_rules::{IndexedRoster, Roster, RosterRun};
 use history_book::{Book, End, Entry, Kept};
 use home_types::{Command, DeviceNo, Item, Job, List, NoMemory, Routine, RunNo, Stand, World};
-use lineage_table::Table;
+use lineage_table::{Access, Status, Table};
 use serial_line::Line;
 use std::alloc::Global;
 
@@ -37,8 +39,8 @@ fn roster(alloc: Global) -> Result<Roster, NoMemory>
         device: LAMP,
         job: Job::Set(1),
         must: true,
-        ms: 100,
-        takes: 100,
+        ms: 101,
+        takes: 101,
     };
     let mut runs = List::new(alloc);
     runs.push(run(alloc, command)?)?;
@@ -88,5 +90,82 @@ fn floor_counts_ended_runs(rt: HostRuntime) -> Result<(), NoMemory> {
         roster: &roster,
     };
     assert!(rt; first_place(&s, B) == 1);
+    Ok(())
+}
+
+/// The history's two entries: run 2 was placed, and then run 1, in front of it.
+fn placings(alloc: Global) -> Result<Book, NoMemory> {
+    let mut book = Book::new(alloc);
+    book.reserve(2)?;
+    book.push(Kept {
+        maker: B.0,
+        entry: Entry::Placed(B, 0, 0),
+    });
+    book.push(Kept {
+        maker: A.0,
+        entry: Entry::Placed(A, 0, 0),
+    });
+    Ok(book)
+}
+
+/// The access of the run to the lamp: it is planned to be done with it at 101 ms.
+fn access(r: RunNo) -> Access
+    ensures { result.status ≡ Status.Scheduled }
+{
+    Access {
+        run: r,
+        status: Status::Scheduled,
+        view: None,
+        wrote: None,
+        from: 0,
+        to: 101,
+    }
+}
+
+/// The access stands last on the lamp.
+fn schedule(table: &mut Table, access: Access) -> Result<(), NoMemory>
+    requires { access.status ≡ Status.Scheduled }
+{
+    if table.devices() == 0 || table.room(LAMP) == 0 || table.access(LAMP, access.run).is_some() {
+        return Err(NoMemory);
+    }
+    table.schedule(LAMP, None, access);
+    Ok(())
+}
+
+/// The deadline is the planned end, 101 ms, and a tenth of the run's 101 ms, which is 11 rounded up.
+#[test]
+fn lease_ends_a_tenth_after_its_plan(rt: HostRuntime) -> Result<(), NoMemory> {
+    let alloc = rt.alloc();
+    let roster = IndexedRoster::open(alloc, roster(alloc)?)?;
+    assert!(rt; lease_deadline(&roster, LAMP, access(A)) == 112);
+    Ok(())
+}
+
+#[test]
+fn lease_is_overdue_past_its_deadline(rt: HostRuntime) -> Result<(), NoMemory> {
+    let alloc = rt.alloc();
+    let roster = roster(alloc)?;
+    let stand = Stand { value: 0, up: true };
+    let world = World {
+        devices: List::of(alloc, &[stand])?,
+    };
+    let mut table = Table::open(alloc, &world, &roster)?;
+    schedule(&mut table, access(A))?;
+    schedule(&mut table, access(B))?;
+    if table.devices() == 0 {
+        return Err(NoMemory);
+    }
+    let line = Line::new(alloc);
+    let book = placings(alloc)?;
+    let roster = IndexedRoster::open(alloc, roster)?;
+    let s = Standing {
+        table: &table,
+        line: &line,
+        book: &book,
+        roster: &roster,
+    };
+    assert!(rt; find_overdue(&s, B, LAMP, 112) == None);
+    assert!(rt; find_overdue(&s, B, LAMP, 113) == Some(A));
     Ok(())
 }

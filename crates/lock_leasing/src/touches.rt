@@ -33,7 +33,7 @@ pub fn test_touch(s: &Standing, r: RunNo, c: u32) -> Touch
     ensures { IsTouchOf s.now.table.now s.now.line.now.marks s.now.book.now.items (runs_of s.now.roster.now) r.0 c result }
 {
     let command = command_at(s.roster, r, c);
-    match find_holder(s, command.device, r) {
+    match first_holder(s, command.device, r) {
         Some(x) => Touch::Behind(command.device, x),
         None => match find_dirty_writer(s, command, r) {
             Some(x) => Touch::Dirty(command.device, x),
@@ -51,8 +51,10 @@ fn command_at(roster: &IndexedRoster, r: RunNo, c: u32) -> Command
     roster.commands(r)[c as usize]
 }
 
-/// The first run before `r`, among those with an access to the device, that holds it.
-fn find_holder(s: &Standing, d: DeviceNo, r: RunNo) -> Option<RunNo>
+/// The first run that holds the device, among those with an access to it: before that of `r` where it has one.
+///
+/// Takes no memory, and reads of the history no more than its dooms.
+pub fn first_holder(s: &Standing, d: DeviceNo, r: RunNo) -> Option<RunNo>
     requires { d.0 < length s.now.table.now }
     ensures { result ≡ holder_before s.now.book.now.items r.0 (accesses_at s.now.table.now d.0) }
 {

@@ -1,0 +1,204 @@
+-- Leases, as parts that belong to one window tell them.
+use Rattle.command_rules.specs.Rosters.{Run, commands_of, estimate_to_last, is_on, run_no}
+use Rattle.history_book.proofs.Told.{doom_is, placing_is}
+use Rattle.history_book.specs.Books.{doom_of}
+use Rattle.history_book.specs.Plans.{greatest}
+use Rattle.history_book.specs.Readings.{Reading, is_doomed, next_of}
+use Rattle.history_book.specs.Settings.{Setting}
+use Rattle.history_book.specs.declared.entries.Cause.{Cause}
+use Rattle.history_book.specs.declared.entries.Kept.{Kept}
+use Rattle.home_types.specs.declared.commands.Command.{Command}
+use Rattle.home_types.specs.declared.numbers.RunNo.{RunNo}
+use Rattle.lineage_table.proofs.RunAccesses.{found_has}
+use Rattle.lineage_table.proofs.RunSets.{has_homed}
+use Rattle.lineage_table.specs.Accesses.{access_of, before, first_before, has_access, is_released}
+use Rattle.lineage_table.specs.Lineages.{LineageState, accesses_at}
+use Rattle.lineage_table.specs.declared.accesses.Access.{Access}
+use Rattle.lock_leasing.proofs.Facts.{Facts, facts_of}
+use Rattle.lock_leasing.proofs.Holding.{TellsTest, first_holder, sound_holds}
+use Rattle.lock_leasing.proofs.Meetings.{asking_opens}
+use Rattle.lock_leasing.specs.Configurations.{Configuration, Grips, read_of}
+use Rattle.lock_leasing.specs.Leases.{IsBorrowedFrom, IsDeadlineOf, IsNeverOverdue, IsOverdueOf, access_borrows, access_deadline, access_is_overdue, placed_at}
+use Rattle.lock_leasing.specs.Standings.{Asking, IsAsking, IsStandingOf, Leasing, MayAsk, MayLease}
+use Rattle.lock_leasing.specs.Tables.{EachTellsOfRun, TellsOfRun}
+use Rattle.lock_leasing.specs.Words.{borrower_from, holds_device, is_borrower, is_overdue, lease_deadline, live_before, overdue_for, stamp_of, tenth_up}
+use Rattle.serial_line.specs.Marks.{Mark}
+use Rattle.std.proofs.Common.{ap, ap₂, arith, cond, refl, subst, sym, ◌∙◌}
+use Rattle.std.proofs.lemmas.Grind.{common_steps}
+use Rattle.std.specs.Prelude.{Bool, List, None, Option, Some, [], false, find, is_none, is_some, length, min, nat_lt, not, option_map, slice_get, true, unwrap_or, ℕ, ◌&&◌, ◌+◌, ◌<◌, ◌==◌, ◌||◌, ◌∷◌, ◌≡◌}
+
+-- A lease that is overdue is one
+
+pub overdue_borrows : (w : Setting) (n : Reading) (g : Grips) (r d m x : ℕ) → is_overdue w n g r d m x ≡ (is_borrower w n g r d x && nat_lt (lease_deadline w n x d) m)
+overdue_borrows w n g r d m x = at (is_doomed n x) (nat_lt (stamp_of n r) (stamp_of n x)) (holds_device w n g x d)
+  where
+    at : (a b c : Bool) → (not a && b && c && nat_lt (lease_deadline w n x d) m) ≡ ((not a && b && c) && nat_lt (lease_deadline w n x d) m)
+    at true b c = refl
+    at false true true = refl
+    at false true false = refl
+    at false false c = refl
+
+-- where no run has the device on a lease from r, none is overdue
+pub never_overdue : (w : Setting) (n : Reading) (g : Grips) (r d m : ℕ) → is_some (borrower_from w n g r d) ≡ false → overdue_for w n g r d m ≡ None
+never_overdue w n g r d m none = walk (live_before n r) none
+  where
+    walk : (xs : List ℕ) → is_some (find (is_borrower w n g r d) xs) ≡ false → find (is_overdue w n g r d m) xs ≡ None
+    walk [] none = refl
+    walk (x ∷ xs) none = at (is_borrower w n g r d x) refl (walk xs) none
+      where
+        at : (b : Bool) → is_borrower w n g r d x ≡ b → (is_some (find (is_borrower w n g r d) xs) ≡ false → find (is_overdue w n g r d m) xs ≡ None) → is_some (cond b (Some x) (find (is_borrower w n g r d) xs)) ≡ false → cond (is_overdue w n g r d m x) (Some x) (find (is_overdue w n g r d m) xs) ≡ None
+        at true e rest none = absurd (cc)
+        at false e rest none = let current : is_overdue w n g r d m x ≡ false = overdue_borrows w n g r d m x ∙ ap (λ b. b && nat_lt (lease_deadline w n x d) m) e in ap (λ b. cond b (Some x) (find (is_overdue w n g r d m) xs)) current ∙ rest none
+
+-- Accesses
+
+-- what the history tells of dooms and placings is what was read
+record IsTold (n : Reading) (history : List Kept) : Type 0 where
+  dooms : (q : ℕ) → is_some (doom_of history q) ≡ is_doomed n q
+  placings : (q : ℕ) → placed_at history q ≡ stamp_of n q
+
+module _ (w : Setting) (n : Reading) (g : Grips) (f : Facts w n g) (d : ℕ) (history : List Kept) (told : IsTold n history) where
+  tells_borrower : (r : ℕ) → TellsTest w n g f d (is_borrower w n g r d) (access_borrows history (placed_at history r))
+  tells_borrower r x rest tells used = turned (not (is_released x.status)) (nat_lt (placed_at history r) (placed_at history x.run.0)) (is_none (doom_of history x.run.0)) ∙ at (is_doomed n x.run.0) refl
+    where
+      unsome : (o : Option Cause) → is_none o ≡ not (is_some o)
+      unsome None = refl
+      unsome (Some c) = refl
+
+      sound : is_none (doom_of history x.run.0) ≡ not (is_doomed n x.run.0)
+      sound = unsome (doom_of history x.run.0) ∙ ap not (told.dooms x.run.0)
+
+      later : nat_lt (placed_at history r) (placed_at history x.run.0) ≡ nat_lt (stamp_of n r) (stamp_of n x.run.0)
+      later = ap₂ nat_lt (told.placings r) (told.placings x.run.0)
+
+      turned : (a b c : Bool) → (a && b && c) ≡ (c && b && a)
+      turned a b c = grind (arith, common_steps)
+
+      at : (b : Bool) → is_doomed n x.run.0 ≡ b → (is_none (doom_of history x.run.0) && nat_lt (placed_at history r) (placed_at history x.run.0) && not (is_released x.status)) ≡ is_borrower w n g r d x.run.0
+      at true e = rw (sound, e) refl
+      at false e = ap₂ (λ a b. a && nat_lt (placed_at history r) (placed_at history x.run.0) && b) sound (sound_holds w n g f d x rest tells used e) ∙ ap (λ b. not (is_doomed n x.run.0) && b && holds_device w n g x.run.0 d) later
+
+  deadline_told : (x : Access) (rest : List Access) → TellsOfRun w n g d x rest → access_deadline w.runs d x ≡ lease_deadline w n x.run.0 d
+  deadline_told x rest tells = ap (λ t. min (t + tenth_up (estimate_to_last d (commands_of w.runs x.run.0))) greatest) tells.to
+
+  tells_overdue : (r m : ℕ) → TellsTest w n g f d (is_overdue w n g r d m) (access_is_overdue w.runs history (placed_at history r) d m)
+  tells_overdue r m x rest tells used =
+      ap₂ (λ b t. b && nat_lt t m) (tells_borrower r x rest tells used) (deadline_told x rest tells) ∙ sym (overdue_borrows w n g r d m x.run.0)
+
+  borrower_holds : (r q : ℕ) → is_borrower w n g r d q ≡ true → holds_device w n g q d ≡ true
+  borrower_holds r q yes' = grind (arith, common_steps)
+
+  overdue_holds : (r m q : ℕ) → is_overdue w n g r d m q ≡ true → holds_device w n g q d ≡ true
+  overdue_holds r m q yes' = grind (arith, common_steps)
+
+  -- the deadline of a run's lease, by its access
+  own_deadline : (r : ℕ) (xs : List Access) (x : Access) → EachTellsOfRun w n g d xs → access_of r xs ≡ Some x → access_deadline w.runs d x ≡ lease_deadline w n r d
+  own_deadline r [] x all found = absurd (cc)
+  own_deadline r (y ∷ ys) x all found = at (y.run.0 == r) refl (own_deadline r ys x all.1) found
+    where
+      at : (b : Bool) → (y.run.0 == r) ≡ b → (access_of r ys ≡ Some x → access_deadline w.runs d x ≡ lease_deadline w n r d) → cond b (Some y) (access_of r ys) ≡ Some x → access_deadline w.runs d x ≡ lease_deadline w n r d
+      at true e rest found =
+          let own : y.run.0 ≡ r = grind (arith, common_steps) in
+          let same : y ≡ x = ap (λ o. unwrap_or o y) found in
+          subst (λ z. access_deadline w.runs d z ≡ lease_deadline w n r d) same (deadline_told y ys all.0 ∙ ap (λ q. lease_deadline w n q d) own)
+      at false e rest found = rest found
+
+-- a run that is found has an access
+pub found_access : (test : Access → Bool) (r : ℕ) (xs : List Access) (q : RunNo) → first_before test r xs ≡ Some q → has_access q.0 xs ≡ true
+found_access test r [] q found = absurd (cc)
+found_access test r (x ∷ xs) q found = at (x.run.0 == r) (test x) refl (found_access test r xs q) found
+  where
+    at : (a b : Bool) → test x ≡ b → (first_before test r xs ≡ Some q → has_access q.0 xs ≡ true) → option_map (λ y. y.run) (find test (cond a [] (x ∷ before r xs))) ≡ Some q → ((x.run.0 == q.0) || has_access q.0 xs) ≡ true
+    at true b e behind found = absurd (cc)
+    at false true e behind found =
+        let head : option_map (λ y. y.run) (cond true (Some x) (find test (before r xs))) ≡ Some q = ap (λ c. option_map (λ y. y.run) (cond c (Some x) (find test (before r xs)))) (sym e) ∙ found in
+        let same : x.run ≡ q = ap (λ o. unwrap_or o q) head in
+        let own : (x.run.0 == x.run.0) ≡ true = grind (arith, common_steps) in
+        let its : (x.run.0 == q.0) ≡ true = subst (λ z. (x.run.0 == z.0) ≡ true) same own in
+        rw its refl
+    at false false e behind found =
+        let tail : option_map (λ y. y.run) (find test (before r xs)) ≡ Some q = ap (λ c. option_map (λ y. y.run) (cond c (Some x) (find test (before r xs)))) (sym e) ∙ found in
+        let rest : has_access q.0 xs ≡ true = behind tail in
+        grind (arith, common_steps)
+
+-- A configuration to which the parts belong
+
+told_of : (s : Configuration) (table : List LineageState) (line : List Mark) (history : List Kept) (runs : List Run) → IsStandingOf s table line history runs → IsTold (read_of s) history
+told_of s table line history runs parts = record {
+  dooms = λ q. ap (λ h. is_some (doom_of h q)) (sym parts.its_history) ∙ ap is_some (doom_is s.setting s.history q parts.well_formed);
+  placings = λ q. ap (λ h. placed_at h q) (sym parts.its_history) ∙ ap (λ o. unwrap_or o 0) (placing_is s.setting s.history q parts.well_formed);
+}
+
+-- the device for which a run asks is one of the home
+next_homed : (devices d k : ℕ) (cs : List Command) → ((i : ℕ) (c : Command) → slice_get cs i ≡ Some c → c.device.0 < devices) → unwrap_or (option_map (is_on d) (slice_get cs k)) false ≡ true → d < devices
+next_homed devices d k cs homed on = at (slice_get cs k) refl on
+  where
+    at : (o : Option Command) → slice_get cs k ≡ o → unwrap_or (option_map (is_on d) o) false ≡ true → d < devices
+    at None e on = absurd (cc)
+    at (Some c) e on = let own : c.device.0 ≡ d = grind (arith, common_steps) in subst (λ i. i < devices) own (homed k c e)
+
+asking_homed : (s : Configuration) (table : List LineageState) (line : List Mark) (history : List Kept) (runs : List Run) (r d : ℕ) → IsStandingOf s table line history runs → IsAsking s r d → d < length s.setting.first
+asking_homed s table line history runs r d parts turn = next_homed (length s.setting.first) d (next_of (read_of s) r) (commands_of s.setting.runs r) (parts.allowed.homed r) turn.next
+
+-- the run that is found has a lease
+pub found_leases : (table : List LineageState) (line : List Mark) (history : List Kept) (runs : List Run) (test : Access → Bool) (r d : ℕ) (x : RunNo) → MayAsk table line history runs r d → Some x ≡ first_before test r (accesses_at table d) → MayLease table line history runs x.0 d
+found_leases table line history runs test r d x (Asking s parts turn) found = Leasing s parts (found_access test r (accesses_at table d) x (sym found))
+
+-- What is found
+
+overdue_is : (table : List LineageState) (line : List Mark) (history : List Kept) (runs : List Run) (r d m : ℕ) (s : Configuration) → IsStandingOf s table line history runs → IsAsking s r d
+    → option_map (λ q. q.0) (first_before (access_is_overdue runs history (placed_at history r) d m) r (accesses_at table d)) ≡ overdue_for s.setting (read_of s) s.grips r d m
+overdue_is table line history runs r d m s parts turn =
+    let f = facts_of s table line history runs parts in
+    let told = told_of s table line history runs parts in
+    let its = parts.its_table.each d (asking_homed s table line history runs r d parts turn) in
+    ap (λ rs. option_map (λ q. q.0) (first_before (access_is_overdue rs history (placed_at history r) d m) r (accesses_at table d))) (sym parts.its_roster)
+    ∙ first_holder s.setting (read_of s) s.grips f d (is_overdue s.setting (read_of s) s.grips r d m) (access_is_overdue s.setting.runs history (placed_at history r) d m) r (accesses_at table d)
+    (overdue_holds s.setting (read_of s) s.grips f d history told r m) (tells_overdue s.setting (read_of s) s.grips f d history told r m) (asking_opens s r d turn) its.runs its.each
+
+pub overdue_none : (table : List LineageState) (line : List Mark) (history : List Kept) (runs : List Run) (r d m : ℕ) → None ≡ first_before (access_is_overdue runs history (placed_at history r) d m) r (accesses_at table d) → IsOverdueOf table line history runs r d m None
+overdue_none table line history runs r d m none s parts turn =
+    ap (λ o. option_map (λ x. (run_no x, lease_deadline s.setting (read_of s) x d)) (option_map (λ (q : RunNo). q.0) o)) none
+    ∙ ap (option_map (λ x. (run_no x, lease_deadline s.setting (read_of s) x d))) (overdue_is table line history runs r d m s parts turn)
+
+pub overdue_some : (table : List LineageState) (line : List Mark) (history : List Kept) (runs : List Run) (r d m : ℕ) (x : RunNo) (t : ℕ) → Some x ≡ first_before (access_is_overdue runs history (placed_at history r) d m) r (accesses_at table d)
+    → IsDeadlineOf table line history runs x.0 d t → IsOverdueOf table line history runs r d m (Some (x, t))
+overdue_some table line history runs r d m x t found deadline s parts turn =
+    ap (λ k. Some (x, k)) (deadline s parts)
+    ∙ ap (λ o. option_map (λ y. (run_no y, lease_deadline s.setting (read_of s) y d)) (option_map (λ (q : RunNo). q.0) o)) found
+    ∙ ap (option_map (λ y. (run_no y, lease_deadline s.setting (read_of s) y d))) (overdue_is table line history runs r d m s parts turn)
+
+borrower_is : (table : List LineageState) (line : List Mark) (history : List Kept) (runs : List Run) (r d : ℕ) (s : Configuration) → IsStandingOf s table line history runs → IsAsking s r d
+    → option_map (λ q. q.0) (first_before (access_borrows history (placed_at history r)) r (accesses_at table d)) ≡ borrower_from s.setting (read_of s) s.grips r d
+borrower_is table line history runs r d s parts turn =
+    let f = facts_of s table line history runs parts in
+    let told = told_of s table line history runs parts in
+    let its = parts.its_table.each d (asking_homed s table line history runs r d parts turn) in
+    first_holder s.setting (read_of s) s.grips f d (is_borrower s.setting (read_of s) s.grips r d) (access_borrows history (placed_at history r)) r (accesses_at table d)
+    (borrower_holds s.setting (read_of s) s.grips f d history told r) (tells_borrower s.setting (read_of s) s.grips f d history told r) (asking_opens s r d turn) its.runs its.each
+
+pub borrowed_is : (table : List LineageState) (line : List Mark) (history : List Kept) (runs : List Run) (r d : ℕ) (o : Option RunNo) → o ≡ first_before (access_borrows history (placed_at history r)) r (accesses_at table d) → IsBorrowedFrom table line history runs r d (is_some o)
+borrowed_is table line history runs r d o found s parts turn = kept_some o ∙ ap (λ x. is_some (option_map (λ q. q.0) x)) found ∙ ap is_some (borrower_is table line history runs r d s parts turn)
+  where
+    kept_some : (x : Option RunNo) → is_some x ≡ is_some (option_map (λ q. q.0) x)
+    kept_some None = refl
+    kept_some (Some q) = refl
+
+pub unborrowed : (table : List LineageState) (line : List Mark) (history : List Kept) (runs : List Run) (r d : ℕ) (some : Bool) → IsBorrowedFrom table line history runs r d some → some ≡ false → IsNeverOverdue table line history runs r d
+unborrowed table line history runs r d some exact none s parts turn m = never_overdue s.setting (read_of s) s.grips r d m (sym (exact s parts turn) ∙ none)
+
+pub deadline_is : (table : List LineageState) (line : List Mark) (history : List Kept) (runs : List Run) (r d t : ℕ) (x : Access) → d < length table → access_of r (accesses_at table d) ≡ Some x → t ≡ access_deadline runs d x → IsDeadlineOf table line history runs r d t
+deadline_is table line history runs r d t x within found is s parts =
+    let size = parts.its_table.devices in
+    let homed : d < length s.setting.first = omega (arith, within, size) in
+    is
+    ∙ ap (λ rs. access_deadline rs d x) (sym parts.its_roster)
+    ∙ own_deadline s.setting (read_of s) s.grips (facts_of s table line history runs parts) d history (told_of s table line history runs parts) r (accesses_at table d) x (parts.its_table.each d homed).each found
+
+-- A run with an access: the device is one of the table, and the access is found
+
+pub may_reach_leased : (table : List LineageState) (line : List Mark) (history : List Kept) (runs : List Run) (r d : ℕ) → MayLease table line history runs r d → d < length table
+may_reach_leased table line history runs r d (Leasing s parts access) = has_homed table d r access
+
+pub leased_found : (table : List LineageState) (line : List Mark) (history : List Kept) (runs : List Run) (r d : ℕ) (o : Option Access) → MayLease table line history runs r d → o ≡ access_of r (accesses_at table d) → is_some o ≡ true
+leased_found table line history runs r d o (Leasing s parts access) is = ap is_some is ∙ sym (found_has r (accesses_at table d)) ∙ access
