@@ -7,15 +7,17 @@ use Rattle.history_book.specs.Lines.{without as line_without}
 use Rattle.home_types.specs.declared.items.Item.TheVariants.{Back, Failed, Ran}
 use Rattle.home_types.specs.declared.items.Item.{Item}
 use Rattle.lineage_table.proofs.Splits.{put_at}
-use Rattle.lineage_table.specs.Accesses.{has_access, is_of, put_before, with_change, without}
+use Rattle.home_types.specs.declared.numbers.RunNo.{RunNo}
+use Rattle.lineage_table.specs.Accesses.{has_access, is_acquired, is_of, is_released, put_before, put_before_run, some_acquired, with_change, without}
+use Rattle.lineage_table.specs.declared.accesses.Status.TheVariants.{Scheduled}
 use Rattle.lineage_table.specs.declared.accesses.Access.{Access}
 use Rattle.std.proofs.Common.{ap, arith, refl, subst, sym, ◌∙◌}
 use Rattle.std.proofs.lemmas.Grind.{common_steps}
 use Rattle.std.proofs.lemmas.List.Folds.{list_any-append}
 use Rattle.std.proofs.lemmas.List.{append-nil}
 use Rattle.std.specs.List.{list_any}
-use Rattle.std.specs.Prelude.{Bool, List, Some, [], false, if◌then◌else◌, map, not, true, ℕ, ◌&&◌, ◌++◌, ◌==◌, ◌||◌, ◌∷◌, ◌≡◌, ◌≢◌}
-use Rattle.window_order.specs.TableChanges.{first_with_access}
+use Rattle.std.specs.Prelude.{Bool, List, None, Some, [], false, if◌then◌else◌, map, not, true, ℕ, ◌&&◌, ◌++◌, ◌==◌, ◌||◌, ◌∷◌, ◌≡◌, ◌≢◌}
+use Rattle.window_order.specs.TableChanges.{accesses_from, first_with_access, from_run, waits_again, with_again, with_again_from}
 use Rattle.window_order.specs.TableKept.{accesses_along}
 
 -- the accesses of the front of a line, whose back covers it or not
@@ -99,6 +101,9 @@ along_same p q c e f h (Back d k ∷ is) has_one covering access = along_same p 
 
 differs : (x y : ℕ) → x ≢ y → (x == y) ≡ false
 differs x y h = grind (arith, common_steps)
+
+neither : (a b : Bool) → (a || b) ≡ false → (a ≡ false) × (b ≡ false)
+neither a b h = (grind (arith, common_steps), grind (arith, common_steps))
 
 pub front_lacks : (p c : ℕ → Bool) (f : ℕ → Access) (b : Bool) (r : ℕ) (is : List Item) → ((x : ℕ) → (f x).run.0 ≡ x) → Lacks r is → has_access r (front_accesses p c f b is) ≡ false
 unfolding Lacks
@@ -358,43 +363,174 @@ distinct_parts (Back d k ∷ a) b distinct = distinct_parts a b distinct
 
 -- A run in the middle of the line
 
--- an access is put behind those of the front, before the first one of a run of the back
-pub put_between : (p c : ℕ → Bool) (f : ℕ → Access) (y : Access) (a : List Access) (is : List Item) → RunsAreDistinct is → ((x : ℕ) → (f x).run.0 ≡ x) → ((x : ℕ) → list_any (is_ran x) is ≡ true → has_access x a ≡ false)
-    → put_before (first_with_access (a ++ accesses_along p c f is) is) y (a ++ accesses_along p c f is) ≡ a ++ y ∷ accesses_along p c f is
-unfolding RunsAreDistinct
-put_between p c f y a [] distinct own apart = ap (λ xs. xs ++ y ∷ []) (append-nil a)
-put_between p c f y a (Ran q ∷ is) distinct own apart = at_ (p q.0 && not (list_any (of_run c) is)) (put_between p c f y a is distinct.1 own (λ x there. apart x (either (q.0 == x) (list_any (is_ran x) is) there)))
+-- the accesses from that of a run on, where they are cut there
+
+pub from_at : (q : ℕ) (a : List Access) (x : Access) (b : List Access) → has_access q a ≡ false → is_of q x ≡ true → from_run q (a ++ x ∷ b) ≡ x ∷ b
+from_at q [] x b none own = λ i. if own i then (x ∷ b) else from_run q b
+from_at q (y ∷ a) x b none own = let p = neither (is_of q y) (has_access q a) none in (λ i. if p.0 i then (y ∷ (a ++ x ∷ b)) else from_run q (a ++ x ∷ b)) ∙ from_at q a x b p.1 own
+
+pub again_from_at : (q : ℕ) (a : List Access) (x : Access) (b : List Access) → has_access q a ≡ false → is_of q x ≡ true → with_again_from q (a ++ x ∷ b) ≡ a ++ waits_again x ∷ map waits_again b
+again_from_at q [] x b none own = λ i. if own i then (waits_again x ∷ map waits_again b) else (x ∷ with_again_from q b)
+again_from_at q (y ∷ a) x b none own =
+    let p = neither (is_of q y) (has_access q a) none in
+    (λ i. if p.0 i then (waits_again y ∷ map waits_again (a ++ x ∷ b)) else (y ∷ with_again_from q (a ++ x ∷ b))) ∙ ap (λ l. y ∷ l) (again_from_at q a x b p.1 own)
+
+-- an access that waits again is of the same run
+pub again_run : (x : Access) → (waits_again x).run ≡ x.run
+again_run x = by_status (is_released x.status)
+  where
+    by_status : (b : Bool) → (if b then record x { status = Scheduled; view = None } else x).run ≡ x.run
+    by_status true = refl
+    by_status false = refl
+
+-- each access along the line is changed
+along_changed : (p c : ℕ → Bool) (f h : ℕ → Access) (change : Access → Access) (is : List Item) → ((x : ℕ) → list_any (is_ran x) is ≡ true → p x ≡ true → h x ≡ change (f x)) → map change (accesses_along p c f is) ≡ accesses_along p c h is
+along_changed p c f h change [] each = refl
+along_changed p c f h change (Ran q ∷ is) each = at_ (p q.0) refl (not (list_any (of_run c) is)) (along_changed p c f h change is (λ x there. each x (either (q.0 == x) (list_any (is_ran x) is) there)))
+  where
+    self : (x : ℕ) (y : Bool) → ((x == x) || y) ≡ true
+    self x y = grind (arith, common_steps)
+
+    either : (x y : Bool) → y ≡ true → (x || y) ≡ true
+    either x y e = grind (arith, common_steps)
+
+    at_ : (u : Bool) → p q.0 ≡ u → (v : Bool) → map change (accesses_along p c f is) ≡ accesses_along p c h is
+        → map change (if u && v then (f q.0 ∷ accesses_along p c f is) else accesses_along p c f is) ≡ (if u && v then (h q.0 ∷ accesses_along p c h is) else accesses_along p c h is)
+    at_ true e true rest = λ i. sym (each q.0 (self q.0 (list_any (is_ran q.0) is)) e) i ∷ rest i
+    at_ true e false rest = rest
+    at_ false e v rest = rest
+along_changed p c f h change (Failed d k ∷ is) each = along_changed p c f h change is each
+along_changed p c f h change (Back d k ∷ is) each = along_changed p c f h change is each
+
+-- the same accesses of a front, each of a run of it
+pub front_in : (p c : ℕ → Bool) (f h : ℕ → Access) (b : Bool) (is : List Item) → ((x : ℕ) → list_any (is_ran x) is ≡ true → h x ≡ f x) → front_accesses p c h b is ≡ front_accesses p c f b is
+front_in p c f h b [] each = refl
+front_in p c f h b (Ran q ∷ is) each =
+    λ i. if p q.0 && not (list_any (of_run c) is || b) then (each q.0 (self q.0 (list_any (is_ran q.0) is)) i ∷ front_in p c f h b is (λ x there. each x (either (q.0 == x) (list_any (is_ran x) is) there)) i)
+    else front_in p c f h b is (λ x there. each x (either (q.0 == x) (list_any (is_ran x) is) there)) i
+  where
+    self : (x : ℕ) (y : Bool) → ((x == x) || y) ≡ true
+    self x y = grind (arith, common_steps)
+
+    either : (x y : Bool) → y ≡ true → (x || y) ≡ true
+    either x y e = grind (arith, common_steps)
+front_in p c f h b (Failed d k ∷ is) each = front_in p c f h b is each
+front_in p c f h b (Back d k ∷ is) each = front_in p c f h b is each
+
+-- the accesses of a front with those of the back behind them: what is read at the first run of the back
+module _ (p c : ℕ → Bool) (f : ℕ → Access) (own : (x : ℕ) → (f x).run.0 ≡ x) where
+  its_own : (q : ℕ) → is_of q (f q) ≡ true
+  its_own q = ap (λ x. x == q) (own q) ∙ self q
+    where
+      self : (x : ℕ) → (x == x) ≡ true
+      self x = grind (arith, common_steps)
+
+  stands_here : (q : ℕ) (a b : List Access) → has_access q (a ++ f q ∷ b) ≡ true
+  stands_here q a b = list_any-append (is_of q) a (f q ∷ b) ∙ middle (has_access q a) (is_of q (f q)) (has_access q b) (its_own q)
+    where
+      middle : (x y z : Bool) → y ≡ true → (x || (y || z)) ≡ true
+      middle x y z h = grind (arith, common_steps)
+
+  stands_nowhere : (q : ℕ) (a : List Access) (is : List Item) → has_access q a ≡ false → Lacks q is → has_access q (a ++ accesses_along p c f is) ≡ false
+  stands_nowhere q a is none lacks = list_any-append (is_of q) a (accesses_along p c f is) ∙ (λ i. none i || along_lacks p c f q is own lacks i)
+
+-- the runs of these items have none of these accesses
+abbrev pub AreApart : List Access → List Item → Type 0
+AreApart a is = (x : ℕ) → list_any (is_ran x) is ≡ true → has_access x a ≡ false
+
+apart_first : (a : List Access) (q : RunNo) (is : List Item) → AreApart a (Ran q ∷ is) → has_access q.0 a ≡ false
+apart_first a q is apart = apart q.0 (first (q.0 == q.0) (list_any (is_ran q.0) is) (self q.0))
   where
     self : (x : ℕ) → (x == x) ≡ true
     self x = grind (arith, common_steps)
 
-    either : (x y : Bool) → y ≡ true → (x || y) ≡ true
-    either x y h = grind (arith, common_steps)
-
     first : (x y : Bool) → x ≡ true → (x || y) ≡ true
     first x y h = grind (arith, common_steps)
 
-    middle : (x y z : Bool) → y ≡ true → (x || (y || z)) ≡ true
-    middle x y z h = grind (arith, common_steps)
+apart_rest : (a : List Access) (q : RunNo) (is : List Item) → AreApart a (Ran q ∷ is) → AreApart a is
+apart_rest a q is apart x there = apart x (either (q.0 == x) (list_any (is_ran x) is) there)
+  where
+    either : (x y : Bool) → y ≡ true → (x || y) ≡ true
+    either x y h = grind (arith, common_steps)
 
-    its_own : is_of q.0 (f q.0) ≡ true
-    its_own = ap (λ x. x == q.0) (own q.0) ∙ self q.0
+-- an access is put behind those of the front, before the first one of a run of the back: that one and those behind it wait again
+pub put_between : (p c : ℕ → Bool) (f h : ℕ → Access) (y : Access) (a : List Access) (is : List Item) → RunsAreDistinct is → ((x : ℕ) → (f x).run.0 ≡ x) → ((x : ℕ) → list_any (is_ran x) is ≡ true → p x ≡ true → h x ≡ waits_again (f x)) → AreApart a is
+    → put_before (first_with_access (a ++ accesses_along p c f is) is) y (with_again (first_with_access (a ++ accesses_along p c f is) is) (a ++ accesses_along p c f is)) ≡ a ++ y ∷ accesses_along p c h is
+unfolding RunsAreDistinct
+put_between p c f h y a [] distinct own each apart = ap (λ xs. xs ++ y ∷ []) (append-nil a)
+put_between p c f h y a (Ran q ∷ is) distinct own each apart = at_ (p q.0) refl (not (list_any (of_run c) is)) (put_between p c f h y a is distinct.1 own (λ x there. each x (either (q.0 == x) (list_any (is_ran x) is) there)) (apart_rest a q is apart))
+  where
+    self : (x : ℕ) (y : Bool) → ((x == x) || y) ≡ true
+    self x y = grind (arith, common_steps)
+
+    either : (x y : Bool) → y ≡ true → (x || y) ≡ true
+    either x y h = grind (arith, common_steps)
+
+    rest_ : List Access
+    rest_ = accesses_along p c f is
 
     none : has_access q.0 a ≡ false
-    none = apart q.0 (first (q.0 == q.0) (list_any (is_ran q.0) is) (self q.0))
+    none = apart_first a q is apart
 
-    here : has_access q.0 (a ++ f q.0 ∷ accesses_along p c f is) ≡ true
-    here = list_any-append (is_of q.0) a (f q.0 ∷ accesses_along p c f is) ∙ middle (has_access q.0 a) (is_of q.0 (f q.0)) (has_access q.0 (accesses_along p c f is)) its_own
+    changed : map waits_again rest_ ≡ accesses_along p c h is
+    changed = along_changed p c f h waits_again is (λ x there. each x (either (q.0 == x) (list_any (is_ran x) is) there))
 
-    nowhere : has_access q.0 (a ++ accesses_along p c f is) ≡ false
-    nowhere = list_any-append (is_of q.0) a (accesses_along p c f is) ∙ (λ i. none i || along_lacks p c f q.0 is own distinct.0 i)
+    again_own : is_of q.0 (waits_again (f q.0)) ≡ true
+    again_own = ap (λ (r : RunNo). r.0 == q.0) (again_run (f q.0)) ∙ its_own p c f own q.0
 
-    at_ : (b : Bool) → put_before (first_with_access (a ++ accesses_along p c f is) is) y (a ++ accesses_along p c f is) ≡ a ++ y ∷ accesses_along p c f is
-        → put_before (first_with_access (a ++ (if b then (f q.0 ∷ accesses_along p c f is) else accesses_along p c f is)) (Ran q ∷ is)) y (a ++ (if b then (f q.0 ∷ accesses_along p c f is) else accesses_along p c f is))
-        ≡ a ++ y ∷ (if b then (f q.0 ∷ accesses_along p c f is) else accesses_along p c f is)
-    at_ true rest =
-        (λ i. put_before (if here i then Some q else first_with_access (a ++ f q.0 ∷ accesses_along p c f is) is) y (a ++ f q.0 ∷ accesses_along p c f is))
-        ∙ put_at q.0 y a (f q.0) (accesses_along p c f is) none its_own
-    at_ false rest = (λ i. put_before (if nowhere i then Some q else first_with_access (a ++ accesses_along p c f is) is) y (a ++ accesses_along p c f is)) ∙ rest
-put_between p c f y a (Failed d k ∷ is) distinct own apart = put_between p c f y a is distinct own apart
-put_between p c f y a (Back d k ∷ is) distinct own apart = put_between p c f y a is distinct own apart
+    nowhere : put_before (first_with_access (a ++ rest_) is) y (with_again (first_with_access (a ++ rest_) is) (a ++ rest_)) ≡ a ++ y ∷ accesses_along p c h is
+        → put_before (first_with_access (a ++ rest_) (Ran q ∷ is)) y (with_again (first_with_access (a ++ rest_) (Ran q ∷ is)) (a ++ rest_)) ≡ a ++ y ∷ accesses_along p c h is
+    nowhere rest =
+        (λ i. put_before (if absent i then Some q else first_with_access (a ++ rest_) is) y (with_again (if absent i then Some q else first_with_access (a ++ rest_) is) (a ++ rest_))) ∙ rest
+      where
+        absent : has_access q.0 (a ++ rest_) ≡ false
+        absent = stands_nowhere p c f own q.0 a is none distinct.0
+
+    at_ : (u : Bool) → p q.0 ≡ u → (v : Bool) → put_before (first_with_access (a ++ rest_) is) y (with_again (first_with_access (a ++ rest_) is) (a ++ rest_)) ≡ a ++ y ∷ accesses_along p c h is
+        → put_before (first_with_access (a ++ (if u && v then (f q.0 ∷ rest_) else rest_)) (Ran q ∷ is)) y (with_again (first_with_access (a ++ (if u && v then (f q.0 ∷ rest_) else rest_)) (Ran q ∷ is)) (a ++ (if u && v then (f q.0 ∷ rest_) else rest_)))
+        ≡ a ++ y ∷ (if u && v then (h q.0 ∷ accesses_along p c h is) else accesses_along p c h is)
+    at_ true e true rest =
+        (λ i. put_before (if here i then Some q else first_with_access (a ++ f q.0 ∷ rest_) is) y (with_again (if here i then Some q else first_with_access (a ++ f q.0 ∷ rest_) is) (a ++ f q.0 ∷ rest_)))
+        ∙ ap (put_before_run q.0 y) (again_from_at q.0 a (f q.0) rest_ none (its_own p c f own q.0))
+        ∙ put_at q.0 y a (waits_again (f q.0)) (map waits_again rest_) none again_own
+        ∙ (λ i. a ++ y ∷ sym (each q.0 (self q.0 (list_any (is_ran q.0) is)) e) i ∷ changed i)
+      where
+        here : has_access q.0 (a ++ f q.0 ∷ rest_) ≡ true
+        here = stands_here p c f own q.0 a rest_
+    at_ true e false rest = nowhere rest
+    at_ false e v rest = nowhere rest
+put_between p c f h y a (Failed d k ∷ is) distinct own each apart = put_between p c f h y a is distinct own each apart
+put_between p c f h y a (Back d k ∷ is) distinct own each apart = put_between p c f h y a is distinct own each apart
+
+-- where none of the back is acquired, none is from the first one of a run of the back on
+pub from_between : (p c : ℕ → Bool) (f : ℕ → Access) (a : List Access) (is : List Item) → RunsAreDistinct is → ((x : ℕ) → (f x).run.0 ≡ x) → ((x : ℕ) → list_any (is_ran x) is ≡ true → p x ≡ true → is_acquired (f x).status ≡ false) → AreApart a is
+    → some_acquired (accesses_from (first_with_access (a ++ accesses_along p c f is) is) (a ++ accesses_along p c f is)) ≡ false
+unfolding RunsAreDistinct
+from_between p c f a [] distinct own none apart = refl
+from_between p c f a (Ran r ∷ is) distinct own none apart = at_ (p r.0) refl (not (list_any (of_run c) is)) (from_between p c f a is distinct.1 own (λ x there. none x (either (r.0 == x) (list_any (is_ran x) is) there)) (apart_rest a r is apart))
+  where
+    self : (x : ℕ) (y : Bool) → ((x == x) || y) ≡ true
+    self x y = grind (arith, common_steps)
+
+    either : (x y : Bool) → y ≡ true → (x || y) ≡ true
+    either x y h = grind (arith, common_steps)
+
+    rest_ : List Access
+    rest_ = accesses_along p c f is
+
+    lacks : has_access r.0 a ≡ false
+    lacks = apart_first a r is apart
+
+    nowhere : some_acquired (accesses_from (first_with_access (a ++ rest_) is) (a ++ rest_)) ≡ false → some_acquired (accesses_from (first_with_access (a ++ rest_) (Ran r ∷ is)) (a ++ rest_)) ≡ false
+    nowhere rest = (λ i. some_acquired (accesses_from (if stands_nowhere p c f own r.0 a is lacks distinct.0 i then Some r else first_with_access (a ++ rest_) is) (a ++ rest_))) ∙ rest
+
+    at_ : (u : Bool) → p r.0 ≡ u → (v : Bool) → some_acquired (accesses_from (first_with_access (a ++ rest_) is) (a ++ rest_)) ≡ false
+        → some_acquired (accesses_from (first_with_access (a ++ (if u && v then (f r.0 ∷ rest_) else rest_)) (Ran r ∷ is)) (a ++ (if u && v then (f r.0 ∷ rest_) else rest_))) ≡ false
+    at_ true e true rest =
+        (λ i. some_acquired (accesses_from (if stands_here p c f own r.0 a rest_ i then Some r else first_with_access (a ++ f r.0 ∷ rest_) is) (a ++ f r.0 ∷ rest_)))
+        ∙ ap some_acquired (from_at r.0 a (f r.0) rest_ lacks (its_own p c f own r.0))
+        ∙ (λ i. none r.0 (self r.0 (list_any (is_ran r.0) is)) e i || along_none p c f (λ (x : Access). is_acquired x.status) is (λ x there. none x (either (r.0 == x) (list_any (is_ran x) is) there)) i)
+    at_ true e false rest = nowhere rest
+    at_ false e v rest = nowhere rest
+from_between p c f a (Failed d k ∷ is) distinct own none apart = from_between p c f a is distinct own none apart
+from_between p c f a (Back d k ∷ is) distinct own none apart = from_between p c f a is distinct own none apart

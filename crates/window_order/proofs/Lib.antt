@@ -16,6 +16,7 @@ pub mod Firsts
 pub mod Goes
 pub mod EventPlaces
 pub mod TurnedOrders
+pub mod ClearLines
 pub mod Steps
 pub mod Rollbacks
 pub mod AccessLists
@@ -25,6 +26,7 @@ pub mod TableFrames
 pub mod AnsweredTables
 pub mod PassedTables
 pub mod PassedAccesses
+pub mod AgainAccesses
 pub mod TableCalls
 pub mod GrippedTables
 pub mod PlacedTables

@@ -61,7 +61,7 @@ cut_before r x (y ∷ ys) h = at_ (λ e. cut_before r x ys e) (is_of r y) (waits
         record { front = y ∷ c.front; back = c.back; list = ap (λ l. y ∷ l) c.list; none_waits = either (waits y) (some_scheduled c.front) f c.none_waits; none_own = either (is_of r y) (has_access r c.front) e c.none_own; other = c.other; scheduled = c.scheduled }
 
 -- no access in front is of the same run
-alone : (x : Access) (a b : List Access) → Pairs AreOfTwoRuns (a ++ x ∷ b) → has_access x.run.0 a ≡ false
+pub alone : (x : Access) (a b : List Access) → Pairs AreOfTwoRuns (a ++ x ∷ b) → has_access x.run.0 a ≡ false
 alone x a b pairs = each a (pairs_front AreOfTwoRuns a x b pairs)
   where
     differ : (u v : ℕ) → not (u == v) ≡ true → (v == u) ≡ false

@@ -9,35 +9,36 @@ use Rattle.history_book.proofs.Snoc.{put_other, put_same}
 use Rattle.history_book.proofs.Standing.{aborted}
 use Rattle.history_book.specs.Histories.{entry}
 use Rattle.history_book.specs.Plans.{planned_end, planned_start, planned_times, split_of}
-use Rattle.history_book.specs.Readings.{OfRun, PlacedAt, Planned, Reading, did, is_committing, is_doomed, nothing_read, put}
-use Rattle.history_book.specs.Settings.{Setting}
+use Rattle.history_book.specs.Readings.{OfRun, PlacedAt, Planned, Reading, did, is_committing, is_doomed, nothing_read, put, view_of}
+use Rattle.history_book.specs.Settings.{Setting, is_device}
 use Rattle.history_book.specs.WellFormed.{may_follow}
 use Rattle.history_book.specs.declared.entries.Entry.TheVariants.{Arrived, Placed}
 use Rattle.home_types.specs.HomeStates.{stand_at}
 use Rattle.home_types.specs.declared.commands.View.TheVariants.{Down}
 use Rattle.home_types.specs.declared.items.Item.TheVariants.{Ran}
 use Rattle.home_types.specs.declared.items.Item.{Item}
-use Rattle.home_types.specs.declared.numbers.RunNo.{RunNo}
-use Rattle.lineage_table.specs.Accesses.{has_access, put_before, status_of}
+use Rattle.lineage_table.specs.Accesses.{has_access, is_acquired, put_before, some_acquired}
 use Rattle.lineage_table.specs.Lineages.{IsOpened, LineageState, lineage_at, runs_on, scheduled}
 use Rattle.lineage_table.specs.declared.accesses.Access.{Access}
 use Rattle.lineage_table.specs.declared.accesses.Status.TheVariants.{Acquired, Released, Scheduled}
 use Rattle.lock_leasing.specs.Configurations.{Grips, grips_command, grips_undo}
-use Rattle.lock_leasing.specs.Order.{committed_value, covers}
-use Rattle.lock_leasing.specs.Tables.{may_be_passed, uses, view_when}
-use Rattle.lock_leasing.specs.Words.{committed_write}
+use Rattle.lock_leasing.specs.Order.{committed_value}
+use Rattle.lock_leasing.specs.Places.{IsClear}
+use Rattle.lock_leasing.specs.Tables.{is_at_work, may_be_passed, status_by_answers, uses, view_when}
+use Rattle.lock_leasing.specs.Words.{committed_write, is_undone}
 use Rattle.std.proofs.Common.{ap, arith, cond, refl, subst, sym, ◌∙◌}
 use Rattle.std.proofs.lemmas.Grind.{common_steps}
 use Rattle.std.proofs.lemmas.List.Sums.{fold-append, sum_by-cons}
-use Rattle.std.proofs.lemmas.List.{drop_all, take-append-drop}
+use Rattle.std.proofs.lemmas.List.{take-append-drop}
 use Rattle.std.specs.List.{list_any}
-use Rattle.std.specs.Option.{ForSome, option_or}
+use Rattle.std.specs.Option.{option_or}
 use Rattle.std.specs.Prelude.{Bool, List, None, Option, Some, [], count_by, drop, false, fold, if◌then◌else◌, is_none, is_some, length, not, option_map, slice_get, suc, take, true, unwrap_or, zero, ℕ, ◌&&◌, ◌++◌, ◌+◌, ◌<◌, ◌||◌, ◌∷◌, ◌≡◌, ◌≢◌, ◌≤◌}
-use Rattle.window_order.proofs.AccessLists.{SameBut, along_absent, along_but, along_lacks, along_parts, along_there, any_but, distinct_parts, front_accesses, front_but, front_lacks, put_between}
+use Rattle.window_order.proofs.AccessLists.{SameBut, along_absent, along_but, along_lacks, along_parts, along_there, any_but, distinct_parts, from_between, front_accesses, front_but, front_in, front_lacks, lacks_none, put_between}
+use Rattle.window_order.proofs.ClearLines.{clear_run, clear_written}
 use Rattle.window_order.proofs.ReadFacts.{IsRead, lacks_count, runs_distinct}
 use Rattle.window_order.proofs.Runs.{lacks_parts}
 use Rattle.window_order.proofs.TableFrames.{access_by, commits_by, lineage_same, may_by, put_says, same_committed, uses_by, write_by}
-use Rattle.window_order.specs.TableChanges.{IsNewOn, NoneWroteBehind, first_with_access, placed_change, waiting_access}
+use Rattle.window_order.specs.TableChanges.{IsNewOn, accesses_from, first_with_access, placed_change, rescheduled, waiting_access, waits_again, with_again}
 use Rattle.window_order.specs.TableKept.{LineageIsKept, TableIsKept, access_read, accesses_along, accesses_read, commits_write, unplaced_among, unplaced_on}
 
 -- The start
@@ -150,11 +151,11 @@ stands w (suc i) h = at_ (slice_get w.runs i) refl h
     at_ None e k = absurd (cc)
     at_ (Some run) e k = record { index = i; run = run; number = omega arith; at = e; commands = ap (λ o. unwrap_or (option_map (λ (x : Run). x.commands) o) []) e }
 
--- each lineage is kept, with an access more on the run's devices, where no committed run behind its place has written one of them
-pub placed_kept : (w : Setting) (n : Reading) (g : Grips) (r at m : ℕ) → IsRead w n → may_follow w n (Placed (run_no r) at m) ≡ true → NoneWroteBehind w n r at → (d : ℕ) (s : LineageState) → LineageIsKept w n g d s
+-- each lineage is kept, with an access more on the run's devices, where the place is clear: the accesses behind it that were passed wait again
+pub placed_kept : (w : Setting) (n : Reading) (g : Grips) (r at m : ℕ) → IsRead w n → may_follow w n (Placed (run_no r) at m) ≡ true → IsClear w n g r at → (d : ℕ) → d < length w.first → (s : LineageState) → LineageIsKept w n g d s
     → LineageIsKept w (entry w n (Placed (run_no r) at m)) g d (placed_change w n r at m d s)
 unfolding split_of
-placed_kept w n g r at m read may clear d s kept = at_ (touches w.runs r d) refl
+placed_kept w n g r at m read may clear d below s kept = at_ (touches w.runs r d) refl
   where
     next : Reading
     next = entry w n (Placed (run_no r) at m)
@@ -262,16 +263,6 @@ placed_kept w n g r at m read may clear d s kept = at_ (touches w.runs r d) refl
     none_written true = refl
     none_written false = refl
 
-    waits : then_ r ≡ waiting_access r planned d
-    waits = ap (access_by w g kept.passed d r) own ∙ (λ i. record {
-      run = run_no r;
-      status = if unpassed i then Released else (if is_some (shape.clear none d i).view then (if (not (is_some old.doomed) && touches_from w.runs r d (length old.answers)) || grips_command g r d then Acquired else Released) else Scheduled);
-      view = if unpassed i then Some Down else option_map view_when (shape.clear none d i).view;
-      wrote = ((λ j. if (old.on d).undid || grips_undo g r d then None else (shape.clear none d j).wrote) ∙ none_written ((old.on d).undid || grips_undo g r d)) i;
-      from = planned_start planned d;
-      to = planned_end planned d;
-    })
-
     -- the accesses of the two parts
 
     whole : accesses_read w n g kept.passed d n.line ≡ front_accesses p c before_ (list_any (of_run c) back) front ++ accesses_along p c before_ back
@@ -286,18 +277,134 @@ placed_kept w n g r at m read may clear d s kept = at_ (touches w.runs r d) refl
     behind_same : list_any (of_run e) back ≡ list_any (of_run c) back
     behind_same = any_but r c e back others.covering lacks.1
 
+    -- where the run uses the device, those that were passed behind it wait again
+    left : ℕ → Bool
+    left x = kept.passed x && not (list_any (is_ran x) back)
+
+    first : (a b : Bool) → (a && b) ≡ true → a ≡ true
+    first a b h = grind (arith, common_steps)
+
+    again_ : ℕ → Access
+    again_ = access_read w n g left d
+
+    later : ℕ → Access
+    later = access_read w next g left d
+
+    again_others : SameBut r p q c e again_ later
+    again_others = record { has_one = others.has_one; covering = others.covering; access = λ x ne. ap (access_by w g left d x) (put_other n.run r new x ne) }
+
+    device : is_device w d ≡ true
+    device = grind (arith, common_steps)
+
+    -- a run in front is passed as it was
+    front_left : (x : ℕ) → list_any (is_ran x) front ≡ true → again_ x ≡ before_ x
+    front_left x there = λ i. record {
+      run = run_no x;
+      status = if same_left i then Released else status_by_answers w n g x d;
+      view = if same_left i then Some Down else option_map view_when (view_of n x d);
+      wrote = if is_undone n g x d then None else ((n.run x).on d).wrote;
+      from = planned_start (n.run x).planned d;
+      to = planned_end (n.run x).planned d;
+    }
+      where
+        all : (b : Bool) → (b && true) ≡ b
+        all true = refl
+        all false = refl
+
+        elsewhere : (b : Bool) → list_any (is_ran x) back ≡ b → b ≡ false
+        elsewhere true h = absurd (lacks_none x front (apart.1 x h) x there refl)
+        elsewhere false h = refl
+
+        same_left : left x ≡ kept.passed x
+        same_left = (λ i. kept.passed x && not (elsewhere (list_any (is_ran x) back) refl i)) ∙ all (kept.passed x)
+
+    -- a run behind has not touched the device, and waits
+    back_again : touches w.runs r d ≡ true → (x : ℕ) → list_any (is_ran x) back ≡ true → again_ x ≡ waits_again (before_ x)
+    back_again on x there =
+        (λ i. record {
+          run = run_no x;
+          status = if not_left i then Released else (if unseen i then (if is_at_work w n g x d then Acquired else Released) else Scheduled);
+          view = if not_left i then Some Down else option_map view_when (no_view i);
+          wrote = wrote_;
+          from = planned_start (n.run x).planned d;
+          to = planned_end (n.run x).planned d;
+        })
+        ∙ by_passed (kept.passed x)
+        ∙ (λ i. waits_again (record {
+          run = run_no x;
+          status = if kept.passed x then Released else (if sym unseen i then (if is_at_work w n g x d then Acquired else Released) else Scheduled);
+          view = if kept.passed x then Some Down else option_map view_when (sym no_view i);
+          wrote = wrote_;
+          from = planned_start (n.run x).planned d;
+          to = planned_end (n.run x).planned d;
+        }))
+      where
+        wrote_ : Option ℕ
+        wrote_ = if is_undone n g x d then None else ((n.run x).on d).wrote
+
+        none_of : (b : Bool) → (b && false) ≡ false
+        none_of true = refl
+        none_of false = refl
+
+        not_left : left x ≡ false
+        not_left = (λ i. kept.passed x && not (there i)) ∙ none_of (kept.passed x)
+
+        untouched : (u v : Bool) → (u || v) ≡ false → u ≡ false
+        untouched u v h = grind (arith, common_steps)
+
+        unseen : did n x d ≡ false
+        unseen = untouched (did n x d) (grips_command g x d) (clear_run w n g r at d x clear device on there)
+
+        nothing : (o : Option Bool) → is_some o ≡ false → o ≡ None
+        nothing None h = refl
+        nothing (Some v) h = absurd (cc)
+
+        no_view : view_of n x d ≡ None
+        no_view = nothing (view_of n x d) unseen
+
+        access_if : Bool → Access
+        access_if b = record {
+          run = run_no x;
+          status = if b then Released else Scheduled;
+          view = if b then Some Down else None;
+          wrote = wrote_;
+          from = planned_start (n.run x).planned d;
+          to = planned_end (n.run x).planned d;
+        }
+
+        by_passed : (b : Bool) → access_if false ≡ waits_again (access_if b)
+        by_passed true = refl
+        by_passed false = refl
+
+    -- the run's own access
+    own_left : left r ≡ false
+    own_left = λ i. unpassed i && not (list_any (is_ran r) back)
+
+    waits : later r ≡ waiting_access r planned d
+    waits = ap (access_by w g left d r) own ∙ (λ i. record {
+      run = run_no r;
+      status = if own_left i then Released else (if is_some (shape.clear none d i).view then (if (not (is_some old.doomed) && touches_from w.runs r d (length old.answers)) || grips_command g r d then Acquired else Released) else Scheduled);
+      view = if own_left i then Some Down else option_map view_when (shape.clear none d i).view;
+      wrote = ((λ j. if (old.on d).undid || grips_undo g r d then None else (shape.clear none d j).wrote) ∙ none_written ((old.on d).undid || grips_undo g r d)) i;
+      from = planned_start planned d;
+      to = planned_end planned d;
+    })
+
     -- the run has an access between them
-    with_one : touches w.runs r d ≡ true → put_before (first_with_access s.accesses back) (waiting_access r planned d) s.accesses ≡ accesses_read w next g kept.passed d next.line
-    with_one on = subst (λ xs. put_before (first_with_access xs back) (waiting_access r planned d) xs ≡ accesses_read w next g kept.passed d next.line) (sym was) (
-        put_between p c before_ (waiting_access r planned d) (front_accesses p c before_ false front) back apart.0 (λ x. refl) (λ x there. front_lacks p c before_ false x front (λ y. refl) (apart.1 x there))
+    with_one : touches w.runs r d ≡ true → put_before (first_with_access s.accesses back) (waiting_access r planned d) (with_again (first_with_access s.accesses back) s.accesses) ≡ accesses_read w next g left d next.line
+    with_one on = subst (λ xs. put_before (first_with_access xs back) (waiting_access r planned d) (with_again (first_with_access xs back) xs) ≡ accesses_read w next g left d next.line) (sym was) (
+        put_between p c before_ again_ (waiting_access r planned d) (front_accesses p c before_ false front) back apart.0 (λ x. refl) (λ x there used. back_again on x there) (λ x there. front_lacks p c before_ false x front (λ y. refl) (apart.1 x there))
         ∙ sym (
-        along_there q e then_ r front back (used ∙ on) uncommitted (behind_same ∙ clear d on)
-        ∙ (λ i. front_same false i ++ waits i ∷ back_same i)
+        along_there q e later r front back (used ∙ on) uncommitted (behind_same ∙ written)
+        ∙ (λ i. (front_but r p q c e again_ later false front again_others lacks.0 ∙ front_in p c before_ again_ false front front_left) i ++ waits i ∷ along_but r p q c e again_ later back again_others lacks.1 i)
         )
         )
       where
+        written : list_any (of_run c) back ≡ false
+        written = clear_written w n g r at d read clear device on
+
         was : s.accesses ≡ front_accesses p c before_ false front ++ accesses_along p c before_ back
-        was = kept.accesses ∙ whole ∙ (λ i. front_accesses p c before_ (clear d on i) front ++ accesses_along p c before_ back)
+        was = kept.accesses ∙ whole ∙ (λ i. front_accesses p c before_ (written i) front ++ accesses_along p c before_ back)
 
     -- it has none
     with_none : touches w.runs r d ≡ false → s.accesses ≡ accesses_read w next g kept.passed d next.line
@@ -332,15 +439,15 @@ placed_kept w n g r at m read may clear d s kept = at_ (touches w.runs r d) refl
     fewer = one_fewer n next d r 1 of_window.index w.runs of_window.run of_window.at of_window.number one ∙ ap (λ cs. cond (list_any (is_on d) cs) 1 0 + unplaced_on w next d) (sym of_window.commands)
 
     at_ : (b : Bool) → touches w.runs r d ≡ b → LineageIsKept w next g d (placed_change w n r at m d s)
-    at_ true on = subst (LineageIsKept w next g d) (λ i. if sym on i then scheduled (first_with_access s.accesses back) (waiting_access r planned d) s else s) (record {
-      passed = kept.passed;
-      may_pass = λ x passed. may_after x (kept.may_pass x passed);
+    at_ true on = subst (LineageIsKept w next g d) (λ i. if sym on i then scheduled (first_with_access s.accesses back) (waiting_access r planned d) (rescheduled (first_with_access s.accesses back) s) else s) (record {
+      passed = left;
+      may_pass = λ x passed. may_after x (kept.may_pass x (first (kept.passed x) (not (list_any (is_ran x) back)) passed));
       committed = kept.committed ∙ sym committed;
       accesses = with_one on;
       room = let less : unplaced_on w n d ≡ 1 + unplaced_on w next d = fewer ∙ ap (λ b. cond b 1 0 + unplaced_on w next d) on in let room = kept.room in omega (arith, less, room);
       up = kept.up;
     })
-    at_ false off = subst (LineageIsKept w next g d) (λ i. if sym off i then scheduled (first_with_access s.accesses back) (waiting_access r planned d) s else s) (record {
+    at_ false off = subst (LineageIsKept w next g d) (λ i. if sym off i then scheduled (first_with_access s.accesses back) (waiting_access r planned d) (rescheduled (first_with_access s.accesses back) s) else s) (record {
       passed = kept.passed;
       may_pass = λ x passed. may_after x (kept.may_pass x passed);
       committed = kept.committed ∙ sym committed;
@@ -349,20 +456,54 @@ placed_kept w n g r at m read may clear d s kept = at_ (touches w.runs r d) refl
       up = kept.up;
     })
 
--- at the end of the line nothing stands behind a run
-
-pub none_wrote_behind : (w : Setting) (n : Reading) (r : ℕ) → NoneWroteBehind w n r (length n.line)
-none_wrote_behind w n r d on = ap (list_any (covers n d)) (drop_all (length n.line) n.line (omega arith))
-
--- a run that is placed is new on each of its devices, where the first run with an access behind its place waits
-pub new_on : (w : Setting) (n : Reading) (g : Grips) (r at m : ℕ) → IsRead w n → may_follow w n (Placed (run_no r) at m) ≡ true → (d : ℕ) (s : LineageState) → touches w.runs r d ≡ true
-    → ForSome (first_with_access s.accesses (drop at n.line)) (λ q. status_of q.0 s.accesses ≡ Some Scheduled) → LineageIsKept w n g d s → IsNewOn r (drop at n.line) s
-new_on w n g r at m read may d s used waits kept = record {
-  none = ap (has_access r) kept.accesses ∙ along_lacks (uses w n d) (commits_write n d) (access_read w n g kept.passed d) r n.line (λ x. refl) lacks;
+-- a run that is placed is new on each of its devices: behind a place that is clear no access is acquired
+pub new_on : (w : Setting) (n : Reading) (g : Grips) (r at m : ℕ) → IsRead w n → may_follow w n (Placed (run_no r) at m) ≡ true → IsClear w n g r at → (d : ℕ) → d < length w.first → (s : LineageState) → touches w.runs r d ≡ true → LineageIsKept w n g d s → IsNewOn r (drop at n.line) s
+new_on w n g r at m read may clear d below s used kept = record {
+  none = ap (has_access r) kept.accesses ∙ along_lacks p c access r n.line (λ x. refl) lacks;
   room = let room = kept.room in omega (arith, some, room);
-  waits = waits;
+  waits = ap (λ xs. some_acquired (accesses_from (first_with_access xs back) xs)) was ∙ from_between p c access before_ back apart.0 (λ x. refl) (λ x there uses. unacquired x there) (λ x there. front_lacks p c access (list_any (of_run c) back) x front (λ y. refl) (apart.1 x there));
 }
   where
+    front : List Item
+    front = take at n.line
+
+    back : List Item
+    back = drop at n.line
+
+    p : ℕ → Bool
+    p = uses w n d
+
+    c : ℕ → Bool
+    c = commits_write n d
+
+    access : ℕ → Access
+    access = access_read w n g kept.passed d
+
+    before_ : List Access
+    before_ = front_accesses p c access (list_any (of_run c) back) front
+
+    parts : front ++ back ≡ n.line
+    parts = take-append-drop at n.line
+
+    was : s.accesses ≡ before_ ++ accesses_along p c access back
+    was = kept.accesses ∙ ap (accesses_along p c access) (sym parts) ∙ along_parts p c access front back
+
+    apart : RunsAreDistinct back × ((x : ℕ) → list_any (is_ran x) back ≡ true → Lacks x front)
+    apart = distinct_parts front back (subst RunsAreDistinct (sym parts) (runs_distinct n read.once))
+
+    device : is_device w d ≡ true
+    device = grind (arith, common_steps)
+
+    unacquired : (x : ℕ) → list_any (is_ran x) back ≡ true → is_acquired (access x).status ≡ false
+    unacquired x there = by_passed (kept.passed x)
+      where
+        untouched : (u v : Bool) → (u || v) ≡ false → u ≡ false
+        untouched u v h = grind (arith, common_steps)
+
+        by_passed : (b : Bool) → is_acquired (if b then Released else status_by_answers w n g x d) ≡ false
+        by_passed true = refl
+        by_passed false = λ i. is_acquired (if untouched (did n x d) (grips_command g x d) (clear_run w n g r at d x clear device used there) i then (if is_at_work w n g x d then Acquired else Released) else Scheduled)
+
     none : is_none (n.run r).placed ≡ true
     none = grind (arith, common_steps)
 
@@ -387,7 +528,3 @@ new_on w n g r at m read may d s used waits kept = record {
 
     some : unplaced_on w n d ≡ 1 + unplaced_on w next d
     some = one_fewer n next d r 1 of_window.index w.runs of_window.run of_window.at of_window.number one ∙ ap (λ cs. cond (list_any (is_on d) cs) 1 0 + unplaced_on w next d) (sym of_window.commands) ∙ ap (λ b. cond b 1 0 + unplaced_on w next d) used
-
--- .. as none does behind the end of the line
-pub new_at_end : (w : Setting) (n : Reading) (g : Grips) (r m : ℕ) → IsRead w n → may_follow w n (Placed (run_no r) (length n.line) m) ≡ true → (d : ℕ) (s : LineageState) → touches w.runs r d ≡ true → LineageIsKept w n g d s → IsNewOn r (drop (length n.line) n.line) s
-new_at_end w n g r m read may d s used kept = new_on w n g r (length n.line) m read may d s used (λ q at. absurd (let nobody : ◌≡◌ {A = Option RunNo} None (Some q) = sym (ap (first_with_access s.accesses) (drop_all (length n.line) n.line (omega arith))) ∙ at in cc)) kept

@@ -1,11 +1,10 @@
 -- Each kind of change of a doomed run keeps the order of a window: it is doomed, undone device by device, and leaves.
-use Rattle.command_rules.specs.Rosters.{command_at, commands_of, device_no, is_on, run_no, touches}
+use Rattle.command_rules.specs.Rosters.{command_at, commands_of, device_no, run_no, touches}
 use Rattle.device_order.proofs.WindowAnswers.{read_answered}
 use Rattle.device_order.proofs.WindowGrips.{undo_answered, undo_dropped, undo_out}
 use Rattle.device_order.proofs.WindowRuns.{run_doomed, run_leaves_line}
 use Rattle.device_order.specs.LineChanges.{Lacks}
 use Rattle.device_order.specs.LineWords.{CutAt, effective_writer, standing_value_on}
-use Rattle.device_order.specs.Summaries.{AreHomed}
 use Rattle.device_order.specs.WindowSteps.{GetsAnswer, KeepsElsewhere, MayUndo}
 use Rattle.device_order.specs.declared.records.Grip.TheVariants.{Reads, Undoes as HeldToUndo, Writes}
 use Rattle.history_book.proofs.Searches.{each_found, own_devices}
@@ -34,7 +33,6 @@ use Rattle.lock_leasing.specs.Waits.{grip_wait}
 use Rattle.lock_leasing.specs.Words.{effective_writer_of, has_effect, last_some, next_undo_of, value_without, write_of}
 use Rattle.std.proofs.Common.{ap, arith, cond, refl, subst, sym, ◌∙◌}
 use Rattle.std.proofs.lemmas.Grind.{common_steps}
-use Rattle.std.specs.List.{list_any}
 use Rattle.std.specs.Prelude.{Bool, List, None, Option, Some, [], drop, false, filter, find, if◌then◌else◌, is_some, length, not, option_map, true, unwrap_or, ℕ, ◌&&◌, ◌++◌, ◌+◌, ◌<◌, ◌==◌, ◌||◌, ◌∷◌, ◌≡◌, ◌≢◌}
 use Rattle.window_order.proofs.Firsts.{did_history}
 use Rattle.window_order.proofs.Goes.{none_hold}
@@ -42,7 +40,7 @@ use Rattle.window_order.proofs.Grips.{HoldsNone, MayGrip, all_may, fits_from, fi
 use Rattle.window_order.proofs.HistoryOrder.{left_history, same_history}
 use Rattle.window_order.proofs.PromisedWords.{written_touches}
 use Rattle.window_order.proofs.ReadFacts.{IsRead}
-use Rattle.window_order.proofs.Runs.{cut_live, live_run, live_uncommitted, state_by}
+use Rattle.window_order.proofs.Runs.{cut_live, live_run, live_uncommitted, state_by, uses_homed}
 use Rattle.window_order.proofs.StandingValues.{standing_on_line, writer_on_line}
 use Rattle.window_order.proofs.Steps.{IsOut, gets_answer, home_fits, out_is, out_newest}
 use Rattle.window_order.specs.OrderKept.{OrderIsKept}
@@ -383,15 +381,6 @@ dropped_kept w n g held r d read live doomed free next_is in' down kept = record
     next = entry w n (Undid (run_no r) (device_no d) false)
 
 -- A doomed run leaves
-
-uses_homed : (k d : ℕ) (cs : List Command) → AreHomed k cs → list_any (is_on d) cs ≡ true → d < k
-unfolding AreHomed
-uses_homed k d [] homed used = absurd (cc)
-uses_homed k d (c ∷ cs) homed used = at_ (uses_homed k d cs homed.1) (c.device.0 == d) refl used
-  where
-    at_ : (list_any (is_on d) cs ≡ true → d < k) → (b : Bool) → (c.device.0 == d) ≡ b → (b || list_any (is_on d) cs) ≡ true → d < k
-    at_ ih true e h = subst (λ x. x < k) (equal c.device.0 d e) homed.0
-    at_ ih false e h = ih h
 
 -- what no value of the list passes that passes another test
 none_of_both : (p q : ℕ → Bool) (xs : List ℕ) → find p (filter q xs) ≡ None → find (λ x. q x && p x) xs ≡ None

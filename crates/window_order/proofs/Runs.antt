@@ -1,22 +1,24 @@
 -- What the reading says of the runs of the line.
 use Rattle.command_rules.specs.Items.{is_ran}
-use Rattle.command_rules.specs.Rosters.{commands_of, is_run}
+use Rattle.command_rules.specs.Rosters.{commands_of, is_on, is_run}
 use Rattle.device_order.proofs.LineWords.{cut_at}
 use Rattle.device_order.specs.LineChanges.{Lacks}
 use Rattle.device_order.specs.LineWords.{CutAt, any_run}
 use Rattle.device_order.specs.RunStates.{RunState}
+use Rattle.device_order.specs.Summaries.{AreHomed}
 use Rattle.history_book.proofs.Once.{count_append}
 use Rattle.history_book.proofs.Standing.{is_abort}
 use Rattle.history_book.specs.Readings.{OfRun, Reading, is_committed, is_committing, is_live}
 use Rattle.history_book.specs.Settings.{Setting}
 use Rattle.history_book.specs.declared.entries.End.{End}
+use Rattle.home_types.specs.declared.commands.Command.{Command}
 use Rattle.home_types.specs.declared.items.Item.TheVariants.{Back, Failed, Ran}
 use Rattle.home_types.specs.declared.items.Item.{Item}
 use Rattle.lock_leasing.specs.Configurations.{Grips}
-use Rattle.std.proofs.Common.{ap, arith, refl, ◌∙◌}
+use Rattle.std.proofs.Common.{ap, arith, refl, subst, ◌∙◌}
 use Rattle.std.proofs.lemmas.Grind.{common_steps}
 use Rattle.std.specs.List.{list_any}
-use Rattle.std.specs.Prelude.{Bool, List, None, Option, Some, [], count_by, false, is_none, is_some, not, option_map, suc, true, unwrap_or, zero, ℕ, ◌&&◌, ◌++◌, ◌+◌, ◌==◌, ◌||◌, ◌∷◌, ◌≡◌}
+use Rattle.std.specs.Prelude.{Bool, List, None, Option, Some, [], count_by, false, is_none, is_some, not, option_map, suc, true, unwrap_or, zero, ℕ, ◌&&◌, ◌++◌, ◌+◌, ◌<◌, ◌==◌, ◌||◌, ◌∷◌, ◌≡◌}
 use Rattle.window_order.proofs.ReadFacts.{IsRead, lacks_count, runs_distinct}
 use Rattle.window_order.specs.ReadWindows.{held_by}
 
@@ -79,3 +81,16 @@ lacks_parts r front back none = (lacks_count r front (omega (arith, none, total)
   where
     total : count_by (is_ran r) (front ++ back) ≡ count_by (is_ran r) front + count_by (is_ran r) back
     total = count_append (is_ran r) front back
+
+-- a device of commands that are homed is one of the home
+pub uses_homed : (k d : ℕ) (cs : List Command) → AreHomed k cs → list_any (is_on d) cs ≡ true → d < k
+unfolding AreHomed
+uses_homed k d [] homed used = absurd (cc)
+uses_homed k d (c ∷ cs) homed used = at_ (uses_homed k d cs homed.1) (c.device.0 == d) refl used
+  where
+    equal : (x y : ℕ) → (x == y) ≡ true → x ≡ y
+    equal x y h = grind (arith, common_steps)
+
+    at_ : (list_any (is_on d) cs ≡ true → d < k) → (b : Bool) → (c.device.0 == d) ≡ b → (b || list_any (is_on d) cs) ≡ true → d < k
+    at_ ih true e h = subst (λ x. x < k) (equal c.device.0 d e) homed.0
+    at_ ih false e h = ih h

@@ -33,19 +33,20 @@ use Rattle.home_types.specs.declared.commands.Answer.{Answer}
 use Rattle.home_types.specs.declared.commands.Answer.TheVariants.{Fine, Found}
 use Rattle.home_types.specs.declared.commands.Command.{Command}
 use Rattle.lock_leasing.specs.Configurations.{Commands, Grip, Grips, Probes, Purpose, Undoes, is_out, no_grips}
-use Rattle.lock_leasing.specs.Places.{GripsFit}
+use Rattle.lock_leasing.specs.Places.{GripsFit, IsClear}
 use Rattle.lock_leasing.specs.Waits.{behind_wait, dirty_wait, grip_wait}
 use Rattle.lock_leasing.specs.Words.{has_effect, live_before}
 use Rattle.std.proofs.Common.{ap, arith, cond, refl, subst, sym, ◌∙◌}
 use Rattle.std.proofs.lemmas.Grind.{common_steps}
-use Rattle.std.proofs.lemmas.List.{drop_all, take-append-drop}
+use Rattle.std.proofs.lemmas.List.{take-append-drop}
 use Rattle.std.specs.Prelude.{Bool, List, None, Option, Some, [], count_by, drop, false, find, if◌then◌else◌, is_none, is_some, length, nat_lt, not, option_map, slice_get, slice_index_or, suc, take, true, unwrap_or, zero, ℕ, ◌&&◌, ◌++◌, ◌+◌, ◌<◌, ◌==◌, ◌||◌, ◌∷◌, ◌≡◌, ◌≢◌}
+use Rattle.window_order.proofs.ClearLines.{calm_place}
 use Rattle.window_order.proofs.Firsts.{IsNewest, calm_behind, did_history, seen_view, unseen_behind}
 use Rattle.window_order.proofs.Goes.{clean_before, none_before, none_hold, open_behind, view_up}
 use Rattle.window_order.proofs.Grips.{HoldsNone, fits_other, fits_same, fits_with, fits_without, held_none, held_other, held_own, holds_none, in_place, may_command, may_undo, none_left}
 use Rattle.window_order.proofs.HistoryOrder.{placed_history, same_history}
 use Rattle.window_order.proofs.ReadFacts.{IsRead, rest_drop, rest_next}
-use Rattle.window_order.proofs.Runs.{cut_live, four, lacks_parts, live_run, live_uncommitted, run_positive, state_by, three}
+use Rattle.window_order.proofs.Runs.{cut_live, four, lacks_parts, live_run, live_uncommitted, run_positive, state_by, three, uses_homed}
 use Rattle.window_order.specs.OrderKept.{OrderIsKept}
 use Rattle.window_order.specs.ReadWindows.{held_by, probe_of, run_state, window_of}
 
@@ -192,10 +193,12 @@ placed_at_kept w n g held r at m read may calm kept = record {
     lacks : Lacks r (take at n.line) × Lacks r (drop at n.line)
     lacks = lacks_parts r (take at n.line) (drop at n.line) (ap (count_by (is_ran r)) (take-append-drop at n.line) ∙ read.once r ∙ ap (λ b. cond b 1 0) (unplaced (n.run r).placed (not (aborted (n.run r))) none))
 
--- .. as it does at the end
-pub placed_kept : (w : Setting) (n : Reading) (g : Grips) (held : ℕ → ℕ) (r m : ℕ) → IsRead w n → may_follow w n (Placed (run_no r) (length n.line) m) ≡ true → OrderIsKept w n g held → OrderIsKept w (entry w n (Placed (run_no r) (length n.line) m)) g held
-unfolding is_calm_line
-placed_kept w n g held r m read may kept = placed_at_kept w n g held r (length n.line) m read may (λ d used. ap (is_calm_line w.kinds (window_of w n g held).states d) (drop_all (length n.line) n.line (omega arith))) kept
+-- .. as it does where the place is clear
+pub placed_kept : (w : Setting) (n : Reading) (g : Grips) (held : ℕ → ℕ) (r at m : ℕ) → IsRead w n → may_follow w n (Placed (run_no r) at m) ≡ true → IsClear w n g r at → OrderIsKept w n g held → OrderIsKept w (entry w n (Placed (run_no r) at m)) g held
+placed_kept w n g held r at m read may clear kept = placed_at_kept w n g held r at m read may (λ d used. calm_place w n g held r at d read clear (home d (uses_homed (length w.first) d (commands_of w.runs r) (kept.window.runs r).homed used)) used) kept
+  where
+    home : (d : ℕ) → d < length w.first → is_device w d ≡ true
+    home d below = grind (arith, common_steps)
 
 -- A run commits
 

@@ -14,7 +14,7 @@ use Rattle.home_types.specs.declared.commands.Answer.{Answer}
 use Rattle.home_types.specs.declared.numbers.DeviceNo.{DeviceNo}
 use Rattle.lineage_table.specs.Lineages.{LineageState, committed_lineage, lineage_at, no_lineage, removed, with_lineage}
 use Rattle.lock_leasing.specs.Configurations.{Commands, Grips, Undoes, grips_command}
-use Rattle.lock_leasing.specs.Places.{GripsFit}
+use Rattle.lock_leasing.specs.Places.{GripsFit, IsClear}
 use Rattle.std.proofs.Common.{ap, arith, refl, set, subst, sym, ◌∙◌}
 use Rattle.std.proofs.lemmas.Grind.{common_steps}
 use Rattle.std.proofs.lemmas.List.{get_or-set_other, get_or-set_same, length-set, set-set}
@@ -32,7 +32,7 @@ use Rattle.window_order.proofs.Runs.{cut_live}
 use Rattle.window_order.proofs.Steps.{IsOut, out_is}
 use Rattle.window_order.proofs.TableCalls.{touches_now}
 use Rattle.window_order.specs.OrderKept.{OrderIsKept}
-use Rattle.window_order.specs.TableChanges.{ChangesEach, NoneWroteBehind, answered_change, answered_lineage, doomed_change, doomed_lineage, passed_if, placed_change, undone_change, doomed_unless, is_device}
+use Rattle.window_order.specs.TableChanges.{ChangesEach, answered_change, answered_lineage, doomed_change, doomed_lineage, passed_if, placed_change, undone_change, doomed_unless, is_device}
 use Rattle.window_order.specs.TableKept.{LineageIsKept, TableIsKept}
 
 -- a table whose lineages change so is kept where each change keeps its lineage
@@ -47,10 +47,13 @@ changed_table w n m g h change old new each changes kept = record {
 pub same_table : (w : Setting) (n m : Reading) (g h : Grips) (table : List LineageState) → ((d : ℕ) (s : LineageState) → LineageIsKept w n g d s → LineageIsKept w m h d s) → TableIsKept w n g table → TableIsKept w m h table
 same_table w n m g h table each kept = changed_table w n m g h (λ d s. s) table table each (record { devices = refl; each = λ d below. refl }) kept
 
--- a run is placed, with no committed run behind it that has written one of its devices
-pub placed_table : (w : Setting) (n : Reading) (g : Grips) (r at m : ℕ) (old new : List LineageState) → IsRead w n → may_follow w n (Placed (run_no r) at m) ≡ true → NoneWroteBehind w n r at → ChangesEach (placed_change w n r at m) old new → TableIsKept w n g old
+-- a run is placed, where the place is clear
+pub placed_table : (w : Setting) (n : Reading) (g : Grips) (r at m : ℕ) (old new : List LineageState) → IsRead w n → may_follow w n (Placed (run_no r) at m) ≡ true → IsClear w n g r at → ChangesEach (placed_change w n r at m) old new → TableIsKept w n g old
     → TableIsKept w (entry w n (Placed (run_no r) at m)) g new
-placed_table w n g r at m old new read may clear changes kept = changed_table w n (entry w n (Placed (run_no r) at m)) g g (placed_change w n r at m) old new (placed_kept w n g r at m read may clear) changes kept
+placed_table w n g r at m old new read may clear changes kept = record {
+  devices = changes.devices ∙ kept.devices;
+  each = λ d below. subst (LineageIsKept w (entry w n (Placed (run_no r) at m)) g d) (sym (changes.each d (subst (λ x. d < x) (sym kept.devices) below))) (placed_kept w n g r at m read may clear d below (lineage_at old d) (kept.each d below));
+}
 
 -- a run commits
 pub committed_table : (w : Setting) (n : Reading) (g : Grips) (r : ℕ) (old new : List LineageState) → IsRead w n → GripsFit w n g → may_follow w n (Ended (run_no r) Committed) ≡ true → ChangesEach (λ d. committed_lineage r) old new → TableIsKept w n g old

@@ -1,10 +1,10 @@
 -- The end of a window, where no run is live: its line is a serial order for its history, and its last state agrees with the serial execution of the line.
 use Rattle.command_rules.specs.Items.{is_ran, of_run}
-use Rattle.command_rules.specs.Rosters.{command_at, followed_by, follows, is_run, touches_from}
+use Rattle.command_rules.specs.Rosters.{command_at, is_run, touches_from}
 use Rattle.history_book.proofs.Shapes.{put_all}
 use Rattle.history_book.proofs.Standing.{is_abort, stands_in}
 use Rattle.history_book.specs.Histories.{answers_in, entry, executed, more_if, reading}
-use Rattle.history_book.specs.Lines.{behind, is_event_on}
+use Rattle.history_book.specs.Lines.{is_event_on}
 use Rattle.history_book.specs.Readings.{Event, First, Last, Mark, OfRun, PlacedAt, Reading, did, events_of, is_access, nothing_read, is_committed, is_committing, is_live}
 use Rattle.history_book.specs.Settings.{Setting, is_weak}
 use Rattle.history_book.specs.declared.entries.Entry.TheVariants.{Arrived, Did, Doomed, Ended, Fell, Placed, Rose, Undid}
@@ -142,10 +142,6 @@ order_events w n g held o own d =
     sym (filter_twice (is_event_on d) (of_run (λ r. did n r d && not (is_late n r d))) n.line)
     ∙ ap (filter (is_event_on d)) (o.history d).events
     ∙ marked_events n d (n.log d) (own d)
-
--- where no run follows another, each that does stands behind it
-pub order_following_none : (w : Setting) (n : Reading) → ((r : ℕ) → followed_by w.runs r ≡ None) → (r f : ℕ) → IsTrue (follows w.runs r f && is_committed n r && is_committed n f) → IsTrue (list_any (is_ran r) (behind f n.line))
-order_following_none w n none r f h = absurd (clash (follows w.runs r f) (grind (arith, common_steps)) (ap (λ o. unwrap_or (option_map (λ q. q.0 == f) o) false) (none r)))
 
 -- Agreement
 

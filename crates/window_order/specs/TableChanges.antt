@@ -13,16 +13,13 @@ use Rattle.home_types.specs.declared.items.Item.TheVariants.{Back, Failed, Ran}
 use Rattle.home_types.specs.declared.items.Item.{Item}
 use Rattle.home_types.specs.declared.numbers.RunNo.{RunNo}
 use Rattle.home_types.specs.declared.numbers.DeviceNo.{DeviceNo}
-use Rattle.lineage_table.specs.Accesses.{before, has_access, is_acquired, is_of, is_scheduled, some_acquired, some_scheduled, status_of}
+use Rattle.lineage_table.specs.Accesses.{before, has_access, is_acquired, is_of, is_released, is_scheduled, some_acquired, some_scheduled, status_of}
 use Rattle.lineage_table.specs.Lineages.{LineageState, acquired, counted_up, lineage_at, released, scheduled, undone, written}
 use Rattle.lineage_table.specs.declared.accesses.Access.{Access}
 use Rattle.lineage_table.specs.declared.accesses.Status.TheVariants.{Released, Scheduled}
 use Rattle.lock_leasing.specs.Configurations.{Grips, grips_command}
-use Rattle.lock_leasing.specs.Order.{covers}
 use Rattle.lock_leasing.specs.Tables.{view_when}
-use Rattle.std.specs.List.{list_any}
-use Rattle.std.specs.Option.{ForSome}
-use Rattle.std.specs.Prelude.{Bool, List, None, Option, Some, [], drop, false, if◌then◌else◌, length, not, option_map, take, true, unwrap_or, ℕ, ◌+◌, ◌<◌, ◌==◌, ◌||◌, ◌∷◌, ◌≡◌}
+use Rattle.std.specs.Prelude.{Bool, List, None, Option, Some, [], drop, false, if◌then◌else◌, length, map, not, option_map, take, unwrap_or, ℕ, ◌+◌, ◌<◌, ◌==◌, ◌||◌, ◌∷◌, ◌≡◌}
 
 -- the table has the same devices, and each has its lineage changed so
 pub record ChangesEach (change : ℕ → LineageState → LineageState) (old new : List LineageState) : Type 0 where
@@ -42,22 +39,46 @@ first_with_access accesses (Back e k ∷ is) = first_with_access accesses is
 abbrev pub waiting_access : ℕ → List Planned → ℕ → Access
 waiting_access r planned d = record { run = run_no r; status = Scheduled; view = None; wrote = None; from = planned_start planned d; to = planned_end planned d }
 
--- what the table asks for before it schedules the run's access in front of those of these items: the run has none, there is room, and the first of them waits
+-- a released access behind a place is that of a run which was passed, and waits again
+abbrev pub waits_again : Access → Access
+waits_again x = if is_released x.status then record x { status = Scheduled; view = None } else x
+
+-- the access of the run, and those behind it
+abbrev pub from_run : ℕ → List Access → List Access
+from_run q [] = []
+from_run q (x ∷ xs) = if is_of q x then (x ∷ xs) else from_run q xs
+
+-- .. none, where no run is named
+abbrev pub accesses_from : Option RunNo → List Access → List Access
+accesses_from None accesses = []
+accesses_from (Some q) accesses = from_run q.0 accesses
+
+-- the accesses, with those from that of the run on waiting again
+abbrev pub with_again_from : ℕ → List Access → List Access
+with_again_from q [] = []
+with_again_from q (x ∷ xs) = if is_of q x then (waits_again x ∷ map waits_again xs) else (x ∷ with_again_from q xs)
+
+-- .. all as they are, where no run is named
+abbrev pub with_again : Option RunNo → List Access → List Access
+with_again None accesses = accesses
+with_again (Some q) accesses = with_again_from q.0 accesses
+
+abbrev pub rescheduled : Option RunNo → LineageState → LineageState
+rescheduled before s = record s { accesses = with_again before s.accesses }
+
+-- what the table asks for before it schedules the run's access in front of those of these items: the run has none, there is room, and from the first of them on none is acquired
 pub record IsNewOn (r : ℕ) (back : List Item) (s : LineageState) : Type 0 where
   pub none : has_access r s.accesses ≡ false
   pub room : 0 < s.room
-  pub waits : ForSome (first_with_access s.accesses back) (λ q. status_of q.0 s.accesses ≡ Some Scheduled)
+  pub waits : some_acquired (accesses_from (first_with_access s.accesses back) s.accesses) ≡ false
 
--- placed in front of these items it has an access on each of its devices, with these planned times, before the first one of a run among them
+-- placed in front of these items it has an access on each of its devices, with these planned times, before the first one of a run among them: that one and those behind it wait, again where they were passed
 abbrev pub scheduled_on : List Run → ℕ → List Planned → List Item → ℕ → LineageState → LineageState
-scheduled_on runs r planned back d s = if touches runs r d then scheduled (first_with_access s.accesses back) (waiting_access r planned d) s else s
+scheduled_on runs r planned back d s =
+    if touches runs r d then scheduled (first_with_access s.accesses back) (waiting_access r planned d) (rescheduled (first_with_access s.accesses back) s) else s
 
 abbrev pub placed_change : Setting → Reading → ℕ → ℕ → ℕ → ℕ → LineageState → LineageState
 placed_change w n r at m = scheduled_on w.runs r (planned_times w n r (take at n.line) m) (drop at n.line)
-
--- no committed run behind the place has written a device of the run
-abbrev pub NoneWroteBehind : Setting → Reading → ℕ → ℕ → Type 0
-NoneWroteBehind w n r at = (d : ℕ) → touches w.runs r d ≡ true → list_any (covers n d) (drop at n.line) ≡ false
 
 -- A command is answered
 

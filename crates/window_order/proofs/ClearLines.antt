@@ -1,0 +1,87 @@
+-- What stands behind a place that is clear for a run: on the run's devices no answer, no command that is out and no event.
+use Rattle.command_rules.specs.Items.{is_ran, of_run}
+use Rattle.command_rules.specs.Rosters.{commands_of, touches}
+use Rattle.device_order.specs.LineWords.{at_device, is_calm_line}
+use Rattle.device_order.specs.RunStates.{device_summary, uses}
+use Rattle.device_order.specs.Usages.{has_touched as usage_has_touched, is_command as holds_command}
+use Rattle.history_book.specs.Readings.{Reading, did, view_of}
+use Rattle.history_book.specs.Settings.{Setting, is_device}
+use Rattle.home_types.specs.declared.items.Item.TheVariants.{Back, Failed, Ran}
+use Rattle.home_types.specs.declared.items.Item.{Item}
+use Rattle.home_types.specs.declared.numbers.RunNo.{RunNo}
+use Rattle.lock_leasing.proofs.ClearPlaces.{clear_touch, none_beside, unbound_touch}
+use Rattle.lock_leasing.specs.Configurations.{Grips, grips_command}
+use Rattle.lock_leasing.specs.Places.{IsClear, binds}
+use Rattle.lock_leasing.specs.Words.{has_touched}
+use Rattle.std.proofs.Common.{ap, arith, refl, sym, ◌∙◌}
+use Rattle.std.proofs.lemmas.Grind.{common_steps}
+use Rattle.std.specs.List.{list_any}
+use Rattle.std.specs.Prelude.{Bool, List, [], drop, false, is_some, not, true, ℕ, ◌&&◌, ◌==◌, ◌||◌, ◌∷◌, ◌≡◌}
+use Rattle.window_order.proofs.Firsts.{seen_view}
+use Rattle.window_order.proofs.PromisedWords.{command_held}
+use Rattle.window_order.proofs.ReadFacts.{IsRead}
+use Rattle.window_order.specs.ReadWindows.{held_by, run_state, window_of}
+use Rattle.window_order.specs.TableKept.{commits_write}
+
+-- no committed run there wrote one
+pub clear_written : (w : Setting) (n : Reading) (g : Grips) (r at d : ℕ) → IsRead w n → IsClear w n g r at → is_device w d ≡ true → touches w.runs r d ≡ true → list_any (of_run (commits_write n d)) (drop at n.line) ≡ false
+clear_written w n g r at d read clear device used = none_beside (of_run (λ x. has_touched n g x d)) (of_run (commits_write n d)) (drop at n.line) unwritten (clear_touch w n g r at d clear device used)
+  where
+    none : (c h t o : Bool) → (h ≡ true → t ≡ true) → (t || o) ≡ false → (c && h) ≡ false
+    none false h t o has k = refl
+    none true false t o has k = refl
+    none true true t o has k = absurd (let seen : t ≡ true = has refl in let clash : true ≡ false = sym (λ i. seen i || o) ∙ k in cc)
+
+    unwritten : (i : Item) → of_run (λ x. has_touched n g x d) i ≡ false → of_run (commits_write n d) i ≡ false
+    unwritten (Ran q) untouched = none _ (is_some ((n.run q.0).on d).wrote) (did n q.0 d) (grips_command g q.0 d) ((read.shaped q.0).wrote d) untouched
+    unwritten (Failed e k) untouched = refl
+    unwritten (Back e k) untouched = refl
+
+-- no run there has touched one
+pub clear_run : (w : Setting) (n : Reading) (g : Grips) (r at d x : ℕ) → IsClear w n g r at → is_device w d ≡ true → touches w.runs r d ≡ true → list_any (is_ran x) (drop at n.line) ≡ true → has_touched n g x d ≡ false
+clear_run w n g r at d x clear device used there = found (drop at n.line) (clear_touch w n g r at d clear device used) there
+  where
+    same : (a b : ℕ) → (a == b) ≡ true → a ≡ b
+    same a b h = grind (arith, common_steps)
+
+    neither : (a b : Bool) → (a || b) ≡ false → (a ≡ false) × (b ≡ false)
+    neither a b h = (grind (arith, common_steps), grind (arith, common_steps))
+
+    found : (is : List Item) → list_any (of_run (λ q. has_touched n g q d)) is ≡ false → list_any (is_ran x) is ≡ true → has_touched n g x d ≡ false
+    found [] none there = absurd (cc)
+    found (Ran q ∷ is) none there = at_ (neither (has_touched n g q.0 d) (list_any (of_run (λ y. has_touched n g y d)) is) none) (found is) (q.0 == x) refl there
+      where
+        at_ : (has_touched n g q.0 d ≡ false) × (list_any (of_run (λ y. has_touched n g y d)) is ≡ false) → (list_any (of_run (λ y. has_touched n g y d)) is ≡ false → list_any (is_ran x) is ≡ true → has_touched n g x d ≡ false)
+            → (b : Bool) → (q.0 == x) ≡ b → (b || list_any (is_ran x) is) ≡ true → has_touched n g x d ≡ false
+        at_ parts ih true e h = sym (ap (λ y. has_touched n g y d) (same q.0 x e)) ∙ parts.0
+        at_ parts ih false e h = ih parts.1 h
+    found (Failed e k ∷ is) none there = found is none there
+    found (Back e k ∷ is) none there = found is none there
+
+-- it is calm
+pub calm_place : (w : Setting) (n : Reading) (g : Grips) (held : ℕ → ℕ) (r at d : ℕ) → IsRead w n → IsClear w n g r at → is_device w d ≡ true → touches w.runs r d ≡ true → is_calm_line w.kinds (window_of w n g held).states d (drop at n.line) ≡ true
+unfolding is_calm_line
+calm_place w n g held r at d read clear device used = along (drop at n.line) clear
+  where
+    neither : (a b : Bool) → (a || b) ≡ false → (a ≡ false) × (b ≡ false)
+    neither a b h = (grind (arith, common_steps), grind (arith, common_steps))
+
+    -- the use of a run that has not touched the device
+    untouched : (q : RunNo) → has_touched n g q.0 d ≡ false → at_device w.kinds (window_of w n g held).states d usage_has_touched q.0 ≡ false
+    untouched q none = none_used (uses d (commands_of w.runs q.0)) (is_some (device_summary w.kinds (run_state w n g q.0) d).view) (holds_command (held_by w q.0 (g d))) (did n q.0 d) (grips_command g q.0 d) view (command_held w g q.0 d) none
+      where
+        view : is_some (device_summary w.kinds (run_state w n g q.0) d).view ≡ did n q.0 d
+        view = ap is_some ((read.summarized q.0).view d) ∙ seen_view (view_of n q.0 d)
+
+        none_used : (u v c x y : Bool) → v ≡ x → c ≡ y → (x || y) ≡ false → (u && (v || c)) ≡ false
+        none_used u v c x y h k e = grind (arith, common_steps)
+
+    apart : (e : ℕ) → touches w.runs r e ≡ false → (b : Bool) → (e == d) ≡ b → b ≡ false
+    apart e off true h = absurd (let same : e ≡ d = grind (arith, common_steps) in let clash : true ≡ false = sym used ∙ sym (ap (touches w.runs r) same) ∙ off in cc)
+    apart e off false h = refl
+
+    along : (is : List Item) → list_any (binds w n g r) is ≡ false → is_calm_line w.kinds (window_of w n g held).states d is ≡ true
+    along [] none = refl
+    along (Ran q ∷ is) none = let parts = neither (binds w n g r (Ran q)) (list_any (binds w n g r) is) none in λ i. not (untouched q (unbound_touch w n g r d q parts.0 device used) i) && along is parts.1 i
+    along (Failed e k ∷ is) none = let parts = neither (binds w n g r (Failed e k)) (list_any (binds w n g r) is) none in λ i. not (apart e.0 parts.0 (e.0 == d) refl i) && along is parts.1 i
+    along (Back e k ∷ is) none = let parts = neither (binds w n g r (Back e k)) (list_any (binds w n g r) is) none in λ i. not (apart e.0 parts.0 (e.0 == d) refl i) && along is parts.1 i
