@@ -1,4 +1,4 @@
--- The first window of a sound script may be opened on its new home under the eventual model, where no run of it follows another.
+-- The first window of a sound script may be opened on its new home under the eventual model.
 use Rattle.command_rules.specs.Rosters.{Run, commands_of, followed_by, run_at, runs_of}
 use Rattle.command_rules.specs.declared.rosters.Roster.{Roster}
 use Rattle.home_types.specs.Kinds.{kind_at}
@@ -12,11 +12,10 @@ use Rattle.home_types.specs.declared.modes.Visibility.TheVariants.{Eventual}
 use Rattle.home_types.specs.declared.numbers.RunNo.{RunNo}
 use Rattle.hub_core.specs.Homes.{HomeIsKept, HomeState, setting_for}
 use Rattle.hub_core.specs.Openings.{MayOpen, names_values_of}
-use Rattle.hub_core.specs.Stage.{StageAllows}
 use Rattle.routine_reader.proofs.RosterLemmas.{runs-there}
 use Rattle.routine_reader.specs.Rosters.{kinds_of, routine_at, run_of_text, script_runs}
 use Rattle.routine_reader.specs.Scripts.{plain_device, plain_routine, plain_script, plain_window}
-use Rattle.routine_reader.specs.Sound.{IsSound, IsSoundCommand, IsSoundRoutine, IsSoundWindow, device_kinds, suits}
+use Rattle.routine_reader.specs.Sound.{IsSound, IsSoundCommand, IsSoundRoutine, IsSoundRun, IsSoundWindow, device_kinds, suits}
 use Rattle.routine_reader.specs.declared.scripts.DeviceText.{DeviceText}
 use Rattle.routine_reader.specs.declared.scripts.RoutineText.{RoutineText}
 use Rattle.routine_reader.specs.declared.scripts.RunText.{RunText}
@@ -27,8 +26,7 @@ use Rattle.std.proofs.lemmas.Grind.{common_steps}
 use Rattle.std.proofs.lemmas.List.Elements.{All-get_or}
 use Rattle.std.proofs.lemmas.List.{length-map}
 use Rattle.std.proofs.lemmas.Option.{get_or_from_slice_get, slice_get-map, slice_get_within}
-use Rattle.std.specs.List.{list_any}
-use Rattle.std.specs.Prelude.{All, Bool, List, None, Option, Some, [], false, is_some, nat_lt, option_and_then, option_map, slice_get, suc, true, unwrap_or, zero, ℕ, ◌&&◌, ◌<◌, ◌∷◌, ◌||◌, ◌≡◌, ◌≤◌}
+use Rattle.std.specs.Prelude.{All, Bool, IfSome, List, None, Option, Some, [], false, nat_lt, option_and_then, option_map, slice_get, suc, true, unwrap_or, zero, ℕ, ◌&&◌, ◌<◌, ◌∷◌, ◌||◌, ◌≡◌, ◌≤◌}
 
 -- what holds of all items holds of the one at a place
 at_place : {X : Type 0} (P : X → Type 0) (xs : List X) (k : ℕ) (x : X) → All P xs → slice_get xs k ≡ Some x → P x
@@ -77,33 +75,21 @@ run_is_sound script window r sound = by_run (run_at (runs_in script window) r) (
     by_run None each = none_is_sound script
     by_run (Some run) each = each run refl
 
--- of runs none of which follows another
+-- a run follows an earlier one
 
-first_is_free : (text : RunText) (texts : List RunText) → list_any (λ run. is_some run.follows) (text ∷ texts) ≡ false → text.follows ≡ None
-first_is_free text texts none = by_follows text.follows refl
+follows_earlier : (script : Script) (window : WindowText) (r : ℕ) (f : RunNo) → ((k : ℕ) (text : RunText) → slice_get window.runs.items k ≡ Some text → IsSoundRun (length (map plain_routine script.routines.items)) k text) → followed_by (runs_in script window) r ≡ Some f → (1 ≤ f.0) × (f.0 < r)
+follows_earlier script window zero f sound follows = absurd (cc)
+follows_earlier script window (suc i) f sound follows = by_text (slice_get window.runs.items i) refl
   where
-    by_follows : (o : Option RunNo) → text.follows ≡ o → text.follows ≡ None
-    by_follows None is = is
-    by_follows (Some f) is = absurd (let both : true ≡ false = ap (λ o. is_some o || list_any (λ run. is_some run.follows) texts) (sym is) ∙ none in cc)
+    its : option_and_then (λ (run : Run). run.follows) (option_map (run_of_text script) (slice_get window.runs.items i)) ≡ Some f
+    its = ap (option_and_then (λ (run : Run). run.follows)) (sym (slice_get-map (run_of_text script) window.runs.items i)) ∙ follows
 
-rest_are_free : (text : RunText) (texts : List RunText) → list_any (λ run. is_some run.follows) (text ∷ texts) ≡ false → list_any (λ run. is_some run.follows) texts ≡ false
-rest_are_free text texts none = ap (λ o. is_some o || list_any (λ run. is_some run.follows) texts) (sym (first_is_free text texts none)) ∙ none
-
-is_free : (texts : List RunText) (k : ℕ) (text : RunText) → list_any (λ run. is_some run.follows) texts ≡ false → slice_get texts k ≡ Some text → text.follows ≡ None
-is_free [] k text none at = absurd (cc)
-is_free (t ∷ texts) zero text none at = let same : t ≡ text = cc in ap (λ (x : RunText). x.follows) (sym same) ∙ first_is_free t texts none
-is_free (t ∷ texts) (suc k) text none at = is_free texts k text (rest_are_free t texts none) at
-
-follows_none : (script : Script) (window : WindowText) (r : ℕ) → list_any (λ run. is_some run.follows) window.runs.items ≡ false → followed_by (runs_in script window) r ≡ None
-follows_none script window r none = by_run (run_at (runs_in script window) r) (λ run at. there r run at)
-  where
-    there : (r : ℕ) (run : Run) → run_at (runs_in script window) r ≡ Some run → run.follows ≡ None
-    there zero run at = absurd (cc)
-    there (suc i) run at = seen_there (run_of_text script) (λ run. run.follows ≡ None) window.runs.items i run (λ k text is. is_free window.runs.items k text none is) at
-
-    by_run : (o : Option Run) → ((run : Run) → o ≡ Some run → run.follows ≡ None) → option_and_then (λ run. run.follows) o ≡ None
-    by_run None each = refl
-    by_run (Some run) each = each run refl
+    by_text : (o : Option RunText) → slice_get window.runs.items i ≡ o → (1 ≤ f.0) × (f.0 < suc i)
+    by_text None at = absurd (let none : ◌≡◌ {A = Option RunNo} None (Some f) = ap (λ o. option_and_then (λ (run : Run). run.follows) (option_map (run_of_text script) o)) (sym at) ∙ its in cc)
+    by_text (Some text) at =
+        let followed : text.follows ≡ Some f = ap (λ o. option_and_then (λ (run : Run). run.follows) (option_map (run_of_text script) o)) (sym at) ∙ its in
+        let earlier = subst (λ o. IfSome o (λ (x : RunNo). (1 ≤ x.0) × (x.0 ≤ i))) followed (sound i text at).follows in
+        (earlier.0, omega (arith, earlier.1))
 
 -- the values of a sound command are values of its device
 
@@ -121,6 +107,9 @@ both : (a b : Bool) → a ≡ true → b ≡ true → (a && b) ≡ true
 both true b left right = right
 both false b left right = absurd (cc)
 
+below : (m n : ℕ) → m < n → nat_lt m n ≡ true
+below m n is = grind (arith, common_steps)
+
 -- the mode
 
 abbrev pub mode : Mode
@@ -130,7 +119,6 @@ mode = record { model = Eventual; scheduler = Fcfs }
 pub record IsFirst {D : Type 0} (tag : D → ℕ) (stands turns probes faults : D → ℕ) (script : Script) (window : WindowText) (home : HomeState D) (roster : Roster) : Type 0 where
   pub sound : IsSound (plain_script script)
   pub at : slice_get script.windows.items 0 ≡ Some window
-  pub alone : list_any (λ run. is_some run.follows) window.runs.items ≡ false
   pub runs : runs_of roster ≡ script_runs script 0
   pub kept : HomeIsKept tag stands turns probes faults home
   pub kinds : home.kinds ≡ kinds_of script
@@ -148,7 +136,7 @@ may_open tag stands turns probes faults script window home roster is =
       few_commands = λ r. (run_is_sound script window r is.sound).few;
       homed = λ r k c there. let command = (run_is_sound script window r is.sound).each k c there in
           both (nat_lt c.device.0 (length home.world)) _ (within c.device.0 command.device) (names_as (kind_at home.kinds c.device.0) c.job (ap (λ ks. suits (kind_at ks c.device.0) c.job) (is.kinds ∙ sym (same_kinds script.devices.items)) ∙ command.value));
-      follows = λ r f there. absurd (let none = follows_none script window r is.alone in cc);
+      follows = λ r f there. let earlier = follows_earlier script window r f window_sound.runs there in both (nat_lt 0 f.0) (nat_lt f.0 r) (below 0 f.0 earlier.0) (below f.0 r earlier.1);
       mode = refl;
       few_rounds = window_sound.probes;
       few_windows = omega (arith, is.opened);
@@ -162,10 +150,4 @@ may_open tag stands turns probes faults script window home roster is =
         let a = length-map script.devices.items plain_device in
         let b = ap (λ ks. length ks) is.kinds in
         let e = length-map script.devices.items (λ d. d.kind) in
-        let low : d < length home.world = omega (arith, inside, a, b, e, is.kept.kinds) in
-        grind (arith, common_steps)
-
-pub stage_allows : {D : Type 0} (script : Script) (window : WindowText) (home : HomeState D) (roster : Roster) → runs_of roster ≡ script_runs script 0 → slice_get script.windows.items 0 ≡ Some window → list_any (λ run. is_some run.follows) window.runs.items ≡ false → StageAllows (setting_for home roster mode) window.probes
-stage_allows script window home roster runs at none =
-    subst (λ rs. StageAllows (record { runs = rs; mode = mode; kinds = home.kinds; first = home.world }) window.probes) (runs_are script window roster at runs)
-    (record { scheduler = refl; follows_none = λ r. follows_none script window r none })
+        below d (length home.world) (omega (arith, inside, a, b, e, is.kept.kinds))

@@ -21,6 +21,7 @@ pub mod PlannedUses
 pub mod Scheduling
 pub mod NotedAnswers
 pub mod PassedRuns
+pub mod WaitingAgain
 pub mod HubOrders
 pub mod SeenDevices
 pub mod ReturnedOrders
@@ -29,3 +30,5 @@ pub mod ProbesOut
 pub mod ProbesHome
 pub mod ProbesFound
 pub mod HubMarks
+pub mod Placings
+pub mod Revocations

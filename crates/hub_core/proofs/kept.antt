@@ -1,6 +1,7 @@
 -- What is kept of a hub.
 pub mod LineOrder
 pub mod WrittenValues
+pub mod Followed
 pub mod HistoryKept
 pub mod Kept
 pub mod EventsKept

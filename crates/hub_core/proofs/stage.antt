@@ -1,5 +1,5 @@
 -- Windows of this stage, over configurations.
 pub mod CalmHistories
-pub mod StageChoices
+pub mod StrongChoices
 pub mod Progress
 pub mod Closings

@@ -1,10 +1,10 @@
 -- The runs that are marked, each at a device, as numbers.
-use Rattle.hub_core.specs.BlockedRuns.{IsBlocked, next_device}
+use Rattle.hub_core.specs.BlockedRuns.{IsBlocked, NeverRevokes, next_device}
 use Rattle.lock_leasing.specs.Configurations.{Configuration}
 use Rattle.hub_core.specs.declared.turns.Turn.TheVariants.{Absent, Go, Moved, Over, Wait}
 use Rattle.hub_core.specs.declared.turns.Turn.{Turn}
 use Rattle.std.specs.Int.{bit_at}
-use Rattle.std.specs.Prelude.{Bool, List, None, Option, Some, false, nat_lt, slice_index_or, true, ℕ, ◌&&◌, ◌-◌, ◌==◌, ◌≡◌, ◌⊎◌}
+use Rattle.std.specs.Prelude.{Bool, List, Some, false, nat_lt, slice_index_or, true, ℕ, ◌&&◌, ◌-◌, ◌==◌, ◌≡◌, ◌⊎◌}
 
 -- the words of bits: the runs that are marked, and for each device those that were marked there
 pub record BlockedState : Type 0 where
@@ -40,10 +40,10 @@ pub record AreBlocked (s : Configuration) (b : BlockedState) : Type 0 where
   pub blocked : (r : ℕ) → is_marked b r ≡ true → IsBlocked s r
   pub there : (r : ℕ) → is_marked b r ≡ true → (d : ℕ) × (next_device s r ≡ Some d) × (is_marked_at b d r ≡ true)
 
--- where there is a device, the run may be marked there
-abbrev pub MayHaveMarked : BlockedState → ℕ → Option ℕ → BlockedState → Type 0
-MayHaveMarked b r None after = b ≡ after
-MayHaveMarked b r (Some d) after = HasMarked b r d after
+-- the run may be marked at the device of its next command, where it never finds a lease overdue
+pub data MayBeMarked (s : Configuration) (b : BlockedState) (r : ℕ) (after : BlockedState) : Type 0 where
+  Stays : (same : b ≡ after) → MayBeMarked s b r after
+  Marks : (d : ℕ) (next : next_device s r ≡ Some d) (calm : NeverRevokes s r d) (marked : HasMarked b r d after) → MayBeMarked s b r after
 
 -- Under the weak model
 
@@ -55,13 +55,13 @@ is_waiting (Wait why) = true
 is_waiting (Over end made) = false
 is_waiting Absent = false
 
--- where it waits it may be marked at this device
-abbrev pub MarkedIf : Bool → BlockedState → ℕ → Option ℕ → BlockedState → Type 0
-MarkedIf true freed r d after = MayHaveMarked freed r d after
-MarkedIf false freed r d after = freed ≡ after
+-- where it waits it may be marked
+abbrev pub MarkedIf : Bool → Configuration → BlockedState → ℕ → BlockedState → Type 0
+MarkedIf true s freed r after = MayBeMarked s freed r after
+MarkedIf false s freed r after = freed ≡ after
 
--- no run is marked any more, but for this one where it waits, which may be marked at this device
-pub record AreFreedWeakly (waiting : Bool) (r : ℕ) (d : Option ℕ) (after : BlockedState) : Type 0 where
+-- no run is marked any more, but for this one where it waits, which may be marked
+pub record AreFreedWeakly (waiting : Bool) (s : Configuration) (r : ℕ) (after : BlockedState) : Type 0 where
   pub freed : BlockedState
   pub none : NoneMarked freed
-  pub marked : MarkedIf waiting freed r d after
+  pub marked : MarkedIf waiting s freed r after

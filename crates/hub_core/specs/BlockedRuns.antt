@@ -2,12 +2,13 @@
 use Rattle.command_rules.specs.Rosters.{command_at, is_run}
 use Rattle.history_book.specs.Histories.{entries_of}
 use Rattle.history_book.specs.Readings.{is_doomed, is_live, next_command}
-use Rattle.history_book.specs.Settings.{Setting}
+use Rattle.history_book.specs.Settings.{Setting, is_weak}
 use Rattle.history_book.specs.declared.entries.Entry.{Entry}
 use Rattle.history_book.specs.declared.entries.Entry.TheVariants.{Arrived, Did, Doomed, Ended, Fell, Placed, Rose, Undid}
 use Rattle.history_book.specs.declared.entries.Kept.{Kept}
 use Rattle.hub_core.specs.Steps.{Absent, Choice, HandsOut, Moves, Over, Waits, choice_of}
 use Rattle.lock_leasing.specs.Configurations.{Configuration, read_of}
+use Rattle.lock_leasing.specs.Leases.{NeverOverdue}
 use Rattle.lock_leasing.specs.Waits.{grip_wait}
 use Rattle.std.specs.List.{list_all}
 use Rattle.std.specs.Prelude.{Bool, List, None, Option, false, if◌then◌else◌, is_none, not, option_map, true, ℕ, ◌&&◌, ◌++◌, ◌==◌, ◌≡◌, ◌≤◌}
@@ -33,6 +34,10 @@ pub record IsBlocked (s : Configuration) (r : ℕ) : Type 0 where
   pub run : is_run s.setting.runs r ≡ true
   pub free : grip_wait s.setting s.grips r ≡ None
   pub waits : (m : ℕ) → is_wait (choice_of s r m) ≡ true
+
+-- at no moment does the run, whose next command is on the device, find a lease there overdue; under the weak model it looks for none
+abbrev pub NeverRevokes : Configuration → ℕ → ℕ → Type 0
+NeverRevokes s r d = is_weak s.setting.mode ≡ false → NeverOverdue s.setting (read_of s) s.grips r d
 
 -- the entry ends no wait of a run whose next command is on the device: it is of another device, and no placing, doom or end
 abbrev pub is_quiet : Setting → ℕ → Entry → Bool

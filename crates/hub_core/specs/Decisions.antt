@@ -2,7 +2,7 @@
 use Rattle.command_rules.specs.Rosters.{command_at, run_no}
 use Rattle.history_book.specs.Readings.{Reading, is_doomed}
 use Rattle.history_book.specs.Settings.{Setting}
-use Rattle.history_book.specs.declared.entries.Cause.TheVariants.{DownAtEnd, Lost, MustDown, Refuted}
+use Rattle.history_book.specs.declared.entries.Cause.TheVariants.{DownAtEnd, Lost, MustDown, Refuted, Revoked}
 use Rattle.history_book.specs.declared.entries.Cause.{Cause}
 use Rattle.history_book.specs.declared.entries.End.TheVariants.{Aborted, Committed}
 use Rattle.history_book.specs.declared.entries.Entry.TheVariants.{Arrived, Did, Doomed, Ended, Placed, Undid}
@@ -11,25 +11,26 @@ use Rattle.home_types.specs.declared.commands.Answer.TheVariants.{Down, Fine, Fo
 use Rattle.home_types.specs.declared.commands.Answer.{Answer}
 use Rattle.home_types.specs.declared.commands.Command.{Command}
 use Rattle.hub_core.specs.OpenHubs.{purpose_of}
-use Rattle.hub_core.specs.Steps.{Absent as IsAbsent, Choice, HandsOut as IsHandedOut, Moves, Over as IsOver, Waits as IsWaiting, busy_case, down_case, first_case}
-use Rattle.hub_core.specs.declared.decisions.Chosen.TheVariants.{Aborts, Absent, AnswersDown, Arrives, Commits, Drops, FailsAtEnd, HandsOut, Joins, Over, Waits}
+use Rattle.hub_core.specs.Steps.{Absent as IsAbsent, Choice, HandsOut as IsHandedOut, Moves, Over as IsOver, Waits as IsWaiting, aborts, behind_case, busy_case, dirty_case, down_case, first_case, overdue_case, strict_case, undo_cases}
+use Rattle.hub_core.specs.declared.decisions.Chosen.TheVariants.{Aborts, Absent, AnswersDown, Arrives, Commits, Drops, FailsAtEnd, HandsOut, Joins, Over, Revokes, Waits}
 use Rattle.hub_core.specs.declared.decisions.Chosen.{Chosen}
 use Rattle.lock_leasing.specs.Configurations.{Commands, Grips}
-use Rattle.std.specs.Prelude.{Bool, None, Option, Some, [], false, if◌then◌else◌, length, not, ℕ, ◌&&◌, ◌∷◌}
+use Rattle.std.specs.Prelude.{Bool, None, Option, Some, [], false, if◌then◌else◌, not, ℕ, ◌&&◌, ◌∷◌}
 
--- .. of the run at this moment, where the history says this
-abbrev pub told_choice : ℕ → ℕ → Reading → Chosen → Choice
-told_choice r m n Absent = IsAbsent
-told_choice r m n (Over end) = IsOver end []
-told_choice r m n Arrives = Moves (Arrived (run_no r) m ∷ [])
-told_choice r m n Joins = Moves (Placed (run_no r) (length n.line) m ∷ [])
-told_choice r m n Commits = IsOver Committed (Ended (run_no r) Committed ∷ [])
-told_choice r m n (Aborts cause) = IsOver (Aborted cause) (Ended (run_no r) (Aborted cause) ∷ [])
-told_choice r m n (Drops d) = Moves (Undid (run_no r) d false ∷ [])
-told_choice r m n (AnswersDown k must) = Moves (Did (run_no r) k Down ∷ (if must then Doomed (run_no r) (MustDown k) ∷ [] else []))
-told_choice r m n (FailsAtEnd d) = Moves (Doomed (run_no r) (DownAtEnd d) ∷ [])
-told_choice r m n (Waits why) = IsWaiting why
-told_choice r m n (HandsOut d purpose) = IsHandedOut d.0 (purpose_of purpose)
+-- .. of the run at this moment
+abbrev pub told_choice : ℕ → ℕ → Chosen → Choice
+told_choice r m Absent = IsAbsent
+told_choice r m (Over end) = IsOver end []
+told_choice r m Arrives = Moves (Arrived (run_no r) m ∷ [])
+told_choice r m (Joins at) = Moves (Placed (run_no r) at m ∷ [])
+told_choice r m Commits = IsOver Committed (Ended (run_no r) Committed ∷ [])
+told_choice r m (Aborts cause) = IsOver (Aborted cause) (Ended (run_no r) (Aborted cause) ∷ [])
+told_choice r m (Drops d) = Moves (Undid (run_no r) d false ∷ [])
+told_choice r m (Revokes x d deadline) = Moves (Doomed x (Revoked (run_no r) d deadline m) ∷ [])
+told_choice r m (AnswersDown k must) = Moves (Did (run_no r) k Down ∷ (if must then Doomed (run_no r) (MustDown k) ∷ [] else []))
+told_choice r m (FailsAtEnd d) = Moves (Doomed (run_no r) (DownAtEnd d) ∷ [])
+told_choice r m (Waits why) = IsWaiting why
+told_choice r m (HandsOut d purpose) = IsHandedOut d.0 (purpose_of purpose)
 
 -- for what the run is doomed with this answer to its command k: a must check that found another value, where the run is not doomed yet
 abbrev pub refuted_by : Setting → Reading → ℕ → ℕ → Answer → Option Cause
@@ -40,6 +41,18 @@ refuted_by w n r k Down = None
 -- for what the run is doomed whose command k died, the first one on its device or a later one: a first one fails only where it must not, a later access is lost; a run that is doomed already is not doomed again
 abbrev pub died_by : Setting → Reading → ℕ → ℕ → Bool → Option Cause
 died_by w n r k first = if is_doomed n r then None else (if first then (if (command_at w.runs r k).must then Some (MustDown k) else None) else Some (Lost (command_at w.runs r k).device))
+
+-- what a doomed run does in a model with an order: the next device on which it is undone is out, goes out to stand where it would if the run had not written, or is down and the write is dropped; with none left the run ends for the cause of its doom
+abbrev pub strong_doomed : Setting → Reading → Grips → ℕ → Cause → Choice
+strong_doomed w n g r cause = first_case (undo_cases w n g r) (aborts r cause)
+
+-- what the next command, c with the number k, does there where no lease is overdue: a run before it in the line holds its device, it would read the write of a live run before it, a live run before it is one that the model waits for, its device is out, the answer is Down with no call, or the device goes out
+abbrev pub current_command : Setting → Reading → Grips → ℕ → ℕ → Command → Choice
+current_command w n g r k c = first_case (behind_case w n g r c ∷ dirty_case w n g r c ∷ strict_case w n r ∷ busy_case w n g r c ∷ down_case w n r k c ∷ []) (IsHandedOut c.device.0 (Commands k))
+
+-- .. and at this moment: a lease that is overdue on its device is revoked first
+abbrev pub strong_command : Setting → Reading → Grips → ℕ → ℕ → ℕ → Command → Choice
+strong_command w n g r m k c = first_case (overdue_case w n g r m c ∷ []) (current_command w n g r k c)
 
 -- what the next command, c with the number k, does where no run bars it: its device is waited for, the answer is Down with no call, or the device goes out
 abbrev pub unbarred_command : Setting → Reading → Grips → ℕ → ℕ → Command → Choice

@@ -182,7 +182,7 @@ pub record HubStands {D : Type 0} (stands turns probes faults : D → ℕ) (s : 
   pub stand : DevicesStand stands s
   pub told : CallsAreTold turns probes faults s
   -- the window is one of those that this stage works
-  pub stage : StageAllows s.setting s.rounds
+  pub stage : StageAllows s.setting
 
 -- where no device is out and some run has not ended, some run that has not ended does not wait, at any moment
 abbrev pub SomeRunMoves : Configuration → Type 0

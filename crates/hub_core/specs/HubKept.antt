@@ -1,5 +1,8 @@
 -- What is kept of a hub's configuration in each of its steps.
+use Rattle.command_rules.specs.Items.{is_ran}
+use Rattle.command_rules.specs.Rosters.{followed_by}
 use Rattle.history_book.specs.Histories.{entries_of}
+use Rattle.history_book.specs.Lines.{behind}
 use Rattle.history_book.specs.Readings.{Reading, is_live}
 use Rattle.history_book.specs.Settings.{Setting, is_strict, is_weak}
 use Rattle.history_book.specs.WellFormed.{IsWellFormed}
@@ -12,17 +15,19 @@ use Rattle.home_types.specs.declared.items.Item.{Item}
 use Rattle.home_types.specs.declared.items.Item.TheVariants.{Back, Failed, Ran}
 use Rattle.home_types.specs.declared.kinds.Kind.{Kind}
 use Rattle.home_types.specs.declared.modes.Scheduler.TheVariants.{Fcfs}
+use Rattle.home_types.specs.declared.numbers.RunNo.{RunNo}
 use Rattle.hub_core.specs.CleanReads.{ReadsAreClean}
 use Rattle.hub_core.specs.Isolation.{IsStrict}
 use Rattle.hub_core.specs.JustifiedAborts.{IsJustified}
 use Rattle.hub_core.specs.Openings.{MayOpen}
 use Rattle.hub_core.specs.Stage.{StageAllows}
 use Rattle.lock_leasing.specs.Configurations.{Commands, Configuration, Grip, Grips, Probes, Purpose, Undoes, has_grip, is_command, read_of}
+use Rattle.lock_leasing.specs.Order.{is_in_line}
 use Rattle.lock_leasing.specs.Places.{PlacesAreScheduled}
 use Rattle.lock_leasing.specs.Waits.{strict_wait}
 use Rattle.lock_leasing.specs.Words.{has_touched, stamp_of}
-use Rattle.std.specs.List.{list_all}
-use Rattle.std.specs.Prelude.{Bool, IsTrue, List, None, Some, [], false, if◌then◌else◌, length, nat_lt, not, option_map, true, unwrap_or, ℕ, ◌&&◌, ◌+◌, ◌<◌, ◌||◌, ◌∷◌, ◌≡◌, ◌≤◌}
+use Rattle.std.specs.List.{list_all, list_any}
+use Rattle.std.specs.Prelude.{Bool, IsTrue, List, None, Some, [], false, if◌then◌else◌, is_some, length, nat_lt, not, option_map, true, unwrap_or, ℕ, ◌&&◌, ◌+◌, ◌<◌, ◌||◌, ◌∷◌, ◌≡◌, ◌≤◌}
 use Rattle.window_order.specs.OrderKept.{OrderIsKept}
 
 -- the item is a run that was placed after this number of entries
@@ -41,6 +46,11 @@ placed_in_order n (Back d k ∷ is) = placed_in_order n is
 -- a live run that has touched a device, or has out a grip, waits for no run by its model
 abbrev pub ActsInTurn : Setting → Reading → Grips → Type 0
 ActsInTurn w n g = (r d : ℕ) → IsTrue (is_live n r && (has_touched n g r d || has_grip g r d)) → strict_wait w n r ≡ None
+
+-- a run that follows another is placed after the end of that one, and stands behind it where both stand in the line
+pub record FollowersStand (w : Setting) (n : Reading) : Type 0 where
+  pub ended : (r : ℕ) (f : RunNo) → followed_by w.runs r ≡ Some f → is_some (n.run r).placed ≡ true → is_some (n.run f.0).ended ≡ true
+  pub behind_it : (r : ℕ) (f : RunNo) → followed_by w.runs r ≡ Some f → is_in_line n r ≡ true → is_in_line n f.0 ≡ true → list_any (is_ran r) (behind f.0 n.line) ≡ true
 
 -- no run is doomed for a lease that it kept too long
 abbrev pub keeps_leases : Entry → Bool
@@ -99,6 +109,7 @@ pub record HistoryIsKept (s : Configuration) : Type 0 where
   pub isolated : IsTrue (is_strict s.setting.mode) → IsStrict s.setting (entries_of s.history)
   pub unrevoked : s.setting.mode.scheduler ≡ Fcfs → IsTrue (list_all keeps_leases (entries_of s.history))
   pub in_order : s.setting.mode.scheduler ≡ Fcfs → IsTrue (placed_in_order (read_of s) (read_of s).line)
+  pub followed : FollowersStand s.setting (read_of s)
   pub in_turn : ActsInTurn s.setting (read_of s) s.grips
   pub first : NoneAnsweredDoomed (read_of s) s.grips
 
@@ -106,7 +117,7 @@ pub record HistoryIsKept (s : Configuration) : Type 0 where
 pub record ConfigurationIsKept (s : Configuration) (rounds opened : ℕ) (held : ℕ → ℕ) : Type 0 where
   pub opens : MayOpen s.setting rounds opened
   pub strong : is_weak s.setting.mode ≡ false
-  pub stage : StageAllows s.setting rounds
+  pub stage : StageAllows s.setting
   pub kinds : length s.setting.kinds ≡ length s.setting.first
   -- each restart answers a probe, and no more probes of a device are taken than there are rounds
   pub probes : (d : ℕ) → probes_of s d ≤ rounds

@@ -22,7 +22,7 @@ pub record HistoryStands (s : Configuration) : Type 0 where
 -- of a configuration in which each device stands, or stood as it went out, at this value
 pub record IsKeptByModel (s : Configuration) (rounds opened : ℕ) (held : ℕ → ℕ) : Type 0 where
   pub opens : MayOpen s.setting rounds opened
-  pub stage : StageAllows s.setting rounds
+  pub stage : StageAllows s.setting
   pub kinds : length s.setting.kinds ≡ length s.setting.first
   pub probes : (d : ℕ) → probes_of s d ≤ rounds
   pub values : (d : ℕ) → d < length s.setting.first → IsTrue (has_value (kind_at s.setting.kinds d) (stand_at s.setting.first d).value)

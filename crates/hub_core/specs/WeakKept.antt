@@ -32,7 +32,7 @@ NoneHasFailed w n = (r : ℕ) → (n.run r).doomed ≡ None → IsTrue (none_fai
 -- what is kept of a configuration of the weak model in which the hub holds this to be the value of each device: the last one written
 pub record WeakIsKept (s : Configuration) (rounds opened : ℕ) (held : ℕ → ℕ) : Type 0 where
   pub opens : MayOpen s.setting rounds opened
-  pub stage : StageAllows s.setting rounds
+  pub stage : StageAllows s.setting
   pub weak : is_weak s.setting.mode ≡ true
   pub kinds : length s.setting.kinds ≡ length s.setting.first
   -- each restart answers a probe, and no more probes of a device are taken than there are rounds

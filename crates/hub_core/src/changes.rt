@@ -23,7 +23,6 @@ use crate::purposes::Purpose;
 use crate::read_histories::{ReadHistory, must_down};
 use device_gate::{Grip, Ready};
 use device_states::Device;
-use fcfs_scheduler::place;
 use history_book::{Cause, Entry, Made};
 use home_types::{Answer, DeviceNo, RunNo, Value};
 
@@ -55,7 +54,7 @@ impl<D: Device> OpenWindow<D> {
 
     /// The run arrives.
     pub(crate) fn arrive(&mut self, r: RunNo, moment: u64) -> Made
-        requires { choice_of (configuration_of self.old) r.0 moment ≡ told_choice r.0 (max self.old.moment moment) (read_of (configuration_of self.old)) Chosen.Arrives }
+        requires { choice_of (configuration_of self.old) r.0 moment ≡ told_choice r.0 (max self.old.moment moment) Chosen.Arrives }
         ensures answer { Answers self.old r.0 moment (Moves (entries_made result)) self.new }
         ensures window { SameWindow self.old self.new }
     {
@@ -63,27 +62,26 @@ impl<D: Device> OpenWindow<D> {
         one_made(self.history.arrive(r, self.moment))
     }
 
-    /// The run is placed.
-    pub(crate) fn join(&mut self, r: RunNo, moment: u64) -> Made
-        requires { choice_of (configuration_of self.old) r.0 moment ≡ told_choice r.0 (max self.old.moment moment) (read_of (configuration_of self.old)) Chosen.Joins }
+    /// The run is placed behind so many items of the line.
+    pub(crate) fn join(&mut self, r: RunNo, moment: u64, at: u32) -> Made
+        requires { choice_of (configuration_of self.old) r.0 moment ≡ told_choice r.0 (max self.old.moment moment) (Chosen.Joins at) }
         ensures answer { Answers self.old r.0 moment (Moves (entries_made result)) self.new }
         ensures window { SameWindow self.old self.new }
     {
         if self.history.is_weak() {
-            self.place_at_end(r, moment)
+            self.place_weakly(r, moment, at)
         } else {
-            self.place(r, moment)
+            self.place(r, moment, at)
         }
     }
 
-    /// The run is placed where the scheduler says, and the entry, the line and the table are told that place.
-    fn place(&mut self, r: RunNo, moment: u64) -> Made
+    /// The entry, the line and the table are told the place of the run, behind so many items of the line.
+    fn place(&mut self, r: RunNo, moment: u64, at: u32) -> Made
         requires strong { is_weak self.old.setting.mode ≡ false }
-        requires chosen { choice_of (configuration_of self.old) r.0 moment ≡ told_choice r.0 (max self.old.moment moment) (read_of (configuration_of self.old)) Chosen.Joins }
+        requires chosen { choice_of (configuration_of self.old) r.0 moment ≡ told_choice r.0 (max self.old.moment moment) (Chosen.Joins at) }
         ensures answer { Answers self.old r.0 moment (Moves (entries_made result)) self.new }
         ensures window { SameWindow self.old self.new }
     {
-        let at = place(&self.standing(), r);
         self.moment = self.moment.max(moment);
         self.order.join(self.history.roster(), r, at, self.moment);
         one_made(self.history.place(r, at, self.moment))
@@ -91,7 +89,7 @@ impl<D: Device> OpenWindow<D> {
 
     /// The run's write on the device, which is counted down, is dropped: it is undone with no call.
     pub(crate) fn drop_undo(&mut self, r: RunNo, moment: u64, d: DeviceNo) -> Made
-        requires { choice_of (configuration_of self.old) r.0 moment ≡ told_choice r.0 (max self.old.moment moment) (read_of (configuration_of self.old)) (Chosen.Drops d) }
+        requires { choice_of (configuration_of self.old) r.0 moment ≡ told_choice r.0 (max self.old.moment moment) (Chosen.Drops d) }
         ensures answer { Answers self.old r.0 moment (Moves (entries_made result)) self.new }
         ensures window { SameWindow self.old self.new }
     {
@@ -103,7 +101,7 @@ impl<D: Device> OpenWindow<D> {
     /// The run's command with the number `k` is answered `Down` with no call of its device, and where it is a must the
     /// run is doomed.
     pub(crate) fn answer_down(&mut self, r: RunNo, moment: u64, k: u32, must: bool) -> Made
-        requires { choice_of (configuration_of self.old) r.0 moment ≡ told_choice r.0 (max self.old.moment moment) (read_of (configuration_of self.old)) (Chosen.AnswersDown k must) }
+        requires { choice_of (configuration_of self.old) r.0 moment ≡ told_choice r.0 (max self.old.moment moment) (Chosen.AnswersDown k must) }
         ensures answer { Answers self.old r.0 moment (Moves (entries_made result)) self.new }
         ensures window { SameWindow self.old self.new }
     {
@@ -122,7 +120,7 @@ impl<D: Device> OpenWindow<D> {
 
     /// The run, which has all its commands answered, is doomed, since it needs the device up, which is counted down.
     pub(crate) fn fail_at_end(&mut self, r: RunNo, moment: u64, d: DeviceNo) -> Made
-        requires { choice_of (configuration_of self.old) r.0 moment ≡ told_choice r.0 (max self.old.moment moment) (read_of (configuration_of self.old)) (Chosen.FailsAtEnd d) }
+        requires { choice_of (configuration_of self.old) r.0 moment ≡ told_choice r.0 (max self.old.moment moment) (Chosen.FailsAtEnd d) }
         ensures answer { Answers self.old r.0 moment (Moves (entries_made result)) self.new }
         ensures window { SameWindow self.old self.new }
     {
@@ -131,9 +129,35 @@ impl<D: Device> OpenWindow<D> {
         one_made(self.history.doom(r.0, r, Cause::DownAtEnd(d)))
     }
 
+    /// The lease of the borrower on the device is overdue for the run `r`, which asks for it, with this deadline, in ms: the
+    /// borrower is doomed. It is done with each device that it has acquired, but for the one that is out for a command of it.
+    pub(crate) fn revoke(
+        &mut self,
+        r: RunNo,
+        moment: u64,
+        borrower: RunNo,
+        d: DeviceNo,
+        deadline: u64,
+    ) -> Made
+        requires { choice_of (configuration_of self.old) r.0 moment ≡ told_choice r.0 (max self.old.moment moment) (Chosen.Revokes borrower d deadline) }
+        ensures answer { Answers self.old r.0 moment (Moves (entries_made result)) self.new }
+        ensures window { SameWindow self.old self.new }
+    {
+        let out = self.grip_of(borrower);
+        self.moment = self.moment.max(moment);
+        self.order.doom(borrower, out);
+        let cause = Cause::Revoked {
+            lender: r,
+            device: d,
+            deadline,
+            moment: self.moment,
+        };
+        one_made(self.history.doom(r.0, borrower, cause))
+    }
+
     /// The run commits.
     pub(crate) fn commit(&mut self, r: RunNo, moment: u64) -> Made
-        requires { choice_of (configuration_of self.old) r.0 moment ≡ told_choice r.0 (max self.old.moment moment) (read_of (configuration_of self.old)) Chosen.Commits }
+        requires { choice_of (configuration_of self.old) r.0 moment ≡ told_choice r.0 (max self.old.moment moment) Chosen.Commits }
         ensures answer { Answers self.old r.0 moment (Over Committed (entries_made result)) self.new }
         ensures window { SameWindow self.old self.new }
     {
@@ -144,7 +168,7 @@ impl<D: Device> OpenWindow<D> {
 
     /// The run ends aborted, for this cause.
     pub(crate) fn abort(&mut self, r: RunNo, moment: u64, cause: Cause) -> Made
-        requires { choice_of (configuration_of self.old) r.0 moment ≡ told_choice r.0 (max self.old.moment moment) (read_of (configuration_of self.old)) (Chosen.Aborts cause) }
+        requires { choice_of (configuration_of self.old) r.0 moment ≡ told_choice r.0 (max self.old.moment moment) (Chosen.Aborts cause) }
         ensures answer { Answers self.old r.0 moment (Over (Aborted cause) (entries_made result)) self.new }
         ensures window { SameWindow self.old self.new }
     {

@@ -2,10 +2,9 @@ ghost use Rattle.std.specs.Prelude.{◌≡◌, ◌<◌, ◌≤◌, IsTrue, None,
 ghost use Rattle.command_rules.specs.Rosters.{command_at, commands_of, is_run};
 ghost use Rattle.history_book.specs.Readings.{is_live};
 ghost use Rattle.history_book.specs.Settings.{is_weak};
-ghost use Rattle.hub_core.specs.Decisions.{told_choice, unbarred_command};
+ghost use Rattle.hub_core.specs.Decisions.{current_command, strong_command, strong_doomed, told_choice, unbarred_command};
 ghost use Rattle.hub_core.specs.HubSteps.{command_task, task_of};
 ghost use Rattle.hub_core.specs.OpenHubs.{configuration_of, purpose_of};
-ghost use Rattle.hub_core.specs.Stage.{stage_command, stage_doomed};
 ghost use Rattle.hub_core.specs.Steps.{choice_of, decide_answered};
 ghost use Rattle.lineage_table.specs.Accesses.{access_of};
 ghost use Rattle.lineage_table.specs.Lineages.{accesses_at};
@@ -36,13 +35,15 @@ pub(crate) enum Chosen {
     /// The run has ended so before.
     Over(End),
     Arrives,
-    /// It is placed at the end of the line.
-    Joins,
+    /// It is placed behind so many items of the line.
+    Joins(u32),
     Commits,
     /// It is doomed for this cause, has nothing left to undo, and ends.
     Aborts(Cause),
     /// It is doomed, and its write on the device, which is counted down, is dropped.
     Drops(DeviceNo),
+    /// The lease of this other run on the device is past this deadline, in ms: the borrower is doomed.
+    Revokes(RunNo, DeviceNo, u64),
     /// Its next command, of this number, is answered `Down` with no call of its device, and dooms it where it is a must.
     AnswersDown(u32, bool),
     /// It is doomed, since all its commands are answered and the device, which it needs up, is counted down.
@@ -52,12 +53,10 @@ pub(crate) enum Chosen {
 }
 
 impl<D: Device> OpenWindow<D> {
-    /// What the step of the run `r` is to do, by the cases of a step in order.
-    ///
-    /// In this stage no run follows another, each is placed at the end of the line, and no lease is overdue: the cases
-    /// for these are left out.
+    /// What the step of the run `r` is to do at this moment, in ms, or at the last one where that is later, by the cases of a
+    /// step in order.
     pub(crate) fn decide(&self, r: RunNo, moment: u64) -> Chosen
-        ensures { told_choice r.0 (max self.now.moment moment) (read_of (configuration_of self.now)) result ≡ choice_of (configuration_of self.now) r.0 moment }
+        ensures { told_choice r.0 (max self.now.moment moment) result ≡ choice_of (configuration_of self.now) r.0 moment }
     {
         if !self.history.has_run(r) {
             return Chosen::Absent;
@@ -69,11 +68,12 @@ impl<D: Device> OpenWindow<D> {
         if let Some(d) = self.grip_of(r) {
             return Chosen::Waits(Why::Busy(d));
         }
-        if progress.arrived.is_none() {
+        let Some(arrived) = progress.arrived else {
             return Chosen::Arrives;
-        }
+        };
+        let moment = self.moment.max(moment);
         if progress.placed.is_none() {
-            return Chosen::Joins;
+            return self.decide_arrived(r, arrived, moment);
         }
         if self.history.is_weak() {
             return self.decide_weakly(r, progress);
@@ -82,7 +82,7 @@ impl<D: Device> OpenWindow<D> {
             return self.decide_doomed(r, cause);
         }
         match self.history.next_command(r) {
-            Some(command) => self.decide_command(r, progress.answered, command),
+            Some(command) => self.decide_command(r, progress.answered, command, moment),
             None => self.decide_answered(r),
         }
     }
@@ -92,7 +92,7 @@ impl<D: Device> OpenWindow<D> {
     fn decide_doomed(&self, r: RunNo, cause: Cause) -> Chosen
         requires strong { is_weak self.now.setting.mode ≡ false }
         requires live { is_live (read_of (configuration_of self.now)) r.0 ≡ true }
-        ensures { (m : ℕ) → told_choice r.0 m (read_of (configuration_of self.now)) result ≡ stage_doomed self.now.setting (read_of (configuration_of self.now)) (configuration_of self.now).grips r.0 cause }
+        ensures { (m : ℕ) → told_choice r.0 m result ≡ strong_doomed self.now.setting (read_of (configuration_of self.now)) (configuration_of self.now).grips r.0 cause }
     {
         let standing = self.standing();
         match next_undo(standing.table, r) {
@@ -119,7 +119,7 @@ impl<D: Device> OpenWindow<D> {
     fn decide_answered(&self, r: RunNo) -> Chosen
         requires strong { is_weak self.now.setting.mode ≡ false }
         requires turn { IsUnderWay (read_of (configuration_of self.now)) r.0 }
-        ensures { (m : ℕ) → told_choice r.0 m (read_of (configuration_of self.now)) result ≡ decide_answered self.now.setting (read_of (configuration_of self.now)) (configuration_of self.now).grips r.0 }
+        ensures { (m : ℕ) → told_choice r.0 m result ≡ decide_answered self.now.setting (read_of (configuration_of self.now)) (configuration_of self.now).grips r.0 }
     {
         let standing = self.standing();
         match down_at_end(self.history.model(), &standing, r) {
@@ -128,12 +128,27 @@ impl<D: Device> OpenWindow<D> {
         }
     }
 
-    /// What the next command of `r`, with the number `k`, is to do.
-    fn decide_command(&self, r: RunNo, k: u32, command: Command) -> Chosen
+    /// What the next command of `r`, with the number `k`, is to do at this moment, in ms: it revokes a lease on its device that
+    /// is overdue, or does what it may where none is.
+    fn decide_command(&self, r: RunNo, k: u32, command: Command, moment: u64) -> Chosen
         requires strong { is_weak self.now.setting.mode ≡ false }
         requires turn { IsAtCommand (configuration_of self.now) r.0 k }
         requires command { command_at self.now.setting.runs r.0 k ≡ command }
-        ensures { (m : ℕ) → told_choice r.0 m (read_of (configuration_of self.now)) result ≡ stage_command self.now.setting (read_of (configuration_of self.now)) (configuration_of self.now).grips r.0 k command }
+        ensures { told_choice r.0 moment result ≡ strong_command self.now.setting (read_of (configuration_of self.now)) (configuration_of self.now).grips r.0 moment k command }
+    {
+        let d = command.device;
+        match self.overdue_lease(r, d, moment) {
+            Some((borrower, deadline)) => Chosen::Revokes(borrower, d, deadline),
+            None => self.decide_current(r, k, command),
+        }
+    }
+
+    /// What the next command of `r`, with the number `k`, is to do, where no lease on its device is overdue.
+    fn decide_current(&self, r: RunNo, k: u32, command: Command) -> Chosen
+        requires strong { is_weak self.now.setting.mode ≡ false }
+        requires turn { IsAtCommand (configuration_of self.now) r.0 k }
+        requires command { command_at self.now.setting.runs r.0 k ≡ command }
+        ensures { (m : ℕ) → told_choice r.0 m result ≡ current_command self.now.setting (read_of (configuration_of self.now)) (configuration_of self.now).grips r.0 k command }
     {
         let standing = self.standing();
         match test_touch(&standing, r, k) {
@@ -155,7 +170,7 @@ impl<D: Device> OpenWindow<D> {
         requires strong { is_weak self.now.setting.mode ≡ false }
         requires turn { IsAtCommand (configuration_of self.now) r.0 k }
         requires command { command_at self.now.setting.runs r.0 k ≡ command }
-        ensures { (m : ℕ) → told_choice r.0 m (read_of (configuration_of self.now)) result ≡ unbarred_command self.now.setting (read_of (configuration_of self.now)) (configuration_of self.now).grips r.0 k command }
+        ensures { (m : ℕ) → told_choice r.0 m result ≡ unbarred_command self.now.setting (read_of (configuration_of self.now)) (configuration_of self.now).grips r.0 k command }
     {
         let d = command.device;
         if sees_down(&self.order.table, r, d) {

@@ -1,8 +1,8 @@
 //! The runs that a step may have freed are blocked no more.
 ghost use Rattle.std.specs.Prelude.{◌≡◌, ◌≢◌, IsTrue, false, option_to_list, true, ◌⊎◌};
 ghost use Rattle.history_book.specs.Histories.{entries_made};
-ghost use Rattle.hub_core.specs.BlockedMarks.{AreFreedWeakly, AreLeft, MayHaveMarked, is_waiting};
-ghost use Rattle.hub_core.specs.BlockedRuns.{is_quiet, next_device};
+ghost use Rattle.hub_core.specs.BlockedMarks.{AreFreedWeakly, AreLeft, MayBeMarked, is_waiting};
+ghost use Rattle.hub_core.specs.BlockedRuns.{is_quiet};
 ghost use Rattle.hub_core.specs.MarkedRuns.{IsAnsweredStill, is_out_for_command};
 ghost use Rattle.hub_core.specs.OpenHubs.{configuration_of};
 ghost use Rattle.std.specs.List.{list_all};
@@ -14,13 +14,18 @@ use device_states::Device;
 use history_book::{Entry, Made};
 use home_types::{DeviceNo, RunNo};
 
-/// The run waits: it is marked at the device of its next command, if it is at a command.
+/// The run waits: it is marked at the device of its next command, if it is at a command. A lender is not: its wait may end
+/// as a lease falls due.
 pub(crate) fn mark_waiting<D: Device>(blocked: &mut BlockedRuns, window: &OpenWindow<D>, r: RunNo)
-    ensures { MayHaveMarked blocked.old r.0 (next_device (configuration_of window.now) r.0) blocked.new }
+    ensures { MayBeMarked (configuration_of window.now) blocked.old r.0 blocked.new }
 {
-    if let Some(d) = window.next_device(r) {
-        blocked.mark(r, d);
+    let Some(d) = window.next_device(r) else {
+        return;
+    };
+    if window.may_lend(r, d) {
+        return;
     }
+    blocked.mark(r, d);
 }
 
 /// A step of the run under the weak model: it may have freed everybody, and where it waits the run alone is marked.
@@ -30,7 +35,7 @@ pub(crate) fn free_weakly<D: Device>(
     turn: &Turn<D>,
     r: RunNo,
 )
-    ensures { AreFreedWeakly (is_waiting turn.now) r.0 (next_device (configuration_of window.now) r.0) blocked.new }
+    ensures { AreFreedWeakly (is_waiting turn.now) (configuration_of window.now) r.0 blocked.new }
 {
     blocked.unmark_all();
     match turn {

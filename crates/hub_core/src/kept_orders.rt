@@ -18,6 +18,7 @@ ghost use Rattle.window_order.specs.TableChanges.{ChangesEach, IsNewOn, first_wi
 use crate::plans::{PlannedUse, planned_uses};
 use crate::purposes::Purpose;
 use crate::releases::{pass_before, release_all};
+use crate::reschedules::wait_again;
 use abort_rollback::{Undo, withdraw};
 use command_rules::Roster;
 use commit_compaction::commit;
@@ -68,8 +69,8 @@ impl KeptOrder {
     }
 
     /// The run stands at this place in the line, counted from 0, and has an access on each of its devices, with the times
-    /// for which it is planned at this moment. There it stands before the first access of a run behind it. Takes no
-    /// memory.
+    /// for which it is planned at this moment. There it stands before the first access of a run behind it, which waits,
+    /// as do those behind it: those that were passed wait again. Takes no memory.
     pub(crate) fn join(&mut self, roster: &Roster, r: RunNo, at: u32, moment: u64)
         requires run { IsTrue (is_run (runs_of roster.now) r.0) }
         requires few { length self.old.table ≤ most_devices }
@@ -186,6 +187,7 @@ fn schedule(table: &mut Table, line: &Line, at: u32, roster: &Roster, r: RunNo, 
         if let Some(used) = uses[d.0 as usize] {
             uses[d.0 as usize] = None;
             let before = first_behind(line, table, at, d);
+            wait_again(table, d, before);
             table.schedule(d, before, waiting(r, used));
         }
     }
@@ -227,7 +229,7 @@ fn run_with_access(table: &Table, d: DeviceNo, item: Item) -> Option<RunNo>
 {
     match item {
         Item::Ran(r) => {
-            if table.access(d, r).is_some() {
+            if table.next_device(r, d) == Some(d) {
                 Some(r)
             } else {
                 None

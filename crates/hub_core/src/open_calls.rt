@@ -66,7 +66,7 @@ impl<D: Device> Home<D> {
         rounds: u32,
     ) -> Result<Hub<D>, (Home<D>, NoMemory)>
         requires may { MayOpen (setting_for self roster mode) rounds self.opened }
-        requires stage { StageAllows (setting_for self roster mode) rounds }
+        requires stage { StageAllows (setting_for self roster mode) }
         ensures opened { IfOk result (λ hub. IsOpened D.turns D.probes D.faults (setting_for self roster mode) rounds self hub) }
         ensures refused { IfErr result (λ refused. refused.0 ≡ self) }
     {

@@ -1,4 +1,4 @@
-//! The planned times of a run that is placed first come first served: its commands follow one another.
+//! The planned times of a run that waits for no device: its commands follow one another.
 ghost use Rattle.std.specs.Prelude.{◌≡◌, ◌<◌, Some, slice_get, ℕ};
 ghost use Rattle.std.specs.List.{All};
 ghost use Rattle.home_types.specs.Limits.{most_devices};

@@ -1,16 +1,19 @@
 ghost use Rattle.std.specs.Prelude.{◌≡◌, ◌+◌, ◌<◌, ◌^◌, ◌&&◌, ◌||◌, IfSome, IsTrue, None, Some, find, if◌then◌else◌, is_none, length, not, option_map, true, ℕ};
-ghost use Rattle.command_rules.specs.Rosters.{command_at, commands_of, is_run, runs_of};
-ghost use Rattle.history_book.specs.Settings.{is_weak, run_numbers};
+ghost use Rattle.command_rules.specs.Rosters.{command_at, commands_of, followed_by, is_run, runs_of};
+ghost use Rattle.history_book.specs.Settings.{is_weak, run_numbers, scheduler_of};
 ghost use Rattle.history_book.specs.Readings.{is_doomed, is_live, next_command, next_of, pends};
 ghost use Rattle.home_types.specs.Kinds.{kind_at};
 ghost use Rattle.hub_core.specs.Decisions.{died_by, refuted_by};
 ghost use Rattle.hub_core.specs.OpenHubs.{progress_of};
 ghost use Rattle.hub_core.specs.ReadHistories.{read_in, with_entry};
+ghost use Rattle.lock_leasing.specs.Waits.{follow_wait};
 
 use crate::known::RunProgress;
 use command_rules::{IndexedRoster, Roster, register_after};
 use history_book::{Book, Cause, End, Entry, Kept};
-use home_types::{Answer, Command, DeviceNo, Job, Kind, List, Mode, RunNo, Visibility, World};
+use home_types::{
+    Answer, Command, DeviceNo, Job, Kind, List, Mode, RunNo, Scheduler, Visibility, World,
+};
 use std::marker::Model;
 
 /// The history of a window, with the progress of each run kept beside it, so that no step reads it anew.
@@ -72,6 +75,30 @@ impl ReadHistory {
         ensures { result ≡ self.now.setting.mode.model }
     {
         self.mode.model
+    }
+
+    /// By what runs are placed: the models other than the eventual one serve them when they come.
+    pub(crate) fn scheduler(&self) -> Scheduler
+        ensures { result ≡ scheduler_of self.now.setting.mode }
+    {
+        match self.mode.model {
+            Visibility::Weak | Visibility::Global | Visibility::Partitioned => Scheduler::Fcfs,
+            Visibility::Eventual => self.mode.scheduler,
+        }
+    }
+
+    /// The run that `r` follows, where that has not ended.
+    pub(crate) fn awaited_leader(&self, r: RunNo) -> Option<RunNo>
+        requires run { IsTrue (is_run self.now.setting.runs r.0) }
+        requires leader { IfSome (followed_by self.now.setting.runs r.0) (λ f. IsTrue (is_run self.now.setting.runs f.0)) }
+        ensures { result ≡ follow_wait self.now.setting (read_in self.now) r.0 }
+    {
+        let leader = self.roster().followed_by(r)?;
+        if self.progress(leader).ended.is_none() {
+            Some(leader)
+        } else {
+            None
+        }
     }
 
     /// Whether the window is one of the weak model.

@@ -32,8 +32,11 @@ impl<D: Device> OpenWindow<D> {
                 Turn::Wait(why)
             }
             Chosen::Arrives => Turn::Moved(self.arrive(r, moment)),
-            Chosen::Joins => Turn::Moved(self.join(r, moment)),
+            Chosen::Joins(place) => Turn::Moved(self.join(r, moment, place)),
             Chosen::Drops(d) => Turn::Moved(self.drop_undo(r, moment, d)),
+            Chosen::Revokes(borrower, d, deadline) => {
+                Turn::Moved(self.revoke(r, moment, borrower, d, deadline))
+            }
             Chosen::AnswersDown(k, must) => Turn::Moved(self.answer_down(r, moment, k, must)),
             Chosen::FailsAtEnd(d) => Turn::Moved(self.fail_at_end(r, moment, d)),
             Chosen::Commits => Turn::Over(End::Committed, self.commit(r, moment)),

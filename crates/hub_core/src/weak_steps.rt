@@ -26,7 +26,7 @@ impl<D: Device> OpenWindow<D> {
     pub(crate) fn decide_weakly(&self, r: RunNo, progress: RunProgress) -> Chosen
         requires run { is_run self.now.setting.runs r.0 ≡ true }
         requires known { progress ≡ progress_of ((read_of (configuration_of self.now)).run r.0) }
-        ensures { (m : ℕ) → told_choice r.0 m (read_of (configuration_of self.now)) result ≡ weak_rest self.now.setting (read_of (configuration_of self.now)) (configuration_of self.now).grips r.0 }
+        ensures { (m : ℕ) → told_choice r.0 m result ≡ weak_rest self.now.setting (read_of (configuration_of self.now)) (configuration_of self.now).grips r.0 }
     {
         if let Some(cause) = progress.doomed {
             return Chosen::Aborts(cause);
@@ -45,14 +45,13 @@ impl<D: Device> OpenWindow<D> {
         }
     }
 
-    /// The run is placed at the end of the line, and has no access.
-    pub(crate) fn place_at_end(&mut self, r: RunNo, moment: u64) -> Made
+    /// The run is placed behind so many items of the line, which is its end, and has no access.
+    pub(crate) fn place_weakly(&mut self, r: RunNo, moment: u64, at: u32) -> Made
         requires weak { is_weak self.old.setting.mode ≡ true }
-        requires chosen { choice_of (configuration_of self.old) r.0 moment ≡ told_choice r.0 (max self.old.moment moment) (read_of (configuration_of self.old)) Chosen.Joins }
+        requires chosen { choice_of (configuration_of self.old) r.0 moment ≡ told_choice r.0 (max self.old.moment moment) (Chosen.Joins at) }
         ensures answer { Answers self.old r.0 moment (Moves (entries_made result)) self.new }
         ensures window { SameWindow self.old self.new }
     {
-        let at = self.order.line.len();
         self.moment = self.moment.max(moment);
         self.order.line.insert(at, Item::Ran(r));
         one_made(self.history.place(r, at, self.moment))

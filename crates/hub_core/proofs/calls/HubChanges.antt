@@ -28,7 +28,7 @@ use Rattle.hub_core.specs.HubSteps.{Chose, HubStep, SlipFits, Take, carried_afte
 use Rattle.hub_core.specs.HubsKept.{HasRoomLeft, HubIsKept, IsWhole, all_probes_taken, is_away, open_of}
 use Rattle.hub_core.specs.KeptOrders.{OrderIsBeside}
 use Rattle.hub_core.specs.OpenHubs.{OpenHub, configuration_of, device_at, events_in, held_in, purpose_of, state_of}
-use Rattle.hub_core.specs.ReadHistories.{HistoryState, read_in, with_doom, with_entry, with_more}
+use Rattle.hub_core.specs.ReadHistories.{HistoryState, with_doom, with_entry, with_more}
 use Rattle.hub_core.specs.Steps.{Choice, Moves, Over, after_choice, after_take, at_moment, choice_of}
 use Rattle.hub_core.specs.declared.decisions.Chosen.{Chosen}
 use Rattle.hub_core.specs.declared.open_windows.ClosingLists.{ClosingLists}
@@ -145,9 +145,9 @@ abbrev pub entered : {D : Type 0} → Inside D → ℕ → ℕ → List Entry �
 entered h r m es order = record h { history = with_more h.history r es; moment = max h.moment m; order = order }
 
 -- what the step of the run does is told of the parts, also where it is told of what the hub shows
-pub chosen_here : {D : Type 0} (h : Inside D) (s : OpenHub D) (r m : ℕ) (x : Chosen) → open_of h ≡ s → choice_of (configuration_of s) r m ≡ told_choice r (max s.moment m) (read_of (configuration_of s)) x
-    → choice_of (configuration_of (open_of h)) r m ≡ told_choice r (max h.moment m) (read_in h.history) x
-chosen_here {D = D} h s r m x seen is = subst (λ (y : OpenHub D). choice_of (configuration_of y) r m ≡ told_choice r (max y.moment m) (read_of (configuration_of y)) x) (sym seen) is
+pub chosen_here : {D : Type 0} (h : Inside D) (s : OpenHub D) (r m : ℕ) (x : Chosen) → open_of h ≡ s → choice_of (configuration_of s) r m ≡ told_choice r (max s.moment m) x
+    → choice_of (configuration_of (open_of h)) r m ≡ told_choice r (max h.moment m) x
+chosen_here {D = D} h s r m x seen is = subst (λ (y : OpenHub D). choice_of (configuration_of y) r m ≡ told_choice r (max y.moment m) x) (sym seen) is
 
 -- the model has an order, also where it is told of what the hub shows
 pub strong_here : {D : Type 0} (h : Inside D) (s : OpenHub D) (b : Bool) → open_of h ≡ s → is_weak s.setting.mode ≡ b → is_weak h.history.setting.mode ≡ b

@@ -1,6 +1,6 @@
 -- What the code finds in each case of a step is the choice of the step.
-use Rattle.hub_core.specs.WeakSteps.{weak_choice, weak_rest}
-use Rattle.hub_core.proofs.weak.WeakChoices.{weak_choice_is}
+use Rattle.hub_core.specs.WeakSteps.{weak_rest}
+use Rattle.hub_core.proofs.weak.WeakChoices.{rest_is}
 use Rattle.hub_core.specs.Openings.{names_values_of}
 use Rattle.home_types.specs.Kinds.{kind_at}
 use Rattle.hub_core.proofs.steps.Choices.{decide_is}
@@ -14,11 +14,10 @@ use Rattle.device_gate.specs.declared.slips.Slip.{Slip}
 use Rattle.history_book.specs.Histories.{entries_of}
 use Rattle.history_book.specs.Readings.{PlacedAt, Reading, is_doomed, is_live, next_command, next_of, sees_down}
 use Rattle.history_book.specs.Settings.{Setting, is_device, is_weak}
-use Rattle.history_book.specs.declared.entries.Cause.TheVariants.{DownAtEnd, MustDown}
+use Rattle.history_book.specs.declared.entries.Cause.TheVariants.{DownAtEnd, MustDown, Revoked}
 use Rattle.history_book.specs.declared.entries.Cause.{Cause}
 use Rattle.history_book.specs.declared.entries.End.TheVariants.{Committed}
-use Rattle.history_book.specs.declared.entries.End.{End}
-use Rattle.history_book.specs.declared.entries.Entry.TheVariants.{Arrived, Did, Doomed, Ended, Placed, Undid}
+use Rattle.history_book.specs.declared.entries.Entry.TheVariants.{Did, Doomed, Ended, Undid}
 use Rattle.history_book.specs.declared.entries.Kept.{Kept}
 use Rattle.home_types.specs.declared.commands.Answer.TheVariants.{Down}
 use Rattle.home_types.specs.declared.commands.Command.{Command}
@@ -26,22 +25,22 @@ use Rattle.home_types.specs.declared.modes.Visibility.{Visibility}
 use Rattle.home_types.specs.declared.numbers.DeviceNo.{DeviceNo}
 use Rattle.home_types.specs.declared.numbers.RunNo.{RunNo}
 use Rattle.hub_core.proofs.calls.NextUndos.{undo_of}
-use Rattle.hub_core.proofs.stage.StageChoices.{StageSteps, stage_choice_is, stage_steps}
-use Rattle.hub_core.specs.Decisions.{unbarred_command}
+use Rattle.hub_core.proofs.stage.StrongChoices.{command_current, command_is, doomed_is}
+use Rattle.hub_core.specs.Decisions.{current_command, strong_command, strong_doomed, unbarred_command}
 use Rattle.hub_core.specs.KeptByModel.{IsKeptByModel}
 use Rattle.hub_core.specs.HubsKept.{HubIsKept}
-use Rattle.hub_core.specs.OpenHubs.{OpenHub, configuration_of, grip_in, held_in, progress_of}
-use Rattle.hub_core.specs.Stage.{stage_choice, stage_command, stage_doomed}
-use Rattle.hub_core.specs.Steps.{Absent, Choice, HandsOut, Moves, Over, Waits, aborts, choice_of, decide_answered, down_entries}
+use Rattle.hub_core.specs.OpenHubs.{OpenHub, configuration_of, grip_in, progress_of}
+use Rattle.hub_core.specs.Steps.{Absent, Choice, HandsOut, Moves, Over, Waits, aborts, choice_of, decide, decide_answered, decide_arrived, decide_command, decide_doomed, down_entries}
 use Rattle.hub_core.specs.declared.known.RunProgress.{RunProgress}
 use Rattle.hub_core.specs.declared.purposes.Purpose.{Purpose as KeptPurpose}
 use Rattle.hub_core.specs.declared.waits.Why.TheVariants.{Behind, Busy, Dirty, Strict}
 use Rattle.lineage_table.specs.Lineages.{LineageState}
 use Rattle.lock_leasing.specs.Configurations.{Commands, Configuration, Grips, Undoes, is_out, read_of}
+use Rattle.lock_leasing.specs.Leases.{overdue_lease}
 use Rattle.lock_leasing.specs.Standings.{IsAtCommand, IsStandingOf}
 use Rattle.lock_leasing.specs.Touches.{IsTouchOf, touch_of}
 use Rattle.lock_leasing.specs.Waits.{behind_wait, dirty_wait, down_at_end, grip_wait, strict_wait}
-use Rattle.lock_leasing.specs.Words.{next_undo_of, value_without}
+use Rattle.lock_leasing.specs.Words.{lease_deadline, next_undo_of, overdue_for, value_without}
 use Rattle.lock_leasing.specs.declared.touches.Touch.TheVariants.{Behind as TouchBehind, Dirty as TouchDirty, Free}
 use Rattle.lock_leasing.specs.declared.touches.Touch.{Touch}
 use Rattle.serial_line.specs.Marks.{Mark}
@@ -85,18 +84,18 @@ waits_for (TouchBehind d x) = Waits (Behind d x)
 waits_for (TouchDirty d x) = Waits (Dirty d x)
 waits_for Free = Absent
 
-pub command_behind : (w : Setting) (n : Reading) (g : Grips) (r k : ℕ) (c : Command) (d : DeviceNo) (x : RunNo) → TouchBehind d x ≡ touch_of w n g r c → Waits (Behind d x) ≡ stage_command w n g r k c
+pub command_behind : (w : Setting) (n : Reading) (g : Grips) (r k : ℕ) (c : Command) (d : DeviceNo) (x : RunNo) → TouchBehind d x ≡ touch_of w n g r c → Waits (Behind d x) ≡ current_command w n g r k c
 command_behind w n g r k c d x touch = at_ (behind_wait w n g r c.device.0) (dirty_wait w n g r c) refl refl
   where
-    at_ : (o p : Option ℕ) → behind_wait w n g r c.device.0 ≡ o → dirty_wait w n g r c ≡ p → Waits (Behind d x) ≡ stage_command w n g r k c
+    at_ : (o p : Option ℕ) → behind_wait w n g r c.device.0 ≡ o → dirty_wait w n g r c ≡ p → Waits (Behind d x) ≡ current_command w n g r k c
     at_ (Some y) p behind dirty = ap waits_for (touch ∙ touch_is w n g r c (Some y) p behind dirty) ∙ sym (rw behind refl)
     at_ None (Some y) behind dirty = absurd (let both : TouchBehind d x ≡ TouchDirty c.device (run_no y) = touch ∙ touch_is w n g r c None (Some y) behind dirty in cc)
     at_ None None behind dirty = absurd (let both : TouchBehind d x ≡ Free = touch ∙ touch_is w n g r c None None behind dirty in cc)
 
-pub command_dirty : (w : Setting) (n : Reading) (g : Grips) (r k : ℕ) (c : Command) (d : DeviceNo) (x : RunNo) → TouchDirty d x ≡ touch_of w n g r c → Waits (Dirty d x) ≡ stage_command w n g r k c
+pub command_dirty : (w : Setting) (n : Reading) (g : Grips) (r k : ℕ) (c : Command) (d : DeviceNo) (x : RunNo) → TouchDirty d x ≡ touch_of w n g r c → Waits (Dirty d x) ≡ current_command w n g r k c
 command_dirty w n g r k c d x touch = at_ (behind_wait w n g r c.device.0) (dirty_wait w n g r c) refl refl
   where
-    at_ : (o p : Option ℕ) → behind_wait w n g r c.device.0 ≡ o → dirty_wait w n g r c ≡ p → Waits (Dirty d x) ≡ stage_command w n g r k c
+    at_ : (o p : Option ℕ) → behind_wait w n g r c.device.0 ≡ o → dirty_wait w n g r c ≡ p → Waits (Dirty d x) ≡ current_command w n g r k c
     at_ (Some y) p behind dirty = absurd (let both : TouchDirty d x ≡ TouchBehind c.device (run_no y) = touch ∙ touch_is w n g r c (Some y) p behind dirty in cc)
     at_ None (Some y) behind dirty = ap waits_for (touch ∙ touch_is w n g r c None (Some y) behind dirty) ∙ sym (rw (behind, dirty) refl)
     at_ None None behind dirty = absurd (let both : TouchDirty d x ≡ Free = touch ∙ touch_is w n g r c None None behind dirty in cc)
@@ -114,10 +113,10 @@ free_is w n g r c touch = at_ (behind_wait w n g r c.device.0) (dirty_wait w n g
     at_ None (Some y) behind dirty = absurd (let both : Free ≡ TouchDirty c.device (run_no y) = touch ∙ touch_is w n g r c None (Some y) behind dirty in cc)
     at_ None None behind dirty = record { behind = behind; dirty = dirty }
 
-pub command_strict : (w : Setting) (n : Reading) (g : Grips) (r k : ℕ) (c : Command) (x : RunNo) → Free ≡ touch_of w n g r c → Some x ≡ option_map run_no (strict_wait w n r) → Waits (Strict x) ≡ stage_command w n g r k c
+pub command_strict : (w : Setting) (n : Reading) (g : Grips) (r k : ℕ) (c : Command) (x : RunNo) → Free ≡ touch_of w n g r c → Some x ≡ option_map run_no (strict_wait w n r) → Waits (Strict x) ≡ current_command w n g r k c
 command_strict w n g r k c x touch found = at_ (strict_wait w n r) refl
   where
-    at_ : (o : Option ℕ) → strict_wait w n r ≡ o → Waits (Strict x) ≡ stage_command w n g r k c
+    at_ : (o : Option ℕ) → strict_wait w n r ≡ o → Waits (Strict x) ≡ current_command w n g r k c
     at_ None e = absurd (let both : Some x ≡ None = found ∙ ap (option_map run_no) e in cc)
     at_ (Some y) e = let free = free_is w n g r c touch in ap (λ o. unwrap_or (option_map (λ z. Waits (Strict z)) o) Absent) (found ∙ ap (option_map run_no) e) ∙ sym (rw (free.behind, free.dirty, e) refl)
 
@@ -130,7 +129,7 @@ not_strict w n r none = at_ (strict_wait w n r) refl
     at_ (Some y) e = absurd (let both : None ≡ Some (run_no y) = none ∙ ap (option_map run_no) e in cc)
 
 -- .. so nothing bars it but its device
-pub command_unbarred : (w : Setting) (n : Reading) (g : Grips) (r k : ℕ) (c : Command) (x : Choice) → Free ≡ touch_of w n g r c → None ≡ option_map run_no (strict_wait w n r) → x ≡ unbarred_command w n g r k c → x ≡ stage_command w n g r k c
+pub command_unbarred : (w : Setting) (n : Reading) (g : Grips) (r k : ℕ) (c : Command) (x : Choice) → Free ≡ touch_of w n g r c → None ≡ option_map run_no (strict_wait w n r) → x ≡ unbarred_command w n g r k c → x ≡ current_command w n g r k c
 command_unbarred w n g r k c x touch none is = let free = free_is w n g r c touch in is ∙ sym (rw (free.behind, free.dirty, not_strict w n r none) refl)
 
 pub unbarred_seen : (w : Setting) (n : Reading) (g : Grips) (r k : ℕ) (c : Command) → is_weak w.mode ≡ false → sees_down n r c.device.0 ≡ true → Moves (down_entries r k c) ≡ unbarred_command w n g r k c
@@ -144,6 +143,25 @@ unbarred_down w n g r k c strong unseen home down = sym (rw (strong, unseen, hom
 
 pub unbarred_goes : (w : Setting) (n : Reading) (g : Grips) (r k : ℕ) (c : Command) → is_weak w.mode ≡ false → sees_down n r c.device.0 ≡ false → is_out g c.device.0 ≡ false → n.up c.device.0 ≡ true → HandsOut c.device.0 (Commands k) ≡ unbarred_command w n g r k c
 unbarred_goes w n g r k c strong unseen home up = sym (rw (strong, unseen, home, up) refl)
+
+-- .. where no lease is overdue; one that is gets revoked
+
+pub command_revokes : (w : Setting) (n : Reading) (g : Grips) (r m k : ℕ) (c : Command) (borrower : RunNo) (deadline : ℕ) → Some (borrower, deadline) ≡ overdue_lease w n g r c.device.0 m → Moves (Doomed borrower (Revoked (run_no r) c.device deadline m) ∷ []) ≡ strong_command w n g r m k c
+command_revokes w n g r m k c borrower deadline is = at_ (overdue_for w n g r c.device.0 m) refl
+  where
+    revoked : Option (RunNo × ℕ) → Choice
+    revoked o = unwrap_or (option_map (λ p. Moves (Doomed p.0 (Revoked (run_no r) c.device p.1 m) ∷ [])) o) Absent
+
+    at_ : (o : Option ℕ) → overdue_for w n g r c.device.0 m ≡ o → Moves (Doomed borrower (Revoked (run_no r) c.device deadline m) ∷ []) ≡ strong_command w n g r m k c
+    at_ None e = absurd (let both : Some (borrower, deadline) ≡ None = is ∙ ap (option_map (λ x. (run_no x, lease_deadline w n x c.device.0))) e in cc)
+    at_ (Some x) e = ap revoked (is ∙ ap (option_map (λ y. (run_no y, lease_deadline w n y c.device.0))) e) ∙ sym (rw e refl)
+
+pub command_stays : (w : Setting) (n : Reading) (g : Grips) (r m k : ℕ) (c : Command) (x : Choice) → None ≡ overdue_lease w n g r c.device.0 m → x ≡ current_command w n g r k c → x ≡ strong_command w n g r m k c
+command_stays w n g r m k c x none is = is ∙ sym (command_current w n g r m k c (at_ (overdue_for w n g r c.device.0 m) refl))
+  where
+    at_ : (o : Option ℕ) → overdue_for w n g r c.device.0 m ≡ o → overdue_for w n g r c.device.0 m ≡ None
+    at_ None e = e
+    at_ (Some y) e = absurd (let both : None ≡ Some (run_no y, lease_deadline w n y c.device.0) = none ∙ ap (option_map (λ z. (run_no z, lease_deadline w n z c.device.0))) e in cc)
 
 -- what was told of the hub's own parts
 
@@ -229,16 +247,16 @@ dropped_is w n g r d told = by_next (next_undo_of w n g r) refl told
     by_next None next t = absurd (cc)
     by_next (Some e) next t = at e next (n.up e) refl t
 
-pub doomed_busy : (w : Setting) (n : Reading) (g : Grips) (r : ℕ) (cause : Cause) (d : DeviceNo) → next_undo_of w n g r ≡ Some d.0 → is_out g d.0 ≡ true → Waits (Busy d) ≡ stage_doomed w n g r cause
+pub doomed_busy : (w : Setting) (n : Reading) (g : Grips) (r : ℕ) (cause : Cause) (d : DeviceNo) → next_undo_of w n g r ≡ Some d.0 → is_out g d.0 ≡ true → Waits (Busy d) ≡ strong_doomed w n g r cause
 doomed_busy w n g r cause d next out = sym (rw (next, out) refl)
 
-pub doomed_goes : (w : Setting) (n : Reading) (g : Grips) (r : ℕ) (cause : Cause) (d : DeviceNo) (v : ℕ) → IsDriven w n g r d.0 v → is_out g d.0 ≡ false → HandsOut d.0 (Undoes v) ≡ stage_doomed w n g r cause
+pub doomed_goes : (w : Setting) (n : Reading) (g : Grips) (r : ℕ) (cause : Cause) (d : DeviceNo) (v : ℕ) → IsDriven w n g r d.0 v → is_out g d.0 ≡ false → HandsOut d.0 (Undoes v) ≡ strong_doomed w n g r cause
 doomed_goes w n g r cause d v driven home = ap (λ x. HandsOut d.0 (Undoes x)) driven.value ∙ sym (rw (driven.next, home, driven.up) refl)
 
-pub doomed_drops : (w : Setting) (n : Reading) (g : Grips) (r : ℕ) (cause : Cause) (d : DeviceNo) → IsDropped w n g r d.0 → is_out g d.0 ≡ false → Moves (Undid (run_no r) d false ∷ []) ≡ stage_doomed w n g r cause
+pub doomed_drops : (w : Setting) (n : Reading) (g : Grips) (r : ℕ) (cause : Cause) (d : DeviceNo) → IsDropped w n g r d.0 → is_out g d.0 ≡ false → Moves (Undid (run_no r) d false ∷ []) ≡ strong_doomed w n g r cause
 doomed_drops w n g r cause d dropped home = sym (rw (dropped.next, home, dropped.down) refl)
 
-pub doomed_ends : (w : Setting) (n : Reading) (g : Grips) (r : ℕ) (cause : Cause) → Finished ≡ undo_of w n g r → aborts r cause ≡ stage_doomed w n g r cause
+pub doomed_ends : (w : Setting) (n : Reading) (g : Grips) (r : ℕ) (cause : Cause) → Finished ≡ undo_of w n g r → aborts r cause ≡ strong_doomed w n g r cause
 doomed_ends w n g r cause told = sym (rw (none (next_undo_of w n g r) told) refl)
   where
     either : (b : Bool) (e : ℕ) → Finished ≡ (if b then Drive (device_no e) (value_without w n g r e) else Drop (device_no e)) → ⊥
@@ -251,45 +269,21 @@ doomed_ends w n g r cause told = sym (rw (none (next_undo_of w n g r) told) refl
 
 -- The cases of a run
 
-pub case_absent : (w : Setting) (n : Reading) (g : Grips) (r m : ℕ) → is_run w.runs r ≡ false → Absent ≡ stage_choice w n g r m
-case_absent w n g r m none = sym (rw none refl)
-
-pub case_over : (w : Setting) (n : Reading) (g : Grips) (r m : ℕ) (e : End) → is_run w.runs r ≡ true → (n.run r).ended ≡ Some e → Over e [] ≡ stage_choice w n g r m
-case_over w n g r m e run ended = sym (rw (run, ended) refl)
-
-pub case_gripped : (w : Setting) (n : Reading) (g : Grips) (r m : ℕ) (d : DeviceNo) → is_run w.runs r ≡ true → (n.run r).ended ≡ None → Some d.0 ≡ grip_wait w g r → Waits (Busy d) ≡ stage_choice w n g r m
-case_gripped w n g r m d run going grip = sym (rw (run, going, ← grip) refl)
-
-pub case_arrives : (w : Setting) (n : Reading) (g : Grips) (r m : ℕ) → is_run w.runs r ≡ true → (n.run r).ended ≡ None → None ≡ grip_wait w g r → is_none (n.run r).arrived ≡ true → Moves (Arrived (run_no r) m ∷ []) ≡ stage_choice w n g r m
-case_arrives w n g r m run going free away = sym (rw (run, going, ← free, away) refl)
-
-pub case_joins : (w : Setting) (n : Reading) (g : Grips) (r m : ℕ) → is_run w.runs r ≡ true → (n.run r).ended ≡ None → None ≡ grip_wait w g r → is_none (n.run r).arrived ≡ false → is_none (n.run r).placed ≡ true
-    → Moves (Placed (run_no r) (length n.line) m ∷ []) ≡ stage_choice w n g r m
-case_joins w n g r m run going free there outside = sym (rw (run, going, ← free, there, outside) refl)
+pub case_arrived : (w : Setting) (n : Reading) (g : Grips) (r m : ℕ) (x : Choice) → is_run w.runs r ≡ true → (n.run r).ended ≡ None → None ≡ grip_wait w g r → is_none (n.run r).arrived ≡ false → is_none (n.run r).placed ≡ true
+    → x ≡ decide_arrived w n g r m → x ≡ decide w n g r m
+case_arrived w n g r m x run going free there outside is = is ∙ sym (rw (run, going, ← free, there, outside) refl)
 
 pub case_answered : (w : Setting) (n : Reading) (g : Grips) (r m : ℕ) (x : Choice) → is_run w.runs r ≡ true → (n.run r).ended ≡ None → None ≡ grip_wait w g r → is_none (n.run r).arrived ≡ false → is_none (n.run r).placed ≡ false
-    → (n.run r).doomed ≡ None → None ≡ next_command w n r → x ≡ decide_answered w n g r → x ≡ stage_choice w n g r m
+    → (n.run r).doomed ≡ None → None ≡ next_command w n r → x ≡ decide_answered w n g r → x ≡ decide w n g r m
 case_answered w n g r m x run going free there placed sound none is = is ∙ sym (rw (run, going, ← free, there, placed, sound, ← none) refl)
 
 pub case_doomed : (w : Setting) (n : Reading) (g : Grips) (r m : ℕ) (cause : Cause) (x : Choice) → is_run w.runs r ≡ true → (n.run r).ended ≡ None → None ≡ grip_wait w g r → is_none (n.run r).arrived ≡ false → is_none (n.run r).placed ≡ false
-    → (n.run r).doomed ≡ Some cause → x ≡ stage_doomed w n g r cause → x ≡ stage_choice w n g r m
+    → (n.run r).doomed ≡ Some cause → x ≡ decide_doomed w n g r cause → x ≡ decide w n g r m
 case_doomed w n g r m cause x run going free there placed doomed is = is ∙ sym (rw (run, going, ← free, there, placed, doomed) refl)
 
 pub case_command : (w : Setting) (n : Reading) (g : Grips) (r m : ℕ) (c : Command) (x : Choice) → is_run w.runs r ≡ true → (n.run r).ended ≡ None → None ≡ grip_wait w g r → is_none (n.run r).arrived ≡ false → is_none (n.run r).placed ≡ false
-    → (n.run r).doomed ≡ None → Some c ≡ next_command w n r → x ≡ stage_command w n g r (next_of n r) c → x ≡ stage_choice w n g r m
+    → (n.run r).doomed ≡ None → Some c ≡ next_command w n r → x ≡ decide_command w n g r m (next_of n r) c → x ≡ decide w n g r m
 case_command w n g r m c x run going free there placed sound next is = is ∙ sym (rw (run, going, ← free, there, placed, sound, ← next) refl)
-
--- What the type of a hub keeps makes its steps those of this stage
-
-pub stage_hub : {D : Type 0} (stands turns probes faults : D → ℕ) (s t : OpenHub D) → s ≡ t → is_weak s.setting.mode ≡ false → HubIsKept stands turns probes faults s → StageSteps t.setting (read_of (configuration_of t))
-stage_hub {D = D} stands turns probes faults s t same strong k =
-    subst (λ (x : OpenHub D). StageSteps x.setting (read_of (configuration_of x))) same (stage_steps (configuration_of s) s.rounds s.opened (held_in s) (k.configuration.ordered strong))
-
-pub choice_hub : {D : Type 0} (stands turns probes faults : D → ℕ) (s t : OpenHub D) (r m : ℕ) → s ≡ t → is_weak s.setting.mode ≡ false → HubIsKept stands turns probes faults s
-    → choice_of (configuration_of t) r m ≡ stage_choice t.setting (read_of (configuration_of t)) (configuration_of t).grips r (max t.moment m)
-choice_hub {D = D} stands turns probes faults s t r m same strong k =
-    subst (λ (x : OpenHub D). choice_of (configuration_of x) r m ≡ stage_choice x.setting (read_of (configuration_of x)) (configuration_of x).grips r (max x.moment m)) same
-    (stage_choice_is (configuration_of s) s.rounds s.opened (held_in s) r m (k.configuration.ordered strong))
 
 -- The last cases, of a run that is under way, by what is kept of it
 
@@ -298,12 +292,12 @@ was_placed : (o : Option PlacedAt) → is_some (option_map (λ p. p.stamp) o) �
 was_placed None e = absurd (cc)
 was_placed (Some p) e = refl
 
-pub hub_answers : {D : Type 0} (stands turns probes faults : D → ℕ) (s t : OpenHub D) (r m : ℕ) (p : RunProgress) (x : Choice) → s ≡ t → is_weak s.setting.mode ≡ false → HubIsKept stands turns probes faults s
+pub hub_answers : {D : Type 0} (s t : OpenHub D) (r m : ℕ) (p : RunProgress) (x : Choice) → s ≡ t → is_weak s.setting.mode ≡ false
     → true ≡ is_run s.setting.runs r → p ≡ progress_of ((read_of (configuration_of s)).run r) → p.ended ≡ None → None ≡ grip_wait t.setting (configuration_of t).grips r
     → is_some p.arrived ≡ true → is_some p.placed ≡ true → p.doomed ≡ None → None ≡ next_command s.setting (read_of (configuration_of s)) r
     → x ≡ decide_answered t.setting (read_of (configuration_of t)) (configuration_of t).grips r
     → x ≡ choice_of (configuration_of t) r m
-hub_answers {D = D} stands turns probes faults s t r m p x same strong k run known going free there placed sound none is =
+hub_answers {D = D} s t r m p x same strong run known going free there placed sound none is =
     case_answered s.setting (read_of (configuration_of s)) (configuration_of s).grips r (max s.moment m) x (sym run)
     (ap (λ (y : RunProgress). y.ended) (sym known) ∙ going)
     (free ∙ ap (λ (y : OpenHub D). grip_wait y.setting (configuration_of y).grips r) (sym same))
@@ -312,19 +306,18 @@ hub_answers {D = D} stands turns probes faults s t r m p x same strong k run kno
     (ap (λ (y : RunProgress). y.doomed) (sym known) ∙ sound)
     none
     (is ∙ ap (λ (y : OpenHub D). decide_answered y.setting (read_of (configuration_of y)) (configuration_of y).grips r) (sym same))
-    ∙ sym (stage_choice_is (configuration_of s) s.rounds s.opened (held_in s) r m (k.configuration.ordered strong))
     ∙ ap (λ (y : OpenHub D). choice_of (configuration_of y) r m) same
   where
     absent : {A : Type 0} (o : Option A) → is_some o ≡ true → is_none o ≡ false
     absent None e = absurd (cc)
     absent (Some x) e = refl
 
-pub hub_commands : {D : Type 0} (stands turns probes faults : D → ℕ) (s t : OpenHub D) (r m : ℕ) (p : RunProgress) (c : Command) (x : Choice) → s ≡ t → is_weak s.setting.mode ≡ false → HubIsKept stands turns probes faults s
+pub hub_commands : {D : Type 0} (s t : OpenHub D) (r m : ℕ) (p : RunProgress) (c : Command) (x : Choice) → s ≡ t → is_weak s.setting.mode ≡ false
     → true ≡ is_run s.setting.runs r → p ≡ progress_of ((read_of (configuration_of s)).run r) → p.ended ≡ None → None ≡ grip_wait t.setting (configuration_of t).grips r
     → is_some p.arrived ≡ true → is_some p.placed ≡ true → p.doomed ≡ None → Some c ≡ next_command s.setting (read_of (configuration_of s)) r
-    → x ≡ stage_command t.setting (read_of (configuration_of t)) (configuration_of t).grips r p.answered c
+    → x ≡ strong_command t.setting (read_of (configuration_of t)) (configuration_of t).grips r (max t.moment m) p.answered c
     → x ≡ choice_of (configuration_of t) r m
-hub_commands {D = D} stands turns probes faults s t r m p c x same strong k run known going free there placed sound next is =
+hub_commands {D = D} s t r m p c x same strong run known going free there placed sound next is =
     case_command s.setting (read_of (configuration_of s)) (configuration_of s).grips r (max s.moment m) c x (sym run)
     (ap (λ (y : RunProgress). y.ended) (sym known) ∙ going)
     (free ∙ ap (λ (y : OpenHub D). grip_wait y.setting (configuration_of y).grips r) (sym same))
@@ -332,28 +325,27 @@ hub_commands {D = D} stands turns probes faults s t r m p c x same strong k run 
     (absent ((read_of (configuration_of s)).run r).placed (was_placed ((read_of (configuration_of s)).run r).placed (ap (λ (y : RunProgress). is_some y.placed) (sym known) ∙ placed)))
     (ap (λ (y : RunProgress). y.doomed) (sym known) ∙ sound)
     next
-    (is ∙ ap (λ (y : OpenHub D). stage_command y.setting (read_of (configuration_of y)) (configuration_of y).grips r p.answered c) (sym same) ∙ ap (λ (y : RunProgress). stage_command s.setting (read_of (configuration_of s)) (configuration_of s).grips r y.answered c) known)
-    ∙ sym (stage_choice_is (configuration_of s) s.rounds s.opened (held_in s) r m (k.configuration.ordered strong))
+    (is ∙ ap (λ (y : OpenHub D). strong_command y.setting (read_of (configuration_of y)) (configuration_of y).grips r (max y.moment m) p.answered c) (sym same) ∙ ap (λ (y : RunProgress). strong_command s.setting (read_of (configuration_of s)) (configuration_of s).grips r (max s.moment m) y.answered c) known
+    ∙ sym (command_is s.setting (read_of (configuration_of s)) (configuration_of s).grips r (max s.moment m) (next_of (read_of (configuration_of s)) r) c strong))
     ∙ ap (λ (y : OpenHub D). choice_of (configuration_of y) r m) same
   where
     absent : {A : Type 0} (o : Option A) → is_some o ≡ true → is_none o ≡ false
     absent None e = absurd (cc)
     absent (Some y) e = refl
 
-pub hub_dooms : {D : Type 0} (stands turns probes faults : D → ℕ) (s t : OpenHub D) (r m : ℕ) (p : RunProgress) (cause : Cause) (x : Choice) → s ≡ t → is_weak s.setting.mode ≡ false → HubIsKept stands turns probes faults s
+pub hub_dooms : {D : Type 0} (s t : OpenHub D) (r m : ℕ) (p : RunProgress) (cause : Cause) (x : Choice) → s ≡ t → is_weak s.setting.mode ≡ false
     → true ≡ is_run s.setting.runs r → p ≡ progress_of ((read_of (configuration_of s)).run r) → p.ended ≡ None → None ≡ grip_wait t.setting (configuration_of t).grips r
     → is_some p.arrived ≡ true → is_some p.placed ≡ true → p.doomed ≡ Some cause
-    → x ≡ stage_doomed t.setting (read_of (configuration_of t)) (configuration_of t).grips r cause
+    → x ≡ strong_doomed t.setting (read_of (configuration_of t)) (configuration_of t).grips r cause
     → x ≡ choice_of (configuration_of t) r m
-hub_dooms {D = D} stands turns probes faults s t r m p cause x same strong k run known going free there placed doomed is =
+hub_dooms {D = D} s t r m p cause x same strong run known going free there placed doomed is =
     case_doomed s.setting (read_of (configuration_of s)) (configuration_of s).grips r (max s.moment m) cause x (sym run)
     (ap (λ (y : RunProgress). y.ended) (sym known) ∙ going)
     (free ∙ ap (λ (y : OpenHub D). grip_wait y.setting (configuration_of y).grips r) (sym same))
     (absent ((read_of (configuration_of s)).run r).arrived (ap (λ (y : RunProgress). is_some y.arrived) (sym known) ∙ there))
     (absent ((read_of (configuration_of s)).run r).placed (was_placed ((read_of (configuration_of s)).run r).placed (ap (λ (y : RunProgress). is_some y.placed) (sym known) ∙ placed)))
     (ap (λ (y : RunProgress). y.doomed) (sym known) ∙ doomed)
-    (is ∙ ap (λ (y : OpenHub D). stage_doomed y.setting (read_of (configuration_of y)) (configuration_of y).grips r cause) (sym same))
-    ∙ sym (stage_choice_is (configuration_of s) s.rounds s.opened (held_in s) r m (k.configuration.ordered strong))
+    (is ∙ ap (λ (y : OpenHub D). strong_doomed y.setting (read_of (configuration_of y)) (configuration_of y).grips r cause) (sym same) ∙ sym (doomed_is s.setting (read_of (configuration_of s)) (configuration_of s).grips r cause strong))
     ∙ ap (λ (y : OpenHub D). choice_of (configuration_of y) r m) same
   where
     absent : {A : Type 0} (o : Option A) → is_some o ≡ true → is_none o ≡ false
@@ -361,21 +353,20 @@ hub_dooms {D = D} stands turns probes faults s t r m p cause x same strong k run
     absent (Some y) e = refl
 
 -- .. under the weak model
-case_rest : (w : Setting) (n : Reading) (g : Grips) (r m : ℕ) (x : Choice) → is_run w.runs r ≡ true → (n.run r).ended ≡ None → None ≡ grip_wait w g r → is_none (n.run r).arrived ≡ false → is_none (n.run r).placed ≡ false → x ≡ weak_rest w n g r → x ≡ weak_choice w n g r m
-case_rest w n g r m x run going free there placed is = is ∙ sym (rw (run, going, ← free, there, placed) refl)
+case_rest : (w : Setting) (n : Reading) (g : Grips) (r m : ℕ) (x : Choice) → is_run w.runs r ≡ true → (n.run r).ended ≡ None → None ≡ grip_wait w g r → is_none (n.run r).arrived ≡ false → is_none (n.run r).placed ≡ false → is_weak w.mode ≡ true → x ≡ weak_rest w n g r → x ≡ decide w n g r m
+case_rest w n g r m x run going free there placed weak is = is ∙ sym (rest_is w n g r m weak) ∙ sym (rw (run, going, ← free, there, placed) refl)
 
-pub hub_weakly : {D : Type 0} (stands turns probes faults : D → ℕ) (s t : OpenHub D) (r m : ℕ) (p : RunProgress) (x : Choice) → s ≡ t → is_weak s.setting.mode ≡ true → HubIsKept stands turns probes faults s
+pub hub_weakly : {D : Type 0} (s t : OpenHub D) (r m : ℕ) (p : RunProgress) (x : Choice) → s ≡ t → is_weak s.setting.mode ≡ true
     → true ≡ is_run s.setting.runs r → p ≡ progress_of ((read_of (configuration_of s)).run r) → p.ended ≡ None → None ≡ grip_wait t.setting (configuration_of t).grips r
     → is_some p.arrived ≡ true → is_some p.placed ≡ true → x ≡ weak_rest t.setting (read_of (configuration_of t)) (configuration_of t).grips r
     → x ≡ choice_of (configuration_of t) r m
-hub_weakly {D = D} stands turns probes faults s t r m p x same weak k run known going free there placed is =
+hub_weakly {D = D} s t r m p x same weak run known going free there placed is =
     case_rest s.setting (read_of (configuration_of s)) (configuration_of s).grips r (max s.moment m) x (sym run)
     (ap (λ (y : RunProgress). y.ended) (sym known) ∙ going)
     (free ∙ ap (λ (y : OpenHub D). grip_wait y.setting (configuration_of y).grips r) (sym same))
     (absent ((read_of (configuration_of s)).run r).arrived (ap (λ (y : RunProgress). is_some y.arrived) (sym known) ∙ there))
     (absent ((read_of (configuration_of s)).run r).placed (was_placed ((read_of (configuration_of s)).run r).placed (ap (λ (y : RunProgress). is_some y.placed) (sym known) ∙ placed)))
-    (is ∙ ap (λ (y : OpenHub D). weak_rest y.setting (read_of (configuration_of y)) (configuration_of y).grips r) (sym same))
-    ∙ sym (weak_choice_is (configuration_of s) s.rounds s.opened (held_in s) r m (k.configuration.weakly weak))
+    weak (is ∙ ap (λ (y : OpenHub D). weak_rest y.setting (read_of (configuration_of y)) (configuration_of y).grips r) (sym same))
     ∙ ap (λ (y : OpenHub D). choice_of (configuration_of y) r m) same
   where
     absent : {A : Type 0} (o : Option A) → is_some o ≡ true → is_none o ≡ false

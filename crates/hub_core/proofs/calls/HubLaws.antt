@@ -16,7 +16,8 @@ use Rattle.home_types.specs.declared.numbers.RunNo.{RunNo}
 use Rattle.hub_core.proofs.calls.HubChanges.{few_entries}
 use Rattle.hub_core.proofs.kept.Finds.{find_first, find_none}
 use Rattle.hub_core.proofs.kept.ReturnsKept.{out_is}
-use Rattle.hub_core.proofs.stage.Progress.{is_wait, some_run_moves}
+use Rattle.hub_core.proofs.stage.Progress.{some_run_moves}
+use Rattle.hub_core.specs.BlockedRuns.{is_wait}
 use Rattle.hub_core.proofs.kept.EndedOnce.{dooms_fit, ends_fit}
 use Rattle.hub_core.proofs.kept.Sizes.{history_fits, line_fits}
 use Rattle.hub_core.proofs.steps.Takes.{live_run}

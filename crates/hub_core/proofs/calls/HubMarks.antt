@@ -1,12 +1,8 @@
 -- The runs that a hub has marked as blocked are blocked after each of its calls.
-use Rattle.std.proofs.lemmas.Grind.{common_steps}
 use Rattle.hub_core.specs.declared.turns.Turn.TheVariants.{Absent as TurnAbsent, Go, Moved, Over as TurnOver, Wait}
 use Rattle.hub_core.specs.declared.turns.Turn.{Turn}
-use Rattle.lock_leasing.specs.Waits.{grip_wait}
 use Rattle.history_book.specs.Settings.{Setting, is_weak}
-use Rattle.hub_core.proofs.weak.WeakChoices.{weak_wait_lasts}
 use Rattle.hub_core.proofs.kept.BlockedMarks.{none_blocked}
-use Rattle.hub_core.specs.WeakKept.{WeakIsKept}
 use Rattle.device_gate.specs.Grips.{Gripped}
 use Rattle.device_gate.specs.declared.grips.Done.{Done}
 use Rattle.device_gate.specs.declared.grips.Ready.{Ready}
@@ -19,11 +15,11 @@ use Rattle.history_book.specs.Histories.{entries_made}
 use Rattle.history_book.specs.declared.entries.Made.{Made}
 use Rattle.history_book.specs.declared.entries.End.{End}
 use Rattle.history_book.specs.declared.entries.Entry.{Entry}
-use Rattle.history_book.specs.Readings.{is_doomed, is_live, put}
+use Rattle.history_book.specs.Readings.{put}
 use Rattle.hub_core.proofs.steps.HubAnswers.{gave_back, gave_probe_back, took_after, took_choice, took_probe}
-use Rattle.hub_core.proofs.waiting.BlockedSteps.{IsKept, back, goes, left_stay, moved, probed, reached, waits}
-use Rattle.hub_core.specs.BlockedMarks.{AreBlocked, AreFreedWeakly, AreLeft, BlockedState, MayHaveMarked, NoneMarked, is_marked, is_marked_at, is_waiting}
-use Rattle.hub_core.specs.BlockedRuns.{IsBlocked, is_at_command, is_quiet, next_device}
+use Rattle.hub_core.proofs.waiting.BlockedSteps.{IsKept, back, goes, left_stay, may_mark, moved, probed, reached, waits}
+use Rattle.hub_core.specs.BlockedMarks.{AreBlocked, AreFreedWeakly, AreLeft, BlockedState, MayBeMarked, NoneMarked, is_waiting}
+use Rattle.hub_core.specs.BlockedRuns.{is_quiet}
 use Rattle.hub_core.specs.HubCalls.{Answers, GoesOut, IsGiven, IsProbeGiven, IsProbed, IsTurn, SameWindow, carried_by}
 use Rattle.hub_core.specs.HubSteps.{Carried, Gave, HubState, Returned, give_if, is_kept as is_kept_grip, same_carried}
 use Rattle.hub_core.specs.HubsKept.{HubIsKept}
@@ -32,9 +28,9 @@ use Rattle.hub_core.specs.OpenHubs.{OpenHub, carried_in, configuration_of, devic
 use Rattle.hub_core.specs.Steps.{Absent, Choice, HandsOut, Moves, Over, Waits, after_choice, after_give, after_take, at_moment, choice_of, decide, give_entries, probe_grip, with_entries, with_grip}
 use Rattle.hub_core.specs.declared.waits.Why.{Why}
 use Rattle.lock_leasing.specs.Configurations.{Configuration, Grip, read_of}
-use Rattle.std.proofs.Common.{ap, arith, inl, inr, refl, subst, sym, ◌∙◌}
+use Rattle.std.proofs.Common.{ap, arith, refl, subst, sym, ◌∙◌}
 use Rattle.std.specs.List.{list_all}
-use Rattle.std.specs.Prelude.{Bool, List, None, Ok, Option, Some, false, if◌then◌else◌, is_none, max, not, option_map, slice_get, true, unwrap_or, ℕ, ◌&&◌, ◌-◌, ◌≡◌, ◌≢◌, ◌≤◌, ◌⊎◌}
+use Rattle.std.specs.Prelude.{Bool, List, None, Ok, Option, Some, false, max, option_map, slice_get, true, unwrap_or, ℕ, ◌&&◌, ◌-◌, ◌≡◌, ◌≢◌, ◌≤◌, ◌⊎◌}
 
 -- a hub whose parts are kept stands for a configuration that is kept
 pub is_kept : {D : Type 0} (stands turns probes faults : D → ℕ) (s : OpenHub D) → is_weak s.setting.mode ≡ false → HubIsKept stands turns probes faults s → IsKept (configuration_of s)
@@ -81,10 +77,10 @@ marks_over stands turns probes faults s t r m end made b after before then' was 
 
 -- or waits, and the run may be marked
 pub marks_wait : {D : Type 0} (stands turns probes faults : D → ℕ) (s t : OpenHub D) (r m : ℕ) (why : Why) (b after : BlockedState) → is_weak s.setting.mode ≡ false → is_weak t.setting.mode ≡ false → HubIsKept stands turns probes faults s → HubIsKept stands turns probes faults t → Answers s r m (Waits why) t → AreBlocked (configuration_of s) b
-    → MayHaveMarked b r (next_device (configuration_of t) r) after → AreBlocked (configuration_of t) after
+    → MayBeMarked (configuration_of t) b r after → AreBlocked (configuration_of t) after
 marks_wait stands turns probes faults s t r m why b after before then' was now answers are may =
     let is : configuration_of t ≡ at_moment (configuration_of s) m = after_answer s t r m (Waits why) answers in
-    subst (λ x. AreBlocked x after) (sym is) (waits (configuration_of s) r m why b after (is_kept stands turns probes faults s before was) (subst IsKept is (is_kept stands turns probes faults t then' now)) (sym (chosen s t r m (Waits why) answers)) are (subst (λ x. MayHaveMarked b r (next_device x r) after) is may))
+    subst (λ x. AreBlocked x after) (sym is) (waits (configuration_of s) r m why b after (is_kept stands turns probes faults s before was) (subst IsKept is (is_kept stands turns probes faults t then' now)) (sym (chosen s t r m (Waits why) answers)) are (subst (λ x. MayBeMarked x b r after) is may))
 
 -- or is of no run
 pub marks_absent : {D : Type 0} (stands turns probes faults : D → ℕ) (s t : OpenHub D) (r m : ℕ) (b : BlockedState) → is_weak s.setting.mode ≡ false → is_weak t.setting.mode ≡ false → HubIsKept stands turns probes faults s → HubIsKept stands turns probes faults t → Answers s r m Absent t → AreBlocked (configuration_of s) b → AreBlocked (configuration_of t) b
@@ -172,43 +168,15 @@ model_before s t b same model = ap (λ (w : Setting). is_weak w.mode) (sym same.
 
 -- Under the weak model
 
--- the run that waits may be marked, and no other is
-weak_marked : (s : Configuration) (rounds opened : ℕ) (held : ℕ → ℕ) (r : ℕ) (why : Why) (b after : BlockedState) → WeakIsKept s rounds opened held → choice_of s r 0 ≡ Waits why → NoneMarked b → (o : Option ℕ) → next_device s r ≡ o → MayHaveMarked b r o after → AreBlocked s after
-weak_marked s rounds opened held r why b after kept waits none None at same = none_blocked s after (subst NoneMarked same none)
-weak_marked s rounds opened held r why b after kept waits none (Some d) at marks = record {
-  blocked = λ q marked. subst (IsBlocked s) (sym (its q marked).0) blocked;
-  there = λ q marked. subst (λ x. (e : ℕ) × (next_device s x ≡ Some e) × (is_marked_at after e x ≡ true)) (sym (its q marked).0) (d, at, subst (λ x. is_marked_at after d x ≡ true) (its q marked).0 (its q marked).1);
-}
-  where
-    at_command : (x : Bool) (y : Option ℕ) → (if x then y else None) ≡ Some d → x ≡ true
-    at_command true y e = refl
-    at_command false y e = absurd (cc)
-
-    last : (a b' c : Bool) → (a && b' && c) ≡ true → c ≡ true
-    last a b' c h = grind (arith, common_steps)
-
-    no_grip : (o : Option ℕ) → is_none o ≡ true → o ≡ None
-    no_grip None e = refl
-    no_grip (Some x) e = absurd (cc)
-
-    blocked : IsBlocked s r
-    blocked = weak_wait_lasts s rounds opened held r 0 why kept (no_grip (grip_wait s.setting s.grips r) (last (is_live (read_of s) r) (not (is_doomed (read_of s) r)) (is_none (grip_wait s.setting s.grips r)) (at_command (is_at_command s r) _ at))) waits
-
-    its : (q : ℕ) → is_marked after q ≡ true → (q ≡ r) × (is_marked_at after d q ≡ true)
-    its q marked = elim (marks.marked q marked) [
-      | inl was ↦ absurd (let both : false ≡ true = sym (none q) ∙ was in cc)
-      | inr own ↦ own
-    ]
-
-pub marks_weakly : {D : Type 0} (stands turns probes faults : D → ℕ) (s t : OpenHub D) (r m : ℕ) (turn : Turn D) (after : BlockedState) → is_weak t.setting.mode ≡ true → HubIsKept stands turns probes faults t → IsTurn s r m turn t → AreFreedWeakly (is_waiting turn) r (next_device (configuration_of t) r) after → AreBlocked (configuration_of t) after
+pub marks_weakly : {D : Type 0} (stands turns probes faults : D → ℕ) (s t : OpenHub D) (r m : ℕ) (turn : Turn D) (after : BlockedState) → is_weak t.setting.mode ≡ true → HubIsKept stands turns probes faults t → IsTurn s r m turn t → AreFreedWeakly (is_waiting turn) (configuration_of t) r after → AreBlocked (configuration_of t) after
 marks_weakly stands turns probes faults s t r m (Go grip) after weak kept is freed = none_blocked (configuration_of t) after (subst NoneMarked freed.marked freed.none)
 marks_weakly stands turns probes faults s t r m (Moved made) after weak kept is freed = none_blocked (configuration_of t) after (subst NoneMarked freed.marked freed.none)
 marks_weakly stands turns probes faults s t r m (TurnOver end made) after weak kept is freed = none_blocked (configuration_of t) after (subst NoneMarked freed.marked freed.none)
 marks_weakly stands turns probes faults s t r m TurnAbsent after weak kept is freed = none_blocked (configuration_of t) after (subst NoneMarked freed.marked freed.none)
 marks_weakly stands turns probes faults s t r m (Wait why) after weak kept is freed =
-    weak_marked (configuration_of t) t.rounds t.opened (held_in t) r why freed.freed after (kept.configuration.weakly weak)
+    may_mark (configuration_of t) r 0 why freed.freed after kept.configuration.history.well_formed
     (ap (λ (x : Configuration). choice_of x r 0) (after_answer s t r m (Waits why) is) ∙ ap (decide s.setting (read_of (configuration_of s)) (configuration_of s).grips r) same_moment ∙ sym (chosen s t r m (Waits why) is))
-    freed.none (next_device (configuration_of t) r) refl freed.marked
+    (none_blocked (configuration_of t) freed.freed freed.none) freed.marked
   where
     same_moment : max (max s.moment m) 0 ≡ max s.moment m
     same_moment = omega arith

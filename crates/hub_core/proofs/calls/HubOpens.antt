@@ -101,7 +101,7 @@ first_hub home roster mode rounds known = record {
 pub record Opens {D : Type 0} (tag stands turns probes faults : D → ℕ) (home : HomeState D) (roster : Roster) (mode : Mode) (rounds : ℕ) (known : List DeviceProgress) : Type 0 where
   pub kept : HomeIsKept tag stands turns probes faults home
   pub may : MayOpen (setting_for home roster mode) rounds home.opened
-  pub stage : StageAllows (setting_for home roster mode) rounds
+  pub stage : StageAllows (setting_for home roster mode)
   pub knows : AreKnown turns probes faults home rounds (length home.devices) known
 
 -- a device of the home, and what is known of it

@@ -14,6 +14,7 @@ use Rattle.device_gate.specs.declared.gates.Place.TheVariants.{Home, Out}
 use Rattle.device_gate.specs.declared.grips.Ready.{Ready}
 use Rattle.device_gate.specs.declared.slips.Task.{Task}
 use Rattle.history_book.specs.Histories.{entries_made, entries_of, entry}
+use Rattle.history_book.specs.Plans.{split_of}
 use Rattle.history_book.specs.Readings.{Reading, is_doomed, next_command, next_of, pends, put}
 use Rattle.history_book.specs.Settings.{Setting, is_device, is_weak}
 use Rattle.history_book.specs.WellFormed.{may_follow}
@@ -35,7 +36,9 @@ use Rattle.hub_core.proofs.calls.Departures.{device_within}
 use Rattle.hub_core.proofs.calls.HubOuts.{GoesFor, IsHanded, IsHandedOut, handed_out, went_out}
 use Rattle.hub_core.proofs.kept.HubReads.{run_place}
 use Rattle.hub_core.proofs.calls.HubStates.{grips_set}
-use Rattle.hub_core.proofs.kept.LineOrder.{end_line}
+use Rattle.hub_core.proofs.kept.Kept.{enters_place}
+use Rattle.hub_core.proofs.stage.StrongChoices.{IsPlacing}
+use Rattle.hub_core.proofs.steps.Choices.{decide_is}
 use Rattle.hub_core.proofs.kept.Sizes.{line_fits}
 use Rattle.hub_core.proofs.kept.OrderSteps.{done_after, last_follows, may_note_down, none_commands, order_aborted, order_arrived, order_committed, order_doomed, order_doomed_if, order_dropped, order_joined, order_out, order_placed, order_told_down, order_told_weakly, order_undo_out, read_more}
 use Rattle.hub_core.proofs.steps.Takes.{live_run}
@@ -59,13 +62,13 @@ use Rattle.lock_leasing.specs.Standings.{IsRosterFor, IsStandingOf}
 use Rattle.serial_line.specs.Marks.{Mark, Marked, items_of, settling, stands, touching, with_item, without}
 use Rattle.std.proofs.Common.{ap, ap₂, arith, length-append, refl, subst, sym, ◌∙◌}
 use Rattle.std.proofs.lemmas.Grind.{common_steps}
-use Rattle.std.proofs.lemmas.List.{length-map}
+use Rattle.std.proofs.lemmas.List.{length-map, take-append-drop}
 use Rattle.std.proofs.lemmas.Option.{slice_get-get_or, slice_get_within}
 use Rattle.std.specs.List.{All, range_with_len}
-use Rattle.std.specs.Prelude.{Bool, IsSome, IsTrue, List, None, Option, Some, [], drop, false, find, get_or, if◌then◌else◌, is_none, is_some, length, max, nat_lt, not, option_map, slice_get, suc, true, unwrap_or, zero, ℕ, ◌&&◌, ◌+◌, ◌-◌, ◌<◌, ◌==◌, ◌||◌, ◌∷◌, ◌≡◌, ◌≤◌}
+use Rattle.std.specs.Prelude.{Bool, IsSome, IsTrue, List, None, Option, Some, [], drop, false, find, get_or, if◌then◌else◌, is_none, is_some, length, max, nat_lt, not, option_map, slice_get, suc, take, true, unwrap_or, zero, ℕ, ◌&&◌, ◌++◌, ◌+◌, ◌-◌, ◌<◌, ◌==◌, ◌||◌, ◌∷◌, ◌≡◌, ◌≤◌}
 use Rattle.window_order.proofs.FewAccesses.{few_accesses}
 use Rattle.window_order.proofs.Grips.{HoldsNone, fits_other, holds_none}
-use Rattle.window_order.proofs.PlacedTables.{new_at_end, none_wrote_behind}
+use Rattle.window_order.proofs.PlacedTables.{new_on}
 use Rattle.window_order.proofs.Promises.{order_stands}
 use Rattle.window_order.proofs.ReadFacts.{IsRead, read_facts}
 use Rattle.window_order.proofs.Representing.{represents}
@@ -75,7 +78,7 @@ use Rattle.window_order.specs.TableChanges.{ChangesEach, IsNewOn, doomed_lineage
 use Rattle.window_order.specs.TableKept.{TableIsKept}
 use Rattle.history_book.proofs.Snoc.{put_other}
 use Rattle.lock_leasing.proofs.Facts.{next_is_left}
-use Rattle.lock_leasing.specs.Places.{GripsFit}
+use Rattle.lock_leasing.specs.Places.{GripsFit, IsClear}
 
 -- What is kept of the hub's history
 
@@ -154,12 +157,53 @@ arrives_whole h t r m enters same k = entered_whole h t r m _ Going enters (λ f
 
 -- A run is placed
 
+-- the place of a run that the step of the hub places
+joining : (s : Configuration) (r at m : ℕ) → choice_of s r m ≡ Moves (Placed (run_no r) at (max s.moment m) ∷ []) → IsPlacing s.setting (read_of s) s.grips r at
+joining s r at m =
+    decide_is (λ c. c ≡ Moves (Placed (run_no r) at (max s.moment m) ∷ []) → IsPlacing s.setting (read_of s) s.grips r at) s.setting (read_of s) s.grips r (max s.moment m) (record {
+      absent = λ none is. absurd (cc);
+      over = λ e at is. absurd (cc);
+      waits = λ why is. absurd (cc);
+      arrives = λ run none is. absurd (cc);
+      enters = λ x enters is. subst (IsPlacing s.setting (read_of s) s.grips r) (same_place (length x.front) is) (enters_place s.setting (read_of s) s.grips r (max s.moment m) x enters);
+      aborted = λ cause act doomed over is. absurd (cc);
+      drops = λ cause d undoing down is. absurd (cc);
+      undoes = λ cause d undoing up is. absurd (cc);
+      revokes = λ c x run strong at is. absurd (cc);
+      downs = λ c run next home down is. absurd (cc);
+      goes = λ c run next home up is. absurd (cc);
+      fails_at_end = λ d all at is. absurd (cc);
+      commits = λ all up is. absurd (cc);
+    })
+  where
+    same_place : (a : ℕ) → Moves (Placed (run_no r) a (max s.moment m) ∷ []) ≡ Moves (Placed (run_no r) at (max s.moment m) ∷ []) → a ≡ at
+    same_place a e = cc
+
+pub joins_at : {D : Type 0} (h : Inside D) (r at m : ℕ) → choice_of (configuration_of (open_of h)) r m ≡ Moves (Placed (run_no r) at (max h.moment m) ∷ []) → IsPlacing h.history.setting (read_in h.history) (configuration_of (open_of h)).grips r at
+joins_at h r at m is = joining (configuration_of (open_of h)) r at m is
+
+-- .. is one of the line
+pub joins_within : {D : Type 0} {stands turns probes faults : D → ℕ} (h : Inside D) (r at m : ℕ) → choice_of (configuration_of (open_of h)) r m ≡ Moves (Placed (run_no r) at (max h.moment m) ∷ []) → IsWhole stands turns probes faults h → at ≤ length h.order.line.marks
+joins_within h r at m is k =
+    let within = (joins_at h r at m is).within in
+    let size = sym (length-map h.order.line.marks (λ (x : Mark). x.item)) ∙ ap length k.order.line_is.items in
+    omega (arith, within, size)
+
+-- the line has one item more
+placed_size : (w : Setting) (n : Reading) (r at m : ℕ) → length (entry w n (Placed (run_no r) at m)).line ≡ length n.line + 1
+unfolding split_of
+placed_size w n r at m =
+    let after : length (take at n.line ++ Ran (run_no r) ∷ drop at n.line) ≡ length (take at n.line) + suc (length (drop at n.line)) = length-append (take at n.line) (Ran (run_no r) ∷ drop at n.line) in
+    let before : length (take at n.line ++ drop at n.line) ≡ length (take at n.line) + length (drop at n.line) = length-append (take at n.line) (drop at n.line) in
+    let whole : length (take at n.line ++ drop at n.line) ≡ length n.line = ap length (take-append-drop at n.line) in
+    omega (arith, after, before, whole)
+
 -- the line has room for the run
-pub line_place : {D : Type 0} {stands turns probes faults : D → ℕ} (h : Inside D) (r m : ℕ) → choice_of (configuration_of (open_of h)) r m ≡ Moves (Placed (run_no r) (length (read_in h.history).line) (max h.moment m) ∷ []) → IsWhole stands turns probes faults h → 0 < h.order.line.spare
-line_place h r m is k =
+pub line_place : {D : Type 0} {stands turns probes faults : D → ℕ} (h : Inside D) (r at m : ℕ) → choice_of (configuration_of (open_of h)) r m ≡ Moves (Placed (run_no r) at (max h.moment m) ∷ []) → IsWhole stands turns probes faults h → 0 < h.order.line.spare
+line_place h r at m is k =
     let n = read_in h.history in
     let fits = line_fits _ h.rounds h.opened _ (entries_kept _ _ _ _ (open_of h) r m _ Going is k.shown).configuration in
-    let longer = ap (λ (x : Reading). length x.line) (read_more h.history.setting h.history.history r (Placed (run_no r) (length n.line) (max h.moment m))) ∙ ap length (end_line h.history.setting n r (max h.moment m)) ∙ length-append n.line (Ran (run_no r) ∷ []) in
+    let longer = ap (λ (x : Reading). length x.line) (read_more h.history.setting h.history.history r (Placed (run_no r) at (max h.moment m))) ∙ placed_size h.history.setting n r at (max h.moment m) in
     let size = sym (length-map h.order.line.marks (λ (x : Mark). x.item)) ∙ ap length k.order.line_is.items in
     omega (arith, fits, longer, size, k.order.room)
 
@@ -170,50 +214,50 @@ pub record MayJoin (w : Setting) (r at : ℕ) (marks : List Mark) (table : List 
   pub absent : stands (Ran (run_no r)) marks ≡ false
   pub new : (d : ℕ) → d < length table → touches w.runs r d ≡ true → IsNewOn r (drop at (items_of marks)) (lineage_at table d)
 
--- .. as it may at the end of the line
-pub may_join : (w : Setting) (n : Reading) (g : Grips) (r m : ℕ) (marks : List Mark) (table : List LineageState) → IsRead w n → IsRosterFor (length w.first) w.runs → may_follow w n (Placed (run_no r) (length n.line) m) ≡ true → MarksAreKept n g marks → TableIsKept w n g table → MayJoin w r (length n.line) marks table
-may_join w n g r m marks table read allowed may line_is table_is = record {
+-- .. as it may at a place behind which nothing must stand before it
+pub may_join : (w : Setting) (n : Reading) (g : Grips) (r at m : ℕ) (marks : List Mark) (table : List LineageState) → IsRead w n → IsRosterFor (length w.first) w.runs → may_follow w n (Placed (run_no r) at m) ≡ true → IsClear w n g r at → MarksAreKept n g marks → TableIsKept w n g table → MayJoin w r at marks table
+may_join w n g r at m marks table read allowed may clear line_is table_is = record {
   few = subst (λ k. k ≤ 256) (sym table_is.devices) allowed.few_devices;
   homed = λ k c within. subst (λ x. (get_or (commands_of w.runs r) k c).device.0 < x) (sym table_is.devices) (allowed.homed r k (get_or (commands_of w.runs r) k c) (slice_get-get_or (commands_of w.runs r) k c within));
   absent = unplaced_absent w n g r marks read none line_is;
-  new = λ d lt used. subst (λ is. IsNewOn r (drop (length n.line) is) (lineage_at table d)) (sym line_is.items) (new_at_end w n g r m read may d (lineage_at table d) used (table_is.each d (subst (λ x. d < x) table_is.devices lt)));
+  new = λ d lt used. let below : d < length w.first = subst (λ x. d < x) table_is.devices lt in subst (λ is. IsNewOn r (drop at is) (lineage_at table d)) (sym line_is.items) (new_on w n g r at m read may clear d below (lineage_at table d) used (table_is.each d below));
 }
   where
     none : is_none (n.run r).placed ≡ true
     none = grind (arith, common_steps)
 
 -- .. as the step of the hub does
-pub hub_joins : {D : Type 0} {stands turns probes faults : D → ℕ} (h : Inside D) (r m : ℕ) → choice_of (configuration_of (open_of h)) r m ≡ Moves (Placed (run_no r) (length (read_in h.history).line) (max h.moment m) ∷ [])
-    → is_weak h.history.setting.mode ≡ false → IsWhole stands turns probes faults h → MayJoin h.history.setting r (length (read_in h.history).line) h.order.line.marks h.order.table
-hub_joins h r m is strong k =
-    may_join h.history.setting (read_in h.history) _ r (max h.moment m) h.order.line.marks h.order.table (read_whole h k) (roster_allowed h.history.setting h.rounds h.opened k.shown.configuration.opens)
-    (last_follows h.history.setting h.history.history r (Placed (run_no r) (length (read_in h.history).line) (max h.moment m)) (entries_kept _ _ _ _ (open_of h) r m _ Going is k.shown).configuration.history.well_formed) k.order.line_is (k.order.table_is.ordered strong)
+pub hub_joins : {D : Type 0} {stands turns probes faults : D → ℕ} (h : Inside D) (r at m : ℕ) → choice_of (configuration_of (open_of h)) r m ≡ Moves (Placed (run_no r) at (max h.moment m) ∷ [])
+    → is_weak h.history.setting.mode ≡ false → IsWhole stands turns probes faults h → MayJoin h.history.setting r at h.order.line.marks h.order.table
+hub_joins h r at m is strong k =
+    may_join h.history.setting (read_in h.history) _ r at (max h.moment m) h.order.line.marks h.order.table (read_whole h k) (roster_allowed h.history.setting h.rounds h.opened k.shown.configuration.opens)
+    (last_follows h.history.setting h.history.history r (Placed (run_no r) at (max h.moment m)) (entries_kept _ _ _ _ (open_of h) r m _ Going is k.shown).configuration.history.well_formed) (joins_at h r at m is).clear k.order.line_is (k.order.table_is.ordered strong)
 
--- the run stands at the end of the line, and is scheduled on its devices
-pub record IsJoined {D : Type 0} (h t : Inside D) (r m : ℕ) : Type 0 where
-  pub marks : t.order.line.marks ≡ with_item (length (read_in h.history).line) (Ran (run_no r)) h.order.line.marks
+-- the run stands at its place in the line, and is scheduled on its devices
+pub record IsJoined {D : Type 0} (h t : Inside D) (r at m : ℕ) : Type 0 where
+  pub marks : t.order.line.marks ≡ with_item at (Ran (run_no r)) h.order.line.marks
   pub spare : t.order.line.spare + 1 ≡ h.order.line.spare
-  pub table : ChangesEach (scheduled_on h.history.setting.runs r (planned_in_turn (max h.moment m) (commands_of h.history.setting.runs r)) (drop (length (read_in h.history).line) (items_of h.order.line.marks))) h.order.table t.order.table
+  pub table : ChangesEach (scheduled_on h.history.setting.runs r (planned_in_turn (max h.moment m) (commands_of h.history.setting.runs r)) (drop at (items_of h.order.line.marks))) h.order.table t.order.table
 
-pub joins_whole : {D : Type 0} {stands turns probes faults : D → ℕ} (h t : Inside D) (r m : ℕ) → IsEntered h t r m (Placed (run_no r) (length (read_in h.history).line) (max h.moment m) ∷ []) Going → IsJoined h t r m → is_weak h.history.setting.mode ≡ false → IsWhole stands turns probes faults h → IsWhole stands turns probes faults t
-joins_whole h t r m enters joined strong k = entered_whole h t r m _ Going enters (λ formed.
-    order_placed h.history _ _ r (length (read_in h.history).line) (max h.moment m) h.order.line t.order.line h.order.table t.order.table (read_whole h k) k.shown.configuration.grips strong k.shown.configuration.stage.scheduler (none_wrote_behind h.history.setting (read_in h.history) r) refl formed joined.marks joined.spare joined.table k.order) k
+pub joins_whole : {D : Type 0} {stands turns probes faults : D → ℕ} (h t : Inside D) (r at m : ℕ) → IsEntered h t r m (Placed (run_no r) at (max h.moment m) ∷ []) Going → IsJoined h t r at m → is_weak h.history.setting.mode ≡ false → IsWhole stands turns probes faults h → IsWhole stands turns probes faults t
+joins_whole h t r at m enters joined strong k = entered_whole h t r m _ Going enters (λ formed.
+    order_placed h.history _ _ r at (max h.moment m) h.order.line t.order.line h.order.table t.order.table (read_whole h k) k.shown.configuration.grips strong k.shown.configuration.stage (joins_at h r at m enters.chosen).clear refl formed joined.marks joined.spare joined.table k.order) k
 
 -- .. under the weak model it is scheduled on none
-pub enters_whole : {D : Type 0} {stands turns probes faults : D → ℕ} (h t : Inside D) (r m : ℕ) → IsEntered h t r m (Placed (run_no r) (length (read_in h.history).line) (max h.moment m) ∷ []) Going → t.order.line.marks ≡ with_item (length (read_in h.history).line) (Ran (run_no r)) h.order.line.marks → t.order.line.spare + 1 ≡ h.order.line.spare → t.order.table ≡ h.order.table
+pub enters_whole : {D : Type 0} {stands turns probes faults : D → ℕ} (h t : Inside D) (r at m : ℕ) → IsEntered h t r m (Placed (run_no r) at (max h.moment m) ∷ []) Going → t.order.line.marks ≡ with_item at (Ran (run_no r)) h.order.line.marks → t.order.line.spare + 1 ≡ h.order.line.spare → t.order.table ≡ h.order.table
     → is_weak h.history.setting.mode ≡ true → IsWhole stands turns probes faults h → IsWhole stands turns probes faults t
-enters_whole h t r m enters marks spare same weak k = entered_whole h t r m _ Going enters (λ formed.
-    subst (OrderIsBeside h.rounds (with_entry h.history r (Placed (run_no r) (length (read_in h.history).line) (max h.moment m))) (configuration_of (open_of h)).grips t.order.line) (sym same)
-    (order_joined h.history _ _ r (length (read_in h.history).line) (max h.moment m) h.order.line t.order.line h.order.table weak (read_whole h k) k.shown.configuration.grips refl formed marks spare k.order)) k
+enters_whole h t r at m enters marks spare same weak k = entered_whole h t r m _ Going enters (λ formed.
+    subst (OrderIsBeside h.rounds (with_entry h.history r (Placed (run_no r) at (max h.moment m))) (configuration_of (open_of h)).grips t.order.line) (sym same)
+    (order_joined h.history _ _ r at (max h.moment m) h.order.line t.order.line h.order.table weak (read_whole h k) k.shown.configuration.grips refl formed marks spare k.order)) k
 
 -- the run is in no line before
 abbrev pub IsAbsent : ℕ → List Mark → Type 0
 IsAbsent r marks = stands (Ran (run_no r)) marks ≡ false
 
-pub hub_absent : {D : Type 0} {stands turns probes faults : D → ℕ} (h : Inside D) (r m : ℕ) → choice_of (configuration_of (open_of h)) r m ≡ Moves (Placed (run_no r) (length (read_in h.history).line) (max h.moment m) ∷ [])
+pub hub_absent : {D : Type 0} {stands turns probes faults : D → ℕ} (h : Inside D) (r at m : ℕ) → choice_of (configuration_of (open_of h)) r m ≡ Moves (Placed (run_no r) at (max h.moment m) ∷ [])
     → IsWhole stands turns probes faults h → IsAbsent r h.order.line.marks
-hub_absent h r m is k =
-    let may : may_follow h.history.setting (read_in h.history) (Placed (run_no r) (length (read_in h.history).line) (max h.moment m)) ≡ true = last_follows h.history.setting h.history.history r (Placed (run_no r) (length (read_in h.history).line) (max h.moment m)) (entries_kept _ _ _ _ (open_of h) r m _ Going is k.shown).configuration.history.well_formed in
+hub_absent h r at m is k =
+    let may : may_follow h.history.setting (read_in h.history) (Placed (run_no r) at (max h.moment m)) ≡ true = last_follows h.history.setting h.history.history r (Placed (run_no r) at (max h.moment m)) (entries_kept _ _ _ _ (open_of h) r m _ Going is k.shown).configuration.history.well_formed in
     let none : is_none ((read_in h.history).run r).placed ≡ true = grind (arith, common_steps) in
     unplaced_absent h.history.setting (read_in h.history) _ r h.order.line.marks (read_whole h k) none k.order.line_is
 

@@ -10,9 +10,10 @@ use Rattle.home_types.specs.declared.modes.Scheduler.{Scheduler}
 use Rattle.home_types.specs.declared.modes.Visibility.TheVariants.{Eventual, Global, Partitioned, Weak}
 use Rattle.home_types.specs.declared.modes.Visibility.{Visibility}
 use Rattle.hub_core.specs.PlansInTurn.{planned_in_turn}
+use Rattle.hub_core.specs.Stage.{is_timeline}
 use Rattle.std.proofs.Common.{append-nil, append_assoc, arith, sym, ◌∙◌}
 use Rattle.std.proofs.lemmas.Grind.{common_steps}
-use Rattle.std.specs.Prelude.{List, [], fold, max, min, ℕ, ◌++◌, ◌+◌, ◌∷◌, ◌≡◌}
+use Rattle.std.specs.Prelude.{List, [], false, fold, max, min, ℕ, ◌++◌, ◌+◌, ◌∷◌, ◌≡◌}
 
 -- planning one command after the other from a clock adds what they have in turn
 planned_from : (clock : ℕ) (planned : List Planned) (cs : List Command) → (fold (plan_more (λ d. 0)) (record { clock = clock; planned = planned }) cs).planned ≡ planned ++ planned_in_turn clock cs
@@ -25,14 +26,14 @@ planned_from clock planned (c ∷ cs) =
     no_wait : (k : ℕ) → max k 0 ≡ k
     no_wait k = grind (arith, common_steps)
 
--- first come first served a run waits for no device
-pub planned_first_come : (w : Setting) (n : Reading) (r : ℕ) (front : List Item) (m : ℕ) → w.mode.scheduler ≡ Fcfs → planned_times w n r front m ≡ planned_in_turn m (commands_of w.runs r)
-planned_first_come w n r front m first_come = by_mode w.mode.model w.mode.scheduler first_come
+-- a run waits for no device, but for one that is placed by the timeline
+pub planned_in_turn_is : (w : Setting) (n : Reading) (r : ℕ) (front : List Item) (m : ℕ) → is_timeline w.mode.scheduler ≡ false → planned_times w n r front m ≡ planned_in_turn m (commands_of w.runs r)
+planned_in_turn_is w n r front m in_turn = by_mode w.mode.model w.mode.scheduler in_turn
   where
-    by_mode : (model : Visibility) (scheduler : Scheduler) → scheduler ≡ Fcfs → planned_times (record w { mode = record { model = model; scheduler = scheduler } }) n r front m ≡ planned_in_turn m (commands_of w.runs r)
+    by_mode : (model : Visibility) (scheduler : Scheduler) → is_timeline scheduler ≡ false → planned_times (record w { mode = record { model = model; scheduler = scheduler } }) n r front m ≡ planned_in_turn m (commands_of w.runs r)
     by_mode Weak s e = planned_from m [] (commands_of w.runs r)
     by_mode Global s e = planned_from m [] (commands_of w.runs r)
     by_mode Partitioned s e = planned_from m [] (commands_of w.runs r)
     by_mode Eventual Fcfs e = planned_from m [] (commands_of w.runs r)
-    by_mode Eventual JustInTime e = absurd (cc)
+    by_mode Eventual JustInTime e = planned_from m [] (commands_of w.runs r)
     by_mode Eventual Timeline e = absurd (cc)

@@ -184,9 +184,9 @@ for_commands w n g r e fit run sound = by_grip (g e) refl
     by_grip None at = refl
     by_grip (Some p) at = by_purpose p.maker p.purpose at (p.maker == r) refl
 
--- .. and one at most
-pub hand_commands : (w : Setting) (n : Reading) (g : Grips) (r : ℕ) (hands : List (Option DeviceNo)) → GripsFit w n g → HandsAre w g hands → is_run w.runs r ≡ true → is_doomed n r ≡ false → (e : ℕ) → grips_command g r e ≡ is_that_device (hand_of hands r) e
-hand_commands w n g r hands fit are run sound e = for_commands w n g r e fit run sound ∙ by_hand (slice_get hands (r - 1)) refl
+-- .. and one at most: that of this device, where there is one
+pub out_commands : (w : Setting) (n : Reading) (g : Grips) (r : ℕ) (out : Option DeviceNo) → GripsFit w n g → is_run w.runs r ≡ true → is_doomed n r ≡ false → option_map (λ d. d.0) out ≡ grip_wait w g r → (e : ℕ) → grips_command g r e ≡ is_that_device out e
+out_commands w n g r out fit run sound held e = for_commands w n g r e fit run sound ∙ by_out out held
   where
     place : (r ≡ suc (r - 1)) × (r - 1 < length w.runs)
     place = run_place w.runs r run
@@ -196,10 +196,6 @@ hand_commands w n g r hands fit are run sound e = for_commands w n g r e fit run
 
     itself : (a : ℕ) → (a == a) ≡ true
     itself a = grind (arith, common_steps)
-
-    -- what the hand says
-    holds : (hand : Option DeviceNo) → slice_get hands (r - 1) ≡ Some hand → option_map (λ d. d.0) hand ≡ grip_wait w g r
-    holds hand at = are.each (r - 1) hand at ∙ ap (grip_wait w g) (sym place.0)
 
     outside : (x : ℕ) → is_device w x ≡ false → has_grip g r x ≡ false
     outside x none = by_grip (g x) refl
@@ -240,18 +236,29 @@ hand_commands w n g r hands fit are run sound e = for_commands w n g r e fit run
             let two = maker_of e (g e) refl has in
             absurd (let same : x.0 ≡ e = fit.runs.one x.0 e (r - 1) one.0 two.0 one.1 two.1 in let both : false ≡ true = sym other ∙ ap (λ z. x.0 == z) (sym same) ∙ itself x.0 in cc)
 
-    by_some : (hand : Option DeviceNo) → option_map (λ d. d.0) hand ≡ grip_wait w g r → has_grip g r e ≡ is_that_device hand e
-    by_some None is = empty (sym is)
-    by_some (Some x) is = alone x (sym is)
+    by_out : (o : Option DeviceNo) → option_map (λ d. d.0) o ≡ grip_wait w g r → has_grip g r e ≡ is_that_device o e
+    by_out None is = empty (sym is)
+    by_out (Some x) is = alone x (sym is)
 
-    by_hand : (o : Option (Option DeviceNo)) → slice_get hands (r - 1) ≡ o → has_grip g r e ≡ is_that_device (hand_of hands r) e
+-- .. of its hand
+pub hand_commands : (w : Setting) (n : Reading) (g : Grips) (r : ℕ) (hands : List (Option DeviceNo)) → GripsFit w n g → HandsAre w g hands → is_run w.runs r ≡ true → is_doomed n r ≡ false → (e : ℕ) → grips_command g r e ≡ is_that_device (hand_of hands r) e
+hand_commands w n g r hands fit are run sound = out_commands w n g r (hand_of hands r) fit run sound (by_hand (slice_get hands (r - 1)) refl)
+  where
+    place : (r ≡ suc (r - 1)) × (r - 1 < length w.runs)
+    place = run_place w.runs r run
+
+    -- what the hand says
+    holds : (hand : Option DeviceNo) → slice_get hands (r - 1) ≡ Some hand → option_map (λ d. d.0) hand ≡ grip_wait w g r
+    holds hand at = are.each (r - 1) hand at ∙ ap (grip_wait w g) (sym place.0)
+
+    by_hand : (o : Option (Option DeviceNo)) → slice_get hands (r - 1) ≡ o → option_map (λ d. d.0) (hand_of hands r) ≡ grip_wait w g r
     by_hand None at = absurd (let size = are.size in let past = past_list hands (r - 1) at in omega (arith, size, past, place.1))
       where
         past_list : {A : Type 0} (xs : List A) (i : ℕ) → slice_get xs i ≡ None → length xs ≤ i
         past_list [] i none = omega arith
         past_list (y ∷ ys) zero none = absurd (cc)
         past_list (y ∷ ys) (suc i) none = omega (arith, past_list ys i none)
-    by_hand (Some hand) at = by_some hand (holds hand at) ∙ ap (λ x. is_that_device x e) (sym (hand_is hands (r - 1) hand at))
+    by_hand (Some hand) at = ap (option_map (λ d. d.0)) (hand_is hands (r - 1) hand at) ∙ holds hand at
       where
         hand_is : (xs : List (Option DeviceNo)) (i : ℕ) (x : Option DeviceNo) → slice_get xs i ≡ Some x → slice_index_or xs i None ≡ x
         hand_is [] i x at' = absurd (cc)

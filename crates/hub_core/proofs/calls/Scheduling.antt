@@ -7,22 +7,25 @@ use Rattle.home_types.specs.declared.items.Item.TheVariants.{Back, Failed, Ran}
 use Rattle.home_types.specs.declared.items.Item.{Item}
 use Rattle.home_types.specs.declared.numbers.RunNo.{RunNo}
 use Rattle.hub_core.proofs.kept.HubReads.{some_is}
+use Rattle.hub_core.proofs.calls.NotedAnswers.{lineage_set}
 use Rattle.hub_core.proofs.calls.PlannedUses.{planned_devices}
 use Rattle.hub_core.specs.PlansInTurn.{planned_in_turn, planned_use}
 use Rattle.hub_core.specs.declared.plans.PlannedUse.{PlannedUse}
-use Rattle.lineage_table.specs.Accesses.{access_of, has_access, is_of}
-use Rattle.lineage_table.specs.Lineages.{LineageState, lineage_at, no_lineage, scheduled, with_lineage}
+use Rattle.lineage_table.specs.Accesses.{has_access, status_of}
+use Rattle.lineage_table.specs.Lineages.{LineageState, accesses_at, lineage_at, no_lineage, scheduled, with_lineage}
 use Rattle.lineage_table.specs.declared.accesses.Access.{Access}
 use Rattle.lineage_table.specs.declared.accesses.Status.TheVariants.{Scheduled}
-use Rattle.std.proofs.Common.{ap, arith, cond, refl, set, sym, ◌∙◌}
+use Rattle.std.proofs.Common.{ap, arith, refl, set, subst, sym, ◌∙◌}
 use Rattle.std.proofs.lemmas.Grind.{common_steps}
 use Rattle.std.proofs.lemmas.List.Folds.{list_any-append}
 use Rattle.std.proofs.lemmas.List.{drop_all, drop_more, get_or-set_other, get_or-set_same, length-set, take-append-drop, take_more}
 use Rattle.std.proofs.lemmas.Option.{slice_get-get_or, slice_get_within}
 use Rattle.std.specs.List.{list_any}
-use Rattle.std.specs.Option.{option_or}
+use Rattle.std.specs.Option.{ForSome, option_or}
 use Rattle.std.specs.Prelude.{Bool, List, None, Option, Some, [], drop, false, get_or, if◌then◌else◌, is_some, length, nat_lt, option_to_list, slice_get, take, true, ℕ, ◌+◌, ◌<◌, ◌==◌, ◌||◌, ◌∷◌, ◌≡◌, ◌≢◌, ◌≤◌}
-use Rattle.window_order.specs.TableChanges.{first_with_access, waiting_access}
+use Rattle.window_order.proofs.AgainAccesses.{MayStand, may_stand}
+use Rattle.window_order.proofs.TableSteps.{with_both}
+use Rattle.window_order.specs.TableChanges.{IsNewOn, first_with_access, rescheduled, waiting_access}
 
 -- one of the first so many commands is on the device
 abbrev pub is_among : ℕ → ℕ → List Command → Bool
@@ -30,7 +33,7 @@ is_among d k commands = list_any (is_on d) (take k commands)
 
 -- the lineage with the run's access
 abbrev pub joined : ℕ → List Planned → List Item → ℕ → LineageState → LineageState
-joined r planned back d s = scheduled (first_with_access s.accesses back) (waiting_access r planned d) s
+joined r planned back d s = scheduled (first_with_access s.accesses back) (waiting_access r planned d) (rescheduled (first_with_access s.accesses back) s)
 
 -- after so many commands the uses of their devices are taken, and the run has its access there
 pub record IsScheduledTo (k : ℕ) (commands : List Command) (planned : List Planned) (r : ℕ) (back : List Item) (uses : List (Option PlannedUse)) (old new : List LineageState) : Type 0 where
@@ -55,6 +58,21 @@ among_more d k commands e within =
     last : (x y : Bool) → (x || (y || false)) ≡ (x || y)
     last x y = grind (arith, common_steps)
 
+-- a command is one on its device
+pub on_command : (k : ℕ) (commands : List Command) (e : Command) → k < length commands → list_any (is_on (get_or commands k e).device.0) commands ≡ true
+on_command k commands e within =
+    sym (ap (list_any (is_on d)) (take-append-drop (k + 1) commands)) ∙ list_any-append (is_on d) (take (k + 1) commands) (drop (k + 1) commands)
+    ∙ first (is_among d (k + 1) commands) (list_any (is_on d) (drop (k + 1) commands)) (among_more d k commands e within ∙ self (is_among d k commands) d)
+  where
+    d : ℕ
+    d = (get_or commands k e).device.0
+
+    first : (x y : Bool) → x ≡ true → (x || y) ≡ true
+    first x y h = grind (arith, common_steps)
+
+    self : (x : Bool) (y : ℕ) → (x || (y == y)) ≡ true
+    self x y = grind (arith, common_steps)
+
 -- a device that has its use has had no command
 pub record IsUnused (k d : ℕ) (commands : List Command) (planned : List Planned) (used : PlannedUse) : Type 0 where
   pub among : is_among d k commands ≡ false
@@ -76,17 +94,49 @@ unused k d commands planned used has = by_command (is_among d k commands) refl h
 pub unused_same : (k d : ℕ) (commands : List Command) (planned : List Planned) (r : ℕ) (back : List Item) (uses : List (Option PlannedUse)) (old new : List LineageState) → IsScheduledTo k commands planned r back uses old new → is_among d k commands ≡ false → lineage_at new d ≡ lineage_at old d
 unused_same k d commands planned r back uses old new so none = so.each d ∙ (λ i. if none i then joined r planned back d (lineage_at old d) else lineage_at old d)
 
+-- once those behind its place wait the run may be scheduled on the device of the next command
+pub record MaySchedule (r d : ℕ) (first : Option RunNo) (table : List LineageState) : Type 0 where
+  pub none : has_access r (accesses_at table d) ≡ false
+  pub waits : ForSome first (λ q. status_of q.0 (accesses_at table d) ≡ Some Scheduled)
+
+pub may_schedule : (k : ℕ) (commands : List Command) (planned : List Planned) (r : ℕ) (back : List Item) (uses : List (Option PlannedUse)) (old new after : List LineageState) (e : Command) (used : PlannedUse) (first : Option RunNo)
+    → IsScheduledTo k commands planned r back uses old new → k < length commands → ((x : Command) → (get_or commands k x).device.0 < length old) → length old ≤ 256 → get_or uses (get_or commands k e).device.0 None ≡ Some used
+    → IsNewOn r back (lineage_at old (get_or commands k e).device.0) → first ≡ first_with_access (accesses_at new (get_or commands k e).device.0) back → after ≡ with_lineage new (get_or commands k e).device.0 (rescheduled first) → MaySchedule r (get_or commands k e).device.0 first after
+may_schedule k commands planned r back uses old new after e used first so within homed few has is_new named waiting = record {
+  none = ap (λ (s : LineageState). has_access r s.accesses) here ∙ stands.none;
+  waits = subst (λ (s : LineageState). ForSome first (λ q. status_of q.0 s.accesses ≡ Some Scheduled)) (sym here) stands.waits;
+}
+  where
+    d : ℕ
+    d = (get_or commands k e).device.0
+
+    there : d < length old
+    there = homed e
+
+    is : IsUnused k d commands planned used
+    is = unused k d commands planned used (sym (so.left d (omega (arith, there, few))) ∙ has)
+
+    now : lineage_at new d ≡ lineage_at old d
+    now = unused_same k d commands planned r back uses old new so is.among
+
+    here : lineage_at after d ≡ rescheduled first (lineage_at new d)
+    here = ap (λ (t : List LineageState). lineage_at t d) waiting ∙ lineage_set new d (rescheduled first) (omega (arith, there, so.devices))
+
+    stands : MayStand r first (lineage_at new d)
+    stands = subst (λ o. MayStand r o (lineage_at new d)) (sym named) (may_stand r back (lineage_at new d) (subst (IsNewOn r back) (sym now) is_new))
+
 -- the run has its access on the device of the next command
 pub schedules : (k : ℕ) (commands : List Command) (planned : List Planned) (r : ℕ) (back : List Item) (uses : List (Option PlannedUse)) (old new : List LineageState) (e : Command) (used : PlannedUse)
     → IsScheduledTo k commands planned r back uses old new → k < length commands → ((x : Command) → (get_or commands k x).device.0 < length old) → length old ≤ 256 → get_or uses (get_or commands k e).device.0 None ≡ Some used
     → IsScheduledTo (k + 1) commands planned r back (set uses (get_or commands k e).device.0 None) old
-    (with_lineage new (get_or commands k e).device.0 (scheduled (first_with_access (lineage_at new (get_or commands k e).device.0).accesses back) (record { run = run_no r; status = Scheduled; view = None; wrote = None; from = used.from; to = used.to })))
-schedules k commands planned r back uses old new e used so within homed few has = record {
+    (with_lineage (with_lineage new (get_or commands k e).device.0 (rescheduled (first_with_access (lineage_at new (get_or commands k e).device.0).accesses back))) (get_or commands k e).device.0
+    (scheduled (first_with_access (lineage_at new (get_or commands k e).device.0).accesses back) (record { run = run_no r; status = Scheduled; view = None; wrote = None; from = used.from; to = used.to })))
+schedules k commands planned r back uses old new e used so within homed few has = subst (IsScheduledTo (k + 1) commands planned r back (set uses c.device.0 None) old) (sym (with_both new c.device.0 (rescheduled first) (scheduled first access) (omega (arith, there, so.devices)))) (record {
   size = length-set uses c.device.0 None ∙ so.size;
   devices = length-set new c.device.0 (change (lineage_at new c.device.0)) ∙ so.devices;
   left = λ d lt. left_at d lt (c.device.0 == d) refl;
   each = λ d. each_at d (c.device.0 == d) refl;
-}
+})
   where
     c : Command
     c = get_or commands k e
@@ -100,8 +150,11 @@ schedules k commands planned r back uses old new e used so within homed few has 
     access : Access
     access = record { run = run_no r; status = Scheduled; view = None; wrote = None; from = used.from; to = used.to }
 
+    first : Option RunNo
+    first = first_with_access (lineage_at new c.device.0).accesses back
+
     change : LineageState → LineageState
-    change = scheduled (first_with_access (lineage_at new c.device.0).accesses back) access
+    change s = scheduled first access (rescheduled first s)
 
     among : (d : ℕ) (b : Bool) → (c.device.0 == d) ≡ b → is_among d (k + 1) commands ≡ (is_among d k commands || b)
     among d b h = among_more d k commands e within ∙ ap (λ x. is_among d k commands || x) h
@@ -134,7 +187,7 @@ schedules k commands planned r back uses old new e used so within homed few has 
     each_at d true h =
         ap (lineage_at (with_lineage new c.device.0 change)) (sym (same c.device.0 d h))
         ∙ get_or-set_same new c.device.0 (change (lineage_at new c.device.0)) no_lineage (omega (arith, there, so.devices))
-        ∙ (λ i. scheduled (first_with_access (first_is i).accesses back) (access_is i) (first_is i))
+        ∙ (λ i. scheduled (first_with_access (first_is i).accesses back) (access_is i) (rescheduled (first_with_access (first_is i).accesses back) (first_is i)))
         ∙ ap (λ x. joined r planned back x (lineage_at old x)) (same c.device.0 d h)
         ∙ (λ i. if sym (among d true h ∙ with_true (is_among d k commands)) i then joined r planned back d (lineage_at old d) else lineage_at old d)
     each_at d false h =
@@ -156,13 +209,7 @@ schedules_no_more k m commands r back uses old new e so within homed none = reco
     c = get_or commands k e
 
     on_it : list_any (is_on c.device.0) commands ≡ true
-    on_it = sym (ap (list_any (is_on c.device.0)) (take-append-drop (k + 1) commands)) ∙ list_any-append (is_on c.device.0) (take (k + 1) commands) (drop (k + 1) commands) ∙ first (is_among c.device.0 (k + 1) commands) (list_any (is_on c.device.0) (drop (k + 1) commands)) (among_more c.device.0 k commands e within ∙ self (is_among c.device.0 k commands) c.device.0)
-      where
-        first : (x y : Bool) → x ≡ true → (x || y) ≡ true
-        first x y h = grind (arith, common_steps)
-
-        self : (x : Bool) (y : ℕ) → (x || (y == y)) ≡ true
-        self x y = grind (arith, common_steps)
+    on_it = on_command k commands e within
 
     used_before : is_among c.device.0 k commands ≡ true
     used_before = by_command (is_among c.device.0 k commands) refl (sym (so.left c.device.0 (homed e)) ∙ none)
@@ -236,17 +283,3 @@ found_none accesses items k found is none = by_found found is none ∙ sym (firs
     by_found : (o : Option RunNo) → o ≡ first_with_access accesses (option_to_list (slice_get items k)) → is_some o ≡ false → first_with_access accesses (drop (k + 1) items) ≡ option_or (first_with_access accesses (option_to_list (slice_get items k))) (first_with_access accesses (drop (k + 1) items))
     by_found None h e = ap (λ o. option_or o (first_with_access accesses (drop (k + 1) items))) h
     by_found (Some x) h e = absurd (cc)
-
-is_found : (r : ℕ) (accesses : List Access) → is_some (access_of r accesses) ≡ has_access r accesses
-is_found r [] = refl
-is_found r (x ∷ xs) = by_access (is_of r x) (is_found r xs)
-  where
-    by_access : (b : Bool) → is_some (access_of r xs) ≡ has_access r xs → is_some (cond b (Some x) (access_of r xs)) ≡ (b || has_access r xs)
-    by_access true rest = refl
-    by_access false rest = rest
-
--- an item that is a run is found where the run has an access
-pub ran_found : (accesses : List Access) (item : Item) (r : RunNo) (access : Option Access) (found : Bool) → item ≡ Ran r → access ≡ access_of r.0 accesses → found ≡ is_some access → (if found then Some r else None) ≡ first_with_access accesses (item ∷ [])
-ran_found accesses item r access found is its so =
-    (λ i. if (so ∙ ap (λ o. is_some o) its ∙ is_found r.0 accesses) i then Some r else None)
-    ∙ ap (λ x. first_with_access accesses (x ∷ [])) (sym is)

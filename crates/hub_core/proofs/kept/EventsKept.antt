@@ -9,6 +9,7 @@ use Rattle.history_book.specs.WellFormed.{may_follow}
 use Rattle.history_book.specs.declared.entries.Entry.TheVariants.{Fell, Rose}
 use Rattle.home_types.specs.declared.items.Item.TheVariants.{Back, Failed, Ran}
 use Rattle.home_types.specs.declared.items.Item.{Item}
+use Rattle.hub_core.proofs.kept.Followed.{followed_step}
 use Rattle.hub_core.proofs.kept.HistoryKept.{AreFewer, MayAdd, first_less, turn_less}
 use Rattle.hub_core.proofs.kept.LineOrder.{same_order}
 use Rattle.hub_core.specs.HubKept.{ActsInTurn, HistoryIsKept, is_later, placed_in_order}
@@ -112,6 +113,7 @@ fell_may s d m g follows later less kept =
       unrevoked = λ first_come. refl;
       moment = later;
       in_order = λ first_come. event_order n next has (kept.in_order first_come);
+      followed = followed_step s.setting n (Fell (device_no d)) refl kept.followed;
       in_turn = event_turn s.setting n next s.grips g has less kept.in_turn;
       first = first_less n next s.grips g (λ q. refl) less kept.first;
     }
@@ -137,6 +139,7 @@ rose_may s d m g follows later less kept =
       unrevoked = λ first_come. refl;
       moment = later;
       in_order = λ first_come. event_order n next has (kept.in_order first_come);
+      followed = followed_step s.setting n (Rose (device_no d)) refl kept.followed;
       in_turn = event_turn s.setting n next s.grips g has less kept.in_turn;
       first = first_less n next s.grips g (λ q. refl) less kept.first;
     }

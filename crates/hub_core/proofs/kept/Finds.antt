@@ -1,5 +1,6 @@
 -- The first number or element that does.
-use Rattle.std.proofs.Common.{ap, arith, inl, inr, refl, sym, ◌∙◌}
+use Rattle.history_book.proofs.Searches.{some_is}
+use Rattle.std.proofs.Common.{ap, arith, inl, inr, refl, subst, sym, ◌∙◌}
 use Rattle.std.specs.List.{range_with_len}
 use Rattle.std.specs.Prelude.{Bool, List, None, Some, [], cond, false, find, suc, true, zero, ℕ, ◌+◌, ◌<◌, ◌∷◌, ◌≡◌, ◌≤◌, ◌⊎◌}
 
@@ -37,3 +38,29 @@ none_does p a (suc n) none y low high = elim (p a) as (λ b. p a ≡ b → cond 
     by_place : (a ≡ y) ⊎ (a < y) → p a ≡ false → (a < y → p y ≡ false) → p y ≡ false
     by_place (inl same) here rest = ap p (sym same) ∙ here
     by_place (inr more) here rest = rest more
+
+-- the number is of the range, it does, and none before it does
+pub record IsLeast (p : ℕ → Bool) (a n x : ℕ) : Type 0 where
+  pub low : a ≤ x
+  pub high : x < a + n
+  pub does : p x ≡ true
+  pub none_before : (y : ℕ) → a ≤ y → y < x → p y ≡ false
+
+pub find_least : (p : ℕ → Bool) (a n x : ℕ) → find p (range_with_len a n) ≡ Some x → IsLeast p a n x
+find_least p a zero x at = absurd (cc)
+find_least p a (suc n) x at = elim (p a) as (λ b. p a ≡ b → cond b (Some a) (find p (range_with_len (a + 1) n)) ≡ Some x → IsLeast p a (suc n) x) [
+  | true ↦ (λ here found. subst (IsLeast p a (suc n)) (some_is a x found) (record { low = omega arith; high = omega arith; does = here; none_before = λ y low less. absurd (omega (arith, low, less)) }))
+  | false ↦ (λ none rest. more none (find_least p (a + 1) n x rest))
+] refl at
+  where
+    more : p a ≡ false → IsLeast p (a + 1) n x → IsLeast p a (suc n) x
+    more none least = record {
+      low = omega (arith, least.low);
+      high = omega (arith, least.high);
+      does = least.does;
+      none_before = λ y low less. by_place y (a_or_more a y low) (λ next. least.none_before y (omega (arith, next)) less);
+    }
+      where
+        by_place : (y : ℕ) → (a ≡ y) ⊎ (a < y) → (a < y → p y ≡ false) → p y ≡ false
+        by_place y (inl same) rest = ap p (sym same) ∙ none
+        by_place y (inr next) rest = rest next

@@ -10,7 +10,7 @@ use Rattle.history_book.specs.Histories.{entries_of, entry, kept_by, moment_of, 
 use Rattle.history_book.specs.Lines.{before, without}
 use Rattle.history_book.specs.Plans.{planned_times, split_of}
 use Rattle.history_book.specs.Readings.{OfRun, PlacedAt, Reading, did, has_written, is_live, nothing_read, put}
-use Rattle.history_book.specs.Settings.{Setting, devices_of, is_strict}
+use Rattle.history_book.specs.Settings.{Setting, devices_of, is_strict, scheduler_of}
 use Rattle.history_book.specs.WellFormed.{each_entry, may_follow}
 use Rattle.history_book.specs.declared.entries.Cause.{Cause}
 use Rattle.history_book.specs.declared.entries.End.TheVariants.{Aborted, Committed}
@@ -18,14 +18,19 @@ use Rattle.history_book.specs.declared.entries.Entry.{Entry}
 use Rattle.history_book.specs.declared.entries.Entry.TheVariants.{Arrived, Did, Doomed, Ended, Placed, Undid}
 use Rattle.home_types.specs.declared.commands.Answer.{Answer}
 use Rattle.home_types.specs.declared.items.Item.TheVariants.{Ran}
-use Rattle.home_types.specs.declared.modes.Scheduler.TheVariants.{Fcfs}
+use Rattle.home_types.specs.declared.modes.Scheduler.TheVariants.{Fcfs, JustInTime, Timeline}
+use Rattle.home_types.specs.declared.modes.Scheduler.{Scheduler}
+use Rattle.home_types.specs.declared.modes.Visibility.TheVariants.{Eventual, Global, Partitioned, Weak}
+use Rattle.home_types.specs.declared.modes.Visibility.{Visibility}
+use Rattle.hub_core.proofs.kept.Followed.{followed_placed, followed_step}
 use Rattle.hub_core.proofs.steps.Afters.{read_with}
 use Rattle.hub_core.proofs.kept.LineOrder.{StampsAreBelow, before_more, end_line, is_alone_by, live_before_without, order_at_end, order_without, same_order, stamps_below, strict_fewer_by}
-use Rattle.hub_core.proofs.stage.StageChoices.{live_stands}
+use Rattle.hub_core.proofs.stage.StrongChoices.{IsPlacing, live_stands}
 use Rattle.hub_core.specs.CleanReads.{entry_is_clean}
-use Rattle.hub_core.specs.HubKept.{ActsInTurn, HistoryIsKept, NoneAnsweredDoomed, keeps_leases, placed_in_order}
+use Rattle.hub_core.specs.HubKept.{ActsInTurn, FollowersStand, HistoryIsKept, NoneAnsweredDoomed, keeps_leases, placed_in_order}
 use Rattle.hub_core.specs.Isolation.{is_alone, is_isolated}
 use Rattle.hub_core.specs.JustifiedAborts.{abort_is_justified, shows}
+use Rattle.hub_core.specs.Openings.{MayOpen, is_fcfs, is_mode}
 use Rattle.lock_leasing.specs.Configurations.{Commands, Configuration, Grip, Grips, Purpose, grips_command, has_grip, is_command, read_of}
 use Rattle.lock_leasing.specs.Places.{IsScheduled, PlacesAreScheduled}
 use Rattle.lock_leasing.specs.Waits.{down_at_end, strict_wait}
@@ -47,6 +52,7 @@ pub record MayAdd (s : Configuration) (e : Entry) (m : ℕ) (g : Grips) : Type 0
   pub unrevoked : s.setting.mode.scheduler ≡ Fcfs → keeps_leases e ≡ true
   pub moment : (entry s.setting (read_of s) e).moment ≤ m
   pub in_order : s.setting.mode.scheduler ≡ Fcfs → IsTrue (placed_in_order (entry s.setting (read_of s) e) (entry s.setting (read_of s) e).line)
+  pub followed : FollowersStand s.setting (entry s.setting (read_of s) e)
   pub in_turn : ActsInTurn s.setting (entry s.setting (read_of s) e) g
   pub first : NoneAnsweredDoomed (entry s.setting (read_of s) e) g
 
@@ -65,6 +71,7 @@ history_added s maker m g e may kept =
       isolated = λ strict. subst (λ h. IsTrue (each_entry s.setting (is_isolated s.setting) h)) (sym entries) (each_more s.setting (is_isolated s.setting) (entries_of s.history) e (kept.isolated strict) (may.isolated strict));
       unrevoked = λ first_come. subst (λ h. IsTrue (list_all keeps_leases h)) (sym entries) (list_all-append keeps_leases (entries_of s.history) (e ∷ []) ∙ rw (kept.unrevoked first_come, may.unrevoked first_come) refl);
       in_order = λ first_come. subst (λ n. IsTrue (placed_in_order n n.line)) (sym read) (may.in_order first_come);
+      followed = subst (λ n. FollowersStand s.setting n) (sym read) may.followed;
       in_turn = subst (λ n. ActsInTurn s.setting n g) (sym read) may.in_turn;
       first = subst (λ n. NoneAnsweredDoomed n g) (sym read) may.first;
     }
@@ -138,8 +145,9 @@ has_none g r none d = by_grip (g d) (none d)
     by_grip None e = refl
     by_grip (Some p) e = grind (arith, common_steps)
 
-placing_turn : (w : Setting) (n : Reading) (g : Grips) (r m : ℕ) → Standing n → is_none (n.run r).placed ≡ true → ((d : ℕ) → did n r d ≡ false) → ((d : ℕ) → has_grip g r d ≡ false) → ActsInTurn w n g → ActsInTurn w (entry w n (Placed (run_no r) (length n.line) m)) g
-placing_turn w n g r m stands unplaced untouched' gripless turn q d acts = elim (q == r) as (λ b. (q == r) ≡ b → strict_wait w then' q ≡ None) [
+-- a run is placed at the end
+last_turn : (w : Setting) (n : Reading) (g : Grips) (r m : ℕ) → Standing n → is_none (n.run r).placed ≡ true → ((d : ℕ) → did n r d ≡ false) → ((d : ℕ) → has_grip g r d ≡ false) → ActsInTurn w n g → ActsInTurn w (entry w n (Placed (run_no r) (length n.line) m)) g
+last_turn w n g r m stands unplaced untouched' gripless turn q d acts = elim (q == r) as (λ b. (q == r) ≡ b → strict_wait w then' q ≡ None) [
   | true ↦ (λ at. absurd (idle (grind (arith, common_steps))))
   | false ↦ (λ at. others (grind (arith, common_steps)))
 ] refl
@@ -173,6 +181,21 @@ placing_turn w n g r m stands unplaced untouched' gripless turn q d acts = elim 
         let acts' : IsTrue (is_live n q && (has_touched n g q d || has_grip g q d)) = acts_more _ _ _ _ _ _ _ _ (same_true (live q apart)) (same_true (did_is q d)) (λ e. e) (λ e. e) acts in
         let there : list_any (is_ran q) n.line ≡ true = live_stands n q stands (grind (arith, common_steps)) in
         strict_fewer_by w.runs w.kinds w.first w.mode.model w.mode.scheduler n then' q (ap (live_runs then') (ap (before q) (end_line w n r m) ∙ before_more q n.line (Ran (run_no r)) there)) (λ x among now. same_true (live x (other x (any_taken (is_ran x) _ n.line among))) now) (turn q d acts')
+
+-- .. or anywhere, where no run waits for another one by its model
+placing_turn : (w : Setting) (n : Reading) (g : Grips) (r at m : ℕ) → Standing n → is_none (n.run r).placed ≡ true → ((d : ℕ) → did n r d ≡ false) → ((d : ℕ) → has_grip g r d ≡ false) → (scheduler_of w.mode ≡ Fcfs → at ≡ length n.line) → ActsInTurn w n g → ActsInTurn w (entry w n (Placed (run_no r) at m)) g
+placing_turn w n g r at m stands unplaced untouched' gripless last turn q d acts = by_model w.mode.model w.mode.scheduler last (λ end. subst (λ k. ActsInTurn w (entry w n (Placed (run_no r) k m)) g) (sym end) (last_turn w n g r m stands unplaced untouched' gripless turn) q d acts)
+  where
+    then' : Reading
+    then' = entry w n (Placed (run_no r) at m)
+
+    by_model : (model : Visibility) (scheduler : Scheduler) → (scheduler_of (record { model = model; scheduler = scheduler }) ≡ Fcfs → at ≡ length n.line)
+        → (at ≡ length n.line → strict_wait (record { runs = w.runs; mode = record { model = model; scheduler = scheduler }; kinds = w.kinds; first = w.first }) then' q ≡ None)
+        → strict_wait (record { runs = w.runs; mode = record { model = model; scheduler = scheduler }; kinds = w.kinds; first = w.first }) then' q ≡ None
+    by_model Weak scheduler end waitless = refl
+    by_model Global scheduler end waitless = waitless (end refl)
+    by_model Partitioned scheduler end waitless = waitless (end refl)
+    by_model Eventual scheduler end waitless = refl
 
 -- one device less is out
 
@@ -276,6 +299,7 @@ arrival_may s r m follows later kept =
       unrevoked = λ first_come. refl;
       moment = omega (arith, later);
       in_order = λ first_come. order_kept n (entry s.setting n (Arrived (run_no r) m)) refl (λ q. put_keeps stamp_in n.run r (record (n.run r) { arrived = Some m }) refl q) (kept.in_order first_come);
+      followed = followed_step s.setting n (Arrived (run_no r) m) refl kept.followed;
       in_turn = arrival_turn s.setting n s.grips r m kept.in_turn;
       first = first_less n (entry s.setting n (Arrived (run_no r) m)) s.grips s.grips (λ q. put_keeps (λ o. o.answered_doomed) n.run r _ refl q) (same_grips s.grips) kept.first;
     }
@@ -315,9 +339,16 @@ placing_order w n r m stands stamps unplaced ordered = subst (λ l. IsTrue (plac
         stamped None some f = absurd (cc)
         stamped (Some p) some f = f
 
-pub placing_may : (s : Configuration) (r m : ℕ) → may_follow s.setting (read_of s) (Placed (run_no r) (length (read_of s).line) m) ≡ true → (read_of s).moment ≤ m → IsScheduled s.setting (read_of s) (Placed (run_no r) (length (read_of s).line) m)
-    → is_none ((read_of s).run r).placed ≡ true → ((d : ℕ) → has_grip s.grips r d ≡ false) → HistoryIsKept s → MayAdd s (Placed (run_no r) (length (read_of s).line) m) m s.grips
-placing_may s r m follows later scheduled unplaced gripless kept =
+-- runs are served as they come by the scheduler of the window where its mode says so
+first_served : (model : Visibility) (scheduler : Scheduler) → scheduler ≡ Fcfs → scheduler_of (record { model = model; scheduler = scheduler }) ≡ Fcfs
+first_served Weak scheduler e = refl
+first_served Global scheduler e = refl
+first_served Partitioned scheduler e = refl
+first_served Eventual scheduler e = e
+
+pub placing_may : (s : Configuration) (r at m : ℕ) → may_follow s.setting (read_of s) (Placed (run_no r) at m) ≡ true → (read_of s).moment ≤ m → IsScheduled s.setting (read_of s) (Placed (run_no r) at m) → IsPlacing s.setting (read_of s) s.grips r at
+    → is_none ((read_of s).run r).placed ≡ true → ((d : ℕ) → has_grip s.grips r d ≡ false) → HistoryIsKept s → MayAdd s (Placed (run_no r) at m) m s.grips
+placing_may s r at m follows later scheduled place unplaced gripless kept =
     record {
       follows = follows;
       clean = refl;
@@ -326,9 +357,10 @@ placing_may s r m follows later scheduled unplaced gripless kept =
       isolated = λ strict. refl;
       unrevoked = λ first_come. refl;
       moment = omega (arith, later);
-      in_order = λ first_come. placing_order s.setting n r m stands (stamps_below s.setting (entries_of s.history)) unplaced (kept.in_order first_come);
-      in_turn = placing_turn s.setting n s.grips r m stands unplaced (λ d. ap (λ o. is_some o.view) ((shapes s.setting (entries_of s.history) kept.well_formed r).clear unplaced d)) gripless kept.in_turn;
-      first = first_less n (entry s.setting n (Placed (run_no r) (length n.line) m)) s.grips s.grips (λ q. put_keeps (λ o. o.answered_doomed) n.run r _ refl q) (same_grips s.grips) kept.first;
+      in_order = λ first_come. subst (λ k. IsTrue (placed_in_order (entry s.setting n (Placed (run_no r) k m)) (entry s.setting n (Placed (run_no r) k m)).line)) (sym (place.last (first_served s.setting.mode.model s.setting.mode.scheduler first_come))) (placing_order s.setting n r m stands (stamps_below s.setting (entries_of s.history)) unplaced (kept.in_order first_come));
+      followed = followed_placed s.setting n s.grips r at m stands unplaced place kept.followed;
+      in_turn = placing_turn s.setting n s.grips r at m stands unplaced (λ d. ap (λ o. is_some o.view) ((shapes s.setting (entries_of s.history) kept.well_formed r).clear unplaced d)) gripless place.last kept.in_turn;
+      first = first_less n (entry s.setting n (Placed (run_no r) at m)) s.grips s.grips (λ q. put_keeps (λ o. o.answered_doomed) n.run r _ refl q) (same_grips s.grips) kept.first;
     }
   where
     n : Reading
@@ -358,20 +390,40 @@ alone_now s r first_come live waitless kept = is_alone_by s.setting.runs s.setti
     stands : Standing (read_of s)
     stands = standing s.setting (entries_of s.history) kept.well_formed
 
+-- under a strict model runs are served as they come
+abbrev pub ServesStrict : Setting → Type 0
+ServesStrict w = IsTrue (is_strict w.mode) → w.mode.scheduler ≡ Fcfs
+
+-- .. in a window that may be opened
+pub serves_strict : (w : Setting) (rounds opened : ℕ) → MayOpen w rounds opened → ServesStrict w
+serves_strict w rounds opened opens = by_model w.mode.model w.mode.scheduler opens.mode
+  where
+    is_first : (scheduler : Scheduler) → IsTrue (is_fcfs scheduler) → scheduler ≡ Fcfs
+    is_first Fcfs e = refl
+    is_first JustInTime e = absurd (cc)
+    is_first Timeline e = absurd (cc)
+
+    by_model : (model : Visibility) (scheduler : Scheduler) → IsTrue (is_mode (record { model = model; scheduler = scheduler })) → IsTrue (is_strict (record { model = model; scheduler = scheduler })) → scheduler ≡ Fcfs
+    by_model Weak scheduler mode strict = absurd (cc)
+    by_model Global scheduler mode strict = is_first scheduler mode
+    by_model Partitioned scheduler mode strict = is_first scheduler mode
+    by_model Eventual scheduler mode strict = absurd (cc)
+
 -- A command is answered
 
-answered_may : (s : Configuration) (h : Grips) (r k m : ℕ) (a : Answer) → may_follow s.setting (read_of s) (Did (run_no r) k a) ≡ true → entry_is_clean s.setting (read_of s) (Did (run_no r) k a) ≡ true → (read_of s).moment ≤ m → s.setting.mode.scheduler ≡ Fcfs → AreFewer h s.grips
+answered_may : (s : Configuration) (h : Grips) (r k m : ℕ) (a : Answer) → may_follow s.setting (read_of s) (Did (run_no r) k a) ≡ true → entry_is_clean s.setting (read_of s) (Did (run_no r) k a) ≡ true → (read_of s).moment ≤ m → ServesStrict s.setting → AreFewer h s.grips
     → HoldsNone h r → is_live (read_of s) r ≡ true → strict_wait s.setting (read_of s) r ≡ None → HistoryIsKept s → MayAdd s (Did (run_no r) k a) m h
-answered_may s h r k m a follows clean later first_come less none live waitless kept =
+answered_may s h r k m a follows clean later served less none live waitless kept =
     record {
       follows = follows;
       clean = clean;
       justified = refl;
       scheduled = tt;
-      isolated = λ strict. alone_now s r first_come live waitless kept;
+      isolated = λ strict. alone_now s r (served strict) live waitless kept;
       unrevoked = λ first_come. refl;
       moment = later;
       in_order = λ first_come. order_kept n (entry s.setting n (Did (run_no r) k a)) refl (λ q. put_keeps stamp_in n.run r _ refl q) (kept.in_order first_come);
+      followed = followed_step s.setting n (Did (run_no r) k a) refl kept.followed;
       in_turn = answer_turn s.setting n s.grips h r k a less waitless kept.in_turn;
       first = answer_first s.setting n s.grips h r k a less none kept.first;
     }
@@ -380,14 +432,14 @@ answered_may s h r k m a follows clean later first_come less none live waitless 
     n = read_of s
 
 -- by its device, which comes home
-pub answer_may : (s : Configuration) (r k d m : ℕ) (a : Answer) → may_follow s.setting (read_of s) (Did (run_no r) k a) ≡ true → entry_is_clean s.setting (read_of s) (Did (run_no r) k a) ≡ true → (read_of s).moment ≤ m → s.setting.mode.scheduler ≡ Fcfs → s.grips d ≡ Some (record { maker = r; purpose = Commands k })
+pub answer_may : (s : Configuration) (r k d m : ℕ) (a : Answer) → may_follow s.setting (read_of s) (Did (run_no r) k a) ≡ true → entry_is_clean s.setting (read_of s) (Did (run_no r) k a) ≡ true → (read_of s).moment ≤ m → ServesStrict s.setting → s.grips d ≡ Some (record { maker = r; purpose = Commands k })
     → ((e : ℕ) (p : Purpose) → s.grips e ≡ Some (record { maker = r; purpose = p }) → e ≡ d) → is_live (read_of s) r ≡ true → HistoryIsKept s → MayAdd s (Did (run_no r) k a) m (put s.grips d None)
-answer_may s r k d m a follows clean later first_come out alone live kept = answered_may s (put s.grips d None) r k m a follows clean later first_come (less_one s.grips d) (last_home s.grips r d alone) live (in_turn_out s r d (Commands k) out live kept) kept
+answer_may s r k d m a follows clean later served out alone live kept = answered_may s (put s.grips d None) r k m a follows clean later served (less_one s.grips d) (last_home s.grips r d alone) live (in_turn_out s r d (Commands k) out live kept) kept
 
 -- with no call of its device, where the run holds no grip and waits for no run by its model
-pub told_may : (s : Configuration) (r k m : ℕ) (a : Answer) → may_follow s.setting (read_of s) (Did (run_no r) k a) ≡ true → entry_is_clean s.setting (read_of s) (Did (run_no r) k a) ≡ true → (read_of s).moment ≤ m → s.setting.mode.scheduler ≡ Fcfs
+pub told_may : (s : Configuration) (r k m : ℕ) (a : Answer) → may_follow s.setting (read_of s) (Did (run_no r) k a) ≡ true → entry_is_clean s.setting (read_of s) (Did (run_no r) k a) ≡ true → (read_of s).moment ≤ m → ServesStrict s.setting
     → HoldsNone s.grips r → is_live (read_of s) r ≡ true → strict_wait s.setting (read_of s) r ≡ None → HistoryIsKept s → MayAdd s (Did (run_no r) k a) m s.grips
-told_may s r k m a follows clean later first_come none live waitless kept = answered_may s s.grips r k m a follows clean later first_come (same_grips s.grips) none live waitless kept
+told_may s r k m a follows clean later served none live waitless kept = answered_may s s.grips r k m a follows clean later served (same_grips s.grips) none live waitless kept
 
 -- A run commits
 
@@ -413,6 +465,7 @@ commit_may s r m follows later up kept =
       unrevoked = λ first_come. refl;
       moment = later;
       in_order = λ first_come. order_kept n (entry s.setting n (Ended (run_no r) Committed)) refl (λ q. put_keeps stamp_in n.run r (record (n.run r) { ended = Some Committed }) refl q) (kept.in_order first_come);
+      followed = followed_step s.setting n (Ended (run_no r) Committed) refl kept.followed;
       in_turn = commit_turn s.setting n s.grips r kept.in_turn;
       first = first_less n (entry s.setting n (Ended (run_no r) Committed)) s.grips s.grips (λ q. put_keeps (λ o. o.answered_doomed) n.run r _ refl q) (same_grips s.grips) kept.first;
     }
@@ -434,6 +487,7 @@ doom_may s r m cause follows keeps shown later kept =
       unrevoked = keeps;
       moment = later;
       in_order = λ first_come. order_kept n (entry s.setting n (Doomed (run_no r) cause)) refl (λ q. put_keeps stamp_in n.run r _ refl q) (kept.in_order first_come);
+      followed = followed_step s.setting n (Doomed (run_no r) cause) refl kept.followed;
       in_turn = doom_turn s.setting n s.grips r cause kept.in_turn;
       first = first_less n (entry s.setting n (Doomed (run_no r) cause)) s.grips s.grips (λ q. put_keeps (λ o. o.answered_doomed) n.run r _ refl q) (same_grips s.grips) kept.first;
     }
@@ -443,17 +497,18 @@ doom_may s r m cause follows keeps shown later kept =
 
 -- A run is undone on a device
 
-undone_may : (s : Configuration) (h : Grips) (r d m : ℕ) (drove : Bool) → AreFewer h s.grips → may_follow s.setting (read_of s) (Undid (run_no r) (device_no d) drove) ≡ true → (read_of s).moment ≤ m → s.setting.mode.scheduler ≡ Fcfs → HistoryIsKept s → MayAdd s (Undid (run_no r) (device_no d) drove) m h
-undone_may s h r d m drove less follows later first_come kept =
+undone_may : (s : Configuration) (h : Grips) (r d m : ℕ) (drove : Bool) → AreFewer h s.grips → may_follow s.setting (read_of s) (Undid (run_no r) (device_no d) drove) ≡ true → (read_of s).moment ≤ m → ServesStrict s.setting → HistoryIsKept s → MayAdd s (Undid (run_no r) (device_no d) drove) m h
+undone_may s h r d m drove less follows later served kept =
     record {
       follows = follows;
       clean = refl;
       justified = refl;
       scheduled = tt;
-      isolated = λ strict. alone_now s r first_come live (in_turn_wrote s r d live wrote kept) kept;
+      isolated = λ strict. alone_now s r (served strict) live (in_turn_wrote s r d live wrote kept) kept;
       unrevoked = λ first_come. refl;
       moment = later;
       in_order = λ first_come. order_kept n (entry s.setting n (Undid (run_no r) (device_no d) drove)) refl (λ q. put_keeps stamp_in n.run r _ refl q) (kept.in_order first_come);
+      followed = followed_step s.setting n (Undid (run_no r) (device_no d) drove) refl kept.followed;
       in_turn = undo_turn s.setting n s.grips h r d drove less kept.in_turn;
       first = first_less n (entry s.setting n (Undid (run_no r) (device_no d) drove)) s.grips h (λ q. put_keeps (λ o. o.answered_doomed) n.run r _ refl q) less kept.first;
     }
@@ -468,12 +523,12 @@ undone_may s h r d m drove less follows later first_come kept =
     wrote = grind (arith, common_steps, follows)
 
 -- by its device, which comes home
-pub undo_may : (s : Configuration) (r d m : ℕ) (drove : Bool) → may_follow s.setting (read_of s) (Undid (run_no r) (device_no d) drove) ≡ true → (read_of s).moment ≤ m → s.setting.mode.scheduler ≡ Fcfs → HistoryIsKept s → MayAdd s (Undid (run_no r) (device_no d) drove) m (put s.grips d None)
-undo_may s r d m drove follows later first_come kept = undone_may s (put s.grips d None) r d m drove (less_one s.grips d) follows later first_come kept
+pub undo_may : (s : Configuration) (r d m : ℕ) (drove : Bool) → may_follow s.setting (read_of s) (Undid (run_no r) (device_no d) drove) ≡ true → (read_of s).moment ≤ m → ServesStrict s.setting → HistoryIsKept s → MayAdd s (Undid (run_no r) (device_no d) drove) m (put s.grips d None)
+undo_may s r d m drove follows later served kept = undone_may s (put s.grips d None) r d m drove (less_one s.grips d) follows later served kept
 
 -- with no call of its device: the write is dropped
-pub drop_may : (s : Configuration) (r d m : ℕ) → may_follow s.setting (read_of s) (Undid (run_no r) (device_no d) false) ≡ true → (read_of s).moment ≤ m → s.setting.mode.scheduler ≡ Fcfs → HistoryIsKept s → MayAdd s (Undid (run_no r) (device_no d) false) m s.grips
-drop_may s r d m follows later first_come kept = undone_may s s.grips r d m false (same_grips s.grips) follows later first_come kept
+pub drop_may : (s : Configuration) (r d m : ℕ) → may_follow s.setting (read_of s) (Undid (run_no r) (device_no d) false) ≡ true → (read_of s).moment ≤ m → ServesStrict s.setting → HistoryIsKept s → MayAdd s (Undid (run_no r) (device_no d) false) m s.grips
+drop_may s r d m follows later served kept = undone_may s s.grips r d m false (same_grips s.grips) follows later served kept
 
 -- A run aborts
 
@@ -488,6 +543,7 @@ aborted_may s r m cause follows later kept =
       unrevoked = λ first_come. refl;
       moment = later;
       in_order = λ first_come. same_order n next (without r n.line) (λ q. put_keeps stamp_in n.run r _ refl q) ∙ order_without n r n.line (kept.in_order first_come);
+      followed = followed_step s.setting n (Ended (run_no r) (Aborted cause)) refl kept.followed;
       in_turn = aborted_turn s.setting n s.grips r cause kept.in_turn;
       first = first_less n next s.grips s.grips (λ q. put_keeps (λ o. o.answered_doomed) n.run r _ refl q) (same_grips s.grips) kept.first;
     }

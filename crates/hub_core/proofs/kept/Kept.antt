@@ -2,11 +2,12 @@
 use Rattle.command_rules.specs.Rosters.{device_no, is_run, run_no}
 use Rattle.history_book.proofs.Searches.{some_is}
 use Rattle.history_book.specs.Histories.{entries_of, entry, kept_by, reading}
+use Rattle.history_book.specs.Lines.{Split}
 use Rattle.history_book.specs.Plans.{split_of}
 use Rattle.history_book.specs.Readings.{PlacedAt, Reading, has_written, is_doomed, is_live, is_next_on, next_of, put, sees_down}
-use Rattle.history_book.specs.Settings.{Setting, is_device, is_weak}
+use Rattle.history_book.specs.Settings.{Setting, is_device, is_weak, scheduler_of}
 use Rattle.history_book.specs.WellFormed.{along, may_follow}
-use Rattle.history_book.specs.declared.entries.Cause.TheVariants.{DownAtEnd, MustDown}
+use Rattle.history_book.specs.declared.entries.Cause.TheVariants.{DownAtEnd, MustDown, Revoked}
 use Rattle.history_book.specs.declared.entries.Cause.{Cause}
 use Rattle.history_book.specs.declared.entries.End.TheVariants.{Aborted, Committed}
 use Rattle.history_book.specs.declared.entries.Entry.TheVariants.{Arrived, Did, Doomed, Ended, Placed, Undid}
@@ -17,11 +18,13 @@ use Rattle.home_types.specs.HomeStates.{stand_at}
 use Rattle.home_types.specs.Kinds.{has_value, kind_at}
 use Rattle.home_types.specs.declared.commands.Answer.TheVariants.{Down}
 use Rattle.home_types.specs.declared.commands.Command.{Command}
+use Rattle.home_types.specs.declared.modes.Scheduler.TheVariants.{Fcfs}
 use Rattle.hub_core.proofs.steps.Afters.{read_with}
 use Rattle.hub_core.proofs.steps.Causes.{IsClean, Shows, take_is_clean, take_shows}
-use Rattle.hub_core.proofs.steps.Choices.{Commanding, IsNext}
-use Rattle.hub_core.proofs.kept.HistoryKept.{MayAdd, aborted_may, added, arrival_may, commit_may, doom_may, drop_may, grip_turn, history_added, in_turn_wrote, less_one, placing_may, told_may}
-use Rattle.hub_core.proofs.stage.StageChoices.{StageSteps, stage_holds, stage_steps, take_all}
+use Rattle.hub_core.proofs.steps.Choices.{Commanding, Enters, IsNext, decide_is}
+use Rattle.hub_core.proofs.kept.Followed.{none_placed}
+use Rattle.hub_core.proofs.kept.HistoryKept.{MayAdd, ServesStrict, aborted_may, added, arrival_may, commit_may, doom_may, drop_may, grip_turn, history_added, in_turn_wrote, less_one, placing_may, serves_strict, told_may}
+use Rattle.hub_core.proofs.stage.StrongChoices.{IsPlacing, StrongSteps, served_in_turn, strong_steps, take_all}
 use Rattle.hub_core.proofs.steps.Takes.{Follows, take_follows}
 use Rattle.hub_core.proofs.kept.WrittenValues.{ValuesFit, undo_value, writes_fit}
 use Rattle.hub_core.specs.CleanReads.{entry_is_clean}
@@ -30,11 +33,12 @@ use Rattle.hub_core.specs.JustifiedAborts.{abort_is_justified, shows}
 use Rattle.hub_core.specs.Openings.{MayOpen, names_values_of}
 use Rattle.hub_core.specs.Stage.{StageAllows}
 use Rattle.hub_core.specs.Steps.{HandsOut, Moves, after_choice, after_take, answers_down, at_moment, down_entries, opened}
+use Rattle.lock_leasing.proofs.ClearPlaces.{scheduled_is_clear}
 use Rattle.lock_leasing.proofs.Effects.{effect_is}
 use Rattle.lock_leasing.specs.Configurations.{Commands, Configuration, Grip, Grips, Probes, Purpose, Undoes, has_grip, is_command, is_out, read_of}
-use Rattle.lock_leasing.specs.Places.{GripsFit, IsScheduled, MayBeOut}
+use Rattle.lock_leasing.specs.Places.{At, DeniedBy, GripsFit, IsScheduled, MayBeOut, Placing, at_end, scheduled_place}
 use Rattle.lock_leasing.specs.Waits.{busy_wait, strict_wait}
-use Rattle.lock_leasing.specs.Words.{value_without}
+use Rattle.lock_leasing.specs.Words.{lease_deadline, overdue_for, value_without}
 use Rattle.std.proofs.Common.{ap, append-nil, append_assoc, arith, refl, subst, sym, ◌∙◌}
 use Rattle.std.proofs.lemmas.Grind.{common_steps}
 use Rattle.std.specs.Prelude.{Bool, IsTrue, List, None, Option, Some, [], false, fold, if◌then◌else◌, is_none, is_some, length, max, nat_lt, not, option_map, true, unwrap_or, ℕ, ◌&&◌, ◌++◌, ◌+◌, ◌<◌, ◌==◌, ◌||◌, ◌∷◌, ◌≡◌, ◌≤◌}
@@ -107,6 +111,7 @@ history_same s m g later turn first kept =
       isolated = kept.isolated;
       unrevoked = kept.unrevoked;
       in_order = kept.in_order;
+      followed = kept.followed;
       in_turn = turn;
       first = first;
     }
@@ -165,10 +170,24 @@ gripless w n g r d fit run gone = by_grip (g d) refl
       | false ↦ (λ f. refl)
     ] refl
 
--- the end of the line is the scheduler's place
-scheduled_at_end : (w : Setting) (n : Reading) (g : Grips) (r m : ℕ) → StageSteps w n → MayBeOut w n g → IsScheduled w n (Placed (run_no r) (length n.line) m)
+-- a place that the scheduler gives to a run that enters
+pub enters_place : (w : Setting) (n : Reading) (g : Grips) (r m : ℕ) (x : Split) → Enters w n g r m x → IsPlacing w n g r (length x.front)
+enters_place w n g r m x enters = let is = scheduled_is_clear w n g r m x enters.place in record { leader = enters.leader; clear = is.1.clear; within = is.1.within; last = λ first. last first }
+  where
+    front_of : Placing → ℕ
+    front_of (At s) = length s.front
+    front_of (DeniedBy d x) = 0
+
+    at_the_end : scheduler_of w.mode ≡ Fcfs → scheduled_place w n g r m ≡ at_end n
+    at_the_end first = rw first refl
+
+    last : scheduler_of w.mode ≡ Fcfs → length x.front ≡ length n.line
+    last first = ap front_of (sym enters.place ∙ at_the_end first) ∙ take_all n.line
+
+-- .. is the scheduler's
+entered_is_scheduled : (w : Setting) (n : Reading) (g : Grips) (r m : ℕ) (x : Split) → MayBeOut w n g → Enters w n g r m x → IsScheduled w n (Placed (run_no r) (length x.front) m)
 unfolding split_of
-scheduled_at_end w n g r m p out = (g, out, rw p.scheduler refl, take_all n.line)
+entered_is_scheduled w n g r m x out enters = let is = scheduled_is_clear w n g r m x enters.place in (g, out, enters.place ∙ ap At is.0, ap (λ y. length y.front) (sym is.0))
 
 -- commands name values of their devices, and so do the first values
 pub values_fit : (s : Configuration) (rounds opened : ℕ) (held : ℕ → ℕ) → ConfigurationIsKept s rounds opened held → ValuesFit s.setting
@@ -184,32 +203,34 @@ first_follows w n e all = grind (arith, common_steps)
 
 pub take_kept : (s : Configuration) (rounds opened : ℕ) (held : ℕ → ℕ) (r m : ℕ) → ConfigurationIsKept s rounds opened held → ConfigurationIsKept (after_take s r m) rounds opened held
 take_kept s rounds opened held r m kept =
-    stage_holds (λ c. Follows w n c → Shows w n c → IsClean w n c → ConfigurationIsKept (after_choice (at_moment s m) r c) rounds opened held) w n s.grips r now staged (record {
+    decide_is (λ c. Follows w n c → Shows w n c → IsClean w n c → ConfigurationIsKept (after_choice (at_moment s m) r c) rounds opened held) w n s.grips r now (record {
       absent = λ none ok shown clean. timed;
       over = λ e at ok shown clean. subst (λ h. ConfigurationIsKept (record (at_moment s m) { history = h }) rounds opened held) (sym (append-nil s.history)) timed;
       waits = λ why ok shown clean. timed;
       arrives = λ run none ok shown clean. let follows : may_follow w n (Arrived (run_no r) now) ≡ true = first_follows w n (Arrived (run_no r) now) ok in
           moves (Arrived (run_no r) now) refl (arrival_may s r now follows later kept.history) (arrives_kept w n s.grips held r now read follows kept.order);
-      enters = λ run none ok shown clean. let follows : may_follow w n (Placed (run_no r) (length n.line) now) ≡ true = first_follows w n (Placed (run_no r) (length n.line) now) ok in
-          moves (Placed (run_no r) (length n.line) now) refl (placing_may s r now follows later (scheduled_at_end w n s.grips r now staged kept.order.grips.runs) none (λ d. gripless w n s.grips r d kept.order.grips run (unplaced (n.run r).placed none)) kept.history)
-          (placed_kept w n s.grips held r now read follows kept.order);
+      enters = λ x enters ok shown clean. let follows : may_follow w n (Placed (run_no r) (length x.front) now) ≡ true = first_follows w n (Placed (run_no r) (length x.front) now) ok in
+          let place = enters_place w n s.grips r now x enters in
+          moves (Placed (run_no r) (length x.front) now) refl (placing_may s r (length x.front) now follows later (entered_is_scheduled w n s.grips r now x kept.order.grips.runs enters) place enters.unplaced (λ d. gripless w n s.grips r d kept.order.grips enters.run (unplaced (n.run r).placed enters.unplaced)) kept.history)
+          (placed_kept w n s.grips held r (length x.front) now read follows place.clear kept.order);
       aborted = λ cause act doomed over ok shown clean. let follows : may_follow w n (Ended (run_no r) (Aborted cause)) ≡ true = first_follows w n (Ended (run_no r) (Aborted cause)) ok in
-          moves (Ended (run_no r) (Aborted cause)) refl (aborted_may s r now cause follows later kept.history) (aborts_kept w n s.grips held r cause read follows act.free over kept.order);
+          moves (Ended (run_no r) (Aborted cause)) refl (aborted_may s r now cause follows later kept.history) (aborts_kept w n s.grips held r cause read follows act.free (over kept.strong) kept.order);
       drops = λ cause d undoing down ok shown clean. let follows : may_follow w n (Undid (run_no r) (device_no d) false) ≡ true = first_follows w n (Undid (run_no r) (device_no d) false) ok in
-          moves (Undid (run_no r) (device_no d) false) refl (drop_may s r d now follows later kept.stage.scheduler kept.history) (dropped_kept w n s.grips held r d read undoing.act.live (ap is_some undoing.doomed) undoing.act.free undoing.next undoing.home down kept.order);
+          moves (Undid (run_no r) (device_no d) false) refl (drop_may s r d now follows later served kept.history) (dropped_kept w n s.grips held r d read undoing.act.live (ap is_some undoing.doomed) undoing.act.free undoing.next undoing.home down kept.order);
       undoes = λ cause d undoing up ok shown clean. goes d (Undoes (value_without w n s.grips r d)) refl (undo_value w n s.grips r d (writes_fit w (entries_of s.history) values kept.history.well_formed) (values.first d undoing.device)) refl
           (in_turn_wrote s r d undoing.act.live (effect_is n s.grips r d undoing.effect).0 kept.history)
           (undo_goes_kept w n s.grips held r d read undoing.act.live (ap is_some undoing.doomed) undoing.act.free undoing.next undoing.home up kept.order);
-      downs = downs;
-      goes = λ c run next home up ok shown clean. let there = reached (is_weak w.mode) (sees_down n r c.device.0) (is_out s.grips c.device.0) (n.up c.device.0) staged.strong home up in
-          goes c.device.0 (Commands (next_of n r)) refl refl (ap not (unanswered (n.run r).answered_doomed (n.run r).doomed (read.shaped r).answers_late run.sound)) next.alone
-          (goes_kept w n s.grips held r c read run.act.run run.act.live run.sound run.act.free run.next next.first next.clean there.0 there.1 there.2 (staged.homed r (next_of n r) c run.next) kept.order);
+      revokes = λ c x run strong at ok shown clean. revokes c x run at (first_follows w n (Doomed (run_no x) (Revoked (run_no r) c.device (lease_deadline w n x c.device.0) now)) ok) (both (shows w n x (Revoked (run_no r) c.device (lease_deadline w n x c.device.0) now)) true shown).0;
+      downs = λ c run next home down. downs c run (next kept.strong) home down;
+      goes = λ c run next home up ok shown clean. let there = reached (is_weak w.mode) (sees_down n r c.device.0) (is_out s.grips c.device.0) (n.up c.device.0) kept.strong home up in
+          goes c.device.0 (Commands (next_of n r)) refl refl (ap not (unanswered (n.run r).answered_doomed (n.run r).doomed (read.shaped r).answers_late run.sound)) (next kept.strong).alone
+          (goes_kept w n s.grips held r c read run.act.run run.act.live run.sound run.act.free run.next (next kept.strong).first (next kept.strong).clean there.0 there.1 there.2 (staged.homed r (next_of n r) c run.next) kept.order);
       fails_at_end = λ d all at ok shown clean. let follows : may_follow w n (Doomed (run_no r) (DownAtEnd (device_no d))) ≡ true = first_follows w n (Doomed (run_no r) (DownAtEnd (device_no d))) ok in
           moves (Doomed (run_no r) (DownAtEnd (device_no d))) refl (doom_may s r now (DownAtEnd (device_no d)) follows (λ first_come. refl) (both (shows w n r (DownAtEnd (device_no d))) true shown).0 later kept.history)
           (doomed_kept w n s.grips held r (DownAtEnd (device_no d)) read all.act.live kept.order);
       commits = λ all up ok shown clean. let follows : may_follow w n (Ended (run_no r) Committed) ≡ true = first_follows w n (Ended (run_no r) Committed) ok in
           moves (Ended (run_no r) Committed) refl (commit_may s r now follows later up kept.history) (commits_kept w n s.grips held r read follows all.act.free kept.order);
-    }) (take_follows w n s.grips r now (record { shaped = read.shaped; homed = staged.homed; moment = grind (arith, common_steps, later) })) (take_shows w n s.grips r now staged.strong) (take_is_clean w n s.grips r now staged.strong)
+    }) (take_follows w n s.grips r now (record { shaped = read.shaped; homed = staged.homed; moment = grind (arith, common_steps, later) })) (take_shows w n s.grips r now kept.strong) (take_is_clean w n s.grips r now kept.strong)
   where
     w : Setting
     w = s.setting
@@ -220,8 +241,11 @@ take_kept s rounds opened held r m kept =
     now : ℕ
     now = max s.moment m
 
-    staged : StageSteps w n
-    staged = stage_steps s rounds opened held kept
+    staged : StrongSteps w n
+    staged = strong_steps s rounds opened held kept
+
+    served : ServesStrict w
+    served = serves_strict w rounds opened kept.opens
 
     read : IsRead w n
     read = read_facts w (entries_of s.history) kept.history.well_formed
@@ -259,6 +283,19 @@ take_kept s rounds opened held r m kept =
         (history_same s now (put s.grips d (Some (record { maker = r; purpose = p }))) later (grip_turn w n s.grips r d p (λ live. alone) kept.history.in_turn) (out_with s.grips (λ e q. not (is_command q.purpose && (n.run q.maker).answered_doomed)) d (record { maker = r; purpose = p }) first kept.history.first) kept.history)
         (probes_out s now d (record { maker = r; purpose = p }) of_run) (out_with s.grips (λ e q. undo_fits (kind_at w.kinds e) q.purpose) d (record { maker = r; purpose = p }) fits kept.undos) order kept
 
+    -- the doom of a borrower, whose lease is overdue
+    revokes : (c : Command) (x : ℕ) → Commanding w n s.grips r c → overdue_for w n s.grips r c.device.0 now ≡ Some x → may_follow w n (Doomed (run_no x) (Revoked (run_no r) c.device (lease_deadline w n x c.device.0) now)) ≡ true
+        → shows w n x (Revoked (run_no r) c.device (lease_deadline w n x c.device.0) now) ≡ true → ConfigurationIsKept (added s r now s.grips (Doomed (run_no x) (Revoked (run_no r) c.device (lease_deadline w n x c.device.0) now))) rounds opened held
+    revokes c x run at follows shown =
+        moves (Doomed (run_no x) cause) refl (doom_may s x now cause follows (λ first. absurd (let never : None ≡ Some x = sym (served_in_turn s rounds opened held r c.device.0 kept first run.act.live now) ∙ at in cc)) shown (omega (arith, later)) kept.history)
+        (doomed_kept w n s.grips held x cause read live kept.order)
+      where
+        cause : Cause
+        cause = Revoked (run_no r) c.device (lease_deadline w n x c.device.0) now
+
+        live : is_live n x ≡ true
+        live = grind (arith, common_steps, follows)
+
     -- the answer Down with no call, and the doom of a must command
     downs : (c : Command) → Commanding w n s.grips r c → IsNext w n s.grips r now c → busy_wait w n s.grips r c.device.0 ≡ false → answers_down w n r c.device.0 ≡ true
         → Follows w n (Moves (down_entries r (next_of n r) c)) → Shows w n (Moves (down_entries r (next_of n r) c)) → IsClean w n (Moves (down_entries r (next_of n r) c)) → ConfigurationIsKept (after_choice (at_moment s m) r (Moves (down_entries r (next_of n r) c))) rounds opened held
@@ -279,7 +316,7 @@ take_kept s rounds opened held r m kept =
         told : IsToldDown w n s.grips held r c
         told = record {
           read = read;
-          strong = staged.strong;
+          strong = kept.strong;
           live = run.act.live;
           sound = run.sound;
           free = run.act.free;
@@ -295,7 +332,7 @@ take_kept s rounds opened held r m kept =
             either weak sees up h = grind (arith, common_steps)
 
         may : may_follow w n answer ≡ true → entry_is_clean w n answer ≡ true → MayAdd s answer now s.grips
-        may follows clean = told_may s r (next_of n r) now Down follows clean later kept.stage.scheduler (told_holds w n s.grips held r c told) run.act.live next.alone kept.history
+        may follows clean = told_may s r (next_of n r) now Down follows clean later served (told_holds w n s.grips held r c told) run.act.live next.alone kept.history
 
         misses : c.must ≡ false → IsTrue (along w (may_follow w) n (answer ∷ [])) → IsTrue (along w (abort_is_justified w) n (answer ∷ [])) → IsTrue (along w (entry_is_clean w) n (answer ∷ [])) → ConfigurationIsKept (added s r now s.grips answer) rounds opened held
         misses free ok shown clean = moves answer refl (may (first_follows w n answer ok) (both (entry_is_clean w n answer) true clean).0) (down_kept w n s.grips held r c told (ap (λ b. b && refutes c.job Down) free))
@@ -324,7 +361,7 @@ take_kept s rounds opened held r m kept =
 
 -- The start
 
-pub starts : (w : Setting) (rounds opened' : ℕ) → MayOpen w rounds opened' → is_weak w.mode ≡ false → StageAllows w rounds → length w.kinds ≡ length w.first → ((d : ℕ) → d < length w.first → IsTrue (has_value (kind_at w.kinds d) (stand_at w.first d).value))
+pub starts : (w : Setting) (rounds opened' : ℕ) → MayOpen w rounds opened' → is_weak w.mode ≡ false → StageAllows w → length w.kinds ≡ length w.first → ((d : ℕ) → d < length w.first → IsTrue (has_value (kind_at w.kinds d) (stand_at w.first d).value))
     → ConfigurationIsKept (opened w rounds) rounds opened' (λ d. (stand_at w.first d).value)
 starts w rounds opened' opens strong stage kinds values =
     record {
@@ -344,6 +381,7 @@ starts w rounds opened' opens strong stage kinds values =
         isolated = λ strict. refl;
         unrevoked = λ first. refl;
         in_order = λ first. refl;
+        followed = none_placed w;
         in_turn = λ r d e. absurd (cc);
         first = λ d grip e. absurd (cc);
       };

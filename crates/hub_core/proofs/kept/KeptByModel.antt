@@ -70,7 +70,7 @@ read_kept s rounds opened held kept = read_facts s.setting (entries_of s.history
 
 -- The steps
 
-pub starts_kept : (w : Setting) (rounds opened' : ℕ) → MayOpen w rounds opened' → StageAllows w rounds → length w.kinds ≡ length w.first → ((d : ℕ) → d < length w.first → IsTrue (has_value (kind_at w.kinds d) (stand_at w.first d).value))
+pub starts_kept : (w : Setting) (rounds opened' : ℕ) → MayOpen w rounds opened' → StageAllows w → length w.kinds ≡ length w.first → ((d : ℕ) → d < length w.first → IsTrue (has_value (kind_at w.kinds d) (stand_at w.first d).value))
     → IsKeptByModel (opened w rounds) rounds opened' (λ d. (stand_at w.first d).value)
 starts_kept w rounds opened' opens stage kinds values = elim (is_weak w.mode) as (λ b. is_weak w.mode ≡ b → IsKeptByModel (opened w rounds) rounds opened' (λ d. (stand_at w.first d).value)) [
   | true ↦ (λ weak. in_no_order (opened w rounds) rounds opened' _ (weak_opened w rounds opened' opens stage weak kinds values))

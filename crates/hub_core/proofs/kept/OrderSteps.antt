@@ -20,11 +20,11 @@ use Rattle.home_types.specs.declared.commands.View.TheVariants.{Down as ViewedDo
 use Rattle.home_types.specs.declared.commands.View.{View}
 use Rattle.home_types.specs.declared.items.Item.TheVariants.{Ran}
 use Rattle.home_types.specs.declared.items.Item.{Item}
-use Rattle.home_types.specs.declared.modes.Scheduler.TheVariants.{Fcfs}
-use Rattle.hub_core.proofs.calls.PlannedInTurn.{planned_first_come}
+use Rattle.hub_core.proofs.calls.PlannedInTurn.{planned_in_turn_is}
 use Rattle.hub_core.specs.Bounds.{most_items}
 use Rattle.hub_core.specs.KeptOrders.{IsOrderOf, MayNote, OrderIsBeside, TableFits, is_first, noted_first}
 use Rattle.hub_core.specs.PlansInTurn.{planned_in_turn}
+use Rattle.hub_core.specs.Stage.{is_timeline}
 use Rattle.hub_core.specs.ReadHistories.{HistoryState, read_in, with_doom, with_entry}
 use Rattle.lineage_table.specs.Accesses.{is_scheduled, status_of}
 use Rattle.lineage_table.specs.Lineages.{IsOpened, LineageState, committed_lineage, lineage_at, removed, undone, with_lineage}
@@ -49,12 +49,12 @@ use Rattle.window_order.proofs.ToldTables.{told_table, told_touches_now}
 use Rattle.window_order.specs.MarksKept.{MarksAreKept}
 use Rattle.window_order.proofs.TouchedLines.{marks_aborted, marks_answered, marks_arrived, marks_begin, marks_committed, marks_doomed, marks_out, marks_placed, marks_undo_home, marks_undo_out, marks_undone}
 use Rattle.window_order.specs.OrderKept.{OrderIsKept}
-use Rattle.window_order.specs.TableChanges.{ChangesEach, NoneWroteBehind, answered_change, answered_lineage, doomed_lineage, is_done_there, placed_change, scheduled_on, told_write, undone_change}
+use Rattle.window_order.specs.TableChanges.{ChangesEach, answered_change, answered_lineage, doomed_lineage, is_done_there, placed_change, scheduled_on, told_write, undone_change}
 use Rattle.window_order.specs.TableKept.{LineageIsKept, TableIsKept}
 use Rattle.lock_leasing.specs.Tables.{view_when}
 use Rattle.history_book.specs.Readings.{is_told}
 use Rattle.history_book.specs.declared.entries.Cause.{Cause}
-use Rattle.lock_leasing.specs.Places.{GripsFit}
+use Rattle.lock_leasing.specs.Places.{GripsFit, IsClear}
 use Rattle.std.proofs.lemmas.Grind.{common_steps}
 use Rattle.window_order.proofs.Grips.{HoldsNone, held_none, none_left}
 use Rattle.window_order.proofs.TurnedLines.{marks_told}
@@ -105,12 +105,12 @@ length_with at x marks =
     let whole : length (take at marks ++ drop at marks) ≡ length marks = ap length (take-append-drop at marks) in
     omega (arith, after, before, whole)
 
--- .. where no committed run behind its place has written one of its devices
-pub order_placed : {rounds : ℕ} (h h₂ : HistoryState) (g : Grips) (r at m : ℕ) (line after : Marked) (table later : List LineageState) → IsRead h.setting (read_in h) → GripsFit h.setting (read_in h) g → is_weak h.setting.mode ≡ false → h.setting.mode.scheduler ≡ Fcfs → NoneWroteBehind h.setting (read_in h) r at
+-- .. at a clear place
+pub order_placed : {rounds : ℕ} (h h₂ : HistoryState) (g : Grips) (r at m : ℕ) (line after : Marked) (table later : List LineageState) → IsRead h.setting (read_in h) → GripsFit h.setting (read_in h) g → is_weak h.setting.mode ≡ false → is_timeline h.setting.mode.scheduler ≡ false → IsClear h.setting (read_in h) g r at
     → h₂ ≡ with_entry h r (Placed (run_no r) at m) → IsWellFormed h₂.setting (entries_of h₂.history)
     → after.marks ≡ with_item at (Ran (run_no r)) line.marks → after.spare + 1 ≡ line.spare → ChangesEach (scheduled_on h.setting.runs r (planned_in_turn m (commands_of h.setting.runs r)) (drop at (items_of line.marks))) table later
     → OrderIsBeside rounds h g line table → OrderIsBeside rounds h₂ g after later
-order_placed {rounds = rounds} h h₂ g r at m line after table later read fit strong first_come clear new formed marks spare changes kept = entry_kept h h₂ g r (Placed (run_no r) at m) after later new (record {
+order_placed {rounds = rounds} h h₂ g r at m line after table later read fit strong in_turn clear new formed marks spare changes kept = entry_kept h h₂ g r (Placed (run_no r) at m) after later new (record {
   table_is = fits_ordered w _ g later strong (placed_table w n g r at m table later read may clear changed (kept.table_is.ordered strong));
   line_is = subst (MarksAreKept (entry w n (Placed (run_no r) at m)) g) (sym marks) (marks_placed w n g r at m line.marks read fit may kept.line_is);
   room = let size = ap (λ (x : List Mark). length x) marks ∙ length_with at (Ran (run_no r)) line.marks in omega (arith, size, spare, kept.room);
@@ -125,9 +125,9 @@ order_placed {rounds = rounds} h h₂ g r at m line after table later read fit s
     may : may_follow w n (Placed (run_no r) at m) ≡ true
     may = last_follows w h.history r (Placed (run_no r) at m) (subst (λ (x : HistoryState). IsWellFormed x.setting (entries_of x.history)) new formed)
 
-    -- first come first served its plan is the same behind any items
+    -- its plan is the same behind any items
     changed : ChangesEach (placed_change w n r at m) table later
-    changed = subst (λ planned. ChangesEach (scheduled_on w.runs r planned (drop at n.line)) table later) (sym (planned_first_come w n r (take at n.line) m first_come))
+    changed = subst (λ planned. ChangesEach (scheduled_on w.runs r planned (drop at n.line)) table later) (sym (planned_in_turn_is w n r (take at n.line) m in_turn))
         (subst (λ is. ChangesEach (scheduled_on w.runs r (planned_in_turn m (commands_of w.runs r)) (drop at is)) table later) kept.line_is.items changes)
 
 -- .. under the weak model, where it has no access

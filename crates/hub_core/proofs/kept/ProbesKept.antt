@@ -63,6 +63,7 @@ probe_kept s rounds opened held d may kept =
         isolated = kept.history.isolated;
         unrevoked = kept.history.unrevoked;
         in_order = kept.history.in_order;
+        followed = kept.history.followed;
         in_turn = grip_turn w n s.grips 0 d (Probes (restored s d)) (λ live. absurd (no_run live)) kept.history.in_turn;
         first = out_with s.grips (λ e q. not (is_command q.purpose && (n.run q.maker).answered_doomed)) d new refl kept.history.first;
       };

@@ -17,7 +17,7 @@ use Rattle.home_types.specs.Kinds.{has_value, kind_at}
 use Rattle.home_types.specs.declared.commands.Answer.TheVariants.{Down, Fine, Found}
 use Rattle.home_types.specs.declared.commands.Command.{Command}
 use Rattle.hub_core.proofs.kept.EventsKept.{fell_may, rose_may}
-use Rattle.hub_core.proofs.kept.HistoryKept.{MayAdd, added, answer_may, doom_may, first_less, history_added, less_one, same_grips, turn_less, undo_may}
+use Rattle.hub_core.proofs.kept.HistoryKept.{MayAdd, added, answer_may, doom_may, first_less, history_added, less_one, same_grips, serves_strict, turn_less, undo_may}
 use Rattle.hub_core.proofs.kept.Kept.{first_follows, history_same, kept_after, out_less, probes_home, still_later}
 use Rattle.hub_core.proofs.steps.Afters.{read_with}
 use Rattle.hub_core.proofs.steps.Causes.{and_is}
@@ -194,7 +194,7 @@ wrote_home s rounds opened held r k d now v out brings value later kept =
     let back : (c : Command) × Returns s r k d c = returns s rounds opened held r k d out kept in
     let follows : may_follow w n (Did (run_no r) k Fine) ≡ true = first_follows w n (Did (run_no r) k Fine) (command_follows s rounds opened held r k d v Worked back.0 back.1 brings value kept) in
     comes_home s rounds opened r d now held (put held d v) (Did (run_no r) k Fine ∷ [])
-    (history_added s r now (put s.grips d None) (Did (run_no r) k Fine) (answer_may s r k d now Fine follows refl later kept.stage.scheduler out back.1.alone back.1.known.live kept.history) kept.history) (probes_home s r now d (Did (run_no r) k Fine ∷ []) refl)
+    (history_added s r now (put s.grips d None) (Did (run_no r) k Fine) (answer_may s r k d now Fine follows refl later (serves_strict s.setting rounds opened kept.opens) out back.1.alone back.1.known.live kept.history) kept.history) (probes_home s r now d (Did (run_no r) k Fine ∷ []) refl)
     (subst (λ x. OrderIsKept w (entry w n (Did (run_no r) k Fine)) (put s.grips d None) (put held d x)) (sym brings.1) (wrote_kept w n s.grips held d r k back.1.read out brings.0 kept.order)) kept
   where
     w : Setting
@@ -255,7 +255,7 @@ found_home s rounds opened held r k d now v x out brings value later kept = subs
         found_so y z dirty h e = grind (arith, common_steps)
 
     may_answer : may_follow w n answer ≡ true → MayAdd s answer now home
-    may_answer follows = answer_may s r k d now (Found x) follows clean later kept.stage.scheduler out back.1.alone back.1.known.live kept.history
+    may_answer follows = answer_may s r k d now (Found x) follows clean later (serves_strict s.setting rounds opened kept.opens) out back.1.alone back.1.known.live kept.history
 
     after_answer : Configuration
     after_answer = added s r now home answer
@@ -360,7 +360,7 @@ died_home s rounds opened held r k d now v out value later kept = by_doomed (is_
     read_answered = read_with fallen r (answer ∷ []) ∙ ap (λ x. entry w x answer) read_fallen
 
     kept_answered : HistoryIsKept answered
-    kept_answered = history_added fallen r now home answer (answer_may fallen r k d now Down (ap (λ x. may_follow w x answer) read_fallen ∙ follows.1) clean kept_fallen.moment kept.stage.scheduler out back.1.alone (ap (λ x. is_live x r) read_fallen ∙ back.1.known.live) kept_fallen) kept_fallen
+    kept_answered = history_added fallen r now home answer (answer_may fallen r k d now Down (ap (λ x. may_follow w x answer) read_fallen ∙ follows.1) clean kept_fallen.moment (serves_strict s.setting rounds opened kept.opens) out back.1.alone (ap (λ x. is_live x r) read_fallen ∙ back.1.known.live) kept_fallen) kept_fallen
 
     KeptWith : List Entry → Type 0
     KeptWith more = ConfigurationIsKept (home_with s r d now (fall ∷ answer ∷ more)) rounds opened after
@@ -421,7 +421,7 @@ undo_is s rounds opened held r d u out kept =
 undone_home : (s : Configuration) (rounds opened : ℕ) (held : ℕ → ℕ) (r d now v u : ℕ) → s.grips d ≡ Some (record { maker = r; purpose = Undoes u }) → v ≡ u → (read_of s).moment ≤ now → ConfigurationIsKept s rounds opened held
     → ConfigurationIsKept (home_with s r d now (Undid (run_no r) (device_no d) true ∷ [])) rounds opened (put held d v)
 undone_home s rounds opened held r d now v u out brings later kept =
-    comes_home s rounds opened r d now held (put held d v) (Undid (run_no r) (device_no d) true ∷ []) (history_added s r now (put s.grips d None) (Undid (run_no r) (device_no d) true) (undo_may s r d now true follows later kept.stage.scheduler kept.history) kept.history) (probes_home s r now d (Undid (run_no r) (device_no d) true ∷ []) refl)
+    comes_home s rounds opened r d now held (put held d v) (Undid (run_no r) (device_no d) true ∷ []) (history_added s r now (put s.grips d None) (Undid (run_no r) (device_no d) true) (undo_may s r d now true follows later (serves_strict s.setting rounds opened kept.opens) kept.history) kept.history) (probes_home s r now d (Undid (run_no r) (device_no d) true ∷ []) refl)
     (subst (λ y. OrderIsKept w (entry w n (Undid (run_no r) (device_no d) true)) (put s.grips d None) (put held d y)) (sym brings) (undone_kept w n s.grips held r d u (read_facts w (entries_of s.history) kept.history.well_formed) out kept.order)) kept
   where
     w : Setting
@@ -438,7 +438,7 @@ dropped_home : (s : Configuration) (rounds opened : ℕ) (held : ℕ → ℕ) (r
     → ConfigurationIsKept (home_with s r d now (Fell (device_no d) ∷ Undid (run_no r) (device_no d) false ∷ [])) rounds opened (put held d v)
 dropped_home s rounds opened held r d now v u out later kept =
     comes_home s rounds opened r d now held (put held d v) (fall ∷ drop ∷ [])
-    (first_then s r now (put s.grips d None) fall (drop ∷ []) (history_added fallen r now (put s.grips d None) drop (undo_may fallen r d now false (ap (λ x. may_follow w x drop) (read_with s r (fall ∷ [])) ∙ follows.1) kept_fallen.moment kept.stage.scheduler kept_fallen) kept_fallen))
+    (first_then s r now (put s.grips d None) fall (drop ∷ []) (history_added fallen r now (put s.grips d None) drop (undo_may fallen r d now false (ap (λ x. may_follow w x drop) (read_with s r (fall ∷ [])) ∙ follows.1) kept_fallen.moment (serves_strict s.setting rounds opened kept.opens) kept_fallen) kept_fallen))
     (probes_home s r now d (fall ∷ drop ∷ []) refl) (undo_died_kept w n s.grips held (put held d v) d r u (read_facts w (entries_of s.history) kept.history.well_formed) kept.strong out (λ e ne. put_other held d v e ne) kept.order) kept
   where
     w : Setting

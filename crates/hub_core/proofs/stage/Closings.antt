@@ -2,7 +2,7 @@
 use Rattle.command_rules.specs.Items.{of_run}
 use Rattle.command_rules.specs.Rosters.{command_at, commands_of, device_no, is_run, no_command, run_no, touches}
 use Rattle.history_book.proofs.Shapes.{shapes}
-use Rattle.history_book.proofs.Standing.{is_abort}
+use Rattle.history_book.proofs.Standing.{is_abort, standing}
 use Rattle.history_book.specs.Histories.{entries_of, line_of}
 use Rattle.history_book.specs.Readings.{Reading, passed_by}
 use Rattle.history_book.specs.Settings.{Setting, device_numbers, is_device, run_numbers}
@@ -23,6 +23,8 @@ use Rattle.home_types.specs.declared.items.Item.{Item}
 use Rattle.home_types.specs.declared.items.Item.TheVariants.{Back, Failed, Ran}
 use Rattle.home_types.specs.declared.modes.Scheduler.TheVariants.{Fcfs}
 use Rattle.home_types.specs.declared.worlds.Stand.{Stand}
+use Rattle.hub_core.proofs.kept.Finds.{none_does}
+use Rattle.hub_core.proofs.kept.Followed.{committed_behind}
 use Rattle.hub_core.proofs.kept.Sizes.{run_there, run_within}
 use Rattle.hub_core.proofs.stage.CalmHistories.{IsPlain, NoneFailed, dooms_are_refuted, is_plain, is_refuted}
 use Rattle.hub_core.specs.AccountedCalls.{CallsAreAccounted}
@@ -44,33 +46,17 @@ use Rattle.lock_leasing.specs.Configurations.{Configuration, Grip, is_out, read_
 use Rattle.lock_leasing.specs.Places.{GripsFit, PlacesAreScheduled}
 use Rattle.lock_leasing.specs.Tables.{uses}
 use Rattle.lock_leasing.specs.Words.{standing_value}
-use Rattle.std.proofs.Common.{ap, arith, cond, refl, subst, sym, ◌∙◌}
+use Rattle.std.proofs.Common.{ap, arith, refl, subst, sym, ◌∙◌}
 use Rattle.std.proofs.lemmas.Grind.{common_steps}
 use Rattle.std.proofs.lemmas.List.{get_or-map, length-map}
 use Rattle.std.specs.List.{list_all, list_any, range_with_len}
 use Rattle.std.specs.Option.{option_or}
-use Rattle.std.specs.Prelude.{Bool, IsTrue, List, None, Option, Some, [], false, find, if◌then◌else◌, is_none, is_some, length, map, nat_lt, not, option_map, slice_index_or, suc, true, unwrap_or, zero, ℕ, ◌&&◌, ◌+◌, ◌<◌, ◌==◌, ◌||◌, ◌∷◌, ◌≡◌, ◌≢◌, ◌≤◌}
+use Rattle.std.specs.Prelude.{Bool, IsTrue, List, None, Option, Some, [], false, find, if◌then◌else◌, is_none, is_some, length, map, nat_lt, not, option_map, slice_index_or, suc, true, unwrap_or, zero, ℕ, ◌&&◌, ◌+◌, ◌<◌, ◌||◌, ◌∷◌, ◌≡◌, ◌≤◌}
 use Rattle.window_order.proofs.ReadFacts.{read_facts}
-use Rattle.window_order.proofs.WindowEnds.{AgreesAtEnd, NoneIsLive, agrees_at_end, logs_own_events, none_is_live, order_events, order_following_none, order_runs, standing_committed}
+use Rattle.window_order.proofs.WindowEnds.{AgreesAtEnd, NoneIsLive, agrees_at_end, logs_own_events, none_is_live, order_events, order_runs, standing_committed}
 use Rattle.window_order.specs.TableKept.{TableIsKept, access_read, accesses_along, accesses_read, commits_write}
 
 -- What a quiet window is
-
--- no number of the range passes where none is found
-none_in_range : (p : ℕ → Bool) (a k x : ℕ) → find p (range_with_len a k) ≡ None → a ≤ x → x < a + k → p x ≡ false
-none_in_range p a zero x none from to = absurd (omega (arith, from, to))
-none_in_range p a (suc k) x none from to = elim (x == a) as (λ b. (x == a) ≡ b → p x ≡ false) [
-  | true ↦ (λ e. let same : x ≡ a = grind (arith, common_steps) in subst (λ y. p y ≡ false) (sym same) (head (p a) none))
-  | false ↦ (λ e. let other : x ≢ a = grind (arith, common_steps) in none_in_range p (a + 1) k x (tail (p a) none) (omega (arith, from, other)) (omega (arith, to)))
-] refl
-  where
-    head : (b : Bool) → cond b (Some a) (find p (range_with_len (a + 1) k)) ≡ None → b ≡ false
-    head true f = absurd (cc)
-    head false f = refl
-
-    tail : (b : Bool) → cond b (Some a) (find p (range_with_len (a + 1) k)) ≡ None → find p (range_with_len (a + 1) k) ≡ None
-    tail true f = absurd (cc)
-    tail false f = f
 
 neither : (live out : Option ℕ) → option_or (option_map (λ r. StillLive (run_no r)) live) (option_map (λ d. StillOut (device_no d)) out) ≡ None → (live ≡ None) × (out ≡ None)
 neither None None e = (refl, refl)
@@ -86,8 +72,8 @@ pub record IsQuiet (s : Configuration) : Type 0 where
 pub quiet_is : (s : Configuration) → not_quiet s ≡ None → IsQuiet s
 quiet_is s quiet =
     record {
-      ended = λ r run. some_of ((read_of s).run r).ended (let within : (0 < r) × (r ≤ length s.setting.runs) = run_within s.setting.runs r run in none_in_range (λ q. is_none ((read_of s).run q).ended) 1 (length s.setting.runs) r none.0 (omega (arith, within.0)) (omega (arith, within.1)));
-      home = λ d device. none_in_range (is_out s.grips) 0 (length s.setting.first) d none.1 (omega arith) (below d device);
+      ended = λ r run. some_of ((read_of s).run r).ended (let within : (0 < r) × (r ≤ length s.setting.runs) = run_within s.setting.runs r run in none_does (λ q. is_none ((read_of s).run q).ended) 1 (length s.setting.runs) none.0 r (omega (arith, within.0)) (omega (arith, within.1)));
+      home = λ d device. none_does (is_out s.grips) 0 (length s.setting.first) none.1 d (omega arith) (below d device);
     }
   where
     none : (find (λ q. is_none ((read_of s).run q).ended) (run_numbers s.setting) ≡ None) × (find (is_out s.grips) (device_numbers s.setting) ≡ None)
@@ -179,7 +165,7 @@ order_is s rounds opened held kept quiet =
     record {
       runs = order_runs s.setting (read_of s) (read_facts s.setting (entries_of s.history) kept.history.well_formed) (none_live s rounds opened held kept quiet);
       events = order_events s.setting (read_of s) s.grips held kept.order (logs_own_events s.setting (entries_of s.history));
-      following = order_following_none s.setting (read_of s) kept.stage.follows_none;
+      following = committed_behind s.setting (read_of s) (standing s.setting (entries_of s.history) kept.history.well_formed) kept.history.followed;
     }
 
 -- and the serial execution of it gives the last state

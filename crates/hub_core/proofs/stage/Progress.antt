@@ -1,51 +1,51 @@
 -- Where no device is out and a run has not ended, some run goes on.
 use Rattle.command_rules.specs.Items.{is_ran}
-use Rattle.command_rules.specs.Rosters.{Run, device_no, is_run, run_no, shares}
-use Rattle.history_book.proofs.Searches.{none_is, some_is}
+use Rattle.command_rules.specs.Rosters.{Run, device_no, followed_by, is_run, reads_first, run_no, shares}
+use Rattle.history_book.proofs.Searches.{none_is}
 use Rattle.history_book.proofs.Shapes.{Shaped, shapes}
-use Rattle.history_book.proofs.Standing.{Standing, standing}
+use Rattle.history_book.proofs.Standing.{standing}
 use Rattle.history_book.specs.Histories.{entries_of}
-use Rattle.history_book.specs.Lines.{before}
+use Rattle.history_book.specs.Lines.{before, split_at}
 use Rattle.history_book.specs.Readings.{PlacedAt, Reading, has_written, is_live, next_command, next_of, sees_down}
-use Rattle.history_book.specs.Settings.{Setting, device_numbers, is_weak, run_numbers}
+use Rattle.history_book.specs.Settings.{Setting, device_numbers, devices_of, is_weak, run_numbers, scheduler_of}
 use Rattle.history_book.specs.declared.entries.Cause.TheVariants.{DownAtEnd}
 use Rattle.history_book.specs.declared.entries.Cause.{Cause}
+use Rattle.history_book.specs.declared.entries.End.{End}
 use Rattle.history_book.specs.declared.entries.End.TheVariants.{Committed}
-use Rattle.history_book.specs.declared.entries.Entry.TheVariants.{Arrived, Doomed, Ended, Placed, Undid}
+use Rattle.history_book.specs.declared.entries.Entry.TheVariants.{Arrived, Doomed, Ended, Undid}
 use Rattle.home_types.specs.Commands.{reads}
 use Rattle.home_types.specs.declared.commands.Command.{Command}
 use Rattle.home_types.specs.declared.items.Item.{Item}
 use Rattle.home_types.specs.declared.items.Item.TheVariants.{Back, Failed, Ran}
 use Rattle.home_types.specs.declared.kinds.Kind.{Kind}
+use Rattle.home_types.specs.declared.modes.Scheduler.TheVariants.{Fcfs, JustInTime, Timeline}
 use Rattle.home_types.specs.declared.modes.Scheduler.{Scheduler}
 use Rattle.home_types.specs.declared.modes.Visibility.{Visibility}
 use Rattle.home_types.specs.declared.modes.Visibility.TheVariants.{Eventual, Global, Partitioned, Weak}
+use Rattle.home_types.specs.declared.numbers.RunNo.{RunNo}
 use Rattle.home_types.specs.declared.worlds.Stand.{Stand}
-use Rattle.hub_core.proofs.kept.Sizes.{run_there}
-use Rattle.hub_core.proofs.stage.StageChoices.{StageSteps, stage_choice_is, live_stands, stage_steps}
+use Rattle.hub_core.proofs.kept.Finds.{find_least, none_does}
+use Rattle.hub_core.proofs.kept.Sizes.{run_there, run_within}
+use Rattle.hub_core.proofs.stage.StrongChoices.{command_current, live_stands}
+use Rattle.hub_core.proofs.steps.Choices.{by_map, by_test}
 use Rattle.hub_core.proofs.steps.Takes.{live_run}
+use Rattle.hub_core.specs.Decisions.{strong_command, unbarred_command}
+use Rattle.hub_core.specs.BlockedRuns.{is_wait}
 use Rattle.hub_core.specs.HubKept.{ConfigurationIsKept}
-use Rattle.hub_core.specs.Stage.{stage_choice, stage_command, stage_doomed}
-use Rattle.hub_core.specs.Steps.{Absent, Choice, HandsOut, Moves, Over, Waits, aborts, answers_down, choice_of, decide_answered, down_case, down_entries, first_case, not_quiet, only_if, undo_on}
+use Rattle.hub_core.specs.Steps.{Absent, Choice, HandsOut, Moves, Over, Waits, aborts, answers_down, busy_case, choice_of, command_cases, decide, decide_answered, decide_arrived, decide_command, decide_doomed, down_case, down_entries, first_case, not_quiet, only_if, place_choice, undo_cases, undo_on}
 use Rattle.hub_core.specs.declared.refusals.NotQuiet.TheVariants.{StillLive, StillOut}
-use Rattle.hub_core.specs.declared.waits.Why.TheVariants.{Behind, Busy, Dirty, Strict}
+use Rattle.hub_core.specs.declared.waits.Why.TheVariants.{Behind, Busy, Dirty, Follow, Strict}
 use Rattle.lock_leasing.specs.Configurations.{Commands, Configuration, Grips, Undoes, has_grip, is_out, read_of}
-use Rattle.lock_leasing.specs.Waits.{behind_wait, busy_wait, dirty_wait, down_at_end, grip_wait, strict_wait}
-use Rattle.lock_leasing.specs.Words.{has_effect, holds_device, live_before, live_runs, next_undo_of, value_without}
+use Rattle.lock_leasing.specs.Places.{At, Denial, DeniedBy, Placing, at_end, denied_by, first_place, first_some, fits, just_in_time, patience, scheduled_place, timeline}
+use Rattle.lock_leasing.specs.Waits.{behind_wait, busy_wait, dirty_wait, down_at_end, follow_wait, grip_wait, strict_wait}
+use Rattle.lock_leasing.specs.Words.{effective_writer_of, has_effect, holds_device, is_overdue, live_before, live_runs, next_undo_of, value_without}
 use Rattle.std.proofs.Common.{ap, arith, cond, inl, inr, refl, subst, sym, ◌∙◌}
 use Rattle.std.proofs.lemmas.Grind.{common_steps}
 use Rattle.std.proofs.lemmas.List.Sums.{take_while-cons}
 use Rattle.std.specs.List.{cons_option, list_any, range_with_len}
 use Rattle.std.specs.Option.{option_or}
-use Rattle.std.specs.Prelude.{Bool, List, None, Option, Some, [], false, find, if◌then◌else◌, is_none, is_some, length, max, not, option_map, suc, true, unwrap_or, zero, ℕ, ◌&&◌, ◌+◌, ◌<◌, ◌==◌, ◌||◌, ◌∷◌, ◌≡◌, ◌≤◌, ◌⊎◌}
-
--- the run is told to wait
-abbrev pub is_wait : Choice → Bool
-is_wait Absent = false
-is_wait (Over e entries) = false
-is_wait (Moves entries) = false
-is_wait (Waits why) = true
-is_wait (HandsOut d purpose) = false
+use Rattle.std.specs.Prelude.{Bool, IsTrue, List, None, Option, Some, [], false, find, if◌then◌else◌, is_none, is_some, length, max, nat_le, nat_lt, not, option_map, take, true, unwrap_or, ℕ, ◌&&◌, ◌+◌, ◌-◌, ◌<◌, ◌==◌, ◌||◌, ◌∷◌, ◌≡◌, ◌≤◌, ◌⊎◌}
+use Rattle.window_order.proofs.WindowEnds.{NoneIsLive}
 
 -- The first live run of the line
 
@@ -86,18 +86,113 @@ first_live n r (Ran x ∷ is) there live = elim (is_live n x.0) as (λ b. is_liv
 first_live n r (Failed d k ∷ is) there live = let rest : (q : ℕ) × IsFirst n is q = first_live n r is there live in (rest.0, first_behind n (Failed d k) is rest.0 refl refl rest.1)
 first_live n r (Back d k ∷ is) there live = let rest : (q : ℕ) × IsFirst n is q = first_live n r is there live in (rest.0, first_behind n (Back d k) is rest.0 refl refl rest.1)
 
+-- Where no run is live
+
+none_among : (n : Reading) (items : List Item) → NoneIsLive n → live_runs n items ≡ []
+none_among n [] over = refl
+none_among n (Ran x ∷ is) over = ap (λ b. cons_option (if b then Some x.0 else None) (live_runs n is)) (over x.0) ∙ none_among n is over
+none_among n (Failed d k ∷ is) over = none_among n is over
+none_among n (Back d k ∷ is) over = none_among n is over
+
+-- no device is denied
+not_denied : (w : Setting) (n : Reading) (g : Grips) (r d : ℕ) → NoneIsLive n → denied_by w n g r d ≡ None
+not_denied w n g r d over = ap (λ xs. option_or (find (λ x. holds_device w n g x d) xs) (if reads_first w.runs r d then live_writer (effective_writer_of n g d) else None)) (none_among n (take (first_place w n g r) n.line) over) ∙ by_read (reads_first w.runs r d) (effective_writer_of n g d)
+  where
+    live_writer : Option ℕ → Option ℕ
+    live_writer None = None
+    live_writer (Some x) = if is_live n x then Some x else None
+
+    by_read : (b : Bool) (o : Option ℕ) → (if b then live_writer o else None) ≡ None
+    by_read false o = refl
+    by_read true None = refl
+    by_read true (Some x) = ap (λ b. cond b (Some x) None) (over x)
+
+-- so a run is placed
+placed_at_once : (w : Setting) (n : Reading) (g : Grips) (r m : ℕ) → NoneIsLive n → is_wait (place_choice r m (scheduled_place w n g r m)) ≡ false
+placed_at_once w n g r m over = by_scheduler (scheduler_of w.mode)
+  where
+    admit : Option Denial → Placing
+    admit None = At (split_at n.line (first_place w n g r))
+    admit (Some x) = if nat_le (unwrap_or (n.run r).arrived 0 + patience) m then at_end n else DeniedBy x.device x.run
+
+    place_by : Scheduler → Placing
+    place_by Fcfs = at_end n
+    place_by JustInTime = just_in_time w n g r m
+    place_by Timeline = timeline w n g r m
+
+    denial : ℕ → Option Denial
+    denial d = option_map (λ x. record { device = d; run = x }) (denied_by w n g r d)
+
+    none_denies : (ds : List ℕ) → first_some denial ds ≡ None
+    none_denies [] = refl
+    none_denies (d ∷ ds) = ap (λ o. option_or {T = Denial} (option_map (λ x. record { device = d; run = x }) o) (first_some denial ds)) (not_denied w n g r d over) ∙ none_denies ds
+
+    fits_or_last : (o : Option ℕ) → is_wait (place_choice r m (unwrap_or (option_map (λ at. At (split_at n.line at)) o) (at_end n))) ≡ false
+    fits_or_last None = refl
+    fits_or_last (Some at) = refl
+
+    by_scheduler : (scheduler : Scheduler) → is_wait (place_choice r m (place_by scheduler)) ≡ false
+    by_scheduler Fcfs = refl
+    by_scheduler JustInTime = ap (λ o. is_wait (place_choice r m (admit o))) (none_denies (devices_of w r))
+    by_scheduler Timeline = fits_or_last (find (λ at. fits w n r m (split_at n.line at)) (range_with_len (first_place w n g r) (length n.line - first_place w n g r)))
+
+-- The least run that has not ended
+
+pub record IsLeastUnended (w : Setting) (n : Reading) (q : ℕ) : Type 0 where
+  pub run : is_run w.runs q ≡ true
+  pub going : (n.run q).ended ≡ None
+  -- each run before it has ended
+  pub earlier : (f : ℕ) → 0 < f → f < q → is_some (n.run f).ended ≡ true
+
+-- there is one, where some run has not ended
+pub least_unended : (w : Setting) (n : Reading) (r : ℕ) → is_run w.runs r ≡ true → (n.run r).ended ≡ None → (q : ℕ) × IsLeastUnended w n q
+least_unended w n r run going = by_found (find (λ q. is_none (n.run q).ended) (run_numbers w)) refl
+  where
+    within : (0 < r) × (r ≤ length w.runs)
+    within = run_within w.runs r run
+
+    over : (o : Option End) → is_none o ≡ false → is_some o ≡ true
+    over None e = absurd (cc)
+    over (Some x) e = refl
+
+    by_found : (o : Option ℕ) → find (λ q. is_none (n.run q).ended) (run_numbers w) ≡ o → (q : ℕ) × IsLeastUnended w n q
+    by_found None e = absurd (let both : true ≡ false = sym (ap (λ o. is_none o) going) ∙ none_does (λ q. is_none (n.run q).ended) 1 (length w.runs) e r (omega (arith, within.0)) (omega (arith, within.1)) in cc)
+    by_found (Some q) e =
+        let least = find_least (λ x. is_none (n.run x).ended) 1 (length w.runs) q e in (
+          q,
+          record {
+            run = run_there w.runs q (omega (arith, least.low)) (omega (arith, least.high));
+            going = none_is (n.run q).ended least.does;
+            earlier = λ f low less. over (n.run f).ended (least.none_before f (omega (arith, low)) less);
+          },
+        )
+
+-- it waits for no run that it follows, where each run follows an earlier one
+pub least_leads : (w : Setting) (n : Reading) (q : ℕ) → ((r : ℕ) (f : RunNo) → followed_by w.runs r ≡ Some f → IsTrue (nat_lt 0 f.0 && nat_lt f.0 r)) → IsLeastUnended w n q → follow_wait w n q ≡ None
+least_leads w n q earlier least = by_leader (followed_by w.runs q) refl
+  where
+    unended : Option RunNo → Option RunNo
+    unended None = None
+    unended (Some f) = if is_none (n.run f.0).ended then Some f else None
+
+    over : (o : Option End) → is_some o ≡ true → is_none o ≡ false
+    over None e = absurd (cc)
+    over (Some x) e = refl
+
+    by_leader : (o : Option RunNo) → followed_by w.runs q ≡ o → unended o ≡ None
+    by_leader None e = refl
+    by_leader (Some f) e =
+        let before' : (nat_lt 0 f.0 && nat_lt f.0 q) ≡ true = earlier q f e in
+        ap (λ b. cond b (Some f) None) (over (n.run f.0).ended (least.earlier f.0 (grind (arith, common_steps)) (grind (arith, common_steps))))
+
 -- The runs that go on
 
-pub home_free : (w : Setting) (g : Grips) (r : ℕ) → ((d : ℕ) → g d ≡ None) → grip_wait w g r ≡ None
-home_free w g r home = none (device_numbers w)
-  where
-    none : (ds : List ℕ) → find (has_grip g r) ds ≡ None
-    none [] = refl
-    none (d ∷ ds) = ap (λ b. cond b (Some d) (find (has_grip g r) ds)) (ap (λ o. unwrap_or (option_map (λ p. p.maker == r) o) false) (home d)) ∙ none ds
+none_found : {A : Type 0} (p : A → Bool) (xs : List A) → ((x : A) → p x ≡ false) → find p xs ≡ None
+none_found p [] none = refl
+none_found p (x ∷ xs) none = ap (λ b. cond b (Some x) (find p xs)) (none x) ∙ none_found p xs none
 
--- a run that is not placed arrives, or is placed
-unplaced_goes : (w : Setting) (n : Reading) (g : Grips) (r m : ℕ) → is_run w.runs r ≡ true → (n.run r).ended ≡ None → grip_wait w g r ≡ None → is_none (n.run r).placed ≡ true → is_wait (stage_choice w n g r m) ≡ false
-unplaced_goes w n g r m run going free unplaced = rw (run, going, free, unplaced) (elim (is_none (n.run r).arrived) as (λ b. is_wait (unwrap_or (only_if b (Moves (Arrived (run_no r) m ∷ []))) (Moves (Placed (run_no r) (length n.line) m ∷ []))) ≡ false) [ true ↦ refl | false ↦ refl ])
+home_free : (w : Setting) (g : Grips) (r : ℕ) → ((d : ℕ) → g d ≡ None) → grip_wait w g r ≡ None
+home_free w g r home = none_found (has_grip g r) (device_numbers w) (λ d. ap (λ o. unwrap_or (option_map (λ p. p.maker == r) o) false) (home d))
 
 -- a run that stands behind no live run waits for none by its model
 waits_for_none : (runs : List Run) (kinds : List Kind) (first : List Stand) (model : Visibility) (scheduler : Scheduler) (n : Reading) (r : ℕ) → live_before n r ≡ []
@@ -107,9 +202,9 @@ waits_for_none runs kinds first Global scheduler n r none = ap (λ xs. find (λ 
 waits_for_none runs kinds first Partitioned scheduler n r none = ap (λ xs. find (λ x. shares runs x r) xs) none
 waits_for_none runs kinds first Eventual scheduler n r none = refl
 
--- a doomed run is undone or ends, with its devices home
-doomed_goes : (w : Setting) (n : Reading) (g : Grips) (r : ℕ) (cause : Cause) → ((d : ℕ) → g d ≡ None) → is_wait (stage_doomed w n g r cause) ≡ false
-doomed_goes w n g r cause home = by_next (next_undo_of w n g r)
+-- with its devices home a doomed run is undone or ends
+doomed_goes : (w : Setting) (n : Reading) (g : Grips) (r : ℕ) (cause : Cause) → ((d : ℕ) → g d ≡ None) → is_wait (decide_doomed w n g r cause) ≡ false
+doomed_goes w n g r cause home = by_model (is_weak w.mode)
   where
     while_out : Option ℕ → Option ℕ
     while_out None = None
@@ -123,62 +218,71 @@ doomed_goes w n g r cause home = by_next (next_undo_of w n g r)
     by_next None = refl
     by_next (Some d) = ap (λ b. is_wait (first_case (option_map (λ e. Waits (Busy (device_no e))) (if b then Some d else None) ∷ Some (undo_on w n g r d) ∷ []) (aborts r cause))) (ap (λ o. is_some o) (home d)) ∙ driven_or_dropped d (n.up d)
 
--- a live run that stands behind no live run goes on, with its devices home
-first_goes : (w : Setting) (n : Reading) (g : Grips) (r m : ℕ) → StageSteps w n → is_run w.runs r ≡ true → is_none (n.run r).arrived ≡ false → is_live n r ≡ true → live_before n r ≡ [] → ((d : ℕ) → g d ≡ None) → is_wait (stage_choice w n g r m) ≡ false
-first_goes w n g r m p run came live first home = rw (run, going, home_free w g r home, came, placed) (by_doom (n.run r).doomed)
+    by_model : (b : Bool) → is_wait (first_case (if b then [] else undo_cases w n g r) (aborts r cause)) ≡ false
+    by_model true = refl
+    by_model false = by_next (next_undo_of w n g r)
+
+-- .. and the next command is answered, or its device goes out, in a model with an order where the run stands behind no live run
+command_goes : (w : Setting) (n : Reading) (g : Grips) (r m k : ℕ) (c : Command) → (is_weak w.mode ≡ false → live_before n r ≡ []) → ((d : ℕ) → g d ≡ None) → is_wait (decide_command w n g r m k c) ≡ false
+command_goes w n g r m k c first home = elim (is_weak w.mode) as (λ b. is_weak w.mode ≡ b → is_wait (first_case (command_cases b w n g r m k c) (HandsOut c.device.0 (Commands k))) ≡ false) [
+  | true ↦ (λ weak. unbarred)
+  | false ↦ (λ strong. in_front (first strong))
+] refl
   where
-    going : (n.run r).ended ≡ None
-    going = none_is (n.run r).ended (grind (arith, common_steps, live))
+    none_there : Option ℕ
+    none_there = None
 
-    placed : is_none (n.run r).placed ≡ false
-    placed = there (n.run r).placed (grind (arith, common_steps, live))
-      where
-        there : (o : Option PlacedAt) → is_some o ≡ true → is_none o ≡ false
-        there None e = absurd (cc)
-        there (Some x) e = refl
+    either : (b : Bool) → (if b then none_there else none_there) ≡ None
+    either true = refl
+    either false = refl
 
-    alone : strict_wait w n r ≡ None
-    alone = waits_for_none w.runs w.kinds w.first w.mode.model w.mode.scheduler n r first
+    never : (b : Bool) → (b && false) ≡ false
+    never true = refl
+    never false = refl
+
+    answers : (b : Bool) → is_wait (unwrap_or (only_if b (Moves (down_entries r k c))) (HandsOut c.device.0 (Commands k))) ≡ false
+    answers true = refl
+    answers false = refl
+
+    unbarred : is_wait (unbarred_command w n g r k c) ≡ false
+    unbarred =
+        let at_home : busy_wait w n g r c.device.0 ≡ false = ap (λ o. (is_weak w.mode || not (sees_down n r c.device.0)) && is_some o) (home c.device.0) ∙ never (is_weak w.mode || not (sees_down n r c.device.0)) in
+        ap (λ b. is_wait (first_case (only_if b (Waits (Busy c.device)) ∷ down_case w n r k c ∷ []) (HandsOut c.device.0 (Commands k)))) at_home ∙ answers (answers_down w n r c.device.0)
+
+    in_front : live_before n r ≡ [] → is_wait (strong_command w n g r m k c) ≡ false
+    in_front none =
+        let behind' : behind_wait w n g r c.device.0 ≡ None = ap (λ xs. find (λ x. holds_device w n g x c.device.0) xs) none in
+        let clean : dirty_wait w n g r c ≡ None = ap (λ xs. if reads c.job && not (sees_down n r c.device.0) && not (has_written n r c.device.0) then find (λ x. has_effect n g x c.device.0) xs else None) none ∙ either (reads c.job && not (sees_down n r c.device.0) && not (has_written n r c.device.0)) in
+        let alone : strict_wait w n r ≡ None = waits_for_none w.runs w.kinds w.first w.mode.model w.mode.scheduler n r none in
+        ap is_wait (command_current w n g r m k c (ap (find (is_overdue w n g r c.device.0 m)) none))
+        ∙ (λ i. is_wait (first_case (option_map (λ x. Waits (Behind c.device (run_no x))) (behind' i) ∷ option_map (λ x. Waits (Dirty c.device (run_no x))) (clean i) ∷ option_map (λ x. Waits (Strict (run_no x))) (alone i) ∷ busy_case w n g r c ∷ down_case w n r k c ∷ []) (HandsOut c.device.0 (Commands k))))
+        ∙ unbarred
+
+-- with its devices home a run goes on: it arrives; it is placed, where it waits for no run that it follows and is denied no device; or, in a model with an order where it stands behind no live run, it acts
+pub run_goes : (w : Setting) (n : Reading) (g : Grips) (r m : ℕ) → ((d : ℕ) → g d ≡ None) → (is_none (n.run r).placed ≡ true → (follow_wait w n r ≡ None) × (is_wait (place_choice r m (scheduled_place w n g r m)) ≡ false)) → (is_none (n.run r).placed ≡ false → is_weak w.mode ≡ false → live_before n r ≡ [])
+    → is_wait (decide w n g r m) ≡ false
+run_goes w n g r m home comes first =
+    by_test IsGoing (not (is_run w.runs r)) Absent _ (λ e. refl)
+    (λ run. by_map IsGoing (λ e. Over e []) (n.run r).ended _ (λ e at. refl)
+    (λ going. by_map IsGoing (λ d. Waits (Busy (device_no d))) (grip_wait w g r) _ (λ d at. absurd (let both : None ≡ Some d = sym (home_free w g r home) ∙ at in cc))
+    (λ free. by_test IsGoing (is_none (n.run r).arrived) (Moves (Arrived (run_no r) m ∷ [])) _ (λ e. refl)
+    (λ came. by_test IsGoing (is_none (n.run r).placed) (decide_arrived w n g r m) _
+    (λ unplaced. let may = comes unplaced in by_map IsGoing (λ f. Waits (Follow f)) (follow_wait w n r) _ (λ f at. absurd (let both : None ≡ Some f = sym may.0 ∙ at in cc)) (λ leader. may.1))
+    (λ placed. by_map IsGoing (decide_doomed w n g r) (n.run r).doomed _ (λ cause at. doomed_goes w n g r cause home)
+    (λ sound. by_map IsGoing (decide_command w n g r m (next_of n r)) (next_command w n r) (decide_answered w n g r) (λ c at. command_goes w n g r m (next_of n r) c (first placed) home)
+    (λ none. ends (down_at_end w n g r))))))))
+  where
+    IsGoing : Choice → Type 0
+    IsGoing c = is_wait c ≡ false
 
     ends : (o : Option ℕ) → is_wait (unwrap_or (option_map (λ d. Moves (Doomed (run_no r) (DownAtEnd (device_no d)) ∷ [])) o) (Over Committed (Ended (run_no r) Committed ∷ []))) ≡ false
     ends None = refl
     ends (Some d) = refl
 
-    by_next : (o : Option Command) → is_wait (unwrap_or (option_map (stage_command w n g r (next_of n r)) o) (decide_answered w n g r)) ≡ false
-    by_next None = ends (down_at_end w n g r)
-    by_next (Some c) =
-        let behind' : behind_wait w n g r c.device.0 ≡ None = ap (λ xs. find (λ x. holds_device w n g x c.device.0) xs) first in
-        let clean : dirty_wait w n g r c ≡ None = ap (λ xs. if reads c.job && not (sees_down n r c.device.0) && not (has_written n r c.device.0) then find (λ x. has_effect n g x c.device.0) xs else None) first ∙ either (reads c.job && not (sees_down n r c.device.0) && not (has_written n r c.device.0)) in
-        let at_home : busy_wait w n g r c.device.0 ≡ false = ap (λ o. (is_weak w.mode || not (sees_down n r c.device.0)) && is_some o) (home c.device.0) ∙ never (is_weak w.mode || not (sees_down n r c.device.0)) in
-        (λ i. is_wait (first_case (option_map (λ x. Waits (Behind c.device (run_no x))) (behind' i) ∷ option_map (λ x. Waits (Dirty c.device (run_no x))) (clean i) ∷ option_map (λ x. Waits (Strict (run_no x))) (alone i) ∷ only_if (at_home i) (Waits (Busy c.device)) ∷ down_case w n r (next_of n r) c ∷ []) (HandsOut c.device.0 (Commands (next_of n r)))))
-        ∙ answers (answers_down w n r c.device.0)
-      where
-        none_there : Option ℕ
-        none_there = None
-
-        either : (b : Bool) → (if b then none_there else none_there) ≡ None
-        either true = refl
-        either false = refl
-
-        never : (b : Bool) → (b && false) ≡ false
-        never true = refl
-        never false = refl
-
-        answers : (b : Bool) → is_wait (unwrap_or (only_if b (Moves (down_entries r (next_of n r) c))) (HandsOut c.device.0 (Commands (next_of n r)))) ≡ false
-        answers true = refl
-        answers false = refl
-
-    by_doom : (o : Option Cause) → is_wait (unwrap_or (option_map (stage_doomed w n g r) o) (unwrap_or (option_map (stage_command w n g r (next_of n r)) (next_command w n r)) (decide_answered w n g r))) ≡ false
-    by_doom None = by_next (next_command w n r)
-    by_doom (Some cause) = doomed_goes w n g r cause home
-
 -- some run that has not ended is not told to wait
 pub some_run_moves : (s : Configuration) (rounds opened : ℕ) (held : ℕ → ℕ) (r : ℕ) → ConfigurationIsKept s rounds opened held → ((d : ℕ) → s.grips d ≡ None) → is_run s.setting.runs r ≡ true → ((read_of s).run r).ended ≡ None
     → (q : ℕ) × (is_run s.setting.runs q ≡ true) × (((read_of s).run q).ended ≡ None) × ((m : ℕ) → is_wait (choice_of s q m) ≡ false)
-some_run_moves s rounds opened held r kept home run going = elim (is_none (n.run r).placed) as (λ b. is_none (n.run r).placed ≡ b → (q : ℕ) × (is_run w.runs q ≡ true) × ((n.run q).ended ≡ None) × ((m : ℕ) → is_wait (choice_of s q m) ≡ false)) [
-  | true ↦ (λ unplaced. (r, run, going, λ m. ap is_wait (stage_choice_is s rounds opened held r m kept) ∙ unplaced_goes w n s.grips r (max s.moment m) run going (home_free w s.grips r home) unplaced))
-  | false ↦ (λ placed. from_line (first_live n r n.line (live_stands n r stands (live placed)) (live placed)))
-] refl
+some_run_moves s rounds opened held r kept home run going = by_live (find (is_live n) (run_numbers w)) refl
   where
     w : Setting
     w = s.setting
@@ -189,44 +293,46 @@ some_run_moves s rounds opened held r kept home run going = elim (is_none (n.run
     shaped : Shaped w n
     shaped = shapes w (entries_of s.history) kept.history.well_formed
 
-    stands : Standing n
-    stands = standing w (entries_of s.history) kept.history.well_formed
+    clash : (b : Bool) → b ≡ true → b ≡ false → ⊥
+    clash b e f = grind (arith, common_steps)
 
-    live : is_none (n.run r).placed ≡ false → is_live n r ≡ true
-    live placed = rw going (by_place (n.run r).placed placed)
-      where
-        by_place : (o : Option PlacedAt) → is_none o ≡ false → (is_some o && true) ≡ true
-        by_place None e = absurd (cc)
-        by_place (Some x) e = refl
+    some_of : (o : Option PlacedAt) → is_none o ≡ false → (is_some o && true) ≡ true
+    some_of None e = absurd (cc)
+    some_of (Some x) e = refl
 
+    unplaced_is : (o : Option PlacedAt) → is_none o ≡ true → is_some o ≡ true → ⊥
+    unplaced_is None e f = absurd (cc)
+    unplaced_is (Some x) e f = absurd (cc)
+
+    -- the first live run of the line
     from_line : (q : ℕ) × IsFirst n n.line q → (q : ℕ) × (is_run w.runs q ≡ true) × ((n.run q).ended ≡ None) × ((m : ℕ) → is_wait (choice_of s q m) ≡ false)
-    from_line at = (q, live_run w n q shaped at.1.live, none_is (n.run q).ended (ends at.1.live), λ m. ap is_wait (stage_choice_is s rounds opened held q m kept) ∙ first_goes w n s.grips q (max s.moment m) (stage_steps s rounds opened held kept) (live_run w n q shaped at.1.live) (came (n.run q).arrived ((shaped q).arrived (begun at.1.live))) at.1.live at.1.first home)
+    from_line at = (q, live_run w n q shaped at.1.live, none_is (n.run q).ended unended, λ m. run_goes w n s.grips q (max s.moment m) home (λ unplaced. absurd (unplaced_is (n.run q).placed unplaced begun)) (λ placed strong. at.1.first))
       where
         q : ℕ
         q = at.0
 
-        ends : is_live n q ≡ true → is_none (n.run q).ended ≡ true
-        ends now = grind (arith, common_steps, now)
+        unended : is_none (n.run q).ended ≡ true
+        unended = let now = at.1.live in grind (arith, common_steps, now)
 
-        begun : is_live n q ≡ true → is_some (n.run q).placed ≡ true
-        begun now = grind (arith, common_steps, now)
+        begun : is_some (n.run q).placed ≡ true
+        begun = let now = at.1.live in grind (arith, common_steps, now)
 
-        came : (o : Option ℕ) → is_some o ≡ true → is_none o ≡ false
-        came None e = absurd (cc)
-        came (Some x) e = refl
+    -- the least run that has not ended
+    from_least : NoneIsLive n → (q : ℕ) × IsLeastUnended w n q → (q : ℕ) × (is_run w.runs q ≡ true) × ((n.run q).ended ≡ None) × ((m : ℕ) → is_wait (choice_of s q m) ≡ false)
+    from_least over (q, least) =
+        (q, least.run, least.going, λ m. run_goes w n s.grips q (max s.moment m) home (λ unplaced. (least_leads w n q kept.opens.follows least, placed_at_once w n s.grips q (max s.moment m) over)) (λ placed. absurd (clash (is_live n q) (ap (λ o. is_some (n.run q).placed && is_none o) least.going ∙ some_of (n.run q).placed placed) (over q))))
+
+    by_live : (o : Option ℕ) → find (is_live n) (run_numbers w) ≡ o → (q : ℕ) × (is_run w.runs q ≡ true) × ((n.run q).ended ≡ None) × ((m : ℕ) → is_wait (choice_of s q m) ≡ false)
+    by_live (Some x) e = let live : is_live n x ≡ true = (find_least (is_live n) 1 (length w.runs) x e).does in from_line (first_live n x n.line (live_stands n x (standing w (entries_of s.history) kept.history.well_formed) live) live)
+    by_live None e = from_least none_live (least_unended w n r run going)
+      where
+        none_live : NoneIsLive n
+        none_live q = elim (is_live n q) as (λ b. is_live n q ≡ b → b ≡ false) [
+          | true ↦ (λ live. let within : (0 < q) × (q ≤ length w.runs) = run_within w.runs q (live_run w n q shaped live) in sym live ∙ none_does (is_live n) 1 (length w.runs) e q (omega (arith, within.0)) (omega (arith, within.1)))
+          | false ↦ (λ gone. refl)
+        ] refl
 
 -- a window in which no device is out can be closed, or some run of it goes on
-
-find_in_range : (p : ℕ → Bool) (a k x : ℕ) → find p (range_with_len a k) ≡ Some x → (a ≤ x) × (x < a + k) × (p x ≡ true)
-find_in_range p a zero x at = absurd (cc)
-find_in_range p a (suc k) x at = elim (p a) as (λ b. p a ≡ b → cond b (Some a) (find p (range_with_len (a + 1) k)) ≡ Some x → (a ≤ x) × (x < a + suc k) × (p x ≡ true)) [
-  | true ↦ (λ now e. subst (λ y. (a ≤ y) × (y < a + suc k) × (p y ≡ true)) (some_is a x e) (omega arith, omega arith, now))
-  | false ↦ (λ none e. let rest : (a + 1 ≤ x) × (x < a + 1 + k) × (p x ≡ true) = find_in_range p (a + 1) k x e in (omega (arith, rest.0), omega (arith, rest.1), rest.2))
-] refl at
-
-none_found : {A : Type 0} (p : A → Bool) (xs : List A) → ((x : A) → p x ≡ false) → find p xs ≡ None
-none_found p [] none = refl
-none_found p (x ∷ xs) none = ap (λ b. cond b (Some x) (find p xs)) (none x) ∙ none_found p xs none
 
 pub goes_on : (s : Configuration) (rounds opened : ℕ) (held : ℕ → ℕ) → ConfigurationIsKept s rounds opened held → ((d : ℕ) → s.grips d ≡ None)
     → (not_quiet s ≡ None) ⊎ ((q : ℕ) × (is_run s.setting.runs q ≡ true) × (((read_of s).run q).ended ≡ None) × ((m : ℕ) → is_wait (choice_of s q m) ≡ false))
@@ -236,5 +342,5 @@ goes_on s rounds opened held kept home = by_live (find (λ r. is_none ((read_of 
     by_live None e = inl (ap (λ o. option_or (option_map (λ r. StillLive (run_no r)) o) (option_map (λ d. StillOut (device_no d)) (find (is_out s.grips) (device_numbers s.setting)))) e
         ∙ ap (λ o. option_map (λ d. StillOut (device_no d)) o) (none_found (is_out s.grips) (device_numbers s.setting) (λ d. ap (λ o. is_some o) (home d))))
     by_live (Some r) e =
-        let found : (1 ≤ r) × (r < 1 + length s.setting.runs) × (is_none ((read_of s).run r).ended ≡ true) = find_in_range (λ q. is_none ((read_of s).run q).ended) 1 (length s.setting.runs) r e in
-        inr (some_run_moves s rounds opened held r kept home (run_there s.setting.runs r (omega (arith, found.0)) (omega (arith, found.1))) (none_is ((read_of s).run r).ended found.2))
+        let least = find_least (λ q. is_none ((read_of s).run q).ended) 1 (length s.setting.runs) r e in
+        inr (some_run_moves s rounds opened held r kept home (run_there s.setting.runs r (omega (arith, least.low)) (omega (arith, least.high))) (none_is ((read_of s).run r).ended least.does))

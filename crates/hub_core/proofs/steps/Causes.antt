@@ -69,7 +69,7 @@ find_each : {A : Type 0} (p q : A → Bool) (xs : List A) → Each (λ x. p x �
 find_each p q [] same = refl
 find_each p q (x ∷ xs) same = rw (same.0, find_each p q xs same.1) refl
 
-each_is : {A : Type 0} (P Q : A → Type 0) (xs : List A) → ((x : A) → P x → Q x) → Each P xs → Each Q xs
+pub each_is : {A : Type 0} (P Q : A → Type 0) (xs : List A) → ((x : A) → P x → Q x) → Each P xs → Each Q xs
 each_is P Q [] step all = tt
 each_is P Q (x ∷ xs) step all = (step x all.0, each_is P Q xs step all.1)
 

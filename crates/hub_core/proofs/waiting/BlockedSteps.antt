@@ -4,6 +4,7 @@ use Rattle.history_book.proofs.Snoc.{entries_on, put_other, put_same}
 use Rattle.history_book.specs.Histories.{entries_of, kept_by}
 use Rattle.history_book.specs.Readings.{Reading, did, is_doomed, is_live, pends, put}
 use Rattle.history_book.specs.Settings.{Setting}
+use Rattle.history_book.specs.WellFormed.{IsWellFormed}
 use Rattle.history_book.specs.declared.entries.Cause.TheVariants.{Lost}
 use Rattle.history_book.specs.declared.entries.Entry.{Entry}
 use Rattle.history_book.specs.declared.entries.Entry.TheVariants.{Did, Doomed, Fell, Rose}
@@ -17,16 +18,19 @@ use Rattle.hub_core.proofs.kept.HubReads.{run_place}
 use Rattle.hub_core.proofs.kept.Hands.{IsOf, others_hold}
 use Rattle.hub_core.proofs.steps.Choices.{decide_is}
 use Rattle.hub_core.proofs.steps.GiveCauses.{next_pends}
-use Rattle.hub_core.proofs.waiting.HeldDevices.{did_now, held_waits, next_after_answer, next_kept}
-use Rattle.hub_core.proofs.waiting.Moments.{waits_on}
+use Rattle.hub_core.proofs.waiting.AtCommands.{at_command}
+use Rattle.hub_core.proofs.waiting.HeldDevices.{did_now, held_waits, next_after_answer, next_kept, read_after}
+use Rattle.hub_core.proofs.waiting.KeptLeases.{calm_answered, calm_grips}
+use Rattle.hub_core.proofs.waiting.Moments.{blocked_calm, waits_on}
 use Rattle.hub_core.proofs.waiting.OtherDevices.{stays_blocked}
-use Rattle.hub_core.specs.BlockedMarks.{AreBlocked, AreLeft, BlockedState, MayHaveMarked, is_marked, is_marked_at}
-use Rattle.hub_core.specs.BlockedRuns.{IsBlocked, is_quiet, is_wait, next_device}
+use Rattle.hub_core.specs.BlockedMarks.{AreBlocked, AreLeft, BlockedState, Marks, MayBeMarked, Stays, is_marked, is_marked_at}
+use Rattle.hub_core.specs.BlockedRuns.{IsBlocked, NeverRevokes, is_quiet, is_wait, next_device}
 use Rattle.hub_core.specs.HubKept.{ConfigurationIsKept}
 use Rattle.hub_core.specs.MarkedRuns.{IsAnsweredStill, is_out_for_command}
 use Rattle.hub_core.specs.Steps.{Absent, Choice, HandsOut, Moves, Over, Waits, at_moment, choice_of, decide, give_entries, with_entries, with_grip}
 use Rattle.hub_core.specs.declared.waits.Why.{Why}
 use Rattle.lock_leasing.specs.Configurations.{Commands, Configuration, Grip, Grips, Probes, Purpose, Undoes, grips_command, has_grip, is_command, read_of}
+use Rattle.lock_leasing.specs.Leases.{NeverOverdue}
 use Rattle.lock_leasing.specs.Waits.{grip_wait, lost_by}
 use Rattle.std.proofs.Common.{ap, arith, inl, inr, refl, subst, sym, ◌∙◌}
 use Rattle.std.proofs.lemmas.Grind.{common_steps}
@@ -63,6 +67,23 @@ left_stay s t b after Holds are left lasts = record {
         let here = left.there r at.0 marked at.2 in
         let still = lasts r at.0 (are.blocked r was) at.1 here.0 in
         (at.0, still.0, still.1, here.1)
+
+-- a run that waits may be marked
+pub may_mark : (t : Configuration) (r m : ℕ) (why : Why) (b after : BlockedState) → IsWellFormed t.setting (entries_of t.history) → choice_of t r m ≡ Waits why → AreBlocked t b → MayBeMarked t b r after → AreBlocked t after
+may_mark t r m why b after formed told are (Stays same) = subst (AreBlocked t) same are
+may_mark t r m why b after formed told are (Marks d next calm marks) = record {
+  blocked = λ q marked. (each q marked).1;
+  there = λ q marked. let here = each q marked in (here.0, here.2, here.3);
+}
+  where
+    blocked : IsBlocked t r
+    blocked = waits_on t r d formed next calm m why told
+
+    each : (q : ℕ) → is_marked after q ≡ true → (e : ℕ) × IsBlocked t q × (next_device t q ≡ Some e) × (is_marked_at after e q ≡ true)
+    each q marked = elim (marks.marked q marked) [
+      | inl old ↦ let at = are.there q old in (at.0, are.blocked q old, at.1, marks.there at.0 q at.2)
+      | inr new ↦ (d, subst (IsBlocked t) (sym new.0) blocked, ap (next_device t) new.0 ∙ next, new.1)
+    ]
 
 -- Steps that are elsewhere
 
@@ -107,33 +128,11 @@ reached s m b was now are =
     left_stay s (at_moment s m) b b (λ d. ⊤) are (all_left {P = λ d. ⊤} b (λ d. tt)) (λ q d blocked next any. undisturbed s (max s.moment m) s.probes s.grips q d was now (later s.moment m) refl blocked.free blocked next)
 
 -- .. since the run waits, which may be marked
-pub waits : (s : Configuration) (r m : ℕ) (why : Why) (b after : BlockedState) → IsKept s → IsKept (at_moment s m) → choice_of s r m ≡ Waits why → AreBlocked s b → MayHaveMarked b r (next_device (at_moment s m) r) after → AreBlocked (at_moment s m) after
-waits s r m why b after was now told are may = by_device (next_device (at_moment s m) r) refl may
+pub waits : (s : Configuration) (r m : ℕ) (why : Why) (b after : BlockedState) → IsKept s → IsKept (at_moment s m) → choice_of s r m ≡ Waits why → AreBlocked s b → MayBeMarked (at_moment s m) b r after → AreBlocked (at_moment s m) after
+waits s r m why b after was now told are may = may_mark (at_moment s m) r m why b after now.kept.history.well_formed (ap (λ k. decide s.setting (read_of s) s.grips r k) twice ∙ told) (reached s m b was now are) may
   where
-    still : AreBlocked (at_moment s m) b
-    still = reached s m b was now are
-
     twice : max (max s.moment m) m ≡ max s.moment m
     twice = omega (arith)
-
-    same : choice_of (at_moment s m) r m ≡ Waits why
-    same = ap (λ k. decide s.setting (read_of s) s.grips r k) twice ∙ told
-
-    by_device : (o : Option ℕ) → next_device (at_moment s m) r ≡ o → MayHaveMarked b r o after → AreBlocked (at_moment s m) after
-    by_device None at may = subst (λ x. AreBlocked (at_moment s m) x) may still
-    by_device (Some d) at may = record {
-      blocked = λ q marked. (each q marked).1;
-      there = λ q marked. let here = each q marked in (here.0, here.2, here.3);
-    }
-      where
-        blocked : IsBlocked (at_moment s m) r
-        blocked = waits_on (at_moment s m) now.rounds now.opened now.held r d now.kept at m why same
-
-        each : (q : ℕ) → is_marked after q ≡ true → (e : ℕ) × IsBlocked (at_moment s m) q × (next_device (at_moment s m) q ≡ Some e) × (is_marked_at after e q ≡ true)
-        each q marked = elim (may.marked q marked) [
-          | inl old ↦ let at' = still.there q old in (at'.0, still.blocked q old, at'.1, may.there at'.0 q at'.2)
-          | inr new ↦ (d, subst (λ x. IsBlocked (at_moment s m) x) (sym new.0) blocked, ap (next_device (at_moment s m)) new.0 ∙ at, new.1)
-        ]
 
 -- A device goes out
 
@@ -207,11 +206,14 @@ goes s r m d purpose b after home was now out are left = left_stay s t b after (
     for_command : is_out_for_command t d ≡ is_command purpose
     for_command = ap (λ o. unwrap_or (option_map (λ (x : Grip). is_command x.purpose) o) false) (put_same s.grips d (Some grip))
 
+    calm : (q : ℕ) → IsBlocked s q → next_device s q ≡ Some d → NeverRevokes t q d
+    calm q blocked next strong = calm_grips s.setting (read_of s) s.grips g q d (blocked_calm s q d (at_command s q d was.kept.history.well_formed next) blocked strong)
+
     here : (p : Purpose) → purpose ≡ p → GoesFor s.setting (read_of s) r d p → (q : ℕ) → IsBlocked s q → next_device s q ≡ Some d → (is_out_for_command t d ≡ false → d ≢ d) → Lasts t q d
     here (Commands k) is run q blocked next left' =
         let still : next_device t q ≡ Some d = next_kept s t q d refl refl (free q blocked) next in
         let touched : (did (read_of s) r d || grips_command g r d) ≡ true = rw (own_command g d r purpose (put_same s.grips d (Some grip)), is) (grind (arith, common_steps)) in
-        (held_waits t now.rounds now.opened now.held r q d now.kept run.0 run.1 touched run.2 (not_mover s r m d purpose q out blocked) still, still)
+        (held_waits t now.rounds now.opened now.held r q d now.kept run.0 run.1 touched run.2 (not_mover s r m d purpose q out blocked) still (calm q blocked next), still)
     here (Undoes v) is run q blocked next left' = absurd (left' (for_command ∙ ap is_command is) refl)
     here (Probes v) is run q blocked next left' = absurd (left' (for_command ∙ ap is_command is) refl)
 
@@ -306,12 +308,17 @@ back s m d grip told b after later out was now are left = left_stay s t b after 
         made : t.history ≡ s.history ++ kept_by grip.maker (Did still.run still.command still.answer ∷ [])
         made = ap (λ es. s.history ++ kept_by grip.maker es) still.only
 
+        calm : next_device s q ≡ Some d → NeverRevokes t q d
+        calm at strong =
+            let before : NeverOverdue s.setting (read_of s) s.grips q d = blocked_calm s q d (at_command s q d was.kept.history.well_formed at) blocked strong in
+            subst (λ n. NeverOverdue s.setting n g q d) (sym (read_after s t grip.maker still.run still.command still.answer made refl)) (calm_answered s.setting (read_of s) g still.run still.command still.answer q d (calm_grips s.setting (read_of s) s.grips g q d before))
+
         behind : next_device s q ≡ Some d → Lasts t q d
         behind at =
             let next' : next_device t q ≡ Some d = next_after_answer s t grip.maker still.run still.command still.answer q d made refl other (free q blocked) at in (
               held_waits t now.rounds now.opened now.held still.run.0 q d now.kept still.holds.live still.holds.going
                   (let met : did (read_of t) still.run.0 d ≡ true = did_now s t grip.maker still.run still.command still.answer d made refl still.holds.device in grind (arith, common_steps))
-                  still.holds.left other next',
+                  still.holds.left other next' (calm at),
               next',
             )
 

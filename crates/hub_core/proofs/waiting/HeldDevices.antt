@@ -8,25 +8,24 @@ use Rattle.history_book.specs.Histories.{entries_of, entry, kept_by, reading}
 use Rattle.history_book.specs.Lines.{before}
 use Rattle.history_book.specs.Readings.{OfRun, OnDevice, Reading, did, is_doomed, is_live, is_open, next_of, pends, view_by}
 use Rattle.history_book.specs.Settings.{Setting, is_weak}
-use Rattle.history_book.specs.declared.entries.Entry.TheVariants.{Did, Doomed}
-use Rattle.history_book.specs.declared.entries.Cause.TheVariants.{Revoked}
+use Rattle.history_book.specs.declared.entries.Entry.TheVariants.{Did}
 use Rattle.home_types.specs.declared.commands.Answer.{Answer}
 use Rattle.home_types.specs.declared.commands.Answer.TheVariants.{Down, Fine, Found}
 use Rattle.home_types.specs.declared.commands.Command.{Command}
 use Rattle.home_types.specs.declared.items.Item.{Item}
 use Rattle.home_types.specs.declared.items.Item.TheVariants.{Back, Failed, Ran}
 use Rattle.home_types.specs.declared.numbers.RunNo.{RunNo}
-use Rattle.hub_core.proofs.stage.StageChoices.{live_stands}
+use Rattle.hub_core.proofs.stage.StrongChoices.{command_current, command_is, live_stands}
 use Rattle.hub_core.proofs.waiting.AtCommands.{IsAt, at_command, at_open, command_choice, device_told}
-use Rattle.hub_core.proofs.waiting.Moments.{calm_waits, kept_calm}
-use Rattle.hub_core.specs.BlockedRuns.{IsBlocked, is_at_command, is_wait, next_device}
+use Rattle.hub_core.proofs.waiting.Moments.{calm_waits}
+use Rattle.hub_core.specs.BlockedRuns.{IsBlocked, NeverRevokes, is_at_command, is_wait, next_device}
 use Rattle.hub_core.specs.HubKept.{ConfigurationIsKept}
-use Rattle.hub_core.specs.Steps.{HandsOut, Moves, Waits, behind_case, busy_case, command_cases, decide_command, dirty_case, down_case, first_case, strict_case}
+use Rattle.hub_core.specs.Steps.{HandsOut, Waits, busy_case, decide_command, dirty_case, down_case, first_case, strict_case}
 use Rattle.hub_core.specs.declared.waits.Why.TheVariants.{Behind}
 use Rattle.lock_leasing.specs.Configurations.{Commands, Configuration, Grips, read_of}
 use Rattle.lock_leasing.specs.Order.{OrderStands, is_touched, open_runs_are_last}
 use Rattle.lock_leasing.specs.Waits.{behind_wait, grip_wait}
-use Rattle.lock_leasing.specs.Words.{has_touched, holds_device, lease_deadline, live_runs, overdue_for}
+use Rattle.lock_leasing.specs.Words.{has_touched, holds_device, live_runs, overdue_for}
 use Rattle.std.proofs.Common.{ap, arith, cond, refl, subst, sym, ◌∙◌}
 use Rattle.std.proofs.lemmas.Grind.{common_steps}
 use Rattle.std.proofs.lemmas.List.Sums.{take_while-cons}
@@ -120,20 +119,17 @@ behind_holder w n g x q d last there holds opened other = holder_first w n g x q
 
 -- a next command behind a run waits, where no lease is overdue, but under the weak model
 pub behind_waits : (w : Setting) (n : Reading) (g : Grips) (r m k : ℕ) (c : Command) → is_weak w.mode ≡ false → overdue_for w n g r c.device.0 m ≡ None → is_some (behind_wait w n g r c.device.0) ≡ true → is_wait (decide_command w n g r m k c) ≡ true
-behind_waits w n g r m k c strong current behind =
-    ap (λ b. is_wait (first_case (command_cases b w n g r m k c) (HandsOut c.device.0 (Commands k)))) strong
-    ∙ ap (λ o. is_wait (first_case (option_map (λ x. Moves (Doomed (run_no x) (Revoked (run_no r) c.device (lease_deadline w n x c.device.0) m) ∷ [])) o ∷ behind_case w n g r c ∷ dirty_case w n g r c ∷ strict_case w n r ∷ busy_case w n g r c ∷ down_case w n r k c ∷ []) (HandsOut c.device.0 (Commands k)))) current
-    ∙ by_run (behind_wait w n g r c.device.0) behind
+behind_waits w n g r m k c strong current behind = ap is_wait (command_is w n g r m k c strong ∙ command_current w n g r m k c current) ∙ by_run (behind_wait w n g r c.device.0) behind
   where
     by_run : (o : Option ℕ) → is_some o ≡ true → is_wait (first_case (option_map (λ x. Waits (Behind c.device (run_no x))) o ∷ dirty_case w n g r c ∷ strict_case w n r ∷ busy_case w n g r c ∷ down_case w n r k c ∷ []) (HandsOut c.device.0 (Commands k))) ≡ true
     by_run None e = absurd (cc)
     by_run (Some x) e = refl
 
--- while a run that is not doomed has touched a device and has a command left there, each other run at a command there is blocked
+-- while a run that is not doomed has touched a device and has a command left there, each other run at a command there is blocked, for which no lease there is ever overdue
 pub held_waits : (s : Configuration) (rounds opened : ℕ) (held : ℕ → ℕ) (x q d : ℕ) → ConfigurationIsKept s rounds opened held → is_live (read_of s) x ≡ true → is_doomed (read_of s) x ≡ false → has_touched (read_of s) s.grips x d ≡ true
-    → pends s.setting (read_of s) x d ≡ true → q ≢ x → next_device s q ≡ Some d → IsBlocked s q
-held_waits s rounds opened held x q d kept live sound touched pending other next =
-    calm_waits s q d 0 at (kept_calm s rounds opened held q d d kept at) (ap is_wait (command_choice s q d 0 at) ∙ behind_waits w n s.grips q (max s.moment 0) (next_of n q) at.command kept.strong (kept_calm s rounds opened held q d at.command.device.0 kept at (max s.moment 0)) behind)
+    → pends s.setting (read_of s) x d ≡ true → q ≢ x → next_device s q ≡ Some d → NeverRevokes s q d → IsBlocked s q
+held_waits s rounds opened held x q d kept live sound touched pending other next calm =
+    calm_waits s q d 0 at calm (ap is_wait (command_choice s q d 0 at) ∙ behind_waits w n s.grips q (max s.moment 0) (next_of n q) at.command kept.strong (ap (λ e. overdue_for w n s.grips q e (max s.moment 0)) at.device ∙ calm kept.strong (max s.moment 0)) behind)
   where
     w : Setting
     w = s.setting
@@ -168,7 +164,7 @@ next_kept s t q d setting same free next =
     was = let told = device_told (is_at_command s q) _ d next in none_is (grip_wait s.setting s.grips q) (grind (arith, common_steps, told.0))
 
 -- the reading after a step whose one entry is an answer
-read_after : (s t : Configuration) (maker : ℕ) (x : RunNo) (k : ℕ) (a : Answer) → t.history ≡ s.history ++ kept_by maker (Did x k a ∷ []) → t.setting ≡ s.setting → read_of t ≡ entry s.setting (read_of s) (Did x k a)
+pub read_after : (s t : Configuration) (maker : ℕ) (x : RunNo) (k : ℕ) (a : Answer) → t.history ≡ s.history ++ kept_by maker (Did x k a ∷ []) → t.setting ≡ s.setting → read_of t ≡ entry s.setting (read_of s) (Did x k a)
 read_after s t maker x k a history setting =
     ap (λ w. reading w (entries_of t.history)) setting
     ∙ ap (λ h. reading s.setting (entries_of h)) history

@@ -76,7 +76,7 @@ same_after w n m u r d first then' = record {
 -- The line
 
 -- where the same runs are live
-live_same : (n m : Reading) (is : List Item) → ((q : ℕ) → is_live m q ≡ is_live n q) → live_runs m is ≡ live_runs n is
+pub live_same : (n m : Reading) (is : List Item) → ((q : ℕ) → is_live m q ≡ is_live n q) → live_runs m is ≡ live_runs n is
 live_same n m [] same = refl
 live_same n m (Ran q ∷ is) same = λ i. cons_option (if same q.0 i then Some q.0 else None) (live_same n m is same i)
 live_same n m (Failed e k ∷ is) same = live_same n m is same

@@ -1,14 +1,10 @@
 -- Who may sleep: a take of a blocked run changes nothing but the moment, and each sleeper that no step has called is blocked.
-use Rattle.command_rules.specs.Rosters.{is_run}
-use Rattle.hub_core.proofs.waiting.Moments.{wait_lasts}
 use Rattle.hub_core.specs.BlockedRuns.{IsBlocked, is_wait}
-use Rattle.hub_core.specs.HubKept.{ConfigurationIsKept}
 use Rattle.hub_core.specs.Steps.{Absent, Choice, HandsOut, Moves, Over, Waits, after_choice, after_take, at_moment, choice_of, decide}
 use Rattle.hub_core.specs.declared.waits.Why.{Why}
 use Rattle.lock_leasing.specs.Configurations.{Configuration, read_of}
-use Rattle.lock_leasing.specs.Waits.{grip_wait}
-use Rattle.std.proofs.Common.{ap, arith, refl, sym, ◌∙◌}
-use Rattle.std.specs.Prelude.{Bool, None, false, max, true, ℕ, ◌≡◌, ◌≤◌}
+use Rattle.std.proofs.Common.{ap, arith, refl, ◌∙◌}
+use Rattle.std.specs.Prelude.{Bool, max, true, ℕ, ◌≡◌, ◌≤◌}
 
 -- Takes of a blocked run
 
@@ -49,18 +45,3 @@ SleepersAreBlocked s sleeping = (r : ℕ) → sleeping r ≡ true → IsBlocked 
 -- the clock wakes nobody
 pub sleepers_later : (s : Configuration) (m : ℕ) (sleeping : ℕ → Bool) → SleepersAreBlocked s sleeping → SleepersAreBlocked (at_moment s m) sleeping
 sleepers_later s m sleeping blocked r sleeps = blocked_later s r m (blocked r sleeps)
-
--- a run that is told to wait is one of the window
-pub waiting_run : (s : Configuration) (r m : ℕ) (why : Why) → choice_of s r m ≡ Waits why → is_run s.setting.runs r ≡ true
-waiting_run s r m why waits = by_run (is_run s.setting.runs r) refl
-  where
-    by_run : (b : Bool) → is_run s.setting.runs r ≡ b → is_run s.setting.runs r ≡ true
-    by_run true e = e
-    by_run false e = absurd (let absent : Absent ≡ Waits why = sym (none e) ∙ waits in cc)
-      where
-        none : is_run s.setting.runs r ≡ false → choice_of s r m ≡ Absent
-        none e = rw e refl
-
--- in this stage a run that is told to wait and holds no grip is blocked, marked or not
-pub told_sleeps : (s : Configuration) (rounds opened : ℕ) (held : ℕ → ℕ) (r m : ℕ) (why : Why) → ConfigurationIsKept s rounds opened held → grip_wait s.setting s.grips r ≡ None → choice_of s r m ≡ Waits why → IsBlocked s r
-told_sleeps s rounds opened held r m why kept free waits = record { run = waiting_run s r m why waits; free = free; waits = λ a. wait_lasts s rounds opened held r a m kept ∙ ap is_wait waits }

@@ -35,7 +35,7 @@ use Rattle.window_order.proofs.Grips.{HoldsNone, fits_other, fits_with, holds_no
 
 -- The start
 
-pub weak_opened : (w : Setting) (rounds opened' : ℕ) → MayOpen w rounds opened' → StageAllows w rounds → is_weak w.mode ≡ true → length w.kinds ≡ length w.first → ((d : ℕ) → d < length w.first → IsTrue (has_value (kind_at w.kinds d) (stand_at w.first d).value))
+pub weak_opened : (w : Setting) (rounds opened' : ℕ) → MayOpen w rounds opened' → StageAllows w → is_weak w.mode ≡ true → length w.kinds ≡ length w.first → ((d : ℕ) → d < length w.first → IsTrue (has_value (kind_at w.kinds d) (stand_at w.first d).value))
     → WeakIsKept (opened w rounds) rounds opened' (λ d. (stand_at w.first d).value)
 weak_opened w rounds opened' opens stage weak kinds values =
     record {

@@ -1,27 +1,23 @@
-use Rattle.hub_core.proofs.calls.HubChoices.{command_behind, command_dirty, command_strict, command_unbarred, strict_said, touch_said}
+use Rattle.command_rules.specs.Rosters.{command_at}
+use Rattle.home_types.specs.declared.commands.Command.{Command}
+use Rattle.hub_core.proofs.calls.HubChoices.{command_revokes, command_stays}
 use Rattle.hub_core.proofs.open_windows.OpenWindow.decide_command.Goals as goal
-use Rattle.hub_core.specs.OpenHubs.{configuration_of}
+use Rattle.hub_core.specs.OpenHubs.{OpenHub, configuration_of}
+use Rattle.lock_leasing.proofs.Meetings.{asks_at}
 use Rattle.lock_leasing.specs.Configurations.{read_of}
-use Rattle.lock_leasing.specs.Standings.{Touching}
-use Rattle.std.proofs.Common.{ap, ◌∙◌}
-use Rattle.visibility_models.specs.Models.{InOrder}
+use Rattle.lock_leasing.specs.Standings.{IsAsking, IsAtCommand}
+use Rattle.std.proofs.Common.{subst}
+use Rattle.std.specs.Prelude.{ℕ, ◌≡◌}
 
-pub test_touch-requires : goal.test_touch-requires
-test_touch-requires g c = Touching (configuration_of c.args.self.now) c.standing-standing.ensures c.requires.turn
+-- the run asks for the device of the command
+asks : {D : Type 0} (s : OpenHub D) (r k : ℕ) (c : Command) → IsAtCommand (configuration_of s) r k → command_at s.setting.runs r k ≡ c → IsAsking (configuration_of s) r c.device.0
+asks s r k c turn is = subst (λ (x : Command). IsAsking (configuration_of s) r x.device.0) is (asks_at (configuration_of s) r k turn)
 
-pub returns-in-Behind : goal.returns-in-Behind
-returns-in-Behind g c = λ m. command_behind c.args.self.now.setting (read_of (configuration_of c.args.self.now)) (configuration_of c.args.self.now).grips c.args.r.0 c.args.k c.args.command c.in-Behind.d c.in-Behind.x (touch_said (configuration_of c.args.self.now) _ _ _ _ c.args.r.0 c.args.k c.args.command _ c.standing-standing.ensures c.requires.turn c.requires.command c.in-Behind.ensures)
-
-pub returns-in-Dirty : goal.returns-in-Dirty
-returns-in-Dirty g c = λ m. command_dirty c.args.self.now.setting (read_of (configuration_of c.args.self.now)) (configuration_of c.args.self.now).grips c.args.r.0 c.args.k c.args.command c.in-Dirty.d c.in-Dirty.x (touch_said (configuration_of c.args.self.now) _ _ _ _ c.args.r.0 c.args.k c.args.command _ c.standing-standing.ensures c.requires.turn c.requires.command c.in-Dirty.ensures)
-
-pub may_go-requires : goal.may_go-requires
-may_go-requires g c = InOrder (configuration_of c.args.self.now) c.standing-standing.ensures (record { live = c.requires.turn.live; sound = c.requires.turn.sound })
+pub overdue_lease-requires : goal.overdue_lease-requires
+overdue_lease-requires g c = record { strong = c.requires.strong; turn = asks c.args.self.now c.args.r.0 c.args.k c.args.command c.requires.turn c.requires.command }
 
 pub returns-in-Some : goal.returns-in-Some
-returns-in-Some g c = λ m. command_strict c.args.self.now.setting (read_of (configuration_of c.args.self.now)) (configuration_of c.args.self.now).grips c.args.r.0 c.args.k c.args.command c.in-Some.x (touch_said (configuration_of c.args.self.now) _ _ _ _ c.args.r.0 c.args.k c.args.command _ c.standing-standing.ensures c.requires.turn c.requires.command c.in-Free.ensures)
-    (strict_said (configuration_of c.args.self.now) _ _ _ _ c.args.r.0 _ _ c.standing-standing.ensures (c.model.ensures ∙ ap (λ s. s.setting.mode.model) c.self.view_is) c.in-Some.ensures.wait)
+returns-in-Some g c = command_revokes c.args.self.now.setting (read_of (configuration_of c.args.self.now)) (configuration_of c.args.self.now).grips c.args.r.0 c.args.moment c.args.k c.args.command c.in-Some.borrower c.in-Some.deadline c.in-Some.ensures
 
-pub returns : goal.returns
-returns g c = λ m. command_unbarred c.args.self.now.setting (read_of (configuration_of c.args.self.now)) (configuration_of c.args.self.now).grips c.args.r.0 c.args.k c.args.command _ (touch_said (configuration_of c.args.self.now) _ _ _ _ c.args.r.0 c.args.k c.args.command _ c.standing-standing.ensures c.requires.turn c.requires.command c.in-Free.ensures)
-    (strict_said (configuration_of c.args.self.now) _ _ _ _ c.args.r.0 _ _ c.standing-standing.ensures (c.model.ensures ∙ ap (λ s. s.setting.mode.model) c.self.view_is) c.in_default.ensures.wait) (c.decide_unbarred.ensures m)
+pub returns-in-None : goal.returns-in-None
+returns-in-None g c = command_stays c.args.self.now.setting (read_of (configuration_of c.args.self.now)) (configuration_of c.args.self.now).grips c.args.r.0 c.args.moment c.args.k c.args.command _ c.in-None.ensures (c.decide_current.ensures c.args.moment)

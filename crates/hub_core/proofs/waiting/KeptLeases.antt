@@ -1,0 +1,83 @@
+-- A lease that may fall due is made by a placing alone: neither the clock, nor a device that goes out, nor an answer makes one.
+use Rattle.command_rules.specs.Rosters.{commands_of, estimate_to_last, is_on, touches, touches_from}
+use Rattle.history_book.proofs.Shapes.{put_all}
+use Rattle.history_book.specs.Histories.{entry}
+use Rattle.history_book.specs.Lines.{before}
+use Rattle.history_book.specs.Plans.{greatest, planned_end}
+use Rattle.history_book.specs.Readings.{OfRun, Reading, is_doomed, is_live, pends}
+use Rattle.history_book.specs.Settings.{Setting}
+use Rattle.history_book.specs.declared.entries.Entry.TheVariants.{Did}
+use Rattle.home_types.specs.declared.commands.Answer.{Answer}
+use Rattle.home_types.specs.declared.numbers.RunNo.{RunNo}
+use Rattle.hub_core.proofs.steps.Revoked.{overdue_without_grips}
+use Rattle.hub_core.proofs.waiting.QuietEntries.{live_same}
+use Rattle.lock_leasing.specs.Configurations.{Grips}
+use Rattle.lock_leasing.specs.Leases.{NeverOverdue}
+use Rattle.lock_leasing.specs.Words.{has_effect, is_overdue, lease_deadline, live_before, overdue_for, stamp_of, tenth_up}
+use Rattle.std.proofs.Common.{ap, arith, length-append, refl, sym, ◌∙◌}
+use Rattle.std.proofs.lemmas.Grind.{common_steps}
+use Rattle.std.specs.List.{list_any}
+use Rattle.std.specs.Prelude.{Bool, List, None, Some, [], cond, drop, false, find, if◌then◌else◌, is_none, is_some, length, min, nat_lt, not, option_map, suc, true, unwrap_or, zero, ℕ, ◌&&◌, ◌+◌, ◌++◌, ◌∷◌, ◌≡◌, ◌≤◌}
+use Rattle.window_order.proofs.AnsweredTables.{answered_run}
+
+-- where none does, fewer do not
+find_fewer : {A : Type 0} (p q : A → Bool) (xs : List A) → ((x : A) → q x ≡ true → p x ≡ true) → find p xs ≡ None → find q xs ≡ None
+find_fewer p q [] fewer none = refl
+find_fewer p q (x ∷ xs) fewer none = by_first (p x) (q x) refl refl none (find_fewer p q xs fewer)
+  where
+    by_first : (a b : Bool) → p x ≡ a → q x ≡ b → cond a (Some x) (find p xs) ≡ None → (find p xs ≡ None → find q xs ≡ None) → cond (q x) (Some x) (find q xs) ≡ None
+    by_first true b e f none rest = absurd (cc)
+    by_first false true e f none rest = absurd (let both : true ≡ false = sym (fewer x f) ∙ e in cc)
+    by_first false false e f none rest = rw f (rest none)
+
+-- where no lease is overdue at a later moment none is so now
+pub overdue_later : (w : Setting) (n : Reading) (g : Grips) (r d m t : ℕ) → m ≤ t → overdue_for w n g r d t ≡ None → overdue_for w n g r d m ≡ None
+overdue_later w n g r d m t later none = find_fewer (is_overdue w n g r d t) (is_overdue w n g r d m) (live_before n r) (λ x overdue. grind (arith, common_steps)) none
+
+-- a device that goes out or comes home makes none
+pub calm_grips : (w : Setting) (n : Reading) (g h : Grips) (r d : ℕ) → NeverOverdue w n g r d → NeverOverdue w n h r d
+calm_grips w n g h r d calm m = overdue_without_grips w n h r d m ∙ sym (overdue_without_grips w n g r d m) ∙ calm m
+
+-- what a run's record tells of its lease on the device: no more than before
+record LendsLess (w : Setting) (d q : ℕ) (o p : OfRun) : Type 0 where
+  placed : p.placed ≡ o.placed
+  ended : p.ended ≡ o.ended
+  doomed : p.doomed ≡ o.doomed
+  planned : p.planned ≡ o.planned
+  pending : touches_from w.runs q d (length p.answers) ≡ true → touches_from w.runs q d (length o.answers) ≡ true
+
+-- the commands that are left after one more answer were left before
+left_before : {A : Type 0} (p : A → Bool) (xs : List A) (k : ℕ) → list_any p (drop (suc k) xs) ≡ true → list_any p (drop k xs) ≡ true
+left_before p [] zero some = some
+left_before p [] (suc k) some = some
+left_before p (x ∷ xs) zero some = grind (arith, common_steps)
+left_before p (x ∷ xs) (suc k) some = left_before p xs k some
+
+-- so an answer makes none
+pub calm_answered : (w : Setting) (n : Reading) (g : Grips) (x : RunNo) (k : ℕ) (a : Answer) (r d : ℕ) → NeverOverdue w n g r d → NeverOverdue w (entry w n (Did x k a)) g r d
+calm_answered w n g x k a r d calm m =
+    ap (find (is_overdue w u g r d m)) (live_same n u (before r n.line) (λ q i. is_some ((runs q).placed i) && is_none ((runs q).ended i)))
+    ∙ find_fewer (is_overdue w n g r d m) (is_overdue w u g r d m) (live_before n r) fewer (calm m)
+  where
+    u : Reading
+    u = entry w n (Did x k a)
+
+    runs : (q : ℕ) → LendsLess w d q (n.run q) (u.run q)
+    runs = put_all (λ q o. LendsLess w d q (n.run q) o) n.run x.0 (answered_run w n x.0 k a) (λ q. record { placed = refl; ended = refl; doomed = refl; planned = refl; pending = λ some. some })
+        (record { placed = refl; ended = refl; doomed = refl; planned = refl; pending = λ some. left_before (is_on d) (commands_of w.runs x.0) (length (n.run x.0).answers) (ap (touches_from w.runs x.0 d) (sym more) ∙ some) })
+      where
+        more : length ((n.run x.0).answers ++ a ∷ []) ≡ suc (length (n.run x.0).answers)
+        more = length-append (n.run x.0).answers (a ∷ []) ∙ omega (arith)
+
+    fewer : (q : ℕ) → is_overdue w u g r d m q ≡ true → is_overdue w n g r d m q ≡ true
+    fewer q overdue = by_parts (is_doomed n q) (nat_lt (stamp_of n r) (stamp_of n q)) (is_live n q) (pends w u q d) (pends w n q d) (nat_lt (lease_deadline w n q d) m) (touches w.runs q d && has_effect u g q d) (touches w.runs q d && has_effect n g q d) (same ∙ overdue) (runs q).pending
+      where
+        same : (not (is_doomed n q) && nat_lt (stamp_of n r) (stamp_of n q) && (is_live n q && (if is_doomed n q then touches w.runs q d && has_effect u g q d else pends w u q d)) && nat_lt (lease_deadline w n q d) m) ≡ is_overdue w u g r d m q
+        same = sym (λ i. not (is_some ((runs q).doomed i)) && nat_lt (stamp r i) (stamp q i) && ((is_some ((runs q).placed i) && is_none ((runs q).ended i)) && (if is_some ((runs q).doomed i) then touches w.runs q d && has_effect u g q d else pends w u q d)) && nat_lt (min (planned_end ((runs q).planned i) d + tenth_up (estimate_to_last d (commands_of w.runs q))) greatest) m)
+          where
+            stamp : (y : ℕ) → stamp_of u y ≡ stamp_of n y
+            stamp y = λ i. unwrap_or (option_map (λ p. p.stamp) ((runs y).placed i)) 0
+
+        by_parts : (doomed earlier live after' before' late a b : Bool) → (not doomed && earlier && (live && (if doomed then a else after')) && late) ≡ true → (after' ≡ true → before' ≡ true) → (not doomed && earlier && (live && (if doomed then b else before')) && late) ≡ true
+        by_parts true earlier live after' before' late a b all was = absurd (cc)
+        by_parts false earlier live after' before' late a b all was = let still : before' ≡ true = was (grind (arith, common_steps)) in grind (arith, common_steps)

@@ -1,0 +1,75 @@
+//! Where a run that has arrived is placed, or for what it waits.
+ghost use Rattle.std.specs.Prelude.{◌≡◌, IsTrue, false, length};
+ghost use Rattle.command_rules.specs.Rosters.{is_run};
+ghost use Rattle.history_book.specs.Settings.{is_weak};
+ghost use Rattle.hub_core.specs.Decisions.{told_choice};
+ghost use Rattle.hub_core.specs.OpenHubs.{configuration_of};
+ghost use Rattle.hub_core.specs.Steps.{decide_arrived, place_choice};
+ghost use Rattle.jit_scheduler.specs.Admissions.{IsToBePlaced};
+ghost use Rattle.lock_leasing.specs.Configurations.{read_of};
+ghost use Rattle.lock_leasing.specs.Places.{just_in_time, scheduled_place};
+
+use crate::decisions::Chosen;
+use crate::open_windows::OpenWindow;
+use crate::waits::Why;
+use device_states::Device;
+use fcfs_scheduler::place;
+use home_types::{RunNo, Scheduler};
+use jit_scheduler::{Admit, admit};
+use lock_leasing::Standing;
+
+impl<D: Device> OpenWindow<D> {
+    /// What the run `r` is to do at this moment, which arrived at that one, both in ms, and is not placed: it waits for the run
+    /// that it follows, and is then placed.
+    pub(crate) fn decide_arrived(&self, r: RunNo, arrived: u64, moment: u64) -> Chosen
+        requires run { IsTrue (is_run self.now.setting.runs r.0) }
+        requires turn { IsToBePlaced (read_of (configuration_of self.now)) r.0 arrived }
+        ensures { told_choice r.0 moment result ≡ decide_arrived self.now.setting (read_of (configuration_of self.now)) (configuration_of self.now).grips r.0 moment }
+    {
+        match self.history.awaited_leader(r) {
+            Some(leader) => Chosen::Waits(Why::Follow(leader)),
+            None => self.decide_place(r, arrived, moment),
+        }
+    }
+
+    /// Where the scheduler places the run `r`, or by which run it denies a device to it.
+    fn decide_place(&self, r: RunNo, arrived: u64, moment: u64) -> Chosen
+        requires run { IsTrue (is_run self.now.setting.runs r.0) }
+        requires turn { IsToBePlaced (read_of (configuration_of self.now)) r.0 arrived }
+        ensures { told_choice r.0 moment result ≡ place_choice r.0 moment (scheduled_place self.now.setting (read_of (configuration_of self.now)) (configuration_of self.now).grips r.0 moment) }
+    {
+        match self.history.scheduler() {
+            Scheduler::Fcfs => Chosen::Joins(self.end_of_line(r)),
+            Scheduler::JustInTime => self.admit_in_time(r, arrived, moment),
+            // No stage opens a window of this scheduler yet.
+            Scheduler::Timeline => unreachable!(),
+        }
+    }
+
+    /// Where the run `r` is placed just in time.
+    fn admit_in_time(&self, r: RunNo, arrived: u64, moment: u64) -> Chosen
+        requires strong { is_weak self.now.setting.mode ≡ false }
+        requires run { IsTrue (is_run self.now.setting.runs r.0) }
+        requires turn { IsToBePlaced (read_of (configuration_of self.now)) r.0 arrived }
+        ensures { told_choice r.0 moment result ≡ place_choice r.0 moment (just_in_time self.now.setting (read_of (configuration_of self.now)) (configuration_of self.now).grips r.0 moment) }
+    {
+        match admit(&self.standing(), r, arrived, moment) {
+            Admit::At(place) => Chosen::Joins(place),
+            Admit::Denied(d, x) => Chosen::Waits(Why::Denied(d, x)),
+            Admit::Patience => Chosen::Joins(self.end_of_line(r)),
+        }
+    }
+
+    /// The end of the line, where a run is placed that is served when it comes.
+    fn end_of_line(&self, r: RunNo) -> u32
+        ensures { result ≡ length (read_of (configuration_of self.now)).line }
+    {
+        let standing = Standing {
+            table: &self.order.table,
+            line: &self.order.line,
+            book: self.history.book(),
+            roster: self.history.indexed_roster(),
+        };
+        place(&standing, r)
+    }
+}
