@@ -77,11 +77,11 @@ words trial 01
 words "$(printf 'replay\377')"
 words replay "$(printf '\377')"
 
-call replay --scheduler jit
+call replay --scheduler timeline
 ends 8 'later top'
 words run twice
 words run --model wv --model wv
-call run --scheduler jit
+call run --scheduler timeline
 ends 8 'later top'
 
 call='replay of no standard input'

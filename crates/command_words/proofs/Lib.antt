@@ -1,3 +1,4 @@
 pub mod CommandLineLemmas
 pub mod OptionLemmas
+pub mod PairedModes
 pub mod TrialLemmas

@@ -1,5 +1,7 @@
 mod Snocs
 mod DaysUnderWay
+mod SoundScripts
+mod BuiltModes
 pub mod Openings
 mod PlayedWindows
 mod WorkedWays
@@ -7,5 +9,4 @@ mod NextWindows
 mod OverLimit
 mod Texts
 mod PlayedDays
-mod LaterScripts
 mod ProbedDays

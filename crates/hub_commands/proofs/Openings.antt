@@ -1,4 +1,4 @@
--- A window of a sound script without later forms may be opened, and the first one on a new home.
+-- A window of a sound script may be opened in a mode that is built.
 use Rattle.command_rules.specs.Rosters.{Run, commands_of, followed_by, run_at, runs_of}
 use Rattle.command_rules.specs.declared.rosters.Roster.{Roster}
 use Rattle.home_types.specs.Kinds.{kind_at}
@@ -8,19 +8,14 @@ use Rattle.home_types.specs.declared.commands.Job.{Job}
 use Rattle.home_types.specs.declared.kinds.Kind.{Kind}
 use Rattle.home_types.specs.declared.numbers.RunNo.{RunNo}
 use Rattle.home_types.specs.declared.modes.Mode.{Mode}
-use Rattle.home_types.specs.declared.modes.Scheduler.TheVariants.{Fcfs}
+use Rattle.home_types.specs.declared.modes.Scheduler.TheVariants.{Fcfs, JustInTime, Timeline}
 use Rattle.home_types.specs.declared.modes.Scheduler.{Scheduler}
-use Rattle.home_types.specs.declared.modes.Visibility.TheVariants.{Eventual, Global, Partitioned, Weak}
-use Rattle.home_types.specs.declared.modes.Visibility.{Visibility}
 use Rattle.hub_core.specs.Homes.{HomeIsKept, HomeState, setting_for}
-use Rattle.hub_core.specs.Openings.{MayOpen, is_fcfs, is_mode, names_values_of}
-use Rattle.hub_core.specs.Stage.{StageAllows}
+use Rattle.hub_core.specs.Openings.{MayOpen, is_mode, names_values_of}
+use Rattle.hub_core.specs.Stage.{StageAllows, is_timeline}
+use Rattle.hub_commands.proofs.SoundScripts.{routine_is_sound, window_is_sound}
 use Rattle.hub_commands.specs.Played.{setting_on}
-use Rattle.later_forms.proofs.BuiltModes.{goes_fcfs}
-use Rattle.later_forms.proofs.NoLaterForms.{no_follows}
-use Rattle.later_forms.proofs.SoundScripts.{routine_is_sound, window_is_sound}
-use Rattle.later_forms.specs.CommandLines.{is_later_mode}
-use Rattle.later_forms.specs.Scripts.{first_later}
+use Rattle.later_forms.specs.CommandLines.{is_later_mode, is_later_scheduler}
 use Rattle.routine_reader.proofs.RosterLemmas.{runs-there}
 use Rattle.routine_reader.specs.Rosters.{kinds_of, routine_at, run_of_text, script_runs}
 use Rattle.routine_reader.specs.Scripts.{plain_device, plain_script}
@@ -35,11 +30,12 @@ use Rattle.std.proofs.lemmas.Grind.{common_steps}
 use Rattle.std.proofs.lemmas.List.Elements.{All-get_or}
 use Rattle.std.proofs.lemmas.List.{length-map}
 use Rattle.std.proofs.lemmas.Option.{get_or_from_slice_get, slice_get_within}
-use Rattle.std.specs.Prelude.{Bool, IsTrue, List, None, Option, Some, [], false, nat_lt, option_and_then, option_map, slice_get, suc, true, unwrap_or, zero, ℕ, ◌&&◌, ◌<◌, ◌∷◌, ◌≡◌, ◌≤◌}
+use Rattle.std.specs.Prelude.{Bool, IfSome, IsTrue, List, None, Option, Some, [], false, nat_lt, option_and_then, option_map, slice_get, suc, true, unwrap_or, zero, ℕ, ◌&&◌, ◌<◌, ◌∷◌, ◌≡◌, ◌≤◌}
 
--- a run of the window is one of its text
-pub record IsRunOf (script : Script) (window : WindowText) (run : Run) : Type 0 where
+-- a run of the window is one of its text, which counts runs from 0
+pub record IsRunOf (script : Script) (window : WindowText) (r : ℕ) (run : Run) : Type 0 where
   pub place : ℕ
+  pub number : r ≡ suc place
   pub text : RunText
   pub at : slice_get window.runs.items place ≡ Some text
   pub is : run ≡ run_of_text script text
@@ -49,9 +45,9 @@ mapped_at f [] k y at = absurd (cc)
 mapped_at f (x ∷ xs) zero y at = (x, refl, cc)
 mapped_at f (x ∷ xs) (suc k) y at = mapped_at f xs k y at
 
-run_of : (script : Script) (window : WindowText) (r : ℕ) (run : Run) → run_at (map (run_of_text script) window.runs.items) r ≡ Some run → IsRunOf script window run
+run_of : (script : Script) (window : WindowText) (r : ℕ) (run : Run) → run_at (map (run_of_text script) window.runs.items) r ≡ Some run → IsRunOf script window r run
 run_of script window zero run at = absurd (cc)
-run_of script window (suc i) run at = let there = mapped_at (run_of_text script) window.runs.items i run at in record { place = i; text = there.0; at = there.1; is = there.2 }
+run_of script window (suc i) run at = let there = mapped_at (run_of_text script) window.runs.items i run at in record { place = i; number = refl; text = there.0; at = there.1; is = there.2 }
 
 -- a command of a run is one of a routine of the script
 pub record IsCommandOf (script : Script) (k : ℕ) (c : Command) : Type 0 where
@@ -104,36 +100,39 @@ names_as kind (Check v) is = is
 names_as kind Load is = is
 names_as kind Store is = is
 
+below : (m n : ℕ) → m < n → nat_lt m n ≡ true
+below m n is = grind (arith, common_steps)
+
 both : (a b : Bool) → a ≡ true → b ≡ true → (a && b) ≡ true
 both true b left right = right
 both false b left right = absurd (cc)
 
-no_follower : (script : Script) (k r : ℕ) (window : WindowText) → first_later script ≡ None → slice_get script.windows.items k ≡ Some window → followed_by (map (run_of_text script) window.runs.items) r ≡ None
-no_follower script k r window none at = by_run (run_at (map (run_of_text script) window.runs.items) r) refl
+-- a run follows an earlier one
+follows_earlier : (script : Script) (k r : ℕ) (window : WindowText) (f : RunNo) → IsSound (plain_script script) → slice_get script.windows.items k ≡ Some window
+    → followed_by (map (run_of_text script) window.runs.items) r ≡ Some f → (1 ≤ f.0) × (f.0 < r)
+follows_earlier script k r window f sound at follows = by_run (run_at (map (run_of_text script) window.runs.items) r) refl follows
   where
-    by_run : (o : Option Run) → run_at (map (run_of_text script) window.runs.items) r ≡ o → option_and_then (λ run. run.follows) o ≡ None
-    by_run None empty = refl
-    by_run (Some run) some = let is = run_of script window r run some in ap (λ q. q.follows) is.is ∙ no_follows script k is.place window is.text none at is.at
-
--- every model goes first come first served
-is_mode_fcfs : (model : Visibility) (scheduler : Scheduler) → scheduler ≡ Fcfs → IsTrue (is_mode (record { model = model; scheduler = scheduler }))
-is_mode_fcfs Weak scheduler is = ap is_fcfs is
-is_mode_fcfs Global scheduler is = ap is_fcfs is
-is_mode_fcfs Partitioned scheduler is = ap is_fcfs is
-is_mode_fcfs Eventual scheduler is = refl
+    by_run : (o : Option Run) → run_at (map (run_of_text script) window.runs.items) r ≡ o → option_and_then (λ run. run.follows) o ≡ Some f → (1 ≤ f.0) × (f.0 < r)
+    by_run None empty found = absurd (cc)
+    by_run (Some run) some found =
+        let is = run_of script window r run some in
+        let followed : is.text.follows ≡ Some f = ap (λ (q : Run). q.follows) (sym is.is) ∙ found in
+        let number = is.number in
+        let earlier = subst (λ o. IfSome o (λ (x : RunNo). (1 ≤ x.0) × (x.0 ≤ is.place))) followed ((window_is_sound script k window sound at).runs is.place is.text is.at).follows in
+        (earlier.0, omega (arith, number, earlier.1))
 
 pub may_open : {D : Type 0} (tag : D → ℕ) (stands turns probes faults : D → ℕ) (script : Script) (mode : Mode) (k : ℕ) (window : WindowText) (home : HomeState D)
-    → IsSound (plain_script script) → first_later script ≡ None → is_later_mode mode ≡ false → slice_get script.windows.items k ≡ Some window → HomeIsKept tag stands turns probes faults home
+    → IsSound (plain_script script) → IsTrue (is_mode mode) → slice_get script.windows.items k ≡ Some window → HomeIsKept tag stands turns probes faults home
     → home.kinds ≡ kinds_of script → home.opened ≤ 288 → MayOpen (setting_on script mode k home) window.probes home.opened
-may_open tag stands turns probes faults script mode k window home sound none built at kept kinds opened =
+may_open tag stands turns probes faults script mode k window home sound goes at kept kinds opened =
     rw (sym (runs-there script k window at)) (record {
       few_devices = kept.few;
       few_runs = let n = length-map window.runs.items (run_of_text script) in omega (arith, n, (window_is_sound script k window sound at).few_runs);
       few_commands = λ r. few_commands_of script window r sound;
       homed = λ r j c c_at. let is = command_is_sound script j c sound (command_of script window r j c c_at) in
           both (nat_lt c.device.0 (length home.world)) _ (within c.device.0 is.device) (names_as (kind_at home.kinds c.device.0) c.job (ap (λ ks. suits (kind_at ks c.device.0) c.job) (kinds ∙ sym (same_kinds script.devices.items)) ∙ is.value));
-      follows = λ r f is. absurd (follows_not r f is);
-      mode = is_mode_fcfs mode.model mode.scheduler (goes_fcfs mode built);
+      follows = λ r f is. let earlier = follows_earlier script k r window f sound at is in both (nat_lt 0 f.0) (nat_lt f.0 r) (below 0 f.0 earlier.0) (below f.0 r earlier.1);
+      mode = goes;
       few_rounds = (window_is_sound script k window sound at).probes;
       few_windows = omega (arith, opened);
     })
@@ -143,20 +142,15 @@ may_open tag stands turns probes faults script mode k window home sound none bui
         let a = length-map script.devices.items plain_device in
         let b = ap (λ ks. length ks) kinds in
         let e = length-map script.devices.items (λ d. d.kind) in
-        let f : d < length home.world = omega (arith, inside, a, b, e, kept.kinds) in
-        grind (arith, common_steps)
+        below d (length home.world) (omega (arith, inside, a, b, e, kept.kinds))
 
-    follows_not : (r : ℕ) (f : RunNo) → followed_by (map (run_of_text script) window.runs.items) r ≡ Some f → ⊥
-    follows_not r f is = let no = no_follower script k r window none at in cc
-
-pub stage_allows : {D : Type 0} (script : Script) (mode : Mode) (k : ℕ) (window : WindowText) (home : HomeState D)
-    → first_later script ≡ None → is_later_mode mode ≡ false → slice_get script.windows.items k ≡ Some window
-    → StageAllows (setting_on script mode k home) window.probes
-stage_allows script mode k window home none built at =
-    rw (sym (runs-there script k window at)) (record {
-      scheduler = goes_fcfs mode built;
-      follows_none = λ r. no_follower script k r window none at;
-    })
+pub stage_allows : {D : Type 0} (script : Script) (mode : Mode) (k : ℕ) (home : HomeState D) → is_later_mode mode ≡ false → StageAllows (setting_on script mode k home)
+stage_allows script mode k home built = by_scheduler mode.scheduler built
+  where
+    by_scheduler : (scheduler : Scheduler) → is_later_scheduler scheduler ≡ false → is_timeline scheduler ≡ false
+    by_scheduler Fcfs is = refl
+    by_scheduler JustInTime is = refl
+    by_scheduler Timeline is = absurd (cc)
 
 -- the window's setting, with the roster of its runs
 pub setting_as : {D : Type 0} (script : Script) (k : ℕ) (home : HomeState D) (roster : Roster) (mode : Mode) → runs_of roster ≡ script_runs script k → setting_for home roster mode ≡ setting_on script mode k home

@@ -36,7 +36,7 @@ said : {M : Type 0} (piece : Result (List ℕ) M) (text bytes : List ℕ) → If
 said {M} piece text bytes ok is = subst (λ (r : Result (List ℕ) M). IfOk r (λ b. b ≡ text)) is ok
 
 -- what is not written is kept
-pub keeps_same : (held : Option (List ℕ)) → Keeps held held
+keeps_same : (held : Option (List ℕ)) → Keeps held held
 keeps_same None = tt
 keeps_same (Some bytes) = refl
 

@@ -15,7 +15,6 @@ use Rattle.hub_commands.specs.declared.faults.Fault.TheVariants.{Check, Later, M
 use Rattle.hub_commands.specs.declared.faults.Fault.{Fault}
 use Rattle.hub_commands.specs.declared.finishes.Day.{Day}
 use Rattle.later_forms.specs.CommandLines.{is_later, is_later_mode}
-use Rattle.later_forms.specs.Scripts.{first_later}
 use Rattle.routine_reader.specs.Readings.{script_reading}
 use Rattle.routine_reader.specs.Scripts.{plain_script}
 use Rattle.routine_reader.specs.Spots.{is_memory, top}
@@ -121,7 +120,7 @@ pub record Shown (D : Type 0) : Type 0 where
 abbrev pub shown_by : {D : Type 0} → (D → ℕ) → (D → Option (List (ℕ × ℕ))) → (D → ℕ) → (D → ℕ) → (D → ℕ) → (D → ℕ) → Shown D
 shown_by tag plan stands turns probes faults = record { tag = tag; plan = plan; stands = stands; turns = turns; probes = probes; faults = faults }
 
--- the day that is handed back is whole and legal in the mode of the words, each of its windows was worked in this way, in each every run has ended, and where no device fails each that has no must `check` has committed, and the sink got its text;
+-- the day that is handed back is whole and legal in the mode of the words, each of its windows was worked in this way, in each every run has ended, and where runs are served as they come and no device fails each that has no must `check` has committed, and the sink got its text;
 -- outside the weak model the printed order of each window holds each committed run once, and the answers and the last state are those of its serial execution; under it no order is claimed; at the day's end each device that is up stands so
 pub record IsWhole {D : Type 0} (works : Setting → WindowText → WindowRecord → (ℕ → ℕ) → Type 0) (shown : Shown D) (script : Script) (options : Options) (sink : Writes) (o : Option (Day D)) : Type 0 where
   pub day : Day D
@@ -160,14 +159,6 @@ pub record IsStarved {D : Type 0} (works : Setting → WindowText → WindowReco
   pub as_closed : IsWrittenAsClosed script options sink day.windows.items
   pub calm : sink.faults_after ≡ sink.faults
 
--- the script was read, and no window of it was played
-pub record IsUnplayed {D : Type 0} (sink : Writes) (o : Option (Day D)) : Type 0 where
-  pub day : Day D
-  pub given : o ≡ Some day
-  pub no_windows : day.windows.items ≡ []
-  pub no_devices : day.devices ≡ None
-  pub keeps : IsUnwritten sink
-
 -- how the day of a script ends
 abbrev pub DayEnds : {D : Type 0} → (Setting → WindowText → WindowRecord → (ℕ → ℕ) → Type 0) → Shown D → Script → Options → Writes → Option (Day D) → Option Fault → Type 0
 DayEnds works shown script options sink day None = IsWhole works shown script options sink day
@@ -183,13 +174,12 @@ DayEnds works shown script options sink day (Some (Check window place name)) = �
 abbrev pub AsksFor : Option CommandLine → Options → Type 0
 AsksFor line options = ((line ≡ Some (Replay options)) ⊎ (line ≡ Some (Run options))) × (is_later_mode options.mode ≡ false)
 
--- the day of the script that was read is played: it has no form that is not built
+-- the day of the script that was read is played
 pub record DayIsPlayed {D : Type 0} (works : Setting → WindowText → WindowRecord → (ℕ → ℕ) → Type 0) (shown : Shown D) (line : Option CommandLine) (source : Reads) (sink : Writes) (day : Option (Day D)) (fault : Option Fault) : Type 0 where
   pub options : Options
   pub asked : AsksFor line options
   pub script : Script
   pub read : IsRead source script
-  pub built : first_later script ≡ None
   pub ends : DayEnds works shown script options sink day fault
 
 -- the command or its mode is not built, and nothing was read
@@ -201,15 +191,6 @@ pub record CommandIsLater {D : Type 0} (line : Option CommandLine) (spot : Spot)
   pub unread : IsUnread source
   pub no_day : day ≡ None
   pub unwritten : IsUnwritten sink
-
--- the script has a form that is not built, and this is the first
-pub record ScriptIsLater {D : Type 0} (line : Option CommandLine) (spot : Spot) (source : Reads) (sink : Writes) (day : Option (Day D)) : Type 0 where
-  pub options : Options
-  pub asked : AsksFor line options
-  pub script : Script
-  pub read : IsRead source script
-  pub first : first_later script ≡ Some spot
-  pub unplayed : IsUnplayed sink day
 
 -- the call ended before the script was read
 pub record EndsBefore {D : Type 0} (line : Option CommandLine) (sink : Writes) (day : Option (Day D)) : Type 0 where
@@ -226,7 +207,7 @@ CallEnds works shown line source sink day (Some Words) = (line ≡ None) × IsUn
 CallEnds works shown line source sink day (Some Read) = EndsBefore line sink day × InputFails source
 CallEnds works shown line source sink day (Some Write) = DayIsPlayed works shown line source sink day (Some Write)
 CallEnds works shown line source sink day (Some Memory) = ((day ≡ None) × IsUnwritten sink × InputIsStarved source) ⊎ DayIsPlayed works shown line source sink day (Some Memory)
-CallEnds works shown line source sink day (Some (Later spot)) = CommandIsLater line spot source sink day ⊎ ScriptIsLater line spot source sink day
+CallEnds works shown line source sink day (Some (Later spot)) = CommandIsLater line spot source sink day
 CallEnds works shown line source sink day (Some (Check window place name)) = ⊥
 
 -- a whole day was handed back, and each of its devices was probed as often as the windows of the script say together; the script is the one that was read, where the source tells its bytes. Where it does not, the same follows of the script of CallEnds, from the probes of each window

@@ -18,7 +18,7 @@ pub enum Fault {
     Write,
     /// Want of memory.
     Memory,
-    /// The command, its mode, or a form of the script is not built yet: the first one, at this place.
+    /// The command or its mode is not built yet: the place is the top.
     Later(Spot),
     /// The record does not agree with the serial execution of its orders.
     Check {

@@ -1,9 +1,9 @@
-ghost use Rattle.std.specs.Prelude.{◌≡◌, ◌<◌, ◌≤◌, ◌++◌, ◌∷◌, [], None, IfErr, IfOk, false, length};
+ghost use Rattle.std.specs.Prelude.{◌≡◌, ◌<◌, ◌≤◌, ◌++◌, ◌∷◌, [], IfErr, IfOk, IsTrue, false, length};
 ghost use Rattle.home_types.specs.Limits.{most_windows};
 ghost use Rattle.hub_commands.specs.Played.{NextIsOpened};
 ghost use Rattle.hub_core.specs.Homes.{HomeIsKept};
+ghost use Rattle.hub_core.specs.Openings.{is_mode};
 ghost use Rattle.later_forms.specs.CommandLines.{is_later_mode};
-ghost use Rattle.later_forms.specs.Scripts.{first_later};
 ghost use Rattle.routine_reader.specs.Rosters.{kinds_of};
 ghost use Rattle.routine_reader.specs.Scripts.{plain_script};
 ghost use Rattle.routine_reader.specs.Sound.{IsSound};
@@ -32,8 +32,8 @@ pub fn open_next<Dev: Device>(
     day: DayUnderWay<Dev>,
 ) -> Result<(Hub<Dev>, List<WindowRecord>), List<WindowRecord>>
     requires sound { IsSound (plain_script script.now) }
-    requires built { first_later script.now ≡ None }
     requires mode { is_later_mode mode ≡ false }
+    requires goes { IsTrue (is_mode mode) }
     requires next { length day.windows.items < length script.now.windows.items }
     requires kinds { day.home.kinds ≡ kinds_of script.now }
     requires few { day.home.opened ≤ most_windows }
@@ -62,8 +62,8 @@ fn open_window<Dev: Device>(
     home: Home<Dev>,
 ) -> Result<Hub<Dev>, NoMemory>
     requires sound { IsSound (plain_script script.now) }
-    requires built { first_later script.now ≡ None }
     requires mode { is_later_mode mode ≡ false }
+    requires goes { IsTrue (is_mode mode) }
     requires there { number < length script.now.windows.items }
     requires kinds { home.kinds ≡ kinds_of script.now }
     requires few { home.opened ≤ most_windows }

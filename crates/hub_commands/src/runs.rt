@@ -1,4 +1,4 @@
-ghost use Rattle.std.specs.Prelude.{◌≡◌, ◌<◌, Err, IfErr, IfOk, None, Some, false, length, map, string_bytes};
+ghost use Rattle.std.specs.Prelude.{◌≡◌, ◌<◌, Err, IfErr, IfOk, IsTrue, None, Some, false, length, map, string_bytes};
 ghost use Rattle.hub_commands.specs.CommandsTaken.{run_line_of};
 ghost use Rattle.hub_commands.specs.Days.{IsUnderWay};
 ghost use Rattle.hub_commands.specs.Finishes.{CallEnds, DayEnds, IsProbedInAll, read_off, shown_by, written};
@@ -6,13 +6,13 @@ ghost use Rattle.hub_commands.specs.Played.{HasGoneOn, IsWorkedAs};
 ghost use Rattle.hub_commands.specs.Statuses.{status_of};
 ghost use Rattle.hub_commands.specs.Ways.{IsRunWithin};
 ghost use Rattle.hub_core.specs.OpenHubs.{configuration_of};
+ghost use Rattle.hub_core.specs.Openings.{is_mode};
 ghost use Rattle.hub_core.specs.Steps.{opened};
 ghost use Rattle.later_forms.specs.CommandLines.{is_later_mode};
-ghost use Rattle.later_forms.specs.Scripts.{first_later as first_later_of};
 ghost use Rattle.routine_reader.specs.Scripts.{plain_script};
 ghost use Rattle.routine_reader.specs.Sound.{IsSound};
 
-use crate::days::{begin, end, end_without_devices, go_on, refuse};
+use crate::days::{begin, end, go_on, refuse};
 use crate::faults::Fault;
 use crate::finishes::Finish;
 use crate::inputs::read_input;
@@ -25,7 +25,7 @@ use history_book::WindowRecord;
 use home_types::{List, Mode, NoMemory};
 use hub_core::{Home, Hub};
 use hub_threads::run_window;
-use later_forms::{first_later, is_later};
+use later_forms::is_later;
 use routine_reader::{Script, Spot, WindowText};
 use std::alloc::Global;
 use std::sync::Wait;
@@ -61,8 +61,8 @@ fn run_next<R: Threads + Wait + Sync, D: Device + Send, C: Clock + Sync>(
     clock: &C,
 ) -> Result<DayUnderWay<D>, List<WindowRecord>>
     requires sound { IsSound (plain_script script.now) }
-    requires built { first_later_of script.now ≡ None }
     requires mode { is_later_mode mode ≡ false }
+    requires goes { IsTrue (is_mode mode) }
     requires next { length day.windows.items < length script.now.windows.items }
     requires under_way { IsUnderWay (IsRunWithin (C.latest clock.now)) D.tag D.plan D.stands D.turns D.probes D.faults script.now mode day.home day.windows.items }
     ensures played { IfOk result (λ next. HasGoneOn (IsRunWithin (C.latest clock.now)) D.tag D.plan D.stands D.turns D.probes D.faults script.now mode day.windows.items next.home next.windows.items) }
@@ -94,8 +94,8 @@ fn run_day<R: Threads + Wait + Sync, K: Sink, B: Bench, C: Clock + Sync>(
 where
     B::Dev: Send,
     requires sound { IsSound (plain_script script.now) }
-    requires built { first_later_of script.now ≡ None }
     requires mode { is_later_mode options.mode ≡ false }
+    requires goes { IsTrue (is_mode options.mode) }
     ensures status { result.status ≡ status_of result.fault }
     ensures ends { DayEnds (IsRunWithin (C.latest clock.now))
         (shown_by B.Dev.tag B.Dev.plan B.Dev.stands B.Dev.turns B.Dev.probes B.Dev.faults)
@@ -174,8 +174,5 @@ where
         Ok(script) => script,
         Err(fault) => return refuse(fault),
     };
-    match first_later(&script) {
-        Some(spot) => end_without_devices(List::new(alloc), Fault::Later(spot)),
-        None => run_day(rt, alloc, &script, options, sink, bench, clock),
-    }
+    run_day(rt, alloc, &script, options, sink, bench, clock)
 }

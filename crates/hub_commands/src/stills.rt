@@ -1,4 +1,4 @@
-ghost use Rattle.std.specs.Prelude.{◌≡◌, ◌<◌, Err, IfErr, IfOk, None, Some, false, length, map, string_bytes};
+ghost use Rattle.std.specs.Prelude.{◌≡◌, ◌<◌, Err, IfErr, IfOk, IsTrue, None, Some, false, length, map, string_bytes};
 ghost use Rattle.hub_commands.specs.CommandsTaken.{still_line_of};
 ghost use Rattle.hub_commands.specs.Days.{IsUnderWay};
 ghost use Rattle.hub_commands.specs.Finishes.{CallEnds, DayEnds, read_off, shown_by, written};
@@ -6,13 +6,13 @@ ghost use Rattle.hub_commands.specs.Played.{HasGoneOn, IsWorkedAs};
 ghost use Rattle.hub_commands.specs.Statuses.{status_of};
 ghost use Rattle.hub_commands.specs.Ways.{IsReplayOf};
 ghost use Rattle.hub_core.specs.OpenHubs.{configuration_of};
+ghost use Rattle.hub_core.specs.Openings.{is_mode};
 ghost use Rattle.hub_core.specs.Steps.{opened};
 ghost use Rattle.later_forms.specs.CommandLines.{is_later_mode};
-ghost use Rattle.later_forms.specs.Scripts.{first_later as first_later_of};
 ghost use Rattle.routine_reader.specs.Scripts.{plain_script};
 ghost use Rattle.routine_reader.specs.Sound.{IsSound};
 
-use crate::days::{begin, end, end_without_devices, go_on, refuse};
+use crate::days::{begin, end, go_on, refuse};
 use crate::faults::Fault;
 use crate::finishes::Finish;
 use crate::inputs::read_input;
@@ -24,7 +24,7 @@ use device_states::{Bench, Device};
 use history_book::WindowRecord;
 use home_types::{List, Mode, NoMemory};
 use hub_core::{Home, Hub};
-use later_forms::{first_later, is_later};
+use later_forms::is_later;
 use routine_reader::{Script, Spot, WindowText};
 use run_replay::replay_window;
 use std::alloc::Global;
@@ -56,8 +56,8 @@ fn replay_next<D: Device>(
     day: DayUnderWay<D>,
 ) -> Result<DayUnderWay<D>, List<WindowRecord>>
     requires sound { IsSound (plain_script script.now) }
-    requires built { first_later_of script.now ≡ None }
     requires mode { is_later_mode mode ≡ false }
+    requires goes { IsTrue (is_mode mode) }
     requires next { length day.windows.items < length script.now.windows.items }
     requires under_way { IsUnderWay IsReplayOf D.tag D.plan D.stands D.turns D.probes D.faults script.now mode day.home day.windows.items }
     ensures played { IfOk result (λ next. HasGoneOn IsReplayOf D.tag D.plan D.stands D.turns D.probes D.faults script.now mode day.windows.items next.home next.windows.items) }
@@ -85,8 +85,8 @@ fn replay_day<K: Sink, B: Bench>(
     bench: &mut B,
 ) -> Finish<B::Dev>
     requires sound { IsSound (plain_script script.now) }
-    requires built { first_later_of script.now ≡ None }
     requires mode { is_later_mode options.mode ≡ false }
+    requires goes { IsTrue (is_mode options.mode) }
     ensures status { result.status ≡ status_of result.fault }
     ensures ends { DayEnds IsReplayOf
         (shown_by B.Dev.tag B.Dev.plan B.Dev.stands B.Dev.turns B.Dev.probes B.Dev.faults)
@@ -159,8 +159,5 @@ pub fn still_command<S: Source, K: Sink, B: Bench>(
         Ok(script) => script,
         Err(fault) => return refuse(fault),
     };
-    match first_later(&script) {
-        Some(spot) => end_without_devices(List::new(alloc), Fault::Later(spot)),
-        None => replay_day(alloc, &script, options, sink, bench),
-    }
+    replay_day(alloc, &script, options, sink, bench)
 }

@@ -1,8 +1,7 @@
 //! Windows with a known end, whoever steps their runs, and a worker over a fake of what lies under the lock.
-ghost use Rattle.std.specs.Prelude.{◌≡◌, IfSome, is_some};
+ghost use Rattle.std.specs.Prelude.{◌≡◌, IfSome};
 ghost use Rattle.hub_core.specs.OpenHubs.{configuration_of};
 ghost use Rattle.hub_core.specs.Steps.{opened};
-ghost use Rattle.std.specs.List.{list_any};
 ghost use Rattle.routine_reader.specs.Scripts.{plain_script};
 ghost use Rattle.routine_reader.specs.Sound.{IsSound};
 
@@ -14,7 +13,7 @@ use device_states::{CalmBench, CalmDevice, Device};
 use history_book::{End, Entry, Kept, WindowRecord};
 use home_types::{Item, List, Mode, Scheduler, Visibility};
 use hub_core::{Home, Hub};
-use routine_reader::{RunText, Script, read_script, roster};
+use routine_reader::{Script, read_script, roster};
 use std::alloc::Global;
 use std::sync::Wait;
 use std::thread::Threads;
@@ -112,20 +111,10 @@ fn open_first(alloc: Global, script: &Script) -> Option<Hub<CalmDevice>>
     requires sound { IsSound (plain_script script.now) }
 {
     let window = script.windows.get(0)?;
-    if has_follower(window.runs.as_slice()) {
-        return None;
-    }
     let roster = roster(alloc, script, 0).ok()?;
     let home = Home::build(alloc, &mut CalmBench, script).ok()?;
     home.kept();
     home.open_window(alloc, roster, MODE, window.probes).ok()
-}
-
-/// Whether one of the runs follows another.
-fn has_follower(runs: &[RunText]) -> bool
-    ensures { result ≡ list_any (λ run. is_some run.follows) runs.now }
-{
-    runs.iter().any(|run| run.follows.is_some())
 }
 
 /// Whether every run committed, the order has all of them, the lamp stands as the last of them leaves it, and each

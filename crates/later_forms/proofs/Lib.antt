@@ -1,4 +1,0 @@
-pub mod SoundScripts
-pub mod Searches
-pub mod NoLaterForms
-pub mod BuiltModes

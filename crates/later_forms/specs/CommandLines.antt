@@ -6,10 +6,10 @@ use Rattle.home_types.specs.declared.modes.Scheduler.TheVariants.{Fcfs, JustInTi
 use Rattle.home_types.specs.declared.modes.Scheduler.{Scheduler}
 use Rattle.std.specs.Prelude.{Bool, false, true}
 
--- every scheduler but first come first served
+-- the timeline alone
 abbrev pub is_later_scheduler : Scheduler → Bool
 is_later_scheduler Fcfs = false
-is_later_scheduler JustInTime = true
+is_later_scheduler JustInTime = false
 is_later_scheduler Timeline = true
 
 abbrev pub is_later_mode : Mode → Bool

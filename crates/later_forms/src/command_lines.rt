@@ -14,12 +14,12 @@ pub fn is_later(line: CommandLine) -> bool
     }
 }
 
-/// Whether the mode has another scheduler than first come first served.
+/// Whether the mode has the timeline scheduler.
 fn is_later_mode(mode: Mode) -> bool
     ensures { result ≡ is_later_with mode }
 {
     match mode.scheduler {
-        Scheduler::JustInTime | Scheduler::Timeline => true,
-        Scheduler::Fcfs => false,
+        Scheduler::Timeline => true,
+        Scheduler::Fcfs | Scheduler::JustInTime => false,
     }
 }

@@ -1,5 +1,4 @@
-ghost use Rattle.std.specs.Prelude.{◌≡◌, ◌<◌, is_some};
-ghost use Rattle.std.specs.List.{list_any};
+ghost use Rattle.std.specs.Prelude.{◌<◌};
 ghost use Rattle.routine_reader.specs.Scripts.{plain_script};
 ghost use Rattle.routine_reader.specs.Sound.{IsSound};
 
@@ -7,7 +6,7 @@ use crate::radio_devices::{RadioBench, RadioDevice};
 use device_states::Device;
 use home_types::{DeviceNo, Mode, RunNo, Scheduler, Visibility};
 use hub_core::{Home, Hub, Turn};
-use routine_reader::{RunText, Script, roster};
+use routine_reader::{Script, roster};
 use std::alloc::Global;
 
 /// How the window is opened.
@@ -22,26 +21,15 @@ const MOST_TURNS: u64 = 64;
 /// The turn, from 0, in which every device is probed.
 const PROBING_TURN: u64 = 5;
 
-/// Opens the script's first window on a new home of radio devices. None where there is no window or no memory, and
-/// where a run follows another, which is not built yet.
+/// Opens the script's first window on a new home of radio devices. None where there is no window or no memory.
 pub fn open_first(alloc: Global, script: &Script) -> Option<Hub<RadioDevice>>
     requires sound { IsSound (plain_script script.now) }
 {
     let window = script.windows.get(0)?;
-    if has_follower(window.runs.as_slice()) {
-        return None;
-    }
     let roster = roster(alloc, script, 0).ok()?;
     let home = Home::build(alloc, &mut RadioBench, script).ok()?;
     home.kept();
     home.open_window(alloc, roster, MODE, window.probes).ok()
-}
-
-/// Whether one of the runs follows another.
-fn has_follower(runs: &[RunText]) -> bool
-    ensures { result ≡ list_any (λ run. is_some run.follows) runs.now }
-{
-    runs.iter().any(|run| run.follows.is_some())
 }
 
 /// Steps each run, turn after turn, 1 ms each, until nothing is left to do. In one turn every device is probed.

@@ -12,14 +12,12 @@ open_window-requires-clause-may g c =
     let window = c.index-as_slice-number.result in
     let at = window-there c.args.script.now c.args.number c.as_slice.result.now window c.requires.there c.as_slice.ensures c.index-as_slice-number.is in
     subst (λ w. MayOpen w window.probes c.args.home.opened) (sym (setting_as c.args.script.now c.args.number c.args.home c.in_ok-roster.roster c.args.mode c.in_ok-roster.ensures))
-    (may_open D.tag D.stands D.turns D.probes D.faults c.args.script.now c.args.mode c.args.number window c.args.home c.requires.sound c.requires.built c.requires.mode at c.kept.ensures c.requires.kinds c.requires.few)
+    (may_open D.tag D.stands D.turns D.probes D.faults c.args.script.now c.args.mode c.args.number window c.args.home c.requires.sound c.requires.goes at c.kept.ensures c.requires.kinds c.requires.few)
 
 pub open_window-requires-clause-stage : goal.open_window-requires-clause-stage
 open_window-requires-clause-stage g c =
-    let window = c.index-as_slice-number.result in
-    let at = window-there c.args.script.now c.args.number c.as_slice.result.now window c.requires.there c.as_slice.ensures c.index-as_slice-number.is in
-    subst (λ w. StageAllows w window.probes) (sym (setting_as c.args.script.now c.args.number c.args.home c.in_ok-roster.roster c.args.mode c.in_ok-roster.ensures))
-    (stage_allows c.args.script.now c.args.mode c.args.number window c.args.home c.requires.built c.requires.mode at)
+    subst StageAllows (sym (setting_as c.args.script.now c.args.number c.args.home c.in_ok-roster.roster c.args.mode c.in_ok-roster.ensures))
+    (stage_allows c.args.script.now c.args.mode c.args.number c.args.home c.requires.mode)
 
 pub returns-in-Ok : goal.returns-in-Ok
 returns-in-Ok g c =

@@ -1,19 +1,10 @@
-use Rattle.hub_commands.proofs.LaterScripts.{later_script}
+use Rattle.command_words.specs.declared.command_lines.CommandLine.TheVariants.{Replay}
+use Rattle.hub_commands.proofs.BuiltModes.{still_goes}
 use Rattle.hub_commands.proofs.stills.still_command.Goals as goal
 use Rattle.hub_commands.specs.CommandsTaken.{still_line_of}
-use Rattle.hub_commands.specs.Finishes.{read_off, shown_by}
-use Rattle.hub_commands.specs.Ways.{IsReplayOf}
-use Rattle.std.proofs.Common.{map, rules, string_bytes}
+use Rattle.std.proofs.Common.{Some, map, rules, string_bytes, ◌≡◌}
 
-pub returns-in-Some-clause-ends : goal.returns-in-Some-clause-ends
-returns-in-Some-clause-ends g c =
-    let D = g.B.Dev.Device in
-    let K = g.K.Sink in
-    let S = g.S.Source in
-    later_script IsReplayOf (shown_by D.tag D.plan D.stands D.turns D.probes D.faults) (still_line_of (map string_bytes c.args.words.now)) c.in-Ok.line
-    c.in-Ok-read_input.script c.in-Some.spot
-    (read_off (S.left c.args.source.now) (S.left c.read_input.new.source) (S.faults c.args.source.now) (S.faults c.read_input.new.source))
-    (K.holds c.args.sink.now) (K.faults c.args.sink.now)
-    c.new.result c.end_without_devices.result.day c.end_without_devices.result.fault
-    c.in-Ok.ensures.meaning (search rules) c.in-Ok-read_input.ensures.read (search rules) c.new.ensures.empty
-    c.end_without_devices.ensures.day c.end_without_devices.ensures.fault
+pub replay_day-requires-clause-goes : goal.replay_day-requires-clause-goes
+replay_day-requires-clause-goes g c =
+    let given : still_line_of (map string_bytes c.args.words.now) ≡ Some (Replay c.in-Replay-false.options) = search rules in
+    still_goes (map string_bytes c.args.words.now) c.in-Replay-false.options given

@@ -1,10 +1,9 @@
 use Rattle.command_rules.specs.Rosters.{runs_of}
-use Rattle.hub_core.proofs.FirstWindows.{may_open, stage_allows}
+use Rattle.hub_core.proofs.FirstWindows.{may_open}
 use Rattle.hub_threads.proofs.tests.open_first.Goals as goal
 use Rattle.routine_reader.specs.Rosters.{kinds_of, script_runs}
 use Rattle.std.proofs.Common.{rules, ◌≡◌}
-use Rattle.std.specs.List.{list_any}
-use Rattle.std.specs.Prelude.{Some, false, is_some, slice_get}
+use Rattle.std.specs.Prelude.{Some, slice_get}
 
 pub open_window-requires-clause-may : goal.open_window-requires-clause-may
 open_window-requires-clause-may c =
@@ -12,18 +11,8 @@ open_window-requires-clause-may c =
     let window = c.in_ok-window.window.now in
     let home = c.in_ok-home.home in
     let at : slice_get script.windows.items 0 ≡ Some window = search rules in
-    let alone : list_any (λ run. is_some run.follows) window.runs.items ≡ false = search rules in
     let runs : runs_of c.in_ok-roster.roster ≡ script_runs script 0 = search rules in
     let kinds : home.kinds ≡ kinds_of script = search rules in
     let opened : home.opened ≡ 0 = search rules in
     may_open _ _ _ _ _ script window home c.in_ok-roster.roster
-    (record { sound = c.requires.sound; at = at; alone = alone; runs = runs; kept = c.kept.ensures; kinds = kinds; opened = opened })
-
-pub open_window-requires-clause-stage : goal.open_window-requires-clause-stage
-open_window-requires-clause-stage c =
-    let script = c.args.script.now in
-    let window = c.in_ok-window.window.now in
-    let at : slice_get script.windows.items 0 ≡ Some window = search rules in
-    let alone : list_any (λ run. is_some run.follows) window.runs.items ≡ false = search rules in
-    let runs : runs_of c.in_ok-roster.roster ≡ script_runs script 0 = search rules in
-    stage_allows script window c.in_ok-home.home c.in_ok-roster.roster runs at alone
+    (record { sound = c.requires.sound; at = at; runs = runs; kept = c.kept.ensures; kinds = kinds; opened = opened })
