@@ -15,14 +15,11 @@ open_window-requires-clause-may c =
     let at = window-there script 0 c.as_slice.result.now window c.requires.there c.as_slice.ensures c.index-as_slice-0.is in
     let few : home.opened ≤ 288 = omega (arith, c.in-Ok-build.ensures.opened) in
     subst (λ w. MayOpen w window.probes home.opened) (sym (setting_as script 0 home c.in-Ok.roster mode c.in-Ok.ensures))
-    (may_open _ _ _ _ _ script mode 0 window home c.requires.sound c.requires.built c.requires.mode at c.kept.ensures c.in-Ok-build.ensures.kinds few)
+    (may_open _ _ _ _ _ script mode 0 window home c.requires.sound c.requires.goes at c.kept.ensures c.in-Ok-build.ensures.kinds few)
 
 pub open_window-requires-clause-stage : goal.open_window-requires-clause-stage
 open_window-requires-clause-stage c =
     let script = c.args.script.now in
     let mode = c.args.mode in
     let home = c.in-Ok-build.home in
-    let window = c.index-as_slice-0.result in
-    let at = window-there script 0 c.as_slice.result.now window c.requires.there c.as_slice.ensures c.index-as_slice-0.is in
-    subst (λ w. StageAllows w window.probes) (sym (setting_as script 0 home c.in-Ok.roster mode c.in-Ok.ensures))
-    (stage_allows script mode 0 window home c.requires.built c.requires.mode at)
+    subst StageAllows (sym (setting_as script 0 home c.in-Ok.roster mode c.in-Ok.ensures)) (stage_allows script mode 0 home c.requires.mode)
