@@ -1,13 +1,15 @@
 #!/usr/bin/env python3
 """Writes the script of a dense day of must `set` commands on standard output.
 
-    dense_day.py [WINDOWS [RUNS [COMMANDS [DEVICES [OWN [ROUNDS [ABORTED]]]]]]]
+    dense_day.py [WINDOWS [RUNS [COMMANDS [DEVICES [OWN [ROUNDS [ABORTED [LATE]]]]]]]]
 
 By default 288 windows of 64 runs of 64 commands each, on 256 devices. With OWN each routine keeps to so many devices of
 its own, which are drawn first; without it, or with 0, each command is on any device. With ROUNDS each device fails
 in two neighbouring calls, drawn, of each 256 up to its 4,096th, and is probed in so many rounds in each window. With
 ABORTED the last command of each routine whose number divides by it is a `check` for a value that is never set, so that
-its runs are aborted and undone. The day is always the same: what is drawn comes from a generator with a fixed seed.
+its runs are aborted and undone. With LATE each command takes so many ms more than the 100 that are estimated, so that
+leases become overdue. The contended day is `dense_day.py 288 64 64 16 8 0 0 50`: each run is on 8 of 16 devices. The day
+is always the same: what is drawn comes from a generator with a fixed seed.
 """
 import json
 import sys
@@ -16,6 +18,7 @@ MULTIPLIER = 6364136223846793005
 INCREMENT = 1442695040888963407
 SEED = 1
 UNSET = 1000
+ESTIMATE = 100
 
 
 def draws():
@@ -42,11 +45,14 @@ def on_device(below, devices, own):
     return lambda: chosen[below(len(chosen))]
 
 
-def commands_of(below, commands, devices, own, aborted):
+def commands_of(below, commands, devices, own, aborted, late):
     device = on_device(below, devices, own)
     made = [{"on": f"d{device()}", "do": "set", "to": below(1000)} for _ in range(commands)]
     if aborted:
         made[-1] = {"on": made[-1]["on"], "do": "check", "to": UNSET}
+    if late:
+        for command in made:
+            command["takes"] = ESTIMATE + late
     return made
 
 
@@ -69,14 +75,17 @@ def window(below, k, runs, routines, rounds):
     return made
 
 
-def day(windows, runs, commands, devices, own=0, rounds=0, aborted=0):
+def day(windows, runs, commands, devices, own=0, rounds=0, aborted=0, late=0):
     below = draws()
     routines = max(runs, 1)
     return {
         "safehome": 1,
         "devices": [device(below, f"d{d}", rounds, aborted) for d in range(devices)],
         "routines": [
-            {"name": f"r{r}", "commands": commands_of(below, commands, devices, own, aborted and r % aborted == 0)}
+            {
+                "name": f"r{r}",
+                "commands": commands_of(below, commands, devices, own, aborted and r % aborted == 0, late),
+            }
             for r in range(routines)
         ],
         "windows": [window(below, k, runs, routines, rounds) for k in range(windows)],
@@ -84,8 +93,8 @@ def day(windows, runs, commands, devices, own=0, rounds=0, aborted=0):
 
 
 def main():
-    sizes = [288, 64, 64, 256, 0, 0, 0]
-    for i, word in enumerate(sys.argv[1:8]):
+    sizes = [288, 64, 64, 256, 0, 0, 0, 0]
+    for i, word in enumerate(sys.argv[1:9]):
         sizes[i] = int(word)
     json.dump(day(*sizes), sys.stdout, separators=(",", ":"))
     sys.stdout.write("\n")

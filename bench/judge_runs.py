@@ -5,15 +5,18 @@
 
 DAYS is 2000 by default, SEED is 1, and PROGRAM crates/hub_main/out/hub_main, which `rt run` builds. Each day is drawn
 by a generator from its seed: 1 to 4 devices that fail in calls of listed numbers, 1 to 3 windows of 1 to 6 runs with
-rounds of probes, routines of 1 to 5 commands of every job, must and best-effort. It is played by `run --trace` under
-one model after another. Which threads step first is not the day's to say, so no record is expected: each is judged.
+rounds of probes, of which some follow others, routines of 1 to 5 commands of every job, must and best-effort, with
+estimates. It is played by `run --trace` in one mode after another: under each model, and just in time. Which threads
+step first is not the day's to say, so no record is expected: each is judged.
 
-Under each model: the history goes on as the rules have it, every run ends, and the lines of the runs, the home and the
-total say what the history says. Outside the weak model: the printed order holds each committed run, each failure and
-each restart once, and no aborted run; its serial execution, which knows nothing of the hub, gives each committed run's
-answers and the state of the home. Under the weak model: a read finds what the last write left, `Down` is answered where
-the device is down, and the home is as the last writes left it. Prints the first record that is not so, and ends with 1;
-a day that has not ended after a minute counts as one.
+In each mode: the history goes on as the rules have it, every run ends, a run that follows another is placed behind its
+end, and the lines of the runs, the home and the total say what the history says. Outside the weak model: the printed
+order holds each committed run, each failure and each restart once, and no aborted run, and a run stands in it behind the
+one that it follows; its serial execution, which knows nothing of the hub, gives each committed run's answers and the
+state of the home. Under the weak model: a read finds what the last write left, `Down` is answered where the device is
+down, and the home is as the last writes left it. Only just in time is a lease revoked: of a device that both runs use,
+for a run that was placed before and has its next command there, past the deadline that the estimates give. Prints the
+first record that is not so, and ends with 1; a day that has not ended after a minute counts as one.
 """
 import collections
 import json
@@ -24,7 +27,8 @@ import sys
 
 HERE = os.path.dirname(os.path.abspath(__file__))
 PROGRAM = os.path.join(HERE, "..", "crates", "hub_main", "out", "hub_main")
-MODELS = ["ev", "psv", "gsv", "wv"]
+MODES = [("ev", "fcfs"), ("psv", "fcfs"), ("gsv", "fcfs"), ("wv", "fcfs"), ("ev", "jit")]
+ESTIMATE = 100
 MINUTE = 60
 
 
@@ -69,6 +73,15 @@ def command(draw, devices):
         made["to"] = draw.choice(values(on))
     if draw.random() < 0.4:
         made["must"] = False
+    if draw.random() < 0.6:
+        made["ms"] = draw.choice([0, 0, 1, 5])
+    return made
+
+
+def run(draw, routines, before):
+    made = {"routine": draw.choice(routines)["name"]}
+    if before and draw.random() < 0.2:
+        made["follows"] = draw.randint(1, before)
     return made
 
 
@@ -82,7 +95,7 @@ def day(draw):
         {
             "at": f"2021-04-26T07:0{k}:00",
             "probes": draw.choice([0, 1, 2, 5]),
-            "runs": [{"routine": draw.choice(routines)["name"]} for _ in range(draw.randint(1, 6))],
+            "runs": [run(draw, routines, before) for before in range(draw.randint(1, 6))],
         }
         for k in range(draw.randint(1, 3))
     ]
@@ -137,9 +150,9 @@ def executed(home, devices, commands):
 class Window:
     """The lines of one window of a record."""
 
-    def __init__(self, lines, head, devices, runs):
+    def __init__(self, lines, head, devices, runs, follows):
         self.devices = devices
-        self.entries, self.ends, self.runs = [], {}, runs
+        self.entries, self.ends, self.runs, self.follows = [], {}, runs, follows
         expect(lines.pop(0) == head, f"no line {head}")
         while lines and lines[0].startswith("# "):
             self.entries.append(lines.pop(0)[2:].split(" "))
@@ -159,17 +172,45 @@ class Window:
         return word if word in (".", "-") else value_of(self.devices[command["on"]], word)
 
 
-def walked(window, home, weak):
+def deadline(commands, placed, device):
+    """Until when a run that was placed at this moment may keep the device."""
+    last = max(c for c, command in enumerate(commands) if command["on"] == device)
+    estimate = sum(command.get("ms", ESTIMATE) for command in commands[: last + 1])
+    return placed + estimate + -(-estimate // 10)
+
+
+def expect_overdue(window, borrower, words, placed, live, answers):
+    """That the borrower's lease is overdue with these words: `DEVICE by LENDER deadline N at M`. Answers the moment."""
+    device, by, lender, of, until, at, moment = words
+    expect((by, of, at) == ("by", "deadline", "at"), "a revocation has other words")
+    lender, until, moment = int(lender), int(until), int(moment)
+    expect(borrower in live and lender in live and lender != borrower, "a lease is revoked of or for a run that is not live")
+    expect(list(placed).index(lender) < list(placed).index(borrower), "a lease is revoked for a run that was placed later")
+    asked = window.runs[lender - 1][len(answers[lender]):]
+    expect(asked and asked[0]["on"] == device, "a lease is revoked of a device that is not asked for")
+    held = window.runs[borrower - 1][len(answers[borrower]):]
+    expect(any(command["on"] == device for command in held), "a lease is revoked of a run that is done on the device")
+    expect(until == deadline(window.runs[borrower - 1], placed[borrower], device), "a lease has another deadline")
+    expect(moment > until, "a lease is revoked before its deadline is past")
+    return moment
+
+
+def walked(window, home, model, scheduler):
     """Goes along the history: the answers of each run, and the items that the order must have; the home is as at its end."""
+    weak = model == "wv"
     answers = {r: [] for r in window.ends}
     doomed, ended, events, last = {}, {}, [], 0
-    begun = {"arrived": [], "placed": []}
+    begun, placed = {"arrived": [], "placed": []}, {}
     for entry in window.entries:
         kind = entry[0]
         if kind in ("arrived", "placed"):
             begun[kind].append(int(entry[1]))
             expect(entry[-2] == "at" and int(entry[-1]) >= last, "a moment falls")
             last = int(entry[-1])
+            if kind == "placed":
+                leader = window.follows[int(entry[1]) - 1]
+                expect(leader is None or leader in ended, "a run is placed before the one that it follows has ended")
+                placed[int(entry[1])] = last
         elif kind == "did":
             r, command = window.command(entry[1])
             answer, place = window.answer(command, entry[2]), home[command["on"]]
@@ -189,6 +230,12 @@ def walked(window, home, weak):
         elif kind == "doomed":
             expect(entry[1] not in doomed, "a run is doomed twice")
             doomed[entry[1]] = entry[2:]
+            if entry[2] == "revoked":
+                expect(scheduler == "jit", "a lease is revoked of a run that was served when it came")
+                live = [r for r in placed if r not in ended and (str(r) not in doomed or r == int(entry[1]))]
+                moment = expect_overdue(window, int(entry[1]), entry[3:], placed, live, answers)
+                expect(moment >= last, "a moment falls")
+                last = moment
         elif kind == "ended":
             expect((entry[1] in doomed) == (entry[2] == "aborted"), "a doomed run commits, or another is aborted")
             ended[int(entry[1])] = entry[2:] + doomed.get(entry[1], [])
@@ -210,10 +257,10 @@ def written(device, command, commands, answers):
     return nearest(device, register)
 
 
-def judged(window, home, model):
+def judged(window, home, model, scheduler):
     """Judges one window that begins with this home, and leaves the home as it ends."""
     serial = {name: dict(place) for name, place in home.items()}
-    answers, ended, events = walked(window, home, model == "wv")
+    answers, ended, events = walked(window, home, model, scheduler)
     committed = [r for r in ended if ended[r] == ["committed"]]
     for r, words in window.ends.items():
         expect(words[:1] == ["committed"] if r in committed else words == ended[r], "a run's line and its history differ")
@@ -227,6 +274,9 @@ def judged(window, home, model):
     else:
         order = [] if window.order == ["none"] else window.order
         expect(sorted(order) == sorted(events + [str(r) for r in committed]), "the order holds other items than the history")
+        for r, leader in enumerate(window.follows, 1):
+            if leader in committed and r in committed:
+                expect(order.index(str(leader)) < order.index(str(r)), "a run stands before the one that it follows")
         for item in order:
             if item.isdigit():
                 given = executed(serial, window.devices, window.runs[int(item) - 1])
@@ -244,17 +294,19 @@ def judged(window, home, model):
     return len(committed)
 
 
-def judge(script, record, model):
+def judge(script, record, model, scheduler):
     devices = {d["name"]: d for d in script["devices"]}
     routines = {r["name"]: r["commands"] for r in script["routines"]}
     home = {name: {"value": value_of(d, str(d["start"])), "up": True} for name, d in devices.items()}
     lines = record.split("\n")
-    expect(lines.pop() == "" and lines[:2] == ["safehome day", f"model {model} fcfs"], "no head")
+    expect(lines.pop() == "" and lines[:2] == ["safehome day", f"model {model} {scheduler}"], "no head")
     lines = lines[2:]
     runs = committed = 0
     for k, given in enumerate(script["windows"], 1):
-        window = Window(lines, f"window {k} {given['at']}", devices, [routines[run["routine"]] for run in given["runs"]])
-        committed += judged(window, home, model)
+        follows = [run.get("follows") for run in given["runs"]]
+        head = f"window {k} {given['at']}"
+        window = Window(lines, head, devices, [routines[run["routine"]] for run in given["runs"]], follows)
+        committed += judged(window, home, model, scheduler)
         runs += len(given["runs"])
     total = f"total windows {len(script['windows'])} runs {runs} committed {committed} aborted {runs - committed}"
     expect(lines == [total], "another total")
@@ -267,23 +319,26 @@ def main():
     draw = random.Random(seed)
     counts = collections.Counter()
     for k in range(days):
-        script, model = day(draw), MODELS[k % len(MODELS)]
-        words = [program, "run", "--trace", "--model", model]
+        script, (model, scheduler) = day(draw), MODES[k % len(MODES)]
+        words = [program, "run", "--trace", "--model", model, "--scheduler", scheduler]
         try:
             done = subprocess.run(words, input=json.dumps(script), capture_output=True, text=True, timeout=MINUTE)
             expect(done.returncode == 0, f"status {done.returncode}: {done.stderr}")
-            runs, committed = judge(script, done.stdout, model)
+            runs, committed = judge(script, done.stdout, model, scheduler)
             counts["runs"] += runs
             counts["committed"] += committed
             counts["fell"] += done.stdout.count("# fell ")
             counts["rose"] += done.stdout.count("# rose ")
+            counts["revoked"] += done.stdout.count(" aborted revoked ")
+            counts["followers"] += sum("follows" in run for window in script["windows"] for run in window["runs"])
         except (Wrong, ValueError, IndexError, subprocess.TimeoutExpired) as wrong:
-            print(f"day {k} under {model}: {wrong}\n{json.dumps(script)}")
+            print(f"day {k} under {model} {scheduler}: {wrong}\n{json.dumps(script)}")
             if not isinstance(wrong, subprocess.TimeoutExpired):
                 print(done.stdout)
             sys.exit(1)
-    print(f"{days} days of the seed {seed}: {counts['runs']} runs, {counts['committed']} committed,"
-          f" {counts['fell']} failures, {counts['rose']} restarts; each record as its serial execution")
+    print(f"{days} days of the seed {seed}: {counts['runs']} runs, {counts['followers']} of them behind others,"
+          f" {counts['committed']} committed, {counts['revoked']} revoked, {counts['fell']} failures,"
+          f" {counts['rose']} restarts; each record as its serial execution")
 
 
 if __name__ == "__main__":

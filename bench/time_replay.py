@@ -1,20 +1,22 @@
 #!/usr/bin/env python3
-"""Times a replay of a dense day of must `set` commands under each model that is built.
+"""Times a replay of a dense day of must `set` commands under each model with an order, and just in time.
 
     time_replay.py [PROGRAM]
 
-PROGRAM is crates/hub_main/out/hub_main by default, which `rt run` builds. Five scripts are played, the first three
-under each model:
+PROGRAM is crates/hub_main/out/hub_main by default, which `rt run` builds. Six scripts are played, the first three under
+each model, served first come first, and under the eventual model just in time, which is called `jit` here:
 
 - dense: 288 windows of 64 runs of 64 commands on 256 devices;
 - failing: the same, where devices fail, with two rounds of probes;
 - aborted: the same, where the last command of every third routine refutes its runs;
+- contended: 288 windows of 64 runs of 64 commands, each run on 8 of 16 devices, whose commands take half as long again
+  as is estimated, so that leases are revoked; under `ev` and `jit`;
 - refused: the same, with a last run that names no routine, so that it is read to its end and no more;
 - empty: the same without runs, so that it is read, and its windows are opened, closed and printed.
 
-Where callgrind is installed, it counts the instructions of a day of four such windows, and of its parts, under each
-model; of such a day whose routines have 8 devices of their own each, under psv; and, under gsv and ev, of days with
-fewer runs a window and with fewer devices. With each goes how many picks found that their run must wait, for each step
+Where callgrind is installed, it counts the instructions of a day of four such windows, and of its parts, in each mode;
+of such a day whose routines have 8 devices of their own each, under psv; and, under gsv and ev and just in time, of days
+with fewer runs a window and with fewer devices. With each goes how many picks found that their run must wait, for each step
 that moved one.
 """
 import collections
@@ -28,7 +30,7 @@ import time
 
 HERE = os.path.dirname(os.path.abspath(__file__))
 PROGRAM = os.path.join(HERE, "..", "crates", "hub_main", "out", "hub_main")
-MODELS = ["gsv", "psv", "ev"]
+MODES = ["gsv", "psv", "ev", "jit"]
 CALLS = {
     "whole": r"hub_main::run\b",
     "day": r"hub_commands::stills::replay\b",
@@ -51,22 +53,22 @@ def refused(script):
     return re.sub(rb'"r\d+"\}\]\}\]\}\n$', b'"none"}]}]}\n', script)
 
 
-def words(model):
-    return ["replay", "--model", model]
+def words(mode, command="replay"):
+    return [command, "--scheduler" if mode == "jit" else "--model", mode]
 
 
-def played(program, name, model, script):
+def played(program, name, mode, script):
     with tempfile.TemporaryFile() as given, tempfile.TemporaryFile() as record:
         given.write(script)
         given.seek(0)
         begun = time.monotonic()
-        child = subprocess.Popen([program, *words(model)], stdin=given, stdout=record, stderr=subprocess.DEVNULL)
+        child = subprocess.Popen([program, *words(mode)], stdin=given, stdout=record, stderr=subprocess.DEVNULL)
         _, status, used = os.wait4(child.pid, 0)
         child.returncode = os.waitstatus_to_exitcode(status)
         spent = time.monotonic() - begun
         size = record.seek(0, os.SEEK_END)
     cpu = used.ru_utime + used.ru_stime
-    print(f"{name}, {model}: status {child.returncode}, {cpu:.2f} s of processor time, {spent:.2f} s in all,"
+    print(f"{name}, {mode}: status {child.returncode}, {cpu:.2f} s of processor time, {spent:.2f} s in all,"
           f" {len(script)} bytes of script, {size} bytes of record, {used.ru_maxrss / 1024:.0f} MB at most", flush=True)
 
 
@@ -94,10 +96,10 @@ def steps_in(path):
     return picks, made + 2 * home
 
 
-def counted(program, name, model, script):
+def counted(program, name, mode, script):
     with tempfile.TemporaryDirectory() as room:
         out = os.path.join(room, "callgrind")
-        subprocess.run(["valgrind", "--tool=callgrind", f"--callgrind-out-file={out}", program, *words(model)],
+        subprocess.run(["valgrind", "--tool=callgrind", f"--callgrind-out-file={out}", program, *words(mode)],
                        input=script, stdout=subprocess.DEVNULL, stderr=subprocess.DEVNULL, check=True)
         lines = subprocess.run(["callgrind_annotate", "--inclusive=yes", "--threshold=100", out],
                                stdout=subprocess.PIPE, check=True).stdout.decode().splitlines()
@@ -106,7 +108,7 @@ def counted(program, name, model, script):
         next(int(line.split()[0].replace(",", "")) for line in lines if re.search(called, line))
         for called in CALLS.values()
     )
-    print(f"{name}, {model}: {whole:,} instructions, {whole - day:,} for words and script, {day - picked:,} for the home,"
+    print(f"{name}, {mode}: {whole:,} instructions, {whole - day:,} for words and script, {day - picked:,} for the home,"
           f" the draws and the record, {picked:,} for the picks; {picks:,} picks for {moved:,} steps that moved:"
           f" {(picks - moved) / moved:.2f} tries a step, {picked // moved:,} instructions of picks a step,"
           f" {day // moved:,} of all but reading", flush=True)
@@ -116,27 +118,32 @@ def main():
     program = sys.argv[1] if len(sys.argv) > 1 else PROGRAM
     print("load", *(f"{load:.1f}" for load in os.getloadavg()), flush=True)
     dense = dense_day()
-    for model in MODELS:
-        played(program, "dense", model, dense)
+    for mode in MODES:
+        played(program, "dense", mode, dense)
     failing = dense_day(288, 64, 64, 256, 0, 2)
-    for model in MODELS:
-        played(program, "failing", model, failing)
+    for mode in MODES:
+        played(program, "failing", mode, failing)
     aborted = dense_day(288, 64, 64, 256, 0, 0, 3)
-    for model in MODELS:
-        played(program, "aborted", model, aborted)
+    for mode in MODES:
+        played(program, "aborted", mode, aborted)
+    contended = dense_day(288, 64, 64, 16, 8, 0, 0, 50)
+    for mode in ["ev", "jit"]:
+        played(program, "contended", mode, contended)
     for name, script in [("refused", refused(dense)), ("empty", dense_day(288, 0))]:
         played(program, name, "gsv", script)
     if shutil.which("callgrind_annotate"):
-        for model in MODELS:
-            counted(program, "dense", model, dense_day(4))
-            counted(program, "failing", model, dense_day(4, 64, 64, 256, 0, 2))
-            counted(program, "aborted", model, dense_day(4, 64, 64, 256, 0, 0, 3))
+        for mode in MODES:
+            counted(program, "dense", mode, dense_day(4))
+            counted(program, "failing", mode, dense_day(4, 64, 64, 256, 0, 2))
+            counted(program, "aborted", mode, dense_day(4, 64, 64, 256, 0, 0, 3))
+        for mode in ["ev", "jit"]:
+            counted(program, "contended", mode, dense_day(4, 64, 64, 16, 8, 0, 0, 50))
         counted(program, "8 devices a run", "psv", dense_day(4, 64, 64, 256, 8))
-        for model in ["gsv", "ev"]:
+        for mode in ["gsv", "ev", "jit"]:
             for runs in [8, 16, 32]:
-                counted(program, f"{runs} runs a window", model, dense_day(4, runs))
+                counted(program, f"{runs} runs a window", mode, dense_day(4, runs))
             for devices in [16, 64]:
-                counted(program, f"{devices} devices", model, dense_day(4, 64, 64, devices))
+                counted(program, f"{devices} devices", mode, dense_day(4, 64, 64, devices))
     else:
         print("callgrind is not installed: no instructions were counted")
 

@@ -14,24 +14,22 @@ import sys
 import tempfile
 import time
 
-from time_replay import PROGRAM, dense_day
-
-MODELS = ["gsv", "psv", "ev"]
+from time_replay import MODES, PROGRAM, dense_day, words
 
 
-def timed(words, script):
+def timed(called, script):
     with tempfile.TemporaryFile() as given:
         given.write(script)
         given.seek(0)
         begun = time.monotonic()
-        child = subprocess.Popen(words, stdin=given, stdout=subprocess.DEVNULL)
+        child = subprocess.Popen(called, stdin=given, stdout=subprocess.DEVNULL)
         _, status, used = os.wait4(child.pid, 0)
         child.returncode = os.waitstatus_to_exitcode(status)
     return child.returncode, time.monotonic() - begun, used
 
 
-def show(name, words, script):
-    status, spent, used = timed(words, script)
+def show(name, called, script):
+    status, spent, used = timed(called, script)
     print(f"{name}: status {status}, {spent:.2f} s, {used.ru_utime:.2f} s of processor time and {used.ru_stime:.2f} s of"
           f" the system's, {used.ru_nvcsw} switches of threads that slept, {used.ru_nivcsw} others,"
           f" {used.ru_maxrss / 1024:.0f} MB at most", flush=True)
@@ -41,11 +39,12 @@ def main():
     program = sys.argv[1] if len(sys.argv) > 1 else PROGRAM
     print("load", *(f"{load:.1f}" for load in os.getloadavg()), flush=True)
     dense, threads = dense_day(), dense_day(288, 64, 1)
-    for model in MODELS:
-        show(f"dense, {model}, replay", [program, "replay", "--model", model], dense)
-        show(f"dense, {model}, run", [program, "run", "--model", model], dense)
+    for mode in MODES:
+        show(f"dense, {mode}, replay", [program, *words(mode)], dense)
+        show(f"dense, {mode}, run", [program, *words(mode, "run")], dense)
         if shutil.which("taskset"):
-            show(f"dense, {model}, run on two processors", ["taskset", "-c", "0,1", program, "run", "--model", model], dense)
+            two = ["taskset", "-c", "0,1", program, *words(mode, "run")]
+            show(f"dense, {mode}, run on two processors", two, dense)
     show("one command a run, ev, run", [program, "run"], threads)
 
 
