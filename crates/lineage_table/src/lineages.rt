@@ -204,7 +204,6 @@ impl Lineage {
     }
 
     /// The accesses, in line order.
-    #[cfg(test)]
     pub fn accesses(&self) -> &[Access]
         ensures { result.now ≡ self.now.accesses }
     {

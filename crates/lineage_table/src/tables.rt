@@ -163,8 +163,7 @@ impl Table {
     }
 
     /// The accesses to the device, in line order.
-    #[cfg(test)]
-    pub(crate) fn accesses(&self, d: DeviceNo) -> &[Access]
+    pub fn accesses(&self, d: DeviceNo) -> &[Access]
         requires { d.0 < length self.now }
         ensures { result.now ≡ accesses_at self.now d.0 }
     {

@@ -11,4 +11,5 @@ pub mod Floors
 pub mod Bindings
 pub mod Borrowers
 pub mod ClearPlaces
+pub mod EarliestPlaces
 pub mod TouchCounts

@@ -16,7 +16,7 @@ use Rattle.lock_leasing.specs.Configurations.{Commands, Grips, Probes, Purpose, 
 use Rattle.lock_leasing.specs.Words.{effective_writer_of, has_touched, holds_device, live_runs}
 use Rattle.std.specs.List.{list_all, list_any, range_with_len}
 use Rattle.std.specs.Option.{option_or}
-use Rattle.std.specs.Prelude.{Bool, IsTrue, List, None, Option, Some, [], drop, false, find, if◌then◌else◌, length, max, nat_le, not, option_map, suc, take, true, unwrap_or, zero, ℕ, ⊤, ◌&&◌, ◌+◌, ◌-◌, ◌==◌, ◌||◌, ◌∷◌, ◌≡◌}
+use Rattle.std.specs.Prelude.{Bool, IsTrue, List, None, Option, Some, [], drop, false, find, fold, if◌then◌else◌, length, max, nat_le, not, option_map, suc, take, true, unwrap_or, zero, ℕ, ⊤, ◌&&◌, ◌+◌, ◌-◌, ◌==◌, ◌||◌, ◌∷◌, ◌≡◌, ◌≤◌}
 
 -- the number of items up to and with the last one of which the test holds
 abbrev pub up_to_last : (Item → Bool) → List Item → ℕ
@@ -110,6 +110,15 @@ abbrev pub timeline : Setting → Reading → Grips → ℕ → ℕ → Placing
 timeline w n g r m =
     unwrap_or (option_map (λ at. At (split_at n.line at))
     (find (λ at. fits w n r m (split_at n.line at)) (range_with_len (first_place w n g r) (length n.line - first_place w n g r)))) (at_end n)
+
+-- when a run that is planned so is done: the largest planned end of its commands, 0 where it has none
+abbrev pub plan_end : List Planned → ℕ
+plan_end planned = fold (λ t p. max t p.to) 0 planned
+
+-- no place that fits, from the first place on, plans an earlier end of the run than this one
+abbrev pub IsEarliestPlace : Setting → Reading → Grips → ℕ → ℕ → ℕ → Type 0
+IsEarliestPlace w n g r m place =
+    (at : ℕ) → first_place w n g r ≤ at → at ≤ length n.line → fits w n r m (split_at n.line at) ≡ true → plan_end (planned_times w n r (take place n.line) m) ≤ plan_end (planned_times w n r (take at n.line) m)
 
 -- where the scheduler places the run at this moment
 abbrev pub scheduled_place : Setting → Reading → Grips → ℕ → ℕ → Placing

@@ -1,0 +1,196 @@
+-- What the slots tell behind a front of the line, item by item.
+use Rattle.command_rules.specs.Items.{is_ran}
+use Rattle.command_rules.specs.Rosters.{Run, is_on, reads_first, touches, writes_on}
+use Rattle.history_book.specs.Books.{doom_of}
+use Rattle.history_book.specs.Readings.{Reading, is_doomed}
+use Rattle.history_book.specs.Settings.{Setting}
+use Rattle.history_book.specs.declared.entries.Kept.{Kept}
+use Rattle.home_types.specs.Commands.{reads}
+use Rattle.home_types.specs.declared.commands.Command.{Command}
+use Rattle.home_types.specs.declared.items.Item.TheVariants.{Back, Failed, Ran}
+use Rattle.home_types.specs.declared.items.Item.{Item}
+use Rattle.home_types.specs.declared.numbers.RunNo.{RunNo}
+use Rattle.lineage_table.specs.Accesses.{has_access}
+use Rattle.lineage_table.specs.Lineages.{LineageState, accesses_at}
+use Rattle.lineage_table.specs.declared.accesses.Access.{Access}
+use Rattle.lock_leasing.proofs.AccessRuns.{Alone, EachTail, HasAccess, alone, workers_have_access}
+use Rattle.lock_leasing.proofs.Facts.{Facts}
+use Rattle.lock_leasing.specs.Configurations.{Grips}
+use Rattle.std.proofs.Common.{ap, arith, cond, refl, subst, sym, ◌∙◌}
+use Rattle.std.proofs.lemmas.Grind.{common_steps}
+use Rattle.std.proofs.lemmas.List.{drop_more, take-append-drop, take_more}
+use Rattle.std.specs.List.{list_any}
+use Rattle.std.specs.Prelude.{Bool, List, None, Option, Some, [], drop, false, find, if◌then◌else◌, is_some, length, nat_lt, option_map, slice_get, slice_index_or, slice_set, suc, take, true, unwrap_or, zero, ℕ, ◌&&◌, ◌++◌, ◌+◌, ◌<◌, ◌==◌, ◌||◌, ◌∷◌, ◌≡◌}
+use Rattle.timeline_scheduler.proofs.Reached.{IsReached, back_reached, failed_reached, none_next, run_reached}
+use Rattle.timeline_scheduler.proofs.SlotSets.{changed_at, changed_length}
+use Rattle.timeline_scheduler.proofs.Wholes.{whole_is}
+use Rattle.timeline_scheduler.specs.Slots.{changed, changed_on, devices_among, devices_with, next_access, passed_item, slot_at, slot_behind, slot_passed, slot_waiting, whole_passed}
+use Rattle.timeline_scheduler.specs.declared.scratches.Slot.{Slot}
+
+-- Slots of an item
+
+-- a run that has no command on the device does not begin there with a read
+none_found : (d : ℕ) (cs : List Command) → list_any (is_on d) cs ≡ false → unwrap_or (option_map (λ c. reads c.job) (find (is_on d) cs)) false ≡ false
+none_found d [] off = refl
+none_found d (c ∷ cs) off =
+    ap (λ b. unwrap_or (option_map (λ x. reads x.job) (cond b (Some c) (find (is_on d) cs))) false) (first (is_on d c) (list_any (is_on d) cs) off) ∙ none_found d cs (last (is_on d c) (list_any (is_on d) cs) off)
+  where
+    first : (a b : Bool) → (a || b) ≡ false → a ≡ false
+    first a b h = grind (arith, common_steps)
+
+    last : (a b : Bool) → (a || b) ≡ false → b ≡ false
+    last a b h = grind (arith, common_steps)
+
+no_wait : (runs : List Run) (r x whole d : ℕ) (s : Slot) → (reads_first runs r d ≡ false) → slot_waiting runs r x whole d s ≡ s
+no_wait runs r x whole d s none = ap (λ b. if nat_lt s.free whole && (b && writes_on runs x d) then record s { free = whole } else s) none ∙ at (nat_lt s.free whole)
+  where
+    at : (b : Bool) → (if b && false then record s { free = whole } else s) ≡ s
+    at true = refl
+    at false = refl
+
+no_whole : (runs : List Run) (r x whole d : ℕ) (s : Slot) → nat_lt 0 whole ≡ false → slot_waiting runs r x whole d s ≡ s
+no_whole runs r x whole d s none = at (nat_lt s.free whole) refl
+  where
+    at : (b : Bool) → nat_lt s.free whole ≡ b → (if b && (reads_first runs r d && writes_on runs x d) then record s { free = whole } else s) ≡ s
+    at true e = absurd (grind (arith, common_steps))
+    at false e = refl
+
+-- what passing a run makes of the slot of a device
+run_slot : (table : List LineageState) (history : List Kept) (runs : List Run) (r : ℕ) (q : RunNo) (slots : List Slot) (d : ℕ) → length slots ≡ length table → d < length table
+    → slot_at (passed_item table history runs r (Some (Ran q)) slots) d ≡ slot_waiting runs r q.0 (whole_passed table q.0 slots) d (slot_passed table (is_some (doom_of history q.0)) q.0 d (slot_at slots d))
+run_slot table history runs r q slots d size within = by_whole (nat_lt 0 (whole_passed table q.0 slots)) refl
+  where
+    doomed : Bool
+    doomed = is_some (doom_of history q.0)
+
+    whole : ℕ
+    whole = whole_passed table q.0 slots
+
+    passed : List Slot
+    passed = changed (slot_passed table doomed q.0) (devices_with table q.0) slots
+
+    long : length passed ≡ length slots
+    long = changed_length (slot_passed table doomed q.0) (devices_with table q.0) slots
+
+    at_passed : slot_at passed d ≡ slot_passed table doomed q.0 d (slot_at slots d)
+    at_passed =
+        changed_at (slot_passed table doomed q.0) (λ e. has_access q.0 (accesses_at table e)) (λ e s none. ap (λ o. slot_behind doomed o s) (none_next q.0 (accesses_at table e) s none)) (length table) slots d size within
+
+    by_whole : (b : Bool) → nat_lt 0 whole ≡ b → slot_at (if b then changed (slot_waiting runs r q.0 whole) (devices_among runs r (length passed)) passed else passed) d ≡ slot_waiting runs r q.0 whole d (slot_passed table doomed q.0 d (slot_at slots d))
+    by_whole true e =
+        changed_at (slot_waiting runs r q.0 whole) (touches runs r) (λ k s off. no_wait runs r q.0 whole k s (none_found k _ off)) (length passed) passed d refl (omega (arith, within, size, long))
+        ∙ ap (slot_waiting runs r q.0 whole d) at_passed
+    by_whole false e = at_passed ∙ sym (no_whole runs r q.0 whole d (slot_passed table doomed q.0 d (slot_at slots d)) e)
+
+-- The planned times stay
+
+set_planned : (slots : List Slot) (d e : ℕ) (x : Slot) → x.planned ≡ (slot_at slots d).planned → (slot_at (slice_set slots d x) e).planned ≡ (slot_at slots e).planned
+set_planned [] d e x same = refl
+set_planned (s ∷ slots) zero zero x same = same
+set_planned (s ∷ slots) zero (suc e) x same = refl
+set_planned (s ∷ slots) (suc d) zero x same = refl
+set_planned (s ∷ slots) (suc d) (suc e) x same = set_planned slots d e x same
+
+changed_planned : (change : ℕ → Slot → Slot) → ((d : ℕ) (s : Slot) → (change d s).planned ≡ s.planned) → (devices : List ℕ) (slots : List Slot) (e : ℕ) → (slot_at (changed change devices slots) e).planned ≡ (slot_at slots e).planned
+changed_planned change same [] slots e = refl
+changed_planned change same (d ∷ devices) slots e = changed_planned change same devices (changed_on change slots d) e ∙ set_planned slots d e (change d (slot_at slots d)) (same d (slot_at slots d))
+
+behind_planned : (doomed : Bool) (o : Option Access) (s : Slot) → (slot_behind doomed o s).planned ≡ s.planned
+behind_planned doomed None s = refl
+behind_planned doomed (Some a) s = refl
+
+waiting_planned : (runs : List Run) (r x whole d : ℕ) (s : Slot) → (slot_waiting runs r x whole d s).planned ≡ s.planned
+waiting_planned runs r x whole d s = at (nat_lt s.free whole && (reads_first runs r d && writes_on runs x d))
+  where
+    at : (b : Bool) → (if b then record s { free = whole } else s).planned ≡ s.planned
+    at true = refl
+    at false = refl
+
+module _ (table : List LineageState) (history : List Kept) (runs : List Run) (r : ℕ) (slots : List Slot) where
+  -- an item that is passed leaves the planned times
+  pub item_planned : (i : Option Item) (e : ℕ) → (slot_at (passed_item table history runs r i slots) e).planned ≡ (slot_at slots e).planned
+  item_planned None e = refl
+  item_planned (Some (Failed d k)) e = refl
+  item_planned (Some (Back d k)) e = refl
+  item_planned (Some (Ran q)) e = by_whole (nat_lt 0 whole)
+    where
+      whole : ℕ
+      whole = whole_passed table q.0 slots
+
+      passed : List Slot
+      passed = changed (slot_passed table (is_some (doom_of history q.0)) q.0) (devices_with table q.0) slots
+
+      at_passed : (slot_at passed e).planned ≡ (slot_at slots e).planned
+      at_passed = changed_planned (slot_passed table (is_some (doom_of history q.0)) q.0) (λ d s. behind_planned (is_some (doom_of history q.0)) (next_access (accesses_at table d) s q.0) s) (devices_with table q.0) slots e
+
+      by_whole : (b : Bool) → (slot_at (if b then changed (slot_waiting runs r q.0 whole) (devices_among runs r (length passed)) passed else passed) e).planned ≡ (slot_at slots e).planned
+      by_whole true = changed_planned (slot_waiting runs r q.0 whole) (λ d s. waiting_planned runs r q.0 whole d s) (devices_among runs r (length passed)) passed e ∙ at_passed
+      by_whole false = at_passed
+
+  -- .. and there are as many slots
+  pub item_length : (i : Option Item) → length (passed_item table history runs r i slots) ≡ length slots
+  item_length None = refl
+  item_length (Some (Failed d k)) = refl
+  item_length (Some (Back d k)) = refl
+  item_length (Some (Ran q)) = by_whole (nat_lt 0 whole)
+    where
+      whole : ℕ
+      whole = whole_passed table q.0 slots
+
+      passed : List Slot
+      passed = changed (slot_passed table (is_some (doom_of history q.0)) q.0) (devices_with table q.0) slots
+
+      long : length passed ≡ length slots
+      long = changed_length (slot_passed table (is_some (doom_of history q.0)) q.0) (devices_with table q.0) slots
+
+      by_whole : (b : Bool) → length (if b then changed (slot_waiting runs r q.0 whole) (devices_among runs r (length passed)) passed else passed) ≡ length slots
+      by_whole true = changed_length (slot_waiting runs r q.0 whole) (devices_among runs r (length passed)) passed ∙ long
+      by_whole false = long
+
+-- Along the line
+
+each_behind : (P : Item → List Item → Type 0) (front is : List Item) → EachTail P (front ++ is) → EachTail P is
+each_behind P [] is all = all
+each_behind P (i ∷ front) is all = each_behind P front is all.1
+
+pub get_some : {A : Type 0} (xs : List A) (k : ℕ) (x : A) → k < length xs → slice_get xs k ≡ Some (slice_index_or xs k x)
+get_some [] k x within = absurd (omega (arith, within))
+get_some (y ∷ xs) zero x within = refl
+get_some (y ∷ xs) (suc k) x within = get_some xs k x (omega (arith, within))
+
+module _ (w : Setting) (n : Reading) (g : Grips) (f : Facts w n g) (r : ℕ) (table : List LineageState) (history : List Kept) (size : length table ≡ length w.first) (dooms : (q : ℕ) → is_some (doom_of history q) ≡ is_doomed n q) where
+  -- each slot tells of its device behind the front
+  abbrev pub AllReached : List Item → List Item → List Slot → Type 0
+  AllReached front back slots = (d : ℕ) → d < length w.first → IsReached w n g r d front back (accesses_at table d) (slot_at slots d)
+
+  item_reached : (front is : List Item) (i : Item) (slots : List Slot) → n.line ≡ front ++ i ∷ is → length slots ≡ length table → AllReached front (i ∷ is) slots → AllReached (front ++ i ∷ []) is (passed_item table history w.runs r (Some i) slots)
+  item_reached front is (Failed e k) slots cut long was d within = failed_reached w n g f r d front is e k (accesses_at table d) (slot_at slots d) (was d within)
+  item_reached front is (Back e k) slots cut long was d within = back_reached w n g f r d front is e k (accesses_at table d) (slot_at slots d) (was d within)
+  item_reached front is (Ran q) slots cut long was d within =
+      subst (IsReached w n g r d (front ++ Ran q ∷ []) is (accesses_at table d)) (sym (run_slot table history w.runs r q slots d long (omega (arith, within, size))))
+      (run_reached w n g f r d front is q (accesses_at table d) (slot_at slots d) (is_some (doom_of history q.0)) (whole_passed table q.0 slots) has own_alone (dooms q.0) (whole_is w n g r table slots q front is cut once own_alone size was) (was d within))
+    where
+      once : EachTail Alone (front ++ Ran q ∷ is)
+      once = subst (EachTail Alone) cut (alone n f.once)
+
+      self : (k : ℕ) → (k == k) ≡ true
+      self k = grind (arith, common_steps)
+
+      own_alone : list_any (is_ran q.0) is ≡ false
+      own_alone = (each_behind Alone front (Ran q ∷ is) once).0 q.0 (self q.0)
+
+      has : HasAccess w n g f d (Ran q) is
+      has = (each_behind (HasAccess w n g f d) front (Ran q ∷ is) (subst (EachTail (HasAccess w n g f d)) cut (workers_have_access w n g f d))).0
+
+  -- one item further
+  pub pass_next : (at : ℕ) (slots : List Slot) → at < length n.line → length slots ≡ length table → AllReached (take at n.line) (drop at n.line) slots → AllReached (take (at + 1) n.line) (drop (at + 1) n.line) (passed_item table history w.runs r (slice_get n.line at) slots)
+  pass_next at slots within long was =
+      subst (λ o. AllReached (take (at + 1) n.line) (drop (at + 1) n.line) (passed_item table history w.runs r o slots)) (sym (get_some n.line at no_item within))
+      (subst (λ l. AllReached l (drop (at + 1) n.line) (passed_item table history w.runs r (Some i) slots)) (sym (take_more n.line at no_item within))
+      (item_reached (take at n.line) (drop (at + 1) n.line) i slots (sym (take-append-drop at n.line) ∙ ap (λ l. take at n.line ++ l) (drop_more n.line at no_item within)) long (subst (λ l. AllReached (take at n.line) l slots) (drop_more n.line at no_item within) was)))
+    where
+      no_item : Item
+      no_item = Failed (record { 0 = 0 }) 0
+
+      i : Item
+      i = slice_index_or n.line at no_item

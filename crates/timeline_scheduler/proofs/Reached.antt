@@ -1,0 +1,251 @@
+-- What a slot tells of its device behind a front of the line, for a run that is to be placed there.
+use Rattle.command_rules.specs.Items.{is_ran}
+use Rattle.command_rules.specs.Rosters.{reads_first, writes_on}
+use Rattle.history_book.specs.Plans.{free, planned_end, whole_end}
+use Rattle.history_book.specs.Readings.{Reading, is_doomed, is_live, is_open}
+use Rattle.history_book.specs.Settings.{Setting}
+use Rattle.home_types.specs.declared.items.Item.TheVariants.{Back, Failed, Ran}
+use Rattle.home_types.specs.declared.items.Item.{Item}
+use Rattle.home_types.specs.declared.numbers.DeviceNo.{DeviceNo}
+use Rattle.home_types.specs.declared.numbers.RunNo.{RunNo}
+use Rattle.lineage_table.specs.Accesses.{has_access, is_of, is_released}
+use Rattle.lineage_table.specs.declared.accesses.Access.{Access}
+use Rattle.lock_leasing.proofs.AccessRuns.{HasAccess}
+use Rattle.lock_leasing.proofs.Facts.{Facts}
+use Rattle.lock_leasing.proofs.Holding.{sound_holds}
+use Rattle.lock_leasing.specs.Configurations.{Grips}
+use Rattle.lock_leasing.specs.Order.{covers}
+use Rattle.lock_leasing.specs.Tables.{EachTellsOfRun, TellsOfRun, runs_with_access, uses}
+use Rattle.lock_leasing.specs.Words.{has_effect, holds_device}
+use Rattle.std.proofs.Common.{ap, arith, refl, subst, sym, ◌∙◌}
+use Rattle.std.proofs.lemmas.Grind.{common_steps}
+use Rattle.std.proofs.lemmas.List.Sums.{fold-append}
+use Rattle.std.specs.List.{list_any}
+use Rattle.std.specs.Prelude.{Bool, List, None, Option, Some, [], drop, false, if◌then◌else◌, map, max, nat_lt, not, option_and_then, slice_get, suc, true, zero, ℕ, ◌&&◌, ◌++◌, ◌+◌, ◌==◌, ◌||◌, ◌∷◌, ◌≡◌}
+use Rattle.timeline_scheduler.specs.Slots.{next_access, slot_behind, slot_waiting}
+use Rattle.timeline_scheduler.specs.declared.scratches.Slot.{Slot}
+
+-- Lists
+
+pub get_drop : {A : Type 0} (xs : List A) (k : ℕ) → slice_get xs k ≡ slice_get (drop k xs) 0
+get_drop [] zero = refl
+get_drop [] (suc k) = refl
+get_drop (x ∷ xs) zero = refl
+get_drop (x ∷ xs) (suc k) = get_drop xs k
+
+drop_suc : {A : Type 0} (xs : List A) (k : ℕ) (y : A) (ys : List A) → drop k xs ≡ y ∷ ys → drop (suc k) xs ≡ ys
+drop_suc {A} [] zero y ys same = absurd (cc)
+drop_suc {A} [] (suc k) y ys same = absurd (cc)
+drop_suc {A} (x ∷ xs) zero y ys same = ap tail same
+  where
+    tail : List A → List A
+    tail [] = []
+    tail (z ∷ zs) = zs
+drop_suc {A} (x ∷ xs) (suc k) y ys same = drop_suc xs k y ys same
+
+pub drop_next : {A : Type 0} (xs : List A) (k : ℕ) (y : A) (ys : List A) → drop k xs ≡ y ∷ ys → drop (k + 1) xs ≡ ys
+drop_next xs k y ys same = let further : k + 1 ≡ suc k = omega arith in ap (λ j. drop j xs) further ∙ drop_suc xs k y ys same
+
+-- a run with no access has no next one
+none_got : (q : ℕ) (xs : List Access) (k : ℕ) → has_access q xs ≡ false → option_and_then (λ (a : Access). if is_of q a then Some a else None) (slice_get xs k) ≡ None
+none_got q [] k none = refl
+none_got q (x ∷ xs) zero none = ap (λ b. if b then Some x else None) (first (is_of q x) (has_access q xs) none)
+  where
+    first : (a b : Bool) → (a || b) ≡ false → a ≡ false
+    first a b h = grind (arith, common_steps)
+none_got q (x ∷ xs) (suc k) none = none_got q xs k (last (is_of q x) (has_access q xs) none)
+  where
+    last : (a b : Bool) → (a || b) ≡ false → b ≡ false
+    last a b h = grind (arith, common_steps)
+
+pub none_next : (q : ℕ) (xs : List Access) (s : Slot) → has_access q xs ≡ false → next_access xs s q ≡ None
+none_next q xs s none = none_got q xs s.passed none
+
+first_of : (a b : Bool) → (a && b) ≡ true → a ≡ true
+first_of a b h = grind (arith, common_steps)
+
+-- Numbers
+
+pub max_none : (t : ℕ) → max t 0 ≡ t
+max_none t = grind (arith, common_steps)
+
+max_both : (a b c : ℕ) → max (max a b) c ≡ max a (max b c)
+max_both a b c = grind (arith, common_steps)
+
+later_of : (t e : ℕ) (live reads writes : Bool) (whole : ℕ) → whole ≡ (if live then e else 0) → (if nat_lt t whole && (reads && writes) then whole else t) ≡ max t (if live && reads && writes then e else 0)
+later_of t e live reads writes whole is = ap (λ k. if nat_lt t k && (reads && writes) then k else t) is ∙ at live reads writes
+  where
+    longer : (b : Bool) → nat_lt t e ≡ b → (if b && true then e else t) ≡ max t e
+    longer true h = grind (arith, common_steps)
+    longer false h = grind (arith, common_steps)
+
+    unwanted : (b : Bool) (k : ℕ) → (if b && false then k else t) ≡ max t 0
+    unwanted true k = sym (max_none t)
+    unwanted false k = sym (max_none t)
+
+    nothing : (b : Bool) → nat_lt t 0 ≡ b → (if b && true then 0 else t) ≡ max t 0
+    nothing true h = absurd (grind (arith, common_steps))
+    nothing false h = sym (max_none t)
+
+    at : (l a b : Bool) → (if nat_lt t (if l then e else 0) && (a && b) then (if l then e else 0) else t) ≡ max t (if l && a && b then e else 0)
+    at true true true = longer (nat_lt t e) refl
+    at true true false = unwanted (nat_lt t e) e
+    at true false b = unwanted (nat_lt t e) e
+    at false true true = nothing (nat_lt t 0) refl
+    at false true false = unwanted (nat_lt t 0) 0
+    at false false b = unwanted (nat_lt t 0) 0
+
+-- The accesses that are left
+
+-- these are the accesses of the runs among these items
+abbrev pub Shows : Setting → Reading → Grips → ℕ → List Item → List Access → Type 0
+Shows w n g d is xs = (map (λ x. x.run.0) xs ≡ runs_with_access w n d is) × EachTellsOfRun w n g d xs
+
+-- behind the front the accesses that are not passed are those of the back, and the device is free for r when it should be
+pub record IsReached (w : Setting) (n : Reading) (g : Grips) (r d : ℕ) (front back : List Item) (xs : List Access) (s : Slot) : Type 0 where
+  pub accesses : Shows w n g d back (drop s.passed xs)
+  pub time : s.free ≡ free w n r front d
+
+-- the next access is that of the run, with those of the rest behind it, or the run has none
+pub data Next (w : Setting) (n : Reading) (g : Grips) (d q : ℕ) (is : List Item) (xs : List Access) (s : Slot) : Type 0 where
+  Own : (x : Access) (rest : List Access) (found : next_access xs s q ≡ Some x) (has : (uses w n d q && not (list_any (covers n d) is)) ≡ true) (own : x.run.0 ≡ q) (tells : TellsOfRun w n g d x rest) (left : Shows w n g d is (drop (s.passed + 1) xs)) → Next w n g d q is xs s
+  Other : (none : next_access xs s q ≡ None) (lacks : (uses w n d q && not (list_any (covers n d) is)) ≡ false) (left : Shows w n g d is (drop s.passed xs)) → Next w n g d q is xs s
+
+abbrev head_or : List ℕ → ℕ → ℕ
+head_or [] k = k
+head_or (y ∷ ys) k = y
+
+abbrev tail_of : List ℕ → List ℕ
+tail_of [] = []
+tail_of (y ∷ ys) = ys
+
+module _ (w : Setting) (n : Reading) (g : Grips) (d : ℕ) where
+  -- the first run with an access is one of the items
+  apart : (q : ℕ) (is : List Item) (x : ℕ) (xs : List ℕ) → list_any (is_ran q) is ≡ false → runs_with_access w n d is ≡ x ∷ xs → (x == q) ≡ false
+  apart q [] x xs none same = absurd (cc)
+  apart q (Failed e k ∷ is) x xs none same = apart q is x xs none same
+  apart q (Back e k ∷ is) x xs none same = apart q is x xs none same
+  apart q (Ran p ∷ is) x xs none same = at (uses w n d p.0 && not (list_any (covers n d) is)) (apart q is x xs (last (p.0 == q) (list_any (is_ran q) is) none)) same
+    where
+      first : (a b : Bool) → (a || b) ≡ false → a ≡ false
+      first a b h = grind (arith, common_steps)
+
+      last : (a b : Bool) → (a || b) ≡ false → b ≡ false
+      last a b h = grind (arith, common_steps)
+
+      at : (b : Bool) → (runs_with_access w n d is ≡ x ∷ xs → (x == q) ≡ false) → (if b then (p.0 ∷ runs_with_access w n d is) else runs_with_access w n d is) ≡ x ∷ xs → (x == q) ≡ false
+      at true rest same = ap (λ k. k == q) (sym (ap (λ l. head_or l 0) same)) ∙ first (p.0 == q) (list_any (is_ran q) is) none
+      at false rest same = rest same
+
+  pub next_tells : (q : RunNo) (is : List Item) (xs : List Access) (s : Slot) → list_any (is_ran q.0) is ≡ false → Shows w n g d (Ran q ∷ is) (drop s.passed xs) → Next w n g d q.0 is xs s
+  next_tells q is xs s alone shows = at (uses w n d q.0 && not (list_any (covers n d) is)) (drop s.passed xs) refl refl shows.0 shows.1
+    where
+      its : Access → Option Access
+      its a = if is_of q.0 a then Some a else None
+
+      got : (ys : List Access) → drop s.passed xs ≡ ys → next_access xs s q.0 ≡ option_and_then its (slice_get ys 0)
+      got ys cut = ap (option_and_then its) (get_drop xs s.passed ∙ ap (λ l. slice_get l 0) cut)
+
+      at : (b : Bool) (ys : List Access) → (uses w n d q.0 && not (list_any (covers n d) is)) ≡ b → drop s.passed xs ≡ ys
+          → map (λ x. x.run.0) ys ≡ (if b then (q.0 ∷ runs_with_access w n d is) else runs_with_access w n d is) → EachTellsOfRun w n g d ys → Next w n g d q.0 is xs s
+      at true [] e cut same all = absurd (cc)
+      at true (x ∷ ys) e cut same all =
+          let own : x.run.0 ≡ q.0 = ap (λ l. head_or l 0) same in
+          let mine : (x.run.0 == q.0) ≡ true = grind (arith, common_steps) in
+          Own x ys (got (x ∷ ys) cut ∙ ap (λ b. if b then Some x else None) mine) e own all.0 (subst (Shows w n g d is) (sym (drop_next xs s.passed x ys cut)) (ap tail_of same, all.1))
+      at false [] e cut same all = Other (got [] cut) e (subst (Shows w n g d is) (sym cut) (same, all))
+      at false (x ∷ ys) e cut same all =
+          Other (got (x ∷ ys) cut ∙ ap (λ b. if b then Some x else None) (apart q.0 is x.run.0 (map (λ y. y.run.0) ys) alone (sym same))) e (subst (Shows w n g d is) (sym cut) (same, all))
+
+module _ (w : Setting) (n : Reading) (g : Grips) (f : Facts w n g) (r d : ℕ) where
+  -- one item further
+
+  abbrev end_on : ℕ → ℕ
+  end_on x = if is_open w n x d then planned_end (n.run x).planned d else 0
+
+  abbrev end_whole : ℕ → ℕ
+  end_whole x = if is_live n x && reads_first w.runs r d && writes_on w.runs x d then whole_end w n x else 0
+
+  abbrev end_of : Item → ℕ
+  end_of (Ran x) = max (end_on x.0) (end_whole x.0)
+  end_of (Failed e k) = 0
+  end_of (Back e k) = 0
+
+  free_more : (front : List Item) (i : Item) → free w n r (front ++ i ∷ []) d ≡ max (free w n r front d) (end_of i)
+  free_more front i = fold-append (λ t j. max t (end_of j)) 0 front (i ∷ [])
+
+  pub failed_reached : (front is : List Item) (e : DeviceNo) (k : ℕ) (xs : List Access) (s : Slot) → IsReached w n g r d front (Failed e k ∷ is) xs s → IsReached w n g r d (front ++ Failed e k ∷ []) is xs s
+  failed_reached front is e k xs s was = record { accesses = was.accesses; time = was.time ∙ sym (free_more front (Failed e k) ∙ max_none (free w n r front d)) }
+
+  pub back_reached : (front is : List Item) (e : DeviceNo) (k : ℕ) (xs : List Access) (s : Slot) → IsReached w n g r d front (Back e k ∷ is) xs s → IsReached w n g r d (front ++ Back e k ∷ []) is xs s
+  back_reached front is e k xs s was = record { accesses = was.accesses; time = was.time ∙ sym (free_more front (Back e k) ∙ max_none (free w n r front d)) }
+
+  -- a run whose access is passed
+
+  -- the access tells whether the run is open
+  own_end : (q : ℕ) (x : Access) (rest : List Access) (t : ℕ) → x.run.0 ≡ q → TellsOfRun w n g d x rest → uses w n d q ≡ true → (if is_doomed n q || is_released x.status then t else max t x.to) ≡ max t (end_on q)
+  own_end q x rest t own tells used = subst (λ p. uses w n d p ≡ true → (if is_doomed n p || is_released x.status then t else max t x.to) ≡ max t (end_on p)) own at used
+    where
+      shut : is_open w n x.run.0 d ≡ false → t ≡ max t (end_on x.run.0)
+      shut no' = sym (ap (λ b. max t (if b then planned_end (n.run x.run.0).planned d else 0)) no' ∙ max_none t)
+
+      opened : is_open w n x.run.0 d ≡ true → max t x.to ≡ max t (end_on x.run.0)
+      opened yes' = ap (max t) tells.to ∙ sym (ap (λ b. max t (if b then planned_end (n.run x.run.0).planned d else 0)) yes')
+
+      by_doom : (a b : Bool) → is_doomed n x.run.0 ≡ a → is_released x.status ≡ b → uses w n d x.run.0 ≡ true → (if a || b then t else max t x.to) ≡ max t (end_on x.run.0)
+      by_doom true b doom done used = shut (grind (arith, common_steps))
+      by_doom false true doom done used =
+          let holds : not (is_released x.status) ≡ holds_device w n g x.run.0 d = sound_holds w n g f d x rest tells used doom in
+          let none : holds_device w n g x.run.0 d ≡ false = sym holds ∙ ap not done in
+          shut (grind (arith, common_steps))
+      by_doom false false doom done used =
+          let holds : not (is_released x.status) ≡ holds_device w n g x.run.0 d = sound_holds w n g f d x rest tells used doom in
+          let some : holds_device w n g x.run.0 d ≡ true = sym holds ∙ ap not done in
+          opened (grind (arith, common_steps))
+
+      at : uses w n d x.run.0 ≡ true → (if is_doomed n x.run.0 || is_released x.status then t else max t x.to) ≡ max t (end_on x.run.0)
+      at used = by_doom (is_doomed n x.run.0) (is_released x.status) refl refl used
+
+  -- the slot behind the run alone
+  pub record IsPassed (front is : List Item) (q : ℕ) (xs : List Access) (s : Slot) : Type 0 where
+    pub accesses : Shows w n g d is (drop s.passed xs)
+    pub time : s.free ≡ max (free w n r front d) (end_on q)
+
+  passed : (front is : List Item) (q : RunNo) (xs : List Access) (s : Slot) (doomed : Bool) → HasAccess w n g f d (Ran q) is → doomed ≡ is_doomed n q.0 → s.free ≡ free w n r front d → Next w n g d q.0 is xs s
+      → IsPassed front is q.0 xs (slot_behind doomed (next_access xs s q.0) s)
+  passed front is q xs s doomed has doom time (Own x rest found its own tells left) = subst (λ o. IsPassed front is q.0 xs (slot_behind doomed o s)) (sym found) (record {
+    accesses = left;
+    time = ap (λ b. if b || is_released x.status then s.free else max s.free x.to) doom ∙ own_end q.0 x rest s.free own tells (first_of (uses w n d q.0) (not (list_any (covers n d) is)) its) ∙ ap (λ t. max t (end_on q.0)) time;
+  })
+  passed front is q xs s doomed has doom time (Other none lacks left) = subst (λ o. IsPassed front is q.0 xs (slot_behind doomed o s)) (sym none) (record {
+    accesses = left;
+    time = time ∙ sym (ap (λ b. max (free w n r front d) (if b then planned_end (n.run q.0).planned d else 0)) (closed (is_open w n q.0 d) refl) ∙ max_none (free w n r front d));
+  })
+    where
+      closed : (b : Bool) → is_open w n q.0 d ≡ b → b ≡ false
+      closed true e = let some : (uses w n d q.0 && not (list_any (covers n d) is)) ≡ true = has (ap (λ b. b || (is_live n q.0 && has_effect n g q.0 d)) e) in absurd (cc (some, lacks))
+      closed false e = refl
+
+  pub run_reached : (front is : List Item) (q : RunNo) (xs : List Access) (s : Slot) (doomed : Bool) (whole : ℕ) → HasAccess w n g f d (Ran q) is → list_any (is_ran q.0) is ≡ false → doomed ≡ is_doomed n q.0 → whole ≡ (if is_live n q.0 then whole_end w n q.0 else 0)
+      → IsReached w n g r d front (Ran q ∷ is) xs s → IsReached w n g r d (front ++ Ran q ∷ []) is xs (slot_waiting w.runs r q.0 whole d (slot_behind doomed (next_access xs s q.0) s))
+  run_reached front is q xs s doomed whole has alone doom ends was = record {
+    accesses = subst (λ k. Shows w n g d is (drop k xs)) (sym (stays waits)) before.accesses;
+    time = waits_to waits ∙ later_of t.free (whole_end w n q.0) (is_live n q.0) (reads_first w.runs r d) (writes_on w.runs q.0 d) whole ends ∙ ap (λ k. max k (end_whole q.0)) before.time ∙ max_both (free w n r front d) (end_on q.0) (end_whole q.0) ∙ sym (free_more front (Ran q));
+  }
+    where
+      t : Slot
+      t = slot_behind doomed (next_access xs s q.0) s
+
+      before : IsPassed front is q.0 xs t
+      before = passed front is q xs s doomed has doom was.time (next_tells w n g d q is xs s alone was.accesses)
+
+      waits : Bool
+      waits = nat_lt t.free whole && (reads_first w.runs r d && writes_on w.runs q.0 d)
+
+      stays : (b : Bool) → (if b then record t { free = whole } else t).passed ≡ t.passed
+      stays true = refl
+      stays false = refl
+
+      waits_to : (b : Bool) → (if b then record t { free = whole } else t).free ≡ (if b then whole else t.free)
+      waits_to true = refl
+      waits_to false = refl

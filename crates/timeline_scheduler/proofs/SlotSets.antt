@@ -1,0 +1,73 @@
+-- What is known of a device when slots are changed.
+use Rattle.std.proofs.Common.{ap, arith, cond, refl, subst, sym, ◌∙◌}
+use Rattle.std.proofs.lemmas.Grind.{common_steps}
+use Rattle.std.proofs.lemmas.List.{get_or-set_other, get_or-set_same, get_or_default, length-set}
+use Rattle.std.specs.List.{range_with_len}
+use Rattle.std.specs.Prelude.{Bool, List, [], false, filter, length, slice_index_or, slice_set, suc, true, zero, ℕ, ◌+◌, ◌<◌, ◌==◌, ◌∷◌, ◌≡◌, ◌≢◌, ◌≤◌}
+use Rattle.timeline_scheduler.specs.Slots.{changed, changed_on, no_slot, slot_at}
+use Rattle.timeline_scheduler.specs.declared.scratches.Slot.{Slot}
+
+-- of the device itself it is the new slot
+pub set_here : (slots : List Slot) (d : ℕ) (x : Slot) → d < length slots → slot_at (slice_set slots d x) d ≡ x
+set_here slots d x within = get_or-set_same slots d x no_slot within
+
+-- of another one it is what it was
+pub set_other : (slots : List Slot) (d e : ℕ) (x : Slot) → e ≢ d → slot_at (slice_set slots d x) e ≡ slot_at slots e
+set_other slots d e x other = get_or-set_other slots d e x no_slot other
+
+-- what an index gives
+pub slot_read : (slots : List Slot) (d : ℕ) (s : Slot) → d < length slots → s ≡ slice_index_or slots d s → slot_at slots d ≡ s
+slot_read slots d s within is = get_or_default slots d no_slot s within ∙ sym is
+
+module _ (change : ℕ → Slot → Slot) where
+  -- the slot of one device is changed
+  pub changed_is : (slots : List Slot) (d : ℕ) (s x : Slot) → d < length slots → s ≡ slice_index_or slots d s → x ≡ change d s → slice_set slots d x ≡ changed_on change slots d
+  changed_is slots d s x within is so = ap (slice_set slots d) (so ∙ ap (change d) (sym (slot_read slots d s within is)))
+
+  -- there are as many
+  pub changed_length : (devices : List ℕ) (slots : List Slot) → length (changed change devices slots) ≡ length slots
+  changed_length [] slots = refl
+  changed_length (d ∷ devices) slots = changed_length devices (changed_on change slots d) ∙ length-set slots d (change d (slot_at slots d))
+
+  module _ (p : ℕ → Bool) (else_same : (d : ℕ) (s : Slot) → p d ≡ false → change d s ≡ s) where
+    -- a device before the range is as it was
+    before_range : (a n : ℕ) (slots : List Slot) (d : ℕ) → d < a → slot_at (changed change (filter p (range_with_len a n)) slots) d ≡ slot_at slots d
+    before_range a zero slots d below = refl
+    before_range a (suc n) slots d below = by_test (p a) (λ s. before_range (a + 1) n s d (omega (arith, below)))
+      where
+        by_test : (b : Bool) → ((s : List Slot) → slot_at (changed change (filter p (range_with_len (a + 1) n)) s) d ≡ slot_at s d)
+            → slot_at (changed change (cond b (a ∷ filter p (range_with_len (a + 1) n)) (filter p (range_with_len (a + 1) n))) slots) d ≡ slot_at slots d
+        by_test true rest = rest (changed_on change slots a) ∙ set_other slots a d (change a (slot_at slots a)) (omega (arith, below))
+        by_test false rest = rest slots
+
+    -- one in it is changed
+    in_range : (a n : ℕ) (slots : List Slot) (d : ℕ) → a + n ≤ length slots → a ≤ d → d < a + n → slot_at (changed change (filter p (range_with_len a n)) slots) d ≡ change d (slot_at slots d)
+    in_range a zero slots d size from below = absurd (omega (arith, from, below))
+    in_range a (suc n) slots d size from below = by_test (p a) (d == a) refl refl (λ s long further. in_range (a + 1) n s d long further (omega (arith, below)))
+      where
+        Goal : Bool → Type 0
+        Goal b = slot_at (changed change (cond b (a ∷ filter p (range_with_len (a + 1) n)) (filter p (range_with_len (a + 1) n))) slots) d ≡ change d (slot_at slots d)
+
+        after : List Slot
+        after = changed_on change slots a
+
+        by_test : (b c : Bool) → p a ≡ b → (d == a) ≡ c
+            → ((s : List Slot) → a + 1 + n ≤ length s → a + 1 ≤ d → slot_at (changed change (filter p (range_with_len (a + 1) n)) s) d ≡ change d (slot_at s d)) → Goal b
+        by_test true true on own rest =
+            let same : a ≡ d = grind (arith, common_steps) in
+            before_range (a + 1) n after d (omega (arith, same))
+            ∙ subst (λ k. slot_at (changed_on change slots a) k ≡ change k (slot_at slots k)) same (set_here slots a (change a (slot_at slots a)) (omega (arith, size)))
+        by_test true false on other rest =
+            let apart : d ≢ a = grind (arith, common_steps) in
+            let long : length after ≡ length slots = length-set slots a (change a (slot_at slots a)) in
+            rest after (omega (arith, long, size)) (omega (arith, from, apart)) ∙ ap (change d) (set_other slots a d (change a (slot_at slots a)) apart)
+        by_test false true off own rest =
+            let same : a ≡ d = grind (arith, common_steps) in
+            before_range (a + 1) n slots d (omega (arith, same)) ∙ sym (subst (λ k. change k (slot_at slots d) ≡ slot_at slots d) same (else_same a (slot_at slots d) off))
+        by_test false false off other rest =
+            let apart : d ≢ a = grind (arith, common_steps) in
+            rest slots (omega (arith, size)) (omega (arith, from, apart))
+
+    -- each device is changed, where the others would stay
+    pub changed_at : (n : ℕ) (slots : List Slot) (d : ℕ) → length slots ≡ n → d < n → slot_at (changed change (filter p (range_with_len 0 n)) slots) d ≡ change d (slot_at slots d)
+    changed_at n slots d size within = in_range 0 n slots d (omega (arith, size)) (omega arith) (omega (arith, within))

@@ -1,0 +1,18 @@
+-- The times that a scratch holds.
+use Rattle.history_book.specs.Plans.{planned_end, planned_start}
+use Rattle.history_book.specs.Readings.{Planned}
+use Rattle.std.specs.List.{list_any}
+use Rattle.std.specs.Prelude.{List, None, Option, Some, if◌then◌else◌, option_and_then, slice_get, ℕ, ◌==◌, ◌≡◌}
+use Rattle.timeline_scheduler.specs.declared.scratches.Slot.{Slot}
+
+-- the times that are held for the device
+abbrev pub planned_in : List Slot → ℕ → Option (ℕ × ℕ)
+planned_in slots d = option_and_then (λ (s : Slot). s.planned) (slice_get slots d)
+
+-- from when and to when a run that is planned so uses the device: from the start of its first command there to the end of its last one
+abbrev pub planned_span : List Planned → ℕ → Option (ℕ × ℕ)
+planned_span planned d = if list_any (λ p. p.device == d) planned then Some (planned_start planned d, planned_end planned d) else None
+
+-- the scratch holds the times of this plan
+abbrev pub HoldsTimes : List Slot → List Planned → Type 0
+HoldsTimes slots planned = (d : ℕ) → planned_in slots d ≡ planned_span planned d

@@ -1,0 +1,127 @@
+-- What the slots of a scratch become as items of the line are passed, and as a run is planned behind them.
+use Rattle.command_rules.specs.Rosters.{Run, is_on, is_run, reads_first, touches, writes_on}
+use Rattle.history_book.specs.Books.{doom_of}
+use Rattle.history_book.specs.Plans.{plan_more}
+use Rattle.history_book.specs.Readings.{Planned}
+use Rattle.history_book.specs.declared.entries.Kept.{Kept}
+use Rattle.home_types.specs.declared.commands.Command.{Command}
+use Rattle.home_types.specs.declared.items.Item.TheVariants.{Back, Failed, Ran}
+use Rattle.home_types.specs.declared.items.Item.{Item}
+use Rattle.home_types.specs.declared.numbers.RunNo.{RunNo}
+use Rattle.lineage_table.specs.Accesses.{has_access, is_of, is_released}
+use Rattle.lineage_table.specs.Lineages.{LineageState, accesses_at}
+use Rattle.lineage_table.specs.declared.accesses.Access.{Access}
+use Rattle.std.specs.List.{list_any, range_with_len}
+use Rattle.std.specs.Prelude.{Bool, IsTrue, List, None, Option, Some, [], false, filter, fold, if◌then◌else◌, is_some, length, max, nat_le, nat_lt, option_and_then, slice_get, slice_index_or, slice_set, true, ℕ, ◌&&◌, ◌+◌, ◌<◌, ◌≡◌, ◌||◌}
+use Rattle.timeline_scheduler.specs.declared.scratches.Slot.{Slot}
+
+-- Slots
+
+-- of a device nothing was passed, and nothing is planned
+abbrev pub no_slot : Slot
+no_slot = record { passed = 0; free = 0; planned = None }
+
+-- what is known of the device
+abbrev pub slot_at : List Slot → ℕ → Slot
+slot_at slots d = slice_index_or slots d no_slot
+
+-- nothing is known of any
+abbrev pub IsFresh : List Slot → Type 0
+IsFresh slots = (d : ℕ) → slot_at slots d ≡ no_slot
+
+-- The devices of a run
+
+-- each command is on a device of the home
+abbrev pub AreHomed : ℕ → List Run → Type 0
+AreHomed devices runs = (x d : ℕ) → touches runs x d ≡ true → d < devices
+
+-- the runs of the line are of the roster
+abbrev pub AreRuns : List Run → List Item → Type 0
+AreRuns runs items = (at : ℕ) (x : RunNo) → slice_get items at ≡ Some (Ran x) → IsTrue (is_run runs x.0)
+
+-- the devices of so many that the run has in its footprint
+abbrev pub devices_among : List Run → ℕ → ℕ → List ℕ
+devices_among runs r devices = filter (touches runs r) (range_with_len 0 devices)
+
+-- those to which the run has an access
+abbrev pub devices_with : List LineageState → ℕ → List ℕ
+devices_with table x = filter (λ d. has_access x (accesses_at table d)) (range_with_len 0 (length table))
+
+-- An item is passed
+
+-- the first access that is not passed, where it is that of the run
+abbrev pub next_access : List Access → Slot → ℕ → Option Access
+next_access accesses slot x = option_and_then (λ (a : Access). if is_of x a then Some a else None) (slice_get accesses slot.passed)
+
+-- behind this access the device is free at its planned end, unless its run is done with it, or is doomed
+abbrev pub slot_behind : Bool → Option Access → Slot → Slot
+slot_behind doomed None slot = slot
+slot_behind doomed (Some a) slot = record { passed = slot.passed + 1; free = if doomed || is_released a.status then slot.free else max slot.free a.to; planned = slot.planned }
+
+-- the planned end of the access, where there is one
+abbrev pub end_of_access : Option Access → ℕ
+end_of_access None = 0
+end_of_access (Some a) = a.to
+
+-- the next access to the device is passed, where it is that of the run
+abbrev pub slot_passed : List LineageState → Bool → ℕ → ℕ → Slot → Slot
+slot_passed table doomed x d slot = slot_behind doomed (next_access (accesses_at table d) slot x) slot
+
+-- where r begins on the device with a read, and x writes it, it is free at the planned end of the whole of x
+abbrev pub slot_waiting : List Run → ℕ → ℕ → ℕ → ℕ → Slot → Slot
+slot_waiting runs r x whole d slot = if nat_lt slot.free whole && (reads_first runs r d && writes_on runs x d) then record slot { free = whole } else slot
+
+-- the slot of the device is changed so
+abbrev pub changed_on : (ℕ → Slot → Slot) → List Slot → ℕ → List Slot
+changed_on change slots d = slice_set slots d (change d (slot_at slots d))
+
+-- .. those of all of these devices
+abbrev pub changed : (ℕ → Slot → Slot) → List ℕ → List Slot → List Slot
+changed change devices slots = fold (changed_on change) slots devices
+
+-- the planned end of the whole run, by its next accesses
+abbrev pub whole_passed : List LineageState → ℕ → List Slot → ℕ
+whole_passed table x slots = fold (λ t d. max t (end_of_access (next_access (accesses_at table d) (slot_at slots d) x))) 0 (devices_with table x)
+
+-- the item stands before r
+abbrev pub passed_item : List LineageState → List Kept → List Run → ℕ → Option Item → List Slot → List Slot
+passed_item table history runs r item slots = by_item item
+  where
+    waited : ℕ → ℕ → List Slot → List Slot
+    waited x whole passed = if nat_lt 0 whole then changed (slot_waiting runs r x whole) (devices_among runs r (length passed)) passed else passed
+
+    by_item : Option Item → List Slot
+    by_item None = slots
+    by_item (Some (Ran x)) = waited x.0 (whole_passed table x.0 slots) (changed (slot_passed table (is_some (doom_of history x.0)) x.0) (devices_with table x.0) slots)
+    by_item (Some (Failed d k)) = slots
+    by_item (Some (Back d k)) = slots
+
+-- A plan
+
+-- the commands planned behind what was passed, from this moment on
+abbrev pub plan_behind : List Slot → List Command → ℕ → List Planned
+plan_behind slots commands m = (fold (plan_more (λ d. (slot_at slots d).free)) (record { clock = m; planned = [] }) commands).planned
+
+-- no time is held for a device of which none of the commands is
+abbrev pub PlansOnly : List Command → List Slot → Type 0
+PlansOnly commands slots = (d : ℕ) → list_any (is_on d) commands ≡ false → (slot_at slots d).planned ≡ None
+
+-- what was passed is as it was
+pub record LeavesPassed (slots left : List Slot) : Type 0 where
+  pub size : length left ≡ length slots
+  pub passed : (d : ℕ) → (slot_at left d).passed ≡ (slot_at slots d).passed
+  pub free : (d : ℕ) → (slot_at left d).free ≡ (slot_at slots d).free
+
+-- the use of a device with one more command, planned from and to these times
+abbrev pub used_again : Option (ℕ × ℕ) → ℕ → ℕ → ℕ × ℕ
+used_again None from to = (from, to)
+used_again (Some used) from to = (used.0, to)
+
+-- the plan ends on the device before the next one of these accesses is planned to start
+abbrev pub fits_slot : List Access → Slot → Bool
+fits_slot accesses slot = by_plan slot.planned (slice_get accesses slot.passed)
+  where
+    by_plan : Option (ℕ × ℕ) → Option Access → Bool
+    by_plan None next = true
+    by_plan (Some used) None = true
+    by_plan (Some used) (Some next) = nat_le used.1 next.from
