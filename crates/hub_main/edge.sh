@@ -1,6 +1,6 @@
 #!/bin/sh
-# Plays refused calls through the built program, and compares its status, standard output and standard error with
-# what docs/FORMATS.md says. `rt ci` builds the program and leaves it in out/. Silent where all is as it says.
+# Plays calls through the built program, most of them refused, and compares its status, standard output and standard
+# error with what docs/FORMATS.md says. `rt ci` builds the program and leaves it in out/. Silent where all is as it says.
 cd "$(dirname "$0")" || exit 1
 if [ ! -f out/hub_main ]; then
     echo "edge: there is no built program at crates/hub_main/out/hub_main" >&2
@@ -26,6 +26,17 @@ call() {
     call="$* < $input"
     printf '%s' "$input" | "$room/hub_main" "$@" >"$room/out" 2>"$room/err"
     got=$?
+}
+
+# plays RECORD WORD..: these words on $input end with this record, and nothing on standard error
+plays() {
+    record=$1
+    shift
+    call "$@"
+    if [ "$got" != 0 ] || [ -s "$room/err" ] || ! cmp -s "$record" "$room/out"; then
+        echo "edge: $call: status $got and '$(cat "$room/err")'" >&2
+        failed=1
+    fi
 }
 
 # script INPUT LINE: a replay of this input is refused so
@@ -70,6 +81,7 @@ words Replay
 words replay --mod ev
 words replay --model ev --model ev
 words replay --scheduler jit --model psv
+words replay --scheduler timeline --model wv
 words replay --
 words replay --help
 words check --trace
@@ -77,12 +89,12 @@ words trial 01
 words "$(printf 'replay\377')"
 words replay "$(printf '\377')"
 
-call replay --scheduler timeline
+call check
+ends 8 'later top'
+call trial 1
 ends 8 'later top'
 words run twice
 words run --model wv --model wv
-call run --scheduler timeline
-ends 8 'later top'
 
 call='replay of no standard input'
 "$room/hub_main" replay <&- >"$room/out" 2>"$room/err"
@@ -101,19 +113,13 @@ if [ -c /dev/full ]; then
     ends 4 write
 fi
 
-# a replay that is not refused writes nothing on standard error
-printf '%s' "$input" | "$room/hub_main" replay >"$room/out" 2>"$room/err"
-got=$?
-if [ "$got" != 0 ] || [ -s "$room/err" ] || ! cmp -s stdout "$room/out"; then
-    echo "edge: replay of one light: status $got and '$(cat "$room/err")'" >&2
-    failed=1
-fi
-
-# the same day run with threads has the same record, since it has one run
-printf '%s' "$input" | "$room/hub_main" run >"$room/out" 2>"$room/err"
-got=$?
-if [ "$got" != 0 ] || [ -s "$room/err" ] || ! cmp -s stdout "$room/out"; then
-    echo "edge: run of one light: status $got and '$(cat "$room/err")'" >&2
-    failed=1
-fi
+# run with threads the day has the record of its replay, since it has one run; so it has by the other schedulers, but
+# for the line that names them
+plays stdout replay
+plays stdout run
+for scheduler in jit timeline; do
+    sed "s/^model ev fcfs\$/model ev $scheduler/" stdout >"$room/record"
+    plays "$room/record" replay --scheduler "$scheduler"
+    plays "$room/record" run --scheduler "$scheduler"
+done
 exit "$failed"

@@ -1,7 +1,7 @@
 mod Snocs
 mod DaysUnderWay
 mod SoundScripts
-mod BuiltModes
+mod AskedModes
 pub mod Openings
 mod PlayedWindows
 mod WorkedWays

@@ -1,4 +1,4 @@
--- A window of a sound script may be opened in a mode that is built.
+-- A window of a sound script may be opened in every mode.
 use Rattle.command_rules.specs.Rosters.{Run, commands_of, followed_by, run_at, runs_of}
 use Rattle.command_rules.specs.declared.rosters.Roster.{Roster}
 use Rattle.home_types.specs.Kinds.{kind_at}
@@ -8,14 +8,10 @@ use Rattle.home_types.specs.declared.commands.Job.{Job}
 use Rattle.home_types.specs.declared.kinds.Kind.{Kind}
 use Rattle.home_types.specs.declared.numbers.RunNo.{RunNo}
 use Rattle.home_types.specs.declared.modes.Mode.{Mode}
-use Rattle.home_types.specs.declared.modes.Scheduler.TheVariants.{Fcfs, JustInTime, Timeline}
-use Rattle.home_types.specs.declared.modes.Scheduler.{Scheduler}
 use Rattle.hub_core.specs.Homes.{HomeIsKept, HomeState, setting_for}
 use Rattle.hub_core.specs.Openings.{MayOpen, is_mode, names_values_of}
-use Rattle.hub_core.specs.Stage.{StageAllows, is_timeline}
 use Rattle.hub_commands.proofs.SoundScripts.{routine_is_sound, window_is_sound}
 use Rattle.hub_commands.specs.Played.{setting_on}
-use Rattle.later_forms.specs.CommandLines.{is_later_mode, is_later_scheduler}
 use Rattle.routine_reader.proofs.RosterLemmas.{runs-there}
 use Rattle.routine_reader.specs.Rosters.{kinds_of, routine_at, run_of_text, script_runs}
 use Rattle.routine_reader.specs.Scripts.{plain_device, plain_script}
@@ -143,14 +139,6 @@ may_open tag stands turns probes faults script mode k window home sound goes at 
         let b = ap (λ ks. length ks) kinds in
         let e = length-map script.devices.items (λ d. d.kind) in
         below d (length home.world) (omega (arith, inside, a, b, e, kept.kinds))
-
-pub stage_allows : {D : Type 0} (script : Script) (mode : Mode) (k : ℕ) (home : HomeState D) → is_later_mode mode ≡ false → StageAllows (setting_on script mode k home)
-stage_allows script mode k home built = by_scheduler mode.scheduler built
-  where
-    by_scheduler : (scheduler : Scheduler) → is_later_scheduler scheduler ≡ false → is_timeline scheduler ≡ false
-    by_scheduler Fcfs is = refl
-    by_scheduler JustInTime is = refl
-    by_scheduler Timeline is = absurd (cc)
 
 -- the window's setting, with the roster of its runs
 pub setting_as : {D : Type 0} (script : Script) (k : ℕ) (home : HomeState D) (roster : Roster) (mode : Mode) → runs_of roster ≡ script_runs script k → setting_for home roster mode ≡ setting_on script mode k home

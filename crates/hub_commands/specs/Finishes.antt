@@ -14,7 +14,7 @@ use Rattle.hub_commands.specs.Days.{DevicesAreProbed, WindowsArePlayed, text_due
 use Rattle.hub_commands.specs.declared.faults.Fault.TheVariants.{Check, Later, Memory, Read, Script as Refuses, Words, Write}
 use Rattle.hub_commands.specs.declared.faults.Fault.{Fault}
 use Rattle.hub_commands.specs.declared.finishes.Day.{Day}
-use Rattle.later_forms.specs.CommandLines.{is_later, is_later_mode}
+use Rattle.later_forms.specs.CommandLines.{is_later}
 use Rattle.routine_reader.specs.Readings.{script_reading}
 use Rattle.routine_reader.specs.Scripts.{plain_script}
 use Rattle.routine_reader.specs.Spots.{is_memory, top}
@@ -170,9 +170,9 @@ DayEnds works shown script options sink day (Some Memory) = IsStarved works scri
 DayEnds works shown script options sink day (Some (Later spot)) = ⊥
 DayEnds works shown script options sink day (Some (Check window place name)) = ⊥
 
--- the command line asks for a replay or a run in a mode that is built
+-- the command line asks for a replay or a run
 abbrev pub AsksFor : Option CommandLine → Options → Type 0
-AsksFor line options = ((line ≡ Some (Replay options)) ⊎ (line ≡ Some (Run options))) × (is_later_mode options.mode ≡ false)
+AsksFor line options = (line ≡ Some (Replay options)) ⊎ (line ≡ Some (Run options))
 
 -- the day of the script that was read is played
 pub record DayIsPlayed {D : Type 0} (works : Setting → WindowText → WindowRecord → (ℕ → ℕ) → Type 0) (shown : Shown D) (line : Option CommandLine) (source : Reads) (sink : Writes) (day : Option (Day D)) (fault : Option Fault) : Type 0 where
@@ -182,7 +182,7 @@ pub record DayIsPlayed {D : Type 0} (works : Setting → WindowText → WindowRe
   pub read : IsRead source script
   pub ends : DayEnds works shown script options sink day fault
 
--- the command or its mode is not built, and nothing was read
+-- the command is not built, and nothing was read
 pub record CommandIsLater {D : Type 0} (line : Option CommandLine) (spot : Spot) (source : Reads) (sink : Writes) (day : Option (Day D)) : Type 0 where
   pub command : CommandLine
   pub given : line ≡ Some command

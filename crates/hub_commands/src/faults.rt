@@ -18,7 +18,7 @@ pub enum Fault {
     Write,
     /// Want of memory.
     Memory,
-    /// The command or its mode is not built yet: the place is the top.
+    /// The command is not built yet: the place is the top.
     Later(Spot),
     /// The record does not agree with the serial execution of its orders.
     Check {

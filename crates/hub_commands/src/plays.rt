@@ -3,7 +3,6 @@ ghost use Rattle.home_types.specs.Limits.{most_windows};
 ghost use Rattle.hub_commands.specs.Played.{NextIsOpened};
 ghost use Rattle.hub_core.specs.Homes.{HomeIsKept};
 ghost use Rattle.hub_core.specs.Openings.{is_mode};
-ghost use Rattle.later_forms.specs.CommandLines.{is_later_mode};
 ghost use Rattle.routine_reader.specs.Rosters.{kinds_of};
 ghost use Rattle.routine_reader.specs.Scripts.{plain_script};
 ghost use Rattle.routine_reader.specs.Sound.{IsSound};
@@ -32,7 +31,6 @@ pub fn open_next<Dev: Device>(
     day: DayUnderWay<Dev>,
 ) -> Result<(Hub<Dev>, List<WindowRecord>), List<WindowRecord>>
     requires sound { IsSound (plain_script script.now) }
-    requires mode { is_later_mode mode ≡ false }
     requires goes { IsTrue (is_mode mode) }
     requires next { length day.windows.items < length script.now.windows.items }
     requires kinds { day.home.kinds ≡ kinds_of script.now }
@@ -62,7 +60,6 @@ fn open_window<Dev: Device>(
     home: Home<Dev>,
 ) -> Result<Hub<Dev>, NoMemory>
     requires sound { IsSound (plain_script script.now) }
-    requires mode { is_later_mode mode ≡ false }
     requires goes { IsTrue (is_mode mode) }
     requires there { number < length script.now.windows.items }
     requires kinds { home.kinds ≡ kinds_of script.now }

@@ -8,7 +8,6 @@ ghost use Rattle.hub_commands.specs.Ways.{IsRunWithin};
 ghost use Rattle.hub_core.specs.OpenHubs.{configuration_of};
 ghost use Rattle.hub_core.specs.Openings.{is_mode};
 ghost use Rattle.hub_core.specs.Steps.{opened};
-ghost use Rattle.later_forms.specs.CommandLines.{is_later_mode};
 ghost use Rattle.routine_reader.specs.Scripts.{plain_script};
 ghost use Rattle.routine_reader.specs.Sound.{IsSound};
 
@@ -25,8 +24,7 @@ use history_book::WindowRecord;
 use home_types::{List, Mode, NoMemory};
 use hub_core::{Home, Hub};
 use hub_threads::run_window;
-use later_forms::is_later;
-use routine_reader::{Script, Spot, WindowText};
+use routine_reader::{Script, WindowText};
 use std::alloc::Global;
 use std::sync::Wait;
 use std::thread::Threads;
@@ -61,7 +59,6 @@ fn run_next<R: Threads + Wait + Sync, D: Device + Send, C: Clock + Sync>(
     clock: &C,
 ) -> Result<DayUnderWay<D>, List<WindowRecord>>
     requires sound { IsSound (plain_script script.now) }
-    requires mode { is_later_mode mode ≡ false }
     requires goes { IsTrue (is_mode mode) }
     requires next { length day.windows.items < length script.now.windows.items }
     requires under_way { IsUnderWay (IsRunWithin (C.latest clock.now)) D.tag D.plan D.stands D.turns D.probes D.faults script.now mode day.home day.windows.items }
@@ -94,7 +91,6 @@ fn run_day<R: Threads + Wait + Sync, K: Sink, B: Bench, C: Clock + Sync>(
 where
     B::Dev: Send,
     requires sound { IsSound (plain_script script.now) }
-    requires mode { is_later_mode options.mode ≡ false }
     requires goes { IsTrue (is_mode options.mode) }
     ensures status { result.status ≡ status_of result.fault }
     ensures ends { DayEnds (IsRunWithin (C.latest clock.now))
@@ -119,12 +115,12 @@ where
 }
 
 /// Reads the words of `run`.
-fn read_run_words(alloc: Global, words: &[String]) -> Result<CommandLine, WordFault>
-    ensures meaning { IfOk result (λ line. run_line_of (map string_bytes words.now) ≡ Some line) }
+fn read_run_words(alloc: Global, words: &[String]) -> Result<Options, WordFault>
+    ensures meaning { IfOk result (λ options. run_line_of (map string_bytes words.now) ≡ Some (CommandLine.Run options)) }
     ensures refused { result ≡ Err WordFault.Words → run_line_of (map string_bytes words.now) ≡ None }
 {
     match read_words(alloc, words) {
-        Ok(CommandLine::Run(options)) => Ok(CommandLine::Run(options)),
+        Ok(CommandLine::Run(options)) => Ok(options),
         Ok(CommandLine::Replay(_)) => Err(WordFault::Words),
         Ok(CommandLine::Check) => Err(WordFault::Words),
         Ok(CommandLine::Trial(_)) => Err(WordFault::Words),
@@ -162,13 +158,10 @@ where
         (read_off (S.left source.old) (S.left source.new) (S.faults source.old) (S.faults source.new))
         result.day }
 {
-    let line = match read_run_words(alloc, words) {
-        Ok(line) => line,
+    let options = match read_run_words(alloc, words) {
+        Ok(options) => options,
         Err(WordFault::Words) => return refuse(Fault::Words),
         Err(WordFault::NoMemory) => return refuse(Fault::Memory),
-    };
-    let (CommandLine::Run(options), false) = (line, is_later(line)) else {
-        return refuse(Fault::Later(Spot::TOP));
     };
     let script = match read_input(alloc, source) {
         Ok(script) => script,

@@ -8,7 +8,6 @@ ghost use Rattle.hub_commands.specs.Ways.{IsReplayOf};
 ghost use Rattle.hub_core.specs.OpenHubs.{configuration_of};
 ghost use Rattle.hub_core.specs.Openings.{is_mode};
 ghost use Rattle.hub_core.specs.Steps.{opened};
-ghost use Rattle.later_forms.specs.CommandLines.{is_later_mode};
 ghost use Rattle.routine_reader.specs.Scripts.{plain_script};
 ghost use Rattle.routine_reader.specs.Sound.{IsSound};
 
@@ -56,7 +55,6 @@ fn replay_next<D: Device>(
     day: DayUnderWay<D>,
 ) -> Result<DayUnderWay<D>, List<WindowRecord>>
     requires sound { IsSound (plain_script script.now) }
-    requires mode { is_later_mode mode ≡ false }
     requires goes { IsTrue (is_mode mode) }
     requires next { length day.windows.items < length script.now.windows.items }
     requires under_way { IsUnderWay IsReplayOf D.tag D.plan D.stands D.turns D.probes D.faults script.now mode day.home day.windows.items }
@@ -85,7 +83,6 @@ fn replay_day<K: Sink, B: Bench>(
     bench: &mut B,
 ) -> Finish<B::Dev>
     requires sound { IsSound (plain_script script.now) }
-    requires mode { is_later_mode options.mode ≡ false }
     requires goes { IsTrue (is_mode options.mode) }
     ensures status { result.status ≡ status_of result.fault }
     ensures ends { DayEnds IsReplayOf
@@ -130,7 +127,7 @@ fn read_still_words(alloc: Global, words: &[String]) -> Result<CommandLine, Word
 ///
 /// The status tells how the call ended: 0, the record is written; 1, the script is refused; 2, the words are of no
 /// command that this call takes; 3, the source failed; 4, the sink failed, and holds a first part of the record; 5, want of memory, and the
-/// sink holds a first part of the record; 8, what is asked for is not built yet. At 1, 2, 3 and 8 nothing is written.
+/// sink holds a first part of the record; 8, the command is not built yet. At 1, 2, 3 and 8 nothing is written.
 /// docs/FORMATS.md has the words, the script and the record.
 pub fn still_command<S: Source, K: Sink, B: Bench>(
     alloc: Global,

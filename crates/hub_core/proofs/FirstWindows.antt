@@ -26,7 +26,7 @@ use Rattle.std.proofs.lemmas.Grind.{common_steps}
 use Rattle.std.proofs.lemmas.List.Elements.{All-get_or}
 use Rattle.std.proofs.lemmas.List.{length-map}
 use Rattle.std.proofs.lemmas.Option.{get_or_from_slice_get, slice_get-map, slice_get_within}
-use Rattle.std.specs.Prelude.{All, Bool, IfSome, List, None, Option, Some, [], false, nat_lt, option_and_then, option_map, slice_get, suc, true, unwrap_or, zero, ℕ, ◌&&◌, ◌<◌, ◌∷◌, ◌||◌, ◌≡◌, ◌≤◌}
+use Rattle.std.specs.Prelude.{All, Bool, IfSome, List, None, Option, Some, [], false, nat_lt, option_and_then, option_map, slice_get, suc, true, unwrap_or, zero, ℕ, ◌&&◌, ◌<◌, ◌∷◌, ◌≡◌, ◌≤◌}
 
 -- what holds of all items holds of the one at a place
 at_place : {X : Type 0} (P : X → Type 0) (xs : List X) (k : ℕ) (x : X) → All P xs → slice_get xs k ≡ Some x → P x

@@ -1,5 +1,5 @@
 pub mod steps
-pub mod stage
+pub mod windows
 pub mod kept
 pub mod waiting
 pub mod calls

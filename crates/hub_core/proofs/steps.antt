@@ -1,4 +1,4 @@
--- Steps of the definition, whatever the stage.
+-- Steps of the definition.
 pub mod Choices
 pub mod Revoked
 pub mod Takes

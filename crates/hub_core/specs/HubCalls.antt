@@ -7,32 +7,33 @@ use Rattle.device_gate.specs.declared.grips.Ready.{Ready}
 use Rattle.device_gate.specs.declared.slips.Slip.{Slip}
 use Rattle.device_gate.specs.declared.strangers.Stranger.{Stranger}
 use Rattle.history_book.specs.Histories.{entries_made, entries_of, reading}
-use Rattle.history_book.specs.Settings.{Setting, is_weak}
+use Rattle.history_book.specs.Settings.{Setting, is_weak, scheduler_of}
 use Rattle.history_book.specs.WellFormed.{IsWellFormed}
 use Rattle.history_book.specs.declared.entries.End.TheVariants.{Committed}
+use Rattle.history_book.specs.declared.entries.Entry.TheVariants.{Placed}
 use Rattle.history_book.specs.declared.entries.Made.{Made}
 use Rattle.history_book.specs.declared.records.WindowRecord.{WindowRecord}
 use Rattle.home_types.specs.HomeStates.{stand_at}
 use Rattle.home_types.specs.Limits.{most_devices, most_runs}
-use Rattle.home_types.specs.declared.modes.Scheduler.TheVariants.{Fcfs}
+use Rattle.home_types.specs.declared.modes.Scheduler.TheVariants.{Fcfs, Timeline}
 use Rattle.hub_core.specs.AccountedCalls.{told_calls, told_falls}
 use Rattle.hub_core.specs.CleanReads.{ReadsAreClean}
 use Rattle.hub_core.specs.Homes.{HomeState}
 use Rattle.hub_core.specs.HubSteps.{Carried, Chose, Give, GiveProbe, Gave, HubStep, Probed, Refused, Returned, Take, TakeProbe, task_of}
 use Rattle.hub_core.specs.JustifiedAborts.{IsJustified}
 use Rattle.hub_core.specs.LegalWindows.{IsLegalWindow, history_of}
+use Rattle.hub_core.specs.MustChecks.{has_must_check}
 use Rattle.hub_core.specs.OpenHubs.{OpenHub, configuration_of, device_at, state_of}
-use Rattle.hub_core.specs.Stage.{StageAllows, has_must_check}
 use Rattle.hub_core.specs.Steps.{Absent as IsAbsent, Choice, HandsOut, Moves, Over as IsOver, Waits, choice_of, opened}
 use Rattle.hub_core.specs.declared.turns.Turn.TheVariants.{Absent, Go, Moved, Over, Wait}
 use Rattle.hub_core.specs.declared.turns.Turn.{Turn}
 use Rattle.hub_core.specs.declared.waits.Why.{Why}
 use Rattle.lock_leasing.specs.Configurations.{Commands, Configuration, Grip, Probes, Purpose, Undoes, read_of}
 use Rattle.lock_leasing.specs.Order.{OrderStands}
-use Rattle.lock_leasing.specs.Places.{GripsFit, PlacesAreScheduled}
+use Rattle.lock_leasing.specs.Places.{GripsFit, IsEarliestPlace, PlacesAreScheduled}
 use Rattle.lock_leasing.specs.Words.{standing_value}
-use Rattle.command_rules.specs.Rosters.{command_at, is_run}
-use Rattle.std.specs.Prelude.{Bool, Err, List, None, Ok, Option, Result, Some, false, is_some, length, not, slice_get, slice_index_or, slice_set, true, ℕ, ◌+◌, ◌-◌, ◌<◌, ◌≡◌, ◌≢◌, ◌≤◌, ◌||◌}
+use Rattle.command_rules.specs.Rosters.{command_at, is_run, run_no}
+use Rattle.std.specs.Prelude.{Bool, Err, List, None, Ok, Option, Result, Some, [], false, is_some, length, not, slice_get, slice_index_or, slice_set, true, ℕ, ⊤, ◌+◌, ◌-◌, ◌<◌, ◌∷◌, ◌≡◌, ◌≢◌, ◌≤◌, ◌||◌}
 
 -- the hub is in the same window, with the same counts of its devices at the opening
 pub record SameWindow {D : Type 0} (s t : OpenHub D) : Type 0 where
@@ -61,6 +62,14 @@ IsTurn s r m (Moved made) t = Answers s r m (Moves (entries_made made)) t
 IsTurn s r m (Wait why) t = Answers s r m (Waits why) t
 IsTurn s r m (Over end made) t = Answers s r m (IsOver end (entries_made made)) t
 IsTurn s r m Absent t = Answers s r m IsAbsent t
+
+-- where the step places the run by the timeline, no place that fits, from the first one on, plans an earlier end of it
+abbrev pub PlansEarliest : {D : Type 0} → Configuration → ℕ → Turn D → Type 0
+PlansEarliest s r (Go grip) = ⊤
+PlansEarliest s r (Moved made) = scheduler_of s.setting.mode ≡ Timeline → (at m : ℕ) → entries_made made ≡ Placed (run_no r) at m ∷ [] → IsEarliestPlace s.setting (read_of s) s.grips r m at
+PlansEarliest s r (Wait why) = ⊤
+PlansEarliest s r (Over end made) = ⊤
+PlansEarliest s r Absent = ⊤
 
 -- what the grip carries
 abbrev pub carried_by : {D S : Type 0} → Gripped D S → Carried
@@ -181,8 +190,6 @@ pub record HubStands {D : Type 0} (stands turns probes faults : D → ℕ) (s : 
   pub moment : (read_of (configuration_of s)).moment ≤ s.moment
   pub stand : DevicesStand stands s
   pub told : CallsAreTold turns probes faults s
-  -- the window is one of those that this stage works
-  pub stage : StageAllows s.setting
 
 -- where no device is out and some run has not ended, some run that has not ended does not wait, at any moment
 abbrev pub SomeRunMoves : Configuration → Type 0

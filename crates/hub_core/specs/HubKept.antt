@@ -20,7 +20,6 @@ use Rattle.hub_core.specs.CleanReads.{ReadsAreClean}
 use Rattle.hub_core.specs.Isolation.{IsStrict}
 use Rattle.hub_core.specs.JustifiedAborts.{IsJustified}
 use Rattle.hub_core.specs.Openings.{MayOpen}
-use Rattle.hub_core.specs.Stage.{StageAllows}
 use Rattle.lock_leasing.specs.Configurations.{Commands, Configuration, Grip, Grips, Probes, Purpose, Undoes, has_grip, is_command, read_of}
 use Rattle.lock_leasing.specs.Order.{is_in_line}
 use Rattle.lock_leasing.specs.Places.{PlacesAreScheduled}
@@ -113,11 +112,10 @@ pub record HistoryIsKept (s : Configuration) : Type 0 where
   pub in_turn : ActsInTurn s.setting (read_of s) s.grips
   pub first : NoneAnsweredDoomed (read_of s) s.grips
 
--- what is kept of a configuration in which each device stands, or stood as it went out, at this value: of a window under a model with an order, that may be opened, and that this stage works
+-- what is kept of a configuration in which each device stands, or stood as it went out, at this value: of a window under a model with an order, that may be opened
 pub record ConfigurationIsKept (s : Configuration) (rounds opened : ℕ) (held : ℕ → ℕ) : Type 0 where
   pub opens : MayOpen s.setting rounds opened
   pub strong : is_weak s.setting.mode ≡ false
-  pub stage : StageAllows s.setting
   pub kinds : length s.setting.kinds ≡ length s.setting.first
   -- each restart answers a probe, and no more probes of a device are taken than there are rounds
   pub probes : (d : ℕ) → probes_of s d ≤ rounds

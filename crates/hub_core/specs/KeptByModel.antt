@@ -7,7 +7,6 @@ use Rattle.home_types.specs.Kinds.{has_value, kind_at}
 use Rattle.hub_core.specs.HubKept.{ConfigurationIsKept, probes_of}
 use Rattle.hub_core.specs.JustifiedAborts.{IsJustified}
 use Rattle.hub_core.specs.Openings.{MayOpen}
-use Rattle.hub_core.specs.Stage.{StageAllows}
 use Rattle.hub_core.specs.WeakKept.{WeakIsKept}
 use Rattle.lock_leasing.specs.Configurations.{Configuration, read_of}
 use Rattle.lock_leasing.specs.Places.{GripsFit}
@@ -22,7 +21,6 @@ pub record HistoryStands (s : Configuration) : Type 0 where
 -- of a configuration in which each device stands, or stood as it went out, at this value
 pub record IsKeptByModel (s : Configuration) (rounds opened : ℕ) (held : ℕ → ℕ) : Type 0 where
   pub opens : MayOpen s.setting rounds opened
-  pub stage : StageAllows s.setting
   pub kinds : length s.setting.kinds ≡ length s.setting.first
   pub probes : (d : ℕ) → probes_of s d ≤ rounds
   pub values : (d : ℕ) → d < length s.setting.first → IsTrue (has_value (kind_at s.setting.kinds d) (stand_at s.setting.first d).value)

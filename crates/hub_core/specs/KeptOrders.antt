@@ -1,9 +1,10 @@
 -- What the line and the table of a window ask for, and what is kept of them.
-use Rattle.command_rules.specs.Rosters.{command_at, commands_of, is_run}
+use Rattle.command_rules.specs.Rosters.{Run, command_at, commands_of, is_run, run_no, touches}
 use Rattle.history_book.specs.Readings.{Reading, next_of}
 use Rattle.history_book.specs.Settings.{Setting, is_weak}
 use Rattle.hub_core.specs.Bounds.{most_items}
 use Rattle.hub_core.specs.ReadHistories.{HistoryState, read_in}
+use Rattle.hub_core.specs.declared.plans.PlannedUse.{PlannedUse}
 use Rattle.failure_serialization.specs.Events.{event_place}
 use Rattle.home_types.specs.declared.commands.View.{View}
 use Rattle.home_types.specs.declared.items.Item.TheVariants.{Back, Failed}
@@ -11,13 +12,13 @@ use Rattle.home_types.specs.declared.items.Item.{Item}
 use Rattle.home_types.specs.declared.numbers.DeviceNo.{DeviceNo}
 use Rattle.home_types.specs.declared.numbers.RunNo.{RunNo}
 use Rattle.lineage_table.specs.Accesses.{has_access, is_scheduled, status_of}
-use Rattle.lineage_table.specs.Lineages.{LineageState, accesses_at, counted_up, lineage_at, with_lineage}
+use Rattle.lineage_table.specs.Lineages.{LineageState, accesses_at, counted_up, lineage_at, scheduled, with_lineage}
 use Rattle.lineage_table.specs.declared.accesses.Status.TheVariants.{Acquired, Scheduled}
 use Rattle.lock_leasing.specs.Configurations.{Grips}
 use Rattle.serial_line.specs.Marks.{Marked, stands, with_item}
-use Rattle.std.specs.Prelude.{Bool, List, None, Option, Some, [], false, if◌then◌else◌, length, option_map, slice_index_or, true, unwrap_or, ℕ, ◌+◌, ◌-◌, ◌<◌, ◌≡◌, ◌≤◌}
+use Rattle.std.specs.Prelude.{Bool, List, None, Option, Some, [], false, get_or, if◌then◌else◌, length, option_map, slice_index_or, true, unwrap_or, ℕ, ◌+◌, ◌-◌, ◌<◌, ◌≡◌, ◌≤◌}
 use Rattle.window_order.specs.MarksKept.{MarksAreKept}
-use Rattle.window_order.specs.TableChanges.{ChangesEach, IsWaiting, doomed_unless, noted, passed_if}
+use Rattle.window_order.specs.TableChanges.{ChangesEach, IsWaiting, doomed_unless, first_with_access, noted, passed_if, rescheduled}
 use Rattle.window_order.specs.TableKept.{TableIsKept}
 
 -- the run has not touched the device: its access is scheduled
@@ -28,6 +29,16 @@ is_first r s = unwrap_or (option_map is_scheduled (status_of r s.accesses)) fals
 pub record MayNote (r : ℕ) (s : LineageState) : Type 0 where
   pub status : status_of r s.accesses ≡ Some (if is_first r s then Scheduled else Acquired)
   pub first : is_first r s ≡ true → IsWaiting r s
+
+-- the lineage of a device on which the run, which is planned to use it so, stands before those of these items; as it is where no use is planned
+abbrev pub scheduled_so : ℕ → List Item → Option PlannedUse → LineageState → LineageState
+scheduled_so r back None s = s
+scheduled_so r back (Some used) s =
+    scheduled (first_with_access s.accesses back) (record { run = run_no r; status = Scheduled; view = None; wrote = None; from = used.from; to = used.to }) (rescheduled (first_with_access s.accesses back) s)
+
+-- .. on each of its devices, with these uses
+abbrev pub scheduled_with : List Run → ℕ → List (Option PlannedUse) → List Item → ℕ → LineageState → LineageState
+scheduled_with runs r uses back d s = if touches runs r d then scheduled_so r back (get_or uses d None) s else s
 
 -- the run's answer on the device is noted; where it has not touched it before, the scheduled accesses before its own are passed first, and its own is acquired
 abbrev pub noted_first : ℕ → Bool → View → Option ℕ → Bool → LineageState → LineageState

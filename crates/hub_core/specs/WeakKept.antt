@@ -9,7 +9,6 @@ use Rattle.home_types.specs.Kinds.{has_value, kind_at}
 use Rattle.hub_core.specs.HubKept.{EachOut, probes_of}
 use Rattle.hub_core.specs.LegalWindows.{none_fails, weakly_allowed}
 use Rattle.hub_core.specs.Openings.{MayOpen}
-use Rattle.hub_core.specs.Stage.{StageAllows}
 use Rattle.lock_leasing.specs.Configurations.{Commands, Configuration, Grip, Probes, Purpose, Undoes, read_of}
 use Rattle.lock_leasing.specs.Places.{GripsFit}
 use Rattle.std.specs.Prelude.{Bool, IsTrue, None, Some, false, length, not, true, ℕ, ◌&&◌, ◌<◌, ◌==◌, ◌≡◌, ◌≤◌}
@@ -32,7 +31,6 @@ NoneHasFailed w n = (r : ℕ) → (n.run r).doomed ≡ None → IsTrue (none_fai
 -- what is kept of a configuration of the weak model in which the hub holds this to be the value of each device: the last one written
 pub record WeakIsKept (s : Configuration) (rounds opened : ℕ) (held : ℕ → ℕ) : Type 0 where
   pub opens : MayOpen s.setting rounds opened
-  pub stage : StageAllows s.setting
   pub weak : is_weak s.setting.mode ≡ true
   pub kinds : length s.setting.kinds ≡ length s.setting.first
   -- each restart answers a probe, and no more probes of a device are taken than there are rounds

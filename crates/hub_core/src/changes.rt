@@ -5,6 +5,7 @@ ghost use Rattle.hub_core.specs.Decisions.{told_choice};
 ghost use Rattle.hub_core.specs.HubCalls.{Answers, GoesOut, SameWindow};
 ghost use Rattle.hub_core.specs.OpenHubs.{configuration_of, purpose_of};
 ghost use Rattle.hub_core.specs.KeptOrders.{MayNoteAnswer, is_first, noted_first};
+ghost use Rattle.hub_core.specs.PlannedPlaces.{HoldsPlan};
 ghost use Rattle.hub_core.specs.ReadHistories.{read_in, with_doom};
 ghost use Rattle.hub_core.specs.Steps.{Waits, Absent, Moves, Over, HandsOut, choice_of};
 ghost use Rattle.history_book.specs.Histories.{entries_made};
@@ -25,6 +26,7 @@ use device_gate::{Grip, Ready};
 use device_states::Device;
 use history_book::{Cause, Entry, Made};
 use home_types::{Answer, DeviceNo, RunNo, Value};
+use timeline_scheduler::Scratch;
 
 /// No entries.
 pub(crate) const NONE_MADE: Made = Made {
@@ -62,28 +64,31 @@ impl<D: Device> OpenWindow<D> {
         one_made(self.history.arrive(r, self.moment))
     }
 
-    /// The run is placed behind so many items of the line.
-    pub(crate) fn join(&mut self, r: RunNo, moment: u64, at: u32) -> Made
-        requires { choice_of (configuration_of self.old) r.0 moment ≡ told_choice r.0 (max self.old.moment moment) (Chosen.Joins at) }
+    /// The run is placed behind so many items of the line. Where that is by the timeline, the scratch holds its planned times.
+    pub(crate) fn join(&mut self, r: RunNo, moment: u64, at: u32, scratch: &Scratch) -> Made
+        requires chosen { choice_of (configuration_of self.old) r.0 moment ≡ told_choice r.0 (max self.old.moment moment) (Chosen.Joins at) }
+        requires planned { HoldsPlan scratch.now (configuration_of self.old) r.0 (max self.old.moment moment) at }
         ensures answer { Answers self.old r.0 moment (Moves (entries_made result)) self.new }
         ensures window { SameWindow self.old self.new }
     {
         if self.history.is_weak() {
             self.place_weakly(r, moment, at)
         } else {
-            self.place(r, moment, at)
+            self.place(r, moment, at, scratch)
         }
     }
 
     /// The entry, the line and the table are told the place of the run, behind so many items of the line.
-    fn place(&mut self, r: RunNo, moment: u64, at: u32) -> Made
+    fn place(&mut self, r: RunNo, moment: u64, at: u32, scratch: &Scratch) -> Made
         requires strong { is_weak self.old.setting.mode ≡ false }
         requires chosen { choice_of (configuration_of self.old) r.0 moment ≡ told_choice r.0 (max self.old.moment moment) (Chosen.Joins at) }
+        requires planned { HoldsPlan scratch.now (configuration_of self.old) r.0 (max self.old.moment moment) at }
         ensures answer { Answers self.old r.0 moment (Moves (entries_made result)) self.new }
         ensures window { SameWindow self.old self.new }
     {
         self.moment = self.moment.max(moment);
-        self.order.join(self.history.roster(), r, at, self.moment);
+        let uses = self.history.planned_uses(r, self.moment, scratch);
+        self.order.join(self.history.roster(), r, at, uses);
         one_made(self.history.place(r, at, self.moment))
     }
 

@@ -6,6 +6,7 @@ ghost use Rattle.hub_core.specs.Decisions.{current_command, strong_command, stro
 ghost use Rattle.hub_core.specs.HubSteps.{command_task, task_of};
 ghost use Rattle.hub_core.specs.OpenHubs.{configuration_of, purpose_of};
 ghost use Rattle.hub_core.specs.Steps.{choice_of, decide_answered};
+ghost use Rattle.hub_core.specs.PlannedPlaces.{HoldsChosen, IsForHome};
 ghost use Rattle.lineage_table.specs.Accesses.{access_of};
 ghost use Rattle.lineage_table.specs.Lineages.{accesses_at};
 ghost use Rattle.lock_leasing.specs.Configurations.{Commands, is_out, read_of};
@@ -25,6 +26,7 @@ use history_book::{Cause, End};
 use home_types::{Command, DeviceNo, RunNo, View};
 use lineage_table::Table;
 use lock_leasing::{Touch, test_touch};
+use timeline_scheduler::Scratch;
 use visibility_models::{down_at_end, may_go};
 
 /// What the step of a run is to do.
@@ -54,9 +56,12 @@ pub(crate) enum Chosen {
 
 impl<D: Device> OpenWindow<D> {
     /// What the step of the run `r` is to do at this moment, in ms, or at the last one where that is later, by the cases of a
-    /// step in order.
-    pub(crate) fn decide(&self, r: RunNo, moment: u64) -> Chosen
-        ensures { told_choice r.0 (max self.now.moment moment) result ≡ choice_of (configuration_of self.now) r.0 moment }
+    /// step in order. Where that is to be placed by the timeline, the scratch then holds the planned times.
+    pub(crate) fn decide(&self, r: RunNo, moment: u64, scratch: &mut Scratch) -> Chosen
+        requires scratch { IsForHome self.now.setting scratch.old }
+        ensures choice { told_choice r.0 (max self.now.moment moment) result ≡ choice_of (configuration_of self.now) r.0 moment }
+        ensures planned { HoldsChosen scratch.new (configuration_of self.now) r.0 (max self.now.moment moment) result }
+        ensures size { length scratch.new ≡ length scratch.old }
     {
         if !self.history.has_run(r) {
             return Chosen::Absent;
@@ -73,7 +78,7 @@ impl<D: Device> OpenWindow<D> {
         };
         let moment = self.moment.max(moment);
         if progress.placed.is_none() {
-            return self.decide_arrived(r, arrived, moment);
+            return self.decide_arrived(r, arrived, moment, scratch);
         }
         if self.history.is_weak() {
             return self.decide_weakly(r, progress);

@@ -19,26 +19,30 @@ use history_book::WindowRecord;
 use home_types::{DeviceNo, RunNo};
 use lineage_table::Table;
 use std::marker::Model;
+use timeline_scheduler::Scratch;
 
 /// An open window.
 ///
 /// Contracts see what is fixed, its history, its last moment, what it knows of each device, and the places of the
-/// devices. The type keeps that these agree, and that each run which is marked as blocked waits at every moment.
+/// devices. The type keeps that these agree, that each run which is marked as blocked waits at
+/// every moment, and that the scratch is for the devices of the home.
 #[derive(Drop)]
 pub struct Hub<D: Device> {
     pub(crate) window: OpenWindow<D>,
     pub(crate) blocked: BlockedRuns,
+    /// For the places of the timeline.
+    pub(crate) scratch: Scratch,
 }
 
 impl<D: Device> Model for Hub<D> {
-    ghost use Rattle.hub_core.specs.BlockedMarks.{AreBlocked};
     ghost use Rattle.hub_core.specs.OpenHubs.{OpenHub, configuration_of};
+    ghost use Rattle.hub_core.specs.PlannedPlaces.{PartsFit};
 
     ghost Value = { OpenHub D };
 
     ghost view = { λ h. h.window };
 
-    ghost invariant = { λ h. AreBlocked (configuration_of h.window) h.blocked };
+    ghost invariant = { λ h. PartsFit (configuration_of h.window) h.blocked h.scratch };
 }
 
 impl<D: Device> Hub<D> {
@@ -147,10 +151,21 @@ impl<D: Device> Hub<D> {
         ensures same { IfErr result (λ refused. refused.0 ≡ self) }
         ensures refused { IfErr result (λ refused. not_quiet (configuration_of self) ≡ Some refused.1) }
     {
-        let Hub { window, blocked } = self;
+        let Hub {
+            window,
+            blocked,
+            scratch,
+        } = self;
         match window.close_window() {
             Ok(closed) => Ok(closed),
-            Err((window, why)) => Err((Hub { window, blocked }, why)),
+            Err((window, why)) => Err((
+                Hub {
+                    window,
+                    blocked,
+                    scratch,
+                },
+                why,
+            )),
         }
     }
 }

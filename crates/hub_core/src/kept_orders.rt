@@ -6,16 +6,15 @@ ghost use Rattle.command_rules.specs.Rosters.{commands_of, is_run, runs_of, touc
 ghost use Rattle.history_book.specs.Readings.{is_fine, is_told};
 ghost use Rattle.home_types.specs.Limits.{most_devices};
 ghost use Rattle.home_types.specs.declared.items.Item.TheVariants.{Ran};
-ghost use Rattle.hub_core.specs.KeptOrders.{MayNote, is_first, noted_first};
+ghost use Rattle.hub_core.specs.KeptOrders.{MayNote, is_first, noted_first, scheduled_with};
 ghost use Rattle.hub_core.specs.OpenHubs.{purpose_of};
-ghost use Rattle.hub_core.specs.PlansInTurn.{planned_in_turn};
 ghost use Rattle.lineage_table.specs.Lineages.{IsOpened, accesses_at, committed_lineage, lineage_at, removed, undone, with_lineage};
 ghost use Rattle.lock_leasing.specs.Configurations.{is_command, is_undo};
 ghost use Rattle.lock_leasing.specs.Tables.{view_when};
 ghost use Rattle.serial_line.specs.Marks.{items_of, settling, stands, touching, with_item, without};
-ghost use Rattle.window_order.specs.TableChanges.{ChangesEach, IsNewOn, first_with_access, scheduled_on, doomed_unless};
+ghost use Rattle.window_order.specs.TableChanges.{ChangesEach, IsNewOn, first_with_access, doomed_unless};
 
-use crate::plans::{PlannedUse, planned_uses};
+use crate::plans::PlannedUse;
 use crate::purposes::Purpose;
 use crate::releases::{pass_before, release_all};
 use crate::reschedules::wait_again;
@@ -68,10 +67,16 @@ impl KeptOrder {
         Ok(KeptOrder { line, table })
     }
 
-    /// The run stands at this place in the line, counted from 0, and has an access on each of its devices, with the times
-    /// for which it is planned at this moment. There it stands before the first access of a run behind it, which waits,
+    /// The run stands at this place in the line, counted from 0, and has an access on each of its devices, with these uses
+    /// of them. There it stands before the first access of a run behind it, which waits,
     /// as do those behind it: those that were passed wait again. Takes no memory.
-    pub(crate) fn join(&mut self, roster: &Roster, r: RunNo, at: u32, moment: u64)
+    pub(crate) fn join(
+        &mut self,
+        roster: &Roster,
+        r: RunNo,
+        at: u32,
+        uses: [Option<PlannedUse>; 256],
+    )
         requires run { IsTrue (is_run (runs_of roster.now) r.0) }
         requires few { length self.old.table ≤ most_devices }
         requires homed { All (λ c. c.device.0 < length self.old.table) (commands_of (runs_of roster.now) r.0) }
@@ -81,9 +86,9 @@ impl KeptOrder {
         requires new { (d : ℕ) → d < length self.old.table → touches (runs_of roster.now) r.0 d ≡ true → IsNewOn r.0 (drop at (items_of self.old.line.marks)) (lineage_at self.old.table d) }
         ensures marks { self.new.line.marks ≡ with_item at (Ran r) self.old.line.marks }
         ensures spare { self.new.line.spare + 1 ≡ self.old.line.spare }
-        ensures table { ChangesEach (scheduled_on (runs_of roster.now) r.0 (planned_in_turn moment (commands_of (runs_of roster.now) r.0)) (drop at (items_of self.old.line.marks))) self.old.table self.new.table }
+        ensures table { ChangesEach (scheduled_with (runs_of roster.now) r.0 uses (drop at (items_of self.old.line.marks))) self.old.table self.new.table }
     {
-        schedule(&mut self.table, &self.line, at, roster, r, moment);
+        schedule(&mut self.table, &self.line, at, roster, r, uses);
         self.line.insert(at, Item::Ran(r));
     }
 
@@ -171,21 +176,28 @@ impl KeptOrder {
     }
 }
 
-/// The run, which is placed in the line at this place and moment, has an access on each of its devices.
-fn schedule(table: &mut Table, line: &Line, at: u32, roster: &Roster, r: RunNo, moment: u64)
+/// The run, which is placed in the line at this place, has an access on each of its devices, with these uses of them.
+fn schedule(
+    table: &mut Table,
+    line: &Line,
+    at: u32,
+    roster: &Roster,
+    r: RunNo,
+    uses: [Option<PlannedUse>; 256],
+)
     requires run { IsTrue (is_run (runs_of roster.now) r.0) }
     requires few { length table.old ≤ most_devices }
     requires homed { All (λ c. c.device.0 < length table.old) (commands_of (runs_of roster.now) r.0) }
     requires new { (d : ℕ) → d < length table.old → touches (runs_of roster.now) r.0 d ≡ true → IsNewOn r.0 (drop at (items_of line.now.marks)) (lineage_at table.old d) }
-    ensures { ChangesEach (scheduled_on (runs_of roster.now) r.0 (planned_in_turn moment (commands_of (runs_of roster.now) r.0)) (drop at (items_of line.now.marks))) table.old table.new }
+    ensures { ChangesEach (scheduled_with (runs_of roster.now) r.0 uses (drop at (items_of line.now.marks))) table.old table.new }
 {
     let commands = roster.commands(r);
-    let mut uses = planned_uses(commands, moment);
+    let mut left = uses;
     'commands: for command in commands {
         let d = command.device;
         // A later command on the device finds no use any more.
-        if let Some(used) = uses[d.0 as usize] {
-            uses[d.0 as usize] = None;
+        if let Some(used) = left[d.0 as usize] {
+            left[d.0 as usize] = None;
             let before = first_behind(line, table, at, d);
             wait_again(table, d, before);
             table.schedule(d, before, waiting(r, used));

@@ -8,7 +8,6 @@ ghost use Rattle.hub_core.specs.HubCalls.{IsOpened};
 ghost use Rattle.hub_core.specs.Homes.{setting_for};
 ghost use Rattle.hub_core.specs.OpeningRooms.{AreKnown, IsClosingRoom, IsHistoryRoom, IsOrderRoom, IsRoomFor, known_first, no_progress};
 ghost use Rattle.hub_core.specs.Openings.{MayOpen};
-ghost use Rattle.hub_core.specs.Stage.{StageAllows};
 
 use crate::blocked_runs::BlockedRuns;
 use crate::homes::Home;
@@ -24,6 +23,7 @@ use device_states::Device;
 use history_book::Book;
 use home_types::{DeviceNo, Kind, List, Mode, NoMemory, World};
 use std::alloc::Global;
+use timeline_scheduler::Scratch;
 
 /// The memory of a window's history.
 #[derive(Drop)]
@@ -41,6 +41,7 @@ struct Room {
     hands: List<Option<DeviceNo>>,
     closing: ClosingLists,
     blocked: BlockedRuns,
+    scratch: Scratch,
 }
 
 /// How many entries a history of one run has at most.
@@ -66,7 +67,6 @@ impl<D: Device> Home<D> {
         rounds: u32,
     ) -> Result<Hub<D>, (Home<D>, NoMemory)>
         requires may { MayOpen (setting_for self roster mode) rounds self.opened }
-        requires stage { StageAllows (setting_for self roster mode) }
         ensures opened { IfOk result (λ hub. IsOpened D.turns D.probes D.faults (setting_for self roster mode) rounds self hub) }
         ensures refused { IfErr result (λ refused. refused.0 ≡ self) }
     {
@@ -85,6 +85,7 @@ impl<D: Device> Home<D> {
         match Gate::open(alloc, devices) {
             Ok(gate) => Ok(Hub {
                 blocked: room.blocked,
+                scratch: room.scratch,
                 window: OpenWindow {
                     history: empty_history(indexed, mode, kinds, world, room.history),
                     order: room.order,
@@ -120,6 +121,7 @@ impl<D: Device> Home<D> {
         ensures hands { IfOk result (λ room. room.hands.items ≡ replicate (length roster.now.runs.items) None) }
         ensures closing { IfOk result (λ room. IsClosingRoom (most_items (length roster.now.runs.items) (length self.now.world) rounds) (length self.now.devices) room.closing) }
         ensures blocked { IfOk result (λ room. NoneMarked room.blocked) }
+        ensures scratch { IfOk result (λ room. length room.scratch ≡ length self.now.world) }
     {
         let runs = roster.runs.len();
         let bounds = bounds_of(runs, self.world.devices.len(), rounds);
@@ -130,6 +132,7 @@ impl<D: Device> Home<D> {
             hands: no_hands(alloc, runs)?,
             closing: closing_lists(alloc, bounds.items, self.devices.len())?,
             blocked: BlockedRuns::open(alloc, self.devices.len())?,
+            scratch: Scratch::open(alloc, self.world.devices.len() as u32)?,
         })
     }
 

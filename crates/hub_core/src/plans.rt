@@ -1,10 +1,20 @@
-//! The planned times of a run that waits for no device: its commands follow one another.
-ghost use Rattle.std.specs.Prelude.{◌≡◌, ◌<◌, Some, slice_get, ℕ};
+//! For how long a run that is placed is planned to use its devices.
+ghost use Rattle.std.specs.Prelude.{◌≡◌, ◌<◌, IsTrue, List, Some, option_map, slice_get, ℕ};
 ghost use Rattle.std.specs.List.{All};
+ghost use Rattle.command_rules.specs.Rosters.{commands_of, is_run};
+ghost use Rattle.history_book.specs.Plans.{planned_times};
+ghost use Rattle.history_book.specs.Settings.{scheduler_of};
 ghost use Rattle.home_types.specs.Limits.{most_devices};
+ghost use Rattle.home_types.specs.declared.items.Item.{Item};
+ghost use Rattle.home_types.specs.declared.modes.Scheduler.TheVariants.{Timeline};
+ghost use Rattle.hub_core.specs.PlannedPlaces.{AreUsesOf, held_use, use_between};
 ghost use Rattle.hub_core.specs.PlansInTurn.{planned_in_turn, planned_use, used_again};
+ghost use Rattle.hub_core.specs.ReadHistories.{read_in};
+ghost use Rattle.timeline_scheduler.specs.Scratches.{HoldsTimes};
 
-use home_types::Command;
+use crate::read_histories::ReadHistory;
+use home_types::{Command, RunNo, Scheduler};
+use timeline_scheduler::Scratch;
 
 /// For how long a run is planned to use a device, in ms.
 #[derive(Clone, Copy, Debug, PartialEq, Eq)]
@@ -13,9 +23,30 @@ pub(crate) struct PlannedUse {
     pub(crate) to: u64,
 }
 
-/// For how long the run is planned to use each of the 256 devices that a home may have, where it is placed at this
-/// moment. `None` where it has no command.
-pub(crate) fn planned_uses(commands: &[Command], moment: u64) -> [Option<PlannedUse>; 256]
+impl ReadHistory {
+    /// For how long the run, which is placed at this moment, in ms, is planned to use each of the 256 devices that a home
+    /// may have: where it is placed by the timeline, as the scratch holds it. `None` where it has no command.
+    pub(crate) fn planned_uses(
+        &self,
+        r: RunNo,
+        moment: u64,
+        scratch: &Scratch,
+    ) -> [Option<PlannedUse>; 256]
+        requires run { IsTrue (is_run self.now.setting.runs r.0) }
+        requires homed { All (λ c. c.device.0 < most_devices) (commands_of self.now.setting.runs r.0) }
+        ensures { (front : List Item) → (scheduler_of self.now.setting.mode ≡ Timeline → HoldsTimes scratch.now (planned_times self.now.setting (read_in self.now) r.0 front moment)) → AreUsesOf result (planned_times self.now.setting (read_in self.now) r.0 front moment) }
+    {
+        let commands = self.roster().commands(r);
+        match self.scheduler() {
+            Scheduler::Fcfs | Scheduler::JustInTime => uses_in_turn(commands, moment),
+            Scheduler::Timeline => uses_held(commands, scratch),
+        }
+    }
+}
+
+/// For how long a run with these commands is planned to use each device, where it waits for none: the commands follow one
+/// another from this moment on, in ms.
+fn uses_in_turn(commands: &[Command], moment: u64) -> [Option<PlannedUse>; 256]
     requires { All (λ c. c.device.0 < most_devices) commands.now }
     ensures { (d : ℕ) → d < most_devices → slice_get result d ≡ Some (planned_use (planned_in_turn moment commands.now) d) }
 {
@@ -40,5 +71,28 @@ fn used_again(used: Option<PlannedUse>, from: u64, to: u64) -> PlannedUse
             to,
         },
         None => PlannedUse { from, to },
+    }
+}
+
+/// For how long a run with these commands is planned to use each device, as the scratch holds it.
+fn uses_held(commands: &[Command], scratch: &Scratch) -> [Option<PlannedUse>; 256]
+    requires { All (λ c. c.device.0 < most_devices) commands.now }
+    ensures { (d : ℕ) → d < most_devices → slice_get result d ≡ Some (held_use scratch.now commands.now d) }
+{
+    let mut uses = [None; 256];
+    'commands: for command in commands {
+        let d = command.device;
+        uses[d.0 as usize] = use_between(scratch.planned(d));
+    }
+    uses
+}
+
+/// The use of a device that is planned from and to these times, in ms.
+fn use_between(planned: Option<(u64, u64)>) -> Option<PlannedUse>
+    ensures { result ≡ option_map use_between planned }
+{
+    match planned {
+        Some((from, to)) => Some(PlannedUse { from, to }),
+        None => None,
     }
 }

@@ -1,5 +1,6 @@
 ghost use Rattle.std.specs.Prelude.{◌≡◌, ℕ};
-ghost use Rattle.hub_core.specs.HubCalls.{IsGiven, IsProbeGiven, IsProbed, IsTurn, SameWindow};
+ghost use Rattle.hub_core.specs.HubCalls.{IsGiven, IsProbeGiven, IsProbed, IsTurn, PlansEarliest, SameWindow};
+ghost use Rattle.hub_core.specs.OpenHubs.{configuration_of};
 
 use crate::freed_runs::{free_back, free_going, free_made, free_weakly, mark_waiting};
 use crate::hubs::Hub;
@@ -16,10 +17,11 @@ impl<D: Device> Hub<D> {
     /// nothing but the last moment. Takes no memory.
     pub fn take(&mut self, r: RunNo, moment: u64) -> Turn<D>
         ensures turn { IsTurn self.old r.0 moment result self.new }
+        ensures earliest { PlansEarliest (configuration_of self.old) r.0 result }
         ensures window { SameWindow self.old self.new }
     {
         self.window.whole();
-        let turn = self.window.take(r, moment);
+        let turn = self.window.take(r, moment, &mut self.scratch);
         self.window.whole();
         if self.window.is_weak() {
             free_weakly(&mut self.blocked, &self.window, &turn, r);

@@ -1,5 +1,6 @@
-ghost use Rattle.std.specs.Prelude.{◌≡◌, ℕ};
+ghost use Rattle.std.specs.Prelude.{◌≡◌, length, ℕ};
 ghost use Rattle.hub_core.specs.HubCalls.{IsTurn, SameWindow};
+ghost use Rattle.hub_core.specs.PlannedPlaces.{IsForHome};
 
 use crate::changes::NONE_MADE;
 use crate::decisions::Chosen;
@@ -8,17 +9,20 @@ use crate::turns::Turn;
 use device_states::Device;
 use history_book::{End, Made};
 use home_types::RunNo;
+use timeline_scheduler::Scratch;
 
 impl<D: Device> OpenWindow<D> {
     /// Makes the step of the run `r` at this moment, in ms, or at the last one where that is later.
     ///
     /// Answers what the run does: hands out a device, makes entries, waits, or is over. `Wait` and `Absent` change
-    /// nothing but the last moment. Takes no memory.
-    pub(crate) fn take(&mut self, r: RunNo, moment: u64) -> Turn<D>
+    /// nothing but the last moment. Places by the timeline are looked for in the scratch. Takes no memory.
+    pub(crate) fn take(&mut self, r: RunNo, moment: u64, scratch: &mut Scratch) -> Turn<D>
+        requires scratch { IsForHome self.old.setting scratch.old }
         ensures turn { IsTurn self.old r.0 moment result self.new }
         ensures window { SameWindow self.old self.new }
+        ensures size { length scratch.new ≡ length scratch.old }
     {
-        match self.decide(r, moment) {
+        match self.decide(r, moment, scratch) {
             Chosen::Absent => {
                 self.reach(moment);
                 Turn::Absent
@@ -32,7 +36,7 @@ impl<D: Device> OpenWindow<D> {
                 Turn::Wait(why)
             }
             Chosen::Arrives => Turn::Moved(self.arrive(r, moment)),
-            Chosen::Joins(place) => Turn::Moved(self.join(r, moment, place)),
+            Chosen::Joins(place) => Turn::Moved(self.join(r, moment, place, scratch)),
             Chosen::Drops(d) => Turn::Moved(self.drop_undo(r, moment, d)),
             Chosen::Revokes(borrower, d, deadline) => {
                 Turn::Moved(self.revoke(r, moment, borrower, d, deadline))

@@ -37,7 +37,7 @@ pub fn push_steps<R: Wait>(
             let told_b = push_end(alloc, text, script, mode, Side::B, b);
             told.and(told_a).and(told_b)
         }
-        None => text.push_str("not built\n"),
+        None => text.push_str("not opened\n"),
     }
 }
 

@@ -1,16 +1,13 @@
-ghost use Rattle.std.specs.Prelude.{◌≡◌, ◌<◌, IfOk, IfSome, IsTrue, false, length};
+ghost use Rattle.std.specs.Prelude.{◌≡◌, ◌<◌, IfOk, IfSome, IsTrue, length};
 ghost use Rattle.hub_core.specs.OpenHubs.{configuration_of};
 ghost use Rattle.hub_core.specs.Openings.{is_mode};
 ghost use Rattle.hub_core.specs.Steps.{opened};
-ghost use Rattle.later_forms.specs.CommandLines.{is_later_mode};
 ghost use Rattle.routine_reader.specs.Scripts.{plain_script};
 ghost use Rattle.routine_reader.specs.Sound.{IsSound};
 
-use command_words::{CommandLine, Options};
 use device_states::{SimBench, SimDevice};
 use home_types::{Mode, NoMemory, Scheduler, Visibility};
 use hub_core::{Home, Hub};
-use later_forms::is_later;
 use routine_reader::{Script, roster};
 use std::alloc::{AllocError, Global};
 
@@ -24,15 +21,14 @@ pub struct Opened {
     pub rounds: u32,
 }
 
-/// Opens the first window of the script on a new home. None where there is no window, and where the mode is none or is
-/// not built.
+/// Opens the first window of the script on a new home. None where there is no window, and where the model does not go
+/// with the scheduler.
 pub fn open_first(alloc: Global, script: &Script, mode: Mode) -> Result<Option<Opened>, AllocError>
     requires sound { IsSound (plain_script script.now) }
     ensures fresh { IfOk result (λ there. IfSome there (λ first. configuration_of first.hub ≡ opened first.hub.setting first.hub.rounds)) }
     ensures rounds { IfOk result (λ there. IfSome there (λ first. first.hub.rounds ≡ first.rounds)) }
 {
-    let line = CommandLine::Replay(Options { mode, trace: false });
-    if script.windows.len() == 0 || is_later(line) || !is_mode(mode) {
+    if script.windows.len() == 0 || !is_mode(mode) {
         return Ok(None);
     }
     Ok(Some(open_window(alloc, script, mode)?))
@@ -51,7 +47,6 @@ fn is_mode(mode: Mode) -> bool
 /// Opens the first window of the script on a new home.
 fn open_window(alloc: Global, script: &Script, mode: Mode) -> Result<Opened, AllocError>
     requires sound { IsSound (plain_script script.now) }
-    requires mode { is_later_mode mode ≡ false }
     requires goes { IsTrue (is_mode mode) }
     requires there { 0 < length script.now.windows.items }
     ensures fresh { IfOk result (λ first. configuration_of first.hub ≡ opened first.hub.setting first.hub.rounds) }

@@ -25,7 +25,7 @@ pub fn push_replay(
         return text.push_str("no window\n");
     };
     let Some(Opened { hub, rounds }) = open_first(alloc, script, mode)? else {
-        return text.push_str("not built\n");
+        return text.push_str("not opened\n");
     };
     match replay_window(alloc, hub, window.turns.as_slice(), window.seed, rounds) {
         Ok((home, closed)) => push_closed(alloc, text, script, mode, &home, &closed),
@@ -47,7 +47,7 @@ pub fn push_play<R: Wait>(
         return text.push_str("no window\n");
     };
     let Some(Opened { hub, rounds }) = open_first(alloc, script, mode)? else {
-        return text.push_str("not built\n");
+        return text.push_str("not opened\n");
     };
     let mut player = match Player::open(alloc, hub, rounds) {
         Ok(player) => player,

@@ -26,7 +26,7 @@ pub fn push_run<R: Threads + Wait + Sync, C: Clock + Sync>(
     requires sound { IsSound (plain_script script.now) }
 {
     let Some(Opened { hub, rounds }) = open_first(alloc, script, mode)? else {
-        return text.push_str("not built\n");
+        return text.push_str("not opened\n");
     };
     match run_window(rt, alloc, hub, rounds, clock) {
         Ok((_, closed)) => {

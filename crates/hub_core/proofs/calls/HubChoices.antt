@@ -25,7 +25,7 @@ use Rattle.home_types.specs.declared.modes.Visibility.{Visibility}
 use Rattle.home_types.specs.declared.numbers.DeviceNo.{DeviceNo}
 use Rattle.home_types.specs.declared.numbers.RunNo.{RunNo}
 use Rattle.hub_core.proofs.calls.NextUndos.{undo_of}
-use Rattle.hub_core.proofs.stage.StrongChoices.{command_current, command_is, doomed_is}
+use Rattle.hub_core.proofs.windows.StrongChoices.{command_current, command_is, doomed_is}
 use Rattle.hub_core.specs.Decisions.{current_command, strong_command, strong_doomed, unbarred_command}
 use Rattle.hub_core.specs.KeptByModel.{IsKeptByModel}
 use Rattle.hub_core.specs.HubsKept.{HubIsKept}
@@ -388,6 +388,13 @@ rest_goes w n g r c sound next home up = sym (rw (sound, next, home, up) refl)
 
 pub rest_downs : (w : Setting) (n : Reading) (g : Grips) (r : ℕ) (c : Command) → (n.run r).doomed ≡ None → next_command w n r ≡ Some c → is_out g c.device.0 ≡ false → n.up c.device.0 ≡ false → Moves (down_entries r (next_of n r) c) ≡ weak_rest w n g r
 rest_downs w n g r c sound next home down = sym (rw (sound, next, home, down) refl)
+
+-- a run that has a place, by its progress, is placed
+pub placed_before : {D : Type 0} (s t : OpenHub D) (r : ℕ) (p : RunProgress) → s ≡ t → p ≡ progress_of ((read_of (configuration_of s)).run r) → is_some p.placed ≡ true → ((read_of (configuration_of t)).run r).placed ≡ None → ⊥
+placed_before {D = D} s t r p same known placed none =
+    let is : is_some ((read_of (configuration_of s)).run r).placed ≡ true = was_placed ((read_of (configuration_of s)).run r).placed (ap (λ (x : RunProgress). is_some x.placed) (sym known) ∙ placed) in
+    let gone : is_some ((read_of (configuration_of s)).run r).placed ≡ false = ap (λ (x : OpenHub D). is_some ((read_of (configuration_of x)).run r).placed) same ∙ ap is_some none in
+    absurd (let both : true ≡ false = sym is ∙ gone in cc)
 
 -- the run is live
 pub hub_is_live : {D : Type 0} (s t : OpenHub D) (r : ℕ) (p : RunProgress) → s ≡ t → p ≡ progress_of ((read_of (configuration_of s)).run r) → p.ended ≡ None → is_some p.placed ≡ true → is_live (read_of (configuration_of t)) r ≡ true

@@ -20,8 +20,8 @@ use Rattle.home_types.specs.declared.kinds.Kind.{Kind}
 use Rattle.home_types.specs.declared.worlds.Stand.{Stand}
 use Rattle.hub_core.proofs.calls.EndedRuns.{each_has_ended}
 use Rattle.hub_core.proofs.calls.HubChanges.{few_entries}
-use Rattle.hub_core.proofs.stage.CalmHistories.{NoneFailed}
-use Rattle.hub_core.proofs.stage.Closings.{IsLastState, IsQuiet, ended_committed, legal_window, none_out, quiet_is, table_leaves}
+use Rattle.hub_core.proofs.windows.CalmHistories.{NoneFailed}
+use Rattle.hub_core.proofs.windows.Closings.{IsLastState, IsQuiet, ended_committed, legal_window, none_out, quiet_is, table_leaves}
 use Rattle.hub_core.proofs.kept.Kept.{values_fit}
 use Rattle.hub_core.proofs.kept.Sizes.{line_fits, stays_up}
 use Rattle.hub_core.proofs.kept.WrittenValues.{standing_fits, writes_fit}

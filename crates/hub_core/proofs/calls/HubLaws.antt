@@ -16,7 +16,7 @@ use Rattle.home_types.specs.declared.numbers.RunNo.{RunNo}
 use Rattle.hub_core.proofs.calls.HubChanges.{few_entries}
 use Rattle.hub_core.proofs.kept.Finds.{find_first, find_none}
 use Rattle.hub_core.proofs.kept.ReturnsKept.{out_is}
-use Rattle.hub_core.proofs.stage.Progress.{some_run_moves}
+use Rattle.hub_core.proofs.windows.Progress.{some_run_moves}
 use Rattle.hub_core.specs.BlockedRuns.{is_wait}
 use Rattle.hub_core.proofs.kept.EndedOnce.{dooms_fit, ends_fit}
 use Rattle.hub_core.proofs.kept.Sizes.{history_fits, line_fits}
@@ -88,7 +88,6 @@ stands_hub {D = D} stands turns probes faults s k =
         falls_told = λ d device at. (k.home d device at).falls_told;
         few_faults = λ d device at. (k.home d device at).few_faults;
       };
-      stage = c.stage;
     }
 
 -- Quiet hubs

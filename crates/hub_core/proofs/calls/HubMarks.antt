@@ -40,7 +40,7 @@ some_slip : Slip
 some_slip = record { ticket = 0; device = record { 0 = 0 }; maker = 0; stood = 0; turns = 0; probes = 0; faults = 0 }
 
 -- a step of a run that hands no device out
-chosen : {D : Type 0} (s t : OpenHub D) (r m : ℕ) (choice : Choice) → Answers s r m choice t → choice ≡ choice_of (configuration_of s) r m
+pub chosen : {D : Type 0} (s t : OpenHub D) (r m : ℕ) (choice : Choice) → Answers s r m choice t → choice ≡ choice_of (configuration_of s) r m
 chosen s t r m choice answers = took_choice (state_of s) (state_of t) r m some_slip choice (answers.step some_slip)
 
 after : {D : Type 0} (s t : OpenHub D) (r m : ℕ) (choice : Choice) → Answers s r m choice t → configuration_of t ≡ after_take (configuration_of s) r m

@@ -20,7 +20,6 @@ use Rattle.hub_core.specs.KeptByModel.{IsKeptByModel}
 use Rattle.hub_core.specs.HubsKept.{HandsAre, FitsAtHome, HasRoomLeft, HubIsKept}
 use Rattle.hub_core.specs.OpenHubs.{OpenHub, configuration_of, device_at, grip_in, held_in, no_device, no_events}
 use Rattle.hub_core.specs.Openings.{MayOpen}
-use Rattle.hub_core.specs.Stage.{StageAllows}
 use Rattle.hub_core.specs.Steps.{opened}
 use Rattle.hub_core.specs.declared.purposes.Purpose.{Purpose}
 use Rattle.hub_core.specs.Homes.{CountsAreLow, HomeIsKept, HomeState, setting_for}
@@ -101,7 +100,6 @@ first_hub home roster mode rounds known = record {
 pub record Opens {D : Type 0} (tag stands turns probes faults : D → ℕ) (home : HomeState D) (roster : Roster) (mode : Mode) (rounds : ℕ) (known : List DeviceProgress) : Type 0 where
   pub kept : HomeIsKept tag stands turns probes faults home
   pub may : MayOpen (setting_for home roster mode) rounds home.opened
-  pub stage : StageAllows (setting_for home roster mode)
   pub knows : AreKnown turns probes faults home rounds (length home.devices) known
 
 -- a device of the home, and what is known of it
@@ -216,7 +214,7 @@ first_kept {D = D} tag stands turns probes faults home roster mode rounds known 
     configuration =
         subst (λ h. IsKeptByModel (configuration_of s) rounds home.opened h) all_held
         (subst (λ c. IsKeptByModel c rounds home.opened (λ d. (stand_at w.first d).value)) (sym (first_configuration tag stands turns probes faults home roster mode rounds known opens))
-        (starts_kept w rounds home.opened opens.may opens.stage opens.kept.kinds opens.kept.values))
+        (starts_kept w rounds home.opened opens.may opens.kept.kinds opens.kept.values))
 
     at_home : (d : ℕ) (device : D) → slice_get home.devices d ≡ Some device → FitsAtHome stands turns probes faults s d device
     at_home d device at =

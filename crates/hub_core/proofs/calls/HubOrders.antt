@@ -14,9 +14,9 @@ use Rattle.device_gate.specs.declared.gates.Place.TheVariants.{Home, Out}
 use Rattle.device_gate.specs.declared.grips.Ready.{Ready}
 use Rattle.device_gate.specs.declared.slips.Task.{Task}
 use Rattle.history_book.specs.Histories.{entries_made, entries_of, entry}
-use Rattle.history_book.specs.Plans.{split_of}
-use Rattle.history_book.specs.Readings.{Reading, is_doomed, next_command, next_of, pends, put}
-use Rattle.history_book.specs.Settings.{Setting, is_device, is_weak}
+use Rattle.history_book.specs.Plans.{planned_times, split_of}
+use Rattle.history_book.specs.Readings.{Planned, Reading, is_doomed, next_command, next_of, pends, put}
+use Rattle.history_book.specs.Settings.{Setting, is_device, is_weak, scheduler_of}
 use Rattle.history_book.specs.WellFormed.{may_follow}
 use Rattle.history_book.specs.declared.entries.Cause.TheVariants.{DownAtEnd, MustDown}
 use Rattle.history_book.specs.declared.entries.Cause.{Cause}
@@ -28,27 +28,32 @@ use Rattle.home_types.specs.declared.commands.Answer.TheVariants.{Down}
 use Rattle.home_types.specs.declared.commands.Command.{Command}
 use Rattle.home_types.specs.declared.commands.View.TheVariants.{Down as ViewedDown}
 use Rattle.home_types.specs.declared.items.Item.TheVariants.{Ran}
+use Rattle.home_types.specs.declared.items.Item.{Item}
+use Rattle.home_types.specs.declared.modes.Scheduler.TheVariants.{Timeline}
 use Rattle.home_types.specs.declared.numbers.DeviceNo.{DeviceNo}
 use Rattle.hub_core.proofs.kept.Hands.{hand_goes}
 use Rattle.hub_core.proofs.calls.HubChanges.{Ending, Going, IsEntered, answer_entries, answered_more, entered_whole, entries_kept, has_places}
 use Rattle.hub_core.proofs.calls.HubChoices.{IsAborting, IsAnsweringDown, IsFailing, answering, dropping, failing, finished_is, rest_downs}
 use Rattle.hub_core.proofs.calls.Departures.{device_within}
+use Rattle.hub_core.proofs.calls.PlannedUses.{planned_devices}
+use Rattle.hub_core.proofs.calls.Scheduling.{scheduled_as_planned}
 use Rattle.hub_core.proofs.calls.HubOuts.{GoesFor, IsHanded, IsHandedOut, handed_out, went_out}
 use Rattle.hub_core.proofs.kept.HubReads.{run_place}
 use Rattle.hub_core.proofs.calls.HubStates.{grips_set}
 use Rattle.hub_core.proofs.kept.Kept.{enters_place}
-use Rattle.hub_core.proofs.stage.StrongChoices.{IsPlacing}
+use Rattle.hub_core.proofs.windows.StrongChoices.{IsPlacing}
 use Rattle.hub_core.proofs.steps.Choices.{decide_is}
 use Rattle.hub_core.proofs.kept.Sizes.{line_fits}
 use Rattle.hub_core.proofs.kept.OrderSteps.{done_after, last_follows, may_note_down, none_commands, order_aborted, order_arrived, order_committed, order_doomed, order_doomed_if, order_dropped, order_joined, order_out, order_placed, order_told_down, order_told_weakly, order_undo_out, read_more}
 use Rattle.hub_core.proofs.steps.Takes.{live_run}
 use Rattle.hub_core.specs.HubKept.{ConfigurationIsKept}
 use Rattle.hub_core.specs.HubsKept.{HandsAre, HubIsKept, IsWhole, open_of}
-use Rattle.hub_core.specs.KeptOrders.{MayNote, OrderIsBeside, is_first, noted_first}
+use Rattle.hub_core.specs.KeptOrders.{MayNote, OrderIsBeside, is_first, noted_first, scheduled_with}
 use Rattle.hub_core.specs.OpenHubs.{OpenHub, configuration_of, device_at, grip_in, held_in, progress_of, purpose_of}
 use Rattle.hub_core.specs.Openings.{MayOpen, names_values_of}
-use Rattle.hub_core.specs.PlansInTurn.{planned_in_turn}
+use Rattle.hub_core.specs.PlannedPlaces.{AreUsesOf, HoldsPlan}
 use Rattle.hub_core.specs.Steps.{HandsOut, Moves, choice_of}
+use Rattle.hub_core.specs.declared.plans.PlannedUse.{PlannedUse}
 use Rattle.hub_core.specs.declared.open_windows.OpenWindow.TheInside.{Inside}
 use Rattle.hub_core.specs.declared.kept_orders.KeptOrder.{KeptOrder}
 use Rattle.hub_core.specs.declared.known.DeviceProgress.{DeviceProgress}
@@ -66,6 +71,8 @@ use Rattle.std.proofs.lemmas.List.{length-map, take-append-drop}
 use Rattle.std.proofs.lemmas.Option.{slice_get-get_or, slice_get_within}
 use Rattle.std.specs.List.{All, range_with_len}
 use Rattle.std.specs.Prelude.{Bool, IsSome, IsTrue, List, None, Option, Some, [], drop, false, find, get_or, if◌then◌else◌, is_none, is_some, length, max, nat_lt, not, option_map, slice_get, suc, take, true, unwrap_or, zero, ℕ, ◌&&◌, ◌++◌, ◌+◌, ◌-◌, ◌<◌, ◌==◌, ◌||◌, ◌∷◌, ◌≡◌, ◌≤◌}
+use Rattle.timeline_scheduler.specs.Scratches.{HoldsTimes}
+use Rattle.timeline_scheduler.specs.declared.scratches.Slot.{Slot}
 use Rattle.window_order.proofs.FewAccesses.{few_accesses}
 use Rattle.window_order.proofs.Grips.{HoldsNone, fits_other, holds_none}
 use Rattle.window_order.proofs.PlacedTables.{new_on}
@@ -237,11 +244,36 @@ hub_joins h r at m is strong k =
 pub record IsJoined {D : Type 0} (h t : Inside D) (r at m : ℕ) : Type 0 where
   pub marks : t.order.line.marks ≡ with_item at (Ran (run_no r)) h.order.line.marks
   pub spare : t.order.line.spare + 1 ≡ h.order.line.spare
-  pub table : ChangesEach (scheduled_on h.history.setting.runs r (planned_in_turn (max h.moment m) (commands_of h.history.setting.runs r)) (drop at (items_of h.order.line.marks))) h.order.table t.order.table
+  pub table : ChangesEach (scheduled_on h.history.setting.runs r (planned_times h.history.setting (read_in h.history) r (take at (read_in h.history).line) (max h.moment m)) (drop at (items_of h.order.line.marks))) h.order.table t.order.table
+
+-- .. with its planned uses, as the scratch has them where it is placed by the timeline
+pub joins_planned : {D : Type 0} (h : Inside D) (s : OpenHub D) (r at m now : ℕ) (slots : List Slot) (uses : List (Option PlannedUse)) (runs : List Run) (later : List LineageState) → open_of h ≡ s → HoldsPlan slots (configuration_of s) r (max s.moment m) at → now ≡ max h.moment m
+    → ((front : List Item) → (scheduler_of h.history.setting.mode ≡ Timeline → HoldsTimes slots (planned_times h.history.setting (read_in h.history) r front now)) → AreUsesOf uses (planned_times h.history.setting (read_in h.history) r front now)) → runs ≡ h.history.setting.runs → length h.order.table ≤ 256
+    → ChangesEach (scheduled_with runs r uses (drop at (items_of h.order.line.marks))) h.order.table later → ChangesEach (scheduled_on h.history.setting.runs r (planned_times h.history.setting (read_in h.history) r (take at (read_in h.history).line) (max h.moment m)) (drop at (items_of h.order.line.marks))) h.order.table later
+joins_planned {D = D} h s r at m now slots uses runs later seen holds is planned same few changes =
+    scheduled_as_planned w.runs r uses (times (max h.moment m)) back h.order.table later few are (λ d. planned_devices w n r (take at n.line) (max h.moment m) d) (subst (λ (x : List Run). ChangesEach (scheduled_with x r uses back) h.order.table later) same changes)
+  where
+    w : Setting
+    w = h.history.setting
+
+    n : Reading
+    n = read_in h.history
+
+    back : List Item
+    back = drop at (items_of h.order.line.marks)
+
+    times : ℕ → List Planned
+    times t = planned_times w n r (take at n.line) t
+
+    holds_here : scheduler_of w.mode ≡ Timeline → HoldsTimes slots (times (max h.moment m))
+    holds_here = subst (λ (x : OpenHub D). HoldsPlan slots (configuration_of x) r (max x.moment m) at) (sym seen) holds
+
+    are : AreUsesOf uses (times (max h.moment m))
+    are = subst (λ t. AreUsesOf uses (times t)) is (planned (take at n.line) (subst (λ t. scheduler_of w.mode ≡ Timeline → HoldsTimes slots (times t)) (sym is) holds_here))
 
 pub joins_whole : {D : Type 0} {stands turns probes faults : D → ℕ} (h t : Inside D) (r at m : ℕ) → IsEntered h t r m (Placed (run_no r) at (max h.moment m) ∷ []) Going → IsJoined h t r at m → is_weak h.history.setting.mode ≡ false → IsWhole stands turns probes faults h → IsWhole stands turns probes faults t
 joins_whole h t r at m enters joined strong k = entered_whole h t r m _ Going enters (λ formed.
-    order_placed h.history _ _ r at (max h.moment m) h.order.line t.order.line h.order.table t.order.table (read_whole h k) k.shown.configuration.grips strong k.shown.configuration.stage (joins_at h r at m enters.chosen).clear refl formed joined.marks joined.spare joined.table k.order) k
+    order_placed h.history _ _ r at (max h.moment m) h.order.line t.order.line h.order.table t.order.table (read_whole h k) k.shown.configuration.grips strong (joins_at h r at m enters.chosen).clear refl formed joined.marks joined.spare joined.table k.order) k
 
 -- .. under the weak model it is scheduled on none
 pub enters_whole : {D : Type 0} {stands turns probes faults : D → ℕ} (h t : Inside D) (r at m : ℕ) → IsEntered h t r m (Placed (run_no r) at (max h.moment m) ∷ []) Going → t.order.line.marks ≡ with_item at (Ran (run_no r)) h.order.line.marks → t.order.line.spare + 1 ≡ h.order.line.spare → t.order.table ≡ h.order.table

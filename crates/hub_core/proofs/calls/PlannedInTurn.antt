@@ -1,19 +1,16 @@
 -- The planned times of a run whose commands follow one another, one command after the other.
 use Rattle.command_rules.specs.Rosters.{commands_of}
-use Rattle.history_book.specs.Plans.{greatest, plan_more, planned_times}
+use Rattle.history_book.specs.Plans.{free, greatest, plan_more, planned_times}
 use Rattle.history_book.specs.Readings.{Planned, Reading}
-use Rattle.history_book.specs.Settings.{Setting}
+use Rattle.history_book.specs.Settings.{Setting, scheduler_of}
 use Rattle.home_types.specs.declared.commands.Command.{Command}
 use Rattle.home_types.specs.declared.items.Item.{Item}
 use Rattle.home_types.specs.declared.modes.Scheduler.TheVariants.{Fcfs, JustInTime, Timeline}
 use Rattle.home_types.specs.declared.modes.Scheduler.{Scheduler}
-use Rattle.home_types.specs.declared.modes.Visibility.TheVariants.{Eventual, Global, Partitioned, Weak}
-use Rattle.home_types.specs.declared.modes.Visibility.{Visibility}
 use Rattle.hub_core.specs.PlansInTurn.{planned_in_turn}
-use Rattle.hub_core.specs.Stage.{is_timeline}
-use Rattle.std.proofs.Common.{append-nil, append_assoc, arith, sym, ◌∙◌}
+use Rattle.std.proofs.Common.{append-nil, append_assoc, arith, refl, sym, ◌∙◌}
 use Rattle.std.proofs.lemmas.Grind.{common_steps}
-use Rattle.std.specs.Prelude.{List, [], false, fold, max, min, ℕ, ◌++◌, ◌+◌, ◌∷◌, ◌≡◌}
+use Rattle.std.specs.Prelude.{List, [], fold, max, min, ℕ, ◌++◌, ◌+◌, ◌∷◌, ◌≡◌, ◌≢◌}
 
 -- planning one command after the other from a clock adds what they have in turn
 planned_from : (clock : ℕ) (planned : List Planned) (cs : List Command) → (fold (plan_more (λ d. 0)) (record { clock = clock; planned = planned }) cs).planned ≡ planned ++ planned_in_turn clock cs
@@ -27,13 +24,15 @@ planned_from clock planned (c ∷ cs) =
     no_wait k = grind (arith, common_steps)
 
 -- a run waits for no device, but for one that is placed by the timeline
-pub planned_in_turn_is : (w : Setting) (n : Reading) (r : ℕ) (front : List Item) (m : ℕ) → is_timeline w.mode.scheduler ≡ false → planned_times w n r front m ≡ planned_in_turn m (commands_of w.runs r)
-planned_in_turn_is w n r front m in_turn = by_mode w.mode.model w.mode.scheduler in_turn
+pub planned_in_turn_is : (w : Setting) (n : Reading) (r : ℕ) (front : List Item) (m : ℕ) → scheduler_of w.mode ≢ Timeline → planned_times w n r front m ≡ planned_in_turn m (commands_of w.runs r)
+planned_in_turn_is w n r front m in_turn = by_scheduler (scheduler_of w.mode) in_turn
   where
-    by_mode : (model : Visibility) (scheduler : Scheduler) → is_timeline scheduler ≡ false → planned_times (record w { mode = record { model = model; scheduler = scheduler } }) n r front m ≡ planned_in_turn m (commands_of w.runs r)
-    by_mode Weak s e = planned_from m [] (commands_of w.runs r)
-    by_mode Global s e = planned_from m [] (commands_of w.runs r)
-    by_mode Partitioned s e = planned_from m [] (commands_of w.runs r)
-    by_mode Eventual Fcfs e = planned_from m [] (commands_of w.runs r)
-    by_mode Eventual JustInTime e = planned_from m [] (commands_of w.runs r)
-    by_mode Eventual Timeline e = absurd (cc)
+    waits : Scheduler → ℕ → ℕ
+    waits Fcfs d = 0
+    waits JustInTime d = 0
+    waits Timeline d = free w n r front d
+
+    by_scheduler : (scheduler : Scheduler) → scheduler ≢ Timeline → (fold (plan_more (waits scheduler)) (record { clock = m; planned = [] }) (commands_of w.runs r)).planned ≡ planned_in_turn m (commands_of w.runs r)
+    by_scheduler Fcfs other = planned_from m [] (commands_of w.runs r)
+    by_scheduler JustInTime other = planned_from m [] (commands_of w.runs r)
+    by_scheduler Timeline other = absurd (other refl)

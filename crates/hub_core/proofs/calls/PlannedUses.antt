@@ -1,13 +1,16 @@
 -- For how long a run whose commands follow one another uses each device, command after command.
-use Rattle.command_rules.specs.Rosters.{is_on}
-use Rattle.history_book.specs.Plans.{greatest}
-use Rattle.history_book.specs.Readings.{Planned}
+use Rattle.command_rules.specs.Rosters.{commands_of, is_on, touches}
+use Rattle.history_book.specs.Plans.{greatest, plan_more, planned_times}
+use Rattle.history_book.specs.Readings.{Planned, Reading}
+use Rattle.history_book.specs.Settings.{Setting}
+use Rattle.home_types.specs.declared.items.Item.{Item}
 use Rattle.home_types.specs.declared.commands.Command.{Command}
-use Rattle.hub_core.specs.PlansInTurn.{planned_in_turn, planned_use, used_again}
+use Rattle.hub_core.specs.PlansInTurn.{planned_use, used_again}
 use Rattle.hub_core.specs.declared.plans.PlannedUse.{PlannedUse}
-use Rattle.std.proofs.Common.{ap, refl}
+use Rattle.std.proofs.Common.{ap, refl, ◌∙◌}
+use Rattle.std.proofs.lemmas.List.Folds.{list_any-append}
 use Rattle.std.specs.List.{list_any}
-use Rattle.std.specs.Prelude.{Bool, List, None, Option, Some, [], false, find, fold, if◌then◌else◌, min, option_map, true, unwrap_or, ℕ, ◌+◌, ◌==◌, ◌||◌, ◌∷◌, ◌≡◌}
+use Rattle.std.specs.Prelude.{Bool, List, None, Option, Some, [], false, find, fold, if◌then◌else◌, max, min, option_map, true, unwrap_or, ℕ, ◌++◌, ◌+◌, ◌==◌, ◌||◌, ◌∷◌, ◌≡◌}
 
 -- the use of the device behind these, where it is this one before them
 abbrev pub use_from : ℕ → Option PlannedUse → List Planned → Option PlannedUse
@@ -37,7 +40,23 @@ use_is d (p ∷ ps) = by_device (p.device == d) (use_is d ps)
     by_device true rest = used_from d p.from p.to ps
     by_device false rest = rest
 
--- the plan is on the devices of the commands
-pub planned_devices : (d m : ℕ) (commands : List Command) → list_any (λ p. p.device == d) (planned_in_turn m commands) ≡ list_any (is_on d) commands
-planned_devices d m [] = refl
-planned_devices d m (c ∷ cs) = ap (λ b. (c.device.0 == d) || b) (planned_devices d (min (m + c.ms) greatest) cs)
+-- planning commands adds times on their devices
+timed_devices : (free : ℕ → ℕ) (d clock : ℕ) (planned : List Planned) (cs : List Command) → list_any (λ p. p.device == d) (fold (plan_more free) (record { clock = clock; planned = planned }) cs).planned ≡ (list_any (λ p. p.device == d) planned || list_any (is_on d) cs)
+timed_devices free d clock planned [] = with_false (list_any (λ p. p.device == d) planned)
+  where
+    with_false : (x : Bool) → x ≡ (x || false)
+    with_false true = refl
+    with_false false = refl
+timed_devices free d clock planned (c ∷ cs) =
+    timed_devices free d (min (max clock (free c.device.0) + c.ms) greatest) (planned ++ record { device = c.device.0; from = max clock (free c.device.0); to = min (max clock (free c.device.0) + c.ms) greatest } ∷ []) cs
+    ∙ ap (λ b. b || list_any (is_on d) cs) (list_any-append (λ p. p.device == d) planned (record { device = c.device.0; from = max clock (free c.device.0); to = min (max clock (free c.device.0) + c.ms) greatest } ∷ []))
+    ∙ in_between (list_any (λ p. p.device == d) planned) (c.device.0 == d) (list_any (is_on d) cs)
+  where
+    in_between : (x y z : Bool) → ((x || (y || false)) || z) ≡ (x || (y || z))
+    in_between true y z = refl
+    in_between false true z = refl
+    in_between false false z = refl
+
+-- the plan of a run is on its devices
+pub planned_devices : (w : Setting) (n : Reading) (r : ℕ) (front : List Item) (m d : ℕ) → list_any (λ p. p.device == d) (planned_times w n r front m) ≡ touches w.runs r d
+planned_devices w n r front m d = timed_devices _ d m [] (commands_of w.runs r)

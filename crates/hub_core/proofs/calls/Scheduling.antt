@@ -1,5 +1,5 @@
 -- The accesses of a run that is placed, command after command.
-use Rattle.command_rules.specs.Rosters.{device_no, is_on, run_no}
+use Rattle.command_rules.specs.Rosters.{Run, device_no, is_on, run_no, touches}
 use Rattle.history_book.specs.Plans.{planned_end, planned_start}
 use Rattle.history_book.specs.Readings.{Planned}
 use Rattle.home_types.specs.declared.commands.Command.{Command}
@@ -8,8 +8,9 @@ use Rattle.home_types.specs.declared.items.Item.{Item}
 use Rattle.home_types.specs.declared.numbers.RunNo.{RunNo}
 use Rattle.hub_core.proofs.kept.HubReads.{some_is}
 use Rattle.hub_core.proofs.calls.NotedAnswers.{lineage_set}
-use Rattle.hub_core.proofs.calls.PlannedUses.{planned_devices}
-use Rattle.hub_core.specs.PlansInTurn.{planned_in_turn, planned_use}
+use Rattle.hub_core.specs.KeptOrders.{scheduled_so, scheduled_with}
+use Rattle.hub_core.specs.PlannedPlaces.{AreUsesOf, held_use, use_between}
+use Rattle.hub_core.specs.PlansInTurn.{planned_use}
 use Rattle.hub_core.specs.declared.plans.PlannedUse.{PlannedUse}
 use Rattle.lineage_table.specs.Accesses.{has_access, status_of}
 use Rattle.lineage_table.specs.Lineages.{LineageState, accesses_at, lineage_at, no_lineage, scheduled, with_lineage}
@@ -18,29 +19,26 @@ use Rattle.lineage_table.specs.declared.accesses.Status.TheVariants.{Scheduled}
 use Rattle.std.proofs.Common.{ap, arith, refl, set, subst, sym, ◌∙◌}
 use Rattle.std.proofs.lemmas.Grind.{common_steps}
 use Rattle.std.proofs.lemmas.List.Folds.{list_any-append}
-use Rattle.std.proofs.lemmas.List.{drop_all, drop_more, get_or-set_other, get_or-set_same, length-set, take-append-drop, take_more}
-use Rattle.std.proofs.lemmas.Option.{slice_get-get_or, slice_get_within}
+use Rattle.std.proofs.lemmas.List.{drop_all, drop_more, get_or-set_other, get_or-set_same, length-set, take-append-drop, take_all, take_more}
+use Rattle.std.proofs.lemmas.Option.{get_or_from_slice_get, slice_get-get_or, slice_get_within}
 use Rattle.std.specs.List.{list_any}
 use Rattle.std.specs.Option.{ForSome, option_or}
-use Rattle.std.specs.Prelude.{Bool, List, None, Option, Some, [], drop, false, get_or, if◌then◌else◌, is_some, length, nat_lt, option_to_list, slice_get, take, true, ℕ, ◌+◌, ◌<◌, ◌==◌, ◌||◌, ◌∷◌, ◌≡◌, ◌≢◌, ◌≤◌}
+use Rattle.std.specs.Prelude.{Bool, List, None, Option, Some, [], drop, false, get_or, if◌then◌else◌, is_some, length, nat_lt, option_map, option_to_list, slice_get, suc, take, true, zero, ℕ, ◌+◌, ◌<◌, ◌==◌, ◌||◌, ◌∷◌, ◌≡◌, ◌≢◌, ◌≤◌}
+use Rattle.timeline_scheduler.specs.Scratches.{HoldsTimes, planned_in}
+use Rattle.timeline_scheduler.specs.declared.scratches.Slot.{Slot}
 use Rattle.window_order.proofs.AgainAccesses.{MayStand, may_stand}
 use Rattle.window_order.proofs.TableSteps.{with_both}
-use Rattle.window_order.specs.TableChanges.{IsNewOn, first_with_access, rescheduled, waiting_access}
+use Rattle.window_order.specs.TableChanges.{ChangesEach, IsNewOn, first_with_access, rescheduled, scheduled_on, waiting_access}
 
 -- one of the first so many commands is on the device
 abbrev pub is_among : ℕ → ℕ → List Command → Bool
 is_among d k commands = list_any (is_on d) (take k commands)
 
--- the lineage with the run's access
-abbrev pub joined : ℕ → List Planned → List Item → ℕ → LineageState → LineageState
-joined r planned back d s = scheduled (first_with_access s.accesses back) (waiting_access r planned d) (rescheduled (first_with_access s.accesses back) s)
-
 -- after so many commands the uses of their devices are taken, and the run has its access there
-pub record IsScheduledTo (k : ℕ) (commands : List Command) (planned : List Planned) (r : ℕ) (back : List Item) (uses : List (Option PlannedUse)) (old new : List LineageState) : Type 0 where
-  pub size : length uses ≡ 256
+pub record IsScheduledTo (k : ℕ) (commands : List Command) (given : List (Option PlannedUse)) (r : ℕ) (back : List Item) (uses : List (Option PlannedUse)) (old new : List LineageState) : Type 0 where
   pub devices : length new ≡ length old
-  pub left : (d : ℕ) → d < 256 → get_or uses d None ≡ (if is_among d k commands then None else planned_use planned d)
-  pub each : (d : ℕ) → lineage_at new d ≡ (if is_among d k commands then joined r planned back d (lineage_at old d) else lineage_at old d)
+  pub left : (d : ℕ) → d < 256 → get_or uses d None ≡ (if is_among d k commands then None else get_or given d None)
+  pub each : (d : ℕ) → lineage_at new d ≡ (if is_among d k commands then scheduled_so r back (get_or given d None) (lineage_at old d) else lineage_at old d)
 
 same : (a b : ℕ) → (a == b) ≡ true → a ≡ b
 same a b h = grind (arith, common_steps)
@@ -74,35 +72,36 @@ on_command k commands e within =
     self x y = grind (arith, common_steps)
 
 -- a device that has its use has had no command
-pub record IsUnused (k d : ℕ) (commands : List Command) (planned : List Planned) (used : PlannedUse) : Type 0 where
+pub record IsUnused (k d : ℕ) (commands : List Command) (given : List (Option PlannedUse)) (used : PlannedUse) : Type 0 where
   pub among : is_among d k commands ≡ false
-  pub from : used.from ≡ planned_start planned d
-  pub to : used.to ≡ planned_end planned d
+  pub use_is : get_or given d None ≡ Some used
 
-pub unused : (k d : ℕ) (commands : List Command) (planned : List Planned) (used : PlannedUse) → (if is_among d k commands then None else planned_use planned d) ≡ Some used → IsUnused k d commands planned used
-unused k d commands planned used has = by_command (is_among d k commands) refl has
+pub unused : (k d : ℕ) (commands : List Command) (given : List (Option PlannedUse)) (used : PlannedUse) → (if is_among d k commands then None else get_or given d None) ≡ Some used → IsUnused k d commands given used
+unused k d commands given used has = by_command (is_among d k commands) refl has
   where
-    by_use : (b : Bool) → is_among d k commands ≡ false → (if b then Some (record { from = planned_start planned d; to = planned_end planned d }) else None) ≡ Some used → IsUnused k d commands planned used
-    by_use true none e = let is : ◌≡◌ {A = PlannedUse} (record { from = planned_start planned d; to = planned_end planned d }) used = cc in record { among = none; from = sym (ap (λ (u : PlannedUse). u.from) is); to = sym (ap (λ (u : PlannedUse). u.to) is) }
-    by_use false none e = absurd (cc)
-
-    by_command : (b : Bool) → is_among d k commands ≡ b → (if b then None else planned_use planned d) ≡ Some used → IsUnused k d commands planned used
+    by_command : (b : Bool) → is_among d k commands ≡ b → (if b then None else get_or given d None) ≡ Some used → IsUnused k d commands given used
     by_command true e h = absurd (cc)
-    by_command false e h = by_use (list_any (λ p. p.device == d) planned) e h
+    by_command false e h = record { among = e; use_is = h }
+
+-- a use that is taken is gone
+taken_use : (uses : List (Option PlannedUse)) (d : ℕ) → get_or (set uses d None) d None ≡ None
+taken_use [] d = refl
+taken_use (u ∷ us) zero = refl
+taken_use (u ∷ us) (suc d) = taken_use us d
 
 -- its lineage is as it was
-pub unused_same : (k d : ℕ) (commands : List Command) (planned : List Planned) (r : ℕ) (back : List Item) (uses : List (Option PlannedUse)) (old new : List LineageState) → IsScheduledTo k commands planned r back uses old new → is_among d k commands ≡ false → lineage_at new d ≡ lineage_at old d
-unused_same k d commands planned r back uses old new so none = so.each d ∙ (λ i. if none i then joined r planned back d (lineage_at old d) else lineage_at old d)
+pub unused_same : (k d : ℕ) (commands : List Command) (given : List (Option PlannedUse)) (r : ℕ) (back : List Item) (uses : List (Option PlannedUse)) (old new : List LineageState) → IsScheduledTo k commands given r back uses old new → is_among d k commands ≡ false → lineage_at new d ≡ lineage_at old d
+unused_same k d commands given r back uses old new so none = so.each d ∙ (λ i. if none i then scheduled_so r back (get_or given d None) (lineage_at old d) else lineage_at old d)
 
 -- once those behind its place wait the run may be scheduled on the device of the next command
 pub record MaySchedule (r d : ℕ) (first : Option RunNo) (table : List LineageState) : Type 0 where
   pub none : has_access r (accesses_at table d) ≡ false
   pub waits : ForSome first (λ q. status_of q.0 (accesses_at table d) ≡ Some Scheduled)
 
-pub may_schedule : (k : ℕ) (commands : List Command) (planned : List Planned) (r : ℕ) (back : List Item) (uses : List (Option PlannedUse)) (old new after : List LineageState) (e : Command) (used : PlannedUse) (first : Option RunNo)
-    → IsScheduledTo k commands planned r back uses old new → k < length commands → ((x : Command) → (get_or commands k x).device.0 < length old) → length old ≤ 256 → get_or uses (get_or commands k e).device.0 None ≡ Some used
+pub may_schedule : (k : ℕ) (commands : List Command) (given : List (Option PlannedUse)) (r : ℕ) (back : List Item) (uses : List (Option PlannedUse)) (old new after : List LineageState) (e : Command) (used : PlannedUse) (first : Option RunNo)
+    → IsScheduledTo k commands given r back uses old new → k < length commands → ((x : Command) → (get_or commands k x).device.0 < length old) → length old ≤ 256 → get_or uses (get_or commands k e).device.0 None ≡ Some used
     → IsNewOn r back (lineage_at old (get_or commands k e).device.0) → first ≡ first_with_access (accesses_at new (get_or commands k e).device.0) back → after ≡ with_lineage new (get_or commands k e).device.0 (rescheduled first) → MaySchedule r (get_or commands k e).device.0 first after
-may_schedule k commands planned r back uses old new after e used first so within homed few has is_new named waiting = record {
+may_schedule k commands given r back uses old new after e used first so within homed few has is_new named waiting = record {
   none = ap (λ (s : LineageState). has_access r s.accesses) here ∙ stands.none;
   waits = subst (λ (s : LineageState). ForSome first (λ q. status_of q.0 s.accesses ≡ Some Scheduled)) (sym here) stands.waits;
 }
@@ -113,11 +112,11 @@ may_schedule k commands planned r back uses old new after e used first so within
     there : d < length old
     there = homed e
 
-    is : IsUnused k d commands planned used
-    is = unused k d commands planned used (sym (so.left d (omega (arith, there, few))) ∙ has)
+    is : IsUnused k d commands given used
+    is = unused k d commands given used (sym (so.left d (omega (arith, there, few))) ∙ has)
 
     now : lineage_at new d ≡ lineage_at old d
-    now = unused_same k d commands planned r back uses old new so is.among
+    now = unused_same k d commands given r back uses old new so is.among
 
     here : lineage_at after d ≡ rescheduled first (lineage_at new d)
     here = ap (λ (t : List LineageState). lineage_at t d) waiting ∙ lineage_set new d (rescheduled first) (omega (arith, there, so.devices))
@@ -126,13 +125,12 @@ may_schedule k commands planned r back uses old new after e used first so within
     stands = subst (λ o. MayStand r o (lineage_at new d)) (sym named) (may_stand r back (lineage_at new d) (subst (IsNewOn r back) (sym now) is_new))
 
 -- the run has its access on the device of the next command
-pub schedules : (k : ℕ) (commands : List Command) (planned : List Planned) (r : ℕ) (back : List Item) (uses : List (Option PlannedUse)) (old new : List LineageState) (e : Command) (used : PlannedUse)
-    → IsScheduledTo k commands planned r back uses old new → k < length commands → ((x : Command) → (get_or commands k x).device.0 < length old) → length old ≤ 256 → get_or uses (get_or commands k e).device.0 None ≡ Some used
-    → IsScheduledTo (k + 1) commands planned r back (set uses (get_or commands k e).device.0 None) old
+pub schedules : (k : ℕ) (commands : List Command) (given : List (Option PlannedUse)) (r : ℕ) (back : List Item) (uses : List (Option PlannedUse)) (old new : List LineageState) (e : Command) (used : PlannedUse)
+    → IsScheduledTo k commands given r back uses old new → k < length commands → ((x : Command) → (get_or commands k x).device.0 < length old) → length old ≤ 256 → get_or uses (get_or commands k e).device.0 None ≡ Some used
+    → IsScheduledTo (k + 1) commands given r back (set uses (get_or commands k e).device.0 None) old
     (with_lineage (with_lineage new (get_or commands k e).device.0 (rescheduled (first_with_access (lineage_at new (get_or commands k e).device.0).accesses back))) (get_or commands k e).device.0
     (scheduled (first_with_access (lineage_at new (get_or commands k e).device.0).accesses back) (record { run = run_no r; status = Scheduled; view = None; wrote = None; from = used.from; to = used.to })))
-schedules k commands planned r back uses old new e used so within homed few has = subst (IsScheduledTo (k + 1) commands planned r back (set uses c.device.0 None) old) (sym (with_both new c.device.0 (rescheduled first) (scheduled first access) (omega (arith, there, so.devices)))) (record {
-  size = length-set uses c.device.0 None ∙ so.size;
+schedules k commands given r back uses old new e used so within homed few has = subst (IsScheduledTo (k + 1) commands given r back (set uses c.device.0 None) old) (sym (with_both new c.device.0 (rescheduled first) (scheduled first access) (omega (arith, there, so.devices)))) (record {
   devices = length-set new c.device.0 (change (lineage_at new c.device.0)) ∙ so.devices;
   left = λ d lt. left_at d lt (c.device.0 == d) refl;
   each = λ d. each_at d (c.device.0 == d) refl;
@@ -144,8 +142,8 @@ schedules k commands planned r back uses old new e used so within homed few has 
     there : c.device.0 < length old
     there = homed e
 
-    is : IsUnused k c.device.0 commands planned used
-    is = unused k c.device.0 commands planned used (sym (so.left c.device.0 (omega (arith, there, few))) ∙ has)
+    is : IsUnused k c.device.0 commands given used
+    is = unused k c.device.0 commands given used (sym (so.left c.device.0 (omega (arith, there, few))) ∙ has)
 
     access : Access
     access = record { run = run_no r; status = Scheduled; view = None; wrote = None; from = used.from; to = used.to }
@@ -167,74 +165,144 @@ schedules k commands planned r back uses old new e used so within homed few has 
     with_false true = refl
     with_false false = refl
 
-    left_at : (d : ℕ) → d < 256 → (b : Bool) → (c.device.0 == d) ≡ b → get_or (set uses c.device.0 None) d None ≡ (if is_among d (k + 1) commands then None else planned_use planned d)
+    left_at : (d : ℕ) → d < 256 → (b : Bool) → (c.device.0 == d) ≡ b → get_or (set uses c.device.0 None) d None ≡ (if is_among d (k + 1) commands then None else get_or given d None)
     left_at d lt true h =
         ap (λ x. get_or (set uses c.device.0 None) x None) (sym (same c.device.0 d h))
-        ∙ get_or-set_same uses c.device.0 None None (omega (arith, there, few, so.size))
-        ∙ (λ i. if sym (among d true h ∙ with_true (is_among d k commands)) i then None else planned_use planned d)
+        ∙ taken_use uses c.device.0
+        ∙ (λ i. if sym (among d true h ∙ with_true (is_among d k commands)) i then None else get_or given d None)
     left_at d lt false h =
         get_or-set_other uses c.device.0 d None None (differ c.device.0 d h)
         ∙ so.left d lt
-        ∙ (λ i. if sym (among d false h ∙ with_false (is_among d k commands)) i then None else planned_use planned d)
+        ∙ (λ i. if sym (among d false h ∙ with_false (is_among d k commands)) i then None else get_or given d None)
 
     first_is : lineage_at new c.device.0 ≡ lineage_at old c.device.0
-    first_is = unused_same k c.device.0 commands planned r back uses old new so is.among
+    first_is = unused_same k c.device.0 commands given r back uses old new so is.among
 
-    access_is : access ≡ waiting_access r planned c.device.0
-    access_is = λ i. record { run = run_no r; status = Scheduled; view = None; wrote = None; from = is.from i; to = is.to i }
-
-    each_at : (d : ℕ) (b : Bool) → (c.device.0 == d) ≡ b → lineage_at (with_lineage new c.device.0 change) d ≡ (if is_among d (k + 1) commands then joined r planned back d (lineage_at old d) else lineage_at old d)
+    each_at : (d : ℕ) (b : Bool) → (c.device.0 == d) ≡ b → lineage_at (with_lineage new c.device.0 change) d ≡ (if is_among d (k + 1) commands then scheduled_so r back (get_or given d None) (lineage_at old d) else lineage_at old d)
     each_at d true h =
         ap (lineage_at (with_lineage new c.device.0 change)) (sym (same c.device.0 d h))
         ∙ get_or-set_same new c.device.0 (change (lineage_at new c.device.0)) no_lineage (omega (arith, there, so.devices))
-        ∙ (λ i. scheduled (first_with_access (first_is i).accesses back) (access_is i) (rescheduled (first_with_access (first_is i).accesses back) (first_is i)))
-        ∙ ap (λ x. joined r planned back x (lineage_at old x)) (same c.device.0 d h)
-        ∙ (λ i. if sym (among d true h ∙ with_true (is_among d k commands)) i then joined r planned back d (lineage_at old d) else lineage_at old d)
+        ∙ ap (scheduled_so r back (Some used)) first_is
+        ∙ ap (λ o. scheduled_so r back o (lineage_at old c.device.0)) (sym is.use_is)
+        ∙ ap (λ x. scheduled_so r back (get_or given x None) (lineage_at old x)) (same c.device.0 d h)
+        ∙ (λ i. if sym (among d true h ∙ with_true (is_among d k commands)) i then scheduled_so r back (get_or given d None) (lineage_at old d) else lineage_at old d)
     each_at d false h =
         get_or-set_other new c.device.0 d (change (lineage_at new c.device.0)) no_lineage (differ c.device.0 d h)
         ∙ so.each d
-        ∙ (λ i. if sym (among d false h ∙ with_false (is_among d k commands)) i then joined r planned back d (lineage_at old d) else lineage_at old d)
+        ∙ (λ i. if sym (among d false h ∙ with_false (is_among d k commands)) i then scheduled_so r back (get_or given d None) (lineage_at old d) else lineage_at old d)
 
--- .. or has it already
-pub schedules_no_more : (k m : ℕ) (commands : List Command) (r : ℕ) (back : List Item) (uses : List (Option PlannedUse)) (old new : List LineageState) (e : Command)
-    → IsScheduledTo k commands (planned_in_turn m commands) r back uses old new → k < length commands → ((x : Command) → (get_or commands k x).device.0 < 256) → get_or uses (get_or commands k e).device.0 None ≡ None → IsScheduledTo (k + 1) commands (planned_in_turn m commands) r back uses old new
-schedules_no_more k m commands r back uses old new e so within homed none = record {
-  size = so.size;
+-- .. or has it already, or no use of it is planned
+pub schedules_no_more : (k : ℕ) (commands : List Command) (given : List (Option PlannedUse)) (r : ℕ) (back : List Item) (uses : List (Option PlannedUse)) (old new : List LineageState) (e : Command)
+    → IsScheduledTo k commands given r back uses old new → k < length commands → ((x : Command) → (get_or commands k x).device.0 < 256) → get_or uses (get_or commands k e).device.0 None ≡ None → IsScheduledTo (k + 1) commands given r back uses old new
+schedules_no_more k commands given r back uses old new e so within homed none = record {
   devices = so.devices;
-  left = λ d lt. so.left d lt ∙ (λ i. if sym (as_before d) i then None else planned_use (planned_in_turn m commands) d);
-  each = λ d. so.each d ∙ (λ i. if sym (as_before d) i then joined r (planned_in_turn m commands) back d (lineage_at old d) else lineage_at old d);
+  left = λ d lt. left_at d lt (c.device.0 == d) refl;
+  each = λ d. each_at d (c.device.0 == d) refl;
 }
   where
     c : Command
     c = get_or commands k e
 
-    on_it : list_any (is_on c.device.0) commands ≡ true
-    on_it = on_command k commands e within
+    among : (d : ℕ) (b : Bool) → (c.device.0 == d) ≡ b → is_among d (k + 1) commands ≡ (is_among d k commands || b)
+    among d b h = among_more d k commands e within ∙ ap (λ x. is_among d k commands || x) h
 
-    used_before : is_among c.device.0 k commands ≡ true
-    used_before = by_command (is_among c.device.0 k commands) refl (sym (so.left c.device.0 (homed e)) ∙ none)
-      where
-        by_use : (b : Bool) → b ≡ true → ◌≡◌ {A = Option PlannedUse} (if b then Some (record { from = planned_start (planned_in_turn m commands) c.device.0; to = planned_end (planned_in_turn m commands) c.device.0 }) else None) None → false ≡ true
-        by_use true h x = absurd (cc)
-        by_use false h x = h
+    with_true : (x : Bool) → (x || true) ≡ true
+    with_true true = refl
+    with_true false = refl
 
-        by_command : (b : Bool) → is_among c.device.0 k commands ≡ b → ◌≡◌ {A = Option PlannedUse} (if b then None else planned_use (planned_in_turn m commands) c.device.0) None → b ≡ true
-        by_command true x h = refl
-        by_command false x h = by_use (list_any (λ p. p.device == c.device.0) (planned_in_turn m commands)) (planned_devices c.device.0 m commands ∙ on_it) h
+    with_false : (x : Bool) → (x || false) ≡ x
+    with_false true = refl
+    with_false false = refl
 
-    as_before : (d : ℕ) → is_among d (k + 1) commands ≡ is_among d k commands
-    as_before d = among_more d k commands e within ∙ by_device (c.device.0 == d) refl
-      where
-        with_false : (x : Bool) → (x || false) ≡ x
-        with_false true = refl
-        with_false false = refl
+    none_at : (d : ℕ) → (c.device.0 == d) ≡ true → get_or uses d None ≡ None
+    none_at d h = ap (λ x. get_or uses x None) (sym (same c.device.0 d h)) ∙ none
 
-        with_true : (x : Bool) → x ≡ true → (x || true) ≡ x
-        with_true x h = grind (arith, common_steps)
+    none_given : (d : ℕ) → (c.device.0 == d) ≡ true → is_among d k commands ≡ false → get_or given d None ≡ None
+    none_given d h off = sym (so.left d (subst (λ x. x < 256) (same c.device.0 d h) (homed e)) ∙ (λ i. if off i then None else get_or given d None)) ∙ none_at d h
 
-        by_device : (b : Bool) → (c.device.0 == d) ≡ b → (is_among d k commands || b) ≡ is_among d k commands
-        by_device true h = with_true (is_among d k commands) (ap (λ x. is_among x k commands) (sym (same c.device.0 d h)) ∙ used_before)
-        by_device false h = with_false (is_among d k commands)
+    left_at : (d : ℕ) → d < 256 → (b : Bool) → (c.device.0 == d) ≡ b → get_or uses d None ≡ (if is_among d (k + 1) commands then None else get_or given d None)
+    left_at d lt true h = none_at d h ∙ (λ i. if sym (among d true h ∙ with_true (is_among d k commands)) i then None else get_or given d None)
+    left_at d lt false h = so.left d lt ∙ (λ i. if sym (among d false h ∙ with_false (is_among d k commands)) i then None else get_or given d None)
+
+    as_given : (d : ℕ) → (c.device.0 == d) ≡ true → (b : Bool) → is_among d k commands ≡ b → (if b then scheduled_so r back (get_or given d None) (lineage_at old d) else lineage_at old d) ≡ scheduled_so r back (get_or given d None) (lineage_at old d)
+    as_given d h true e = refl
+    as_given d h false e = ap (λ o. scheduled_so r back o (lineage_at old d)) (sym (none_given d h e))
+
+    each_at : (d : ℕ) (b : Bool) → (c.device.0 == d) ≡ b → lineage_at new d ≡ (if is_among d (k + 1) commands then scheduled_so r back (get_or given d None) (lineage_at old d) else lineage_at old d)
+    each_at d true h = so.each d ∙ as_given d h (is_among d k commands) refl ∙ (λ i. if sym (among d true h ∙ with_true (is_among d k commands)) i then scheduled_so r back (get_or given d None) (lineage_at old d) else lineage_at old d)
+    each_at d false h = so.each d ∙ (λ i. if sym (among d false h ∙ with_false (is_among d k commands)) i then scheduled_so r back (get_or given d None) (lineage_at old d) else lineage_at old d)
+
+-- Uses that a scratch holds
+
+-- the uses of the devices of the first so many commands are those that the scratch holds, and the others have none
+pub record AreHeldTo (k : ℕ) (commands : List Command) (slots : List Slot) (uses : List (Option PlannedUse)) : Type 0 where
+  pub size : length uses ≡ 256
+  pub each : (d : ℕ) → d < 256 → get_or uses d None ≡ (if is_among d k commands then option_map use_between (planned_in slots d) else None)
+
+-- one command more
+pub holds_next : (k : ℕ) (commands : List Command) (slots : List Slot) (uses : List (Option PlannedUse)) (e : Command) → AreHeldTo k commands slots uses → k < length commands → (get_or commands k e).device.0 < 256
+    → AreHeldTo (k + 1) commands slots (set uses (get_or commands k e).device.0 (option_map use_between (planned_in slots (get_or commands k e).device.0)))
+holds_next k commands slots uses e held within there = record { size = length-set uses c.device.0 value ∙ held.size; each = λ d lt. each_at d lt (c.device.0 == d) refl }
+  where
+    c : Command
+    c = get_or commands k e
+
+    value : Option PlannedUse
+    value = option_map use_between (planned_in slots c.device.0)
+
+    among : (d : ℕ) (b : Bool) → (c.device.0 == d) ≡ b → is_among d (k + 1) commands ≡ (is_among d k commands || b)
+    among d b h = among_more d k commands e within ∙ ap (λ x. is_among d k commands || x) h
+
+    with_true : (x : Bool) → (x || true) ≡ true
+    with_true true = refl
+    with_true false = refl
+
+    with_false : (x : Bool) → (x || false) ≡ x
+    with_false true = refl
+    with_false false = refl
+
+    each_at : (d : ℕ) → d < 256 → (b : Bool) → (c.device.0 == d) ≡ b → get_or (set uses c.device.0 value) d None ≡ (if is_among d (k + 1) commands then option_map use_between (planned_in slots d) else None)
+    each_at d lt true h =
+        ap (λ x. get_or (set uses c.device.0 value) x None) (sym (same c.device.0 d h))
+        ∙ get_or-set_same uses c.device.0 value None (omega (arith, there, held.size))
+        ∙ ap (λ x. option_map use_between (planned_in slots x)) (same c.device.0 d h)
+        ∙ (λ i. if sym (among d true h ∙ with_true (is_among d k commands)) i then option_map use_between (planned_in slots d) else None)
+    each_at d lt false h =
+        get_or-set_other uses c.device.0 d value None (differ c.device.0 d h)
+        ∙ held.each d lt
+        ∙ (λ i. if sym (among d false h ∙ with_false (is_among d k commands)) i then option_map use_between (planned_in slots d) else None)
+
+-- after all of them
+pub holds_all : (k : ℕ) (commands : List Command) (slots : List Slot) (uses : List (Option PlannedUse)) → AreHeldTo k commands slots uses → length commands ≤ k → (d : ℕ) → d < 256 → slice_get uses d ≡ Some (held_use slots commands d)
+holds_all k commands slots uses held all d lt =
+    slice_get-get_or uses d None (let size = held.size in omega (arith, lt, size)) ∙ ap (λ u. Some u) (held.each d lt ∙ (λ i. if whole i then option_map use_between (planned_in slots d) else None))
+  where
+    whole : is_among d k commands ≡ list_any (is_on d) commands
+    whole = ap (list_any (is_on d)) (take_all k commands all)
+
+-- Uses and plans
+
+-- what the scratch holds for a plan of the commands is their uses in it
+pub held_is_planned : (commands : List Command) (slots : List Slot) (uses : List (Option PlannedUse)) (planned : List Planned) → HoldsTimes slots planned → ((d : ℕ) → list_any (λ p. p.device == d) planned ≡ list_any (is_on d) commands)
+    → ((d : ℕ) → d < 256 → slice_get uses d ≡ Some (held_use slots commands d)) → AreUsesOf uses planned
+held_is_planned commands slots uses planned holds there held d lt = held d lt ∙ ap (λ u. Some u) ((λ i. if sym (there d) i then option_map use_between (holds d i) else None) ∙ by_entry (list_any (λ p. p.device == d) planned))
+  where
+    by_entry : (b : Bool) → (if b then option_map use_between (if b then Some (planned_start planned d, planned_end planned d) else None) else None) ≡ (if b then Some (record { from = planned_start planned d; to = planned_end planned d }) else None)
+    by_entry true = refl
+    by_entry false = refl
+
+-- where these are the uses in the plan of the run, it is scheduled as it is planned
+pub scheduled_as_planned : (runs : List Run) (r : ℕ) (uses : List (Option PlannedUse)) (planned : List Planned) (back : List Item) (old new : List LineageState) → length old ≤ 256 → AreUsesOf uses planned → ((d : ℕ) → list_any (λ p. p.device == d) planned ≡ touches runs r d)
+    → ChangesEach (scheduled_with runs r uses back) old new → ChangesEach (scheduled_on runs r planned back) old new
+scheduled_as_planned runs r uses planned back old new few are there changes = record { devices = changes.devices; each = λ d lt. changes.each d lt ∙ by_touch d (omega (arith, lt, few)) (touches runs r d) refl }
+  where
+    use_is : (d : ℕ) → d < 256 → touches runs r d ≡ true → get_or uses d None ≡ Some (record { from = planned_start planned d; to = planned_end planned d })
+    use_is d lt on = get_or_from_slice_get uses d (planned_use planned d) None (are d lt) ∙ (λ i. if (there d ∙ on) i then Some (record { from = planned_start planned d; to = planned_end planned d }) else None)
+
+    by_touch : (d : ℕ) → d < 256 → (b : Bool) → touches runs r d ≡ b → (if b then scheduled_so r back (get_or uses d None) (lineage_at old d) else lineage_at old d)
+        ≡ (if b then scheduled (first_with_access (lineage_at old d).accesses back) (waiting_access r planned d) (rescheduled (first_with_access (lineage_at old d).accesses back) (lineage_at old d)) else lineage_at old d)
+    by_touch d lt true on = ap (λ o. scheduled_so r back o (lineage_at old d)) (use_is d lt on)
+    by_touch d lt false on = refl
 
 -- The first run behind a place
 

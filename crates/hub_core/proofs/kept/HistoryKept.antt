@@ -25,7 +25,7 @@ use Rattle.home_types.specs.declared.modes.Visibility.{Visibility}
 use Rattle.hub_core.proofs.kept.Followed.{followed_placed, followed_step}
 use Rattle.hub_core.proofs.steps.Afters.{read_with}
 use Rattle.hub_core.proofs.kept.LineOrder.{StampsAreBelow, before_more, end_line, is_alone_by, live_before_without, order_at_end, order_without, same_order, stamps_below, strict_fewer_by}
-use Rattle.hub_core.proofs.stage.StrongChoices.{IsPlacing, live_stands}
+use Rattle.hub_core.proofs.windows.StrongChoices.{IsPlacing, live_stands}
 use Rattle.hub_core.specs.CleanReads.{entry_is_clean}
 use Rattle.hub_core.specs.HubKept.{ActsInTurn, FollowersStand, HistoryIsKept, NoneAnsweredDoomed, keeps_leases, placed_in_order}
 use Rattle.hub_core.specs.Isolation.{is_alone, is_isolated}

@@ -96,7 +96,7 @@ entry_kept w h h₂ n n₂ maker r e progress now k run more is others =
       ];
     }
 
--- The changes of this stage
+-- The changes
 
 pub arrives_beside : (w : Setting) (h h₂ : List Kept) (n n₂ maker m : ℕ) (r : RunNo) (progress : List RunProgress) (p : RunProgress)
     → IsReadBeside (record { setting = w; history = h; spare = n }) progress

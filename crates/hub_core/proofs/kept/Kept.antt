@@ -24,14 +24,13 @@ use Rattle.hub_core.proofs.steps.Causes.{IsClean, Shows, take_is_clean, take_sho
 use Rattle.hub_core.proofs.steps.Choices.{Commanding, Enters, IsNext, decide_is}
 use Rattle.hub_core.proofs.kept.Followed.{none_placed}
 use Rattle.hub_core.proofs.kept.HistoryKept.{MayAdd, ServesStrict, aborted_may, added, arrival_may, commit_may, doom_may, drop_may, grip_turn, history_added, in_turn_wrote, less_one, placing_may, serves_strict, told_may}
-use Rattle.hub_core.proofs.stage.StrongChoices.{IsPlacing, StrongSteps, served_in_turn, strong_steps, take_all}
+use Rattle.hub_core.proofs.windows.StrongChoices.{IsPlacing, StrongSteps, served_in_turn, strong_steps, take_all}
 use Rattle.hub_core.proofs.steps.Takes.{Follows, take_follows}
 use Rattle.hub_core.proofs.kept.WrittenValues.{ValuesFit, undo_value, writes_fit}
 use Rattle.hub_core.specs.CleanReads.{entry_is_clean}
 use Rattle.hub_core.specs.HubKept.{ActsInTurn, ConfigurationIsKept, EachOut, HistoryIsKept, NoneAnsweredDoomed, UndosFit, is_of_run, is_probed, probes_of, undo_fits}
 use Rattle.hub_core.specs.JustifiedAborts.{abort_is_justified, shows}
 use Rattle.hub_core.specs.Openings.{MayOpen, names_values_of}
-use Rattle.hub_core.specs.Stage.{StageAllows}
 use Rattle.hub_core.specs.Steps.{HandsOut, Moves, after_choice, after_take, answers_down, at_moment, down_entries, opened}
 use Rattle.lock_leasing.proofs.ClearPlaces.{scheduled_is_clear}
 use Rattle.lock_leasing.proofs.Effects.{effect_is}
@@ -90,7 +89,6 @@ kept_after s rounds opened held after h m g history fewer undos order kept =
     record {
       opens = kept.opens;
       strong = kept.strong;
-      stage = kept.stage;
       kinds = kept.kinds;
       probes = λ d. omega (arith, fewer d, kept.probes d);
       values = kept.values;
@@ -361,13 +359,12 @@ take_kept s rounds opened held r m kept =
 
 -- The start
 
-pub starts : (w : Setting) (rounds opened' : ℕ) → MayOpen w rounds opened' → is_weak w.mode ≡ false → StageAllows w → length w.kinds ≡ length w.first → ((d : ℕ) → d < length w.first → IsTrue (has_value (kind_at w.kinds d) (stand_at w.first d).value))
+pub starts : (w : Setting) (rounds opened' : ℕ) → MayOpen w rounds opened' → is_weak w.mode ≡ false → length w.kinds ≡ length w.first → ((d : ℕ) → d < length w.first → IsTrue (has_value (kind_at w.kinds d) (stand_at w.first d).value))
     → ConfigurationIsKept (opened w rounds) rounds opened' (λ d. (stand_at w.first d).value)
-starts w rounds opened' opens strong stage kinds values =
+starts w rounds opened' opens strong kinds values =
     record {
       opens = opens;
       strong = strong;
-      stage = stage;
       kinds = kinds;
       probes = λ d. few (is_device w d);
       values = values;

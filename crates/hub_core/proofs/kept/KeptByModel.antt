@@ -19,7 +19,6 @@ use Rattle.hub_core.proofs.weak.WeakProbes.{weak_standing, weak_take_probe}
 use Rattle.hub_core.specs.HubKept.{ConfigurationIsKept}
 use Rattle.hub_core.specs.KeptByModel.{IsKeptByModel}
 use Rattle.hub_core.specs.Openings.{MayOpen}
-use Rattle.hub_core.specs.Stage.{StageAllows}
 use Rattle.hub_core.specs.Steps.{after_give, after_take, after_take_probe, at_moment, opened}
 use Rattle.hub_core.specs.WeakKept.{WeakIsKept}
 use Rattle.lock_leasing.specs.Configurations.{Configuration, Grip, Probes, Undoes, read_of}
@@ -34,7 +33,6 @@ use Rattle.window_order.proofs.ReadFacts.{IsRead, read_facts}
 pub in_order : (s : Configuration) (rounds opened : ℕ) (held : ℕ → ℕ) → ConfigurationIsKept s rounds opened held → IsKeptByModel s rounds opened held
 in_order s rounds opened held kept = record {
   opens = kept.opens;
-  stage = kept.stage;
   kinds = kept.kinds;
   probes = kept.probes;
   values = kept.values;
@@ -47,7 +45,6 @@ in_order s rounds opened held kept = record {
 pub in_no_order : (s : Configuration) (rounds opened : ℕ) (held : ℕ → ℕ) → WeakIsKept s rounds opened held → IsKeptByModel s rounds opened held
 in_no_order s rounds opened held kept = record {
   opens = kept.opens;
-  stage = kept.stage;
   kinds = kept.kinds;
   probes = kept.probes;
   values = kept.values;
@@ -70,11 +67,11 @@ read_kept s rounds opened held kept = read_facts s.setting (entries_of s.history
 
 -- The steps
 
-pub starts_kept : (w : Setting) (rounds opened' : ℕ) → MayOpen w rounds opened' → StageAllows w → length w.kinds ≡ length w.first → ((d : ℕ) → d < length w.first → IsTrue (has_value (kind_at w.kinds d) (stand_at w.first d).value))
+pub starts_kept : (w : Setting) (rounds opened' : ℕ) → MayOpen w rounds opened' → length w.kinds ≡ length w.first → ((d : ℕ) → d < length w.first → IsTrue (has_value (kind_at w.kinds d) (stand_at w.first d).value))
     → IsKeptByModel (opened w rounds) rounds opened' (λ d. (stand_at w.first d).value)
-starts_kept w rounds opened' opens stage kinds values = elim (is_weak w.mode) as (λ b. is_weak w.mode ≡ b → IsKeptByModel (opened w rounds) rounds opened' (λ d. (stand_at w.first d).value)) [
-  | true ↦ (λ weak. in_no_order (opened w rounds) rounds opened' _ (weak_opened w rounds opened' opens stage weak kinds values))
-  | false ↦ (λ strong. in_order (opened w rounds) rounds opened' _ (starts w rounds opened' opens strong stage kinds values))
+starts_kept w rounds opened' opens kinds values = elim (is_weak w.mode) as (λ b. is_weak w.mode ≡ b → IsKeptByModel (opened w rounds) rounds opened' (λ d. (stand_at w.first d).value)) [
+  | true ↦ (λ weak. in_no_order (opened w rounds) rounds opened' _ (weak_opened w rounds opened' opens weak kinds values))
+  | false ↦ (λ strong. in_order (opened w rounds) rounds opened' _ (starts w rounds opened' opens strong kinds values))
 ] refl
 
 -- the moment alone

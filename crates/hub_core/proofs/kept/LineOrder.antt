@@ -16,7 +16,7 @@ use Rattle.home_types.specs.declared.modes.Scheduler.{Scheduler}
 use Rattle.home_types.specs.declared.modes.Visibility.{Visibility}
 use Rattle.home_types.specs.declared.modes.Visibility.TheVariants.{Eventual, Global, Partitioned, Weak}
 use Rattle.home_types.specs.declared.worlds.Stand.{Stand}
-use Rattle.hub_core.proofs.stage.StrongChoices.{placed_after}
+use Rattle.hub_core.proofs.windows.StrongChoices.{placed_after}
 use Rattle.hub_core.specs.HubKept.{is_later, placed_in_order}
 use Rattle.hub_core.specs.Isolation.{is_alone, is_placed_before}
 use Rattle.lock_leasing.specs.Waits.{strict_wait}

@@ -1,11 +1,12 @@
 -- Each entry of a step that is no event, and each device that goes out, keeps the line and the table of a window.
 use Rattle.command_rules.specs.Items.{is_ran}
-use Rattle.command_rules.specs.Rosters.{command_at, commands_of, device_no, is_run, run_no, touches_from}
+use Rattle.command_rules.specs.Rosters.{command_at, device_no, is_run, run_no, touches_from}
 use Rattle.device_order.specs.LineWords.{CutAt}
 use Rattle.device_order.specs.Usages.{is_command as holds_command}
 use Rattle.history_book.proofs.Standing.{stands_in}
 use Rattle.history_book.proofs.Snoc.{along_on, each_at, entries_on, put_same, reading_more}
 use Rattle.history_book.specs.Histories.{entries_of, entry, kept_by, reading}
+use Rattle.history_book.specs.Plans.{planned_times}
 use Rattle.history_book.specs.Readings.{OfRun, Reading, did, is_doomed, next_of, nothing_read, pends, put}
 use Rattle.history_book.specs.Settings.{Setting, is_weak}
 use Rattle.history_book.specs.WellFormed.{IsWellFormed, along, cause_fits, is_well_formed, may_act, may_follow}
@@ -20,11 +21,8 @@ use Rattle.home_types.specs.declared.commands.View.TheVariants.{Down as ViewedDo
 use Rattle.home_types.specs.declared.commands.View.{View}
 use Rattle.home_types.specs.declared.items.Item.TheVariants.{Ran}
 use Rattle.home_types.specs.declared.items.Item.{Item}
-use Rattle.hub_core.proofs.calls.PlannedInTurn.{planned_in_turn_is}
 use Rattle.hub_core.specs.Bounds.{most_items}
 use Rattle.hub_core.specs.KeptOrders.{IsOrderOf, MayNote, OrderIsBeside, TableFits, is_first, noted_first}
-use Rattle.hub_core.specs.PlansInTurn.{planned_in_turn}
-use Rattle.hub_core.specs.Stage.{is_timeline}
 use Rattle.hub_core.specs.ReadHistories.{HistoryState, read_in, with_doom, with_entry}
 use Rattle.lineage_table.specs.Accesses.{is_scheduled, status_of}
 use Rattle.lineage_table.specs.Lineages.{IsOpened, LineageState, committed_lineage, lineage_at, removed, undone, with_lineage}
@@ -106,11 +104,11 @@ length_with at x marks =
     omega (arith, after, before, whole)
 
 -- .. at a clear place
-pub order_placed : {rounds : ℕ} (h h₂ : HistoryState) (g : Grips) (r at m : ℕ) (line after : Marked) (table later : List LineageState) → IsRead h.setting (read_in h) → GripsFit h.setting (read_in h) g → is_weak h.setting.mode ≡ false → is_timeline h.setting.mode.scheduler ≡ false → IsClear h.setting (read_in h) g r at
+pub order_placed : {rounds : ℕ} (h h₂ : HistoryState) (g : Grips) (r at m : ℕ) (line after : Marked) (table later : List LineageState) → IsRead h.setting (read_in h) → GripsFit h.setting (read_in h) g → is_weak h.setting.mode ≡ false → IsClear h.setting (read_in h) g r at
     → h₂ ≡ with_entry h r (Placed (run_no r) at m) → IsWellFormed h₂.setting (entries_of h₂.history)
-    → after.marks ≡ with_item at (Ran (run_no r)) line.marks → after.spare + 1 ≡ line.spare → ChangesEach (scheduled_on h.setting.runs r (planned_in_turn m (commands_of h.setting.runs r)) (drop at (items_of line.marks))) table later
+    → after.marks ≡ with_item at (Ran (run_no r)) line.marks → after.spare + 1 ≡ line.spare → ChangesEach (scheduled_on h.setting.runs r (planned_times h.setting (read_in h) r (take at (read_in h).line) m) (drop at (items_of line.marks))) table later
     → OrderIsBeside rounds h g line table → OrderIsBeside rounds h₂ g after later
-order_placed {rounds = rounds} h h₂ g r at m line after table later read fit strong in_turn clear new formed marks spare changes kept = entry_kept h h₂ g r (Placed (run_no r) at m) after later new (record {
+order_placed {rounds = rounds} h h₂ g r at m line after table later read fit strong clear new formed marks spare changes kept = entry_kept h h₂ g r (Placed (run_no r) at m) after later new (record {
   table_is = fits_ordered w _ g later strong (placed_table w n g r at m table later read may clear changed (kept.table_is.ordered strong));
   line_is = subst (MarksAreKept (entry w n (Placed (run_no r) at m)) g) (sym marks) (marks_placed w n g r at m line.marks read fit may kept.line_is);
   room = let size = ap (λ (x : List Mark). length x) marks ∙ length_with at (Ran (run_no r)) line.marks in omega (arith, size, spare, kept.room);
@@ -125,10 +123,8 @@ order_placed {rounds = rounds} h h₂ g r at m line after table later read fit s
     may : may_follow w n (Placed (run_no r) at m) ≡ true
     may = last_follows w h.history r (Placed (run_no r) at m) (subst (λ (x : HistoryState). IsWellFormed x.setting (entries_of x.history)) new formed)
 
-    -- its plan is the same behind any items
     changed : ChangesEach (placed_change w n r at m) table later
-    changed = subst (λ planned. ChangesEach (scheduled_on w.runs r planned (drop at n.line)) table later) (sym (planned_in_turn_is w n r (take at n.line) m in_turn))
-        (subst (λ is. ChangesEach (scheduled_on w.runs r (planned_in_turn m (commands_of w.runs r)) (drop at is)) table later) kept.line_is.items changes)
+    changed = subst (λ is. ChangesEach (scheduled_on w.runs r (planned_times w n r (take at n.line) m) (drop at is)) table later) kept.line_is.items changes
 
 -- .. under the weak model, where it has no access
 pub order_joined : {rounds : ℕ} (h h₂ : HistoryState) (g : Grips) (r at m : ℕ) (line after : Marked) (table : List LineageState) → is_weak h.setting.mode ≡ true → IsRead h.setting (read_in h) → GripsFit h.setting (read_in h) g → h₂ ≡ with_entry h r (Placed (run_no r) at m) → IsWellFormed h₂.setting (entries_of h₂.history)

@@ -49,7 +49,6 @@ probe_kept s rounds opened held d may kept =
     record {
       opens = kept.opens;
       strong = kept.strong;
-      stage = kept.stage;
       kinds = kept.kinds;
       probes = λ e. omega (arith, probes_asked s d may e, kept.probes e);
       values = kept.values;

@@ -15,7 +15,7 @@ use Rattle.home_types.specs.declared.commands.Command.{Command}
 use Rattle.home_types.specs.declared.items.Item.{Item}
 use Rattle.home_types.specs.declared.items.Item.TheVariants.{Back, Failed, Ran}
 use Rattle.home_types.specs.declared.numbers.RunNo.{RunNo}
-use Rattle.hub_core.proofs.stage.StrongChoices.{command_current, command_is, live_stands}
+use Rattle.hub_core.proofs.windows.StrongChoices.{command_current, command_is, live_stands}
 use Rattle.hub_core.proofs.waiting.AtCommands.{IsAt, at_command, at_open, command_choice, device_told}
 use Rattle.hub_core.proofs.waiting.Moments.{calm_waits}
 use Rattle.hub_core.specs.BlockedRuns.{IsBlocked, NeverRevokes, is_at_command, is_wait, next_device}

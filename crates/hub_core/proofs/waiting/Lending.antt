@@ -9,7 +9,7 @@ use Rattle.home_types.specs.declared.modes.Scheduler.TheVariants.{Fcfs, JustInTi
 use Rattle.home_types.specs.declared.modes.Scheduler.{Scheduler}
 use Rattle.home_types.specs.declared.modes.Visibility.TheVariants.{Eventual, Global, Partitioned, Weak}
 use Rattle.home_types.specs.declared.modes.Visibility.{Visibility}
-use Rattle.hub_core.proofs.stage.StrongChoices.{served_in_turn}
+use Rattle.hub_core.proofs.windows.StrongChoices.{served_in_turn}
 use Rattle.hub_core.proofs.waiting.AtCommands.{IsAt, at_command}
 use Rattle.hub_core.specs.BlockedRuns.{NeverRevokes, next_device}
 use Rattle.hub_core.specs.KeptByModel.{IsKeptByModel}

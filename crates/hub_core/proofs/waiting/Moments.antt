@@ -7,7 +7,7 @@ use Rattle.history_book.specs.WellFormed.{IsWellFormed}
 use Rattle.history_book.specs.declared.entries.Cause.TheVariants.{Revoked}
 use Rattle.history_book.specs.declared.entries.Entry.TheVariants.{Doomed}
 use Rattle.home_types.specs.declared.commands.Command.{Command}
-use Rattle.hub_core.proofs.stage.StrongChoices.{command_current, command_is}
+use Rattle.hub_core.proofs.windows.StrongChoices.{command_current, command_is}
 use Rattle.hub_core.proofs.waiting.AtCommands.{IsAt, at_command, command_choice}
 use Rattle.hub_core.proofs.waiting.KeptLeases.{overdue_later}
 use Rattle.hub_core.specs.BlockedRuns.{IsBlocked, NeverRevokes, is_wait, next_device}

@@ -28,7 +28,6 @@ pub weak_same : (s : Configuration) (rounds opened m : ℕ) (held probes : ℕ �
 weak_same s rounds opened m held probes g later few fit out kept =
     record {
       opens = kept.opens;
-      stage = kept.stage;
       weak = kept.weak;
       kinds = kept.kinds;
       probes = few;
@@ -61,7 +60,6 @@ pub weak_made : (s : Configuration) (rounds opened maker m : ℕ) (held after : 
 weak_made s rounds opened maker m held after g entries may fewer kept =
     record {
       opens = kept.opens;
-      stage = kept.stage;
       weak = kept.weak;
       kinds = kept.kinds;
       probes = λ d. omega (arith, fewer d, kept.probes d);

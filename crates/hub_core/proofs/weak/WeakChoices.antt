@@ -17,9 +17,9 @@ use Rattle.home_types.specs.declared.modes.Scheduler.{Scheduler}
 use Rattle.home_types.specs.declared.modes.Visibility.TheVariants.{Eventual, Global, Partitioned, Weak}
 use Rattle.home_types.specs.declared.modes.Visibility.{Visibility}
 use Rattle.home_types.specs.declared.numbers.DeviceNo.{DeviceNo}
-use Rattle.hub_core.proofs.stage.Progress.{IsLeastUnended, least_leads, least_unended, run_goes}
+use Rattle.hub_core.proofs.windows.Progress.{IsLeastUnended, least_leads, least_unended, run_goes}
 use Rattle.hub_core.specs.BlockedRuns.{is_wait}
-use Rattle.hub_core.proofs.stage.StrongChoices.{same_map}
+use Rattle.hub_core.proofs.windows.StrongChoices.{same_map}
 use Rattle.hub_core.proofs.steps.Causes.{never_down_at_end}
 use Rattle.hub_core.specs.HubCalls.{SomeRunMoves}
 use Rattle.hub_core.specs.Steps.{HandsOut, Moves, Over, Waits, aborts, command_cases, decide, decide_answered, decide_command, decide_doomed, down_entries, first_case, only_if, undo_cases}

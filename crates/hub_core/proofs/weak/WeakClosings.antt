@@ -14,14 +14,14 @@ use Rattle.home_types.specs.declared.commands.Answer.TheVariants.{Down, Fine, Fo
 use Rattle.home_types.specs.declared.worlds.Stand.{Stand}
 use Rattle.hub_core.proofs.kept.EndedOnce.{dooms_fit, ends_fit}
 use Rattle.hub_core.proofs.kept.Sizes.{IsSized, sized_events, sized_history, sized_line, steady_up}
-use Rattle.hub_core.proofs.stage.CalmHistories.{IsPlain, NoneFailed, all_homed, along_less, downs_told}
-use Rattle.hub_core.proofs.stage.Closings.{IsQuiet, all_have_ended, homed_in, plain_committed}
+use Rattle.hub_core.proofs.windows.CalmHistories.{IsPlain, NoneFailed, all_homed, along_less, downs_told}
+use Rattle.hub_core.proofs.windows.Closings.{IsQuiet, all_have_ended, homed_in, plain_committed}
 use Rattle.hub_core.specs.AccountedCalls.{CallsAreAccounted}
 use Rattle.hub_core.specs.Bounds.{is_doom, is_end, most_entries, most_items}
 use Rattle.hub_core.specs.HubKept.{UndosFit, keeps_leases, undo_fits}
 use Rattle.hub_core.specs.JustifiedAborts.{IsJustified, abort_is_justified}
 use Rattle.hub_core.specs.LegalWindows.{IsLegalWindow, IsSeriallyLegal, IsWeaklyLegal, all_ended, history_of, weakly_allowed}
-use Rattle.hub_core.specs.Stage.{has_must_check}
+use Rattle.hub_core.specs.MustChecks.{has_must_check}
 use Rattle.hub_core.specs.WeakKept.{WeakIsKept}
 use Rattle.lock_leasing.specs.Configurations.{Commands, Configuration, Probes, Purpose, Undoes, read_of}
 use Rattle.command_rules.specs.Rosters.{command_at, is_run}

@@ -23,7 +23,6 @@ use Rattle.hub_core.proofs.steps.Takes.{Follows, IsHomed, take_follows}
 use Rattle.hub_core.proofs.weak.WeakChanges.{maker_sound, out_stays, passes_did, passes_doomed, passes_same, weak_made, weak_same}
 use Rattle.hub_core.specs.LegalWindows.{none_fails, weakly_allowed}
 use Rattle.hub_core.specs.Openings.{MayOpen, names_values_of}
-use Rattle.hub_core.specs.Stage.{StageAllows}
 use Rattle.hub_core.specs.Steps.{HandsOut, Moves, after_choice, after_take, answers_down, at_moment, down_entries, opened}
 use Rattle.hub_core.specs.WeakKept.{NoneHasFailed, WeakIsKept, goes_weakly}
 use Rattle.lock_leasing.specs.Configurations.{Commands, Configuration, Grip, read_of}
@@ -35,12 +34,11 @@ use Rattle.window_order.proofs.Grips.{HoldsNone, fits_other, fits_with, holds_no
 
 -- The start
 
-pub weak_opened : (w : Setting) (rounds opened' : ℕ) → MayOpen w rounds opened' → StageAllows w → is_weak w.mode ≡ true → length w.kinds ≡ length w.first → ((d : ℕ) → d < length w.first → IsTrue (has_value (kind_at w.kinds d) (stand_at w.first d).value))
+pub weak_opened : (w : Setting) (rounds opened' : ℕ) → MayOpen w rounds opened' → is_weak w.mode ≡ true → length w.kinds ≡ length w.first → ((d : ℕ) → d < length w.first → IsTrue (has_value (kind_at w.kinds d) (stand_at w.first d).value))
     → WeakIsKept (opened w rounds) rounds opened' (λ d. (stand_at w.first d).value)
-weak_opened w rounds opened' opens stage weak kinds values =
+weak_opened w rounds opened' opens weak kinds values =
     record {
       opens = opens;
-      stage = stage;
       weak = weak;
       kinds = kinds;
       probes = λ d. few (is_device w d);

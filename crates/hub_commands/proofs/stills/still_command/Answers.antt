@@ -1,5 +1,5 @@
 use Rattle.command_words.specs.declared.command_lines.CommandLine.TheVariants.{Replay}
-use Rattle.hub_commands.proofs.BuiltModes.{still_goes}
+use Rattle.hub_commands.proofs.AskedModes.{still_goes}
 use Rattle.hub_commands.proofs.stills.still_command.Goals as goal
 use Rattle.hub_commands.specs.CommandsTaken.{still_line_of}
 use Rattle.std.proofs.Common.{Some, map, rules, string_bytes, ◌≡◌}

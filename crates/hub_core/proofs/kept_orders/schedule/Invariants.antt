@@ -1,9 +1,8 @@
 use Rattle.hub_core.proofs.calls.Scheduling.{IsScheduledTo}
 use Rattle.hub_core.proofs.kept_orders.schedule.Given as goal
-use Rattle.hub_core.specs.PlansInTurn.{planned_in_turn}
 use Rattle.serial_line.specs.Marks.{items_of}
 use Rattle.std.proofs.Common.{drop}
 
 -- the run has its access on the devices of the commands up to here
 abbrev pub invariant-commands : goal.invariant-commands
-invariant-commands l = IsScheduledTo l.command-index l.commands (planned_in_turn l.moment l.commands) l.r.0 (drop l.at (items_of l.line.marks)) l.uses l.initial.table l.table
+invariant-commands l = IsScheduledTo l.command-index l.commands l.fn.uses l.r.0 (drop l.at (items_of l.line.marks)) l.left l.initial.table l.table

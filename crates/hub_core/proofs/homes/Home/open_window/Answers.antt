@@ -2,13 +2,14 @@ use Rattle.hub_core.proofs.calls.HubOpens.{Opens, first_order, first_hands, firs
 use Rattle.hub_core.proofs.calls.HubOrders.{index_fits}
 use Rattle.hub_core.proofs.homes.Home.open_window.Goals as goal
 use Rattle.hub_core.proofs.kept.BlockedMarks.{none_blocked}
+use Rattle.history_book.specs.Settings.{Setting}
 use Rattle.hub_core.specs.Homes.{HomeIsKept, HomeState, setting_for}
 use Rattle.hub_core.specs.Bounds.{most_entries}
 use Rattle.hub_core.specs.HubCalls.{IsOpened}
 use Rattle.hub_core.specs.HubsKept.{HandsAre, HasRoomLeft, HubIsKept}
 use Rattle.hub_core.specs.KeptOrders.{OrderIsBeside}
 use Rattle.hub_core.specs.OpenHubs.{OpenHub, configuration_of}
-use Rattle.std.proofs.Common.{arith, length, subst, sym, ◌≤◌}
+use Rattle.std.proofs.Common.{ap, arith, length, subst, sym, ◌∙◌, ◌≤◌}
 
 pub open-requires : goal.open-requires
 open-requires g c = index_fits (setting_for c.args.self c.args.roster c.args.mode) c.args.rounds c.args.self.opened c.requires.may
@@ -18,7 +19,7 @@ pub invariant_of-result : goal.invariant_of-result
 invariant_of-result g c =
     let same = is_first_hub c.args.self c.args.roster c.args.mode c.args.rounds c.in-Ok.room.devices.items _ _ _ _ _ _ _ _ c.self.view_is (setting_of_indexed _ _ _ _ _ _ c.empty_history.ensures.setting c.in-Ok-open.ensures) c.empty_history.ensures.history c.in-Ok-open-2.ensures.home c.in-Ok-open-2.ensures.tickets in
     let kept : HomeIsKept g.D.Device.tag g.D.Device.stands g.D.Device.turns g.D.Device.probes g.D.Device.faults c.args.self = subst (λ (h : HomeState g.row.D.Denot). HomeIsKept g.D.Device.tag g.D.Device.stands g.D.Device.turns g.D.Device.probes g.D.Device.faults h) c.self.view_is c.self.invariant in
-    let opens : Opens g.D.Device.tag g.D.Device.stands g.D.Device.turns g.D.Device.probes g.D.Device.faults c.args.self c.args.roster c.args.mode c.args.rounds c.in-Ok.room.devices.items = record { kept = kept; may = c.requires.may; stage = c.requires.stage; knows = c.in-Ok.ensures.devices } in
+    let opens : Opens g.D.Device.tag g.D.Device.stands g.D.Device.turns g.D.Device.probes g.D.Device.faults c.args.self c.args.roster c.args.mode c.args.rounds c.in-Ok.room.devices.items = record { kept = kept; may = c.requires.may; knows = c.in-Ok.ensures.devices } in
     let enough : most_entries (length c.args.roster.runs.items) (length c.args.self.world) c.args.rounds ≤ c.empty_history.result.spare = omega (arith, c.empty_history.ensures.spare, c.in-Ok.ensures.history.room) in
     record {
       shown = subst (λ (t : OpenHub g.row.D.Denot). HubIsKept g.D.Device.stands g.D.Device.turns g.D.Device.probes g.D.Device.faults t) (sym same) (first_kept _ _ _ _ _ c.args.self c.args.roster c.args.mode _ _ opens);
@@ -30,12 +31,12 @@ invariant_of-result g c =
 
 -- no run is marked as blocked
 pub invariant_of-result-in-Ok-open-2 : goal.invariant_of-result-in-Ok-open-2
-invariant_of-result-in-Ok-open-2 g c = none_blocked _ _ c.in-Ok.ensures.blocked
+invariant_of-result-in-Ok-open-2 g c = record { marks = none_blocked _ _ c.in-Ok.ensures.blocked; scratch = c.in-Ok.ensures.scratch ∙ sym (ap (λ (w : Setting). length w.first) c.empty_history.ensures.setting ∙ ap (λ (h : HomeState g.row.D.Denot). length h.world) c.self.view_is) }
 
 pub returns-in-Ok-open-2-clause-opened : goal.returns-in-Ok-open-2-clause-opened
 returns-in-Ok-open-2-clause-opened g c =
     let kept : HomeIsKept g.D.Device.tag g.D.Device.stands g.D.Device.turns g.D.Device.probes g.D.Device.faults c.args.self = subst (λ (h : HomeState g.row.D.Denot). HomeIsKept g.D.Device.tag g.D.Device.stands g.D.Device.turns g.D.Device.probes g.D.Device.faults h) c.self.view_is c.self.invariant in
-    let opens : Opens g.D.Device.tag g.D.Device.stands g.D.Device.turns g.D.Device.probes g.D.Device.faults c.args.self c.args.roster c.args.mode c.args.rounds c.in-Ok.room.devices.items = record { kept = kept; may = c.requires.may; stage = c.requires.stage; knows = c.in-Ok.ensures.devices } in
+    let opens : Opens g.D.Device.tag g.D.Device.stands g.D.Device.turns g.D.Device.probes g.D.Device.faults c.args.self c.args.roster c.args.mode c.args.rounds c.in-Ok.room.devices.items = record { kept = kept; may = c.requires.may; knows = c.in-Ok.ensures.devices } in
     subst (λ (t : OpenHub g.row.D.Denot). IsOpened g.D.Device.turns g.D.Device.probes g.D.Device.faults (setting_for c.args.self c.args.roster c.args.mode) c.args.rounds c.args.self t)
     (sym (is_first_hub c.args.self c.args.roster c.args.mode c.args.rounds c.in-Ok.room.devices.items _ _ _ _ _ _ _ _ c.self.view_is (setting_of_indexed _ _ _ _ _ _ c.empty_history.ensures.setting c.in-Ok-open.ensures) c.empty_history.ensures.history c.in-Ok-open-2.ensures.home c.in-Ok-open-2.ensures.tickets))
     (first_opened _ _ _ _ _ c.args.self c.args.roster c.args.mode _ _ opens)

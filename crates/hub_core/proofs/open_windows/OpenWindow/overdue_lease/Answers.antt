@@ -5,7 +5,7 @@ use Rattle.hub_core.specs.OpenHubs.{OpenHub, configuration_of}
 use Rattle.lock_leasing.specs.Configurations.{read_of}
 use Rattle.lock_leasing.specs.Leases.{overdue_lease}
 use Rattle.lock_leasing.specs.Standings.{Asking, IsAsking}
-use Rattle.std.proofs.Common.{ap, subst, sym, ◌∙◌}
+use Rattle.std.proofs.Common.{subst, sym, ◌∙◌}
 use Rattle.std.specs.Prelude.{None, false, ◌≡◌}
 
 pub overdue-requires : goal.overdue-requires

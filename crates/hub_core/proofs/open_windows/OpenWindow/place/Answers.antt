@@ -1,15 +1,10 @@
-use Rattle.command_rules.specs.Rosters.{commands_of}
 use Rattle.history_book.specs.declared.entries.Entry.TheVariants.{Placed}
 use Rattle.hub_core.proofs.calls.HubChanges.{Going, chosen_here, has_place, strong_here}
-use Rattle.hub_core.proofs.calls.HubOrders.{hub_joins, joins_whole, joins_within, line_place}
+use Rattle.hub_core.proofs.calls.HubOrders.{hub_joins, joins_planned, joins_whole, joins_within, line_place}
 use Rattle.hub_core.proofs.open_windows.OpenWindow.place.Goals as goal
-use Rattle.hub_core.specs.PlansInTurn.{planned_in_turn}
 use Rattle.hub_core.specs.ReadHistories.{with_entry}
 use Rattle.hub_core.specs.declared.decisions.Chosen.TheVariants.{Joins}
-use Rattle.serial_line.specs.Marks.{items_of}
-use Rattle.std.proofs.Common.{ap, false, subst, ◌∙◌}
-use Rattle.std.specs.Prelude.{drop}
-use Rattle.window_order.specs.TableChanges.{ChangesEach, scheduled_on}
+use Rattle.std.proofs.Common.{ap, arith, false, ◌∙◌}
 
 pub join-requires-clause-room : goal.join-requires-clause-room
 join-requires-clause-room g c = line_place c.self.inside c.args.r.0 c.args.at c.args.moment (chosen_here c.self.inside c.args.self.now c.args.r.0 c.args.moment (Joins c.args.at) c.self.view_is c.requires.chosen) c.self.invariant
@@ -32,11 +27,13 @@ join-requires-clause-new g c = rw c.roster.ensures ((hub_joins c.self.inside c.a
 pub place-requires-clause-room : goal.place-requires-clause-room
 place-requires-clause-room g c = has_place c.self.inside c.args.r.0 c.args.moment _ Going (chosen_here c.self.inside c.args.self.now c.args.r.0 c.args.moment (Joins c.args.at) c.self.view_is c.requires.chosen) c.self.invariant
 
+pub planned_uses-uses-requires-clause-homed : goal.planned_uses-uses-requires-clause-homed
+planned_uses-uses-requires-clause-homed g c = λ k e within. let joins = (hub_joins c.self.inside c.args.r.0 c.args.at c.args.moment (chosen_here c.self.inside c.args.self.now c.args.r.0 c.args.moment (Joins c.args.at) c.self.view_is c.requires.chosen) (strong_here c.self.inside c.args.self.now false c.self.view_is c.requires.strong) c.self.invariant) in let few = joins.few in let homed = joins.homed k e within in omega (arith, few, homed)
+
 pub invariant_of-self : goal.invariant_of-self
 invariant_of-self g c =
     let new = c.place.ensures.new ∙ ap (with_entry c.self.inside.history c.args.r.0) c.place.ensures.entry ∙ ap (λ m. with_entry c.self.inside.history c.args.r.0 (Placed c.args.r c.args.at m)) c.max-self-inside.ensures in
-    let told = subst (λ runs. ChangesEach (scheduled_on runs c.args.r.0 (planned_in_turn c.max-self-inside.result (commands_of runs c.args.r.0)) (drop c.args.at (items_of c.self.inside.order.line.marks))) c.self.inside.order.table c.join.new.self.table) c.roster.ensures c.join.ensures.table in
-    let table = subst (λ m. ChangesEach (scheduled_on c.self.inside.history.setting.runs c.args.r.0 (planned_in_turn m (commands_of c.self.inside.history.setting.runs c.args.r.0)) (drop c.args.at (items_of c.self.inside.order.line.marks))) c.self.inside.order.table c.join.new.self.table) c.max-self-inside.ensures told in
+    let table = joins_planned c.self.inside c.args.self.now c.args.r.0 c.args.at c.args.moment c.max-self-inside.result c.args.scratch.now _ _ _ c.self.view_is c.requires.planned c.max-self-inside.ensures c.planned_uses-uses.ensures c.roster.ensures (hub_joins c.self.inside c.args.r.0 c.args.at c.args.moment (chosen_here c.self.inside c.args.self.now c.args.r.0 c.args.moment (Joins c.args.at) c.self.view_is c.requires.chosen) (strong_here c.self.inside c.args.self.now false c.self.view_is c.requires.strong) c.self.invariant).few c.join.ensures.table in
     joins_whole c.self.inside _ c.args.r.0 c.args.at c.args.moment (record {
       chosen = chosen_here c.self.inside c.args.self.now c.args.r.0 c.args.moment (Joins c.args.at) c.self.view_is c.requires.chosen;
       new = λ i. record c.self.inside { history = new i; moment = c.max-self-inside.ensures i; order = c.join.new.self };

@@ -1,5 +1,5 @@
 use Rattle.hub_core.proofs.calls.PlannedUses.{use_from}
-use Rattle.hub_core.proofs.plans.planned_uses.Given as goal
+use Rattle.hub_core.proofs.plans.uses_in_turn.Given as goal
 use Rattle.hub_core.specs.PlansInTurn.{planned_in_turn, planned_use}
 use Rattle.std.proofs.Common.{None, drop, get_or, length, ℕ, ◌<◌, ◌≡◌}
 

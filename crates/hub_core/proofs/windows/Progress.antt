@@ -26,7 +26,7 @@ use Rattle.home_types.specs.declared.numbers.RunNo.{RunNo}
 use Rattle.home_types.specs.declared.worlds.Stand.{Stand}
 use Rattle.hub_core.proofs.kept.Finds.{find_least, none_does}
 use Rattle.hub_core.proofs.kept.Sizes.{run_there, run_within}
-use Rattle.hub_core.proofs.stage.StrongChoices.{command_current, live_stands}
+use Rattle.hub_core.proofs.windows.StrongChoices.{command_current, live_stands}
 use Rattle.hub_core.proofs.steps.Choices.{by_map, by_test}
 use Rattle.hub_core.proofs.steps.Takes.{live_run}
 use Rattle.hub_core.specs.Decisions.{strong_command, unbarred_command}

@@ -1,4 +1,4 @@
--- Windows of this stage, over configurations.
+-- Windows, over configurations.
 pub mod CalmHistories
 pub mod StrongChoices
 pub mod Progress

@@ -1,5 +1,5 @@
 use Rattle.hub_core.proofs.calls.PlannedUses.{use_from, use_is}
-use Rattle.hub_core.proofs.plans.planned_uses.Goals as goal
+use Rattle.hub_core.proofs.plans.uses_in_turn.Goals as goal
 use Rattle.hub_core.specs.PlansInTurn.{planned_in_turn}
 use Rattle.std.proofs.Common.{ap, arith, refl, sym, ◌∙◌}
 use Rattle.std.proofs.lemmas.List.{drop_all, get_or-replicate}

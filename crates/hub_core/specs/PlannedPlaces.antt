@@ -1,0 +1,61 @@
+-- What a placing leaves in the scratch of a hub, and what the hub keeps of it.
+use Rattle.command_rules.specs.Rosters.{is_on}
+use Rattle.history_book.specs.Plans.{planned_times}
+use Rattle.history_book.specs.Readings.{Planned}
+use Rattle.history_book.specs.Settings.{Setting, scheduler_of}
+use Rattle.home_types.specs.Limits.{most_devices}
+use Rattle.home_types.specs.declared.modes.Scheduler.TheVariants.{Timeline}
+use Rattle.home_types.specs.declared.commands.Command.{Command}
+use Rattle.hub_core.specs.BlockedMarks.{AreBlocked, BlockedState}
+use Rattle.hub_core.specs.PlansInTurn.{planned_use}
+use Rattle.hub_core.specs.declared.decisions.Chosen.TheVariants.{Aborts, Absent, AnswersDown, Arrives, Commits, Drops, FailsAtEnd, HandsOut, Joins, Over, Revokes, Waits}
+use Rattle.hub_core.specs.declared.decisions.Chosen.{Chosen}
+use Rattle.hub_core.specs.declared.plans.PlannedUse.{PlannedUse}
+use Rattle.lock_leasing.specs.Configurations.{Configuration, read_of}
+use Rattle.std.specs.List.{list_any}
+use Rattle.std.specs.Prelude.{List, None, Option, Some, if◌then◌else◌, length, option_map, slice_get, take, ℕ, ⊤, ◌<◌, ◌≡◌}
+use Rattle.timeline_scheduler.specs.Scratches.{HoldsTimes, planned_in}
+use Rattle.timeline_scheduler.specs.declared.scratches.Slot.{Slot}
+
+-- the scratch is one for the devices of the home
+abbrev pub IsForHome : Setting → List Slot → Type 0
+IsForHome w slots = length slots ≡ length w.first
+
+-- where runs are placed by the timeline, the scratch holds the times of the run at this place and moment
+abbrev pub HoldsPlan : List Slot → Configuration → ℕ → ℕ → ℕ → Type 0
+HoldsPlan slots s r m at = scheduler_of s.setting.mode ≡ Timeline → HoldsTimes slots (planned_times s.setting (read_of s) r (take at (read_of s).line) m)
+
+-- .. where the run, which has no place yet, is to be placed
+abbrev pub HoldsChosen : List Slot → Configuration → ℕ → ℕ → Chosen → Type 0
+HoldsChosen slots s r m chosen = ((read_of s).run r).placed ≡ None → by_chosen chosen
+  where
+    by_chosen : Chosen → Type 0
+    by_chosen Absent = ⊤
+    by_chosen (Over end) = ⊤
+    by_chosen Arrives = ⊤
+    by_chosen (Joins at) = HoldsPlan slots s r m at
+    by_chosen Commits = ⊤
+    by_chosen (Aborts cause) = ⊤
+    by_chosen (Drops d) = ⊤
+    by_chosen (Revokes x d deadline) = ⊤
+    by_chosen (AnswersDown k must) = ⊤
+    by_chosen (FailsAtEnd d) = ⊤
+    by_chosen (Waits why) = ⊤
+    by_chosen (HandsOut d purpose) = ⊤
+
+-- these are the uses of each device in a run's plan
+abbrev pub AreUsesOf : List (Option PlannedUse) → List Planned → Type 0
+AreUsesOf uses planned = (d : ℕ) → d < most_devices → slice_get uses d ≡ Some (planned_use planned d)
+
+-- the use of a device that is planned from and to these times
+abbrev pub use_between : ℕ × ℕ → PlannedUse
+use_between (from, to) = record { from = from; to = to }
+
+-- the use of the device that the scratch holds for a run with these commands
+abbrev pub held_use : List Slot → List Command → ℕ → Option PlannedUse
+held_use slots commands d = if list_any (is_on d) commands then option_map use_between (planned_in slots d) else None
+
+-- what is kept of a hub besides its window: each run that is marked is blocked, and the scratch is for the devices of the home
+pub record PartsFit (s : Configuration) (blocked : BlockedState) (slots : List Slot) : Type 0 where
+  pub marks : AreBlocked s blocked
+  pub scratch : IsForHome s.setting slots
