@@ -1,6 +1,6 @@
 -- Actors picked in turn until one does not wait, and draws.
 use Rattle.run_replay.proofs.Tellings.{draw_more, tells_back, tells_front}
-use Rattle.run_replay.specs.Draws.{below, drawn}
+use Rattle.seeded_draws.specs.Draws.{below, drawn}
 use Rattle.run_replay.specs.Playing.{GoesOn, IsDrawn, IsFinished, IsPicked, IsTried, Tells}
 use Rattle.run_replay.specs.Replays.{Course, Drawing, Pick, Picked, Play, actors, draw_once, from_place, pick, pick_first, waits}
 use Rattle.std.proofs.Common.{ap, arith, refl, subst, sym, ◌∙◌}

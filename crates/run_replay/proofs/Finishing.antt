@@ -1,7 +1,7 @@
 -- Draws, one after another, until no actor is left.
 use Rattle.run_replay.proofs.Drawn.{drawn_more, finishes, none_drawn}
 use Rattle.run_replay.proofs.Living.{actors_are}
-use Rattle.run_replay.specs.Draws.{below, drawn}
+use Rattle.seeded_draws.specs.Draws.{below, drawn}
 use Rattle.run_replay.specs.Players.{PlayerStands, PlayerState, are_live, play_of}
 use Rattle.run_replay.specs.Playing.{GoesOn, IsDrawn, IsFinished}
 use Rattle.run_replay.specs.Replays.{from_place, pick_first}

@@ -1,4 +1,3 @@
-pub mod Draws
 pub mod Replays
 pub mod Playing
 pub mod Players

@@ -7,7 +7,7 @@ use Rattle.device_gate.specs.declared.slips.Told.{Told}
 use Rattle.hub_core.specs.declared.waits.Why.{Why}
 use Rattle.lock_leasing.specs.Configurations.{Commands, Configuration, Grip, Probes, Purpose, Undoes, read_of}
 use Rattle.lock_leasing.specs.Waits.{grip_wait}
-use Rattle.run_replay.specs.Draws.{below, drawn}
+use Rattle.seeded_draws.specs.Draws.{below, drawn}
 use Rattle.std.specs.List.{range_with_len}
 use Rattle.std.specs.Prelude.{Bool, List, Option, [], drop, false, filter, fold, if◌then◌else◌, is_none, is_some, length, nat_le, not, option_map, suc, take, true, unwrap_or, zero, ℕ, ◌%◌, ◌&&◌, ◌*◌, ◌++◌, ◌+◌, ◌==◌, ◌||◌, ◌∷◌, ◌≡◌}
 

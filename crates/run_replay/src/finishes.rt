@@ -4,10 +4,10 @@ ghost use Rattle.run_replay.specs.Players.{HavePlans, are_live, play_of, steps_l
 ghost use Rattle.run_replay.specs.Playing.{GoesOn, IsFinished};
 ghost use Rattle.run_replay.specs.Replays.{from_place, pick_first};
 
-use crate::draws::Draws;
 use crate::picked::has_waited;
 use crate::players::Player;
 use device_states::Device;
+use seeded_draws::Draws;
 
 /// The place that lies so many steps on from this one, in cyclic order.
 fn place_on(place: u64, step: u64, live: u64) -> u64

@@ -1,5 +1,5 @@
 ghost use Rattle.std.specs.Prelude.{◌≡◌, ◌<◌};
-ghost use Rattle.run_replay.specs.Draws.{below as below_of, drawn};
+ghost use Rattle.seeded_draws.specs.Draws.{below as below_of, drawn};
 
 use std::marker::Model;
 
@@ -12,7 +12,7 @@ const STATES: u128 = 1 << 64;
 /// How many states give the same number: a draw leaves out the low 33 bits, which are the least random.
 const STATES_OF_A_NUMBER: u64 = 1 << 33;
 
-/// The generator by which picks are drawn. The same state draws the same numbers, on every machine.
+/// The generator by which a replay draws its picks, and a trial its script. The same state draws the same numbers, on every machine.
 #[derive(Drop)]
 pub struct Draws {
     state: u64,

@@ -1,4 +1,4 @@
--- The generator of picks.
+-- The generator.
 use Rattle.std.specs.Prelude.{ℕ, ◌%◌, ◌*◌, ◌+◌, ◌/◌}
 
 -- the state after a draw

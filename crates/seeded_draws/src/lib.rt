@@ -1,0 +1,6 @@
+// The generator by which picks and scripts are drawn from a number.
+#![tactic(auto)]
+
+mod draws;
+
+pub use draws::Draws;

@@ -1,0 +1,45 @@
+-- The devices of a trial are such as the format allows.
+use Rattle.home_types.specs.Kinds.{kind_at}
+use Rattle.home_types.specs.declared.kinds.Kind.TheVariants.{Range, States}
+use Rattle.routine_reader.specs.Devices.{device_names}
+use Rattle.routine_reader.specs.Scripts.{PlainDevice}
+use Rattle.routine_reader.specs.Sound.{AreDifferent, IsSoundDevice, IsSoundDown, device_kinds}
+use Rattle.std.proofs.Common.{ap, arith, length, map, refl, subst, suc, sym, zero, ℕ, ◌+◌, ◌<◌, ◌≡◌, ◌∙◌}
+use Rattle.std.proofs.lemmas.List.Elements.{All-cons, All-nil}
+use Rattle.std.proofs.lemmas.List.FromFn.{get_or-map-range_with_len, length-map-range_with_len}
+use Rattle.std.proofs.lemmas.Simd.{map-map}
+use Rattle.std.specs.List.{range_with_len}
+use Rattle.std.specs.Prelude.{All}
+use Rattle.trial_scripts.proofs.TrialNames.{are_different, name_is}
+use Rattle.trial_scripts.specs.TrialDevices.{device_count, trial_device, trial_devices}
+
+device_is_sound : (number : ℕ) → number < 100 → IsSoundDevice (trial_device number)
+device_is_sound number below =
+    record {
+      name = name_is 100 number refl below;
+      kind = (refl, omega arith, omega arith);
+      start = refl;
+      few_downs = omega arith;
+      downs = All-nil IsSoundDown;
+    }
+
+each_is_sound : (number count : ℕ) → number + count < 100 → All IsSoundDevice (map trial_device (range_with_len number count))
+each_is_sound number zero below = All-nil IsSoundDevice
+each_is_sound number (suc count) below =
+    All-cons IsSoundDevice (trial_device number) (map trial_device (range_with_len (number + 1) count)) (device_is_sound number (omega (arith, below)))
+    (each_is_sound (number + 1) count (omega (arith, below)))
+
+pub devices_are_sound : All IsSoundDevice trial_devices
+devices_are_sound = each_is_sound 0 device_count (omega arith)
+
+pub devices_count : length trial_devices ≡ device_count
+devices_count = length-map-range_with_len trial_device 0 device_count
+
+pub names_of_devices : AreDifferent (device_names trial_devices)
+names_of_devices = subst AreDifferent (sym (map-map (λ (device : PlainDevice). device.name) trial_device (range_with_len 0 device_count))) (are_different 100 device_count)
+
+-- each of them has the values 0 to 999
+pub kind_of_device : (d : ℕ) → d < device_count → kind_at (device_kinds trial_devices) d ≡ Range 0 999
+kind_of_device d below =
+    ap (λ kinds. kind_at kinds d) (map-map (λ (device : PlainDevice). device.kind) trial_device (range_with_len 0 device_count))
+    ∙ get_or-map-range_with_len (λ number. (trial_device number).kind) 0 device_count d d (States 0) below (omega arith)

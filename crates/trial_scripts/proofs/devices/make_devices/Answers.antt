@@ -1,0 +1,16 @@
+use Rattle.routine_reader.specs.Scripts.{plain_device}
+use Rattle.std.proofs.Common.{[], ap, arith, map, sym, ◌++◌, ◌∙◌, ◌∷◌}
+use Rattle.std.proofs.lemmas.List.FromFn.{map-range_with_len_more}
+use Rattle.std.proofs.lemmas.List.{map-append}
+use Rattle.std.specs.List.{range_with_len}
+use Rattle.trial_scripts.proofs.devices.make_devices.Goals as goal
+use Rattle.trial_scripts.specs.TrialDevices.{trial_device}
+
+pub devices-preserved : goal.devices-preserved
+devices-preserved c =
+    let device = c.in_ok-make_device.field-0 in
+    ap (map plain_device) c.in_ok-push.ensures.ok
+    ∙ map-append plain_device c.devices.devices.items (device ∷ [])
+    ∙ ap (λ front. front ++ plain_device device ∷ []) c.devices.invariant
+    ∙ ap (λ last. map trial_device (range_with_len 0 c.devices.number) ++ last ∷ []) c.in_ok-make_device.ensures
+    ∙ sym (map-range_with_len_more trial_device 0 c.devices.number c.devices.number (omega arith))

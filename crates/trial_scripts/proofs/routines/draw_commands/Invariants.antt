@@ -1,0 +1,8 @@
+use Rattle.std.proofs.Common.{◌≡◌}
+use Rattle.trial_scripts.proofs.routines.draw_commands.Given as goal
+use Rattle.trial_scripts.specs.Drawings.{draw_each}
+use Rattle.trial_scripts.specs.TrialRoutines.{draw_command}
+
+-- the commands so far
+abbrev pub invariant-commands : goal.invariant-commands
+invariant-commands l = record { made = l.commands.items; state = l.draws } ≡ draw_each (λ _. draw_command) l.counter l.initial.draws

@@ -1,0 +1,12 @@
+// The script of a trial: a day that is made of a number.
+#![tactic(auto)]
+
+mod devices;
+mod names;
+mod routines;
+mod scripts;
+#[cfg(test)]
+mod tests;
+mod windows;
+
+pub use scripts::trial_script;
