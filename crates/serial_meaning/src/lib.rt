@@ -7,5 +7,6 @@ mod routines;
 #[cfg(test)]
 mod tests;
 
+pub use effects::{Outcome, outcome_of};
 pub use orders::{RunAnswers, run_order};
 pub use routines::run_whole;

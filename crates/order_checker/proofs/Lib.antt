@@ -1,0 +1,12 @@
+pub mod Numbers
+pub mod Notes
+pub mod Told
+pub mod Walking
+pub mod Passing
+pub mod Events
+pub mod Executions
+pub mod RunSteps
+pub mod Effects
+pub mod Orders
+pub mod SoundRuns
+pub mod WindowSteps

@@ -1,0 +1,105 @@
+-- The steps of each walk over a line: an item that is refused, and one that is passed.
+use Rattle.command_rules.specs.Items.{is_ran}
+use Rattle.command_rules.specs.Rosters.{device_no}
+use Rattle.home_types.specs.declared.commands.Answer.{Answer}
+use Rattle.home_types.specs.declared.commands.Command.{Command}
+use Rattle.home_types.specs.declared.items.Item.{Item}
+use Rattle.home_types.specs.declared.worlds.Stand.{Stand}
+use Rattle.order_checker.proofs.Walking.{walk-passed, walk-refused}
+use Rattle.order_checker.specs.Ends.{plain_end, plain_ends}
+use Rattle.order_checker.specs.HomeLines.{next_device, next_stand, stand_of, stands_so}
+use Rattle.order_checker.specs.OrderLines.{OrderSetting, item_of, next_item, next_stands, order_place}
+use Rattle.order_checker.specs.RunLines.{next_answer}
+use Rattle.order_checker.specs.Steps.{required, walk, ◌>>=◌}
+use Rattle.order_checker.specs.Values.{answer_of}
+use Rattle.order_checker.specs.Words.{texts}
+use Rattle.order_checker.specs.declared.run_lines.RunEnd.{RunEnd}
+use Rattle.order_checker.specs.declared.verdicts.Place.TheVariants.{Device, Home, Order}
+use Rattle.order_checker.specs.declared.verdicts.Place.{Place}
+use Rattle.routine_reader.specs.declared.scripts.DeviceText.{DeviceText}
+use Rattle.std.proofs.Common.{Bor, Err, List, None, Ok, Some, [], ap, arith, drop, false, get_or, length, sym, true, ℕ, ◌+◌, ◌++◌, ◌<◌, ◌∙◌, ◌≡◌, ◌∷◌}
+use Rattle.std.proofs.lemmas.List.{get_or-map, get_or_default, length-map}
+use Rattle.std.specs.List.{list_any}
+use Rattle.std.specs.Option.{option_map_or}
+use Rattle.std.specs.Prelude.{is_none, ok_or, slice_get, slice_index_or, ◌||◌}
+
+-- ---- where devices stand
+
+pub device-off : (told home : List Stand) (i : ℕ) (d : Stand) → i < length home → option_map_or (λ t. stands_so t (get_or home i d)) (slice_get told i) false ≡ false
+    → walk (next_device told) i (drop i home) ≡ Err (Device (device_no i))
+device-off told home i d within off =
+    walk-refused (next_device told) i home i (get_or home i d) within (get_or_default home i d (get_or home i d) within) (Device (device_no i))
+    (ap (λ so. required so (Device (device_no i)) >>= (λ so. Ok (i + 1))) off)
+
+pub device-so : (told home : List Stand) (i : ℕ) (d : Stand) → i < length home → option_map_or (λ t. stands_so t (get_or home i d)) (slice_get told i) false ≡ true
+    → walk (next_device told) i (drop i home) ≡ walk (next_device told) (i + 1) (drop (i + 1) home)
+device-so told home i d within so =
+    walk-passed (next_device told) i home i (get_or home i d) within (get_or_default home i d (get_or home i d) within) (i + 1)
+    (ap (λ so. required so (Device (device_no i)) >>= (λ so. Ok (i + 1))) so)
+
+-- ---- committed runs in the order
+
+plain-item : (ends : List RunEnd) (i : ℕ) (end : RunEnd) → i < length ends → end ≡ get_or ends i end → plain_end end ≡ get_or (plain_ends ends) i (plain_end end)
+plain-item ends i end within is = ap plain_end is ∙ sym (get_or-map plain_end ends i end (plain_end end) within)
+
+pub run-missing : (items : List Item) (ends : List RunEnd) (i : ℕ) (end : RunEnd) → i < length ends → end ≡ get_or ends i end
+    → (is_none (plain_end end) || list_any (is_ran (i + 1)) items) ≡ false → walk (next_stands items) i (drop i (plain_ends ends)) ≡ Err (Order 0)
+run-missing items ends i end within is missing =
+    walk-refused (next_stands items) i (plain_ends ends) i (plain_end end) (rw length-map within) (plain-item ends i end within is) (Order 0)
+    (ap (λ stands. required stands (Order 0) >>= (λ stands. Ok (i + 1))) missing)
+
+pub run-stands : (items : List Item) (ends : List RunEnd) (i : ℕ) (end : RunEnd) → i < length ends → end ≡ get_or ends i end
+    → (is_none (plain_end end) || list_any (is_ran (i + 1)) items) ≡ true → walk (next_stands items) i (drop i (plain_ends ends)) ≡ walk (next_stands items) (i + 1) (drop (i + 1) (plain_ends ends))
+run-stands items ends i end within is stands =
+    walk-passed (next_stands items) i (plain_ends ends) i (plain_end end) (rw length-map within) (plain-item ends i end within is) (i + 1)
+    (ap (λ stands. required stands (Order 0) >>= (λ stands. Ok (i + 1))) stands)
+
+-- ---- items of the order
+
+text-item : (words : List (Bor (List ℕ))) (i : ℕ) (d : Bor (List ℕ)) → i < length words → (get_or words i d).now ≡ get_or (texts words) i (get_or words i d).now
+text-item words i d within = sym (get_or-map (λ word. word.now) words i d (get_or words i d).now within)
+
+pub item-refused : (w : OrderSetting) (earlier : List Item) (words : List (Bor (List ℕ))) (i : ℕ) (d : Bor (List ℕ)) → i < length words → length earlier ≡ i
+    → item_of w earlier (get_or words i d).now ≡ None → walk (next_item w) earlier (drop i (texts words)) ≡ Err (order_place (i + 1))
+item-refused w earlier words i d within count none =
+    walk-refused (next_item w) earlier (texts words) i (get_or words i d).now (rw length-map within) (text-item words i d within) (order_place (i + 1))
+    (ap (λ item. ok_or item (order_place (length earlier + 1)) >>= (λ item. Ok (earlier ++ item ∷ []))) none ∙ ap (λ n. Err (order_place (n + 1))) count)
+
+pub item-passed : (w : OrderSetting) (earlier : List Item) (words : List (Bor (List ℕ))) (i : ℕ) (d : Bor (List ℕ)) (item : Item) → i < length words
+    → item_of w earlier (get_or words i d).now ≡ Some item → walk (next_item w) earlier (drop i (texts words)) ≡ walk (next_item w) (earlier ++ item ∷ []) (drop (i + 1) (texts words))
+item-passed w earlier words i d item within some =
+    walk-passed (next_item w) earlier (texts words) i (get_or words i d).now (rw length-map within) (text-item words i d within) (earlier ++ item ∷ [])
+    (ap (λ item. ok_or item (order_place (length earlier + 1)) >>= (λ item. Ok (earlier ++ item ∷ []))) some)
+
+-- ---- words that stand beside a list
+
+word-at : (words : List (Bor (List ℕ))) (i n : ℕ) (d : Bor (List ℕ)) → i < length words → n ≡ i → slice_index_or (texts words) n [] ≡ (get_or words i d).now
+word-at words i n d within count = ap (λ k. slice_index_or (texts words) k []) count ∙ get_or-map (λ word. word.now) words i d [] within
+
+pub answer-refused : (devices : List DeviceText) (commands : List Command) (words : List (Bor (List ℕ))) (place : Place) (earlier : List Answer) (i : ℕ) (e : Command) (d : Bor (List ℕ))
+    → i < length commands → length words ≡ length commands → length earlier ≡ i → answer_of devices (get_or commands i e) (get_or words i d).now ≡ None
+    → walk (next_answer devices (texts words) place) earlier (drop i commands) ≡ Err place
+answer-refused devices commands words place earlier i e d within same count none =
+    walk-refused (next_answer devices (texts words) place) earlier commands i (get_or commands i e) within (get_or_default commands i e (get_or commands i e) within) place
+    (ap (λ answer. ok_or answer place >>= (λ answer. Ok (earlier ++ answer ∷ []))) (ap (answer_of devices (get_or commands i e)) (word-at words i (length earlier) d (omega (arith, within, same)) count) ∙ none))
+
+pub answer-passed : (devices : List DeviceText) (commands : List Command) (words : List (Bor (List ℕ))) (place : Place) (earlier : List Answer) (i : ℕ) (e : Command) (d : Bor (List ℕ)) (answer : Answer)
+    → i < length commands → length words ≡ length commands → length earlier ≡ i → answer_of devices (get_or commands i e) (get_or words i d).now ≡ Some answer
+    → walk (next_answer devices (texts words) place) earlier (drop i commands) ≡ walk (next_answer devices (texts words) place) (earlier ++ answer ∷ []) (drop (i + 1) commands)
+answer-passed devices commands words place earlier i e d answer within same count some =
+    walk-passed (next_answer devices (texts words) place) earlier commands i (get_or commands i e) within (get_or_default commands i e (get_or commands i e) within) (earlier ++ answer ∷ [])
+    (ap (λ answer. ok_or answer place >>= (λ answer. Ok (earlier ++ answer ∷ []))) (ap (answer_of devices (get_or commands i e)) (word-at words i (length earlier) d (omega (arith, within, same)) count) ∙ some))
+
+pub stand-refused : (devices : List DeviceText) (words : List (Bor (List ℕ))) (earlier : List Stand) (i : ℕ) (device : DeviceText) (d : Bor (List ℕ))
+    → i < length devices → device ≡ get_or devices i device → length words ≡ length devices → length earlier ≡ i → stand_of device (get_or words i d).now ≡ None
+    → walk (next_stand (texts words)) earlier (drop i devices) ≡ Err Home
+stand-refused devices words earlier i device d within is same count none =
+    walk-refused (next_stand (texts words)) earlier devices i device within is Home
+    (ap (λ stand. ok_or stand Home >>= (λ stand. Ok (earlier ++ stand ∷ []))) (ap (stand_of device) (word-at words i (length earlier) d (omega (arith, within, same)) count) ∙ none))
+
+pub stand-passed : (devices : List DeviceText) (words : List (Bor (List ℕ))) (earlier : List Stand) (i : ℕ) (device : DeviceText) (d : Bor (List ℕ)) (stand : Stand)
+    → i < length devices → device ≡ get_or devices i device → length words ≡ length devices → length earlier ≡ i → stand_of device (get_or words i d).now ≡ Some stand
+    → walk (next_stand (texts words)) earlier (drop i devices) ≡ walk (next_stand (texts words)) (earlier ++ stand ∷ []) (drop (i + 1) devices)
+stand-passed devices words earlier i device d stand within is same count some =
+    walk-passed (next_stand (texts words)) earlier devices i device within is (earlier ++ stand ∷ [])
+    (ap (λ stand. ok_or stand Home >>= (λ stand. Ok (earlier ++ stand ∷ []))) (ap (stand_of device) (word-at words i (length earlier) d (omega (arith, within, same)) count) ∙ some))

@@ -1,0 +1,10 @@
+use Rattle.order_checker.proofs.lines.next_line.Given as goal
+use Rattle.order_checker.specs.Lines.{lines_of}
+use Rattle.std.proofs.Common.{length, ◌≡◌}
+
+-- the notes so far are no lines
+abbrev pub invariant-notes : goal.invariant-notes
+invariant-notes l = lines_of l.rest ≡ lines_of l.text
+
+abbrev pub decreases-notes : goal.decreases-notes
+decreases-notes l = length l.rest

@@ -1,0 +1,14 @@
+pub mod Steps
+pub mod Lines
+pub mod Words
+pub mod Values
+pub mod Heads
+pub mod RunLines
+pub mod Ends
+pub mod OrderLines
+pub mod Answers
+pub mod HomeLines
+pub mod Totals
+pub mod Windows
+pub mod Readers
+pub mod Records
