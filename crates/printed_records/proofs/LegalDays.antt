@@ -1,0 +1,96 @@
+-- The windows of a legal day fit, and its record agrees.
+use Rattle.command_rules.specs.Rosters.{Run}
+use Rattle.day_report.specs.Days.{day_text}
+use Rattle.history_book.specs.declared.records.WindowRecord.{WindowRecord}
+use Rattle.home_types.specs.declared.kinds.Kind.{Kind}
+use Rattle.home_types.specs.declared.modes.Mode.{Mode}
+use Rattle.home_types.specs.declared.modes.Scheduler.{Scheduler}
+use Rattle.home_types.specs.declared.modes.Visibility.TheVariants.{Eventual, Global, Partitioned, Weak}
+use Rattle.home_types.specs.declared.modes.Visibility.{Visibility}
+use Rattle.home_types.specs.declared.worlds.Stand.{Stand}
+use Rattle.hub_core.specs.LegalDays.{RecordsAreLegal, state_after}
+use Rattle.hub_core.specs.LegalWindows.{IsLegalWindow, IsSeriallyLegal}
+use Rattle.order_checker.specs.Records.{verdict_of}
+use Rattle.order_checker.specs.declared.verdicts.Verdict.TheVariants.{Agrees}
+use Rattle.printed_records.proofs.DayTexts.{day-agrees}
+use Rattle.printed_records.proofs.EndCounts.{all-ended, ends-committed}
+use Rattle.printed_records.proofs.LegalFits.{all_fit, items_fit, run_fits, serial_fits, values_fit, window_setting}
+use Rattle.printed_records.proofs.Names.{sound-window}
+use Rattle.printed_records.proofs.ValuesKept.{start-values}
+use Rattle.printed_records.specs.FitWindows.{DayFits, HaveValues, WindowFits, home_before}
+use Rattle.printed_records.specs.Modes.{has_order, prints_order}
+use Rattle.printed_records.specs.SmallTimes.{CausesAreSmall, TimesAreSmall}
+use Rattle.routine_reader.specs.Rosters.{kinds_of, run_of_text, script_runs}
+use Rattle.routine_reader.specs.Scripts.{plain_routine, plain_script, plain_window}
+use Rattle.routine_reader.specs.Sound.{IsSound, IsSoundWindow}
+use Rattle.routine_reader.specs.declared.scripts.Script.{Script}
+use Rattle.routine_reader.specs.declared.scripts.WindowText.{WindowText}
+use Rattle.std.proofs.Common.{ap, arith, refl, subst, subst₂, sym, ◌∙◌}
+use Rattle.std.proofs.lemmas.List.{length-map}
+use Rattle.std.proofs.lemmas.Option.{slice_get_within}
+use Rattle.std.specs.Prelude.{Bool, List, Some, [], length, map, option_map, slice_get, suc, true, unwrap_or, zero, ℕ, ◌<◌, ◌∷◌, ◌≡◌, ◌≤◌}
+
+-- a window that fits, out of a legal one
+pub window_fits : (script : Script) (mode : Mode) (home : List Stand) (window : WindowText) (closed : WindowRecord)
+    → IsSound (plain_script script) → IsSoundWindow (length (map plain_routine script.routines.items)) (plain_window window)
+    → IsSeriallyLegal (window_setting script mode home window) closed → HaveValues (kinds_of script) home → CausesAreSmall closed.history.items → WindowFits script home window closed
+window_fits script mode home window closed sound well legal before small =
+    let w = window_setting script mode home window in
+    let count = length-map window.runs.items (run_of_text script) in
+    record {
+      runs = run_fits script mode home window closed legal before small;
+      items = items_fit script mode home window closed legal before;
+      all = all_fit script mode home window closed legal before;
+      serial = serial_fits script mode home window closed legal before;
+      values = values_fit script mode home window closed legal before sound well;
+      committed = ends-committed w window closed.history.items legal.well_formed count;
+      ended = sym count ∙ all-ended w closed.history.items legal.well_formed legal.ended;
+    }
+
+-- under a mode that prints an order, a legal window is serially legal
+serial_of : (runs : List Run) (model : Visibility) (scheduler : Scheduler) (kinds : List Kind) (first : List Stand) (closed : WindowRecord) → has_order model scheduler ≡ true
+    → IsLegalWindow (record { runs = runs; mode = record { model = model; scheduler = scheduler }; kinds = kinds; first = first }) closed
+    → IsSeriallyLegal (record { runs = runs; mode = record { model = model; scheduler = scheduler }; kinds = kinds; first = first }) closed
+serial_of runs Weak scheduler kinds first closed has legal = absurd (cc)
+serial_of runs Global scheduler kinds first closed has legal = legal
+serial_of runs Partitioned scheduler kinds first closed has legal = legal
+serial_of runs Eventual scheduler kinds first closed has legal = legal
+
+there : {X : Type 0} (xs : List X) (i : ℕ) → i < length xs → (x : X) × (slice_get xs i ≡ Some x)
+there [] i within = absurd (omega (arith, within))
+there (x ∷ xs) zero within = (x, refl)
+there (x ∷ xs) (suc i) within = there xs i (omega (arith, within))
+
+same_home : (script : Script) (records : List WindowRecord) (k : ℕ) → state_after script records k ≡ home_before script records k
+same_home script records zero = refl
+same_home script records (suc k) = refl
+
+module _ (script : Script) (mode : Mode) (records : List WindowRecord) (sound : IsSound (plain_script script)) (has : prints_order mode ≡ true)
+    (legal : RecordsAreLegal script mode records) (all : length records ≡ length script.windows.items) where
+  serial : (k : ℕ) (window : WindowText) (closed : WindowRecord) → slice_get script.windows.items k ≡ Some window → slice_get records k ≡ Some closed
+      → IsSeriallyLegal (window_setting script mode (home_before script records k) window) closed
+  serial k window closed at record_at =
+      let runs : script_runs script k ≡ map (run_of_text script) window.runs.items =
+      ap (λ o. unwrap_or (option_map (λ (t : WindowText). map (run_of_text script) t.runs.items) o) []) at in
+      serial_of (map (run_of_text script) window.runs.items) mode.model mode.scheduler (kinds_of script) (home_before script records k) closed has
+      (subst₂ (λ (rs : List Run) (first : List Stand). IsLegalWindow (record { runs = rs; mode = mode; kinds = kinds_of script; first = first }) closed) runs (same_home script records k) (legal k closed record_at))
+
+  -- before each window each device has a value of its kind
+  values_before : (k : ℕ) → k ≤ length records → HaveValues (kinds_of script) (home_before script records k)
+  values_before zero within = start-values script sound
+  values_before (suc k) within =
+      let closed = there records k (omega (arith, within)) in
+      let window = there script.windows.items k (omega (arith, within, all)) in
+      let here = values_before k (omega (arith, within)) in
+      let left = values_fit script mode (home_before script records k) window.0 closed.0 (serial k window.0 closed.0 window.1 closed.1) here sound (sound-window script k window.0 sound window.1) in
+      subst (HaveValues (kinds_of script)) (ap (λ o. unwrap_or (option_map (λ (c : WindowRecord). c.last.devices.items) o) []) (sym closed.1)) left
+
+  -- the windows of a legal day fit
+  pub day_fits : TimesAreSmall records → DayFits script records
+  day_fits small k window closed at record_at =
+      window_fits script mode (home_before script records k) window closed sound (sound-window script k window sound at) (serial k window closed at record_at)
+      (values_before k (let within = slice_get_within records k closed record_at in omega (arith, within))) (small k closed record_at)
+
+  -- the record of a legal day agrees
+  pub legal_agrees : (trace : Bool) → TimesAreSmall records → verdict_of script (day_text script records mode trace) ≡ Agrees
+  legal_agrees trace small = day-agrees script mode trace records sound has (day_fits small) all

@@ -1,0 +1,12 @@
+use Rattle.history_book.specs.declared.records.WindowRecord.{WindowRecord}
+use Rattle.printed_records.proofs.LegalDays.{legal_agrees}
+use Rattle.printed_records.proofs.SmallCauses.{held_small}
+use Rattle.printed_records.proofs.held_days.held_day_agrees.Goals as goal
+use Rattle.printed_records.specs.SmallTimes.{are_small}
+use Rattle.std.proofs.Common.{ap, sym, ◌∙◌}
+use Rattle.std.specs.List.{list_all}
+
+pub returns : goal.returns
+returns c =
+    legal_agrees c.args.script.now c.args.mode c.args.records.now.items c.requires.sound c.requires.promised c.requires.legal c.requires.count c.args.trace
+    (held_small c.args.records.now.items (ap (list_all (λ (closed : WindowRecord). are_small closed.history.items)) (sym c.as_slice.ensures) ∙ c.small_times.ensures))
