@@ -8,8 +8,9 @@ its own, which are drawn first; without it, or with 0, each command is on any de
 in two neighbouring calls, drawn, of each 256 up to its 4,096th, and is probed in so many rounds in each window. With
 ABORTED the last command of each routine whose number divides by it is a `check` for a value that is never set, so that
 its runs are aborted and undone. With LATE each command takes so many ms more than the 100 that are estimated, so that
-leases become overdue. The contended day is `dense_day.py 288 64 64 16 8 0 0 50`: each run is on 8 of 16 devices. The day
-is always the same: what is drawn comes from a generator with a fixed seed.
+leases become overdue. The contended day is `dense_day.py 288 64 64 16 8 0 0 50`: each run is on 8 of 16 devices. The small
+day, in which the timeline finds gaps, is `dense_day.py 288 64 4 32`. The day is always the same: what is drawn comes from
+a generator with a fixed seed.
 """
 import json
 import sys

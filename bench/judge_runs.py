@@ -6,17 +6,18 @@
 DAYS is 2000 by default, SEED is 1, and PROGRAM crates/hub_main/out/hub_main, which `rt run` builds. Each day is drawn
 by a generator from its seed: 1 to 4 devices that fail in calls of listed numbers, 1 to 3 windows of 1 to 6 runs with
 rounds of probes, of which some follow others, routines of 1 to 5 commands of every job, must and best-effort, with
-estimates. It is played by `run --trace` in one mode after another: under each model, and just in time. Which threads
-step first is not the day's to say, so no record is expected: each is judged.
+estimates. It is played by `run --trace` in one mode after another: under each model, just in time, and by the timeline.
+Which threads step first is not the day's to say, so no record is expected: each is judged.
 
 In each mode: the history goes on as the rules have it, every run ends, a run that follows another is placed behind its
 end, and the lines of the runs, the home and the total say what the history says. Outside the weak model: the printed
 order holds each committed run, each failure and each restart once, and no aborted run, and a run stands in it behind the
 one that it follows; its serial execution, which knows nothing of the hub, gives each committed run's answers and the
 state of the home. Under the weak model: a read finds what the last write left, `Down` is answered where the device is
-down, and the home is as the last writes left it. Only just in time is a lease revoked: of a device that both runs use,
-for a run that was placed before and has its next command there, past the deadline that the estimates give. Prints the
-first record that is not so, and ends with 1; a day that has not ended after a minute counts as one.
+down, and the home is as the last writes left it. Only just in time and by the timeline is a lease revoked: of a device
+that both runs use, for a run that was placed before and has its next command there, past the deadline that the plan
+gives. By the timeline each place is one where the run fits (timeline.py). Prints the first record that is not so, and
+ends with 1; a day that has not ended after a minute counts as one.
 """
 import collections
 import json
@@ -25,9 +26,15 @@ import random
 import subprocess
 import sys
 
+from timeline import Timeline
+
 HERE = os.path.dirname(os.path.abspath(__file__))
+sys.path.insert(0, os.path.join(HERE, ".."))
+from reference import days
+
 PROGRAM = os.path.join(HERE, "..", "crates", "hub_main", "out", "hub_main")
-MODES = [("ev", "fcfs"), ("psv", "fcfs"), ("gsv", "fcfs"), ("wv", "fcfs"), ("ev", "jit")]
+MODES = [("ev", "fcfs"), ("psv", "fcfs"), ("gsv", "fcfs"), ("wv", "fcfs"), ("ev", "jit"), ("ev", "timeline")]
+LEASES = ("jit", "timeline")
 ESTIMATE = 100
 MINUTE = 60
 
@@ -39,67 +46,6 @@ class Wrong(Exception):
 def expect(true, what):
     if not true:
         raise Wrong(what)
-
-
-# Days
-
-def device(draw, d):
-    made = {"name": f"d{d}"}
-    if draw.random() < 0.5:
-        states = [f"s{v}" for v in range(draw.randint(1, 3))]
-        made.update(states=states, start=draw.choice(states))
-    else:
-        low = draw.randint(0, 2)
-        high = low + draw.randint(0, 3)
-        made.update(low=low, high=high, start=draw.randint(low, high))
-    if draw.random() < 0.5:
-        downs, call = [], 1
-        for _ in range(draw.randint(1, 3)):
-            call += draw.randint(0, 3)
-            downs.append([call, call + draw.choice([1, 1, 2, 3, 40])])
-            call = downs[-1][1]
-        made["down"] = downs
-    return made
-
-
-def values(device):
-    return device["states"] if "states" in device else list(range(device["low"], device["high"] + 1))
-
-
-def command(draw, devices):
-    on = draw.choice(devices)
-    made = {"on": on["name"], "do": draw.choice(["set", "set", "set", "check", "load", "store"])}
-    if made["do"] in ("set", "check"):
-        made["to"] = draw.choice(values(on))
-    if draw.random() < 0.4:
-        made["must"] = False
-    if draw.random() < 0.6:
-        made["ms"] = draw.choice([0, 0, 1, 5])
-    return made
-
-
-def run(draw, routines, before):
-    made = {"routine": draw.choice(routines)["name"]}
-    if before and draw.random() < 0.2:
-        made["follows"] = draw.randint(1, before)
-    return made
-
-
-def day(draw):
-    devices = [device(draw, d) for d in range(draw.randint(1, 4))]
-    routines = [
-        {"name": f"r{r}", "commands": [command(draw, devices) for _ in range(draw.randint(1, 5))]}
-        for r in range(draw.randint(1, 4))
-    ]
-    windows = [
-        {
-            "at": f"2021-04-26T07:0{k}:00",
-            "probes": draw.choice([0, 1, 2, 5]),
-            "runs": [run(draw, routines, before) for before in range(draw.randint(1, 6))],
-        }
-        for k in range(draw.randint(1, 3))
-    ]
-    return {"safehome": 1, "devices": devices, "routines": routines, "windows": windows}
 
 
 # Serial execution
@@ -172,14 +118,14 @@ class Window:
         return word if word in (".", "-") else value_of(self.devices[command["on"]], word)
 
 
-def deadline(commands, placed, device):
-    """Until when a run that was placed at this moment may keep the device."""
+def deadline(commands, placed, device, timeline):
+    """Until when a run that was placed at this moment may keep the device: in turn, or by its plan of the timeline."""
     last = max(c for c, command in enumerate(commands) if command["on"] == device)
     estimate = sum(command.get("ms", ESTIMATE) for command in commands[: last + 1])
-    return placed + estimate + -(-estimate // 10)
+    return (timeline[device][1] if timeline else placed + estimate) + -(-estimate // 10)
 
 
-def expect_overdue(window, borrower, words, placed, live, answers):
+def expect_overdue(window, borrower, words, placed, live, answers, planned):
     """That the borrower's lease is overdue with these words: `DEVICE by LENDER deadline N at M`. Answers the moment."""
     device, by, lender, of, until, at, moment = words
     expect((by, of, at) == ("by", "deadline", "at"), "a revocation has other words")
@@ -190,7 +136,8 @@ def expect_overdue(window, borrower, words, placed, live, answers):
     expect(asked and asked[0]["on"] == device, "a lease is revoked of a device that is not asked for")
     held = window.runs[borrower - 1][len(answers[borrower]):]
     expect(any(command["on"] == device for command in held), "a lease is revoked of a run that is done on the device")
-    expect(until == deadline(window.runs[borrower - 1], placed[borrower], device), "a lease has another deadline")
+    commands = window.runs[borrower - 1]
+    expect(until == deadline(commands, placed[borrower], device, planned), "a lease has another deadline")
     expect(moment > until, "a lease is revoked before its deadline is past")
     return moment
 
@@ -201,6 +148,7 @@ def walked(window, home, model, scheduler):
     answers = {r: [] for r in window.ends}
     doomed, ended, events, last = {}, {}, [], 0
     begun, placed = {"arrived": [], "placed": []}, {}
+    timeline = Timeline(window.runs, window.follows)
     for entry in window.entries:
         kind = entry[0]
         if kind in ("arrived", "placed"):
@@ -211,6 +159,8 @@ def walked(window, home, model, scheduler):
                 leader = window.follows[int(entry[1]) - 1]
                 expect(leader is None or leader in ended, "a run is placed before the one that it follows has ended")
                 placed[int(entry[1])] = last
+                if scheduler == "timeline":
+                    expect(timeline.is_place(int(entry[1]), int(entry[3]), last), "a run is placed where it does not fit, or too late")
         elif kind == "did":
             r, command = window.command(entry[1])
             answer, place = window.answer(command, entry[2]), home[command["on"]]
@@ -231,9 +181,10 @@ def walked(window, home, model, scheduler):
             expect(entry[1] not in doomed, "a run is doomed twice")
             doomed[entry[1]] = entry[2:]
             if entry[2] == "revoked":
-                expect(scheduler == "jit", "a lease is revoked of a run that was served when it came")
+                expect(scheduler in LEASES, "a lease is revoked of a run that was served when it came")
                 live = [r for r in placed if r not in ended and (str(r) not in doomed or r == int(entry[1]))]
-                moment = expect_overdue(window, int(entry[1]), entry[3:], placed, live, answers)
+                planned = timeline.plans[int(entry[1])] if scheduler == "timeline" else None
+                moment = expect_overdue(window, int(entry[1]), entry[3:], placed, live, answers, planned)
                 expect(moment >= last, "a moment falls")
                 last = moment
         elif kind == "ended":
@@ -241,6 +192,8 @@ def walked(window, home, model, scheduler):
             ended[int(entry[1])] = entry[2:] + doomed.get(entry[1], [])
         else:
             expect(kind == "undid" and not weak and entry[1] in doomed, "a run that is not doomed is undone")
+        if scheduler == "timeline":
+            timeline.follow(entry)
     for runs in (ended, begun["arrived"], begun["placed"]):
         expect(sorted(runs) == sorted(window.ends), "a run has not arrived, is not placed or has not ended, or does so twice")
     return answers, ended, events
@@ -314,12 +267,12 @@ def judge(script, record, model, scheduler):
 
 
 def main():
-    days, seed = (int(word) for word in (sys.argv[1:3] + ["2000", "1"][len(sys.argv[1:3]):]))
+    count, seed = (int(word) for word in (sys.argv[1:3] + ["2000", "1"][len(sys.argv[1:3]):]))
     program = sys.argv[3] if len(sys.argv) > 3 else PROGRAM
     draw = random.Random(seed)
     counts = collections.Counter()
-    for k in range(days):
-        script, (model, scheduler) = day(draw), MODES[k % len(MODES)]
+    for k in range(count):
+        script, (model, scheduler) = days.day(draw), MODES[k % len(MODES)]
         words = [program, "run", "--trace", "--model", model, "--scheduler", scheduler]
         try:
             done = subprocess.run(words, input=json.dumps(script), capture_output=True, text=True, timeout=MINUTE)
@@ -336,7 +289,7 @@ def main():
             if not isinstance(wrong, subprocess.TimeoutExpired):
                 print(done.stdout)
             sys.exit(1)
-    print(f"{days} days of the seed {seed}: {counts['runs']} runs, {counts['followers']} of them behind others,"
+    print(f"{count} days of the seed {seed}: {counts['runs']} runs, {counts['followers']} of them behind others,"
           f" {counts['committed']} committed, {counts['revoked']} revoked, {counts['fell']} failures,"
           f" {counts['rose']} restarts; each record as its serial execution")
 

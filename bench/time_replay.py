@@ -1,23 +1,25 @@
 #!/usr/bin/env python3
-"""Times a replay of a dense day of must `set` commands under each model with an order, and just in time.
+"""Times a replay of a dense day of must `set` commands under each model with an order, just in time, and by the timeline.
 
     time_replay.py [PROGRAM]
 
-PROGRAM is crates/hub_main/out/hub_main by default, which `rt run` builds. Six scripts are played, the first three under
-each model, served first come first, and under the eventual model just in time, which is called `jit` here:
+PROGRAM is crates/hub_main/out/hub_main by default, which `rt run` builds. Seven scripts are played, the first three under
+each model, served first come first, and under the eventual model just in time, which is called `jit` here, and by the
+`timeline`:
 
 - dense: 288 windows of 64 runs of 64 commands on 256 devices;
 - failing: the same, where devices fail, with two rounds of probes;
 - aborted: the same, where the last command of every third routine refutes its runs;
 - contended: 288 windows of 64 runs of 64 commands, each run on 8 of 16 devices, whose commands take half as long again
-  as is estimated, so that leases are revoked; under `ev` and `jit`;
-- refused: the same, with a last run that names no routine, so that it is read to its end and no more;
-- empty: the same without runs, so that it is read, and its windows are opened, closed and printed.
+  as is estimated, so that leases are revoked; under `ev`, `jit` and `timeline`;
+- small: 288 windows of 64 runs of 4 commands on 32 devices, in which the timeline finds gaps; under the same;
+- refused: the dense day, with a last run that names no routine, so that it is read to its end and no more;
+- empty: the dense day without runs, so that it is read, and its windows are opened, closed and printed.
 
 Where callgrind is installed, it counts the instructions of a day of four such windows, and of its parts, in each mode;
-of such a day whose routines have 8 devices of their own each, under psv; and, under gsv and ev and just in time, of days
-with fewer runs a window and with fewer devices. With each goes how many picks found that their run must wait, for each step
-that moved one.
+of such a day whose routines have 8 devices of their own each, under psv; and, under gsv and ev, just in time and by the
+timeline, of days with fewer runs a window and with fewer devices. With each goes how many picks found that their run
+must wait, for each step that moved one.
 """
 import collections
 import os
@@ -30,7 +32,8 @@ import time
 
 HERE = os.path.dirname(os.path.abspath(__file__))
 PROGRAM = os.path.join(HERE, "..", "crates", "hub_main", "out", "hub_main")
-MODES = ["gsv", "psv", "ev", "jit"]
+MODES = ["gsv", "psv", "ev", "jit", "timeline"]
+SCHEDULERS = ["jit", "timeline"]
 CALLS = {
     "whole": r"hub_main::run\b",
     "day": r"hub_commands::stills::replay\b",
@@ -54,7 +57,7 @@ def refused(script):
 
 
 def words(mode, command="replay"):
-    return [command, "--scheduler" if mode == "jit" else "--model", mode]
+    return [command, "--scheduler" if mode in SCHEDULERS else "--model", mode]
 
 
 def played(program, name, mode, script):
@@ -127,8 +130,10 @@ def main():
     for mode in MODES:
         played(program, "aborted", mode, aborted)
     contended = dense_day(288, 64, 64, 16, 8, 0, 0, 50)
-    for mode in ["ev", "jit"]:
+    small = dense_day(288, 64, 4, 32)
+    for mode in ["ev", *SCHEDULERS]:
         played(program, "contended", mode, contended)
+        played(program, "small", mode, small)
     for name, script in [("refused", refused(dense)), ("empty", dense_day(288, 0))]:
         played(program, name, "gsv", script)
     if shutil.which("callgrind_annotate"):
@@ -136,10 +141,11 @@ def main():
             counted(program, "dense", mode, dense_day(4))
             counted(program, "failing", mode, dense_day(4, 64, 64, 256, 0, 2))
             counted(program, "aborted", mode, dense_day(4, 64, 64, 256, 0, 0, 3))
-        for mode in ["ev", "jit"]:
+        for mode in ["ev", *SCHEDULERS]:
             counted(program, "contended", mode, dense_day(4, 64, 64, 16, 8, 0, 0, 50))
+            counted(program, "small", mode, dense_day(4, 64, 4, 32))
         counted(program, "8 devices a run", "psv", dense_day(4, 64, 64, 256, 8))
-        for mode in ["gsv", "ev", "jit"]:
+        for mode in ["gsv", "ev", *SCHEDULERS]:
             for runs in [8, 16, 32]:
                 counted(program, f"{runs} runs a window", mode, dense_day(4, runs))
             for devices in [16, 64]:

@@ -1,0 +1,147 @@
+"""The calls of the program: a source of bytes is read, a sink is written, and a status and a line tell how it ended.
+
+A source has `read(most)`, a sink `write(data)`, which gives how many bytes went; both raise `OSError` where they fail.
+"""
+from reference import days
+from reference.check import Differs, check_record
+from reference.record import head_text, total_text, window_text
+from reference.replay import Home
+from reference.script import LIMITS, Refusal, read_script
+from reference.words import read_words
+
+LATER = ("check", "trial")  # what the program of this stage does not do: it ends with 8
+PIECE = 4096
+MOST_CHECKED = 67_108_864  # bytes of a script and its record
+
+
+class Fault(Exception):
+    def __init__(self, status, line):
+        super().__init__(line)
+        self.status, self.line = status, line
+
+
+class BytesSource:
+    """Bytes in memory. The call with the number `fails`, from 1, fails; each call gives at most so many bytes."""
+
+    def __init__(self, data, fails=0, most=65_536):
+        self.data, self.fails, self.most, self.call = data, fails, most, 0
+
+    def read(self, most):
+        self.call += 1
+        if self.call == self.fails:
+            raise OSError
+        count = min(most, self.most)
+        piece, self.data = self.data[:count], self.data[count:]
+        return piece
+
+
+class BytesSink:
+    """Holds what is written, up to its room."""
+
+    def __init__(self, room=1 << 62, fails=0, most=1 << 62):
+        self.held, self.room, self.fails, self.most, self.call = b"", room, fails, most, 0
+
+    def write(self, data):
+        self.call += 1
+        if self.call == self.fails:
+            raise OSError
+        count = min(len(data), self.most, self.room - len(self.held))
+        self.held += data[:count]
+        return count
+
+
+def read_to_end(source, limit):
+    data = bytearray()
+    while len(data) <= limit:
+        try:
+            piece = source.read(min(PIECE, limit + 1 - len(data)))
+        except OSError:
+            raise Fault(3, "read") from None
+        if not piece:
+            return bytes(data)
+        data += piece
+    raise Fault(1, f"script: too many bytes {limit + 1} of {limit}")
+
+
+def write_all(sink, text):
+    data = text.encode()
+    while data:
+        try:
+            count = sink.write(data)
+        except OSError:
+            count = 0
+        if count == 0:
+            raise Fault(4, "write")
+        data = data[count:]
+
+
+def read(data):
+    try:
+        return read_script(data)
+    except Refusal as refusal:
+        raise Fault(1, f"script: {refusal}") from None
+
+
+class Call:
+    """A call that was made: its status, its line, and the records of its windows where it came to a day."""
+
+    def __init__(self, words, source, sink, later=LATER):
+        self.source, self.sink, self.later = source, sink, later
+        self.records = self.script = None
+        self.status, self.line = 0, None
+        try:
+            self.make(words)
+        except Fault as fault:
+            self.status, self.line = fault.status, fault.line
+
+    def make(self, words):
+        asked = read_words(words)
+        if asked is None:
+            raise Fault(2, "words")
+        if asked.command in self.later:
+            raise Fault(8, "later top")
+        match asked.command:
+            case "check":
+                self.check()
+            case "trial":
+                self.trial(asked.windows)
+            case _:
+                self.replay(read(read_to_end(self.source, LIMITS["bytes"])), asked.mode, asked.trace, self.sink)
+
+    def replay(self, script, mode, trace, sink):
+        """Plays a day. That of `run` is one of those which threads may come to."""
+        self.script, self.records, home = script, [], Home(script)
+        write_all(sink, head_text(mode))
+        for number, window in enumerate(script.windows):
+            self.records.append(home.replay(window, mode))
+            write_all(sink, window_text(script, number, self.records[-1], mode, trace))
+        write_all(sink, total_text(self.records))
+
+    def check(self):
+        script, record = divided(read_to_end(self.source, MOST_CHECKED))
+        try:
+            check_record(read(script), record)
+        except Differs as differs:
+            raise Fault(7, f"check: {differs}") from None
+        write_all(self.sink, "agrees\n")
+
+    def trial(self, windows):
+        """A made-up day is played and checked."""
+        held = BytesSink()
+        self.replay(days.trial(windows), days.TRIAL_MODE, False, held)
+        agree = windows
+        try:
+            check_record(self.script, held.held)
+        except Differs as differs:
+            agree = max(differs.window - 1, 0)
+        words = total_text(self.records).split()[1:]
+        write_all(self.sink, f"trial {windows} {' '.join(words)} agree {agree}\n")
+
+
+def divided(data):
+    """The script and the record, which the first line that is `%%` divides."""
+    begin = b"\n" + data
+    at = begin.find(b"\n%%\n")
+    if at < 0:
+        at = len(begin) - 3 if begin.endswith(b"\n%%") else len(begin)
+    return data[:at], data[at + 3 :]

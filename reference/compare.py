@@ -1,0 +1,176 @@
+#!/usr/bin/env python3
+"""Compares the built program with this reference, on days that are drawn from a seed.
+
+    python3 reference/compare.py [--days N] [--seed S] [--program COMMAND | --cases FOLDER]
+
+By default 1000 days of the seed 1, and crates/hub_main/out/hub_main, which `rt run` and `rt ci` build there. Each day is
+replayed with its trace, in one mode after another; every fourth script is spoiled first, so that it is refused as a rule; and,
+where the program checks records, that of every fourth day is checked, half of these with one word changed. Standard output,
+standard error and the status must be the same, byte for byte. Prints the first call that differs, with its script made as
+short as it still differs, and ends with 1.
+
+With `--cases` nothing is played: the calls are written as cases into the folder, which is made. Before the program is proved
+and built, `rt try --cases FOLDER` in crates/hub_main plays them and compares standard output.
+"""
+import argparse
+import collections
+import copy
+import itertools
+import json
+import os
+import random
+import shlex
+import shutil
+import subprocess
+import sys
+
+HERE = os.path.dirname(os.path.abspath(__file__))
+sys.path.insert(0, os.path.join(HERE, ".."))
+
+from reference import days
+from reference.calls import LATER, BytesSink, BytesSource, Call
+
+PROGRAM = os.path.join(HERE, "..", "crates", "hub_main", "out", "hub_main")
+MODES = [("ev", "fcfs"), ("psv", "fcfs"), ("ev", "jit"), ("gsv", "fcfs"), ("wv", "fcfs"), ("ev", "timeline")]
+MINUTE = 60
+
+
+def wanted(words, data):
+    sink = BytesSink()
+    call = Call(words, BytesSource(data), sink)
+    return call.status, sink.held, f"{call.line}\n".encode() if call.line else b""
+
+
+def given(program, words, data):
+    try:
+        done = subprocess.run([*program, *words], input=data, capture_output=True, timeout=MINUTE)
+        return done.returncode, done.stdout, done.stderr
+    except subprocess.TimeoutExpired:
+        return "none after a minute", b"", b""
+
+
+# A day that differs is made shorter.
+
+def without_run(script, k, r):
+    """The script without a run of a window: the numbers of those behind it fall."""
+    shorter = copy.deepcopy(script)
+    window = shorter["windows"][k]
+    del window["runs"][r - 1]
+    if "turns" in window:
+        window["turns"] = [turn - (turn > r) for turn in window["turns"] if turn != r]
+    for run in window["runs"]:
+        if run.get("follows") == r:
+            del run["follows"]
+        elif run.get("follows", 0) > r:
+            run["follows"] -= 1
+    return shorter
+
+
+def places_in(value, path=()):
+    yield path
+    for key, part in value.items() if isinstance(value, dict) else enumerate(value):
+        if isinstance(part, (dict, list)):
+            yield from places_in(part, (*path, key))
+
+
+def at(value, path):
+    for key in path:
+        value = value[key]
+    return value
+
+
+def shorter_ones(script):
+    """Scripts with a part less, the greater parts first. Some of them are no scripts."""
+    for k, window in enumerate(script["windows"]):
+        for r in range(1, len(window["runs"]) + 1):
+            yield without_run(script, k, r)
+    for path in places_in(script):
+        part = at(script, path)
+        if isinstance(part, dict):
+            cuts = [(key,) for key in part]
+        else:
+            sizes = itertools.takewhile(lambda size: size > 0, (len(part) >> halvings for halvings in range(20)))
+            cuts = [range(begin, min(begin + size, len(part))) for size in sizes for begin in range(0, len(part), size)]
+        for cut in cuts:
+            shorter = copy.deepcopy(script)
+            for key in reversed(cut):
+                del at(shorter, path)[key]
+            yield shorter
+
+
+def shortened(script, differs):
+    """The script with parts taken out for as long as it still differs."""
+    while True:
+        for shorter in shorter_ones(script):
+            if differs(json.dumps(shorter).encode()):
+                script = shorter
+                break
+        else:
+            return script
+
+
+# The calls of a day.
+
+def calls_of(draw, k):
+    """The words, the input and the script, where it can be shortened, of each call for the day with this number."""
+    model, scheduler = MODES[k % len(MODES)]
+    words = ["replay", "--trace", "--model", model, "--scheduler", scheduler]
+    script = days.with_picks(draw, days.day(draw))
+    if k % 4 == 3:
+        yield words, days.spoiled(draw, script).encode(), None
+        return
+    data = json.dumps(script).encode()
+    yield words, data, script
+    if k % 2 and "check" not in LATER:
+        record = wanted(words, data)[1].decode()
+        record = days.damaged(draw, record) if k % 8 == 1 else record
+        yield ["check"], data + b"\n%%\n" + record.encode(), None
+
+
+def show(program, words, data):
+    for name, (status, out, err) in [("wanted", wanted(words, data)), ("given", given(program, words, data))]:
+        print(f"{name}: status {status}\n{out.decode(errors='replace')}{err.decode(errors='replace')}")
+
+
+def write_cases(folder, asked):
+    os.makedirs(folder)
+    draw = random.Random(asked.seed)
+    for k in range(asked.days):
+        for words, data, _ in calls_of(draw, k):
+            name = os.path.join(folder, f"{k:05}-{words[0]}")
+            for ending, content in [("", data), (".args", "\n".join(words).encode()), (".stdout", wanted(words, data)[1])]:
+                with open(name + ending, "wb") as out:
+                    out.write(content)
+
+
+def main():
+    options = argparse.ArgumentParser(description=__doc__.splitlines()[0])
+    options.add_argument("--days", type=int, default=1000)
+    options.add_argument("--seed", type=int, default=1)
+    options.add_argument("--program", default=shlex.quote(PROGRAM))
+    options.add_argument("--cases")
+    asked = options.parse_args()
+    if asked.cases:
+        write_cases(asked.cases, asked)
+        return
+    if shutil.which(shlex.split(asked.program)[0]) is None:
+        sys.exit("compare: there is no such program; `rt run` in crates/hub_main builds it")
+    program, draw, statuses = shlex.split(asked.program), random.Random(asked.seed), collections.Counter()
+    for k in range(asked.days):
+        for words, data, script in calls_of(draw, k):
+            def differs(data):
+                return wanted(words, data) != given(program, words, data)
+
+            if differs(data):
+                if script is not None:
+                    data = json.dumps(shortened(script, differs)).encode()
+                print(f"day {k} of the seed {asked.seed}, {' '.join(words)}:\n{data.decode()}")
+                show(program, words, data)
+                sys.exit(1)
+            statuses[wanted(words, data)[0]] += 1
+    told = ", ".join(f"{count} with status {status}" for status, count in sorted(statuses.items()))
+    print(f"{asked.days} days of the seed {asked.seed}: {told}; no difference")
+
+
+if __name__ == "__main__":
+    main()

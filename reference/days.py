@@ -1,0 +1,165 @@
+"""Days that are drawn: small ones with much in them, the same with turns and times for a replay, spoiled ones, and trials.
+
+What draws the first three is a `random.Random`, so that a seed gives the same days again.
+"""
+import copy
+import json
+
+from reference.history import Mode
+from reference.replay import Draws
+from reference.script import DeviceText, RoutineText, RunText, Script, WindowText
+from reference.serial import Command, Kind
+
+TRIAL_MODE = Mode("ev", "fcfs")
+TRIAL_DEVICES, TRIAL_ROUTINES, TRIAL_COMMANDS, TRIAL_VALUES = 32, 64, 4, 1000
+TRIAL_DAY, TRIAL_MINUTES = (2021, 4, 26), 5
+
+
+# Small days
+
+def device(draw, d):
+    made = {"name": f"d{d}"}
+    if draw.random() < 0.5:
+        states = [f"s{v}" for v in range(draw.randint(1, 3))]
+        made.update(states=states, start=draw.choice(states))
+    else:
+        low = draw.randint(0, 2)
+        high = low + draw.randint(0, 3)
+        made.update(low=low, high=high, start=draw.randint(low, high))
+    if draw.random() < 0.5:
+        downs, call = [], 1
+        for _ in range(draw.randint(1, 3)):
+            call += draw.randint(0, 3)
+            downs.append([call, call + draw.choice([1, 1, 2, 3, 40])])
+            call = downs[-1][1]
+        made["down"] = downs
+    return made
+
+
+def values(device):
+    return device["states"] if "states" in device else list(range(device["low"], device["high"] + 1))
+
+
+def command(draw, devices):
+    on = draw.choice(devices)
+    made = {"on": on["name"], "do": draw.choice(["set", "set", "set", "check", "load", "store"])}
+    if made["do"] in ("set", "check"):
+        made["to"] = draw.choice(values(on))
+    if draw.random() < 0.4:
+        made["must"] = False
+    if draw.random() < 0.6:
+        made["ms"] = draw.choice([0, 0, 1, 5])
+    return made
+
+
+def run(draw, routines, before):
+    made = {"routine": draw.choice(routines)["name"]}
+    if before and draw.random() < 0.2:
+        made["follows"] = draw.randint(1, before)
+    return made
+
+
+def day(draw):
+    devices = [device(draw, d) for d in range(draw.randint(1, 4))]
+    routines = [
+        {"name": f"r{r}", "commands": [command(draw, devices) for _ in range(draw.randint(1, 5))]}
+        for r in range(draw.randint(1, 4))
+    ]
+    windows = [
+        {
+            "at": f"2021-04-26T07:0{k}:00",
+            "probes": draw.choice([0, 1, 2, 5]),
+            "runs": [run(draw, routines, before) for before in range(draw.randint(1, 6))],
+        }
+        for k in range(draw.randint(1, 3))
+    ]
+    return {"safehome": 1, "devices": devices, "routines": routines, "windows": windows}
+
+
+def with_picks(draw, script):
+    """The script with turns, seeds, and commands that take another time than is estimated."""
+    for routine in script["routines"]:
+        for command in routine["commands"]:
+            if draw.random() < 0.3:
+                command["takes"] = draw.choice([0, 1, 20, 150, 3_000, 12_000])
+    for window in script["windows"]:
+        actors = len(window["runs"])
+        if draw.random() < 0.7:
+            window["turns"] = [draw.randint(0, actors) for _ in range(draw.randint(0, 12 * actors))]
+        if draw.random() < 0.7:
+            window["seed"] = draw.choice([0, 7, 2**64 - 1, draw.getrandbits(64)])
+    return script
+
+
+# Spoiled days
+
+ODD = [None, True, 0, 1, -1, 1.5, 2**32 - 1, 2**32, 2**64, "", "off", "d0", "D0", "2021-04-26T07:00:00Z", "2021-04-26", [], [[]],
+       [0], {}, [3, 3], 256, 101, 3_600_001]
+MEMBERS = ["safehome", "name", "low", "states", "down", "to", "must", "ms", "takes", "do", "on", "turns", "seed", "probes",
+           "follows", "runs", "routine", "at", "other"]
+
+
+def places_in(value):
+    """Each object and list in the value, itself too."""
+    if isinstance(value, (dict, list)):
+        yield value
+        for part in value.values() if isinstance(value, dict) else value:
+            yield from places_in(part)
+
+
+def spoiled(draw, script):
+    """The text of the script with one thing changed, which is refused as a rule."""
+    text = json.dumps(script)
+    if draw.random() < 0.1:
+        at = draw.randrange(len(text))
+        return text[:at] + draw.choice(["", text[at + 1 :], "," + text[at:], "0" + text[at:]])
+    script = copy.deepcopy(script)
+    place = draw.choice(list(places_in(script)))
+    odd = copy.deepcopy(draw.choice(ODD))
+    if isinstance(place, list):
+        place.insert(draw.randint(0, len(place)), odd if draw.random() < 0.5 or not place else copy.deepcopy(draw.choice(place)))
+    elif draw.random() < 0.3:
+        del place[draw.choice(list(place))]
+    else:
+        place[draw.choice(list(place) if draw.random() < 0.6 else MEMBERS)] = odd
+    return json.dumps(script)
+
+
+def damaged(draw, record):
+    """The record with one word changed, taken out or put in, so that as a rule it does not agree."""
+    lines = [line.split(" ") for line in record.split("\n")]
+    line = draw.choice(lines)
+    at = draw.randrange(len(line))
+    change = draw.randrange(4)
+    if change == 0:
+        del line[at]
+    elif change == 1:
+        line[at] += draw.choice(["!", "0", " ", "\n", "\n# "])
+    else:
+        line[at : at + (change == 2)] = [draw.choice(draw.choice(lines))]
+    return "\n".join(map(" ".join, lines))
+
+
+# Trials
+
+def trial_command(draws):
+    device, job = draws.below(TRIAL_DEVICES), draws.below(4)
+    if job == 0:
+        return Command(device, "set", draws.below(TRIAL_VALUES))
+    if job == 1:
+        return Command(device, "check", draws.below(TRIAL_VALUES), must=False)
+    return Command(device, "load" if job == 2 else "store", None)
+
+
+def trial(windows):
+    """The day of a trial of so many windows. It is drawn by the generator of picks, from their number."""
+    draws = Draws(windows)
+    kind = Kind(0, TRIAL_VALUES - 1)
+    devices = [DeviceText(f"d{d:02}", kind, [], 0, []) for d in range(TRIAL_DEVICES)]
+    routines = [RoutineText(f"r{r:02}", [trial_command(draws) for _ in range(TRIAL_COMMANDS)]) for r in range(TRIAL_ROUTINES)]
+    made = []
+    for k in range(windows):
+        hour, minute = divmod(TRIAL_MINUTES * k, 60)
+        runs = [RunText(draws.below(TRIAL_ROUTINES), None) for _ in range(64)]
+        made.append(WindowText((*TRIAL_DAY, hour, minute, 0), k + 1, 0, [], runs))
+    return Script(devices, routines, made)

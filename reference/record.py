@@ -1,0 +1,93 @@
+"""The text of a day: its head, its windows with or without their trace, and its total."""
+from reference.history import (Arrived, Did, Doomed, DownAtEnd, Ended, Fell, Lost, MustDown, Placed, Refuted, Revoked, Rose,
+                               Undid)
+from reference.serial import Failed, Ran
+
+
+def head_text(mode):
+    return f"safehome day\nmodel {mode.model} {mode.scheduler}\n"
+
+
+def time_text(at):
+    return "{:04}-{:02}-{:02}T{:02}:{:02}:{:02}".format(*at)
+
+
+def total_text(records):
+    runs = sum(len(record.ends) for record in records)
+    committed = sum(cause is None for record in records for cause in record.ends.values())
+    return f"total windows {len(records)} runs {runs} committed {committed} aborted {runs - committed}\n"
+
+
+class WindowPrinter:
+    """Prints the record of a window, the first as number 0, with the names of its script."""
+
+    def __init__(self, script, number):
+        self.script, self.number, self.window = script, number, script.windows[number]
+        self.names = [device.name for device in script.devices]
+
+    def commands(self, run):
+        return self.script.routines[self.window.runs[run - 1].routine].commands
+
+    def answer(self, command, answer):
+        return self.script.devices[command.device].word(answer) if isinstance(answer, int) else answer
+
+    def cause(self, run, cause):
+        match cause:
+            case MustDown(c):
+                return f"must {c + 1}"
+            case Refuted(c, found):
+                return f"refuted {c + 1} found {self.answer(self.commands(run)[c], found)}"
+            case Lost(device):
+                return f"lost {self.names[device]}"
+            case Revoked(lender, device, deadline, moment):
+                return f"revoked {self.names[device]} by {lender} deadline {deadline} at {moment}"
+            case DownAtEnd(device):
+                return f"downatend {self.names[device]}"
+
+    def entry(self, entry):
+        match entry:
+            case Arrived(run, moment):
+                return f"# arrived {run} at {moment}"
+            case Placed(run, place, moment):
+                return f"# placed {run} place {place} at {moment}"
+            case Did(run, c, answer):
+                return f"# did {run}.{c + 1} {self.answer(self.commands(run)[c], answer)}"
+            case Undid(run, device, drove):
+                return f"# undid {run} {self.names[device]} {'drove' if drove else 'dropped'}"
+            case Fell(device):
+                return f"# fell {self.names[device]}"
+            case Rose(device):
+                return f"# rose {self.names[device]}"
+            case Doomed(run, cause):
+                return f"# doomed {run} {self.cause(run, cause)}"
+            case Ended(run, cause):
+                return f"# ended {run} {'committed' if cause is None else 'aborted'}"
+
+    def run(self, run, record):
+        begin = f"run {run} {self.script.routines[self.window.runs[run - 1].routine].name}"
+        if record.ends[run] is not None:
+            return f"{begin} aborted {self.cause(run, record.ends[run])}"
+        answers = map(self.answer, self.commands(run), record.answers[run])
+        return " ".join([begin, "committed", *answers])
+
+    def item(self, item):
+        if isinstance(item, Ran):
+            return str(item.run)
+        return f"{'fail' if isinstance(item, Failed) else 'back'}({self.names[item.device]})"
+
+    def stand(self, device, stand):
+        return f"{device.name}={device.word(stand.value)}{'' if stand.up else '!'}"
+
+    def text(self, record, mode, trace):
+        lines = [f"window {self.number + 1} {time_text(self.window.at)}"]
+        if trace:
+            lines += map(self.entry, record.entries)
+        lines += [self.run(run, record) for run in record.ends and sorted(record.ends)]
+        order = ["unclaimed"] if mode.model == "wv" else list(map(self.item, record.order)) or ["none"]
+        lines.append(" ".join(["order", *order]))
+        lines.append(" ".join(["home", *(list(map(self.stand, self.script.devices, record.last)) or ["none"])]))
+        return "\n".join(lines) + "\n"
+
+
+def window_text(script, number, record, mode, trace):
+    return WindowPrinter(script, number).text(record, mode, trace)

@@ -1,0 +1,249 @@
+"""The reading of a script: its devices, routines and windows, or the first refusal on the way.
+
+The steps of the walk stand here in their order; docs/FORMATS.md has the tables.
+"""
+import re
+from typing import NamedTuple
+
+from reference.json_text import NotJson, read_json
+from reference.serial import Command, Kind
+from reference.times import read_time
+
+VERSION = 1
+LIMITS = {
+    "bytes": 4_194_304,
+    "devices": 256,
+    "states": 256,
+    "downs": 16,
+    "routines": 1024,
+    "commands": 64,
+    "ms": 3_600_000,
+    "windows": 288,
+    "probes": 100,
+    "turns": 4096,
+    "runs": 64,
+}
+NAME = re.compile(r"[a-z][a-z0-9_-]{0,31}", re.ASCII)
+
+
+class Refusal(Exception):
+    """Why a script is refused, in the words of the line on standard error."""
+
+
+class DeviceText(NamedTuple):
+    name: str
+    kind: Kind
+    states: list  # none for a range
+    start: int
+    downs: list
+
+    def value_of(self, state):
+        """The value that a member of the script means, or none."""
+        if isinstance(state, str):
+            return self.states.index(state) if state in self.states else None
+        return state if not self.states and self.kind.has_value(state) else None
+
+    def word(self, value):
+        """How a record prints the value."""
+        return self.states[value] if self.states else str(value)
+
+
+class RoutineText(NamedTuple):
+    name: str
+    commands: list
+
+
+class RunText(NamedTuple):
+    routine: int
+    follows: int | None
+
+
+class WindowText(NamedTuple):
+    at: tuple
+    seed: int
+    probes: int
+    turns: list
+    runs: list
+
+
+class Script(NamedTuple):
+    devices: list
+    routines: list
+    windows: list
+
+
+# The types of members.
+
+def is_whole(value, bits=32):
+    return isinstance(value, int) and not isinstance(value, bool) and 0 <= value < 2**bits
+
+
+def is_long(value):
+    return is_whole(value, 64)
+
+
+def is_text(value):
+    return isinstance(value, str)
+
+
+def is_list(value):
+    return isinstance(value, list)
+
+
+def is_truth(value):
+    return isinstance(value, bool)
+
+
+def is_state(value):
+    return is_text(value) or is_whole(value)
+
+
+# Each object's members: those that must be there, and those that may.
+DAY = {"safehome": is_long, "devices": is_list, "routines": is_list, "windows": is_list}, {}
+DEVICE = {"name": is_text, "start": is_state}, {"states": is_list, "low": is_whole, "high": is_whole, "down": is_list}
+ROUTINE = {"name": is_text, "commands": is_list}, {}
+COMMAND = {"on": is_text, "do": is_text}, {"to": is_state, "must": is_truth, "ms": is_whole, "takes": is_whole}
+WINDOW = {"at": is_text, "runs": is_list}, {"turns": is_list, "seed": is_long, "probes": is_whole}
+RUN = {"routine": is_text}, {"follows": is_whole}
+
+
+def refuse(true, text):
+    if true:
+        raise Refusal(text)
+
+
+def need_shape(value, members, spot):
+    required, optional = members
+    refuse(not isinstance(value, dict) or not required.keys() <= value.keys(), f"shape {spot}")
+    for name, member in value.items():
+        has_type = required.get(name) or optional.get(name)
+        refuse(has_type is None or not has_type(member), f"shape {spot}")
+
+
+def need_within(kind, count, limit=None):
+    limit = limit or LIMITS[kind]
+    refuse(count > limit, f"too many {kind} {count} of {limit}")
+
+
+def need_new_name(name, names, spot):
+    refuse(NAME.fullmatch(name) is None, f"bad name {spot}")
+    refuse(name in names, f"double name {spot}")
+
+
+# The walk.
+
+def read_states(states, spot):
+    refuse(not states, f"shape {spot}")
+    need_within("states", len(states))
+    read = []
+    for state in states:
+        refuse(not is_text(state), f"shape {spot}")
+        need_new_name(state, read, spot)
+        read.append(state)
+    return read
+
+
+def read_down(pair, spot):
+    refuse(not (is_list(pair) and len(pair) == 2 and all(map(is_whole, pair)) and 1 <= pair[0] < pair[1]), f"shape {spot}")
+    return tuple(pair)
+
+
+def read_device(i, value, names):
+    spot = f"device {i}"
+    need_shape(value, DEVICE, spot)
+    has_states, has_bound, has_bounds = "states" in value, {"low", "high"} & value.keys(), {"low", "high"} <= value.keys()
+    refuse(has_bound if has_states else not has_bounds, f"shape {spot}")
+    need_new_name(value["name"], names, spot)
+    if has_states:
+        states = read_states(value["states"], spot)
+        kind = Kind(0, len(states) - 1)
+    else:
+        states, kind = [], Kind(value["low"], value["high"])
+        refuse(kind.low > kind.high, f"bad state {spot}")
+    start = DeviceText(value["name"], kind, states, 0, []).value_of(value["start"])
+    refuse(start is None, f"bad state {spot}")
+    need_within("downs", len(value.get("down", [])))
+    downs = [read_down(pair, f"down {i}.{j}") for j, pair in enumerate(value.get("down", []), 1)]
+    return DeviceText(value["name"], kind, states, start, downs)
+
+
+def read_command(spot, value, devices, numbers):
+    need_shape(value, COMMAND, spot)
+    job = value["do"]
+    refuse(job not in ("set", "check", "load", "store"), f"shape {spot}")
+    refuse(("to" in value) != (job in ("set", "check")), f"shape {spot}")
+    device = numbers.get(value["on"])
+    refuse(device is None, f"unknown name {spot}")
+    to = devices[device].value_of(value["to"]) if "to" in value else None
+    refuse("to" in value and to is None, f"bad state {spot}")
+    ms = value.get("ms", 100)
+    takes = value.get("takes", ms)
+    need_within("ms", ms)
+    need_within("ms", takes)
+    return Command(device, job, to, value.get("must", True), ms, takes)
+
+
+def read_routine(i, value, names, devices, numbers):
+    spot = f"routine {i}"
+    need_shape(value, ROUTINE, spot)
+    need_new_name(value["name"], names, spot)
+    refuse(not value["commands"], f"shape {spot}")
+    need_within("commands", len(value["commands"]))
+    commands = [
+        read_command(f"command {i}.{j}", command, devices, numbers) for j, command in enumerate(value["commands"], 1)]
+    return RoutineText(value["name"], commands)
+
+
+def read_run(i, j, value, routines):
+    spot = f"run {i}.{j}"
+    need_shape(value, RUN, spot)
+    routine = routines.get(value["routine"])
+    refuse(routine is None, f"unknown name {spot}")
+    follows = value.get("follows")
+    refuse(follows is not None and not 1 <= follows < j, f"bad follow {spot}")
+    return RunText(routine, follows)
+
+
+def read_window(i, value, before, routines):
+    spot = f"window {i}"
+    need_shape(value, WINDOW, spot)
+    at = read_time(value["at"])
+    refuse(at is None or (before is not None and at <= before), f"bad time {spot}")
+    turns, runs, probes = value.get("turns", []), value["runs"], value.get("probes", 0)
+    need_within("probes", probes)
+    need_within("turns", len(turns))
+    need_within("runs", len(runs))
+    for j, turn in enumerate(turns, 1):
+        refuse(not is_whole(turn), f"shape {spot}")
+        refuse(turn > len(runs), f"bad turn turn {i}.{j}")
+    read = [read_run(i, j, run, routines) for j, run in enumerate(runs, 1)]
+    return WindowText(at, value.get("seed", 1), probes, turns, read)
+
+
+def read_script(data):
+    need_within("bytes", min(len(data), LIMITS["bytes"] + 1))
+    try:
+        top = read_json(data)
+    except NotJson:
+        raise Refusal("not json") from None
+    return read_value(top)
+
+
+def read_value(top):
+    """The reading of a JSON value."""
+    need_shape(top, DAY, "top")
+    refuse(top["safehome"] != VERSION, f"bad version {top['safehome']}")
+    for kind in ("devices", "routines", "windows"):
+        need_within(kind, len(top[kind]))
+    script = Script([], [], [])
+    numbers, routines = {}, {}  # by name
+    for i, value in enumerate(top["devices"], 1):
+        script.devices.append(read_device(i, value, numbers))
+        numbers[value["name"]] = i - 1
+    for i, value in enumerate(top["routines"], 1):
+        script.routines.append(read_routine(i, value, routines, script.devices, numbers))
+        routines[value["name"]] = i - 1
+    for i, value in enumerate(top["windows"], 1):
+        before = script.windows[-1].at if script.windows else None
+        script.windows.append(read_window(i, value, before, routines))
+    return script

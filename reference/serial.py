@@ -1,0 +1,157 @@
+"""Commands, routines, and the serial execution of a list of items. Nothing here knows of a hub.
+
+The home state is a list with a `Stand` for each device. Values are whole numbers; those of a device with named states are
+the places of the names. A routine is a list of commands, and `runs` a dict from the number of a run to the `Run`.
+"""
+from dataclasses import dataclass
+from functools import cached_property
+from typing import NamedTuple
+
+FINE, DOWN = ".", "-"  # the answers; a read that worked is answered with the value that it found
+
+
+class Kind(NamedTuple):
+    """What values a device has."""
+
+    low: int
+    high: int
+
+    def has_value(self, value):
+        return self.low <= value <= self.high
+
+    def nearest(self, number):
+        return min(max(number, self.low), self.high)
+
+
+class Stand(NamedTuple):
+    """Where a device stands, and whether it is up."""
+
+    value: int
+    up: bool
+
+
+class Command(NamedTuple):
+    device: int
+    job: str  # set, check, load or store
+    value: int | None  # of a set and a check
+    must: bool = True
+    ms: int = 100  # how long it takes, as is estimated
+    takes: int = 100  # how long it takes, in a replay
+
+    @property
+    def reads(self):
+        return self.job in ("check", "load")
+
+    @property
+    def writes(self):
+        return not self.reads
+
+    def driven(self, kind, register):
+        """The value to which a write drives its device."""
+        return self.value if self.job == "set" else kind.nearest(register)
+
+    def register_after(self, register, answer):
+        return answer if self.job == "load" and answer != DOWN else register
+
+    def refutes(self, answer):
+        return self.job == "check" and answer not in (DOWN, self.value)
+
+    def fails(self, answer):
+        """Whether it is a must command that has failed with this answer."""
+        return self.must and (answer == DOWN or self.refutes(answer))
+
+
+@dataclass(frozen=True)
+class Run:
+    """One execution of a routine, which may follow that of an earlier run."""
+
+    commands: list
+    follows: int | None = None
+
+    @cached_property
+    def footprint(self):
+        """The devices of its commands, ascending."""
+        return sorted(self.last)
+
+    @cached_property
+    def last(self):
+        """The number of its last command on each device."""
+        return {command.device: c for c, command in enumerate(self.commands)}
+
+    @cached_property
+    def reads_first(self):
+        """The devices on which its first command reads."""
+        first = {command.device: command for command in reversed(self.commands)}
+        return {device for device, command in first.items() if command.reads}
+
+    @cached_property
+    def writes(self):
+        return {command.device for command in self.commands if command.writes}
+
+    def estimate(self, device):
+        """The sum of its estimates up to its last command on the device."""
+        return sum(command.ms for command in self.commands[: self.last[device] + 1])
+
+    def shares(self, other):
+        return not self.last.keys().isdisjoint(other.last)
+
+
+@dataclass(frozen=True)
+class Ran:
+    run: int
+
+
+@dataclass(frozen=True)
+class Failed:
+    device: int
+    count: int  # failures and restarts of a device are counted from 1, each for itself
+
+
+@dataclass(frozen=True)
+class Back:
+    device: int
+    count: int
+
+
+class Refused(Exception):
+    """The items cannot be executed one after another."""
+
+
+def execute(home, kinds, command, register):
+    """Executes a command on the home, which it changes. Gives the answer and the register after it."""
+    value, up = home[command.device]
+    if not up:
+        return DOWN, register
+    if command.writes:
+        driven = command.driven(kinds[command.device], register)
+        home[command.device] = Stand(driven, True)
+        return FINE, register
+    return value, command.register_after(register, value)
+
+
+def execute_routine(home, kinds, commands):
+    """The answers of a routine that is executed alone. Refused where a must command fails."""
+    register, answers = 0, []
+    for command in commands:
+        answer, register = execute(home, kinds, command, register)
+        if command.fails(answer):
+            raise Refused
+        answers.append(answer)
+    return answers
+
+
+def execute_serially(home, kinds, runs, items):
+    """Executes the items one after another: the home after them, and the answers of each run among them.
+
+    Refused where a routine is, where a device fails that is down, or where one comes back that is up.
+    """
+    home, answers = list(home), {}
+    for item in items:
+        if isinstance(item, Ran):
+            answers[item.run] = execute_routine(home, kinds, runs[item.run].commands)
+        else:
+            value, up = home[item.device]
+            if up != isinstance(item, Failed):
+                raise Refused
+            home[item.device] = Stand(value, not up)
+    return home, answers

@@ -1,0 +1,374 @@
+#!/usr/bin/env python3
+"""Makes the expected outputs of the stored tables anew from their stored inputs, and compares them with what is stored.
+
+    python3 reference/tables.py [--write] [TABLE ..]     all, or script_table, day_table, step_table, examples
+    python3 reference/tables.py cases                    prints the lines of day_table's input for the examples
+    python3 reference/tables.py case NAME WORD .. < script    .. for this call
+
+With `--write` the outputs take the place of the stored ones. Prints a line for each table, and of a table that differs the
+first line that does; ends with 1 where one differs.
+
+An example is `examples/NAME.words`, the words of a call and its script, with its record beside it, `NAME.record`, and, where
+it is traced, its picture, docs/pictures/NAME.svg.
+"""
+import dataclasses
+import itertools
+import os
+import sys
+
+HERE = os.path.dirname(os.path.abspath(__file__))
+CRATES = os.path.join(HERE, "..", "crates")
+EXAMPLES = os.path.join(HERE, "..", "examples")
+PICTURES = os.path.join(HERE, "..", "docs", "pictures")
+sys.path.insert(0, os.path.join(HERE, ".."))
+
+from reference.calls import BytesSink, BytesSource, Call
+from reference.devices import Grip
+from reference.history import Mode
+from reference.hub import WAITS, Stranger
+from reference.record import window_text
+from reference.replay import Draws, Home, Player
+from reference.script import Refusal, read_script
+from reference.serial import DOWN, FINE, Refused, execute_serially
+from tools.picture import picture_of
+
+ROOM = 1 << 20  # bytes of a sink, where a case does not say
+
+
+# script_table: a script a line
+
+def script_line(data):
+    try:
+        script = read_script(data)
+    except Refusal as refusal:
+        return str(refusal)
+    return ", ".join(["script", *map(device_part, script.devices), *map(routine_part, script.routines),
+                      *map(window_part, script.windows)])
+
+
+def device_part(device):
+    kind = " ".join(device.states) or f"{device.kind.low}..{device.kind.high}"
+    return "".join([f"device {device.name} {kind} start {device.start}", *(f" down {a}..{b}" for a, b in device.downs)])
+
+
+def routine_part(routine):
+    def command(command):
+        value = "" if command.value is None else f" {command.value}"
+        return f" {command.device} {command.job}{value} {'must' if command.must else 'best'} {command.ms} {command.takes}"
+
+    return "".join([f"routine {routine.name}", *map(command, routine.commands)])
+
+
+def window_part(window):
+    at, turns = "-".join(map(str, window.at)), "".join(f" {turn}" for turn in window.turns)
+    runs = "".join(f" {run.routine}" + (f" after {run.follows}" if run.follows else "") for run in window.runs)
+    return f"window {at} seed {window.seed} probes {window.probes} turns{turns} runs{runs}"
+
+
+def script_table(data):
+    return "".join(f"{script_line(line)}\n" for line in data.split(b"\n")).encode() + b"memory\n"
+
+
+# day_table: a verb a line, a call a case
+
+class Case:
+    def __init__(self):
+        self.name, self.words, self.data = "", [], bytearray()
+        self.source, self.sink, self.room = (0, 65_536), (0, 65_536), ROOM
+
+    def add(self, verb, rest):
+        match verb:
+            case "case":
+                self.name = rest
+            case "word":
+                self.words.append(rest)
+            case "text":
+                self.data += rest.encode()
+            case "line":
+                self.data += rest.encode() + b"\n"
+            case "byte":
+                self.data.append(int(rest))
+            case "times":
+                count, _, text = rest.partition(" ")
+                self.data += text.encode() * int(count)
+            case "source" | "sink":
+                setattr(self, verb, tuple(map(int, rest.split(" "))))
+            case "room":
+                self.room = int(rest)
+
+    def outcome(self):
+        source, sink = BytesSource(bytes(self.data), *self.source), BytesSink(self.room, *self.sink)
+        # the call behind the table does not take `run`
+        call = Call([] if self.words[:1] == ["run"] else self.words, source, sink)
+        lines = [f"case {self.name}", f"status {call.status}", *([f"fault {call.line}"] if call.line else [])]
+        if call.records is None:
+            lines.append("no day")
+        else:
+            lines.append(f"day windows {len(call.records)} devices {len(call.script.devices)}")
+        lines += [f"left {len(source.data)}", f"record {len(sink.held)}", ""]
+        return "\n".join(lines).encode() + sink.held + b"\n"
+
+
+def day_table(data):
+    out, case = [], Case()
+    for line in data.decode().split("\n"):
+        verb, _, rest = line.partition(" ")
+        if line == "run":
+            out.append(case.outcome())
+            case = Case()
+        else:
+            case.add(verb, rest)
+    return b"".join(out)
+
+
+def case_lines(name, words, data):
+    """The lines of day_table's input that make this call."""
+    lines = [f"case {name}", *(f"word {word}" for word in words)]
+    *whole, rest = data.decode().split("\n")
+    lines += [f"line {line}" for line in whole] + ([f"text {rest}"] if rest else [])
+    return "\n".join([*lines, "run", ""])
+
+
+# step_table: a window a line, and what is done in it. What Rust's `Debug` shows is written so here.
+
+NUMBERS = {"run": "RunNo", "lender": "RunNo", "device": "DeviceNo"}
+WITH_NAMES = ("Revoked", "Slip")
+
+
+def shown(value, name=""):
+    if value is None:
+        return "None"
+    if isinstance(value, bool):
+        return str(value).lower()
+    if name == "answer":
+        return {FINE: "Fine", DOWN: "Down"}.get(value) or f"Found({value})"
+    if not dataclasses.is_dataclass(value):
+        return f"{NUMBERS[name]}({value})" if name in NUMBERS else str(value)
+    kind, fields = type(value).__name__, [field.name for field in dataclasses.fields(value)]
+    parts = [shown(getattr(value, field), field) for field in fields]
+    if kind == "Ended":
+        parts[1] = end_shown(value.cause)
+    if kind in WITH_NAMES:
+        return f"{kind} {{ {', '.join(f'{field}: {part}' for field, part in zip(fields, parts))} }}"
+    return f"{kind}({', '.join(parts)})" if parts else kind
+
+
+def end_shown(cause):
+    return "Committed" if cause is None else f"Aborted({shown(cause)})"
+
+
+def made(entries):
+    return "".join(f" {shown(entry)}" for entry in entries)
+
+
+class Row:
+    """A window of a script, and the lines that are told of it."""
+
+    def __init__(self, mode, script):
+        self.mode, self.script, self.window = mode, script, script.windows[0]
+        self.lines = []
+
+    def open(self):
+        self.home = Home(self.script)
+        return self.home.open_window(self.window, self.mode)
+
+    def judgement(self, record, hub):
+        if self.mode.model == "wv":
+            return "no order claimed"
+        try:
+            last, answers = execute_serially(record.first, hub.kinds, hub.runs, record.order)
+        except Refused:
+            return "serial differs"
+        committed = {run: record.answers[run] for run, cause in record.ends.items() if cause is None}
+        return "serial agrees" if (last, answers) == (record.last, committed) else "serial differs"
+
+    def tell_closed(self, hub):
+        record = self.home.close_window(hub)
+        self.lines += window_text(self.script, 0, record, self.mode, True).splitlines()
+        self.lines.append(f"turns {record.turns} faults {record.faults} opened 1")
+        self.lines.append(self.judgement(record, hub))
+
+    def play(self):
+        player = Player(self.open(), self.window.probes)
+        for k, actor in enumerate(self.window.turns, 1):
+            picked = player.pick(actor) if actor in (0, *player.hub.runs) else None
+            match picked:
+                case None:
+                    told = " passed"
+                case int():
+                    told = f" took DeviceNo({picked})"
+                case list():
+                    told = made(picked)
+                case _:
+                    told = f" waits {shown(picked)}"
+            self.lines.append(f"pick {k} of {actor}{told}")
+        if player.hub.not_quiet():
+            self.lines.append(f"not closed: {shown(player.hub.not_quiet())}")
+            player.finish(self.window.seed)
+        self.tell_closed(player.hub)
+
+    def replay(self):
+        player = Player(self.open(), self.window.probes)
+        for actor in self.window.turns:
+            player.pick(actor)
+        player.finish(self.window.seed)
+        self.tell_closed(player.hub)
+
+    def run(self):
+        """One course of the threads; what is told is the same of each."""
+        player = Player(self.open(), self.window.probes)
+        player.finish(self.window.seed)
+        self.lines.append(f"run {len(self.window.runs)} runs")
+        self.lines.append(self.judgement(self.home.close_window(player.hub), player.hub))
+
+    def steps(self, steps):
+        hubs, homes, grips = {}, {}, []
+        for side in "ab":
+            hubs[side], homes[side] = self.open(), self.home
+        for step in steps.split(","):
+            side, call, run, moment = step.split()
+            tell = self.take if call == "take" else self.give
+            self.lines.append(f"{step.strip()}: " + tell(hubs[side], int(run), int(moment), grips))
+        for grip in reversed(grips):
+            if isinstance(hubs["a"].give(grip, 0), Stranger):
+                hubs["b"].give(grip, 0)
+        for side, hub in hubs.items():
+            if hub.not_quiet() is None:
+                self.lines.append(f"{side.upper()} closed")
+                self.home = homes[side]
+                self.tell_closed(hub)
+            else:
+                fresh = shown(not (hub.history.entries or hub.out))
+                self.lines.append(f"{side.upper()} {shown(hub.not_quiet())}, fresh {fresh}")
+
+    def take(self, hub, run, moment, grips):
+        if run not in hub.runs:
+            return "absent"
+        taken = hub.take(run, moment)
+        if isinstance(taken, Grip):
+            grips.append(taken.act())
+            return f"go {shown(taken.slip)} {shown(taken.task)}"
+        if isinstance(taken, WAITS):
+            return f"wait {shown(taken)}"
+        if run in hub.history.ends:
+            return f"over {end_shown(hub.history.ends[run])}{made(taken)}"
+        return f"moved{made(taken)}"
+
+    def give(self, hub, run, moment, grips):
+        at = next((k for k, grip in enumerate(grips) if grip.slip.maker == run), None)
+        if at is None:
+            return "no grip"
+        grips[at], grips[-1] = grips[-1], grips[at]
+        grip = grips.pop()
+        given = hub.give(grip, moment)
+        if isinstance(given, Stranger):
+            grips.append(grip)
+            kept = f"Some({shown(given.kept)})" if given.kept else "None"
+            return f"stranger kept {kept} told {shown(given.told)}"
+        return f"made{made(given)}"
+
+
+def row_lines(line):
+    name, head, rest = line.split(" | ", 2)
+    first, second = head.split(" ")
+    if first == "draws":
+        draws = Draws(int(second))
+        return [name, *(f"below {bound}: {draws.below(int(bound))}" for bound in rest.split())]
+    calls, text = rest.split(" | ", 1)
+    try:
+        script = read_script(text.encode())
+    except Refusal as refusal:
+        return [name, str(refusal)]
+    if calls in ("play", "replay") and not script.windows:
+        return [name, "no window"]
+    if not script.windows or (second != "fcfs" and first != "ev"):
+        return [name, "not opened"]
+    row = Row(Mode(first, second), script)
+    if calls in ("play", "replay", "run"):
+        getattr(row, calls)()
+    else:
+        row.steps(calls)
+    return [name, *row.lines]
+
+
+def step_table(data):
+    lines = [line for row in data.decode().split("\n") if row for line in row_lines(row)]
+    return "".join(f"{line}\n" for line in lines).encode()
+
+
+# The examples
+
+def examples():
+    """Their names, words and scripts."""
+    for file in sorted(os.listdir(EXAMPLES)):
+        name, kind = os.path.splitext(file)
+        if kind == ".words":
+            with open(os.path.join(EXAMPLES, file)) as stored:
+                words, script = stored.read().strip().split(" < ")
+            with open(os.path.join(EXAMPLES, script), "rb") as stored:
+                yield name, words.split(" "), stored.read()
+
+
+def record_of(words, data):
+    sink = BytesSink()
+    Call(words, BytesSource(data), sink)
+    return sink.held
+
+
+def compare_example(name, call, write):
+    words, data = call
+    record = record_of(words, data)
+    same = compare(f"{name}.record", record, os.path.join(EXAMPLES, f"{name}.record"), write)
+    if "--trace" in words:
+        picture = picture_of(read_script(data), record.decode()).encode()
+        same &= compare(f"{name}.svg", picture, os.path.join(PICTURES, f"{name}.svg"), write)
+    return same
+
+
+# All tables
+
+TABLES = {"script_table": script_table, "day_table": day_table, "step_table": step_table}
+
+
+def read_file(*path):
+    with open(os.path.join(*path), "rb") as stored:
+        return stored.read()
+
+
+def compare(name, anew, path, write):
+    """Whether what is stored there is what was made anew."""
+    stored = read_file(path) if os.path.exists(path) else b""
+    if anew == stored:
+        print(f"{name}: {len(stored)} bytes, no difference", flush=True)
+        return True
+    old, new = stored.decode().split("\n"), anew.decode().split("\n")
+    at = next(k for k, (one, other) in enumerate(itertools.zip_longest(old, new)) if one != other)
+    told = [lines[at] if at < len(lines) else "no line" for lines in (old, new)]
+    print(f"{name}: line {at + 1} differs\nstored: {told[0]}\nanew: {told[1]}", flush=True)
+    if write:
+        with open(path, "wb") as out:
+            out.write(anew)
+    return False
+
+
+def main():
+    words = sys.argv[1:]
+    if words[:1] == ["case"]:
+        sys.stdout.write(case_lines(words[1], words[2:], sys.stdin.buffer.read()))
+        return
+    if words == ["cases"]:
+        sys.stdout.write("".join(case_lines(f"example-{name}", *call) for name, *call in examples()))
+        return
+    write, same = "--write" in words, True
+    for name in [word for word in words if word != "--write"] or [*TABLES, "examples"]:
+        if name == "examples":
+            for example, *call in examples():
+                same &= compare_example(example, call, write)
+        else:
+            anew = TABLES[name](read_file(CRATES, name, "stdin"))
+            same &= compare(name, anew, os.path.join(CRATES, name, "stdout"), write)
+    sys.exit(0 if same else 1)
+
+
+if __name__ == "__main__":
+    main()

@@ -1,0 +1,49 @@
+"""The words of the command line."""
+import re
+from typing import NamedTuple
+
+from reference.history import Mode
+
+MODELS, SCHEDULERS = ("wv", "gsv", "psv", "ev"), ("fcfs", "jit", "timeline")
+MOST_WINDOWS = 288
+
+
+class Words(NamedTuple):
+    command: str  # run, replay, check or trial
+    mode: Mode = Mode("ev", "fcfs")
+    trace: bool = False
+    windows: int = 0  # of a trial
+
+
+def read_options(words):
+    """The options by their names, or none. The words are used up."""
+    options = {}
+    while words:
+        name, equals, value = words.pop(0).partition("=")
+        if name == "--trace" and not equals:
+            value = True
+        elif name not in ("--model", "--scheduler") or not (equals or words):
+            return None
+        elif not equals:
+            value = words.pop(0)
+        if name in options:
+            return None
+        options[name] = value
+    return options
+
+
+def read_words(words):
+    """What the words ask for, or none."""
+    match words:
+        case [("run" | "replay") as command, *rest]:
+            options = read_options(rest)
+            if options is None:
+                return None
+            mode = Mode(options.get("--model", "ev"), options.get("--scheduler", "fcfs"))
+            good = mode.model in MODELS and mode.scheduler in SCHEDULERS and (mode.model == "ev" or mode.scheduler == "fcfs")
+            return Words(command, mode, "--trace" in options) if good else None
+        case ["check"]:
+            return Words("check")
+        case ["trial", number] if re.fullmatch("[1-9][0-9]{0,2}", number, re.ASCII) and int(number) <= MOST_WINDOWS:
+            return Words("trial", windows=int(number))
+    return None
