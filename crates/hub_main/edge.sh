@@ -90,9 +90,7 @@ words "$(printf 'replay\377')"
 words replay "$(printf '\377')"
 
 call check
-ends 8 'later top'
-call trial 1
-ends 8 'later top'
+ends 7 'check: window 0 head'
 words run twice
 words run --model wv --model wv
 
@@ -122,4 +120,17 @@ for scheduler in jit timeline; do
     plays "$room/record" replay --scheduler "$scheduler"
     plays "$room/record" run --scheduler "$scheduler"
 done
+
+# of a script, the line that divides and the record of its day the record agrees; a trial reads nothing
+input="$input
+%%
+$(cat stdout)
+"
+printf 'agrees\n' >"$room/agrees"
+plays "$room/agrees" check
+input=$(printf '%s' "$input" | sed 's/^home lamp=on$/home lamp=off/')
+call check
+ends 7 'check: window 1 device lamp'
+printf 'trial 2 windows 2 runs 128 committed 128 aborted 0 agree 2\n' >"$room/trial"
+plays "$room/trial" trial 2
 exit "$failed"

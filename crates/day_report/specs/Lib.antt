@@ -2,3 +2,4 @@ pub mod Words
 pub mod RunEntries
 pub mod Lines
 pub mod Days
+pub mod Trials

@@ -130,12 +130,13 @@ fn push_counts(
 
 /// How many runs of some windows committed, and how many were aborted: wide enough for any number of records.
 #[derive(Clone, Copy)]
-struct Ends {
-    committed: u128,
-    aborted: u128,
+pub struct Ends {
+    pub committed: u128,
+    pub aborted: u128,
 }
 
-fn ends_of(windows: &[WindowRecord]) -> Ends
+/// Counts the ends of the runs of some windows.
+pub fn ends_of(windows: &[WindowRecord]) -> Ends
     ensures committed { result.committed ≡ said.commit_count windows.now }
     ensures aborted { result.aborted ≡ said.abort_count windows.now }
     ensures room { result.committed + result.aborted < 2 ^ 128 }

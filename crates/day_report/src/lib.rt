@@ -6,6 +6,8 @@ mod lines;
 mod lookups;
 mod numerals;
 mod run_entries;
+mod trials;
 mod words;
 
 pub use days::{head_text, total_text, window_text};
+pub use trials::trial_text;

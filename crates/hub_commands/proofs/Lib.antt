@@ -10,3 +10,8 @@ mod OverLimit
 mod Texts
 mod PlayedDays
 mod ProbedDays
+mod Dividing
+mod CheckInputs
+mod EndedCalls
+mod AskedTrials
+mod TrialDays

@@ -1,7 +1,8 @@
 -- A day that was run: its devices were probed as often as its windows say.
 use Rattle.command_words.specs.declared.command_lines.Options.{Options}
 use Rattle.hub_commands.proofs.Snocs.{given}
-use Rattle.hub_commands.specs.Finishes.{DayEnds, IsProbedInAll, IsRead, IsWhole, Reads, Shown, Writes}
+use Rattle.hub_commands.specs.Calls.{IsProbedInAll}
+use Rattle.hub_commands.specs.Finishes.{DayEnds, IsRead, IsWhole, Reads, Shown, Writes}
 use Rattle.hub_commands.specs.Ways.{IsRunWithin}
 use Rattle.hub_commands.specs.declared.faults.Fault.{Fault}
 use Rattle.hub_commands.specs.declared.finishes.Day.{Day}

@@ -1,9 +1,8 @@
 -- The texts of faults, and of places in a record.
-use Rattle.hub_commands.specs.declared.faults.Fault.TheVariants.{Check, Later, Memory, Read, Script, Words, Write}
+use Rattle.hub_commands.specs.declared.faults.Fault.TheVariants.{Check, Memory, Read, Script, Words, Write}
 use Rattle.hub_commands.specs.declared.faults.Fault.{Fault}
-use Rattle.hub_commands.specs.declared.faults.Place.TheVariants.{Answer, Device, Head, Home, Order, Run, Total, Window}
-use Rattle.hub_commands.specs.declared.faults.Place.{Place}
-use Rattle.routine_reader.specs.Spots.{spot_text}
+use Rattle.order_checker.specs.declared.verdicts.Place.TheVariants.{Answer, Device, Head, Home, Order, Run, Total, Window}
+use Rattle.order_checker.specs.declared.verdicts.Place.{Place}
 use Rattle.std.specs.Fmt.{decimal}
 use Rattle.std.specs.Prelude.{List, None, Option, Some, codes, ℕ, ◌+◌, ◌++◌}
 
@@ -36,5 +35,4 @@ fault_text Words = Some (codes "words")
 fault_text Read = Some (codes "read")
 fault_text Write = Some (codes "write")
 fault_text Memory = Some (codes "memory")
-fault_text (Later spot) = Some (codes "later " ++ spot_text spot)
 fault_text (Check window place name) = Some (codes "check: window " ++ decimal window ++ codes " " ++ named_place place name)

@@ -1,6 +1,4 @@
--- How a call ends: by its fault, what was read, played and written.
-use Rattle.command_words.specs.declared.command_lines.CommandLine.TheVariants.{Replay, Run}
-use Rattle.command_words.specs.declared.command_lines.CommandLine.{CommandLine}
+-- How the reading of a script ends and the day of one: by its fault, what was read, played and written.
 use Rattle.command_words.specs.declared.command_lines.Options.{Options}
 use Rattle.day_clock.specs.Sinks.{AppendsPart}
 use Rattle.day_clock.specs.Sources.{TakesCount, TakesUpTo}
@@ -11,19 +9,17 @@ use Rattle.hub_core.specs.LegalDays.{IsLegalCutDay, IsLegalDay}
 use Rattle.history_book.specs.Settings.{Setting}
 use Rattle.history_book.specs.declared.records.WindowRecord.{WindowRecord}
 use Rattle.hub_commands.specs.Days.{DevicesAreProbed, WindowsArePlayed, text_due, text_so_far}
-use Rattle.hub_commands.specs.declared.faults.Fault.TheVariants.{Check, Later, Memory, Read, Script as Refuses, Words, Write}
+use Rattle.hub_commands.specs.declared.faults.Fault.TheVariants.{Check, Memory, Read, Script as Refuses, Words, Write}
 use Rattle.hub_commands.specs.declared.faults.Fault.{Fault}
 use Rattle.hub_commands.specs.declared.finishes.Day.{Day}
-use Rattle.later_forms.specs.CommandLines.{is_later}
 use Rattle.routine_reader.specs.Readings.{script_reading}
 use Rattle.routine_reader.specs.Scripts.{plain_script}
-use Rattle.routine_reader.specs.Spots.{is_memory, top}
+use Rattle.routine_reader.specs.Spots.{is_memory}
 use Rattle.routine_reader.specs.declared.faults.ReadFault.{ReadFault}
-use Rattle.routine_reader.specs.declared.faults.Spot.{Spot}
 use Rattle.routine_reader.specs.declared.scripts.Script.{Script}
 use Rattle.routine_reader.specs.declared.scripts.WindowText.{WindowText}
 use Rattle.std.specs.Io.KnownBytes.{Appends, IsAtEnd, Keeps}
-use Rattle.std.specs.Prelude.{Err, IfSome, List, None, Ok, Option, Result, Some, [], false, slice_get, sum_by, take, true, ℕ, ◌+◌, ◌++◌, ◌<◌, ◌∷◌, ◌≡◌, ◌⊎◌}
+use Rattle.std.specs.Prelude.{Err, IfSome, List, None, Ok, Option, Result, Some, [], false, slice_get, take, ℕ, ◌+◌, ◌++◌, ◌<◌, ◌∷◌, ◌≡◌, ◌⊎◌}
 
 -- what the call does to its source: the bytes to come before and after it, where the source tells them, and its faults
 pub record Reads : Type 0 where
@@ -88,7 +84,6 @@ InputIsRead source (Err Words) = ⊥
 InputIsRead source (Err Read) = InputFails source
 InputIsRead source (Err Write) = ⊥
 InputIsRead source (Err Memory) = InputIsStarved source
-InputIsRead source (Err (Later spot)) = ⊥
 InputIsRead source (Err (Check window place name)) = ⊥
 
 -- the sink holds what it held
@@ -167,55 +162,4 @@ DayEnds works shown script options sink day (Some Words) = ⊥
 DayEnds works shown script options sink day (Some Read) = ⊥
 DayEnds works shown script options sink day (Some Write) = IsCut works shown script options sink day
 DayEnds works shown script options sink day (Some Memory) = IsStarved works script options sink day
-DayEnds works shown script options sink day (Some (Later spot)) = ⊥
 DayEnds works shown script options sink day (Some (Check window place name)) = ⊥
-
--- the command line asks for a replay or a run
-abbrev pub AsksFor : Option CommandLine → Options → Type 0
-AsksFor line options = (line ≡ Some (Replay options)) ⊎ (line ≡ Some (Run options))
-
--- the day of the script that was read is played
-pub record DayIsPlayed {D : Type 0} (works : Setting → WindowText → WindowRecord → (ℕ → ℕ) → Type 0) (shown : Shown D) (line : Option CommandLine) (source : Reads) (sink : Writes) (day : Option (Day D)) (fault : Option Fault) : Type 0 where
-  pub options : Options
-  pub asked : AsksFor line options
-  pub script : Script
-  pub read : IsRead source script
-  pub ends : DayEnds works shown script options sink day fault
-
--- the command is not built, and nothing was read
-pub record CommandIsLater {D : Type 0} (line : Option CommandLine) (spot : Spot) (source : Reads) (sink : Writes) (day : Option (Day D)) : Type 0 where
-  pub command : CommandLine
-  pub given : line ≡ Some command
-  pub later : is_later command ≡ true
-  pub at_top : spot ≡ top
-  pub unread : IsUnread source
-  pub no_day : day ≡ None
-  pub unwritten : IsUnwritten sink
-
--- the call ended before the script was read
-pub record EndsBefore {D : Type 0} (line : Option CommandLine) (sink : Writes) (day : Option (Day D)) : Type 0 where
-  pub options : Options
-  pub asked : AsksFor line options
-  pub no_day : day ≡ None
-  pub unwritten : IsUnwritten sink
-
--- how a call ends that works windows in this way, by its fault, for the command line that it takes the words for, if any
-abbrev pub CallEnds : {D : Type 0} → (Setting → WindowText → WindowRecord → (ℕ → ℕ) → Type 0) → Shown D → Option CommandLine → Reads → Writes → Option (Day D) → Option Fault → Type 0
-CallEnds works shown line source sink day None = DayIsPlayed works shown line source sink day None
-CallEnds works shown line source sink day (Some (Refuses fault)) = EndsBefore line sink day × IsRefused source fault
-CallEnds works shown line source sink day (Some Words) = (line ≡ None) × IsUnread source × (day ≡ None) × IsUnwritten sink
-CallEnds works shown line source sink day (Some Read) = EndsBefore line sink day × InputFails source
-CallEnds works shown line source sink day (Some Write) = DayIsPlayed works shown line source sink day (Some Write)
-CallEnds works shown line source sink day (Some Memory) = ((day ≡ None) × IsUnwritten sink × InputIsStarved source) ⊎ DayIsPlayed works shown line source sink day (Some Memory)
-CallEnds works shown line source sink day (Some (Later spot)) = CommandIsLater line spot source sink day
-CallEnds works shown line source sink day (Some (Check window place name)) = ⊥
-
--- a whole day was handed back, and each of its devices was probed as often as the windows of the script say together; the script is the one that was read, where the source tells its bytes. Where it does not, the same follows of the script of CallEnds, from the probes of each window
-pub record IsProbedInAll {D : Type 0} (probes : D → ℕ) (source : Reads) (o : Option (Day D)) : Type 0 where
-  pub script : Script
-  pub read : IsRead source script
-  pub day : Day D
-  pub given : o ≡ Some day
-  pub devices : Listed D
-  pub there : day.devices ≡ Some devices
-  pub probed : (d : ℕ) (device : D) → slice_get devices.items d ≡ Some device → probes device ≡ sum_by (λ window. window.probes) script.windows.items

@@ -4,6 +4,10 @@ pub mod Played
 pub mod Statuses
 pub mod FaultTexts
 pub mod CommandsTaken
+pub mod Divisions
 pub mod Finishes
+pub mod Checks
+pub mod Trials
+pub mod Calls
 pub mod Pieces
 pub mod Going

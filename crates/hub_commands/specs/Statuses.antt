@@ -1,5 +1,5 @@
 -- The status with which the program ends.
-use Rattle.hub_commands.specs.declared.faults.Fault.TheVariants.{Check, Later, Memory, Read, Script, Words, Write}
+use Rattle.hub_commands.specs.declared.faults.Fault.TheVariants.{Check, Memory, Read, Script, Words, Write}
 use Rattle.hub_commands.specs.declared.faults.Fault.{Fault}
 use Rattle.std.specs.Prelude.{None, Option, Some, ℕ}
 
@@ -9,7 +9,6 @@ fault_status Words = 2
 fault_status Read = 3
 fault_status Write = 4
 fault_status Memory = 5
-fault_status (Later spot) = 8
 fault_status (Check window place name) = 7
 
 -- 0 where there is no fault

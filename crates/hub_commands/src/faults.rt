@@ -1,8 +1,9 @@
 ghost use Rattle.std.specs.Prelude.{◌≡◌};
 ghost use Rattle.hub_commands.specs.Statuses.{fault_status};
 
-use home_types::{DeviceNo, RunNo, Text};
-use routine_reader::{ReadFault, Spot};
+use home_types::Text;
+use order_checker::Place;
+use routine_reader::ReadFault;
 use std::fmt;
 
 /// Why the program ends with another status than 0. docs/FORMATS.md has the texts.
@@ -18,32 +19,20 @@ pub enum Fault {
     Write,
     /// Want of memory.
     Memory,
-    /// The command is not built yet: the place is the top.
-    Later(Spot),
     /// The record does not agree with the serial execution of its orders.
     Check {
-        /// The window, from 1; 0 for the head.
+        /// The window, from 1; 0 for the head, and the number of windows for the total.
         window: u32,
+        /// The first thing that is not as it should be.
         place: Place,
         /// The name of the device in `place`, empty where there is none.
         name: Text,
     },
 }
 
-/// A place in a record.
-#[derive(Clone, Copy, Debug, PartialEq, Eq)]
-pub enum Place {
-    Head,
-    Window,
-    Run(RunNo),
-    /// An item of the order line, from 1; 0 for the line itself.
-    Order(u32),
-    /// A command's answer; the command counts from 0, and from 1 where it is printed.
-    Answer(RunNo, u32),
-    Home,
-    Device(DeviceNo),
-    Total,
-}
+/// A place in a record, as it is printed.
+#[derive(Clone, Copy)]
+struct Printed(Place);
 
 impl Fault {
     /// The status with which the program ends.
@@ -56,7 +45,6 @@ impl Fault {
             Fault::Read => 3,
             Fault::Write => 4,
             Fault::Memory => 5,
-            Fault::Later(_) => 8,
             Fault::Check { .. } => 7,
         }
     }
@@ -74,26 +62,27 @@ impl fmt::Display for Fault {
             Fault::Read => write!(f, "read"),
             Fault::Write => write!(f, "write"),
             Fault::Memory => write!(f, "memory"),
-            Fault::Later(spot) => write!(f, "later {spot}"),
             Fault::Check {
                 window,
                 place: Place::Device(_),
                 name,
             } => write!(f, "check: window {window} device {}", name.as_str()),
-            Fault::Check { window, place, .. } => write!(f, "check: window {window} {place}"),
+            Fault::Check { window, place, .. } => {
+                write!(f, "check: window {window} {}", Printed(*place))
+            }
         }
     }
 }
 
-impl fmt::Display for Place {
+impl fmt::Display for Printed {
     ghost use Rattle.hub_commands.specs.FaultTexts.{place_text};
     ghost use Rattle.std.specs.Prelude.{Some};
 
-    ghost output = { λ place. Some (place_text place) };
+    ghost output = { λ printed. Some (place_text printed.0) };
 
     /// Writes a device by its number, since its name stands beside the place.
     fn fmt<W: fmt::Write>(&self, f: &mut fmt::Formatter<W>) -> fmt::Result {
-        match self {
+        match &self.0 {
             Place::Head => write!(f, "head"),
             Place::Window => write!(f, "window"),
             Place::Run(run) => write!(f, "run {}", run.0),

@@ -1,19 +1,23 @@
 // The commands of the program: each takes words, a source and a sink, and answers how it ended.
 #![tactic(auto)]
 
+mod checks;
 mod days;
+mod divisions;
 mod faults;
 mod finishes;
 mod inputs;
 mod pieces;
 mod plays;
+mod replays;
 mod runs;
 mod stills;
 #[cfg(test)]
 mod tests;
+mod trials;
 mod ways;
 
-pub use faults::{Fault, Place};
+pub use faults::Fault;
 pub use finishes::{Day, Finish};
 pub use runs::run_command;
 pub use stills::still_command;

@@ -1,7 +1,8 @@
 ghost use Rattle.std.specs.Prelude.{◌≡◌, ◌<◌, Err, IfErr, IfOk, IsTrue, None, Some, false, length, map, string_bytes};
 ghost use Rattle.hub_commands.specs.CommandsTaken.{run_line_of};
 ghost use Rattle.hub_commands.specs.Days.{IsUnderWay};
-ghost use Rattle.hub_commands.specs.Finishes.{CallEnds, DayEnds, IsProbedInAll, read_off, shown_by, written};
+ghost use Rattle.hub_commands.specs.Calls.{CallEnds, IsProbedInAll};
+ghost use Rattle.hub_commands.specs.Finishes.{DayEnds, read_off, shown_by, written};
 ghost use Rattle.hub_commands.specs.Played.{HasGoneOn, IsWorkedAs};
 ghost use Rattle.hub_commands.specs.Statuses.{status_of};
 ghost use Rattle.hub_commands.specs.Ways.{IsRunWithin};

@@ -1,0 +1,40 @@
+use Rattle.hub_commands.proofs.NextWindows.{next_is}
+use Rattle.hub_commands.proofs.replays.replay_day.Goals as goal
+use Rattle.hub_commands.specs.Finishes.{shown_by}
+use Rattle.hub_commands.specs.Ways.{IsReplayOf}
+use Rattle.std.proofs.Common.{arith, length, ◌≡◌}
+
+pub returns-in-Err-go_on-clause-status : goal.returns-in-Err-go_on-clause-status
+returns-in-Err-go_on-clause-status g c =
+    let D = g.B.Dev.Device in
+    let K = g.K.Sink in
+    (c.in-Err-go_on.ensures (K.holds c.args.sink.now) (K.faults c.args.sink.now) c.windows.day.home c.windows.day.windows.items c.windows.invariant.going
+    (next_is IsReplayOf (shown_by D.tag D.plan D.stands D.turns D.probes D.faults) c.args.script.now c.args.options.mode c.windows.day.windows.items c.replay_next-next.result c.replay_next-next.ensures.played c.replay_next-next.ensures.starved)).0
+
+pub returns-in-Err-go_on-clause-ends : goal.returns-in-Err-go_on-clause-ends
+returns-in-Err-go_on-clause-ends g c =
+    let D = g.B.Dev.Device in
+    let K = g.K.Sink in
+    (c.in-Err-go_on.ensures (K.holds c.args.sink.now) (K.faults c.args.sink.now) c.windows.day.home c.windows.day.windows.items c.windows.invariant.going
+    (next_is IsReplayOf (shown_by D.tag D.plan D.stands D.turns D.probes D.faults) c.args.script.now c.args.options.mode c.windows.day.windows.items c.replay_next-next.result c.replay_next-next.ensures.played c.replay_next-next.ensures.starved)).1
+
+pub windows-preserved : goal.windows-preserved
+windows-preserved g c =
+    let D = g.B.Dev.Device in
+    let K = g.K.Sink in
+    let on = c.in-Ok-go_on.ensures (K.holds c.args.sink.now) (K.faults c.args.sink.now) c.windows.day.home c.windows.day.windows.items c.windows.invariant.going
+    (next_is IsReplayOf (shown_by D.tag D.plan D.stands D.turns D.probes D.faults) c.args.script.now c.args.options.mode c.windows.day.windows.items c.replay_next-next.result c.replay_next-next.ensures.played c.replay_next-next.ensures.starved) in
+    let counted = c.windows.invariant.counted in
+    let more = on.0 in
+    record { counted = omega (arith, counted, more); going = on.1 }
+
+pub returns-clause-ends : goal.returns-clause-ends
+returns-clause-ends g c =
+    let D = g.B.Dev.Device in
+    let K = g.K.Sink in
+    let counted = c.windows.invariant.counted in
+    let at_end = c.windows-test.false in
+    let end = c.len-end.ensures in
+    let within = c.windows.invariant.going.under_way.played.count in
+    let all : length c.windows.day.windows.items ≡ length c.args.script.now.windows.items = omega (arith, counted, at_end, end, within) in
+    c.end.ensures.ends (K.holds c.args.sink.now) (K.faults c.args.sink.now) c.windows.invariant.going all

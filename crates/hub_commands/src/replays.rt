@@ -1,0 +1,103 @@
+//! The replay of a script's day.
+ghost use Rattle.std.specs.Prelude.{◌≡◌, ◌<◌, Err, IfErr, IfOk, IsTrue, length};
+ghost use Rattle.hub_commands.specs.Days.{IsUnderWay};
+ghost use Rattle.hub_commands.specs.Finishes.{DayEnds, shown_by, written};
+ghost use Rattle.hub_commands.specs.Played.{HasGoneOn, IsWorkedAs};
+ghost use Rattle.hub_commands.specs.Statuses.{status_of};
+ghost use Rattle.hub_commands.specs.Ways.{IsReplayOf};
+ghost use Rattle.hub_core.specs.OpenHubs.{configuration_of};
+ghost use Rattle.hub_core.specs.Openings.{is_mode};
+ghost use Rattle.hub_core.specs.Steps.{opened};
+ghost use Rattle.routine_reader.specs.Scripts.{plain_script};
+ghost use Rattle.routine_reader.specs.Sound.{IsSound};
+
+use crate::days::{begin, end, go_on};
+use crate::finishes::Finish;
+use crate::plays::{DayUnderWay, close_next, open_next};
+use crate::ways::StepByStep;
+use command_words::Options;
+use day_clock::Sink;
+use device_states::{Bench, Device};
+use history_book::WindowRecord;
+use home_types::{List, Mode, NoMemory};
+use hub_core::{Home, Hub};
+use routine_reader::{Script, WindowText};
+use run_replay::replay_window;
+use std::alloc::Global;
+
+/// Replays the window of this text, which was just opened. Where memory is wanted the hub is dropped.
+fn replay_opened<D: Device>(
+    alloc: Global,
+    hub: Hub<D>,
+    window: &WindowText,
+) -> Result<(Home<D>, WindowRecord), NoMemory>
+    requires fresh { configuration_of hub ≡ opened hub.setting hub.rounds }
+    requires rounds { hub.rounds ≡ window.now.probes }
+    ensures { IfOk result (λ done. IsWorkedAs IsReplayOf D.tag D.plan D.turns D.probes D.faults hub window.now done.0 done.1) }
+{
+    let turns = window.turns.as_slice();
+    match replay_window(alloc, hub, turns, window.seed, window.probes) {
+        Ok(done) => Ok(done),
+        Err((_, NoMemory)) => Err(NoMemory),
+    }
+}
+
+/// Replays the next window of the script, by its turns and its seed.
+///
+/// Where memory is wanted the records of the windows before come back; the home is dropped.
+fn replay_next<D: Device>(
+    alloc: Global,
+    script: &Script,
+    mode: Mode,
+    day: DayUnderWay<D>,
+) -> Result<DayUnderWay<D>, List<WindowRecord>>
+    requires sound { IsSound (plain_script script.now) }
+    requires goes { IsTrue (is_mode mode) }
+    requires next { length day.windows.items < length script.now.windows.items }
+    requires under_way { IsUnderWay IsReplayOf D.tag D.plan D.stands D.turns D.probes D.faults script.now mode day.home day.windows.items }
+    ensures played { IfOk result (λ next. HasGoneOn IsReplayOf D.tag D.plan D.stands D.turns D.probes D.faults script.now mode day.windows.items next.home next.windows.items) }
+    ensures starved { IfErr result (λ windows. windows.items ≡ day.windows.items) }
+{
+    let (hub, windows) = match open_next(alloc, script, mode, day) {
+        Ok(opened) => opened,
+        Err(windows) => return Err(windows),
+    };
+    let number = windows.len() as usize;
+    let window = &script.windows.as_slice()[number];
+    match replay_opened(alloc, hub, window) {
+        Ok(done) => Ok(close_next(windows, done.0, done.1)),
+        Err(NoMemory) => Err(windows),
+    }
+}
+
+/// Replays the script's day on devices of the bench, and writes its record: the head, each window as it closes, and the
+/// total.
+pub fn replay_day<K: Sink, B: Bench>(
+    alloc: Global,
+    script: &Script,
+    options: Options,
+    sink: &mut K,
+    bench: &mut B,
+) -> Finish<B::Dev>
+    requires sound { IsSound (plain_script script.now) }
+    requires goes { IsTrue (is_mode options.mode) }
+    ensures status { result.status ≡ status_of result.fault }
+    ensures ends { DayEnds IsReplayOf
+        (shown_by B.Dev.tag B.Dev.plan B.Dev.stands B.Dev.turns B.Dev.probes B.Dev.faults)
+        script.now options
+        (written (K.holds sink.old) (K.holds sink.new) (K.faults sink.old) (K.faults sink.new))
+        result.day result.fault }
+{
+    let mut day = match begin(&StepByStep, alloc, script, options, sink, bench) {
+        Ok(day) => day,
+        Err(finish) => return finish,
+    };
+    'windows: for _ in 0..script.windows.len() {
+        let next = replay_next(alloc, script, options.mode, day);
+        day = match go_on(&StepByStep, alloc, script, options, next, sink) {
+            Ok(day) => day,
+            Err(finish) => return finish,
+        };
+    }
+    end(&StepByStep, alloc, script, options, day, sink)
+}
