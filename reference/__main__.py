@@ -1,13 +1,11 @@
 """Does what the program does with the same words and the same input, and ends with the same status.
 
-    python3 -m reference [--whole] replay --model ev < script
-
-With `--whole` it also does what the program of this stage does not do yet.
+    python3 -m reference replay --model ev < script
 """
 import os
 import sys
 
-from reference.calls import LATER, Call
+from reference.calls import Call
 
 
 class StandardSource:
@@ -21,10 +19,7 @@ class StandardSink:
 
 
 def main():
-    words, later = sys.argv[1:], LATER
-    if words[:1] == ["--whole"]:
-        words, later = words[1:], ()
-    call = Call(words, StandardSource(), StandardSink(), later)
+    call = Call(sys.argv[1:], StandardSource(), StandardSink())
     if call.line is not None:
         print(call.line, file=sys.stderr)
     sys.exit(call.status)

@@ -9,7 +9,6 @@ from reference.replay import Home
 from reference.script import LIMITS, Refusal, read_script
 from reference.words import read_words
 
-LATER = ("check", "trial")  # what the program of this stage does not do: it ends with 8
 PIECE = 4096
 MOST_CHECKED = 67_108_864  # bytes of a script and its record
 
@@ -85,8 +84,8 @@ def read(data):
 class Call:
     """A call that was made: its status, its line, and the records of its windows where it came to a day."""
 
-    def __init__(self, words, source, sink, later=LATER):
-        self.source, self.sink, self.later = source, sink, later
+    def __init__(self, words, source, sink):
+        self.source, self.sink = source, sink
         self.records = self.script = None
         self.status, self.line = 0, None
         try:
@@ -98,8 +97,6 @@ class Call:
         asked = read_words(words)
         if asked is None:
             raise Fault(2, "words")
-        if asked.command in self.later:
-            raise Fault(8, "later top")
         match asked.command:
             case "check":
                 self.check()

@@ -4,10 +4,10 @@
     python3 reference/compare.py [--days N] [--seed S] [--program COMMAND | --cases FOLDER]
 
 By default 1000 days of the seed 1, and crates/hub_main/out/hub_main, which `rt run` and `rt ci` build there. Each day is
-replayed with its trace, in one mode after another; every fourth script is spoiled first, so that it is refused as a rule; and,
-where the program checks records, that of every fourth day is checked, half of these with one word changed. Standard output,
-standard error and the status must be the same, byte for byte. Prints the first call that differs, with its script made as
-short as it still differs, and ends with 1.
+replayed with its trace, in one mode after another; every fourth script is spoiled first, so that it is refused as a rule; and
+the record of every fourth day is checked, half of these with one word changed. Standard output, standard error and the status
+must be the same, byte for byte. Prints the first call that differs, with its script made as short as it still differs, and
+ends with 1.
 
 With `--cases` nothing is played: the calls are written as cases into the folder, which is made. Before the program is proved
 and built, `rt try --cases FOLDER` in crates/hub_main plays them and compares standard output.
@@ -28,7 +28,7 @@ HERE = os.path.dirname(os.path.abspath(__file__))
 sys.path.insert(0, os.path.join(HERE, ".."))
 
 from reference import days
-from reference.calls import LATER, BytesSink, BytesSource, Call
+from reference.calls import BytesSink, BytesSource, Call
 
 PROGRAM = os.path.join(HERE, "..", "crates", "hub_main", "out", "hub_main")
 MODES = [("ev", "fcfs"), ("psv", "fcfs"), ("ev", "jit"), ("gsv", "fcfs"), ("wv", "fcfs"), ("ev", "timeline")]
@@ -121,7 +121,7 @@ def calls_of(draw, k):
         return
     data = json.dumps(script).encode()
     yield words, data, script
-    if k % 2 and "check" not in LATER:
+    if k % 2:
         record = wanted(words, data)[1].decode()
         record = days.damaged(draw, record) if k % 8 == 1 else record
         yield ["check"], data + b"\n%%\n" + record.encode(), None

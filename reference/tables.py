@@ -1,16 +1,19 @@
 #!/usr/bin/env python3
 """Makes the expected outputs of the stored tables anew from their stored inputs, and compares them with what is stored.
 
-    python3 reference/tables.py [--write] [TABLE ..]     all, or script_table, day_table, step_table, examples
+    python3 reference/tables.py [--write] [TABLE ..]     all, or script_table, check_table, day_table, step_table,
+                                                     examples, agree
     python3 reference/tables.py cases                    prints the lines of day_table's input for the examples
     python3 reference/tables.py case NAME WORD .. < script    .. for this call
 
-With `--write` the outputs take the place of the stored ones. Prints a line for each table, and of a table that differs the
+With `--write` the outputs take the place of the stored ones. `agree` judges every record that is stored, in a table or an
+example, by the check of records, but for those of the weak model, which claim no order. Prints a line for each table, and of a table that differs the
 first line that does; ends with 1 where one differs.
 
 An example is `examples/NAME.words`, the words of a call and its script, with its record beside it, `NAME.record`, and, where
 it is traced, its picture, docs/pictures/NAME.svg.
 """
+import collections
 import dataclasses
 import itertools
 import os
@@ -23,13 +26,15 @@ PICTURES = os.path.join(HERE, "..", "docs", "pictures")
 sys.path.insert(0, os.path.join(HERE, ".."))
 
 from reference.calls import BytesSink, BytesSource, Call
+from reference.check import Differs, check_record
 from reference.devices import Grip
 from reference.history import Mode
 from reference.hub import WAITS, Stranger
-from reference.record import window_text
+from reference.record import head_text, window_text
 from reference.replay import Draws, Home, Player
 from reference.script import Refusal, read_script
 from reference.serial import DOWN, FINE, Refused, execute_serially
+from reference.words import read_words
 from tools.picture import picture_of
 
 ROOM = 1 << 20  # bytes of a sink, where a case does not say
@@ -67,6 +72,37 @@ def window_part(window):
 
 def script_table(data):
     return "".join(f"{script_line(line)}\n" for line in data.split(b"\n")).encode() + b"memory\n"
+
+
+# check_table: a verb a line, a record a case
+
+def verdict(script, record):
+    try:
+        check_record(script, record)
+    except Differs as differs:
+        return str(differs)
+    return "agrees"
+
+
+def check_table(data):
+    out, script, name, record = [], None, "", b""
+    for line in data.decode().split("\n"):
+        verb, _, rest = line.partition(" ")
+        match verb:
+            case "script":
+                script = read_script(rest.encode())
+            case "case":
+                name = rest
+            case "line":
+                record += rest.encode() + b"\n"
+            case "text":
+                record += rest.encode()
+            case "byte":
+                record += bytes([int(rest)])
+            case "run":
+                out.append(f"{name} {verdict(script, record)}\n")
+                name, record = "", b""
+    return "".join(out).encode()
 
 
 # day_table: a verb a line, a call a case
@@ -325,9 +361,78 @@ def compare_example(name, call, write):
     return same
 
 
+# The records that are stored
+
+def stored_calls():
+    """The words, the input and the record of each call of day_table."""
+    outcomes, case = read_file(CRATES, "day_table", "stdout"), Case()
+    for line in read_file(CRATES, "day_table", "stdin").decode().split("\n"):
+        verb, _, rest = line.partition(" ")
+        if line == "run":
+            told, _, outcomes = outcomes.partition(b"\nrecord ")
+            size, _, outcomes = outcomes.partition(b"\n")
+            record, outcomes = outcomes[: int(size)], outcomes[int(size) + 1 :]
+            if b"\nstatus 0\n" in told:
+                yield case.words, bytes(case.data), record
+            case = Case()
+        else:
+            case.add(verb, rest)
+
+
+def stored_windows():
+    """The words, the script and the text of each window that step_table closes. Those of a row stand behind its name."""
+    told = read_file(CRATES, "step_table", "stdout").decode().split("\n")
+    rows = [row for row in read_file(CRATES, "step_table", "stdin").decode().split("\n") if row]
+    begins, at = [], 0
+    for row in rows:
+        begins.append(at := told.index(row.split(" | ")[0], at))
+        at += 1
+    for row, begin, end in zip(rows, begins, [*begins[1:], len(told)]):
+        lines, (first, second) = told[begin:end], row.split(" | ")[1].split(" ")
+        for k, line in enumerate(lines):
+            if line.startswith("window 1 "):
+                home = next(h for h in range(k, len(lines)) if lines[h].startswith("home "))
+                yield Mode(first, second), row.split(" | ", 3)[3], lines[k : home + 1]
+
+
+def record_of_window(mode, lines):
+    """The record of a day of this window alone."""
+    runs = [line.split(" ")[3] for line in lines if line.startswith("run ")]
+    done = runs.count("committed")
+    total = f"total windows 1 runs {len(runs)} committed {done} aborted {len(runs) - done}\n"
+    return (head_text(mode) + "".join(f"{line}\n" for line in lines) + total).encode()
+
+
+def stored_records():
+    """Where it is stored, its model, its script and its text, of each whole record and each window."""
+    for words, data, record in stored_calls():
+        asked = read_words(words)
+        if asked and asked.command == "replay":
+            yield "day_table", asked.mode.model, read_script(data), record
+    for mode, text, lines in stored_windows():
+        script = read_script(text.encode())
+        yield "step_table", mode.model, script._replace(windows=script.windows[:1]), record_of_window(mode, lines)
+    for name, words, data in examples():
+        yield "examples", read_words(words).mode.model, read_script(data), read_file(EXAMPLES, f"{name}.record")
+
+
+def agree():
+    """Whether each record agrees, but for those of the weak model, whose head promises no order."""
+    counts, same = collections.Counter(), True
+    for place, model, script, record in stored_records():
+        told, wanted = verdict(script, record), "window 0 head" if model == "wv" else "agrees"
+        counts[place, wanted] += 1
+        if told != wanted:
+            same = False
+            print(f"{place}: {told}, not {wanted}:\n{record.decode()}")
+    for (place, wanted), count in counts.items():
+        print(f"{place}: {count} records, {wanted}")
+    return same
+
+
 # All tables
 
-TABLES = {"script_table": script_table, "day_table": day_table, "step_table": step_table}
+TABLES = {"script_table": script_table, "check_table": check_table, "day_table": day_table, "step_table": step_table}
 
 
 def read_file(*path):
@@ -360,10 +465,12 @@ def main():
         sys.stdout.write("".join(case_lines(f"example-{name}", *call) for name, *call in examples()))
         return
     write, same = "--write" in words, True
-    for name in [word for word in words if word != "--write"] or [*TABLES, "examples"]:
+    for name in [word for word in words if word != "--write"] or [*TABLES, "examples", "agree"]:
         if name == "examples":
             for example, *call in examples():
                 same &= compare_example(example, call, write)
+        elif name == "agree":
+            same &= agree()
         else:
             anew = TABLES[name](read_file(CRATES, name, "stdin"))
             same &= compare(name, anew, os.path.join(CRATES, name, "stdout"), write)
