@@ -57,7 +57,7 @@ def counted(program, scheduler, script):
         calls = calls_in(out)
     costs = [(int(found[1].replace(",", "")), found[2]) for line in lines
              if (found := re.match(r"\s*([\d,]+)(?: \([ \d.]+%\))?\s+(.*)", line))]
-    whole = next(cost for cost, name in costs if re.search(r"hub_main::run\b", name))
+    whole = next(cost for cost, name in costs if "PROGRAM TOTALS" in name)
     for pattern in PLACINGS:
         spent = [cost for cost, name in costs if re.search(pattern, name)]
         if spent:

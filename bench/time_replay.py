@@ -35,8 +35,8 @@ PROGRAM = os.path.join(HERE, "..", "crates", "hub_main", "out", "hub_main")
 MODES = ["gsv", "psv", "ev", "jit", "timeline"]
 SCHEDULERS = ["jit", "timeline"]
 CALLS = {
-    "whole": r"hub_main::run\b",
-    "day": r"hub_commands::stills::replay\b",
+    "whole": r"hub_main::main\b",
+    "day": r"hub_commands::replays::replay_(day|next)\b",
     # the compiler may have put the replay of a window into its caller: then its picks are what is left of it
     "picks": r"run_replay::(windows::replay_window|players::Player::pick|hands::Hands::pick)\b",
 }
