@@ -13,3 +13,4 @@ pub mod Borrowers
 pub mod ClearPlaces
 pub mod EarliestPlaces
 pub mod TouchCounts
+pub mod FirstRuns

@@ -10,3 +10,4 @@ pub mod Holders
 pub mod Leases
 pub mod Counts
 pub mod FirstPlaces
+pub mod FirstRuns

@@ -2,6 +2,7 @@
 #![tactic(auto)]
 
 mod first_places;
+mod laws;
 mod leases;
 mod standings;
 #[cfg(test)]
@@ -9,6 +10,7 @@ mod tests;
 mod touches;
 
 pub use first_places::first_place;
+pub use laws::first_live_law;
 pub use leases::{deadline, lends, overdue};
 pub use standings::Standing;
 pub use touches::{Touch, first_holder, test_touch};

@@ -1,29 +1,23 @@
 -- Where no device is out and a run has not ended, some run goes on.
-use Rattle.command_rules.specs.Items.{is_ran}
-use Rattle.command_rules.specs.Rosters.{Run, device_no, followed_by, is_run, reads_first, run_no, shares}
+use Rattle.command_rules.specs.Rosters.{device_no, followed_by, is_run, reads_first, run_no}
 use Rattle.history_book.proofs.Searches.{none_is}
 use Rattle.history_book.proofs.Shapes.{Shaped, shapes}
 use Rattle.history_book.proofs.Standing.{standing}
 use Rattle.history_book.specs.Histories.{entries_of}
-use Rattle.history_book.specs.Lines.{before, split_at}
-use Rattle.history_book.specs.Readings.{PlacedAt, Reading, has_written, is_live, next_command, next_of, sees_down}
+use Rattle.history_book.specs.Lines.{split_at}
+use Rattle.history_book.specs.Readings.{PlacedAt, Reading, is_live, next_command, next_of, sees_down}
 use Rattle.history_book.specs.Settings.{Setting, device_numbers, devices_of, is_weak, run_numbers, scheduler_of}
 use Rattle.history_book.specs.declared.entries.Cause.TheVariants.{DownAtEnd}
 use Rattle.history_book.specs.declared.entries.Cause.{Cause}
 use Rattle.history_book.specs.declared.entries.End.{End}
 use Rattle.history_book.specs.declared.entries.End.TheVariants.{Committed}
 use Rattle.history_book.specs.declared.entries.Entry.TheVariants.{Arrived, Doomed, Ended, Undid}
-use Rattle.home_types.specs.Commands.{reads}
 use Rattle.home_types.specs.declared.commands.Command.{Command}
 use Rattle.home_types.specs.declared.items.Item.{Item}
 use Rattle.home_types.specs.declared.items.Item.TheVariants.{Back, Failed, Ran}
-use Rattle.home_types.specs.declared.kinds.Kind.{Kind}
 use Rattle.home_types.specs.declared.modes.Scheduler.TheVariants.{Fcfs, JustInTime, Timeline}
 use Rattle.home_types.specs.declared.modes.Scheduler.{Scheduler}
-use Rattle.home_types.specs.declared.modes.Visibility.{Visibility}
-use Rattle.home_types.specs.declared.modes.Visibility.TheVariants.{Eventual, Global, Partitioned, Weak}
 use Rattle.home_types.specs.declared.numbers.RunNo.{RunNo}
-use Rattle.home_types.specs.declared.worlds.Stand.{Stand}
 use Rattle.hub_core.proofs.kept.Finds.{find_least, none_does}
 use Rattle.hub_core.proofs.kept.Sizes.{run_there, run_within}
 use Rattle.hub_core.proofs.windows.StrongChoices.{command_current, live_stands}
@@ -35,56 +29,18 @@ use Rattle.hub_core.specs.HubKept.{ConfigurationIsKept}
 use Rattle.hub_core.specs.Steps.{Absent, Choice, HandsOut, Moves, Over, Waits, aborts, answers_down, busy_case, choice_of, command_cases, decide, decide_answered, decide_arrived, decide_command, decide_doomed, down_case, down_entries, first_case, not_quiet, only_if, place_choice, undo_cases, undo_on}
 use Rattle.hub_core.specs.declared.refusals.NotQuiet.TheVariants.{StillLive, StillOut}
 use Rattle.hub_core.specs.declared.waits.Why.TheVariants.{Behind, Busy, Dirty, Follow, Strict}
+use Rattle.lock_leasing.proofs.FirstRuns.{first_live, waits_for_none}
 use Rattle.lock_leasing.specs.Configurations.{Commands, Configuration, Grips, Undoes, has_grip, is_out, read_of}
+use Rattle.lock_leasing.specs.FirstRuns.{IsFirstLive, WaitsForNone}
 use Rattle.lock_leasing.specs.Places.{At, Denial, DeniedBy, Placing, at_end, denied_by, first_place, first_some, fits, just_in_time, patience, scheduled_place, timeline}
 use Rattle.lock_leasing.specs.Waits.{behind_wait, busy_wait, dirty_wait, down_at_end, follow_wait, grip_wait, strict_wait}
-use Rattle.lock_leasing.specs.Words.{effective_writer_of, has_effect, holds_device, is_overdue, live_before, live_runs, next_undo_of, value_without}
-use Rattle.std.proofs.Common.{ap, arith, cond, inl, inr, refl, subst, sym, ◌∙◌}
+use Rattle.lock_leasing.specs.Words.{effective_writer_of, holds_device, is_overdue, live_before, live_runs, next_undo_of, value_without}
+use Rattle.std.proofs.Common.{ap, arith, cond, inl, inr, refl, sym, ◌∙◌}
 use Rattle.std.proofs.lemmas.Grind.{common_steps}
-use Rattle.std.proofs.lemmas.List.Sums.{take_while-cons}
-use Rattle.std.specs.List.{cons_option, list_any, range_with_len}
+use Rattle.std.specs.List.{cons_option, range_with_len}
 use Rattle.std.specs.Option.{option_or}
 use Rattle.std.specs.Prelude.{Bool, IsTrue, List, None, Option, Some, [], false, find, if◌then◌else◌, is_none, is_some, length, max, nat_le, nat_lt, not, option_map, take, true, unwrap_or, ℕ, ◌&&◌, ◌+◌, ◌-◌, ◌<◌, ◌==◌, ◌||◌, ◌∷◌, ◌≡◌, ◌≤◌, ◌⊎◌}
 use Rattle.window_order.proofs.WindowEnds.{NoneIsLive}
-
--- The first live run of the line
-
--- a run of the items that is live and stands behind no live run
-pub record IsFirst (n : Reading) (line : List Item) (q : ℕ) : Type 0 where
-  pub live : is_live n q ≡ true
-  pub first : live_runs n (before q line) ≡ []
-
-first_behind : (n : Reading) (i : Item) (line : List Item) (q : ℕ) → is_ran q i ≡ false → live_runs n (i ∷ []) ≡ [] → IsFirst n line q → IsFirst n (i ∷ line) q
-first_behind n i line q other none at = record { live = at.live; first = ap (live_runs n) (take_while-cons (λ y. not (is_ran q y)) i line ∙ ap (λ b. cond (not b) (i ∷ before q line) []) other) ∙ one_more i none }
-  where
-    one_more : (x : Item) → live_runs n (x ∷ []) ≡ [] → live_runs n (x ∷ before q line) ≡ []
-    one_more (Ran x) e = elim (is_live n x.0) as (λ b. cons_option (if b then Some x.0 else None) [] ≡ [] → cons_option (if b then Some x.0 else None) (live_runs n (before q line)) ≡ []) [ true ↦ (λ f. absurd (cc)) | false ↦ (λ f. at.first) ] e
-    one_more (Failed d k) e = at.first
-    one_more (Back d k) e = at.first
-
-pub first_live : (n : Reading) (r : ℕ) (line : List Item) → list_any (is_ran r) line ≡ true → is_live n r ≡ true → (q : ℕ) × IsFirst n line q
-first_live n r [] there live = absurd (cc)
-first_live n r (Ran x ∷ is) there live = elim (is_live n x.0) as (λ b. is_live n x.0 ≡ b → (q : ℕ) × IsFirst n (Ran x ∷ is) q) [
-  | true ↦ (λ e. (x.0, record { live = e; first = ap (live_runs n) (take_while-cons (λ y. not (is_ran x.0 y)) (Ran x) is ∙ ap (λ b. cond (not b) (Ran x ∷ before x.0 is) []) self) }))
-  | false ↦ (λ gone. let rest : (q : ℕ) × IsFirst n is q = first_live n r is (left gone) live in (rest.0, first_behind n (Ran x) is rest.0 (apart rest.0 gone rest.1.live) (none gone) rest.1))
-] refl
-  where
-    self : (x.0 == x.0) ≡ true
-    self = grind (arith, common_steps)
-
-    apart : (q : ℕ) → is_live n x.0 ≡ false → is_live n q ≡ true → (x.0 == q) ≡ false
-    apart q gone now = elim (x.0 == q) as (λ b. (x.0 == q) ≡ b → b ≡ false) [
-      | true ↦ (λ e. absurd (let same : x.0 ≡ q = grind (arith, common_steps) in let both : true ≡ false = sym now ∙ subst (λ y. is_live n y ≡ false) same gone in cc))
-      | false ↦ (λ e. refl)
-    ] refl
-
-    left : is_live n x.0 ≡ false → list_any (is_ran r) is ≡ true
-    left gone = let other : (x.0 == r) ≡ false = apart r gone live in grind (arith, common_steps)
-
-    none : is_live n x.0 ≡ false → live_runs n (Ran x ∷ []) ≡ []
-    none gone = ap (λ b. cons_option (if b then Some x.0 else None) []) gone
-first_live n r (Failed d k ∷ is) there live = let rest : (q : ℕ) × IsFirst n is q = first_live n r is there live in (rest.0, first_behind n (Failed d k) is rest.0 refl refl rest.1)
-first_live n r (Back d k ∷ is) there live = let rest : (q : ℕ) × IsFirst n is q = first_live n r is there live in (rest.0, first_behind n (Back d k) is rest.0 refl refl rest.1)
 
 -- Where no run is live
 
@@ -194,14 +150,6 @@ none_found p (x ∷ xs) none = ap (λ b. cond b (Some x) (find p xs)) (none x) �
 home_free : (w : Setting) (g : Grips) (r : ℕ) → ((d : ℕ) → g d ≡ None) → grip_wait w g r ≡ None
 home_free w g r home = none_found (has_grip g r) (device_numbers w) (λ d. ap (λ o. unwrap_or (option_map (λ p. p.maker == r) o) false) (home d))
 
--- a run that stands behind no live run waits for none by its model
-waits_for_none : (runs : List Run) (kinds : List Kind) (first : List Stand) (model : Visibility) (scheduler : Scheduler) (n : Reading) (r : ℕ) → live_before n r ≡ []
-    → strict_wait (record { runs = runs; mode = record { model = model; scheduler = scheduler }; kinds = kinds; first = first }) n r ≡ None
-waits_for_none runs kinds first Weak scheduler n r none = refl
-waits_for_none runs kinds first Global scheduler n r none = ap (λ xs. find (λ x. true) xs) none
-waits_for_none runs kinds first Partitioned scheduler n r none = ap (λ xs. find (λ x. shares runs x r) xs) none
-waits_for_none runs kinds first Eventual scheduler n r none = refl
-
 -- with its devices home a doomed run is undone or ends
 doomed_goes : (w : Setting) (n : Reading) (g : Grips) (r : ℕ) (cause : Cause) → ((d : ℕ) → g d ≡ None) → is_wait (decide_doomed w n g r cause) ≡ false
 doomed_goes w n g r cause home = by_model (is_weak w.mode)
@@ -229,13 +177,6 @@ command_goes w n g r m k c first home = elim (is_weak w.mode) as (λ b. is_weak 
   | false ↦ (λ strong. in_front (first strong))
 ] refl
   where
-    none_there : Option ℕ
-    none_there = None
-
-    either : (b : Bool) → (if b then none_there else none_there) ≡ None
-    either true = refl
-    either false = refl
-
     never : (b : Bool) → (b && false) ≡ false
     never true = refl
     never false = refl
@@ -251,11 +192,12 @@ command_goes w n g r m k c first home = elim (is_weak w.mode) as (λ b. is_weak 
 
     in_front : live_before n r ≡ [] → is_wait (strong_command w n g r m k c) ≡ false
     in_front none =
-        let behind' : behind_wait w n g r c.device.0 ≡ None = ap (λ xs. find (λ x. holds_device w n g x c.device.0) xs) none in
-        let clean : dirty_wait w n g r c ≡ None = ap (λ xs. if reads c.job && not (sees_down n r c.device.0) && not (has_written n r c.device.0) then find (λ x. has_effect n g x c.device.0) xs else None) none ∙ either (reads c.job && not (sees_down n r c.device.0) && not (has_written n r c.device.0)) in
-        let alone : strict_wait w n r ≡ None = waits_for_none w.runs w.kinds w.first w.mode.model w.mode.scheduler n r none in
+        let alone : WaitsForNone w n g r = waits_for_none w n g r none in
+        let behind' : behind_wait w n g r c.device.0 ≡ None = alone.behind c.device.0 in
+        let clean : dirty_wait w n g r c ≡ None = alone.dirty c in
+        let free : strict_wait w n r ≡ None = alone.strict in
         ap is_wait (command_current w n g r m k c (ap (find (is_overdue w n g r c.device.0 m)) none))
-        ∙ (λ i. is_wait (first_case (option_map (λ x. Waits (Behind c.device (run_no x))) (behind' i) ∷ option_map (λ x. Waits (Dirty c.device (run_no x))) (clean i) ∷ option_map (λ x. Waits (Strict (run_no x))) (alone i) ∷ busy_case w n g r c ∷ down_case w n r k c ∷ []) (HandsOut c.device.0 (Commands k))))
+        ∙ (λ i. is_wait (first_case (option_map (λ x. Waits (Behind c.device (run_no x))) (behind' i) ∷ option_map (λ x. Waits (Dirty c.device (run_no x))) (clean i) ∷ option_map (λ x. Waits (Strict (run_no x))) (free i) ∷ busy_case w n g r c ∷ down_case w n r k c ∷ []) (HandsOut c.device.0 (Commands k))))
         ∙ unbarred
 
 -- with its devices home a run goes on: it arrives; it is placed, where it waits for no run that it follows and is denied no device; or, in a model with an order where it stands behind no live run, it acts
@@ -305,7 +247,7 @@ some_run_moves s rounds opened held r kept home run going = by_live (find (is_li
     unplaced_is (Some x) e f = absurd (cc)
 
     -- the first live run of the line
-    from_line : (q : ℕ) × IsFirst n n.line q → (q : ℕ) × (is_run w.runs q ≡ true) × ((n.run q).ended ≡ None) × ((m : ℕ) → is_wait (choice_of s q m) ≡ false)
+    from_line : (q : ℕ) × IsFirstLive n n.line q → (q : ℕ) × (is_run w.runs q ≡ true) × ((n.run q).ended ≡ None) × ((m : ℕ) → is_wait (choice_of s q m) ≡ false)
     from_line at = (q, live_run w n q shaped at.1.live, none_is (n.run q).ended unended, λ m. run_goes w n s.grips q (max s.moment m) home (λ unplaced. absurd (unplaced_is (n.run q).placed unplaced begun)) (λ placed strong. at.1.first))
       where
         q : ℕ
