@@ -15,11 +15,11 @@ use Rattle.lock_leasing.specs.Places.{GripsFit}
 use Rattle.run_replay.proofs.Holding.{Gives, gives_keeps, gives_plans}
 use Rattle.hub_core.proofs.steps.HubAnswers.{gave_back, never_refused}
 use Rattle.run_replay.proofs.Making.{give_makes}
-use Rattle.run_replay.proofs.Picking.{acted_is_picked, full_is, met}
+use Rattle.run_replay.proofs.Picking.{acted_is_stepped, full_is, met}
 use Rattle.run_replay.proofs.Stepping.{gave_fewer}
 use Rattle.run_replay.proofs.Taking.{grown, stays_by}
 use Rattle.run_replay.specs.Players.{HavePlans, PlayerIsKept, PlayerState, is_ended, is_full, most_made, play_of, steps_left}
-use Rattle.run_replay.specs.Playing.{IsPicked}
+use Rattle.run_replay.specs.Playing.{IsStepped}
 use Rattle.run_replay.specs.Replays.{Made, takes_of}
 use Rattle.std.proofs.Common.{ap, arith, refl, subst, sym, ◌∙◌}
 use Rattle.std.proofs.lemmas.Grind.{common_steps}
@@ -65,6 +65,7 @@ pub record IsGivenBack {D : Type 0} (s t : PlayerState D) (a : ℕ) (grip : Grip
   pub grips : t.grips ≡ slice_set s.grips a None
   pub rounds : t.rounds ≡ s.rounds
   pub place : t.place ≡ s.place
+  pub moves : t.moves ≡ s.moves
   pub low : grip_takes s.hub.setting ((configuration_of s.hub).grips grip.slip.device.0) < 2 ^ 32
   pub moment : at ≡ s.hub.moment + grip_takes s.hub.setting ((configuration_of s.hub).grips grip.slip.device.0)
 
@@ -100,11 +101,11 @@ now_is s t a grip done entries by = ap (λ (c : Configuration). c.moment) (entri
 moment_is : {D : Type 0} (s t : PlayerState D) (a acts : ℕ) (grip : Gripped D Ready) (done : Gripped D Done) (entries : List Entry) → IsGivenBack s t a grip done entries → t.hub.moment ≡ s.hub.moment + takes_of (play_of s acts) (record { maker = a; purpose = purpose_at s grip })
 moment_is s t a acts grip done entries by = now_is s t a grip done entries by ∙ by.moment ∙ ap (λ o. s.hub.moment + grip_takes s.hub.setting o) (out_of_hand s a grip by.is.kept by.is.hand) ∙ ap (λ n. s.hub.moment + n) (takes_same s a acts (purpose_at s grip))
 
-pub given_picked : {D : Type 0} (s t : PlayerState D) (a acts : ℕ) (grip : Gripped D Ready) (done : Gripped D Done) (entries : List Entry) → IsGivenBack s t a grip done entries → IsPicked s.rounds a (play_of s acts) (Made entries) (play_of t (acts + 1))
-given_picked s t a acts grip done entries by =
+pub given_stepped : {D : Type 0} (s t : PlayerState D) (a acts : ℕ) (grip : Gripped D Ready) (done : Gripped D Done) (entries : List Entry) → IsGivenBack s t a grip done entries → IsStepped s.rounds a (play_of s acts) (Made entries) (play_of t (acts + 1))
+given_stepped s t a acts grip done entries by =
     let two = entries_are s t a grip done entries by in
-    acted_is_picked s t a acts grip (purpose_at s grip) done.stage.told entries by.is.kept by.is.size by.is.going by.is.hand (out_of_hand s a grip by.is.kept by.is.hand) (moment_is s t a acts grip done entries by) two.0
-    (two.1 ∙ ap (λ c. after_give c grip.slip.device.0 (record { maker = a; purpose = purpose_at s grip }) done.stage.told) (ap (at_moment (configuration_of s.hub)) (sym (now_is s t a grip done entries by)) ∙ sym (met_run (configuration_of s.hub) a t.hub.moment by.is.run))) by.place
+    acted_is_stepped s t a acts grip (purpose_at s grip) done.stage.told entries by.is.kept by.is.size by.is.hand (out_of_hand s a grip by.is.kept by.is.hand) (moment_is s t a acts grip done entries by) two.0
+    (two.1 ∙ ap (λ c. after_give c grip.slip.device.0 (record { maker = a; purpose = purpose_at s grip }) done.stage.told) (ap (at_moment (configuration_of s.hub)) (sym (now_is s t a grip done entries by)) ∙ sym (met_run (configuration_of s.hub) a t.hub.moment by.is.run))) by.place by.moves
 
 -- a run's grip is for a command or an undo
 pub runs_purpose : {D : Type 0} (s : PlayerState D) (a d : ℕ) (purpose : Purpose) → 0 < a → GripsFit s.hub.setting (read_of (configuration_of s.hub)) (configuration_of s.hub).grips → (configuration_of s.hub).grips d ≡ Some (record { maker = a; purpose = purpose }) → (is_command purpose || is_undo purpose) ≡ true
@@ -136,8 +137,8 @@ given_keeps s t a grip done entries by = gives_keeps s t a grip done.device (giv
 
 -- The same of the player as callers see it
 
-pub given_picked_now : {D : Type 0} (now s t : PlayerState D) (a : ℕ) (grip : Gripped D Ready) (done : Gripped D Done) (entries : List Entry) → s ≡ now → IsGivenBack s t a grip done entries → (acts : ℕ) → (later : ℕ) × IsPicked now.rounds a (play_of now acts) (Made entries) (play_of t later)
-given_picked_now {D = D} now s t a grip done entries same by acts = (acts + 1, subst (λ (x : PlayerState D). IsPicked x.rounds a (play_of x acts) (Made entries) (play_of t (acts + 1))) same (given_picked s t a acts grip done entries by))
+pub given_stepped_now : {D : Type 0} (now s t : PlayerState D) (a : ℕ) (grip : Gripped D Ready) (done : Gripped D Done) (entries : List Entry) → s ≡ now → IsGivenBack s t a grip done entries → (acts : ℕ) → (later : ℕ) × IsStepped now.rounds a (play_of now acts) (Made entries) (play_of t later)
+given_stepped_now {D = D} now s t a grip done entries same by acts = (acts + 1, subst (λ (x : PlayerState D). IsStepped x.rounds a (play_of x acts) (Made entries) (play_of t (acts + 1))) same (given_stepped s t a acts grip done entries by))
 
 pub given_plans_now : {D P : Type 0} (plan : D → P) (now s t : PlayerState D) (a : ℕ) (grip : Gripped D Ready) (done : Gripped D Done) (entries : List Entry) → s ≡ now → IsGivenBack s t a grip done entries → plan done.device ≡ plan grip.device → (plans : ℕ → P) → HavePlans plan plans now → HavePlans plan plans t
 given_plans_now {D = D} plan now s t a grip done entries same by own plans have = gives_plans plan plans s t a grip done.device (gives_of s t a grip done entries by) by.is.kept own (subst (λ (x : PlayerState D). HavePlans plan plans x) (sym same) have)

@@ -12,6 +12,7 @@ pub mod Gripping
 pub mod Picking
 pub mod Stepping
 pub mod Counting
+pub mod Counted
 pub mod Leaving
 pub mod Probing
 pub mod Living

@@ -16,7 +16,7 @@ use Rattle.std.specs.Prelude.{List, Option, Some, if◌then◌else◌, length, s
 
 -- the player of the hub, with these hands
 abbrev pub player_of : {D : Type 0} → OpenHub D → List (Option (Gripped D Ready)) → ℕ → PlayerState D
-player_of hub grips rounds = record { hub = hub; grips = grips; rounds = rounds; place = 0 }
+player_of hub grips rounds = record { hub = hub; grips = grips; rounds = rounds; place = 0; moves = 0 }
 
 least : (n : ℕ) → 0 ≤ n
 least n = omega arith
@@ -42,7 +42,7 @@ pub is_opened : {D : Type 0} (hub : OpenHub D) (grips : List (Option (Gripped D 
 is_opened hub grips rounds fresh none = record {
   own = refl;
   detector = refl;
-  start = ap (λ c. record { configuration = c; moment = c.moment; place = 0; acts = 0 }) fresh;
+  start = ap (λ c. record { configuration = c; moment = c.moment; place = 0; acts = 0; moves = 0 }) fresh;
   hands = none;
 }
 

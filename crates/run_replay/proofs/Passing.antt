@@ -6,10 +6,10 @@ use Rattle.history_book.specs.declared.entries.End.{End}
 use Rattle.hub_core.proofs.waiting.Sleepers.{wait_is}
 use Rattle.hub_core.specs.BlockedRuns.{IsBlocked, is_wait}
 use Rattle.hub_core.specs.OpenHubs.{configuration_of}
-use Rattle.hub_core.specs.Steps.{Choice, Over, Waits, after_choice, after_take, at_moment, choice_of, decide}
+use Rattle.hub_core.specs.Steps.{Over, Waits, after_choice, after_take, at_moment, choice_of, decide}
 use Rattle.hub_core.specs.declared.waits.Why.{Why}
 use Rattle.lock_leasing.specs.Configurations.{Configuration, Grips, read_of}
-use Rattle.run_replay.proofs.Picking.{IsGoing, at_own_moment, taken_is_picked}
+use Rattle.run_replay.proofs.Picking.{IsGoing, at_own_moment, going_not_ended, stepped_is_picked, taken_is_stepped}
 use Rattle.run_replay.proofs.Played.{played_next}
 use Rattle.run_replay.proofs.Trying.{HaveWaited, one_more_waits}
 use Rattle.run_replay.specs.Players.{PlayerState, play_of}
@@ -36,8 +36,11 @@ blocked_stays s r why waits = ap (after_choice (at_moment s s.moment) r) waits �
 -- a blocked run that is picked waits, and the play is the same after it
 pub blocked_is_picked : {D : Type 0} (s : PlayerState D) (r : ℕ) → IsBlocked (configuration_of s.hub) r → (why : Why) × ((acts : ℕ) → IsPicked s.rounds r (play_of s acts) (Waited why) (play_of s acts))
 blocked_is_picked s r blocked =
-    let waits = wait_is (choice_of (configuration_of s.hub) r s.hub.moment) (blocked.waits s.hub.moment) in
-    (waits.0, λ acts. taken_is_picked s s s.rounds r acts (Waits waits.0) (blocked_goes (configuration_of s.hub) r blocked) blocked.free (sym waits.1) (sym (blocked_stays (configuration_of s.hub) r waits.0 waits.1)) refl)
+    let waits = wait_is (choice_of (configuration_of s.hub) r s.hub.moment) (blocked.waits s.hub.moment) in (
+      waits.0,
+      λ acts. stepped_is_picked s.rounds r (play_of s acts) (play_of s acts) (Waited waits.0) (λ course same. going_not_ended course (play_of s acts) r (blocked_goes (configuration_of s.hub) r blocked))
+          (taken_is_stepped s s s.rounds r acts (Waits waits.0) (blocked_goes (configuration_of s.hub) r blocked) blocked.free (sym waits.1) (sym (blocked_stays (configuration_of s.hub) r waits.0 waits.1)) refl refl),
+    )
 
 -- .. of the player as callers see it
 pub blocked_now : {D : Type 0} (now s : PlayerState D) (r : ℕ) → s ≡ now → IsBlocked (configuration_of s.hub) r → IsBlocked (configuration_of now.hub) r

@@ -10,8 +10,8 @@ use Rattle.hub_core.specs.Steps.{Absent, Choice, HandsOut, Moves, Over, Waits, a
 use Rattle.lock_leasing.specs.Configurations.{Configuration, Grip, Purpose, read_of}
 use Rattle.run_replay.proofs.Gripping.{empty_hand, full_hand}
 use Rattle.run_replay.specs.Players.{PlayerIsKept, PlayerState, is_ended, is_full, play_of}
-use Rattle.run_replay.specs.Playing.{IsPicked, Tells}
-use Rattle.run_replay.specs.Replays.{Course, Made, Passed, Play, Took, act_on, detector_takes, gripped, has_ended, passes, pick, pick_live, picked_by, run_takes, takes_of}
+use Rattle.run_replay.specs.Playing.{IsPicked, IsStepped, Tells}
+use Rattle.run_replay.specs.Replays.{Course, Made, Passed, Picked, Play, Took, act_on, counted, detector_takes, gripped, has_ended, passes, pick, pick_live, picked_by, run_takes, takes_of}
 use Rattle.std.proofs.Common.{ap, arith, refl, sym, ◌∙◌}
 use Rattle.std.specs.Prelude.{Bool, List, None, Option, Some, [], false, if◌then◌else◌, is_some, length, max, nat_le, option_map, slice_get, suc, true, unwrap_or, zero, ℕ, ◌%◌, ◌*◌, ◌+◌, ◌-◌, ◌<◌, ◌==◌, ◌∷◌, ◌≡◌}
 
@@ -57,6 +57,19 @@ ended_pick course p a e = rw e refl
 pub passed_is_picked : {D : Type 0} (s : PlayerState D) (a acts : ℕ) → PlayerIsKept s → length s.hub.places ≡ length s.hub.setting.first → is_ended s a ≡ true → IsPicked s.rounds a (play_of s acts) Passed (play_of s acts)
 passed_is_picked s a acts kept size ended = record { told = []; acts = omega arith; leads = λ course same tells. ended_pick course (play_of s acts) a (ended_is course s acts a kept size same ∙ ended) }
 
+-- A step that is counted
+
+live_pick : (course : Course) (p : Play) (a : ℕ) → has_ended course p a ≡ false → pick course p a ≡ counted (pick_live course p a)
+live_pick course p a e = rw e refl
+
+-- the step of an actor that has not ended is its pick, once it is counted
+pub stepped_is_picked : (rounds a : ℕ) (p q : Play) (picked : Picked) → ((course : Course) → course.rounds ≡ rounds → has_ended course p a ≡ false) → IsStepped rounds a p picked q → IsPicked rounds a p picked (counted (record { picked = picked; next = q })).next
+stepped_is_picked rounds a p q picked going is = record {
+  told = is.told;
+  acts = is.acts;
+  leads = λ course same tells. live_pick course p a (going course same) ∙ ap counted (is.leads course same tells);
+}
+
 -- The moment: of the steps of a replay those alone move it that give the grip of a command back
 
 max_same : (m : ℕ) → max m m ≡ m
@@ -90,22 +103,25 @@ probe_moment c d = by_may (may_probe c d)
 abbrev pub IsGoing : Configuration → ℕ → Type 0
 IsGoing c r = (is_run c.setting.runs r ≡ true) × (((read_of c).run r).ended ≡ None)
 
-pub going_pick : (course : Course) (p : Play) (r : ℕ) → IsGoing p.configuration r → pick course p r ≡ pick_live course p r
-going_pick course p zero going = absurd (let no : false ≡ true = going.0 in cc)
-going_pick course p (suc r) going = rw (going.0, going.1) refl
+pub going_not_ended : (course : Course) (p : Play) (r : ℕ) → IsGoing p.configuration r → has_ended course p r ≡ false
+going_not_ended course p zero going = absurd (let no : false ≡ true = going.0 in cc)
+going_not_ended course p (suc r) going = rw (going.0, going.1) refl
 
-pub take_pick : (course : Course) (p : Play) (r : ℕ) → IsGoing p.configuration r → gripped p r ≡ None → pick course p r ≡ run_takes p r
-take_pick course p zero going none = absurd (let no : false ≡ true = going.0 in cc)
-take_pick course p (suc r) going none = going_pick course p (suc r) going ∙ rw none refl
+take_live : (course : Course) (p : Play) (r : ℕ) → IsGoing p.configuration r → gripped p r ≡ None → pick_live course p r ≡ run_takes p r
+take_live course p zero going none = absurd (let no : false ≡ true = going.0 in cc)
+take_live course p (suc r) going none = rw none refl
 
-pub taken_is_picked : {D : Type 0} (s t : PlayerState D) (rounds r acts : ℕ) (choice : Choice) → IsGoing (configuration_of s.hub) r → gripped (play_of s acts) r ≡ None
-    → choice ≡ choice_of (configuration_of s.hub) r s.hub.moment → configuration_of t.hub ≡ after_take (configuration_of s.hub) r s.hub.moment → t.place ≡ s.place → IsPicked rounds r (play_of s acts) (picked_by choice) (play_of t acts)
-taken_is_picked s t rounds r acts choice going free chosen after place = record {
+pub take_pick : (course : Course) (p : Play) (r : ℕ) → IsGoing p.configuration r → gripped p r ≡ None → pick course p r ≡ counted (run_takes p r)
+take_pick course p r going none = live_pick course p r (going_not_ended course p r going) ∙ ap counted (take_live course p r going none)
+
+pub taken_is_stepped : {D : Type 0} (s t : PlayerState D) (rounds r acts : ℕ) (choice : Choice) → IsGoing (configuration_of s.hub) r → gripped (play_of s acts) r ≡ None
+    → choice ≡ choice_of (configuration_of s.hub) r s.hub.moment → configuration_of t.hub ≡ after_take (configuration_of s.hub) r s.hub.moment → t.place ≡ s.place → t.moves ≡ s.moves → IsStepped rounds r (play_of s acts) (picked_by choice) (play_of t acts)
+taken_is_stepped s t rounds r acts choice going free chosen after place moves = record {
   told = [];
   acts = omega arith;
-  leads = λ course same tells. take_pick course (play_of s acts) r going free ∙ λ i. record {
+  leads = λ course same tells. take_live course (play_of s acts) r going free ∙ λ i. record {
     picked = picked_by (sym chosen i);
-    next = record { configuration = sym after i; moment = sym moment i; place = sym place i; acts = acts };
+    next = record { configuration = sym after i; moment = sym moment i; place = sym place i; acts = acts; moves = sym moves i };
   };
 }
   where
@@ -117,31 +133,31 @@ taken_is_picked s t rounds r acts choice going free chosen after place = record 
 one_told : (course : Course) (acts : ℕ) (told : Told) → Tells course acts (told ∷ []) → course.told acts ≡ told
 one_told course acts told tells = let same : acts + 0 ≡ acts = omega arith in sym (ap course.told same) ∙ tells 0 told refl
 
-act_pick : (course : Course) (p : Play) (a d : ℕ) (grip : Grip) → has_ended course p a ≡ false → gripped p a ≡ Some d → p.configuration.grips d ≡ Some grip → pick course p a ≡ act_on course p d grip
-act_pick course p a d grip going holds out = rw going (rw holds (rw out refl))
+act_live : (course : Course) (p : Play) (a d : ℕ) (grip : Grip) → gripped p a ≡ Some d → p.configuration.grips d ≡ Some grip → pick_live course p a ≡ act_on course p d grip
+act_live course p a d grip holds out = rw holds (rw out refl)
 
 -- where a grip comes back to: the hub at the new moment, or as it is where the grip is the detector's
 abbrev pub met : Configuration → ℕ → ℕ → Configuration
 met c a m = if a == 0 then c else at_moment c m
 
 -- an actor with a grip acts and gives it back
-pub acted_is_picked : {D : Type 0} (s t : PlayerState D) (a acts : ℕ) (grip : Gripped D Ready) (purpose : Purpose) (told : Told) (entries : List Entry) → PlayerIsKept s → length s.hub.places ≡ length s.hub.setting.first → is_ended s a ≡ false
+pub acted_is_stepped : {D : Type 0} (s t : PlayerState D) (a acts : ℕ) (grip : Gripped D Ready) (purpose : Purpose) (told : Told) (entries : List Entry) → PlayerIsKept s → length s.hub.places ≡ length s.hub.setting.first
     → slice_get s.grips a ≡ Some (Some grip)
     → (configuration_of s.hub).grips grip.slip.device.0 ≡ Some (record { maker = a; purpose = purpose })
     → t.hub.moment ≡ s.hub.moment + takes_of (play_of s acts) (record { maker = a; purpose = purpose })
     → entries ≡ give_entries s.hub.setting (read_of (configuration_of s.hub)) grip.slip.device.0 (record { maker = a; purpose = purpose }) told
-    → configuration_of t.hub ≡ after_give (met (configuration_of s.hub) a t.hub.moment) grip.slip.device.0 (record { maker = a; purpose = purpose }) told → t.place ≡ s.place
-    → IsPicked s.rounds a (play_of s acts) (Made entries) (play_of t (acts + 1))
-acted_is_picked {D = D} s t a acts grip purpose told entries kept size going hand out moment made after place = record {
+    → configuration_of t.hub ≡ after_give (met (configuration_of s.hub) a t.hub.moment) grip.slip.device.0 (record { maker = a; purpose = purpose }) told → t.place ≡ s.place → t.moves ≡ s.moves
+    → IsStepped s.rounds a (play_of s acts) (Made entries) (play_of t (acts + 1))
+acted_is_stepped {D = D} s t a acts grip purpose told entries kept size hand out moment made after place moves = record {
   told = told ∷ [];
   acts = omega arith;
-  leads = λ course same tells. act_pick course (play_of s acts) a grip.slip.device.0 (record { maker = a; purpose = purpose }) (ended_is course s acts a kept size same ∙ going) (full_hand s a acts grip kept size hand) out ∙ acts_so course (one_told course acts told tells);
+  leads = λ course same tells. act_live course (play_of s acts) a grip.slip.device.0 (record { maker = a; purpose = purpose }) (full_hand s a acts grip kept size hand) out ∙ acts_so course (one_told course acts told tells);
 }
   where
     acts_so : (course : Course) → course.told acts ≡ told → act_on course (play_of s acts) grip.slip.device.0 (record { maker = a; purpose = purpose }) ≡ record { picked = Made entries; next = play_of t (acts + 1) }
     acts_so course is = λ i. record {
       picked = Made ((ap (λ x. give_entries s.hub.setting (read_of (configuration_of s.hub)) grip.slip.device.0 out_so x) is ∙ sym made) i);
-      next = record { configuration = given i; moment = sym moment i; place = sym place i; acts = acts + 1 };
+      next = record { configuration = given i; moment = sym moment i; place = sym place i; acts = acts + 1; moves = sym moves i };
     }
       where
         out_so : Grip
@@ -157,8 +173,8 @@ acted_is_picked {D = D} s t a acts grip purpose told entries kept size going han
 
 -- The detector
 
-rest_pick : (course : Course) (p : Play) → has_ended course p 0 ≡ false → gripped p 0 ≡ None → pick course p 0 ≡ detector_takes p
-rest_pick course p going none = rw going (rw none refl)
+rest_live : (course : Course) (p : Play) → gripped p 0 ≡ None → pick_live course p 0 ≡ detector_takes p
+rest_live course p none = rw none refl
 
 -- the device that the detector comes to
 abbrev pub next_device : {D : Type 0} → PlayerState D → ℕ
@@ -167,25 +183,25 @@ next_device s = s.place % length s.hub.setting.first
 by_probe : (p : Play) (b : Bool) → may_probe p.configuration (p.place % length p.configuration.setting.first) ≡ b → detector_takes p ≡ (if b then record { picked = Took (p.place % length p.configuration.setting.first); next = record p { configuration = after_take_probe p.configuration (p.place % length p.configuration.setting.first); place = p.place + 1 } } else passes (record p { place = p.place + 1 }))
 by_probe p b is = ap (λ (x : Bool). if x then record { picked = Took (p.place % length p.configuration.setting.first); next = record p { configuration = after_take_probe p.configuration (p.place % length p.configuration.setting.first); place = p.place + 1 } } else passes (record p { place = p.place + 1 })) is
 
-pub detector_passed : {D : Type 0} (s t : PlayerState D) (acts : ℕ) → PlayerIsKept s → length s.hub.places ≡ length s.hub.setting.first → is_ended s 0 ≡ false → slice_get s.grips 0 ≡ Some None
-    → may_probe (configuration_of s.hub) (next_device s) ≡ false → configuration_of t.hub ≡ configuration_of s.hub → t.place ≡ s.place + 1 → IsPicked s.rounds 0 (play_of s acts) Passed (play_of t acts)
-detector_passed s t acts kept size going free may after place = record {
+pub detector_passed : {D : Type 0} (s t : PlayerState D) (acts : ℕ) → PlayerIsKept s → slice_get s.grips 0 ≡ Some None
+    → may_probe (configuration_of s.hub) (next_device s) ≡ false → configuration_of t.hub ≡ configuration_of s.hub → t.place ≡ s.place + 1 → t.moves ≡ s.moves → IsStepped s.rounds 0 (play_of s acts) Passed (play_of t acts)
+detector_passed s t acts kept free may after place moves = record {
   told = [];
   acts = omega arith;
-  leads = λ course same tells. rest_pick course (play_of s acts) (ended_is course s acts 0 kept size same ∙ going) (empty_hand s 0 acts kept free) ∙ by_probe (play_of s acts) false may ∙ λ i. record {
+  leads = λ course same tells. rest_live course (play_of s acts) (empty_hand s 0 acts kept free) ∙ by_probe (play_of s acts) false may ∙ λ i. record {
     picked = Passed;
-    next = record { configuration = sym after i; moment = (sym after i).moment; place = sym place i; acts = acts };
+    next = record { configuration = sym after i; moment = (sym after i).moment; place = sym place i; acts = acts; moves = sym moves i };
   };
 }
 
-pub detector_took : {D : Type 0} (s t : PlayerState D) (acts : ℕ) → PlayerIsKept s → length s.hub.places ≡ length s.hub.setting.first → is_ended s 0 ≡ false → slice_get s.grips 0 ≡ Some None
-    → may_probe (configuration_of s.hub) (next_device s) ≡ true → configuration_of t.hub ≡ after_take_probe (configuration_of s.hub) (next_device s) → t.place ≡ s.place + 1 → IsPicked s.rounds 0 (play_of s acts) (Took (next_device s)) (play_of t acts)
-detector_took s t acts kept size going free may after place = record {
+pub detector_took : {D : Type 0} (s t : PlayerState D) (acts : ℕ) → PlayerIsKept s → slice_get s.grips 0 ≡ Some None
+    → may_probe (configuration_of s.hub) (next_device s) ≡ true → configuration_of t.hub ≡ after_take_probe (configuration_of s.hub) (next_device s) → t.place ≡ s.place + 1 → t.moves ≡ s.moves → IsStepped s.rounds 0 (play_of s acts) (Took (next_device s)) (play_of t acts)
+detector_took s t acts kept free may after place moves = record {
   told = [];
   acts = omega arith;
-  leads = λ course same tells. rest_pick course (play_of s acts) (ended_is course s acts 0 kept size same ∙ going) (empty_hand s 0 acts kept free) ∙ by_probe (play_of s acts) true may ∙ λ i. record {
+  leads = λ course same tells. rest_live course (play_of s acts) (empty_hand s 0 acts kept free) ∙ by_probe (play_of s acts) true may ∙ λ i. record {
     picked = Took (next_device s);
-    next = record { configuration = sym after i; moment = sym moment i; place = sym place i; acts = acts };
+    next = record { configuration = sym after i; moment = sym moment i; place = sym place i; acts = acts; moves = sym moves i };
   };
 }
   where

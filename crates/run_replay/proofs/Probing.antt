@@ -16,11 +16,11 @@ use Rattle.run_replay.proofs.Acting.{hand_by, out_of_hand, purpose_at}
 use Rattle.run_replay.proofs.Holding.{Gives, Moves, Takes, gives_keeps, gives_plans, moves_keeps, moves_plans, takes_keeps, takes_plans}
 use Rattle.hub_core.proofs.steps.HubAnswers.{gave_probe_back, probe_never_refused, took_none, took_probe}
 use Rattle.run_replay.proofs.Leaving.{give_ended, same_ends}
-use Rattle.run_replay.proofs.Picking.{acted_is_picked, detector_passed, detector_took, empty_is, next_device}
+use Rattle.run_replay.proofs.Picking.{acted_is_stepped, detector_passed, detector_took, empty_is, next_device}
 use Rattle.run_replay.proofs.Stepping.{passed_fewer, probed_fewer, returned_fewer}
 use Rattle.run_replay.proofs.Taking.{grown, some_slip, stays_by}
 use Rattle.run_replay.specs.Players.{HavePlans, PlayerIsKept, PlayerState, is_ended, is_full, play_of, steps_left}
-use Rattle.run_replay.specs.Playing.{IsPicked}
+use Rattle.run_replay.specs.Playing.{IsStepped}
 use Rattle.run_replay.specs.Replays.{Made, Passed, Took, takes_of}
 use Rattle.std.proofs.Common.{ap, arith, refl, subst, sym, ◌∙◌}
 use Rattle.std.proofs.lemmas.Grind.{common_steps}
@@ -76,6 +76,7 @@ pub record GoesToDetector {D : Type 0} (s t : PlayerState D) (d : ℕ) (grip : G
   pub grips : t.grips ≡ slice_set s.grips 0 (Some grip)
   pub rounds : t.rounds ≡ s.rounds
   pub place : t.place ≡ s.place + 1
+  pub moves : t.moves ≡ s.moves
 
 taken : {D : Type 0} (s t : PlayerState D) (d : ℕ) (grip : Gripped D Ready) → GoesToDetector s t d grip → (may_probe (configuration_of s.hub) d ≡ true) × (configuration_of t.hub ≡ after_take_probe (configuration_of s.hub) d) × IsSlipOf 0 d grip.slip
 taken s t d grip is = took_probe (state_of s.hub) (state_of t.hub) d grip.slip grip.task is.probed.0
@@ -104,11 +105,11 @@ takes_it s t d grip is =
 pub probed_keeps : {D : Type 0} (s t : PlayerState D) (d : ℕ) (grip : Gripped D Ready) → GoesToDetector s t d grip → PlayerIsKept t
 probed_keeps s t d grip is = takes_keeps s t 0 grip (takes_it s t d grip is) is.rest.kept
 
-probed_picked : {D : Type 0} (s t : PlayerState D) (d acts : ℕ) (grip : Gripped D Ready) → GoesToDetector s t d grip → IsPicked s.rounds 0 (play_of s acts) (Took d) (play_of t acts)
-probed_picked s t d acts grip is =
+probed_stepped : {D : Type 0} (s t : PlayerState D) (d acts : ℕ) (grip : Gripped D Ready) → GoesToDetector s t d grip → IsStepped s.rounds 0 (play_of s acts) (Took d) (play_of t acts)
+probed_stepped s t d acts grip is =
     let three = taken s t d grip is in
-    subst (λ e. IsPicked s.rounds 0 (play_of s acts) (Took e) (play_of t acts)) (sym is.next)
-    (detector_took s t acts is.rest.kept is.rest.size is.rest.going (its_hand s is.rest) (ap (may_probe (configuration_of s.hub)) (sym is.next) ∙ three.0) (three.1 ∙ ap (after_take_probe (configuration_of s.hub)) is.next) is.place)
+    subst (λ e. IsStepped s.rounds 0 (play_of s acts) (Took e) (play_of t acts)) (sym is.next)
+    (detector_took s t acts is.rest.kept (its_hand s is.rest) (ap (may_probe (configuration_of s.hub)) (sym is.next) ∙ three.0) (three.1 ∙ ap (after_take_probe (configuration_of s.hub)) is.next) is.place is.moves)
 
 -- The device is passed over
 
@@ -120,6 +121,7 @@ pub record PassesOver {D : Type 0} (s t : PlayerState D) (d : ℕ) : Type 0 wher
   pub grips : t.grips ≡ s.grips
   pub rounds : t.rounds ≡ s.rounds
   pub place : t.place ≡ s.place + 1
+  pub moves : t.moves ≡ s.moves
 
 stays : {D : Type 0} (s t : PlayerState D) (d : ℕ) → PassesOver s t d → Moves s t
 stays s t d is = record {
@@ -134,10 +136,10 @@ stays s t d is = record {
 pub passed_keeps : {D : Type 0} (s t : PlayerState D) (d : ℕ) → PassesOver s t d → PlayerIsKept t
 passed_keeps s t d is = moves_keeps s t (stays s t d is) is.rest.kept
 
-passed_picked : {D : Type 0} (s t : PlayerState D) (d acts : ℕ) → PassesOver s t d → IsPicked s.rounds 0 (play_of s acts) Passed (play_of t acts)
-passed_picked s t d acts is =
+passed_stepped : {D : Type 0} (s t : PlayerState D) (d acts : ℕ) → PassesOver s t d → IsStepped s.rounds 0 (play_of s acts) Passed (play_of t acts)
+passed_stepped s t d acts is =
     let may = took_none (state_of s.hub) (state_of t.hub) d some_slip (is.probed.0 some_slip) in
-    detector_passed s t acts is.rest.kept is.rest.size is.rest.going (its_hand s is.rest) (ap (may_probe (configuration_of s.hub)) (sym is.next) ∙ may) (ap configuration_of is.probed.1) is.place
+    detector_passed s t acts is.rest.kept (its_hand s is.rest) (ap (may_probe (configuration_of s.hub)) (sym is.next) ∙ may) (ap configuration_of is.probed.1) is.place is.moves
 
 -- The probe is given back
 
@@ -172,6 +174,7 @@ pub record ProbeIsBack {D : Type 0} (s t : PlayerState D) (grip : Gripped D Read
   pub grips : t.grips ≡ slice_set s.grips 0 None
   pub rounds : t.rounds ≡ s.rounds
   pub place : t.place ≡ s.place
+  pub moves : t.moves ≡ s.moves
 
 its_grip : {D : Type 0} (s : PlayerState D) (grip : Gripped D Ready) → IsHeld s grip → (configuration_of s.hub).grips grip.slip.device.0 ≡ Some (record { maker = 0; purpose = purpose_at s grip })
 its_grip s grip is = out_of_hand s 0 grip is.kept is.hand
@@ -196,11 +199,11 @@ no_time s acts (Commands k) = refl
 no_time s acts (Undoes v) = refl
 no_time s acts (Probes v) = refl
 
-back_picked : {D : Type 0} (s t : PlayerState D) (acts : ℕ) (grip : Gripped D Ready) (done : Gripped D Done) (entries : List Entry) → ProbeIsBack s t grip done entries → IsPicked s.rounds 0 (play_of s acts) (Made entries) (play_of t (acts + 1))
-back_picked s t acts grip done entries is =
+back_stepped : {D : Type 0} (s t : PlayerState D) (acts : ℕ) (grip : Gripped D Ready) (done : Gripped D Done) (entries : List Entry) → ProbeIsBack s t grip done entries → IsStepped s.rounds 0 (play_of s acts) (Made entries) (play_of t (acts + 1))
+back_stepped s t acts grip done entries is =
     let two = came_back s t grip done entries is in
     let none = no_time s acts (purpose_at s grip) in
-    acted_is_picked s t 0 acts grip (purpose_at s grip) done.stage.told entries is.held.kept is.held.size is.held.going is.held.hand (its_grip s grip is.held) (later s.hub.moment t.hub.moment (takes_of (play_of s acts) (record { maker = 0; purpose = purpose_at s grip })) (untouched s t grip done entries is) none) two.0 two.1 is.place
+    acted_is_stepped s t 0 acts grip (purpose_at s grip) done.stage.told entries is.held.kept is.held.size is.held.hand (its_grip s grip is.held) (later s.hub.moment t.hub.moment (takes_of (play_of s acts) (record { maker = 0; purpose = purpose_at s grip })) (untouched s t grip done entries is) none) two.0 two.1 is.place is.moves
   where
     later : (before after time : ℕ) → after ≡ before → time ≡ 0 → after ≡ before + time
     later before after time same none = omega (arith, same, none)
@@ -227,8 +230,8 @@ back_keeps s t grip done entries is = gives_keeps s t 0 grip done.device (gives_
 
 -- The same of the player as callers see it
 
-pub probed_picked_now : {D : Type 0} (now s t : PlayerState D) (d : ℕ) (grip : Gripped D Ready) → s ≡ now → GoesToDetector s t d grip → (acts : ℕ) → (later : ℕ) × IsPicked now.rounds 0 (play_of now acts) (Took d) (play_of t later)
-probed_picked_now {D = D} now s t d grip same is acts = (acts, subst (λ (x : PlayerState D). IsPicked x.rounds 0 (play_of x acts) (Took d) (play_of t acts)) same (probed_picked s t d acts grip is))
+pub probed_stepped_now : {D : Type 0} (now s t : PlayerState D) (d : ℕ) (grip : Gripped D Ready) → s ≡ now → GoesToDetector s t d grip → (acts : ℕ) → (later : ℕ) × IsStepped now.rounds 0 (play_of now acts) (Took d) (play_of t later)
+probed_stepped_now {D = D} now s t d grip same is acts = (acts, subst (λ (x : PlayerState D). IsStepped x.rounds 0 (play_of x acts) (Took d) (play_of t acts)) same (probed_stepped s t d acts grip is))
 
 pub probed_plans_now : {D P : Type 0} (plan : D → P) (now s t : PlayerState D) (d : ℕ) (grip : Gripped D Ready) → s ≡ now → GoesToDetector s t d grip → (plans : ℕ → P) → HavePlans plan plans now → HavePlans plan plans t
 probed_plans_now {D = D} plan now s t d grip same is plans have = takes_plans plan plans s t 0 grip (takes_it s t d grip is) (subst (λ (x : PlayerState D). HavePlans plan plans x) (sym same) have)
@@ -239,8 +242,8 @@ probed_fewer_now {D = D} now s t d grip same is = subst (λ (x : PlayerState D).
 pub probed_others : {D : Type 0} (now s t : PlayerState D) (d : ℕ) (grip : Gripped D Ready) → s ≡ now → GoesToDetector s t d grip → (q : ℕ) → q ≢ 0 → is_ended t q ≡ is_ended now q
 probed_others {D = D} now s t d grip same is q other = same_ends s t q is.window (λ own. absurd (other own)) (ap (λ (c : Configuration). ((read_of c).run q).ended) (after s t d grip is)) ∙ ap (λ (x : PlayerState D). is_ended x q) same
 
-pub passed_picked_now : {D : Type 0} (now s t : PlayerState D) (d : ℕ) → s ≡ now → PassesOver s t d → (acts : ℕ) → (later : ℕ) × IsPicked now.rounds 0 (play_of now acts) Passed (play_of t later)
-passed_picked_now {D = D} now s t d same is acts = (acts, subst (λ (x : PlayerState D). IsPicked x.rounds 0 (play_of x acts) Passed (play_of t acts)) same (passed_picked s t d acts is))
+pub passed_stepped_now : {D : Type 0} (now s t : PlayerState D) (d : ℕ) → s ≡ now → PassesOver s t d → (acts : ℕ) → (later : ℕ) × IsStepped now.rounds 0 (play_of now acts) Passed (play_of t later)
+passed_stepped_now {D = D} now s t d same is acts = (acts, subst (λ (x : PlayerState D). IsStepped x.rounds 0 (play_of x acts) Passed (play_of t acts)) same (passed_stepped s t d acts is))
 
 pub passed_plans_now : {D P : Type 0} (plan : D → P) (now s t : PlayerState D) (d : ℕ) → s ≡ now → PassesOver s t d → (plans : ℕ → P) → HavePlans plan plans now → HavePlans plan plans t
 passed_plans_now {D = D} plan now s t d same is plans have = moves_plans plan plans s t (stays s t d is) (subst (λ (x : PlayerState D). HavePlans plan plans x) (sym same) have)
@@ -251,8 +254,8 @@ passed_fewer_now {D = D} now s t d same is = subst (λ (x : PlayerState D). step
 pub passed_others : {D : Type 0} (now s t : PlayerState D) (d : ℕ) → s ≡ now → PassesOver s t d → (q : ℕ) → q ≢ 0 → is_ended t q ≡ is_ended now q
 passed_others {D = D} now s t d same is q other = same_ends s t q is.window (λ own. absurd (other own)) (ap (λ (h : OpenHub D). ((read_of (configuration_of h)).run q).ended) is.probed.1) ∙ ap (λ (x : PlayerState D). is_ended x q) same
 
-pub back_picked_now : {D : Type 0} (now s t : PlayerState D) (grip : Gripped D Ready) (done : Gripped D Done) (entries : List Entry) → s ≡ now → ProbeIsBack s t grip done entries → (acts : ℕ) → (later : ℕ) × IsPicked now.rounds 0 (play_of now acts) (Made entries) (play_of t later)
-back_picked_now {D = D} now s t grip done entries same is acts = (acts + 1, subst (λ (x : PlayerState D). IsPicked x.rounds 0 (play_of x acts) (Made entries) (play_of t (acts + 1))) same (back_picked s t acts grip done entries is))
+pub back_stepped_now : {D : Type 0} (now s t : PlayerState D) (grip : Gripped D Ready) (done : Gripped D Done) (entries : List Entry) → s ≡ now → ProbeIsBack s t grip done entries → (acts : ℕ) → (later : ℕ) × IsStepped now.rounds 0 (play_of now acts) (Made entries) (play_of t later)
+back_stepped_now {D = D} now s t grip done entries same is acts = (acts + 1, subst (λ (x : PlayerState D). IsStepped x.rounds 0 (play_of x acts) (Made entries) (play_of t (acts + 1))) same (back_stepped s t acts grip done entries is))
 
 pub back_plans_now : {D P : Type 0} (plan : D → P) (now s t : PlayerState D) (grip : Gripped D Ready) (done : Gripped D Done) (entries : List Entry) → s ≡ now → ProbeIsBack s t grip done entries → plan done.device ≡ plan grip.device → (plans : ℕ → P) → HavePlans plan plans now → HavePlans plan plans t
 back_plans_now {D = D} plan now s t grip done entries same is own plans have = gives_plans plan plans s t 0 grip done.device (gives_it s t grip done entries is) is.held.kept own (subst (λ (x : PlayerState D). HavePlans plan plans x) (sym same) have)

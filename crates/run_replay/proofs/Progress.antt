@@ -10,7 +10,7 @@ use Rattle.hub_core.specs.declared.waits.Why.{Why}
 use Rattle.lock_leasing.specs.Configurations.{Commands, Configuration, Probes, Purpose, Undoes, has_grip, read_of}
 use Rattle.lock_leasing.specs.Places.{GripsFit}
 use Rattle.run_replay.proofs.Gripping.{full_hand}
-use Rattle.run_replay.proofs.Picking.{IsGoing, take_pick}
+use Rattle.run_replay.proofs.Picking.{IsGoing, going_not_ended, take_pick}
 use Rattle.run_replay.proofs.Waiting.{act_never_waits, detector_never_waits}
 use Rattle.run_replay.proofs.Settings.{at_or_past}
 use Rattle.run_replay.specs.Players.{PlayerIsKept, PlayerState, play_of}
@@ -78,10 +78,6 @@ run_within s (suc r) going = let low = within s.setting.runs going.0 in omega (a
         by_option : {A : Type 0} (xs : List A) (o : Option A) → slice_get xs r ≡ o → is_some o ≡ true → r < length xs
         by_option xs None at some = absurd (cc)
         by_option xs (Some x) at some = slice_get_within xs r x at
-
-going_not_ended : (course : Course) (p : Play) (r : ℕ) → IsGoing p.configuration r → has_ended course p r ≡ false
-going_not_ended course p zero going = absurd (let no : false ≡ true = going.0 in cc)
-going_not_ended course p (suc r) going = rw (going.0, going.1) refl
 
 both_are : (a b : Bool) → (not a || b) ≡ false → (a ≡ true) × (b ≡ false)
 both_are true false e = (refl, refl)

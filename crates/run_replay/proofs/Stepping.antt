@@ -70,6 +70,18 @@ took_fewer s t r x same free grips place history =
     (rounds_left s t same place)
     (ap first_is_full grips ∙ first_kept s.grips r (Some x))
 
+equal_sums : (b b' e e' c c' f f' : ℕ) → b' ≡ b → e' ≡ e → c' ≡ c → f' ≡ f → 2 * b' + e' + 2 * c' + f' ≡ 2 * b + e + 2 * c + f
+equal_sums b b' e e' c c' f f' same hands places full = omega (arith, same, hands, places, full)
+
+-- nothing was made, and the hands are the same
+pub still_left : {D : Type 0} (s t : PlayerState D) → StaysBy s t → t.grips ≡ s.grips → t.place ≡ s.place → t.hub.history ≡ s.hub.history → steps_left t ≡ steps_left s
+still_left s t same grips place history =
+    equal_sums (most_made s - length s.hub.history) (most_made t - length t.hub.history) (empty_places (drop 1 s.grips)) (empty_places (drop 1 t.grips)) (s.rounds * length s.hub.setting.first - s.place) (t.rounds * length t.hub.setting.first - t.place) (first_is_full s.grips) (first_is_full t.grips)
+    (ap (λ n. n - length t.hub.history) (same_most s t same.runs same.devices same.probes) ∙ ap (λ h. most_made s - length h) history)
+    (ap (λ g. empty_places (drop 1 g)) grips)
+    (rounds_left s t same place)
+    (ap first_is_full grips)
+
 -- The detector
 
 first_set : {A : Type 0} (xs : List (Option A)) (x : A) → 0 < length xs → first_is_full (slice_set xs 0 (Some x)) ≡ 1

@@ -11,15 +11,16 @@ use Rattle.hub_core.specs.HubCalls.{Answers, GoesOut, SameWindow}
 use Rattle.hub_core.specs.HubSteps.{IsSlipOf, SlipFits}
 use Rattle.hub_core.specs.OpenHubs.{OpenHub, configuration_of, state_of}
 use Rattle.hub_core.specs.Steps.{Absent, Choice, HandsOut, Moves, Over, Waits, after_choice, after_take, at_moment, choice_of}
+use Rattle.hub_core.specs.declared.waits.Why.{Why}
 use Rattle.lock_leasing.specs.Configurations.{Configuration, read_of}
 use Rattle.run_replay.proofs.Holding.{Moves as MovesOn, Takes, moves_keeps, moves_plans, takes_keeps, takes_plans}
 use Rattle.hub_core.proofs.steps.HubAnswers.{took_after, took_choice}
 use Rattle.run_replay.proofs.Making.{Makes, choice_makes}
 use Rattle.run_replay.proofs.Gripping.{empty_hand}
-use Rattle.run_replay.proofs.Picking.{IsGoing, empty_is, passed_is_picked, same_moment, taken_is_picked}
-use Rattle.run_replay.proofs.Stepping.{StaysBy, made_fewer, took_fewer}
-use Rattle.run_replay.specs.Players.{HavePlans, PlayerIsKept, PlayerState, is_ended, is_full, most_made, play_of, steps_left}
-use Rattle.run_replay.specs.Playing.{IsPicked}
+use Rattle.run_replay.proofs.Picking.{IsGoing, empty_is, passed_is_picked, same_moment, taken_is_stepped}
+use Rattle.run_replay.proofs.Stepping.{StaysBy, made_fewer, still_left, took_fewer}
+use Rattle.run_replay.specs.Players.{HavePlans, PlayerIsKept, PlayerStands, PlayerState, is_ended, is_full, most_made, play_of, steps_left}
+use Rattle.run_replay.specs.Playing.{IsPicked, IsStepped}
 use Rattle.run_replay.specs.Replays.{Passed, Took, picked_by}
 use Rattle.std.proofs.Common.{ap, arith, refl, subst, sym, ◌∙◌}
 use Rattle.std.proofs.lemmas.List.{length-append}
@@ -110,6 +111,7 @@ pub record IsAnswered {D : Type 0} (s t : PlayerState D) (r : ℕ) (choice : Cho
   pub grips : t.grips ≡ s.grips
   pub rounds : t.rounds ≡ s.rounds
   pub place : t.place ≡ s.place
+  pub moves : t.moves ≡ s.moves
 
 pub some_slip : Slip
 some_slip = record { ticket = 0; device = record { 0 = 0 }; maker = 0; stood = 0; turns = 0; probes = 0; faults = 0 }
@@ -146,8 +148,8 @@ answered_keeps s t r choice is = moves_keeps s t (moved s t r choice is) is.free
 pub answered_plans : {D P : Type 0} (plan : D → P) (plans : ℕ → P) (s t : PlayerState D) (r : ℕ) (choice : Choice) → IsAnswered s t r choice → HavePlans plan plans s → HavePlans plan plans t
 answered_plans plan plans s t r choice is = moves_plans plan plans s t (moved s t r choice is)
 
-pub answered_picked : {D : Type 0} (s t : PlayerState D) (r acts : ℕ) (choice : Choice) → IsAnswered s t r choice → IsPicked s.rounds r (play_of s acts) (picked_by choice) (play_of t acts)
-answered_picked s t r acts choice is = taken_is_picked s t s.rounds r acts choice (going_of s r is.free) (empty_hand s r acts is.free.kept (hand_is_empty s r is.free)) (chosen s t r choice is.answers) (after s t r choice is.answers) is.place
+pub answered_stepped : {D : Type 0} (s t : PlayerState D) (r acts : ℕ) (choice : Choice) → IsAnswered s t r choice → IsStepped s.rounds r (play_of s acts) (picked_by choice) (play_of t acts)
+answered_stepped s t r acts choice is = taken_is_stepped s t s.rounds r acts choice (going_of s r is.free) (empty_hand s r acts is.free.kept (hand_is_empty s r is.free)) (chosen s t r choice is.answers) (after s t r choice is.answers) is.place is.moves
 
 made_entries : {D : Type 0} (s : PlayerState D) (r : ℕ) (choice : Choice) → IsFree s r → choice ≡ choice_of (configuration_of s.hub) r s.hub.moment → Makes choice
 made_entries s r choice free is = subst Makes (sym is) (choice_makes (configuration_of s.hub) r s.hub.moment (going_of s r free).1)
@@ -177,6 +179,11 @@ answered_fewer s t r choice yes' is bound =
     (subst (λ c. length s.hub.history < length (after_choice (at_moment (configuration_of s.hub) s.hub.moment) r c).history) same (more_by (at_moment (configuration_of s.hub) s.hub.moment) r choice yes' (made_entries s r choice is.free same))) in
     made_fewer s t (stays_by s t is.window is.rounds) is.grips is.place more bound
 
+-- one that waits leaves as many
+waited_left : {D : Type 0} (s t : PlayerState D) (r : ℕ) (why : Why) → IsAnswered s t r (Waits why) → steps_left t ≡ steps_left s
+waited_left s t r why is = still_left s t (stays_by s t is.window is.rounds) is.grips is.place
+    (ap (λ (c : Configuration). c.history) (after s t r (Waits why) is.answers) ∙ ap (λ c. (after_choice (at_moment (configuration_of s.hub) s.hub.moment) r c).history) (sym (chosen s t r (Waits why) is.answers)))
+
 -- a run of the window is not absent
 pub never_absent : {D : Type 0} (s t : PlayerState D) (r : ℕ) → IsAnswered s t r Absent → ⊥
 never_absent s t r is = there_is s r is.free (sym (chosen s t r Absent is.answers))
@@ -194,6 +201,7 @@ pub record GoesToHand {D : Type 0} (s t : PlayerState D) (r : ℕ) (grip : Gripp
   pub grips : t.grips ≡ slice_set s.grips r (Some grip)
   pub rounds : t.rounds ≡ s.rounds
   pub place : t.place ≡ s.place
+  pub moves : t.moves ≡ s.moves
 
 pub goes_now : {D : Type 0} (s t : OpenHub D) (r m : ℕ) (grip : Gripped D Ready) → m ≡ s.moment → GoesOut s r m grip t → GoesOut s r s.moment grip t
 goes_now s t r m grip own = subst (λ n. GoesOut s r n grip t) own
@@ -229,8 +237,8 @@ went_keeps s t r grip is = takes_keeps s t r grip (takes_of s t r grip is) is.fr
 pub went_plans : {D P : Type 0} (plan : D → P) (plans : ℕ → P) (s t : PlayerState D) (r : ℕ) (grip : Gripped D Ready) → GoesToHand s t r grip → HavePlans plan plans s → HavePlans plan plans t
 went_plans plan plans s t r grip is = takes_plans plan plans s t r grip (takes_of s t r grip is)
 
-pub went_picked : {D : Type 0} (s t : PlayerState D) (r acts : ℕ) (grip : Gripped D Ready) → GoesToHand s t r grip → IsPicked s.rounds r (play_of s acts) (Took grip.slip.device.0) (play_of t acts)
-went_picked s t r acts grip is = taken_is_picked s t s.rounds r acts (HandsOut grip.slip.device.0 is.out.purpose) (going_of s r is.free) (empty_hand s r acts is.free.kept (hand_is_empty s r is.free)) (went s t r grip is) (went_after s t r grip is) is.place
+pub went_stepped : {D : Type 0} (s t : PlayerState D) (r acts : ℕ) (grip : Gripped D Ready) → GoesToHand s t r grip → IsStepped s.rounds r (play_of s acts) (Took grip.slip.device.0) (play_of t acts)
+went_stepped s t r acts grip is = taken_is_stepped s t s.rounds r acts (HandsOut grip.slip.device.0 is.out.purpose) (going_of s r is.free) (empty_hand s r acts is.free.kept (hand_is_empty s r is.free)) (went s t r grip is) (went_after s t r grip is) is.place is.moves
 
 pub went_fewer : {D : Type 0} (s t : PlayerState D) (r : ℕ) (grip : Gripped D Ready) → GoesToHand s t r grip → steps_left t < steps_left s
 went_fewer s t zero grip is = absurd (let run = is.free.run in omega (arith, run))
@@ -238,8 +246,8 @@ went_fewer s t (suc r) grip is = took_fewer s t r grip (stays_by s t is.window i
 
 -- The same of the player as callers see it
 
-pub answered_picked_now : {D : Type 0} (now s t : PlayerState D) (r : ℕ) (choice : Choice) → s ≡ now → IsAnswered s t r choice → (acts : ℕ) → (later : ℕ) × IsPicked now.rounds r (play_of now acts) (picked_by choice) (play_of t later)
-answered_picked_now {D = D} now s t r choice same is acts = (acts, subst (λ (x : PlayerState D). IsPicked x.rounds r (play_of x acts) (picked_by choice) (play_of t acts)) same (answered_picked s t r acts choice is))
+pub answered_stepped_now : {D : Type 0} (now s t : PlayerState D) (r : ℕ) (choice : Choice) → s ≡ now → IsAnswered s t r choice → (acts : ℕ) → (later : ℕ) × IsStepped now.rounds r (play_of now acts) (picked_by choice) (play_of t later)
+answered_stepped_now {D = D} now s t r choice same is acts = (acts, subst (λ (x : PlayerState D). IsStepped x.rounds r (play_of x acts) (picked_by choice) (play_of t acts)) same (answered_stepped s t r acts choice is))
 
 pub answered_plans_now : {D P : Type 0} (plan : D → P) (now s t : PlayerState D) (r : ℕ) (choice : Choice) → s ≡ now → IsAnswered s t r choice → (plans : ℕ → P) → HavePlans plan plans now → HavePlans plan plans t
 answered_plans_now {D = D} plan now s t r choice same is plans have = answered_plans plan plans s t r choice is (subst (λ (x : PlayerState D). HavePlans plan plans x) (sym same) have)
@@ -247,8 +255,11 @@ answered_plans_now {D = D} plan now s t r choice same is plans have = answered_p
 pub answered_fewer_now : {D : Type 0} (now s t : PlayerState D) (r : ℕ) (choice : Choice) → s ≡ now → makes choice ≡ true → IsAnswered s t r choice → length t.hub.history ≤ most_made t → steps_left t < steps_left now
 answered_fewer_now {D = D} now s t r choice same yes' is bound = subst (λ (x : PlayerState D). steps_left t < steps_left x) same (answered_fewer s t r choice yes' is bound)
 
-pub went_picked_now : {D : Type 0} (now s t : PlayerState D) (r d : ℕ) (grip : Gripped D Ready) → s ≡ now → d ≡ grip.slip.device.0 → GoesToHand s t r grip → (acts : ℕ) → (later : ℕ) × IsPicked now.rounds r (play_of now acts) (Took d) (play_of t later)
-went_picked_now {D = D} now s t r d grip same number is acts = (acts, subst (λ (x : PlayerState D). IsPicked x.rounds r (play_of x acts) (Took d) (play_of t acts)) same (subst (λ e. IsPicked s.rounds r (play_of s acts) (Took e) (play_of t acts)) (sym number) (went_picked s t r acts grip is)))
+pub waited_left_now : {D : Type 0} (now s t : PlayerState D) (r : ℕ) (why : Why) → s ≡ now → IsAnswered s t r (Waits why) → steps_left t ≡ steps_left now
+waited_left_now {D = D} now s t r why same is = subst (λ (x : PlayerState D). steps_left t ≡ steps_left x) same (waited_left s t r why is)
+
+pub went_stepped_now : {D : Type 0} (now s t : PlayerState D) (r d : ℕ) (grip : Gripped D Ready) → s ≡ now → d ≡ grip.slip.device.0 → GoesToHand s t r grip → (acts : ℕ) → (later : ℕ) × IsStepped now.rounds r (play_of now acts) (Took d) (play_of t later)
+went_stepped_now {D = D} now s t r d grip same number is acts = (acts, subst (λ (x : PlayerState D). IsStepped x.rounds r (play_of x acts) (Took d) (play_of t acts)) same (subst (λ e. IsStepped s.rounds r (play_of s acts) (Took e) (play_of t acts)) (sym number) (went_stepped s t r acts grip is)))
 
 pub went_plans_now : {D P : Type 0} (plan : D → P) (now s t : PlayerState D) (r : ℕ) (grip : Gripped D Ready) → s ≡ now → GoesToHand s t r grip → (plans : ℕ → P) → HavePlans plan plans now → HavePlans plan plans t
 went_plans_now {D = D} plan now s t r grip same is plans have = went_plans plan plans s t r grip is (subst (λ (x : PlayerState D). HavePlans plan plans x) (sym same) have)
@@ -257,5 +268,5 @@ pub went_fewer_now : {D : Type 0} (now s t : PlayerState D) (r : ℕ) (grip : Gr
 went_fewer_now {D = D} now s t r grip same is = subst (λ (x : PlayerState D). steps_left t < steps_left x) same (went_fewer s t r grip is)
 
 -- an actor that has ended passes
-pub passed_now : {D : Type 0} (now s : PlayerState D) (a acts : ℕ) → s ≡ now → PlayerIsKept s → length s.hub.places ≡ length s.hub.setting.first → is_ended now a ≡ true → (later : ℕ) × IsPicked now.rounds a (play_of now acts) Passed (play_of now later)
-passed_now {D = D} now s a acts same kept size ended = (acts, subst (λ (x : PlayerState D). IsPicked x.rounds a (play_of x acts) Passed (play_of x acts)) same (passed_is_picked s a acts kept size (subst (λ (x : PlayerState D). is_ended x a ≡ true) (sym same) ended)))
+pub passed_now : {D : Type 0} (now : PlayerState D) (a acts : ℕ) → PlayerStands now → is_ended now a ≡ true → (later : ℕ) × IsPicked now.rounds a (play_of now acts) Passed (play_of now later)
+passed_now now a acts stands ended = (acts, passed_is_picked now a acts stands.kept stands.size ended)

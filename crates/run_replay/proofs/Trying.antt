@@ -87,7 +87,7 @@ full_by_play s a acts kept size low = by_hand (is_full s a) refl
 
 -- the moment of a player is its hub's, so a pick that waits leaves the play as it is
 same_play : {D : Type 0} (s : PlayerState D) (acts : ℕ) → waited (play_of s acts) ≡ play_of s acts
-same_play s acts = ap (λ c. record { configuration = c; moment = s.hub.moment; place = s.place; acts = acts }) (at_own_moment (configuration_of s.hub))
+same_play s acts = ap (λ c. record { configuration = c; moment = s.hub.moment; place = s.place; acts = acts; moves = s.moves }) (at_own_moment (configuration_of s.hub))
 
 -- the player after a pick that waited: it stands for the same play
 pub record Stays {D : Type 0} (s t : PlayerState D) : Type 0 where
@@ -218,7 +218,7 @@ first_of [] some = absurd (omega (arith, some))
 first_of (x ∷ xs) some = (x, refl)
 
 pub never_all : {D : Type 0} (old now : PlayerState D) (place step : ℕ) → HaveWaited old now (from_place place (are_live old)) step → length (are_live old) ≤ step → 0 < length (are_live old) → ⊥
-never_all {D = D} old now place step wait all some = not_all_wait course now 0 wait.stands.kept wait.stands.size wait.stands.grips (λ r going home. let q = wait.stands.moves r going.0 going.1 home in (q.0, (q.1, q.2), q.3)) each one.0 within (ended_is course now 0 one.0 wait.stands.kept wait.stands.size refl ∙ on.1)
+never_all {D = D} old now place step wait all some = not_all_wait course now 0 wait.stands.kept wait.stands.size wait.stands.grips (λ r going home. let q = wait.stands.progress r going.0 going.1 home in (q.0, (q.1, q.2), q.3)) each one.0 within (ended_is course now 0 one.0 wait.stands.kept wait.stands.size refl ∙ on.1)
   where
     course : Course
     course = record { rounds = now.rounds; told = λ k. Worked }

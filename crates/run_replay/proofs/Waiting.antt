@@ -1,8 +1,8 @@
 -- A pick that waits changes no more than the last moment.
 use Rattle.hub_core.specs.Steps.{Absent, Choice, HandsOut, Moves, Over, Waits, after_choice, after_take_probe, at_moment, choice_of, may_probe}
 use Rattle.lock_leasing.specs.Configurations.{Configuration, Grip}
-use Rattle.run_replay.specs.Replays.{Course, Play, Took, act_on, act_where_out, actor_takes, detector_takes, gripped, has_ended, passes, pick, pick_live, picked_by, run_takes, waits}
-use Rattle.std.proofs.Common.{ap, refl}
+use Rattle.run_replay.specs.Replays.{Course, Made, Passed, Pick, Picked, Play, Took, Waited, act_on, act_where_out, actor_takes, counted, detector_takes, gripped, has_ended, moves_after, passes, pick, pick_live, picked_by, run_takes, waits}
+use Rattle.std.proofs.Common.{ap, refl, ◌∙◌}
 use Rattle.std.specs.Prelude.{Bool, None, Option, Some, false, if◌then◌else◌, length, option_map, suc, true, unwrap_or, zero, ℕ, ◌%◌, ◌+◌, ◌≡◌}
 
 -- the play after a pick that waits
@@ -36,9 +36,19 @@ live_waits : (course : Course) (p : Play) (a : ℕ) (o : Option ℕ) → waits (
 live_waits course p a None e = actor_waits p a e
 live_waits course p a (Some d) e = absurd (let never = act_never_waits course p d (p.configuration.grips d) in cc)
 
-by_end : (course : Course) (p : Play) (a : ℕ) (b : Bool) → waits (if b then passes p else pick_live course p a).picked ≡ true → (if b then passes p else pick_live course p a).next ≡ waited p
+-- a wait is not counted
+waits_uncounted : (x : Pick) → waits x.picked ≡ true → (counted x).next ≡ x.next
+waits_uncounted x e = by_picked x.picked e
+  where
+    by_picked : (picked : Picked) → waits picked ≡ true → record x.next { moves = moves_after picked x.next.moves } ≡ x.next
+    by_picked Passed e = refl
+    by_picked (Made entries) e = absurd (cc)
+    by_picked (Took d) e = absurd (cc)
+    by_picked (Waited why) e = refl
+
+by_end : (course : Course) (p : Play) (a : ℕ) (b : Bool) → waits (if b then passes p else counted (pick_live course p a)).picked ≡ true → (if b then passes p else counted (pick_live course p a)).next ≡ waited p
 by_end course p a true e = absurd (cc)
-by_end course p a false e = live_waits course p a (gripped p a) e
+by_end course p a false e = waits_uncounted (pick_live course p a) e ∙ live_waits course p a (gripped p a) e
 
 -- a pick that waits leaves the play but for its last moment
 pub wait_keeps : (course : Course) (p : Play) (a : ℕ) → waits (pick course p a).picked ≡ true → (pick course p a).next ≡ waited p

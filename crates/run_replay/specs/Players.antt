@@ -6,8 +6,8 @@ use Rattle.device_gate.specs.declared.grips.Ready.{Ready}
 use Rattle.device_gate.specs.declared.slips.Slip.{Slip}
 use Rattle.device_gate.specs.declared.slips.Task.{Task}
 use Rattle.history_book.specs.Histories.{entries_made}
-use Rattle.home_types.specs.Limits.{most_runs}
-use Rattle.hub_core.specs.Bounds.{most_entries}
+use Rattle.home_types.specs.Limits.{most_devices, most_runs}
+use Rattle.hub_core.specs.Bounds.{IsBounded, most_entries}
 use Rattle.hub_core.specs.HubCalls.{SomeRunMoves}
 use Rattle.hub_core.specs.OpenHubs.{OpenHub, configuration_of}
 use Rattle.lock_leasing.specs.Configurations.{read_of}
@@ -18,16 +18,21 @@ use Rattle.run_replay.specs.declared.picked.Picked.{Picked as PickedSo}
 use Rattle.std.specs.List.{range_with_len}
 use Rattle.std.specs.Prelude.{Bool, List, None, Option, Some, [], drop, false, filter, is_some, length, nat_le, not, option_map, suc, unwrap_or, zero, slice_get, ℕ, ◌*◌, ◌+◌, ◌-◌, ◌<◌, ◌^◌, ◌&&◌, ◌||◌, ◌∷◌, ◌≡◌, ◌≤◌, ◌⊎◌}
 
--- what a player shows: its hub, the grips that its actors hold, by their numbers, the detector's rounds, and how many devices the detector has come to
+-- what a player shows: its hub, the grips that its actors hold, by their numbers, the detector's rounds, how many devices the detector has come to, and how many picks took a device, gave one back or made entries
 pub record PlayerState (D : Type 0) : Type 0 where
   pub hub : OpenHub D
   pub grips : List (Option (Gripped D Ready))
   pub rounds : ℕ
   pub place : ℕ
+  pub moves : ℕ
+
+-- the same player with so many moves
+abbrev pub with_moves : {D : Type 0} → ℕ → PlayerState D → PlayerState D
+with_moves moves s = record s { moves = moves }
 
 -- the play that it stands for, after so many acts: its moment is the hub's last one
 abbrev pub play_of : {D : Type 0} → PlayerState D → ℕ → Play
-play_of s acts = record { configuration = configuration_of s.hub; moment = s.hub.moment; place = s.place; acts = acts }
+play_of s acts = record { configuration = configuration_of s.hub; moment = s.hub.moment; place = s.place; acts = acts; moves = s.moves }
 
 -- what a pick did
 abbrev pub picked_of : PickedSo → Picked
@@ -95,6 +100,14 @@ steps_left s =
     2 * (most_made s - length s.hub.history) + empty_places (drop 1 s.grips)
     + 2 * (s.rounds * length s.hub.setting.first - s.place) + first_is_full s.grips
 
+-- how many picks take a device, give one back or make entries at most, with so many runs, devices, probes of each device and rounds of the detector: two for each entry that a history has at most, one for each run, and two for each device that the detector comes to
+abbrev pub most_moves : ℕ → ℕ → ℕ → ℕ → ℕ
+most_moves runs devices probes rounds = 2 * most_entries runs devices probes + runs + 2 * (rounds * devices)
+
+-- the picks that moved, and the steps that are left, are not more than that
+abbrev pub MovesAreFew : {D : Type 0} → PlayerState D → Type 0
+MovesAreFew s = s.moves + steps_left s ≤ most_moves (length s.hub.setting.runs) (length s.hub.setting.first) s.hub.rounds s.rounds
+
 -- the actors that have not ended, ascending
 abbrev pub are_live : {D : Type 0} → PlayerState D → List ℕ
 are_live s = filter (λ a. not (is_ended s a)) (range_with_len 0 (length s.grips))
@@ -116,4 +129,6 @@ pub record PlayerStands {D : Type 0} (s : PlayerState D) : Type 0 where
   pub size : length s.hub.places ≡ length s.hub.setting.first
   pub few_runs : length s.hub.setting.runs ≤ most_runs
   pub grips : GripsFit s.hub.setting (read_of (configuration_of s.hub)) (configuration_of s.hub).grips
-  pub moves : SomeRunMoves (configuration_of s.hub)
+  pub progress : SomeRunMoves (configuration_of s.hub)
+  pub few_devices : length s.hub.setting.first ≤ most_devices
+  pub bounded : IsBounded s.hub

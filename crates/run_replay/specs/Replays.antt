@@ -20,6 +20,8 @@ pub record Play : Type 0 where
   pub place : ℕ
   -- how many grips were acted on
   pub acts : ℕ
+  -- how many picks took a device, gave one back or made entries
+  pub moves : ℕ
 
 -- what is fixed: the detector's rounds, and what each act is told
 pub record Course : Type 0 where
@@ -73,6 +75,7 @@ act_on course p d grip =
         moment = moment;
         place = p.place;
         acts = p.acts + 1;
+        moves = p.moves;
       };
     }
   where
@@ -111,9 +114,24 @@ actor_takes p (suc r) = run_takes p (suc r)
 abbrev pub pick_live : Course → Play → ℕ → Pick
 pick_live course p a = unwrap_or (option_map (act_where_out course p) (gripped p a)) (actor_takes p a)
 
+-- it took a device, gave one back or made entries, if any
+abbrev pub has_moved : Picked → Bool
+has_moved Passed = false
+has_moved (Made entries) = true
+has_moved (Took d) = true
+has_moved (Waited why) = false
+
+-- how many picks have moved with this one
+abbrev pub moves_after : Picked → ℕ → ℕ
+moves_after picked moves = if has_moved picked then moves + 1 else moves
+
+-- the pick is counted
+abbrev pub counted : Pick → Pick
+counted x = record { picked = x.picked; next = record x.next { moves = moves_after x.picked x.next.moves } }
+
 -- one pick of an actor: a run, or 0 for the detector
 abbrev pub pick : Course → Play → ℕ → Pick
-pick course p a = if has_ended course p a then passes p else pick_live course p a
+pick course p a = if has_ended course p a then passes p else counted (pick_live course p a)
 
 -- picks, one after another
 abbrev pub play : Course → Play → List ℕ → Play
@@ -159,7 +177,7 @@ draw_times course zero s = s
 draw_times course (suc k) s = draw_times course k (draw_once course s)
 
 abbrev pub start_of : Setting → ℕ → Play
-start_of w rounds = record { configuration = opened w rounds; moment = 0; place = 0; acts = 0 }
+start_of w rounds = record { configuration = opened w rounds; moment = 0; place = 0; acts = 0; moves = 0 }
 
 -- a play goes on by these picks, and then by so many draws of the generator from this seed
 abbrev pub replay_from : Course → Play → List ℕ → ℕ → ℕ → Play

@@ -1,13 +1,13 @@
-ghost use Rattle.std.specs.Prelude.{◌≡◌, ◌≢◌, ◌<◌, ◌≤◌, None, Some, IfErr, IfOk, IsTrue, false, length, true, vec_capacity, ℕ};
+ghost use Rattle.std.specs.Prelude.{◌≡◌, ◌≢◌, ◌<◌, ◌≤◌, ◌^◌, None, Some, IfErr, IfOk, IsTrue, false, length, true, vec_capacity, ℕ};
 ghost use Rattle.hub_core.specs.BlockedRuns.{IsBlocked};
 ghost use Rattle.hub_core.specs.HubCalls.{HubStands, IsClosed, SameWindow};
 ghost use Rattle.hub_core.specs.OpenHubs.{configuration_of};
 ghost use Rattle.hub_core.specs.Steps.{not_quiet, opened};
-ghost use Rattle.run_replay.specs.Players.{HavePlans, HoldNothing, IsOpened, PlayerStands, is_ended, is_full, picked_of, play_of, steps_left};
-ghost use Rattle.run_replay.specs.Playing.{IsPicked};
-ghost use Rattle.run_replay.specs.Replays.{waits};
+ghost use Rattle.run_replay.specs.Players.{HavePlans, HoldNothing, IsOpened, MovesAreFew, PlayerStands, is_ended, is_full, picked_of, play_of, steps_left, with_moves};
+ghost use Rattle.run_replay.specs.Playing.{IsPicked, IsStepped};
+ghost use Rattle.run_replay.specs.Replays.{moves_after, waits};
 
-use crate::picked::Picked;
+use crate::picked::{Picked, has_moved};
 use device_states::Device;
 use history_book::{Made, WindowRecord};
 use home_types::{DeviceNo, NoMemory, RunNo};
@@ -27,6 +27,8 @@ pub(crate) struct Hands<D: Device> {
     rounds: u32,
     /// How many devices the detector has come to.
     place: u64,
+    /// How many picks took a device, gave one back or made entries.
+    moves: u64,
 }
 
 impl<D: Device> Model for Hands<D> {
@@ -34,9 +36,9 @@ impl<D: Device> Model for Hands<D> {
 
     ghost Value = { PlayerState D };
 
-    ghost view = { λ p. record { hub = p.hub; grips = p.grips.items; rounds = p.rounds; place = p.place } };
+    ghost view = { λ p. record { hub = p.hub; grips = p.grips.items; rounds = p.rounds; place = p.place; moves = p.moves } };
 
-    ghost invariant = { λ p. PlayerIsKept (record { hub = p.hub; grips = p.grips.items; rounds = p.rounds; place = p.place }) };
+    ghost invariant = { λ p. PlayerIsKept (record { hub = p.hub; grips = p.grips.items; rounds = p.rounds; place = p.place; moves = p.moves }) };
 }
 
 impl<D: Device> Hands<D> {
@@ -62,25 +64,58 @@ impl<D: Device> Hands<D> {
             grips,
             rounds,
             place: 0,
+            moves: 0,
         })
     }
 
-    /// Steps the actor, a run or 0 for the detector.
+    /// Steps the actor, a run or 0 for the detector, and counts its pick where it moved.
     pub(crate) fn pick(&mut self, actor: u32) -> Picked
+        requires few { MovesAreFew self.old }
         ensures picked { (acts : ℕ) → (later : ℕ) × IsPicked self.old.rounds actor (play_of self.old acts) (picked_of result) (play_of self.new later) }
         ensures window { SameWindow self.old.hub self.new.hub }
         ensures rounds { self.new.rounds ≡ self.old.rounds }
         ensures plans { (plans : ℕ → _) → HavePlans D.plan plans self.old → HavePlans D.plan plans self.new }
+        ensures moves { self.new.moves ≡ moves_after (picked_of result) self.old.moves }
         ensures fewer { waits (picked_of result) ≡ false → is_ended self.old actor ≡ false → steps_left self.new < steps_left self.old }
+        ensures few { MovesAreFew self.new }
         ensures hands { length self.new.grips ≡ length self.old.grips }
         ensures others { (q : ℕ) → q ≢ actor → is_ended self.new q ≡ is_ended self.old q }
         ensures over { is_ended self.old actor ≡ true → is_ended self.new actor ≡ true }
         ensures waiting { waits (picked_of result) ≡ true → is_ended self.new actor ≡ is_ended self.old actor }
     {
-        self.hub.kept();
+        self.kept();
         if self.has_ended(actor) {
             return Picked::Passed;
         }
+        let picked = self.step(actor);
+        self.count(picked);
+        picked
+    }
+
+    /// Counts a pick where it moved.
+    fn count(&mut self, picked: Picked)
+        requires low { self.old.moves < 2 ^ 63 }
+        ensures { self.new ≡ with_moves (moves_after (picked_of picked) self.old.moves) self.old }
+    {
+        if has_moved(picked) {
+            self.moves += 1;
+        }
+    }
+
+    /// Steps the actor, which has not ended.
+    fn step(&mut self, actor: u32) -> Picked
+        requires going { is_ended self.old actor ≡ false }
+        ensures stepped { (acts : ℕ) → (later : ℕ) × IsStepped self.old.rounds actor (play_of self.old acts) (picked_of result) (play_of self.new later) }
+        ensures window { SameWindow self.old.hub self.new.hub }
+        ensures rounds { self.new.rounds ≡ self.old.rounds }
+        ensures moves { self.new.moves ≡ self.old.moves }
+        ensures plans { (plans : ℕ → _) → HavePlans D.plan plans self.old → HavePlans D.plan plans self.new }
+        ensures fewer { waits (picked_of result) ≡ false → steps_left self.new < steps_left self.old }
+        ensures left { waits (picked_of result) ≡ true → steps_left self.new ≡ steps_left self.old }
+        ensures hands { length self.new.grips ≡ length self.old.grips }
+        ensures others { (q : ℕ) → q ≢ actor → is_ended self.new q ≡ is_ended self.old q }
+        ensures waiting { waits (picked_of result) ≡ true → is_ended self.new actor ≡ is_ended self.old actor }
+    {
         if actor == 0 {
             return self.probe();
         }
@@ -89,6 +124,13 @@ impl<D: Device> Hands<D> {
         } else {
             self.run_takes(RunNo(actor))
         }
+    }
+
+    /// How many picks took a device, gave one back or made entries.
+    pub(crate) fn moves(&self) -> u64
+        ensures { result ≡ self.now.moves }
+    {
+        self.moves
     }
 
     /// Whether the actor holds a grip.
@@ -124,9 +166,10 @@ impl<D: Device> Hands<D> {
         requires run { 0 < actor }
         requires going { is_ended self.old actor ≡ false }
         requires holds { is_full self.old actor ≡ true }
-        ensures picked { (acts : ℕ) → (later : ℕ) × IsPicked self.old.rounds actor (play_of self.old acts) (picked_of (Picked.Made result)) (play_of self.new later) }
+        ensures stepped { (acts : ℕ) → (later : ℕ) × IsStepped self.old.rounds actor (play_of self.old acts) (picked_of (Picked.Made result)) (play_of self.new later) }
         ensures window { SameWindow self.old.hub self.new.hub }
         ensures rounds { self.new.rounds ≡ self.old.rounds }
+        ensures moves { self.new.moves ≡ self.old.moves }
         ensures plans { (plans : ℕ → _) → HavePlans D.plan plans self.old → HavePlans D.plan plans self.new }
         ensures fewer { steps_left self.new < steps_left self.old }
         ensures hands { length self.new.grips ≡ length self.old.grips }
@@ -154,14 +197,16 @@ impl<D: Device> Hands<D> {
         requires run { 0 < r.0 }
         requires going { is_ended self.old r.0 ≡ false }
         requires empty { is_full self.old r.0 ≡ false }
-        ensures picked { (acts : ℕ) → (later : ℕ) × IsPicked self.old.rounds r.0 (play_of self.old acts) (picked_of result) (play_of self.new later) }
+        ensures stepped { (acts : ℕ) → (later : ℕ) × IsStepped self.old.rounds r.0 (play_of self.old acts) (picked_of result) (play_of self.new later) }
         ensures window { SameWindow self.old.hub self.new.hub }
         ensures rounds { self.new.rounds ≡ self.old.rounds }
+        ensures moves { self.new.moves ≡ self.old.moves }
         ensures plans { (plans : ℕ → _) → HavePlans D.plan plans self.old → HavePlans D.plan plans self.new }
         ensures fewer { waits (picked_of result) ≡ false → steps_left self.new < steps_left self.old }
         ensures hands { length self.new.grips ≡ length self.old.grips }
         ensures others { (q : ℕ) → q ≢ r.0 → is_ended self.new q ≡ is_ended self.old q }
         ensures waiting { waits (picked_of result) ≡ true → is_ended self.new r.0 ≡ is_ended self.old r.0 }
+        ensures left { waits (picked_of result) ≡ true → steps_left self.new ≡ steps_left self.old }
     {
         let now = self.hub.moment();
         let turn = self.hub.take(r, now);
@@ -184,14 +229,15 @@ impl<D: Device> Hands<D> {
     /// Steps the detector: where it holds a grip it gives it back, and else it comes to its next device.
     fn probe(&mut self) -> Picked
         requires going { is_ended self.old 0 ≡ false }
-        ensures picked { (acts : ℕ) → (later : ℕ) × IsPicked self.old.rounds 0 (play_of self.old acts) (picked_of result) (play_of self.new later) }
+        ensures stepped { (acts : ℕ) → (later : ℕ) × IsStepped self.old.rounds 0 (play_of self.old acts) (picked_of result) (play_of self.new later) }
         ensures window { SameWindow self.old.hub self.new.hub }
         ensures rounds { self.new.rounds ≡ self.old.rounds }
+        ensures moves { self.new.moves ≡ self.old.moves }
         ensures plans { (plans : ℕ → _) → HavePlans D.plan plans self.old → HavePlans D.plan plans self.new }
         ensures fewer { steps_left self.new < steps_left self.old }
         ensures hands { length self.new.grips ≡ length self.old.grips }
         ensures others { (q : ℕ) → q ≢ 0 → is_ended self.new q ≡ is_ended self.old q }
-        ensures moves { waits (picked_of result) ≡ false }
+        ensures goes_on { waits (picked_of result) ≡ false }
     {
         if self.holds(0) {
             Picked::Made(self.detector_acts())
@@ -204,9 +250,10 @@ impl<D: Device> Hands<D> {
     fn detector_acts(&mut self) -> Made
         requires going { is_ended self.old 0 ≡ false }
         requires holds { is_full self.old 0 ≡ true }
-        ensures picked { (acts : ℕ) → (later : ℕ) × IsPicked self.old.rounds 0 (play_of self.old acts) (picked_of (Picked.Made result)) (play_of self.new later) }
+        ensures stepped { (acts : ℕ) → (later : ℕ) × IsStepped self.old.rounds 0 (play_of self.old acts) (picked_of (Picked.Made result)) (play_of self.new later) }
         ensures window { SameWindow self.old.hub self.new.hub }
         ensures rounds { self.new.rounds ≡ self.old.rounds }
+        ensures moves { self.new.moves ≡ self.old.moves }
         ensures plans { (plans : ℕ → _) → HavePlans D.plan plans self.old → HavePlans D.plan plans self.new }
         ensures fewer { steps_left self.new < steps_left self.old }
         ensures hands { length self.new.grips ≡ length self.old.grips }
@@ -229,14 +276,15 @@ impl<D: Device> Hands<D> {
     fn detector_takes(&mut self) -> Picked
         requires going { is_ended self.old 0 ≡ false }
         requires empty { is_full self.old 0 ≡ false }
-        ensures picked { (acts : ℕ) → (later : ℕ) × IsPicked self.old.rounds 0 (play_of self.old acts) (picked_of result) (play_of self.new later) }
+        ensures stepped { (acts : ℕ) → (later : ℕ) × IsStepped self.old.rounds 0 (play_of self.old acts) (picked_of result) (play_of self.new later) }
         ensures window { SameWindow self.old.hub self.new.hub }
         ensures rounds { self.new.rounds ≡ self.old.rounds }
+        ensures moves { self.new.moves ≡ self.old.moves }
         ensures plans { (plans : ℕ → _) → HavePlans D.plan plans self.old → HavePlans D.plan plans self.new }
         ensures fewer { steps_left self.new < steps_left self.old }
         ensures hands { length self.new.grips ≡ length self.old.grips }
         ensures others { (q : ℕ) → q ≢ 0 → is_ended self.new q ≡ is_ended self.old q }
-        ensures moves { waits (picked_of result) ≡ false }
+        ensures goes_on { waits (picked_of result) ≡ false }
     {
         self.hub.kept();
         let d = DeviceNo((self.place % self.hub.device_count()) as u16);
@@ -258,6 +306,7 @@ impl<D: Device> Hands<D> {
     {
         self.hub.kept();
         self.hub.progress();
+        self.hub.bounded();
     }
 
     /// Closes the window.
@@ -274,6 +323,7 @@ impl<D: Device> Hands<D> {
             mut grips,
             rounds,
             place,
+            moves,
         } = self;
         hub.kept();
         match hub.close_window() {
@@ -293,6 +343,7 @@ impl<D: Device> Hands<D> {
                     grips,
                     rounds,
                     place,
+                    moves,
                 },
                 why,
             )),

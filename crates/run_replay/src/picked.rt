@@ -1,6 +1,6 @@
 ghost use Rattle.std.specs.Prelude.{◌≡◌};
 ghost use Rattle.run_replay.specs.Players.{picked_of};
-ghost use Rattle.run_replay.specs.Replays.{waits};
+ghost use Rattle.run_replay.specs.Replays.{has_moved, waits};
 
 use history_book::Made;
 use home_types::DeviceNo;
@@ -24,4 +24,11 @@ pub(crate) fn has_waited(picked: Picked) -> bool
     ensures { result ≡ waits (picked_of picked) }
 {
     matches!(picked, Picked::Waits(_))
+}
+
+/// Whether the actor that did this took a device, gave one back or made entries.
+pub(crate) fn has_moved(picked: Picked) -> bool
+    ensures { result ≡ has_moved (picked_of picked) }
+{
+    matches!(picked, Picked::Made(_) | Picked::Took(_))
 }

@@ -1,8 +1,8 @@
-ghost use Rattle.std.specs.Prelude.{◌≡◌, ◌<◌, ◌==◌, false, filter, not, ℕ};
+ghost use Rattle.std.specs.Prelude.{◌≡◌, ◌<◌, ◌≤◌, ◌==◌, false, filter, length, not, ℕ};
 ghost use Rattle.hub_core.specs.HubCalls.{HubStands, SameWindow};
-ghost use Rattle.run_replay.specs.Players.{HavePlans, PlayerStands, is_ended, picked_of, play_of, steps_left};
+ghost use Rattle.run_replay.specs.Players.{HavePlans, PlayerStands, is_ended, most_moves, picked_of, play_of, steps_left};
 ghost use Rattle.run_replay.specs.Playing.{IsPicked, IsPlayed};
-ghost use Rattle.run_replay.specs.Replays.{waits};
+ghost use Rattle.run_replay.specs.Replays.{moves_after, waits};
 
 use crate::hands::Hands;
 use crate::picked::{Picked, has_waited};
@@ -18,13 +18,13 @@ pub struct Player<D: Device> {
 
 impl<D: Device> Model for Player<D> {
     ghost use Rattle.std.specs.Prelude.{◌≡◌};
-    ghost use Rattle.run_replay.specs.Players.{PlayerState, are_live};
+    ghost use Rattle.run_replay.specs.Players.{MovesAreFew, PlayerState, are_live};
 
     ghost Value = { PlayerState D };
 
     ghost view = { λ p. p.hands };
 
-    ghost invariant = { λ p. p.actors.items ≡ are_live p.hands };
+    ghost invariant = { λ p. (p.actors.items ≡ are_live p.hands) × MovesAreFew p.hands };
 }
 
 /// Takes an actor out of a list, where it stands there.
@@ -41,6 +41,7 @@ impl<D: Device> Player<D> {
         ensures window { SameWindow self.old.hub self.new.hub }
         ensures rounds { self.new.rounds ≡ self.old.rounds }
         ensures plans { (plans : ℕ → _) → HavePlans D.plan plans self.old → HavePlans D.plan plans self.new }
+        ensures moves { self.new.moves ≡ moves_after (picked_of result) self.old.moves }
         ensures fewer { waits (picked_of result) ≡ false → is_ended self.old actor ≡ false → steps_left self.new < steps_left self.old }
     {
         let picked = self.hands.pick(actor);
@@ -68,6 +69,14 @@ impl<D: Device> Player<D> {
             }
             self.pick(*actor);
         }
+    }
+
+    /// How many picks so far took a device, gave one back or made entries. It takes no memory.
+    pub fn moves(&self) -> u64
+        ensures count { result ≡ self.now.moves }
+        ensures bounded { result ≤ most_moves (length self.now.hub.setting.runs) (length self.now.hub.setting.first) self.now.hub.rounds self.now.rounds }
+    {
+        self.hands.moves()
     }
 
     /// Does nothing. Its contract is what is kept of every player and of its hub, and that its window is never stuck.

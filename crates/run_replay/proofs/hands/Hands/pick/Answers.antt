@@ -1,12 +1,20 @@
+use Rattle.run_replay.proofs.Counted.{counted_now, few_after, moves_low}
 use Rattle.run_replay.proofs.Taking.{passed_now}
 use Rattle.run_replay.proofs.hands.Hands.pick.Goals as goal
-use Rattle.run_replay.specs.Players.{picked_of, play_of}
-use Rattle.run_replay.specs.Playing.{IsPicked}
-use Rattle.std.proofs.Common.{subst, sym}
-use Rattle.std.specs.Prelude.{ℕ}
+use Rattle.run_replay.specs.Players.{HavePlans, picked_of}
+use Rattle.std.proofs.Common.{subst, sym, ◌∙◌}
 
 pub returns-then-has_ended-clause-picked : goal.returns-then-has_ended-clause-picked
-returns-then-has_ended-clause-picked g c acts = passed_now c.args.self.now (record { hub = c.self.inside.hub; grips = c.self.inside.grips.items; rounds = c.self.inside.rounds; place = c.self.inside.place }) c.args.actor acts c.self.view_is c.self.invariant c.kept.ensures.size (sym c.if-has_ended.ensures)
+returns-then-has_ended-clause-picked g c acts = passed_now c.args.self.now c.args.actor acts c.kept.ensures.player (sym c.has_ended.ensures ∙ c.if-has_ended.true)
 
-pub returns-then-actor-eq0-clause-picked : goal.returns-then-actor-eq0-clause-picked
-returns-then-actor-eq0-clause-picked g c = subst (λ a. (acts : ℕ) → (later : ℕ) × IsPicked c.args.self.now.rounds a (play_of c.args.self.now acts) (picked_of c.probe.result) (play_of c.probe.new.self later)) (sym c.if-actor-eq0.true) c.probe.ensures.picked
+pub count-requires : goal.count-requires
+count-requires g c = record { low = moves_low c.args.self.now c.step-picked.new.self c.step-picked.ensures.moves c.kept.ensures.player c.requires.few }
+
+pub returns-clause-picked : goal.returns-clause-picked
+returns-clause-picked g c = counted_now c.args.self.now c.step-picked.new.self c.count.new.self c.args.actor (picked_of c.step-picked.result) c.kept.ensures.player (sym c.has_ended.ensures ∙ c.if-has_ended.false) c.step-picked.ensures.stepped c.count.ensures
+
+pub returns-clause-few : goal.returns-clause-few
+returns-clause-few g c = few_after c.args.self.now c.step-picked.new.self c.count.new.self (picked_of c.step-picked.result) c.step-picked.ensures.window c.step-picked.ensures.rounds c.step-picked.ensures.moves c.step-picked.ensures.fewer c.step-picked.ensures.left c.count.ensures c.requires.few
+
+pub returns-clause-plans : goal.returns-clause-plans
+returns-clause-plans g c plans have = subst (λ x. HavePlans g.D.Device.plan plans x) (sym c.count.ensures) (c.step-picked.ensures.plans plans have)

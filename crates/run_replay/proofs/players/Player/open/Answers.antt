@@ -1,7 +1,9 @@
+use Rattle.run_replay.proofs.Counted.{few_at_first}
 use Rattle.run_replay.proofs.Counting.{none_passes, one_passes}
 use Rattle.run_replay.proofs.players.Player.open.Goals as goal
 use Rattle.run_replay.proofs.players.Player.open.Goals.{else-not-has_ended, then-not-has_ended}
 use Rattle.run_replay.specs.Players.{is_ended}
+use Rattle.run_replay.specs.Replays.{Play}
 use Rattle.hub_core.specs.OpenHubs.{OpenHub}
 use Rattle.std.proofs.Common.{ap, arith, rules, sym, ◌∙◌}
 use Rattle.std.specs.List.{range_with_len}
@@ -38,4 +40,4 @@ invariant_of-result g c =
     let hands = c.kept.ensures.player.kept.actors in
     let own = ap (λ (h : OpenHub _). length h.setting.runs) c.in-Ok-open.ensures.opened.own in
     let all : c.actors.actor ≡ length c.in-Ok-open.hands.grips = omega (arith, c.actors-test.false, c.actors.auto.actor-end, c.run_count-count.ensures, hands, own) in
-    c.actors.invariant.0 ∙ ap (λ n. filter (λ a. not (is_ended c.in-Ok-open.hands a)) (range_with_len 0 n)) all
+    (c.actors.invariant.0 ∙ ap (λ n. filter (λ a. not (is_ended c.in-Ok-open.hands a)) (range_with_len 0 n)) all, few_at_first c.in-Ok-open.hands c.kept.ensures.player.kept (ap (λ (p : Play). p.moves) c.in-Ok-open.ensures.opened.start) c.in-Ok-open.ensures.opened.hands)

@@ -4,7 +4,10 @@ use Rattle.run_replay.specs.Players.{is_ended, picked_of}
 use Rattle.std.proofs.Common.{Bool, false, refl, sym, true, ◌≡◌, ◌∙◌}
 
 pub invariant_of-self : goal.invariant_of-self
-invariant_of-self g c = kept_in c.self.inside.hands c.pick-picked.new.self c.self.inside.actors.items c.args.actor c.self.invariant c.pick-picked.ensures.hands c.pick-picked.ensures.others (c.pick-picked.ensures.waiting (sym c.has_waited.ensures ∙ c.if-has_waited.true))
+invariant_of-self g c = (
+  kept_in c.self.inside.hands c.pick-picked.new.self c.self.inside.actors.items c.args.actor c.self.invariant.0 c.pick-picked.ensures.hands c.pick-picked.ensures.others (c.pick-picked.ensures.waiting (sym c.has_waited.ensures ∙ c.if-has_waited.true)),
+  c.pick-picked.ensures.few,
+)
 
 pub returns-then-has_waited-clause-picked : goal.returns-then-has_waited-clause-picked
 returns-then-has_waited-clause-picked g c = picked_now c.args.self.now c.self.inside.hands c.pick-picked.new.self c.args.actor (picked_of c.pick-picked.result) c.self.view_is c.pick-picked.ensures.picked
@@ -14,9 +17,11 @@ returns-then-has_waited-clause-plans g c = plans_now g.D.Device.plan c.args.self
 
 -- an actor that goes on did so before
 pub invariant_of-self-then-not-has_ended : goal.invariant_of-self-then-not-has_ended
-invariant_of-self-then-not-has_ended g c =
-    kept_in c.self.inside.hands c.pick-picked.new.self c.self.inside.actors.items c.args.actor c.self.invariant c.pick-picked.ensures.hands c.pick-picked.ensures.others
-    (going (is_ended c.self.inside.hands c.args.actor) (is_ended c.pick-picked.new.self c.args.actor) (sym c.has_ended.ensures ∙ c.if-not-has_ended.true) c.pick-picked.ensures.over)
+invariant_of-self-then-not-has_ended g c = (
+  kept_in c.self.inside.hands c.pick-picked.new.self c.self.inside.actors.items c.args.actor c.self.invariant.0 c.pick-picked.ensures.hands c.pick-picked.ensures.others
+      (going (is_ended c.self.inside.hands c.args.actor) (is_ended c.pick-picked.new.self c.args.actor) (sym c.has_ended.ensures ∙ c.if-not-has_ended.true) c.pick-picked.ensures.over),
+  c.pick-picked.ensures.few,
+)
   where
     going : (before after : Bool) → after ≡ false → (before ≡ true → after ≡ true) → after ≡ before
     going true after on over = over refl
@@ -29,7 +34,10 @@ pub returns-then-not-has_ended-clause-plans : goal.returns-then-not-has_ended-cl
 returns-then-not-has_ended-clause-plans g c = plans_now g.D.Device.plan c.args.self.now c.self.inside.hands c.pick-picked.new.self c.self.view_is c.pick-picked.ensures.plans
 
 pub invariant_of-self-2 : goal.invariant_of-self-2
-invariant_of-self-2 g c = taken_out c.self.inside.hands c.pick-picked.new.self c.self.inside.actors.items c.take_out.new.actors.items c.args.actor c.self.invariant c.take_out.ensures c.pick-picked.ensures.hands c.pick-picked.ensures.others (sym c.has_ended.ensures ∙ c.if-not-has_ended.false)
+invariant_of-self-2 g c = (
+  taken_out c.self.inside.hands c.pick-picked.new.self c.self.inside.actors.items c.take_out.new.actors.items c.args.actor c.self.invariant.0 c.take_out.ensures c.pick-picked.ensures.hands c.pick-picked.ensures.others (sym c.has_ended.ensures ∙ c.if-not-has_ended.false),
+  c.pick-picked.ensures.few,
+)
 
 pub returns-clause-picked : goal.returns-clause-picked
 returns-clause-picked g c = picked_now c.args.self.now c.self.inside.hands c.pick-picked.new.self c.args.actor (picked_of c.pick-picked.result) c.self.view_is c.pick-picked.ensures.picked
