@@ -1,8 +1,8 @@
 -- The number of a trial: from 1 to as many windows as a script may have.
 use Rattle.command_words.specs.CommandLines.{check_of, command_line_of, trial_of}
 use Rattle.command_words.specs.OptionWords.{options_of}
-use Rattle.command_words.specs.TrialNumbers.{is_numeral, is_window_count, number_of}
-use Rattle.command_words.specs.declared.command_lines.CommandLine.TheVariants.{Check, Replay, Run, Trial}
+use Rattle.command_words.specs.TrialNumbers.{is_numeral, number_of}
+use Rattle.command_words.specs.declared.command_lines.CommandLine.TheVariants.{Replay, Run, Trial}
 use Rattle.command_words.specs.declared.command_lines.CommandLine.{CommandLine}
 use Rattle.command_words.specs.declared.command_lines.Options.{Options}
 use Rattle.home_types.specs.Limits.{most_windows}

@@ -3,19 +3,19 @@ use Rattle.history_book.specs.Settings.{Setting}
 use Rattle.history_book.specs.declared.records.WindowRecord.{WindowRecord}
 use Rattle.home_types.specs.HomeStates.{stand_at}
 use Rattle.home_types.specs.declared.modes.Mode.{Mode}
-use Rattle.hub_core.specs.Agreement.{UpDevicesStand}
 use Rattle.hub_core.specs.Homes.{AreNew, HomeIsKept, HomeState}
-use Rattle.hub_core.specs.LegalDays.{IsLegalCutDay, IsLegalDay, setting_of, state_after}
+use Rattle.hub_core.specs.LegalDays.{IsLegalCutDay, IsLegalDay, setting_of, state_after, total}
 use Rattle.hub_core.specs.LegalWindows.{IsLegalWindow}
 use Rattle.hub_commands.proofs.Snocs.{get_before, get_last, given, length_more, snoc_get, sum_more}
-use Rattle.hub_commands.specs.Days.{IsUnderWay, WindowsArePlayed}
+use Rattle.hub_commands.specs.Days.{HaveCommitted, IsUnderWay, NoneHasFailed, WindowsArePlayed}
 use Rattle.hub_commands.specs.Played.{HasGoneOn, IsPlayed, setting_on}
 use Rattle.routine_reader.specs.Rosters.{kinds_of, script_runs, start_home, start_stand}
 use Rattle.routine_reader.specs.declared.scripts.DeviceText.{DeviceText}
 use Rattle.routine_reader.specs.declared.scripts.Script.{Script}
 use Rattle.routine_reader.specs.declared.scripts.WindowText.{WindowText}
-use Rattle.hub_core.specs.HubCalls.{RunsHaveEnded}
+use Rattle.hub_core.specs.HubCalls.{NoneFails, RunsHaveEnded}
 use Rattle.std.proofs.Common.{ap, arith, inl, inr, refl, subst, sym, ◌∙◌}
+use Rattle.std.proofs.lemmas.List.{length-map}
 use Rattle.std.proofs.lemmas.Option.{slice_get_within}
 use Rattle.std.specs.Prelude.{List, Option, Some, [], length, map, option_map, slice_get, slice_index_or, suc, unwrap_or, zero, ℕ, ◌+◌, ◌++◌, ◌∷◌, ◌≡◌, ◌≤◌}
 
@@ -51,28 +51,49 @@ setting_here : {D : Type 0} (script : Script) (mode : Mode) (records : List Wind
     → setting_on script mode (length records) home ≡ setting_of script mode records (length records)
 setting_here script mode records home kinds world = λ i. record { runs = script_runs script (length records); mode = mode; kinds = kinds i; first = world i }
 
+-- the faults of the windows with one more are those before it and its own
+more_faults : (records : List WindowRecord) (closed : WindowRecord) (d : ℕ)
+    → total (λ c. c.faults.items) (records ++ closed ∷ []) d ≡ total (λ c. c.faults.items) records d + slice_index_or closed.faults.items d 0
+more_faults records closed d = sum_more (λ c. slice_index_or c.faults.items d 0) records closed
+
+none_before : (script : Script) (records : List WindowRecord) (closed : WindowRecord) → NoneHasFailed script (records ++ closed ∷ []) → NoneHasFailed script records
+none_before script records closed none d inside = let all = more_faults records closed d in let is = none d inside in omega (arith, all, is)
+
+-- where no device has failed, each was up as the window was opened, and none fails in it
+none_fails : {D : Type 0} (works : Setting → WindowText → WindowRecord → (ℕ → ℕ) → Type 0) (tag : D → ℕ) (plan : D → Option (List (ℕ × ℕ))) (stands turns probes faults : D → ℕ) (script : Script) (mode : Mode) (home : HomeState D) (records : List WindowRecord) (closed : WindowRecord)
+    → IsUnderWay works tag plan stands turns probes faults script mode home records → NoneHasFailed script (records ++ closed ∷ [])
+    → NoneFails (setting_on script mode (length records) home) closed.faults.items
+none_fails works tag plan stands turns probes faults script mode home records closed day none = record {
+  up = day.up (none_before script records closed none);
+  steady = λ d inside. let size = day.size in let all = more_faults records closed d in let is = none d (omega (arith, inside, size)) in omega (arith, all, is);
+}
+
 -- the windows with one more
-windows_more : {D : Type 0} (works : Setting → WindowText → WindowRecord → (ℕ → ℕ) → Type 0) (tag : D → ℕ) (plan : D → Option (List (ℕ × ℕ))) (turns probes faults : D → ℕ) (script : Script) (mode : Mode) (records : List WindowRecord) (takes : List (ℕ → ℕ)) (before after : HomeState D) (closed : WindowRecord)
-    → setting_on script mode (length records) before ≡ setting_of script mode records (length records)
-    → WindowsArePlayed works script mode records takes → (is : IsPlayed works tag plan turns probes faults script mode (length records) before after closed)
-    → WindowsArePlayed works script mode (records ++ closed ∷ []) (takes ++ is.taken ∷ [])
-windows_more works tag plan turns probes faults script mode records takes before after closed here played is = record {
+windows_more : {D : Type 0} (works : Setting → WindowText → WindowRecord → (ℕ → ℕ) → Type 0) (tag : D → ℕ) (plan : D → Option (List (ℕ × ℕ))) (stands turns probes faults : D → ℕ) (script : Script) (mode : Mode) (before after : HomeState D) (records : List WindowRecord) (closed : WindowRecord)
+    → (day : IsUnderWay works tag plan stands turns probes faults script mode before records) → (is : IsPlayed works tag plan turns probes faults script mode (length records) before after closed)
+    → WindowsArePlayed works script mode (records ++ closed ∷ []) (day.takes ++ is.taken ∷ [])
+windows_more works tag plan stands turns probes faults script mode before after records closed day is = record {
   count = let within = slice_get_within script.windows.items (length records) is.window is.at in omega (arith, within, length_more records closed);
-  legal = each_more (λ w k c. IsLegalWindow w c) script mode records closed played.legal (subst (λ w. IsLegalWindow w closed) here is.legal);
+  legal = each_more (λ w k c. IsLegalWindow w c) script mode records closed day.played.legal (subst (λ w. IsLegalWindow w closed) here is.legal);
   worked = record {
-    count = omega (arith, length_more records closed, length_more takes is.taken, played.worked.count);
+    count = omega (arith, length_more records closed, length_more day.takes is.taken, day.played.worked.count);
     each = λ k window c taken window_at at taken_at. each_worked k window c taken window_at at taken_at;
   };
-  ends = each_more (λ w k c. RunsHaveEnded w c) script mode records closed played.ends (subst (λ w. RunsHaveEnded w closed) here is.ends);
+  ends = each_more (λ w k c. RunsHaveEnded w c) script mode records closed day.played.ends (subst (λ w. RunsHaveEnded w closed) here is.ends);
+  commits = λ served none. each_more (λ w k c. HaveCommitted w c) script mode records closed (day.played.commits served (none_before script records closed none))
+      (subst (λ w. HaveCommitted w closed) here (is.ends.commits served (none_fails works tag plan stands turns probes faults script mode before records closed day none)));
 }
   where
-    each_worked : (k : ℕ) (window : WindowText) (c : WindowRecord) (taken : ℕ → ℕ) → slice_get script.windows.items k ≡ Some window → slice_get (records ++ closed ∷ []) k ≡ Some c → slice_get (takes ++ is.taken ∷ []) k ≡ Some taken
+    here : setting_on script mode (length records) before ≡ setting_of script mode records (length records)
+    here = setting_here script mode records before day.kinds day.world
+
+    each_worked : (k : ℕ) (window : WindowText) (c : WindowRecord) (taken : ℕ → ℕ) → slice_get script.windows.items k ≡ Some window → slice_get (records ++ closed ∷ []) k ≡ Some c → slice_get (day.takes ++ is.taken ∷ []) k ≡ Some taken
         → works (setting_of script mode (records ++ closed ∷ []) k) window c taken
     each_worked k window c taken window_at at taken_at = elim (snoc_get records closed c k at) [
       | inl old ↦ (let within = slice_get_within records k c old in
-          let taken_old : slice_get takes k ≡ Some taken = sym (get_before takes is.taken k (omega (arith, within, played.worked.count))) ∙ taken_at in
-          subst (λ w. works w window c taken) (sym (setting_before script mode records closed k (omega (arith, within)))) (played.worked.each k window c taken window_at old taken_old))
-      | inr new ↦ (let taken_last : Some is.taken ≡ Some taken = sym (get_last takes is.taken) ∙ ap (λ n. slice_get (takes ++ is.taken ∷ []) n) (played.worked.count ∙ sym new.0) ∙ taken_at in
+          let taken_old : slice_get day.takes k ≡ Some taken = sym (get_before day.takes is.taken k (omega (arith, within, day.played.worked.count))) ∙ taken_at in
+          subst (λ w. works w window c taken) (sym (setting_before script mode records closed k (omega (arith, within)))) (day.played.worked.each k window c taken window_at old taken_old))
+      | inr new ↦ (let taken_last : Some is.taken ≡ Some taken = sym (get_last day.takes is.taken) ∙ ap (λ n. slice_get (day.takes ++ is.taken ∷ []) n) (day.played.worked.count ∙ sym new.0) ∙ taken_at in
           let window_last : Some is.window ≡ Some window = sym is.at ∙ ap (λ n. slice_get script.windows.items n) (sym new.0) ∙ window_at in
           let same_taken : is.taken ≡ taken = cc in
           let same_window : is.window ≡ window = cc in
@@ -83,24 +104,26 @@ windows_more works tag plan turns probes faults script mode records takes before
     ]
 
 -- one window more
-pub goes_on : {D : Type 0} (works : Setting → WindowText → WindowRecord → (ℕ → ℕ) → Type 0) (tag : D → ℕ) (plan : D → Option (List (ℕ × ℕ))) (stands turns probes faults : D → ℕ) (script : Script) (mode : Mode) (before after : HomeState D) (records : List WindowRecord) (closed : WindowRecord)
-    → IsUnderWay works tag plan stands turns probes faults script mode before records → UpDevicesStand stands after.devices after.world
+goes_on : {D : Type 0} (works : Setting → WindowText → WindowRecord → (ℕ → ℕ) → Type 0) (tag : D → ℕ) (plan : D → Option (List (ℕ × ℕ))) (stands turns probes faults : D → ℕ) (script : Script) (mode : Mode) (before after : HomeState D) (records : List WindowRecord) (closed : WindowRecord)
+    → IsUnderWay works tag plan stands turns probes faults script mode before records → HomeIsKept tag stands turns probes faults after
     → IsPlayed works tag plan turns probes faults script mode (length records) before after closed
     → IsUnderWay works tag plan stands turns probes faults script mode after (records ++ closed ∷ [])
-goes_on {D = D} works tag plan stands turns probes faults script mode before after records closed day stand is = record {
+goes_on {D = D} works tag plan stands turns probes faults script mode before after records closed day kept is = record {
   takes = day.takes ++ is.taken ∷ [];
-  played = windows_more works tag plan turns probes faults script mode records day.takes before after closed (setting_here script mode records before day.kinds day.world) day.played is;
+  played = windows_more works tag plan stands turns probes faults script mode before after records closed day is;
   left = record {
     size = is.size ∙ day.left.size;
     own = λ d y text at text_at. let x = device_before d y at in let on = is.devices d x.0 y x.1 at in let own = day.left.own d x.0 text x.1 text_at in
         record { tag_is = on.same_tag ∙ own.tag_is; plan_is = λ p told. own.plan_is p (sym on.same_plan ∙ told) };
-    stand = rw (state_last script records closed, sym is.last) stand;
+    stand = rw (state_last script records closed, sym is.last) kept.stand;
     turns_are = λ d y at. let x = device_before d y at in (is.devices d x.0 y x.1 at).turns_rose ∙ ap (λ n. n + slice_index_or closed.turns.items d 0) (day.left.turns_are d x.0 x.1) ∙ sym (sum_more (λ c. slice_index_or c.turns.items d 0) records closed);
     faults_are = λ d y at. let x = device_before d y at in (is.devices d x.0 y x.1 at).faults_rose ∙ ap (λ n. n + slice_index_or closed.faults.items d 0) (day.left.faults_are d x.0 x.1) ∙ sym (sum_more (λ c. slice_index_or c.faults.items d 0) records closed);
   };
   probed = λ d y at. let x = device_before d y at in (is.devices d x.0 y x.1 at).probes_rose ∙ ap (λ n. n + is.taken d) (day.probed d x.0 x.1) ∙ sym (sum_more (λ taken. taken d) day.takes is.taken);
   kinds = is.kinds ∙ day.kinds;
   world = is.last ∙ sym (state_last script records closed);
+  size = let homed = kept.size in let same = is.size in let all = day.left.size in omega (arith, homed, same, all);
+  up = λ none. is.up (none_fails works tag plan stands turns probes faults script mode before records closed day none);
   opened = let n = length_more records closed in omega (arith, n, is.opened, day.opened);
 }
   where
@@ -109,7 +132,7 @@ goes_on {D = D} works tag plan stands turns probes faults script mode before aft
 
 -- no window is played yet
 pub no_window : (works : Setting → WindowText → WindowRecord → (ℕ → ℕ) → Type 0) (script : Script) (mode : Mode) → WindowsArePlayed works script mode [] []
-no_window works script mode = record { count = omega (arith); legal = λ k c at. absurd (cc); worked = record { count = refl; each = λ k w c taken w_at at taken_at. absurd (cc) }; ends = λ k c at. absurd (cc) }
+no_window works script mode = record { count = omega (arith); legal = λ k c at. absurd (cc); worked = record { count = refl; each = λ k w c taken w_at at taken_at. absurd (cc) }; ends = λ k c at. absurd (cc); commits = λ served none k c at. absurd (cc) }
 
 -- where a device starts
 start_at : (texts : List DeviceText) (d : ℕ) (text : DeviceText) → slice_get texts d ≡ Some text → stand_at (map start_stand texts) d ≡ start_stand text
@@ -134,9 +157,14 @@ starts {D = D} works tag plan stands turns probes faults script mode home are ki
   probed = λ d device at. let t = text_of d device at in (are.each d device t.0 at t.1).no_probes;
   kinds = kinds;
   world = world;
+  size = sized;
+  up = λ none d inside. let t = given script.devices.items d (omega (arith, inside, sized)) in ap (λ w. (stand_at w d).up) world ∙ ap (λ s. s.up) (start_at script.devices.items d t.0 t.1);
   opened = opened;
 }
   where
+    sized : length home.world ≡ length script.devices.items
+    sized = ap (λ w. length w) world ∙ length-map script.devices.items start_stand
+
     text_of : (d : ℕ) (device : D) → slice_get home.devices d ≡ Some device → (text : DeviceText) × (slice_get script.devices.items d ≡ Some text)
     text_of d device at = given script.devices.items d (let within = slice_get_within home.devices d device at in omega (arith, within, are.size))
 
@@ -160,5 +188,5 @@ gone_on works tag plan stands turns probes faults script mode k before after rec
   closed = closed;
   more = all;
   under_way = subst (λ rs. IsUnderWay works tag plan stands turns probes faults script mode after rs) (sym all)
-      (goes_on works tag plan stands turns probes faults script mode before after records closed day kept.stand (subst (λ n. IsPlayed works tag plan turns probes faults script mode n before after closed) number is));
+      (goes_on works tag plan stands turns probes faults script mode before after records closed day kept (subst (λ n. IsPlayed works tag plan turns probes faults script mode n before after closed) number is));
 }

@@ -1,5 +1,5 @@
 -- The lines of a text one after another, and its division at the first that divides.
-use Rattle.hub_commands.specs.Divisions.{Division, behind, divided, division_of, is_divider, joined, led, lines_of}
+use Rattle.hub_commands.specs.Divisions.{behind, divided, division_of, is_divider, joined, lines_of}
 use Rattle.std.proofs.Common.{ap, append-nil, append_assoc, arith, drop, length, refl, sym, take, ◌-◌, ◌∙◌}
 use Rattle.std.proofs.lemmas.Grind.{common_steps}
 use Rattle.std.proofs.lemmas.List.{drop_all, length-drop, take_all}
@@ -100,10 +100,6 @@ rest_all n xs = let long = length-drop n xs in take_all (length xs - n) (drop n 
 
 pub fits_within : (at end : ℕ) (xs : List ℕ) → end ≤ length (drop at xs) → at ≤ length xs → at + end ≤ length xs
 fits_within at end xs fits within = let long = length-drop at xs in omega (arith, long, fits, within)
-
--- before the first line
-pub divides_first : (text : List ℕ) → division_of text ≡ behind (take 0 text) (division_of (drop 0 text))
-divides_first text = refl
 
 -- a line that does not divide is of the script
 pub divides_more : (text : List ℕ) (at end : ℕ) → division_of text ≡ behind (take at text) (division_of (drop at text))

@@ -11,7 +11,6 @@ mod Texts
 mod PlayedDays
 mod ProbedDays
 mod Dividing
-mod CheckInputs
 mod EndedCalls
 mod AskedTrials
 mod TrialDays

@@ -7,7 +7,7 @@ use Rattle.hub_commands.specs.declared.finishes.Day.{Day}
 use Rattle.hub_core.specs.LegalDays.{RecordsAreLegal}
 use Rattle.routine_reader.specs.declared.scripts.Script.{Script}
 use Rattle.std.proofs.Common.{subst, sym, ◌∙◌}
-use Rattle.std.specs.Prelude.{None, Option, Some, ℕ, ◌≡◌}
+use Rattle.std.specs.Prelude.{None, Option, Some, ◌≡◌}
 
 -- what is true of the day that was handed back is true of this one
 given_day : {D : Type 0} (P : Day D → Type 0) (day other : Day D) → ◌≡◌ {A = Option (Day D)} (Some day) (Some other) → P other → P day

@@ -13,7 +13,7 @@ use Rattle.hub_commands.specs.declared.faults.Fault.{Fault}
 use Rattle.hub_commands.specs.declared.finishes.Day.{Day}
 use Rattle.routine_reader.specs.declared.scripts.Script.{Script}
 use Rattle.routine_reader.specs.declared.scripts.WindowText.{WindowText}
-use Rattle.std.specs.Prelude.{List, None, Option, Some, slice_get, sum_by, ℕ, ◌≡◌, ◌⊎◌}
+use Rattle.std.specs.Prelude.{None, Option, Some, slice_get, sum_by, ℕ, ◌≡◌, ◌⊎◌}
 
 -- the command line asks for a replay or a run
 abbrev pub AsksFor : Option CommandLine → Options → Type 0

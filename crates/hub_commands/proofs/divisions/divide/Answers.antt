@@ -1,6 +1,6 @@
 use Rattle.hub_commands.proofs.Dividing.{divides_here, divides_more, divides_none, fits_within, rest_all}
 use Rattle.hub_commands.proofs.divisions.divide.Goals as goal
-use Rattle.hub_commands.specs.Divisions.{division_of, is_divider, lines_of}
+use Rattle.hub_commands.specs.Divisions.{is_divider, lines_of}
 use Rattle.std.proofs.lemmas.List.{drop_all}
 use Rattle.std.proofs.Common.{ap, append-nil, arith, drop, length, subst, sym, take, ◌-◌, ◌∙◌, ◌≡◌, ◌≤◌, ◌∷◌}
 

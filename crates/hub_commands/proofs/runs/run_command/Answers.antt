@@ -1,4 +1,3 @@
-use Rattle.command_words.specs.declared.command_lines.CommandLine.TheVariants.{Run}
 use Rattle.hub_commands.proofs.AskedModes.{run_goes}
 use Rattle.hub_commands.proofs.EndedCalls.{refused_call}
 use Rattle.hub_commands.proofs.ProbedDays.{probed_in_all}
@@ -7,7 +6,7 @@ use Rattle.hub_commands.specs.CommandsTaken.{run_line_of}
 use Rattle.hub_commands.specs.Calls.{AsksFor}
 use Rattle.hub_commands.specs.Finishes.{IsUnwritten, read_off, shown_by, written}
 use Rattle.hub_commands.specs.Ways.{IsRunWithin}
-use Rattle.std.proofs.Common.{Some, inr, map, rules, string_bytes, ◌≡◌}
+use Rattle.std.proofs.Common.{inr, map, rules, string_bytes}
 
 pub run_day-requires-clause-goes : goal.run_day-requires-clause-goes
 run_day-requires-clause-goes g c κs within =
