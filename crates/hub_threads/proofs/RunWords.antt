@@ -7,7 +7,7 @@ use Rattle.lock_leasing.specs.Configurations.{Configuration}
 use Rattle.std.proofs.Common.{ap, arith, refl, subst, sym, ◌∙◌}
 use Rattle.std.proofs.lemmas.Grind.{common_steps}
 use Rattle.std.specs.Int.{bit_not, w64}
-use Rattle.std.specs.Prelude.{Bool, bit_and, bit_or, false, not, true, ℕ, ◌&&◌, ◌-◌, ◌<◌, ◌==◌, ◌^◌, ◌||◌, ◌≡◌}
+use Rattle.std.specs.Prelude.{Bool, bit_and, bit_or, false, if◌then◌else◌, not, true, ℕ, ◌&&◌, ◌-◌, ◌<◌, ◌==◌, ◌^◌, ◌||◌, ◌≡◌}
 
 -- nobody sleeps in the word of zeros
 pub none_blocked : (s : Configuration) → SleepersAreBlocked s 0
@@ -42,7 +42,28 @@ word_noted word left after r more own within q sleeps = elim (has_run left q) as
   | false ↦ (λ none. ap (has_run word) (noted_run left q r (has_bit r) (sym (more q) ∙ sleeps) none) ∙ own)
 ] refl
 
--- those that are called: who was, the restless, and those that are blocked no more
-pub called : (called restless blocked left r : ℕ) → left < 2 ^ 64 → has_run (bit_or called (bit_or restless (bit_and blocked (bit_not w64 left)))) r ≡ (has_run called r || (has_run restless r || (has_run blocked r && not (has_run left r))))
-called before restless blocked left r small =
-    has_either before (bit_or restless (bit_and blocked (bit_not w64 left))) r ∙ ap (λ b. has_run before r || b) (has_either restless (bit_and blocked (bit_not w64 left)) r ∙ ap (λ b. has_run restless r || b) (has_without blocked left r small))
+-- the word, if this holds
+pub has_if : (b : Bool) (word r : ℕ) → has_run (if b then word else 0) r ≡ (b && has_run word r)
+has_if b word r = elim b as (λ c. has_run (if c then word else 0) r ≡ (c && has_run word r)) [
+  | true ↦ refl
+  | false ↦ has_nothing r
+]
+
+-- those that are called: who was, the restless, those that wait for their place, if this holds, and those that are blocked no more
+pub called : (called restless unplaced freed blocked left r : ℕ) (b : Bool) → freed ≡ (if b then unplaced else 0) → left < 2 ^ 64 → has_run (bit_or called (bit_or (bit_or restless freed) (bit_and blocked (bit_not w64 left)))) r ≡ (has_run called r || ((has_run restless r || (b && has_run unplaced r)) || (has_run blocked r && not (has_run left r))))
+called before restless unplaced freed blocked left r b are small =
+    let some : has_run freed r ≡ (b && has_run unplaced r) = ap (λ word. has_run word r) are ∙ has_if b unplaced r in
+    let either : has_run (bit_or restless freed) r ≡ (has_run restless r || (b && has_run unplaced r)) = has_either restless freed r ∙ ap (λ x. has_run restless r || x) some in
+    let gone : has_run (bit_and blocked (bit_not w64 left)) r ≡ (has_run blocked r && not (has_run left r)) = has_without blocked left r small in
+    let all : has_run (bit_or (bit_or restless freed) (bit_and blocked (bit_not w64 left))) r ≡ ((has_run restless r || (b && has_run unplaced r)) || (has_run blocked r && not (has_run left r))) = has_either (bit_or restless freed) (bit_and blocked (bit_not w64 left)) r ∙ (ap (λ x. x || has_run (bit_and blocked (bit_not w64 left)) r) either ∙ ap (λ x. (has_run restless r || (b && has_run unplaced r)) || x) gone) in
+    has_either before (bit_or (bit_or restless freed) (bit_and blocked (bit_not w64 left))) r ∙ ap (λ x. has_run before r || x) all
+
+-- those that wait for their place still
+pub rests : (unplaced freed r : ℕ) (b : Bool) → freed ≡ (if b then unplaced else 0) → freed < 2 ^ 64 → has_run (bit_and unplaced (bit_not w64 freed)) r ≡ (not b && has_run unplaced r)
+rests unplaced freed r b are small = has_without unplaced freed r small ∙ (ap (λ x. has_run unplaced r && not x) (ap (λ word. has_run word r) are ∙ has_if b unplaced r) ∙ but b (has_run unplaced r))
+  where
+    but : (c x : Bool) → (x && not (c && x)) ≡ (not c && x)
+    but c x = elim c as (λ c. (x && not (c && x)) ≡ (not c && x)) [
+      | true ↦ elim x as (λ x. (x && not x) ≡ false) [ true ↦ refl | false ↦ refl ]
+      | false ↦ elim x as (λ x. (x && true) ≡ x) [ true ↦ refl | false ↦ refl ]
+    ]

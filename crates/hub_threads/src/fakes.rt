@@ -8,7 +8,7 @@ use day_clock::Clock;
 use device_states::Device;
 use history_book::{Entry, Made};
 use home_types::{DeviceNo, RunNo};
-use hub_core::{Done, Grip, NotQuiet, Ready, Stranger, Turn};
+use hub_core::{Done, Grip, NotQuiet, Ready, Stranger, Turn, Why};
 use std::marker::Brand;
 use std::sync::ledger::{Blank, Book, Share};
 use std::sync::{Mutex, Wait};
@@ -69,7 +69,7 @@ impl<D: Device, N: Name> Steps<D, N, Grip<D, Done>> for Fake<N> {
         None
     }
 
-    fn sleep(&mut self, _r: RunNo) -> bool {
+    fn sleep(&mut self, _r: RunNo, _why: Why) -> bool {
         true
     }
 

@@ -8,11 +8,11 @@ ghost use Rattle.hub_core.specs.Steps.{not_quiet};
 ghost use Rattle.hub_threads.specs.Named.{HasPlan, IsNamed, TurnHasPlan, entries_given, entries_told, given_entries, is_idle, turn_entries};
 
 use crate::names::Name;
-use crate::sleepers::Sleepers;
+use crate::sleepers::{Sleepers, is_unplaced};
 use device_states::Device;
 use history_book::Made;
 use home_types::{DeviceNo, RunNo};
-use hub_core::{Done, Grip, Hub, NotQuiet, Ready, Stranger, Turn};
+use hub_core::{Done, Grip, Hub, NotQuiet, Ready, Stranger, Turn, Why};
 use std::marker::Model;
 use std::sync::ledger::{Book, Share};
 
@@ -28,6 +28,13 @@ impl<D: Device> DoneGrip<D> for Grip<D, Done> {
 
     ghost place = { λ g. g.slip.device.0 };
 }
+
+/// A step that has made no entry.
+const NOTHING: Made = Made {
+    a: None,
+    b: None,
+    c: None,
+};
 
 /// How workers step what lies under the lock.
 ///
@@ -71,7 +78,7 @@ pub trait Steps<D: Device, N: Name, G: DoneGrip<D>>: Drop {
 
     /// The run, which was told to wait, falls asleep. Answers whether it is known that only a step of another actor can
     /// end its wait. No promise rests on it.
-    fn sleep(&mut self, r: RunNo) -> bool;
+    fn sleep(&mut self, r: RunNo, why: Why) -> bool;
 
     /// The sleepers that the steps since the last call may have freed, the run r as the bit r - 1; they sleep no more.
     fn wake(&mut self) -> u64;
@@ -131,8 +138,8 @@ impl<D: Device, N: Name> Steps<D, N, Grip<D, Done>> for Held<D, N> {
         self.hub.quiet()
     }
 
-    fn sleep(&mut self, r: RunNo) -> bool {
-        self.fall_asleep(r)
+    fn sleep(&mut self, r: RunNo, why: Why) -> bool {
+        self.fall_asleep(r, why)
     }
 
     fn wake(&mut self) -> u64 {
@@ -187,9 +194,10 @@ impl<D: Device, N: Name> Held<D, N> {
             sleepers,
         } = self;
         let turn = hub.take(r, moment);
-        book.add(share, count_told(&turn));
+        let told = made_by(&turn);
+        book.add(share, count(&told));
         if !is_idle(&turn) {
-            sleepers.call(hub);
+            sleepers.call(hub, &told);
         }
         turn
     }
@@ -218,7 +226,7 @@ impl<D: Device, N: Name> Held<D, N> {
         } = self;
         let made = hub.give(grip, moment)?;
         book.add(share, count(&made));
-        sleepers.call(hub);
+        sleepers.call(hub, &made);
         Ok(made)
     }
 
@@ -239,7 +247,7 @@ impl<D: Device, N: Name> Held<D, N> {
         } = self;
         let _ = &share;
         let grip = hub.take_probe(d)?;
-        sleepers.call(hub);
+        sleepers.call(hub, &NOTHING);
         Some(grip)
     }
 
@@ -265,12 +273,12 @@ impl<D: Device, N: Name> Held<D, N> {
         } = self;
         let found = hub.give_probe(grip)?;
         book.add(share, count(&found));
-        sleepers.call(hub);
+        sleepers.call(hub, &found);
         Ok(found)
     }
 
-    /// The run falls asleep. Whether it is known to be blocked.
-    pub fn fall_asleep(&mut self, r: RunNo) -> bool
+    /// The run, which waits so, falls asleep. Whether it is known to be blocked.
+    pub fn fall_asleep(&mut self, r: RunNo, why: Why) -> bool
         ensures blocked { IsTrue result → IsBlocked (configuration_of self.new) r.0 }
         ensures same { self.new ≡ self.old }
     {
@@ -282,6 +290,8 @@ impl<D: Device, N: Name> Held<D, N> {
         let blocked = hub.is_blocked(r);
         if blocked {
             sleepers.note_blocked(r);
+        } else if is_unplaced(why) {
+            sleepers.note_unplaced(r);
         } else {
             sleepers.note_restless(r);
         }
@@ -303,18 +313,18 @@ fn is_idle<D: Device>(turn: &Turn<D>) -> bool
     matches!(turn, Turn::Wait(_) | Turn::Absent)
 }
 
-/// How many entries a step tells.
-fn count_told<D: Device>(turn: &Turn<D>) -> u64
-    ensures { result ≡ turn_entries turn.now }
+/// The entries that a step has made.
+fn made_by<D: Device>(turn: &Turn<D>) -> Made
+    ensures { entries_made result ≡ entries_told turn.now }
 {
     match turn {
-        Turn::Moved(made) => count(made),
-        Turn::Over(_, made) => count(made),
-        Turn::Go(_) | Turn::Wait(_) | Turn::Absent => 0,
+        Turn::Moved(made) => *made,
+        Turn::Over(_, made) => *made,
+        Turn::Go(_) | Turn::Wait(_) | Turn::Absent => NOTHING,
     }
 }
 
-/// How many entries a step has made.
+/// How many entries these are.
 fn count(made: &Made) -> u64
     ensures { result ≡ length (entries_made made.now) }
 {

@@ -1,12 +1,13 @@
 //! The runs that sleep, and those that are to be called.
-ghost use Rattle.std.specs.Prelude.{◌≡◌, ◌&&◌, ◌||◌, ◌==◌, not, true, ℕ};
+ghost use Rattle.std.specs.Prelude.{◌≡◌, ◌&&◌, ◌||◌, ◌==◌, if◌then◌else◌, not, true, ℕ};
 ghost use Rattle.hub_core.specs.BlockedMarks.{has_run};
 ghost use Rattle.hub_core.specs.OpenHubs.{configuration_of};
-ghost use Rattle.hub_threads.specs.Sleepers.{SleepersAreBlocked, NoneSleep, has_bit};
+ghost use Rattle.hub_threads.specs.Sleepers.{SleepersAreBlocked, NoneSleep, frees_place, frees_places, has_bit, is_unplaced};
 
 use device_states::Device;
+use history_book::{Entry, Made};
 use home_types::RunNo;
-use hub_core::Hub;
+use hub_core::{Hub, Why};
 use std::marker::Model;
 
 /// How many runs have a bit.
@@ -19,6 +20,10 @@ pub(crate) struct Sleepers {
     blocked: u64,
     /// Anybody's step may end it, and so may time.
     restless: u64,
+    /// They wait for their place, which the end, a doom or an undo of another run may give them, or time. What else may do
+    /// so is left to time: the answer to another run's last command on a device or one that covers its write, and an undo
+    /// that goes out.
+    unplaced: u64,
     /// They sleep no more, and their bells are still to be rung.
     called: u64,
 }
@@ -28,7 +33,7 @@ impl Model for Sleepers {
 
     ghost Value = { SleepersState };
 
-    ghost view = { λ s. record { blocked = s.blocked; restless = s.restless; called = s.called } };
+    ghost view = { λ s. record { blocked = s.blocked; restless = s.restless; unplaced = s.unplaced; called = s.called } };
 }
 
 impl Sleepers {
@@ -38,6 +43,7 @@ impl Sleepers {
         Sleepers {
             blocked: 0,
             restless: 0,
+            unplaced: 0,
             called: 0,
         }
     }
@@ -46,6 +52,7 @@ impl Sleepers {
     pub(crate) fn note_blocked(&mut self, r: RunNo)
         ensures blocked { (q : ℕ) → has_run self.new.blocked q ≡ (has_run self.old.blocked q || (has_bit r.0 && (q == r.0))) }
         ensures restless { self.new.restless ≡ self.old.restless }
+        ensures unplaced { self.new.unplaced ≡ self.old.unplaced }
         ensures called { self.new.called ≡ self.old.called }
     {
         self.blocked |= bit_of(r);
@@ -55,23 +62,45 @@ impl Sleepers {
     pub(crate) fn note_restless(&mut self, r: RunNo)
         ensures restless { (q : ℕ) → has_run self.new.restless q ≡ (has_run self.old.restless q || (has_bit r.0 && (q == r.0))) }
         ensures blocked { self.new.blocked ≡ self.old.blocked }
+        ensures unplaced { self.new.unplaced ≡ self.old.unplaced }
         ensures called { self.new.called ≡ self.old.called }
     {
         self.restless |= bit_of(r);
     }
 
-    /// Calls those that the last step, after which this is the hub, may have freed: all but the blocked ones that are still
-    /// known to be blocked.
-    pub(crate) fn call<D: Device>(&mut self, hub: &Hub<D>)
+    /// The run sleeps, and waits for its place. A run with no bit is not noted.
+    pub(crate) fn note_unplaced(&mut self, r: RunNo)
+        ensures unplaced { (q : ℕ) → has_run self.new.unplaced q ≡ (has_run self.old.unplaced q || (has_bit r.0 && (q == r.0))) }
+        ensures blocked { self.new.blocked ≡ self.old.blocked }
+        ensures restless { self.new.restless ≡ self.old.restless }
+        ensures called { self.new.called ≡ self.old.called }
+    {
+        self.unplaced |= bit_of(r);
+    }
+
+    /// Calls those that the last step may have freed, which made these entries and after which this is the hub: the restless
+    /// ones, those that wait for their place where an entry may give it, and the blocked ones that are known to be blocked
+    /// no more.
+    pub(crate) fn call<D: Device>(&mut self, hub: &Hub<D>, made: &Made)
         ensures blocked { SleepersAreBlocked (configuration_of hub.now) self.new.blocked }
         ensures restless { self.new.restless ≡ 0 }
-        ensures called { (r : ℕ) → has_run self.new.called r ≡ (has_run self.old.called r || (has_run self.old.restless r || (has_run self.old.blocked r && not (has_run self.new.blocked r)))) }
+        ensures unplaced { (r : ℕ) → has_run self.new.unplaced r ≡ (not (frees_places made.now) && has_run self.old.unplaced r) }
+        ensures called { (r : ℕ) → has_run self.new.called r ≡ (has_run self.old.called r || ((has_run self.old.restless r || (frees_places made.now && has_run self.old.unplaced r)) || (has_run self.old.blocked r && not (has_run self.new.blocked r)))) }
         ensures fewer { (r : ℕ) → has_run self.new.blocked r ≡ true → has_run self.old.blocked r ≡ true }
     {
+        let freed = self.unplaced_after(made);
         let left = still_blocked(self.blocked, hub);
-        self.called |= self.restless | (self.blocked & !left);
+        self.called |= self.restless | freed | (self.blocked & !left);
         self.restless = 0;
+        self.unplaced &= !freed;
         self.blocked = left;
+    }
+
+    /// Those that wait for their place, where one of these entries may give it.
+    fn unplaced_after(&self, made: &Made) -> u64
+        ensures { result ≡ (if frees_places made.now then self.now.unplaced else 0) }
+    {
+        if frees_places(made) { self.unplaced } else { 0 }
     }
 
     /// The runs that were called since the last call.
@@ -79,12 +108,37 @@ impl Sleepers {
         ensures answer { result ≡ self.old.called }
         ensures blocked { self.new.blocked ≡ self.old.blocked }
         ensures restless { self.new.restless ≡ self.old.restless }
+        ensures unplaced { self.new.unplaced ≡ self.old.unplaced }
         ensures called { self.new.called ≡ 0 }
     {
         let called = self.called;
         self.called = 0;
         called
     }
+}
+
+/// Whether a run that waits so waits for its place.
+pub(crate) fn is_unplaced(why: Why) -> bool
+    ensures { result ≡ is_unplaced why }
+{
+    matches!(why, Why::Follow(_) | Why::Denied(_, _))
+}
+
+/// Whether one of these entries may give a run its place that waits for it.
+fn frees_places(made: &Made) -> bool
+    ensures { result ≡ frees_places made.now }
+{
+    frees_place(made.a) || frees_place(made.b) || frees_place(made.c)
+}
+
+/// Whether the entry, where there is one, may give a run its place that waits for it.
+fn frees_place(entry: Option<Entry>) -> bool
+    ensures { result ≡ frees_place entry }
+{
+    matches!(
+        entry,
+        Some(Entry::Undid(_, _, _) | Entry::Doomed(_, _) | Entry::Ended(_, _))
+    )
 }
 
 /// The runs of the word that the hub knows to be blocked.

@@ -36,10 +36,8 @@ const RUNS: u64 = 5;
 
 const ROUNDS: u32 = 2;
 
-const MODE: Mode = Mode {
-    model: Visibility::Eventual,
-    scheduler: Scheduler::Fcfs,
-};
+/// Under the first of them runs wait for each other once they are placed, under the second for their place too.
+const SCHEDULERS: [Scheduler; 2] = [Scheduler::Fcfs, Scheduler::JustInTime];
 
 /// Naps of an hour: only a bell ends them in a test's time.
 const LONG: Naps = Naps {
@@ -73,10 +71,14 @@ fn a_worker_tells_what_was_answered(rt: HostRuntime) {
 
 /// Whether the window ends as it should where at most so many threads are started, and nobody wakes without a bell.
 fn ends_right<R: Threads + Wait + Sync>(rt: &R, alloc: Global, threads: u32) -> bool {
-    match fresh_hub(alloc) {
-        Some(hub) => is_worked_right(rt, alloc, hub, threads),
-        None => false,
+    let mut right = true;
+    for scheduler in SCHEDULERS {
+        right &= match fresh_hub(alloc, scheduler) {
+            Some(hub) => is_worked_right(rt, alloc, hub, threads),
+            None => false,
+        };
     }
+    right
 }
 
 fn is_worked_right<R: Threads + Wait + Sync>(
@@ -98,23 +100,27 @@ fn is_worked_right<R: Threads + Wait + Sync>(
 }
 
 /// The hub of the script's window, in which nothing was done yet.
-fn fresh_hub(alloc: Global) -> Option<Hub<CalmDevice>>
+fn fresh_hub(alloc: Global, scheduler: Scheduler) -> Option<Hub<CalmDevice>>
     ensures { IfSome result (λ hub. configuration_of hub ≡ opened hub.setting hub.rounds) }
 {
     let script = read_script(alloc, SCRIPT.as_bytes()).ok()?;
-    let hub = open_first(alloc, &script)?;
+    let hub = open_first(alloc, &script, scheduler)?;
     if hub.fresh() { Some(hub) } else { None }
 }
 
-/// Opens the script's first window on a new home.
-fn open_first(alloc: Global, script: &Script) -> Option<Hub<CalmDevice>>
+/// Opens the script's first window on a new home, under this scheduler.
+fn open_first(alloc: Global, script: &Script, scheduler: Scheduler) -> Option<Hub<CalmDevice>>
     requires sound { IsSound (plain_script script.now) }
 {
     let window = script.windows.get(0)?;
     let roster = roster(alloc, script, 0).ok()?;
     let home = Home::build(alloc, &mut CalmBench, script).ok()?;
     home.kept();
-    home.open_window(alloc, roster, MODE, window.probes).ok()
+    let mode = Mode {
+        model: Visibility::Eventual,
+        scheduler,
+    };
+    home.open_window(alloc, roster, mode, window.probes).ok()
 }
 
 /// Whether every run committed, the order has all of them, the lamp stands as the last of them leaves it, and each

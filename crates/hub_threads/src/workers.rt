@@ -123,9 +123,9 @@ pub(crate) fn step<D: Device, N: Name, S: Steps<D, N, Grip<D, Done>>, R: Wait, C
             unlock::<D, N, S>(&door.bells, guard);
             Stepped::Over
         }
-        Turn::Wait(_) => {
+        Turn::Wait(why) => {
             if sleeps {
-                let is_blocked = guard.sleep(r);
+                let is_blocked = guard.sleep(r, why);
                 door.bells.sleep(rt, guard, r, is_blocked);
             }
             Stepped::Waits

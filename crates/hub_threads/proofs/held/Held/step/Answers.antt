@@ -6,11 +6,11 @@ use Rattle.hub_threads.proofs.held.Held.step.Goals as goal
 use Rattle.hub_threads.proofs.held.Held.step.Goals.{else-not-is_idle, then-not-is_idle}
 use Rattle.hub_threads.specs.Named.{entries_told, is_idle, turn_entries}
 use Rattle.std.proofs.Common.{ap, rules, subst, ◌∙◌}
-use Rattle.std.specs.Prelude.{true, ◌++◌, ◌+◌, ◌≡◌}
+use Rattle.std.specs.Prelude.{length, true, ◌++◌, ◌+◌, ◌≡◌}
 
 pub invariant_of-self : goal.invariant_of-self
 invariant_of-self g c =
-    let more : c.add.new.self.total ≡ c.self.inside.book.total + turn_entries c.take-turn.result = c.add.ensures.total ∙ ap (λ n. c.self.inside.book.total + n) c.count_told.ensures in
+    let more : c.add.new.self.total ≡ c.self.inside.book.total + turn_entries c.take-turn.result = c.add.ensures.total ∙ ap (λ n. c.self.inside.book.total + n) (c.count.ensures ∙ ap length c.made_by-told.ensures) in
     elim c.if-not-is_idle.branch [
       | then-not-is_idle w ↦ rw w.self-inside-is (turn_held g.D.Device.plan g.N.Name.setting g.N.Name.rounds g.N.Name.opened g.N.Name.opening g.N.Name.plans g.N.Name.latest c.self.inside.hub c.take-turn.new.self c.args.r.0 c.args.moment c.take-turn.result _ _ _ _ c.self.invariant c.take-turn.ensures.turn c.take-turn.ensures.window c.requires.moment more w.call.ensures.blocked)
       | else-not-is_idle w ↦ (

@@ -1,8 +1,17 @@
-use Rattle.hub_threads.proofs.RunWords.{called}
+use Rattle.hub_threads.proofs.RunWords.{called, rests}
 use Rattle.hub_threads.proofs.sleepers.Sleepers.call.Goals as goal
+use Rattle.hub_threads.specs.Sleepers.{frees_places}
 use Rattle.std.proofs.Common.{rules, ◌<◌, ◌^◌}
+use Rattle.std.specs.Prelude.{if◌then◌else◌, ◌≡◌}
 
 pub returns-clause-called : goal.returns-clause-called
 returns-clause-called g c =
     let small : c.still_blocked-left.result < 2 ^ 64 = search rules in
-    rw (← c.self.view_is) (λ r. called c.self.inside.called c.self.inside.restless c.self.inside.blocked c.still_blocked-left.result r small)
+    let freed : c.unplaced_after-freed.result ≡ (if frees_places c.args.made.now then c.self.inside.unplaced else 0) = search rules in
+    rw (← c.self.view_is) (λ r. called c.self.inside.called c.self.inside.restless c.self.inside.unplaced c.unplaced_after-freed.result c.self.inside.blocked c.still_blocked-left.result r (frees_places c.args.made.now) freed small)
+
+pub returns-clause-unplaced : goal.returns-clause-unplaced
+returns-clause-unplaced g c =
+    let small : c.unplaced_after-freed.result < 2 ^ 64 = search rules in
+    let freed : c.unplaced_after-freed.result ≡ (if frees_places c.args.made.now then c.self.inside.unplaced else 0) = search rules in
+    rw (← c.self.view_is) (λ r. rests c.self.inside.unplaced c.unplaced_after-freed.result r (frees_places c.args.made.now) freed small)
