@@ -2,6 +2,7 @@ ghost use Rattle.std.specs.Prelude.{◌≡◌, ◌<◌, ◌≤◌, IfOk, IsTrue,
 ghost use Rattle.command_rules.specs.Footprints.{FitsIndex, IsFootprint};
 ghost use Rattle.command_rules.specs.Rosters.{commands_of, is_last, is_run, runs_of, shares, touches};
 ghost use Rattle.home_types.specs.DeviceSets.{IsFirstFrom};
+ghost use Rattle.std.specs.FinSet as set;
 ghost use Rattle.home_types.specs.Limits.{most_commands, most_devices};
 
 use crate::rosters::Roster;
@@ -49,6 +50,7 @@ impl IndexedRoster {
         ensures { IfOk result (λ indexed. indexed ≡ roster) }
     {
         let mut footprints = List::new(alloc);
+        footprints.reserve(roster.runs.len())?;
         'runs: for at in 0..roster.runs.len() {
             let run = roster.runs.get(at).unwrap();
             footprints.push(footprint_of(run.routine.commands.as_slice()))?;
@@ -103,6 +105,14 @@ impl IndexedRoster {
         ensures { result ≡ is_last (runs_of self.now) r.0 k }
     {
         (self.footprint(r).lasts >> k) & 1 == 1
+    }
+
+    /// The devices that `r` touches.
+    pub fn devices(&self, r: RunNo) -> &DeviceSet
+        requires { IsTrue (is_run (runs_of self.now) r.0) }
+        ensures { (d : ℕ) → set.contains result.now d ≡ touches (runs_of self.now) r.0 d }
+    {
+        &self.footprint(r).devices
     }
 
     /// The smallest device from `from` on that `r` touches. `None` where it touches none there.

@@ -73,4 +73,5 @@ fn tells_of_a_window(rt: HostRuntime) {
     assert!(rt; indexed.touches(b, OVEN) && indexed.shares(a, b));
     assert!(rt; indexed.is_last(a, 2) && !indexed.is_last(a, 0));
     assert!(rt; indexed.next_device(b, LAMP) == Some(FAN));
+    assert!(rt; indexed.devices(b).has(OVEN) && !indexed.devices(b).has(LAMP));
 }

@@ -140,7 +140,7 @@ impl<D: Device> Home<D> {
     fn known_devices(&self, alloc: Global, rounds: u32) -> Result<List<DeviceProgress>, NoMemory>
         ensures { IfOk result (λ known. AreKnown D.turns D.probes D.faults self.now rounds (length self.now.devices) known.items) }
     {
-        let mut known = List::new(alloc);
+        let mut known = roomy_list(alloc, self.devices.len())?;
         'devices: for at in 0..self.devices.len() {
             known.push(self.known_device(at, rounds))?;
         }
@@ -223,7 +223,7 @@ fn history_room(alloc: Global, entries: u64, runs: u64) -> Result<HistoryRoom, N
 fn no_progress(alloc: Global, runs: u64) -> Result<List<RunProgress>, NoMemory>
     ensures { IfOk result (λ progress. progress.items ≡ replicate runs no_progress) }
 {
-    let mut progress = List::new(alloc);
+    let mut progress = roomy_list(alloc, runs)?;
     'runs: for _ in 0..runs {
         progress.push(RunProgress {
             arrived: None,
@@ -241,7 +241,7 @@ fn no_progress(alloc: Global, runs: u64) -> Result<List<RunProgress>, NoMemory>
 fn no_hands(alloc: Global, runs: u64) -> Result<List<Option<DeviceNo>>, NoMemory>
     ensures { IfOk result (λ hands. hands.items ≡ replicate runs None) }
 {
-    let mut hands = List::new(alloc);
+    let mut hands = roomy_list(alloc, runs)?;
     'runs: for _ in 0..runs {
         hands.push(None)?;
     }

@@ -22,13 +22,13 @@ use Rattle.lock_leasing.specs.Standings.{IsRosterFor, has_ended, item_has_touche
 use Rattle.lock_leasing.specs.Words.{has_touched}
 use Rattle.serial_line.proofs.Searches.{last_counted, up_to_either}
 use Rattle.serial_line.proofs.Ties.{front_in_line, last_in_line}
-use Rattle.serial_line.specs.Marks.{Mark, front_of, items_of, last_on}
+use Rattle.serial_line.specs.Marks.{Mark, front_of, items_of}
 use Rattle.command_rules.specs.Searches.{last_place}
 use Rattle.serial_line.specs.Ties.{IsLineOf}
 use Rattle.std.proofs.Common.{ap, ap₂, arith, cond, refl, sym, ◌∙◌}
 use Rattle.std.proofs.lemmas.Grind.{common_steps}
 use Rattle.std.specs.List.{list_any, range_with_len}
-use Rattle.std.specs.Prelude.{Bool, List, None, Option, Some, [], false, filter, fold, if◌then◌else◌, is_none, is_some, length, max, not, option_map, slice_get, suc, true, unwrap_or, zero, ℕ, ◌&&◌, ◌+◌, ◌<◌, ◌==◌, ◌||◌, ◌∷◌, ◌≡◌, ◌≤◌}
+use Rattle.std.specs.Prelude.{Bool, List, None, Option, Some, [], false, filter, if◌then◌else◌, is_none, is_some, length, max, not, option_map, slice_get, suc, true, unwrap_or, zero, ℕ, ◌&&◌, ◌+◌, ◌<◌, ◌==◌, ◌||◌, ◌∷◌, ◌≡◌, ◌≤◌}
 
 -- Some item of a list passes
 
@@ -144,19 +144,8 @@ binds_by w n g r allowed (Back e k) = on_device (commands_of w.runs r) ∙ or_fa
     or_false false = refl
 
 -- up to the last item that has touched one of the devices
-touched_is : (n : Reading) (g : Grips) (marks : List Mark) (start : ℕ) (cs : List Command) → IsLineOf n.line (item_has_touched n g) (has_ended n) marks
-    → fold (λ k (c : Command). max k (up_to (last_on c.device.0 marks))) start cs ≡ max start (up_to_last (touches_any n g cs) n.line)
-touched_is n g marks start [] is = none_counts (up_to_last (touches_any n g []) n.line) (up_to_none (touches_any n g []) (λ i. refl) n.line)
-  where
-    none_counts : (k : ℕ) → k ≡ 0 → start ≡ max start k
-    none_counts k e = omega (arith, e)
-touched_is n g marks start (c ∷ cs) is =
-    touched_is n g marks (max start (up_to (last_on c.device.0 marks))) cs is
-    ∙ together (up_to (last_on c.device.0 marks)) (up_to_last (λ i. item_has_touched n g i c.device.0) n.line) (up_to_last (touches_any n g cs) n.line) (up_to_last (touches_any n g (c ∷ cs)) n.line) (ap up_to (last_in_line c.device.0 is) ∙ sym (last_counted (λ i. item_has_touched n g i c.device.0) n.line))
-    (up_to_either (λ i. item_has_touched n g i c.device.0) (touches_any n g cs) n.line)
-  where
-    together : (a b c d : ℕ) → a ≡ b → d ≡ max b c → max (max start a) c ≡ max start d
-    together a b c d e f = omega (arith, e, f)
+touched_is : (n : Reading) (g : Grips) (marks : List Mark) (cs : List Command) → IsLineOf n.line (item_has_touched n g) (has_ended n) marks → up_to_touched cs marks ≡ up_to_last (touches_any n g cs) n.line
+touched_is n g marks cs is = ap up_to (last_in_line (λ (c : Command). c.device.0) cs is) ∙ sym (last_counted (touches_any n g cs) n.line)
 
 -- up to the committed run that it follows
 followed_is : (w : Setting) (n : Reading) (r : ℕ) (history : List Kept) (marks : List Mark) → ((q : ℕ) → end_of history q ≡ (n.run q).ended) → items_of marks ≡ n.line → up_to_followed w.runs history r marks ≡ up_to_last (is_followed w n r) n.line
@@ -215,7 +204,7 @@ first_is table line history runs r touched followed front place e1 e2 e3 e4 s pa
     let f = facts_of s table line history runs parts in
     let ends : (q : ℕ) → end_of history q ≡ ((read_of s).run q).ended = λ q. ap (λ h. end_of h q) (sym parts.its_history) ∙ end_is s.setting s.history q parts.well_formed in
     let by_touch : touched ≡ up_to_last (touches_any (read_of s) s.grips (commands_of s.setting.runs r)) (read_of s).line =
-    e1 ∙ ap (λ rs. up_to_touched (commands_of rs r) line) (sym parts.its_roster) ∙ touched_is (read_of s) s.grips line 0 (commands_of s.setting.runs r) parts.its_line ∙ from_none (up_to_last (touches_any (read_of s) s.grips (commands_of s.setting.runs r)) (read_of s).line) in
+    e1 ∙ ap (λ rs. up_to_touched (commands_of rs r) line) (sym parts.its_roster) ∙ touched_is (read_of s) s.grips line (commands_of s.setting.runs r) parts.its_line in
     let by_follow : followed ≡ up_to_last (is_followed s.setting (read_of s) r) (read_of s).line =
     e2 ∙ ap (λ rs. up_to_followed rs history r line) (sym parts.its_roster) ∙ followed_is s.setting (read_of s) r history line ends parts.its_line.items in
     let by_live : front ≡ up_to_first (of_run (is_live (read_of s))) (read_of s).line =
@@ -225,8 +214,5 @@ first_is table line history runs r touched followed front place e1 e2 e3 e4 s pa
     ∙ up_to_either (touches_any (read_of s) s.grips (commands_of s.setting.runs r)) (is_followed s.setting (read_of s) r) (read_of s).line in
     e4 ∙ ap₂ max (ap₂ max by_touch by_follow ∙ sym both) by_live
   where
-    from_none : (k : ℕ) → max 0 k ≡ k
-    from_none k = omega arith
-
     placed_if : (o : OfRun) → stands_in o ≡ true → is_some o.placed ≡ true
     placed_if o stands = grind (arith, common_steps)

@@ -6,9 +6,11 @@ use Rattle.history_book.specs.Readings.{is_committing}
 use Rattle.history_book.specs.declared.entries.Kept.{Kept}
 use Rattle.home_types.specs.declared.commands.Command.{Command}
 use Rattle.home_types.specs.declared.numbers.RunNo.{RunNo}
-use Rattle.serial_line.specs.Marks.{Mark, items_of, last_on}
+use Rattle.serial_line.specs.Marks.{Mark, items_of}
 use Rattle.command_rules.specs.Searches.{last_place}
-use Rattle.std.specs.Prelude.{Bool, List, None, Option, Some, false, fold, if◌then◌else◌, max, option_map, unwrap_or, ℕ, ◌+◌}
+use Rattle.std.specs.FinSet as set
+use Rattle.std.specs.List.{list_any}
+use Rattle.std.specs.Prelude.{Bool, List, None, Option, Some, false, if◌then◌else◌, option_map, unwrap_or, ℕ, ◌+◌}
 
 -- the number of items up to and with this place, none where there is none
 abbrev pub up_to : Option ℕ → ℕ
@@ -16,7 +18,7 @@ up_to place = unwrap_or (option_map (λ k. k + 1) place) 0
 
 -- up to the last item that has touched a device of these commands
 abbrev pub up_to_touched : List Command → List Mark → ℕ
-up_to_touched commands line = fold (λ k c. max k (up_to (last_on c.device.0 line))) 0 commands
+up_to_touched commands line = up_to (last_place (λ m. list_any (λ c. set.contains m.touched c.device.0) commands) line)
 
 -- the run has committed
 abbrev pub has_committed : List Kept → ℕ → Bool

@@ -1,14 +1,13 @@
 ghost use Rattle.std.specs.Prelude.{◌≡◌, ◌+◌, ◌<◌, IsTrue, length};
 ghost use Rattle.command_rules.specs.Rosters.{commands_of, is_run, runs_of};
 ghost use Rattle.history_book.specs.Books.{end_of};
-ghost use Rattle.lock_leasing.specs.Counts.{has_committed, up_to, up_to_followed, up_to_run, up_to_touched};
+ghost use Rattle.lock_leasing.specs.Counts.{has_committed, up_to_followed, up_to_run, up_to_touched};
 ghost use Rattle.lock_leasing.specs.FirstPlaces.{IsFirstPlaceOf};
-ghost use Rattle.serial_line.specs.Marks.{last_on};
 
 use crate::standings::Standing;
 use command_rules::IndexedRoster;
 use history_book::{Book, End};
-use home_types::{DeviceNo, Item, RunNo};
+use home_types::{Item, RunNo};
 use serial_line::Line;
 
 /// The first place in the line, counted from 0, where `r` may be put: right behind the last item that has touched one
@@ -31,21 +30,7 @@ fn count_to_touched(line: &Line, roster: &IndexedRoster, r: RunNo) -> u32
     requires { IsTrue (is_run (runs_of roster.now) r.0) }
     ensures { result ≡ up_to_touched (commands_of (runs_of roster.now) r.0) line.now.marks }
 {
-    roster.kept();
-    let mut count = 0;
-    let mut from = DeviceNo(0);
-    'devices: while let Some(device) = roster.next_device(r, from) {
-        count = count.max(count_on(line, device));
-        from = DeviceNo(device.0 + 1);
-    }
-    count
-}
-
-/// The number of items up to and with the last one that has touched the device, 0 where there is none.
-fn count_on(line: &Line, d: DeviceNo) -> u32
-    ensures { result ≡ up_to (last_on d.0 line.now.marks) }
-{
-    match line.last_on(d) {
+    match line.last_meeting(roster.devices(r)) {
         Some(at) => count_through(line, at),
         None => 0,
     }

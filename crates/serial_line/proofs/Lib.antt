@@ -2,4 +2,5 @@ pub mod Searches
 pub mod Once
 pub mod RunPlaces
 pub mod Fronts
+pub mod Meetings
 pub mod Ties

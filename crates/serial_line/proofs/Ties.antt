@@ -6,7 +6,7 @@ use Rattle.home_types.specs.declared.items.Item.{Item}
 use Rattle.home_types.specs.declared.numbers.RunNo.{RunNo}
 use Rattle.home_types.proofs.DeviceBits.{contains_insert}
 use Rattle.serial_line.proofs.Searches.{up_to_first}
-use Rattle.serial_line.specs.Marks.{Mark, front_of, has_touched, is_item, items_of, last_on, settling, touching, untouched, with_end, with_item, with_touch, without}
+use Rattle.serial_line.specs.Marks.{Mark, front_of, has_touched, is_item, items_of, settling, touching, untouched, with_end, with_item, with_touch, without}
 use Rattle.command_rules.specs.Searches.{last_place}
 use Rattle.serial_line.specs.Ties.{Each, EndsAs, IsLineOf, TouchesAs}
 use Rattle.std.proofs.Common.{ap, arith, cond, refl, sym, ◌∙◌}
@@ -199,13 +199,18 @@ line_retold {line} {before} {after} {old_ends} {new_ends} {marks} old same ends 
 
 -- what the answers of a line then say
 
--- the last place on a device is the last one that has touched it
-pub last_in_line : {line : List Item} {touched : Item → ℕ → Bool} {ended : ℕ → Bool} {marks : List Mark} (d : ℕ) → IsLineOf line touched ended marks → last_on d marks ≡ last_place (λ i. touched i d) line
-last_in_line {line} {touched} {ended} {marks} d is = last marks is.touches ∙ ap (last_place (λ i. touched i d)) is.items
+-- the last place that has touched the device of one of these is that of the last item that has, as the test tells it
+pub last_in_line : {A : Type 0} {line : List Item} {touched : Item → ℕ → Bool} {ended : ℕ → Bool} {marks : List Mark} (number : A → ℕ) (xs : List A) → IsLineOf line touched ended marks
+    → last_place (λ m. list_any (λ x. set.contains m.touched (number x)) xs) marks ≡ last_place (λ i. list_any (λ x. touched i (number x)) xs) line
+last_in_line {A} {line} {touched} {ended} {marks} number xs is = last marks is.touches ∙ ap (last_place (λ i. list_any (λ x. touched i (number x)) xs)) is.items
   where
-    last : (ms : List Mark) → Each (TouchesAs touched) ms → last_on d ms ≡ last_place (λ i. touched i d) (items_of ms)
+    met : (m : Mark) → TouchesAs touched m → (ys : List A) → list_any (λ x. set.contains m.touched (number x)) ys ≡ list_any (λ x. touched m.item (number x)) ys
+    met m as_told [] = refl
+    met m as_told (y ∷ ys) = (λ j. as_told (number y) j || met m as_told ys j)
+
+    last : (ms : List Mark) → Each (TouchesAs touched) ms → last_place (λ m. list_any (λ x. set.contains m.touched (number x)) xs) ms ≡ last_place (λ i. list_any (λ x. touched i (number x)) xs) (items_of ms)
     last [] all = refl
-    last (m ∷ ms) all = (λ j. option_or (option_map (λ k. k + 1) (last ms all.1 j)) (if all.0 d j then Some 0 else None))
+    last (m ∷ ms) all = (λ j. option_or (option_map (λ k. k + 1) (last ms all.1 j)) (if met m all.0 xs j then Some 0 else None))
 
 at_run : (touched : Item → ℕ → Bool) (r : RunNo) (d : ℕ) (i : Item) → (is_ran r.0 i && touched i d) ≡ (is_ran r.0 i && touched (Ran r) d)
 at_run touched r d (Ran q) = elim (q.0 == r.0) as (λ b. (q.0 == r.0) ≡ b → (b && touched (Ran q) d) ≡ (b && touched (Ran r) d)) [

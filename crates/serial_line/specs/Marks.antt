@@ -108,6 +108,10 @@ has_touched r d marks = list_any (λ m. is_ran r m.item && set.contains m.touche
 abbrev pub place_of : Item → List Mark → Option ℕ
 place_of item marks = position (is_item item) (items_of marks)
 
--- the last place that has touched the device
-abbrev pub last_on : ℕ → List Mark → Option ℕ
-last_on d marks = last_place (λ m. set.contains m.touched d) marks
+-- the item has touched one of these devices
+abbrev pub meets : Devices → Mark → Bool
+meets devices m = list_any (set.contains m.touched) (set.items devices)
+
+-- the last place that has touched one of these devices
+abbrev pub last_meeting : Devices → List Mark → Option ℕ
+last_meeting devices marks = last_place (meets devices) marks

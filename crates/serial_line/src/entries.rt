@@ -2,7 +2,7 @@ ghost use Rattle.std.specs.Prelude.{◌≡◌, ◌<◌, true};
 ghost use Rattle.command_rules.specs.Items.{is_ran};
 ghost use Rattle.std.specs.FinSet as set;
 ghost use Rattle.home_types.specs.Limits.{most_devices};
-ghost use Rattle.serial_line.specs.Marks.{is_item, is_open, untouched};
+ghost use Rattle.serial_line.specs.Marks.{is_item, is_open, meets, untouched};
 
 use home_types::{DeviceNo, DeviceSet, Item, RunNo};
 use std::marker::Model;
@@ -60,6 +60,17 @@ impl Entry {
             Item::Ran(_) => self.touches.has(device),
             Item::Failed(failed, _) => failed == device,
             Item::Back(back, _) => back == device,
+        }
+    }
+
+    /// Whether it has touched one of the devices.
+    pub(crate) fn meets(&self, devices: &DeviceSet) -> bool
+        ensures { result ≡ meets devices.now self.now }
+    {
+        match self.item {
+            Item::Ran(_) => self.touches.meets(devices),
+            Item::Failed(failed, _) => devices.has(failed),
+            Item::Back(back, _) => devices.has(back),
         }
     }
 

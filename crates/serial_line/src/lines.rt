@@ -1,11 +1,11 @@
 ghost use Rattle.std.specs.Prelude.{◌≡◌, true, false, if◌then◌else◌, ◌+◌, ◌<◌, ◌≤◌, ◌^◌, [], is_some, length, max, slice_get, IfSome, OnOk, OnErr};
 ghost use Rattle.home_types.specs.Limits.{most_devices};
 ghost use Rattle.home_types.specs.declared.items.Item.TheVariants.{Ran};
-ghost use Rattle.serial_line.specs.Marks.{all_differ, front_of, has_touched, items_of, last_on, place_of, settling, stands, touching, with_item, without};
+ghost use Rattle.serial_line.specs.Marks.{all_differ, front_of, has_touched, items_of, last_meeting, place_of, settling, stands, touching, with_item, without};
 ghost use Rattle.serial_line.specs.RunPlaces.{ArePlaces, ArePlacesBefore, with_place};
 
 use crate::entries::Entry;
-use home_types::{DeviceNo, Item, NoMemory, RunNo, limits};
+use home_types::{DeviceNo, DeviceSet, Item, NoMemory, RunNo, limits};
 use std::alloc::Global;
 use std::marker::Model;
 
@@ -199,15 +199,14 @@ impl Line {
         self.entries.len() as u32
     }
 
-    /// The last place of an item that has touched the device, counted from 0. `None` where no item
-    /// has.
-    pub fn last_on(&self, device: DeviceNo) -> Option<u32>
-        ensures { result ≡ last_on device.0 self.now.marks }
+    /// The last place of an item that has touched one of the devices, counted from 0. `None` where no item has.
+    pub fn last_meeting(&self, devices: &DeviceSet) -> Option<u32>
+        ensures { result ≡ last_meeting devices.now self.now.marks }
     {
         let mut at = self.entries.len();
         while at > 0 {
             at -= 1;
-            if self.entries[at].has_touched(device) {
+            if self.entries[at].meets(devices) {
                 return Some(at as u32);
             }
         }

@@ -1,7 +1,7 @@
 //! The calls that a hub makes on its line: the lamp's first call by a run dies, so the failure stands before the run,
 //! and the restart behind it; then the run leaves.
 use crate::Line;
-use home_types::{DeviceNo, Item, NoMemory, RunNo};
+use home_types::{DeviceNo, DeviceSet, Item, NoMemory, RunNo};
 
 const LAMP: DeviceNo = DeviceNo(0);
 
@@ -27,7 +27,11 @@ fn restart_behind_the_run(rt: HostRuntime) -> Result<(), NoMemory> {
     line.mark(A, LAMP);
     assert!(rt; line.place_of(Item::Ran(A)).is_some());
     assert!(rt; line.touched(A, LAMP));
-    assert!(rt; line.last_on(LAMP) == Some(2));
+    let mut lamp = DeviceSet::none();
+    lamp.add(LAMP);
+    assert!(rt;
+        line.last_meeting(&lamp) == Some(2) && line.last_meeting(&DeviceSet::none()).is_none()
+    );
     assert!(rt; line.front() == 1);
     line.settle(A);
     assert!(rt; line.front() == 3 && line.len() == 3);

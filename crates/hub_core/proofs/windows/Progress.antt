@@ -26,8 +26,7 @@ use Rattle.hub_core.proofs.steps.Takes.{live_run}
 use Rattle.hub_core.specs.Decisions.{strong_command, unbarred_command}
 use Rattle.hub_core.specs.BlockedRuns.{is_wait}
 use Rattle.hub_core.specs.HubKept.{ConfigurationIsKept}
-use Rattle.hub_core.specs.Steps.{Absent, Choice, HandsOut, Moves, Over, Waits, aborts, answers_down, busy_case, choice_of, command_cases, decide, decide_answered, decide_arrived, decide_command, decide_doomed, down_case, down_entries, first_case, not_quiet, only_if, place_choice, undo_cases, undo_on}
-use Rattle.hub_core.specs.declared.refusals.NotQuiet.TheVariants.{StillLive, StillOut}
+use Rattle.hub_core.specs.Steps.{Absent, Choice, HandsOut, Moves, Over, Waits, aborts, answers_down, busy_case, choice_of, command_cases, decide, decide_answered, decide_arrived, decide_command, decide_doomed, down_case, down_entries, first_case, only_if, place_choice, undo_cases, undo_on}
 use Rattle.hub_core.specs.declared.waits.Why.TheVariants.{Behind, Busy, Dirty, Follow, Strict}
 use Rattle.lock_leasing.proofs.FirstRuns.{first_live, waits_for_none}
 use Rattle.lock_leasing.specs.Configurations.{Commands, Configuration, Grips, Undoes, has_grip, is_out, read_of}
@@ -35,11 +34,11 @@ use Rattle.lock_leasing.specs.FirstRuns.{IsFirstLive, WaitsForNone}
 use Rattle.lock_leasing.specs.Places.{At, Denial, DeniedBy, Placing, at_end, denied_by, first_place, first_some, fits, just_in_time, patience, scheduled_place, timeline}
 use Rattle.lock_leasing.specs.Waits.{behind_wait, busy_wait, dirty_wait, down_at_end, follow_wait, grip_wait, strict_wait}
 use Rattle.lock_leasing.specs.Words.{effective_writer_of, holds_device, is_overdue, live_before, live_runs, next_undo_of, value_without}
-use Rattle.std.proofs.Common.{ap, arith, cond, inl, inr, refl, sym, ◌∙◌}
+use Rattle.std.proofs.Common.{ap, arith, cond, refl, sym, ◌∙◌}
 use Rattle.std.proofs.lemmas.Grind.{common_steps}
 use Rattle.std.specs.List.{cons_option, range_with_len}
 use Rattle.std.specs.Option.{option_or}
-use Rattle.std.specs.Prelude.{Bool, IsTrue, List, None, Option, Some, [], false, find, if◌then◌else◌, is_none, is_some, length, max, nat_le, nat_lt, not, option_map, take, true, unwrap_or, ℕ, ◌&&◌, ◌+◌, ◌-◌, ◌<◌, ◌==◌, ◌||◌, ◌∷◌, ◌≡◌, ◌≤◌, ◌⊎◌}
+use Rattle.std.specs.Prelude.{Bool, IsTrue, List, None, Option, Some, [], false, find, if◌then◌else◌, is_none, is_some, length, max, nat_le, nat_lt, not, option_map, take, true, unwrap_or, ℕ, ◌&&◌, ◌+◌, ◌-◌, ◌<◌, ◌==◌, ◌||◌, ◌∷◌, ◌≡◌, ◌≤◌}
 use Rattle.window_order.proofs.WindowEnds.{NoneIsLive}
 
 -- Where no run is live
@@ -273,16 +272,3 @@ some_run_moves s rounds opened held r kept home run going = by_live (find (is_li
           | true ↦ (λ live. let within : (0 < q) × (q ≤ length w.runs) = run_within w.runs q (live_run w n q shaped live) in sym live ∙ none_does (is_live n) 1 (length w.runs) e q (omega (arith, within.0)) (omega (arith, within.1)))
           | false ↦ (λ gone. refl)
         ] refl
-
--- a window in which no device is out can be closed, or some run of it goes on
-
-pub goes_on : (s : Configuration) (rounds opened : ℕ) (held : ℕ → ℕ) → ConfigurationIsKept s rounds opened held → ((d : ℕ) → s.grips d ≡ None)
-    → (not_quiet s ≡ None) ⊎ ((q : ℕ) × (is_run s.setting.runs q ≡ true) × (((read_of s).run q).ended ≡ None) × ((m : ℕ) → is_wait (choice_of s q m) ≡ false))
-goes_on s rounds opened held kept home = by_live (find (λ r. is_none ((read_of s).run r).ended) (run_numbers s.setting)) refl
-  where
-    by_live : (o : Option ℕ) → find (λ r. is_none ((read_of s).run r).ended) (run_numbers s.setting) ≡ o → (not_quiet s ≡ None) ⊎ ((q : ℕ) × (is_run s.setting.runs q ≡ true) × (((read_of s).run q).ended ≡ None) × ((m : ℕ) → is_wait (choice_of s q m) ≡ false))
-    by_live None e = inl (ap (λ o. option_or (option_map (λ r. StillLive (run_no r)) o) (option_map (λ d. StillOut (device_no d)) (find (is_out s.grips) (device_numbers s.setting)))) e
-        ∙ ap (λ o. option_map (λ d. StillOut (device_no d)) o) (none_found (is_out s.grips) (device_numbers s.setting) (λ d. ap (λ o. is_some o) (home d))))
-    by_live (Some r) e =
-        let least = find_least (λ q. is_none ((read_of s).run q).ended) 1 (length s.setting.runs) r e in
-        inr (some_run_moves s rounds opened held r kept home (run_there s.setting.runs r (omega (arith, least.low)) (omega (arith, least.high))) (none_is ((read_of s).run r).ended least.does))

@@ -1,23 +1,15 @@
-use Rattle.command_rules.proofs.Indexes.{device_below}
+use Rattle.command_rules.proofs.LastPlaces.{last_within}
 use Rattle.command_rules.specs.Rosters.{commands_of, runs_of}
-use Rattle.home_types.specs.Limits.{most_devices}
-use Rattle.lock_leasing.proofs.TouchCounts.{counted_all, counted_next}
+use Rattle.lock_leasing.proofs.TouchCounts.{touched_by_set}
 use Rattle.lock_leasing.proofs.first_places.count_to_touched.Goals as goal
-use Rattle.std.proofs.Common.{arith, rules, ◌<◌}
+use Rattle.lock_leasing.specs.Counts.{up_to}
+use Rattle.std.proofs.Common.{ap, sym, ◌∙◌}
 
-pub overflow_add-from : goal.overflow_add-from
-overflow_add-from c = let low : c.in-Some.device.0 < most_devices = device_below c.in-Some.device.0 most_devices (commands_of (runs_of c.args.roster.now) c.args.r.0) (c.kept.ensures.low_devices c.args.r.0) c.in-Some.ensures.1 in omega (arith, low)
+pub count_through-requires : goal.count_through-requires
+count_through-requires c = last_within _ c.args.line.now.marks c.in-Some.at (sym c.last_meeting.ensures ∙ c.in-Some.is)
 
-pub devices-preserved : goal.devices-preserved
-devices-preserved c =
-    counted_next c.args.line.now.marks (commands_of (runs_of c.args.roster.now) c.args.r.0) c.devices.count c.devices.from.0 c.in-Some.device.0 c.count_on.result c.max-count.result
-    c.devices.invariant c.in-Some.ensures.1 c.in-Some.ensures.2 c.count_on.ensures (search rules)
+pub returns-in-Some : goal.returns-in-Some
+returns-in-Some c = c.count_through.ensures ∙ ap up_to (sym c.in-Some.is ∙ c.last_meeting.ensures ∙ touched_by_set (commands_of (runs_of c.args.roster.now) c.args.r.0) c.devices.result.now c.args.line.now.marks c.devices.ensures)
 
-pub devices-smaller : goal.devices-smaller
-devices-smaller c =
-    let low : c.in-Some.device.0 < most_devices = device_below c.in-Some.device.0 most_devices (commands_of (runs_of c.args.roster.now) c.args.r.0) (c.kept.ensures.low_devices c.args.r.0) c.in-Some.ensures.1 in
-    let further = c.in-Some.ensures.0 in
-    omega (arith, low, further)
-
-pub returns : goal.returns
-returns c = counted_all c.args.line.now.marks (commands_of (runs_of c.args.roster.now) c.args.r.0) c.devices.count c.devices.from.0 c.devices.invariant c.in_default.ensures
+pub returns-in-None : goal.returns-in-None
+returns-in-None c = ap up_to (sym c.in-None.is ∙ c.last_meeting.ensures ∙ touched_by_set (commands_of (runs_of c.args.roster.now) c.args.r.0) c.devices.result.now c.args.line.now.marks c.devices.ensures)
