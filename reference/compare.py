@@ -81,8 +81,8 @@ def at(value, path):
 
 def shorter_ones(script):
     """Scripts with a part less, the greater parts first. Some of them are no scripts."""
-    for k, window in enumerate(script["windows"]):
-        for r in range(1, len(window["runs"]) + 1):
+    for k, window in enumerate(script.get("windows", [])):
+        for r in range(1, len(window.get("runs", [])) + 1):
             yield without_run(script, k, r)
     for path in places_in(script):
         part = at(script, path)

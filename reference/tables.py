@@ -37,7 +37,7 @@ from reference.serial import DOWN, FINE, Refused, execute_serially
 from reference.words import read_words
 from tools.picture import picture_of
 
-ROOM = 1 << 20  # bytes of a sink, where a case does not say
+ROOM = 1 << 16  # bytes of a sink, where a case does not say
 
 
 # script_table: a script a line
@@ -107,9 +107,16 @@ def check_table(data):
 
 # day_table: a verb a line, a call a case
 
-class Case:
+class Before:
+    """What a case may take from those before it: the input that was kept last, and what the last sink held."""
+
     def __init__(self):
-        self.name, self.words, self.data = "", [], bytearray()
+        self.kept = self.record = b""
+
+
+class Case:
+    def __init__(self, before):
+        self.name, self.words, self.data, self.before = "", [], bytearray(), before
         self.source, self.sink, self.room = (0, 65_536), (0, 65_536), ROOM
 
     def add(self, verb, rest):
@@ -118,24 +125,40 @@ class Case:
                 self.name = rest
             case "word":
                 self.words.append(rest)
-            case "text":
-                self.data += rest.encode()
-            case "line":
-                self.data += rest.encode() + b"\n"
-            case "byte":
-                self.data.append(int(rest))
-            case "times":
-                count, _, text = rest.partition(" ")
-                self.data += text.encode() * int(count)
             case "source" | "sink":
                 setattr(self, verb, tuple(map(int, rest.split(" "))))
             case "room":
                 self.room = int(rest)
+            case "keep":
+                self.before.kept = bytes(self.data)
+            case _:
+                self.data += self.piece(verb, rest)
+
+    def piece(self, verb, rest):
+        """More bytes of the input."""
+        match verb:
+            case "text":
+                return rest.encode()
+            case "line":
+                return rest.encode() + b"\n"
+            case "byte":
+                return bytes([int(rest)])
+            case "times":
+                count, _, text = rest.partition(" ")
+                return text.encode() * int(count)
+            case "kept":
+                return self.before.kept
+            case "first":
+                return self.before.kept[: int(rest)]
+            case "record":
+                return self.before.record
+        return b""
 
     def outcome(self):
         source, sink = BytesSource(bytes(self.data), *self.source), BytesSink(self.room, *self.sink)
         # the call behind the table does not take `run`
         call = Call([] if self.words[:1] == ["run"] else self.words, source, sink)
+        self.before.record = sink.held
         lines = [f"case {self.name}", f"status {call.status}", *([f"fault {call.line}"] if call.line else [])]
         if call.records is None:
             lines.append("no day")
@@ -145,16 +168,21 @@ class Case:
         return "\n".join(lines).encode() + sink.held + b"\n"
 
 
-def day_table(data):
-    out, case = [], Case()
+def cases(data):
+    """Each case of the table. Before the next one is asked for, the record of this one has to be told to `before`."""
+    before = Before()
+    case = Case(before)
     for line in data.decode().split("\n"):
         verb, _, rest = line.partition(" ")
         if line == "run":
-            out.append(case.outcome())
-            case = Case()
+            yield case
+            case = Case(before)
         else:
             case.add(verb, rest)
-    return b"".join(out)
+
+
+def day_table(data):
+    return b"".join(case.outcome() for case in cases(data))
 
 
 def case_lines(name, words, data):
@@ -364,19 +392,14 @@ def compare_example(name, call, write):
 # The records that are stored
 
 def stored_calls():
-    """The words, the input and the record of each call of day_table."""
-    outcomes, case = read_file(CRATES, "day_table", "stdout"), Case()
-    for line in read_file(CRATES, "day_table", "stdin").decode().split("\n"):
-        verb, _, rest = line.partition(" ")
-        if line == "run":
-            told, _, outcomes = outcomes.partition(b"\nrecord ")
-            size, _, outcomes = outcomes.partition(b"\n")
-            record, outcomes = outcomes[: int(size)], outcomes[int(size) + 1 :]
-            if b"\nstatus 0\n" in told:
-                yield case.words, bytes(case.data), record
-            case = Case()
-        else:
-            case.add(verb, rest)
+    """The words, the input and the record of each call of day_table that ends with 0."""
+    outcomes = read_file(CRATES, "day_table", "stdout")
+    for case in cases(read_file(CRATES, "day_table", "stdin")):
+        told, _, outcomes = outcomes.partition(b"\nrecord ")
+        size, _, outcomes = outcomes.partition(b"\n")
+        case.before.record, outcomes = outcomes[: int(size)], outcomes[int(size) + 1 :]
+        if b"\nstatus 0\n" in told:
+            yield case.words, bytes(case.data), case.before.record
 
 
 def stored_windows():

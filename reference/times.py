@@ -2,18 +2,14 @@
 import re
 
 OFFSET_HOUR = r"[+-](?:[01]\d|2[0-5])"
-FRACTION = r"(?:[.,](?P<{}>\d{{1,9}}))?"
-OFFSET = (
-    rf"(?P<offset>{OFFSET_HOUR}(?::[0-5]\d(?::[0-5]\d{FRACTION.format('part')})?"
-    rf"|[0-5]\d(?:[0-5]\d{FRACTION.format('part_basic')})?)?)?"
-)
+FRACTION = r"(?:[.,]\d{1,9})?"
+OFFSET = rf"(?:{OFFSET_HOUR}(?::[0-5]\d(?::[0-5]\d{FRACTION})?|[0-5]\d(?:[0-5]\d{FRACTION})?)?)?"
 ZONE_PART = r"[A-Za-z_.][A-Za-z0-9_.+-]*"
 ZONE = rf"(?:\[!?(?:{ZONE_PART}(?:/{ZONE_PART})*|{OFFSET_HOUR}(?::?[0-5]\d)?)\])?"
 KEYED = r"(?:\[[a-z_][a-z0-9_-]*=[A-Za-z0-9]+(?:-[A-Za-z0-9]+)*\])*"
-CLOCK = rf"(?:[Tt ](?P<hour>\d\d)(?:(?P<colon>:?)(?P<minute>\d\d)(?:(?P=colon)(?P<second>\d\d)(?:[.,]\d{{1,9}})?)?)?{OFFSET})?"
+CLOCK = rf"(?:[Tt ](?P<hour>\d\d)(?:(?P<colon>:?)(?P<minute>\d\d)(?:(?P=colon)(?P<second>\d\d){FRACTION})?)?{OFFSET})?"
 TIME = re.compile(
     rf"(?P<year>[+-]\d{{6}}|\d{{4}})(?P<dash>-?)(?P<month>\d\d)(?P=dash)(?P<day>\d\d){CLOCK}{ZONE}{KEYED}", re.ASCII)
-MOST_OFFSET = 93_599  # s
 DAYS = (31, 28, 31, 30, 31, 30, 31, 31, 30, 31, 30, 31)
 
 
@@ -22,20 +18,10 @@ def days_in(year, month):
     return DAYS[month - 1] + (leap and month == 2)
 
 
-def offset_seconds(found):
-    """The size of the offset, its parts of a second rounded."""
-    digits = re.sub(r"\D", "", re.split("[.,]", found["offset"])[0]).ljust(6, "0")
-    hours, minutes, seconds = (int(digits[k : k + 2]) for k in (0, 2, 4))
-    part = (found["part"] or found["part_basic"] or "").ljust(9, "0")
-    return hours * 3600 + minutes * 60 + seconds + (int(part) >= 500_000_000)
-
-
 def read_time(text):
     """(year, month, day, hour, minute, second), or none. What an offset or a zone says is not heeded; second 60 is 59."""
     found = TIME.fullmatch(text)
     if found is None or found["year"] == "-000000":
-        return None
-    if found["offset"] and offset_seconds(found) > MOST_OFFSET:
         return None
     names = ("year", "month", "day", "hour", "minute", "second")
     year, month, day, hour, minute, second = (int(found[name] or 0) for name in names)

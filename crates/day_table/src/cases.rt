@@ -27,7 +27,25 @@ const CALM: Behaviour = Behaviour {
 };
 
 /// How many bytes a sink holds, where a case does not say.
-const ROOM: u64 = 1 << 20;
+const ROOM: u64 = 1 << 16;
+
+/// What a case may take from those before it.
+#[derive(Drop)]
+pub struct Before {
+    /// The input that was kept last.
+    pub kept: Vec<u8>,
+    /// What the sink of the last call holds.
+    pub record: Vec<u8>,
+}
+
+impl Before {
+    pub fn new(alloc: Global) -> Before {
+        Before {
+            kept: Vec::new(alloc),
+            record: Vec::new(alloc),
+        }
+    }
+}
 
 /// A call: its words, its input, and how its source and its sink behave.
 #[derive(Drop)]
@@ -53,18 +71,30 @@ impl Case {
     }
 
     /// Adds what a line of the table says: a verb, and behind the first blank what it is about.
-    pub fn add(&mut self, alloc: Global, line: &str) -> Result<(), Unread> {
+    pub fn add(&mut self, alloc: Global, before: &mut Before, line: &str) -> Result<(), Unread> {
         let (verb, rest) = line.split_once(" ").unwrap_or((line, ""));
         match verb {
             "case" => self.name.push_str(rest)?,
             "word" => self.add_word(alloc, rest)?,
+            "source" => self.source = behaviour_of(rest)?,
+            "sink" => self.sink = behaviour_of(rest)?,
+            "room" => self.room = number_of(rest)?,
+            "keep" => before.kept = copy_of(alloc, self.input.as_slice())?,
+            _ => self.add_input(before, verb, rest)?,
+        }
+        Ok(())
+    }
+
+    /// Adds more bytes of the input.
+    fn add_input(&mut self, before: &Before, verb: &str, rest: &str) -> Result<(), Unread> {
+        match verb {
             "text" => self.input.extend_from_slice(rest.as_bytes())?,
             "line" => self.add_line(rest)?,
             "byte" => self.add_byte(rest.parse().map_err(|_| Unread::Line)?)?,
             "times" => self.add_times(rest)?,
-            "source" => self.source = behaviour_of(rest)?,
-            "sink" => self.sink = behaviour_of(rest)?,
-            "room" => self.room = number_of(rest)?,
+            "kept" => self.input.extend_from_slice(before.kept.as_slice())?,
+            "first" => self.add_first(before.kept.as_slice(), number_of(rest)?)?,
+            "record" => self.input.extend_from_slice(before.record.as_slice())?,
             _ => return Err(Unread::Line),
         }
         Ok(())
@@ -85,6 +115,13 @@ impl Case {
         self.add_byte(b'\n')
     }
 
+    /// Adds the first bytes, so many.
+    fn add_first(&mut self, bytes: &[u8], count: u64) -> Result<(), Unread> {
+        let count = count.min(bytes.len() as u64) as usize;
+        self.input.extend_from_slice(&bytes[..count])?;
+        Ok(())
+    }
+
     /// Adds a text a number of times: the number, a blank and the text.
     fn add_times(&mut self, rest: &str) -> Result<(), Unread> {
         let (count, text) = rest.split_once(" ").ok_or(Unread::Line)?;
@@ -93,6 +130,12 @@ impl Case {
         }
         Ok(())
     }
+}
+
+pub fn copy_of(alloc: Global, bytes: &[u8]) -> Result<Vec<u8>, AllocError> {
+    let mut copy = Vec::new(alloc);
+    copy.extend_from_slice(bytes)?;
+    Ok(copy)
 }
 
 /// Reads the call that fails and the bytes of a call.

@@ -4,7 +4,7 @@
 mod cases;
 mod outcomes;
 
-use cases::{Case, Unread};
+use cases::{Before, Case, Unread};
 use day_clock::{InputFault, StdSource, read_to_end};
 use outcomes::write_outcome;
 use std::io;
@@ -31,13 +31,14 @@ fn run(rt: &HostRuntime) -> io::Result<()> {
     let Ok(table) = str::from_utf8(bytes.as_slice()) else {
         return Err(io::Error::from(io::ErrorKind::InvalidData));
     };
+    let mut before = Before::new(alloc);
     let mut case = Case::new(alloc);
     for line in table.lines() {
         if line == "run" {
-            write_outcome(alloc, &case, &mut rt.stdout())?;
+            write_outcome(alloc, &case, &mut before, &mut rt.stdout())?;
             case = Case::new(alloc);
         } else {
-            match case.add(alloc, line) {
+            match case.add(alloc, &mut before, line) {
                 Ok(()) => {}
                 Err(Unread::NoMemory) => return Err(io::Error::from(io::ErrorKind::OutOfMemory)),
                 Err(Unread::Line) => return Err(io::Error::from(io::ErrorKind::InvalidData)),

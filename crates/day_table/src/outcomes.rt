@@ -1,4 +1,4 @@
-use crate::cases::{Behaviour, Case};
+use crate::cases::{Before, Behaviour, Case, copy_of};
 use day_clock::{BytesSink, BytesSource, Source};
 use device_states::{Device, SimBench};
 use home_types::{Bytes, List, NoMemory};
@@ -8,13 +8,19 @@ use std::fmt::Write as _;
 use std::io::{self, Write};
 
 /// Makes the call of a case, and writes its end: the status, the fault's text, how many bytes of the input were left, how
-/// many windows and devices came back, and what the sink holds.
-pub fn write_outcome<W: Write>(alloc: Global, case: &Case, out: &mut W) -> io::Result<()> {
+/// many windows and devices came back, and what the sink holds, which is kept for the next case.
+pub fn write_outcome<W: Write>(
+    alloc: Global,
+    case: &Case,
+    before: &mut Before,
+    out: &mut W,
+) -> io::Result<()> {
     let Ok((mut source, mut sink)) = ends_of(alloc, case) else {
         return Err(io::Error::from(io::ErrorKind::OutOfMemory));
     };
     let words = case.words.as_slice();
     let finish = still_command(alloc, words, &mut source, &mut sink, &mut SimBench);
+    before.record = copy_of(alloc, sink.held())?;
     let left = left_of(&mut source);
     let mut text = format!(in alloc; "case {}\n", case.name)?;
     push_end(&mut text, &finish)?;
