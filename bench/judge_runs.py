@@ -1,13 +1,6 @@
-#!/usr/bin/env python3
-"""Runs small days with threads, and judges each record by a serial execution of its own.
+"""Judges the record of a day that was played with its trace, by a serial execution of its own.
 
-    judge_runs.py [DAYS [SEED [PROGRAM]]]
-
-DAYS is 2000 by default, SEED is 1, and PROGRAM crates/hub_main/out/hub_main, which `rt run` builds. Each day is drawn
-by a generator from its seed: 1 to 4 devices that fail in calls of listed numbers, 1 to 3 windows of 1 to 6 runs with
-rounds of probes, of which some follow others, routines of 1 to 5 commands of every job, must and best-effort, with
-estimates. It is played by `run --trace` in one mode after another: under each model, just in time, and by the timeline.
-Which threads step first is not the day's to say, so no record is expected: each is judged.
+Which threads of `run` step first is not the day's to say, so no record is expected of a day: each is judged.
 
 In each mode: the history goes on as the rules have it, every run ends, a run that follows another is placed behind its
 end, and the lines of the runs, the home and the total say what the history says. Outside the weak model: the printed
@@ -16,27 +9,12 @@ one that it follows; its serial execution, which knows nothing of the hub, gives
 state of the home. Under the weak model: a read finds what the last write left, `Down` is answered where the device is
 down, and the home is as the last writes left it. Only just in time and by the timeline is a lease revoked: of a device
 that both runs use, for a run that was placed before and has its next command there, past the deadline that the plan
-gives. By the timeline each place is one where the run fits (timeline.py). Prints the first record that is not so, and
-ends with 1; a day that has not ended after a minute counts as one.
+gives. By the timeline each place is one where the run fits (timeline.py).
 """
-import collections
-import json
-import os
-import random
-import subprocess
-import sys
-
 from timeline import Timeline
 
-HERE = os.path.dirname(os.path.abspath(__file__))
-sys.path.insert(0, os.path.join(HERE, ".."))
-from reference import days
-
-PROGRAM = os.path.join(HERE, "..", "crates", "hub_main", "out", "hub_main")
-MODES = [("ev", "fcfs"), ("psv", "fcfs"), ("gsv", "fcfs"), ("wv", "fcfs"), ("ev", "jit"), ("ev", "timeline")]
 LEASES = ("jit", "timeline")
 ESTIMATE = 100
-MINUTE = 60
 
 
 class Wrong(Exception):
@@ -248,6 +226,7 @@ def judged(window, home, model, scheduler):
 
 
 def judge(script, record, model, scheduler):
+    """How many runs the record has, and how many of them committed. It raises `Wrong` where something is not as it should be."""
     devices = {d["name"]: d for d in script["devices"]}
     routines = {r["name"]: r["commands"] for r in script["routines"]}
     home = {name: {"value": value_of(d, str(d["start"])), "up": True} for name, d in devices.items()}
@@ -264,35 +243,3 @@ def judge(script, record, model, scheduler):
     total = f"total windows {len(script['windows'])} runs {runs} committed {committed} aborted {runs - committed}"
     expect(lines == [total], "another total")
     return runs, committed
-
-
-def main():
-    count, seed = (int(word) for word in (sys.argv[1:3] + ["2000", "1"][len(sys.argv[1:3]):]))
-    program = sys.argv[3] if len(sys.argv) > 3 else PROGRAM
-    draw = random.Random(seed)
-    counts = collections.Counter()
-    for k in range(count):
-        script, (model, scheduler) = days.day(draw), MODES[k % len(MODES)]
-        words = [program, "run", "--trace", "--model", model, "--scheduler", scheduler]
-        try:
-            done = subprocess.run(words, input=json.dumps(script), capture_output=True, text=True, timeout=MINUTE)
-            expect(done.returncode == 0, f"status {done.returncode}: {done.stderr}")
-            runs, committed = judge(script, done.stdout, model, scheduler)
-            counts["runs"] += runs
-            counts["committed"] += committed
-            counts["fell"] += done.stdout.count("# fell ")
-            counts["rose"] += done.stdout.count("# rose ")
-            counts["revoked"] += done.stdout.count(" aborted revoked ")
-            counts["followers"] += sum("follows" in run for window in script["windows"] for run in window["runs"])
-        except (Wrong, ValueError, IndexError, subprocess.TimeoutExpired) as wrong:
-            print(f"day {k} under {model} {scheduler}: {wrong}\n{json.dumps(script)}")
-            if not isinstance(wrong, subprocess.TimeoutExpired):
-                print(done.stdout)
-            sys.exit(1)
-    print(f"{count} days of the seed {seed}: {counts['runs']} runs, {counts['followers']} of them behind others,"
-          f" {counts['committed']} committed, {counts['revoked']} revoked, {counts['fell']} failures,"
-          f" {counts['rose']} restarts; each record as its serial execution")
-
-
-if __name__ == "__main__":
-    main()

@@ -4,13 +4,18 @@
     scale.py [PROGRAM]
 
 PROGRAM is crates/hub_main/out/hub_main by default, which `rt run` builds. A day has 288 windows of 1, 8 or 64 runs on 16, 64
-or 256 devices; a run has 8 commands on 4 devices of its own. Devices fail now and then, and each is probed once a window. It is
-replayed under the eventual model, first come first served, as often as takes a second, and the least processor time counts.
-How many such homes a core carries is a day's seconds divided by that time. Then as many homes as there are processors, and twice
-as many, are played at once, each by a process of its own: homes share nothing, so the time of one should stay what it is while
-there are processors.
+or 256 devices; a run has 8 commands on 4 devices of its own. Devices fail now and then, and each is probed once a window. The
+day is played under the eventual model, first come first served, by `replay` and by `run`, each at least five times and as often
+as takes a second, and the least processor time counts. How many such homes a core carries is a day's seconds divided by the time
+of `run`. Where valgrind is installed, callgrind counts the instructions of the replay, which no other work on the machine changes;
+where `time` is, it tells the memory (what Python itself is told of a child counts Python's own too).
+
+Then 1, as many homes as there are processors, and twice as many, are replayed at once, each by a process of its own: homes share
+nothing, so the processor time of one should stay what it is, and as many days should end in a second as processors are free.
 """
 import os
+import re
+import shutil
 import subprocess
 import sys
 import tempfile
@@ -22,44 +27,78 @@ from time_run import timed
 WINDOWS, COMMANDS, OWN, ROUNDS = 288, 8, 4, 1
 RUNS, DEVICES = [1, 8, 64], [16, 64, 256]
 DAY = 86_400  # s
-WORDS = ["replay"]
+LEAST = 5
+COLUMNS = ["Runs a window", "Devices", "Instructions of a replay", "a command", "Processor time, s: `replay`", "`run`",
+           "Memory, MB: `replay`", "`run`", "Homes a core carries"]
 
 
-def measured(program, script):
-    """The least processor time in s, and the most memory in MB, of a day that is played for a second."""
-    times, memory, begun = [], 0, time.monotonic()
-    while not times or time.monotonic() - begun < 1:
-        status, _, used = timed([program, *WORDS], script)
+def seconds(used):
+    return used.ru_utime + used.ru_stime
+
+
+def measured(called, script):
+    """The least processor time in s of a day that is played for a second."""
+    times, begun = [], time.monotonic()
+    while len(times) < LEAST or time.monotonic() - begun < 1:
+        status, _, used = timed(called, script)
         if status != 0:
             sys.exit(f"scale: the program ended with {status}")
-        times.append(used.ru_utime + used.ru_stime)
-        memory = max(memory, used.ru_maxrss / 1024)
-    return min(times), memory
+        times.append(seconds(used))
+    return min(times)
+
+
+def told_by(tool, called, script, pattern):
+    """The number that a tool tells on standard error of a program that it plays; none where it is not installed."""
+    if shutil.which(tool[0]) is None:
+        return None
+    done = subprocess.run([*tool, *called], input=script, stdout=subprocess.DEVNULL, stderr=subprocess.PIPE, check=True)
+    return int(re.search(pattern, done.stderr)[1])
+
+
+def instructions(called, script):
+    return told_by(["valgrind", "--tool=callgrind", "--callgrind-out-file=/dev/null"], called, script, rb"Collected : (\d+)")
+
+
+def memory(called, script):
+    """The most memory of a day in KiB."""
+    return told_by(["time", "-f", "%M"], called, script, rb"(\d+)\n\Z")
+
+
+def row(*cells):
+    print("|", " | ".join(cells), "|", flush=True)
+
+
+def shown(number, per=1, digits=0):
+    return "" if number is None else f"{number / per:,.{digits}f}"
 
 
 def table(program):
-    print("| Runs a window | Devices | Processor time of a day, s | µs a command | Memory, MB | Homes a core carries |")
-    print("|---|---|---|---|---|---|")
+    row(*COLUMNS)
+    row(*["---"] * len(COLUMNS))
     for runs in RUNS:
         for devices in DEVICES:
-            cpu, memory = measured(program, dense_day(WINDOWS, runs, COMMANDS, devices, OWN, ROUNDS))
-            each = cpu / (WINDOWS * runs * COMMANDS) * 1e6
-            print(f"| {runs} | {devices} | {cpu:.3f} | {each:.1f} | {memory:.1f} | {DAY / max(cpu, 1e-3):,.0f} |", flush=True)
+            script = dense_day(WINDOWS, runs, COMMANDS, devices, OWN, ROUNDS)
+            replay, run = [program, "replay"], [program, "run"]
+            count, time_of_run = instructions(replay, script), measured(run, script)
+            row(f"{runs}", f"{devices}", shown(count), shown(count, WINDOWS * runs * COMMANDS),
+                shown(measured(replay, script), digits=3), shown(time_of_run, digits=3),
+                shown(memory(replay, script), 1024), shown(memory(run, script), 1024), shown(DAY, max(time_of_run, 1e-3)))
 
 
 def together(program, homes, script):
-    """The time in s in which so many homes play their days at once."""
+    """The time in s in which so many homes replay their days at once, and the processor time of one."""
     with tempfile.NamedTemporaryFile() as given:
         given.write(script)
         given.flush()
-        begun = time.monotonic()
-        children = []
+        begun, children, spent = time.monotonic(), [], 0.0
         for _ in range(homes):
             with open(given.name, "rb") as own:
-                children.append(subprocess.Popen([program, *WORDS], stdin=own, stdout=subprocess.DEVNULL))
+                children.append(subprocess.Popen([program, "replay"], stdin=own, stdout=subprocess.DEVNULL))
         for child in children:
-            child.wait()
-        return time.monotonic() - begun
+            _, status, used = os.wait4(child.pid, 0)
+            child.returncode = os.waitstatus_to_exitcode(status)
+            spent += seconds(used)
+        return time.monotonic() - begun, spent / homes
 
 
 def main():
@@ -68,8 +107,9 @@ def main():
     table(program)
     script, cores = dense_day(WINDOWS, 64, COMMANDS, 256, OWN, ROUNDS), os.cpu_count()
     for homes in [1, cores, 2 * cores]:
-        spent = together(program, homes, script)
-        print(f"{homes} homes of 64 runs and 256 devices at once: {spent:.2f} s, {homes / spent:.1f} days a second", flush=True)
+        spent, own = together(program, homes, script)
+        print(f"{homes} homes of 64 runs and 256 devices at once: {spent:.2f} s, {homes / spent:.1f} days a second,"
+              f" {own:.3f} s of processor time each", flush=True)
 
 
 if __name__ == "__main__":

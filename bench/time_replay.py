@@ -90,10 +90,15 @@ def calls_in(path):
     return calls
 
 
+def calls_of(calls, name):
+    return sum(n for (_, callee), n in calls.items() if name in callee)
+
+
 def steps_in(path):
     """The picks, and the steps that moved an actor: a device that comes home went out before; all else makes entries."""
     calls = calls_in(path)
-    picks = sum(n for (_, callee), n in calls.items() if "Hands::pick" in callee)
+    # the compiler may have put the pick of the hands into that of the player
+    picks = calls_of(calls, "Hands::pick") or calls_of(calls, "Player::pick")
     home = sum(n for (_, callee), n in calls.items() if "free_back" in callee)
     made = sum(n for (caller, callee), n in calls.items() if "free_made" in callee and "free_back" not in caller)
     return picks, made + 2 * home

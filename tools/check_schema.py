@@ -1,7 +1,7 @@
-#!/usr/bin/python3
+#!/usr/bin/env python3
 """Shows that docs/script.schema.json and the reading of scripts agree, as far as a schema can say it.
 
-    /usr/bin/python3 tools/check_schema.py [DAYS [SEED]]
+    python3 tools/check_schema.py [DAYS [SEED]]
 
 It reads the scripts of script_table and of the examples, and days that are drawn (4000 of the seed 1), of which three in four
 are spoiled. Each script that is read must be valid by the schema, and each refused one invalid, but for what no schema of
@@ -10,7 +10,7 @@ nowhere, a state of its device, low and high, from and to, a turn or a follow be
 days a month has. Texts that are no JSON have no value to be valid. Prints how many of each kind there were, and the first one
 that is otherwise; ends with 1 then.
 
-It needs the system's package python3-jsonschema; nothing else here does.
+It needs jsonschema (the system's package python3-jsonschema is for /usr/bin/python3); nothing else here does.
 """
 import collections
 import json

@@ -1,6 +1,7 @@
 #!/bin/sh
 # Plays calls through the built program, most of them refused, and compares its status, standard output and standard
-# error with what docs/FORMATS.md says. `rt ci` builds the program and leaves it in out/. Silent where all is as it says.
+# error with what docs/FORMATS.md says, its examples too. `rt ci` builds the program and leaves it in out/. Silent where
+# all is as it says.
 cd "$(dirname "$0")" || exit 1
 if [ ! -f out/hub_main ]; then
     echo "edge: there is no built program at crates/hub_main/out/hub_main" >&2
@@ -78,14 +79,15 @@ script "$(day "$lamp" "$light" '{"at":"2021-04-26T07:00:00","runs":[{"routine":"
 input=$(day "$lamp" "$light" '{"at":"2021-04-26T07:00:00","runs":[{"routine":"light"}]}')
 words
 words Replay
-words replay --mod ev
-words replay --model ev --model ev
-words replay --scheduler jit --model psv
+words replay --mod gsv
+words replay --model
+words replay --model gsv --model gsv
+words replay --model gsv --scheduler jit
 words replay --scheduler timeline --model wv
 words replay --
 words replay --help
 words check --trace
-words trial 01
+words trial 007
 words "$(printf 'replay\377')"
 words replay "$(printf '\377')"
 
@@ -93,6 +95,25 @@ call check
 ends 7 'check: window 0 head'
 words run twice
 words run --model wv --model wv
+
+# zeros COUNT WORD..: calls the program with these words on so many bytes of zero
+zeros() {
+    count=$1
+    shift
+    call="$* < $count zeros"
+    head -c "$count" /dev/zero | "$room/hub_main" "$@" >"$room/out" 2>"$room/err"
+    got=$?
+}
+
+zeros 50000000 replay
+ends 1 'script: too many bytes 4194305 of 4194304'
+zeros 50000000 run
+ends 1 'script: too many bytes 4194305 of 4194304'
+# without a line `%%` all of them are the script, which keeps its own limit
+zeros 50000000 check
+ends 1 'script: too many bytes 4194305 of 4194304'
+zeros 67108865 check
+ends 1 'script: too many bytes 67108865 of 67108864'
 
 call='replay of no standard input'
 "$room/hub_main" replay <&- >"$room/out" 2>"$room/err"
@@ -104,11 +125,37 @@ got=$?
 ends 3 read
 
 : >"$room/out"
-if [ -c /dev/full ]; then
-    call='replay to a full device'
-    printf '%s' "$input" | "$room/hub_main" replay >/dev/full 2>"$room/err"
+for word in replay run; do
+    call="$word to no standard output"
+    printf '%s' "$input" | "$room/hub_main" "$word" >&- 2>"$room/err"
     got=$?
     ends 4 write
+    if [ -c /dev/full ]; then
+        call="$word to a full device"
+        printf '%s' "$input" | "$room/hub_main" "$word" >/dev/full 2>"$room/err"
+        got=$?
+        ends 4 write
+    fi
+    # the reader of the pipe has ended before the program begins
+    mkfifo "$room/pipe"
+    : <"$room/pipe" &
+    exec 4>"$room/pipe"
+    wait $!
+    call="$word to a pipe that nobody reads"
+    printf '%s' "$input" | "$room/hub_main" "$word" >&4 2>"$room/err"
+    got=$?
+    exec 4>&-
+    rm "$room/pipe"
+    ends 4 write
+done
+
+# where nothing can be told, the status tells it
+: >"$room/err"
+call='Replay with no standard error'
+"$room/hub_main" Replay 2>&- >"$room/out"
+if [ $? != 2 ] || [ -s "$room/out" ]; then
+    echo "edge: $call" >&2
+    failed=1
 fi
 
 # run with threads the day has the record of its replay, since it has one run; so it has by the other schedulers, but
@@ -131,6 +178,26 @@ plays "$room/agrees" check
 input=$(printf '%s' "$input" | sed 's/^home lamp=on$/home lamp=off/')
 call check
 ends 7 'check: window 1 device lamp'
+
+# block FIRST: the example of docs/FORMATS.md that begins with these characters
+block() {
+    awk -v first="    $1" 'index($0, first) == 1 { inside = 1 } inside && !/^    / { exit } inside { print substr($0, 5) }' \
+        ../../docs/FORMATS.md
+}
+
+# the examples of the formats: a script, its record, a refusal, a check
+input=$(block '{')
+block 'safehome day' >"$room/record"
+plays "$room/record" replay --model gsv --trace
+input="$input
+%%
+$(cat "$room/record")
+"
+plays "$room/agrees" check
+script "$(block '{' | sed 's/"on": "lamp"/"on": "lmap"/; s/"at": "[^"]*"/"at": "tonight"/')" \
+    'script: unknown name command 1.1'
+script '{' 'script: not json'
+
 printf 'trial 2 windows 2 runs 128 committed 128 aborted 0 agree 2\n' >"$room/trial"
 plays "$room/trial" trial 2
 exit "$failed"
