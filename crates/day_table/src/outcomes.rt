@@ -18,16 +18,58 @@ pub fn write_outcome<W: Write>(
     let Ok((mut source, mut sink)) = ends_of(alloc, case) else {
         return Err(io::Error::from(io::ErrorKind::OutOfMemory));
     };
-    let words = case.words.as_slice();
-    let finish = still_command(alloc, words, &mut source, &mut sink, &mut SimBench);
+    let told = write_call(alloc, case, before, out, &mut source, &mut sink);
+    drop(source);
+    drop(sink);
+    told
+}
+
+fn write_call<W: Write>(
+    alloc: Global,
+    case: &Case,
+    before: &mut Before,
+    out: &mut W,
+    source: &mut BytesSource,
+    sink: &mut BytesSink,
+) -> io::Result<()> {
+    let text = end_text(alloc, case, source, sink)?;
     before.record = copy_of(alloc, sink.held())?;
-    let left = left_of(&mut source);
-    let mut text = format!(in alloc; "case {}\n", case.name)?;
-    push_end(&mut text, &finish)?;
-    write!(text, "left {left}\nrecord {}\n", sink.held().len())?;
+    let left = left_of(source);
+    let held = sink.held();
+    let told = write_all_of(out, text.as_str(), held, left);
+    told
+}
+
+fn write_all_of<W: Write>(out: &mut W, text: &str, held: &[u8], left: u64) -> io::Result<()> {
     out.write_all(text.as_bytes())?;
-    out.write_all(sink.held())?;
+    write!(out, "left {left}\nrecord {}\n", held.len())?;
+    out.write_all(held)?;
     out.write_all(b"\n")
+}
+
+fn end_text(
+    alloc: Global,
+    case: &Case,
+    source: &mut BytesSource,
+    sink: &mut BytesSink,
+) -> Result<String, AllocError> {
+    let mut text = format!(in alloc; "case {}\n", case.name)?;
+    let told = push_call(alloc, case, source, sink, &mut text);
+    told?;
+    Ok(text)
+}
+
+fn push_call(
+    alloc: Global,
+    case: &Case,
+    source: &mut BytesSource,
+    sink: &mut BytesSink,
+    text: &mut String,
+) -> Result<(), AllocError> {
+    let finish = still_command(alloc, case.words.as_slice(), source, sink, &mut SimBench);
+    let told = push_end(text, &finish);
+    drop(finish);
+    told
 }
 
 /// The source and the sink of a case.

@@ -38,7 +38,10 @@ fn replay_opened<D: Device>(
     let turns = window.turns.as_slice();
     match replay_window(alloc, hub, turns, window.seed, window.probes) {
         Ok(done) => Ok(done),
-        Err((_, NoMemory)) => Err(NoMemory),
+        Err((hub, NoMemory)) => {
+            drop(hub);
+            Err(NoMemory)
+        }
     }
 }
 

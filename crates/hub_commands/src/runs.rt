@@ -44,7 +44,10 @@ fn run_opened<R: Threads + Wait + Sync, D: Device + Send, C: Clock + Sync>(
 {
     match run_window(rt, alloc, hub, window.probes, clock) {
         Ok(done) => Ok(done),
-        Err((_, NoMemory)) => Err(NoMemory),
+        Err((hub, NoMemory)) => {
+            drop(hub);
+            Err(NoMemory)
+        }
     }
 }
 

@@ -74,6 +74,7 @@ impl<D: Device> Home<D> {
             return Err((self, NoMemory));
         };
         let Ok(indexed) = IndexedRoster::open(alloc, roster) else {
+            drop(room);
             return Err((self, NoMemory));
         };
         let Home {
@@ -98,15 +99,19 @@ impl<D: Device> Home<D> {
                     closing: room.closing,
                 },
             }),
-            Err((devices, NoMemory)) => Err((
-                Home {
-                    kinds,
-                    world,
-                    devices,
-                    opened,
-                },
-                NoMemory,
-            )),
+            Err((devices, NoMemory)) => {
+                drop(room);
+                drop(indexed);
+                Err((
+                    Home {
+                        kinds,
+                        world,
+                        devices,
+                        opened,
+                    },
+                    NoMemory,
+                ))
+            }
         }
     }
 
@@ -125,14 +130,72 @@ impl<D: Device> Home<D> {
     {
         let runs = roster.runs.len();
         let bounds = bounds_of(runs, self.world.devices.len(), rounds);
+        let history = history_room(alloc, bounds.entries, runs)?;
+        let order = match KeptOrder::open(alloc, &self.world, roster, bounds.items) {
+            Ok(order) => order,
+            Err(NoMemory) => {
+                drop(history);
+                return Err(NoMemory);
+            }
+        };
+        let devices = match self.known_devices(alloc, rounds) {
+            Ok(devices) => devices,
+            Err(NoMemory) => {
+                drop(history);
+                drop(order);
+                return Err(NoMemory);
+            }
+        };
+        let hands = match no_hands(alloc, runs) {
+            Ok(hands) => hands,
+            Err(NoMemory) => {
+                drop(history);
+                drop(order);
+                drop(devices);
+                return Err(NoMemory);
+            }
+        };
+        let closing = match closing_lists(alloc, bounds.items, self.devices.len()) {
+            Ok(closing) => closing,
+            Err(NoMemory) => {
+                drop(history);
+                drop(order);
+                drop(devices);
+                drop(hands);
+                return Err(NoMemory);
+            }
+        };
+        let blocked = match BlockedRuns::open(alloc, self.devices.len()) {
+            Ok(blocked) => blocked,
+            Err(NoMemory) => {
+                drop(history);
+                drop(order);
+                drop(devices);
+                drop(hands);
+                drop(closing);
+                return Err(NoMemory);
+            }
+        };
+        let scratch = match Scratch::open(alloc, self.world.devices.len() as u32) {
+            Ok(scratch) => scratch,
+            Err(NoMemory) => {
+                drop(history);
+                drop(order);
+                drop(devices);
+                drop(hands);
+                drop(closing);
+                drop(blocked);
+                return Err(NoMemory);
+            }
+        };
         Ok(Room {
-            history: history_room(alloc, bounds.entries, runs)?,
-            order: KeptOrder::open(alloc, &self.world, roster, bounds.items)?,
-            devices: self.known_devices(alloc, rounds)?,
-            hands: no_hands(alloc, runs)?,
-            closing: closing_lists(alloc, bounds.items, self.devices.len())?,
-            blocked: BlockedRuns::open(alloc, self.devices.len())?,
-            scratch: Scratch::open(alloc, self.world.devices.len() as u32)?,
+            history,
+            order,
+            devices,
+            hands,
+            closing,
+            blocked,
+            scratch,
         })
     }
 

@@ -94,8 +94,15 @@ fn is_worked_right<R: Threads + Wait + Sync>(
         naps: LONG,
     };
     match run_window_by(rt, alloc, hub, ROUNDS, &SetClock::new(7), means) {
-        Ok((home, closed)) => is_right(home, &closed),
-        Err(_) => false,
+        Ok((home, closed)) => {
+            let right = is_right(home, &closed);
+            drop(closed);
+            right
+        }
+        Err((hub, _)) => {
+            drop(hub);
+            false
+        }
     }
 }
 
@@ -105,7 +112,12 @@ fn fresh_hub(alloc: Global, scheduler: Scheduler) -> Option<Hub<CalmDevice>>
 {
     let script = read_script(alloc, SCRIPT.as_bytes()).ok()?;
     let hub = open_first(alloc, &script, scheduler)?;
-    if hub.fresh() { Some(hub) } else { None }
+    if hub.fresh() {
+        Some(hub)
+    } else {
+        drop(hub);
+        None
+    }
 }
 
 /// Opens the script's first window on a new home, under this scheduler.

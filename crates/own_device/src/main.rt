@@ -4,9 +4,15 @@
 mod radio_devices;
 mod windows;
 
+ghost use Rattle.routine_reader.specs.Scripts.{plain_script};
+ghost use Rattle.routine_reader.specs.Sound.{IsSound};
+
 use day_report::window_text;
 use device_states::Device;
-use routine_reader::read_script;
+use history_book::WindowRecord;
+use home_types::List;
+use radio_devices::RadioDevice;
+use routine_reader::{Script, read_script};
 use std::io::Write;
 use std::process::ExitCode;
 use windows::{MODE, open_first, work};
@@ -35,13 +41,45 @@ fn main(rt: HostRuntime) -> ExitCode {
 
 /// Works the script's window, and prints it with its history, and the counts of each device. None where that fails.
 fn run(rt: &HostRuntime) -> Option<()> {
-    let script = read_script(rt.alloc(), SCRIPT.as_bytes()).ok()?;
-    let mut hub = open_first(rt.alloc(), &script)?;
+    match read_script(rt.alloc(), SCRIPT.as_bytes()) {
+        Ok(script) => {
+            let told = play(rt, &script);
+            drop(script);
+            told
+        }
+        Err(_) => None,
+    }
+}
+
+fn play(rt: &HostRuntime, script: &Script) -> Option<()>
+    requires sound { IsSound (plain_script script.now) }
+{
+    let mut hub = open_first(rt.alloc(), script)?;
     work(&mut hub);
-    let (home, closed) = hub.close_window().ok()?;
-    let text = window_text(rt.alloc(), &script, 0, &closed, MODE, true).ok()?;
-    rt.stdout().write_all(text.as_slice()).ok()?;
-    let devices = home.into_devices();
+    match hub.close_window() {
+        Ok((home, closed)) => {
+            let told = print_window(rt, script, &closed);
+            drop(closed);
+            let devices = home.into_devices();
+            let counted = print_counts(rt, script, &devices);
+            drop(devices);
+            told.and(counted)
+        }
+        Err((hub, _)) => {
+            drop(hub);
+            None
+        }
+    }
+}
+
+fn print_window(rt: &HostRuntime, script: &Script, closed: &WindowRecord) -> Option<()>
+    requires sound { IsSound (plain_script script.now) }
+{
+    let text = window_text(rt.alloc(), script, 0, closed, MODE, true).ok()?;
+    rt.stdout().write_all(text.as_slice()).ok()
+}
+
+fn print_counts(rt: &HostRuntime, script: &Script, devices: &List<RadioDevice>) -> Option<()> {
     for (text, device) in script.devices.as_slice().iter().zip(devices.as_slice()) {
         let name = text.name.as_str();
         let (turns, probes, faults) = (device.turns(), device.probes(), device.faults());

@@ -34,15 +34,23 @@ fn one_command_takes_five_moves(rt: HostRuntime) {
 fn moves_at_end(alloc: Global, picks: &[u32]) -> Option<u64> {
     let hub = fresh_hub(alloc)?;
     hub.kept();
-    let Ok(mut player) = Player::open(alloc, hub, 0) else {
-        return None;
+    let mut player = match Player::open(alloc, hub, 0) {
+        Ok(player) => player,
+        Err((hub, _)) => {
+            drop(hub);
+            return None;
+        }
     };
     player.play(picks);
     player.finish(7);
     let moves = player.moves();
     player.kept();
     match player.close() {
-        Ok(_) => Some(moves),
+        Ok((home, record)) => {
+            drop(home);
+            drop(record);
+            Some(moves)
+        }
         Err((_player, _why)) => unreachable!(),
     }
 }
@@ -53,7 +61,12 @@ fn fresh_hub(alloc: Global) -> Option<Hub<CalmDevice>>
 {
     let script = read_script(alloc, SCRIPT.as_bytes()).ok()?;
     let hub = open_first(alloc, &script)?;
-    if hub.fresh() { Some(hub) } else { None }
+    if hub.fresh() {
+        Some(hub)
+    } else {
+        drop(hub);
+        None
+    }
 }
 
 /// Opens the script's first window on a new home.

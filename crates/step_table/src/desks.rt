@@ -3,10 +3,11 @@ ghost use Rattle.routine_reader.specs.Scripts.{plain_script};
 ghost use Rattle.routine_reader.specs.Sound.{IsSound};
 
 use crate::answers::{push_closed, push_made};
-use crate::openings::{Dev, open_first};
+use crate::openings::{Dev, Opened, open_first};
 use crate::steps::{Side, Step, read_step};
+use history_book::WindowRecord;
 use home_types::{Mode, RunNo};
-use hub_core::{Done, Grip, Hub, Turn};
+use hub_core::{Done, Grip, Home, Hub, Turn};
 use routine_reader::Script;
 use std::alloc::{AllocError, Global};
 use std::fmt::Write;
@@ -44,17 +45,37 @@ pub fn push_steps<R: Wait>(
 fn open_desk(alloc: Global, script: &Script, mode: Mode) -> Result<Option<Desk>, AllocError>
     requires sound { IsSound (plain_script script.now) }
 {
-    let Some(a) = open_first(alloc, script, mode)? else {
-        return Ok(None);
-    };
-    let Some(b) = open_first(alloc, script, mode)? else {
-        return Ok(None);
-    };
-    Ok(Some(Desk {
-        a: a.hub,
-        b: b.hub,
-        grips: Vec::new(alloc),
-    }))
+    match open_first(alloc, script, mode) {
+        Ok(Some(Opened { hub, .. })) => open_second(alloc, script, mode, hub),
+        Ok(None) => Ok(None),
+        Err(fault) => Err(fault),
+    }
+}
+
+/// Opens the window once more. Where that fails, the first hub is dropped.
+fn open_second(
+    alloc: Global,
+    script: &Script,
+    mode: Mode,
+    a: Hub<Dev>,
+) -> Result<Option<Desk>, AllocError>
+    requires sound { IsSound (plain_script script.now) }
+{
+    match open_first(alloc, script, mode) {
+        Ok(Some(Opened { hub, .. })) => Ok(Some(Desk {
+            a,
+            b: hub,
+            grips: Vec::new(alloc),
+        })),
+        Ok(None) => {
+            drop(a);
+            Ok(None)
+        }
+        Err(fault) => {
+            drop(a);
+            Err(fault)
+        }
+    }
 }
 
 /// The hubs after the steps, with every grip given back.
@@ -85,14 +106,32 @@ fn push_end(
 {
     match hub.close_window() {
         Ok((home, closed)) => {
-            writeln!(text, "{side:?} closed")?;
-            push_closed(alloc, text, script, mode, &home, &closed)
+            let told = push_side_closed(alloc, text, script, mode, side, &home, &closed);
+            drop(home);
+            drop(closed);
+            told
         }
         Err((hub, why)) => {
             let fresh = hub.fresh();
+            drop(hub);
             writeln!(text, "{side:?} {why:?}, fresh {fresh}")
         }
     }
+}
+
+fn push_side_closed(
+    alloc: Global,
+    text: &mut String,
+    script: &Script,
+    mode: Mode,
+    side: Side,
+    home: &Home<Dev>,
+    closed: &WindowRecord,
+) -> Result<(), AllocError>
+    requires sound { IsSound (plain_script script.now) }
+{
+    writeln!(text, "{side:?} closed")?;
+    push_closed(alloc, text, script, mode, home, closed)
 }
 
 impl Desk {

@@ -28,8 +28,16 @@ pub fn push_replay(
         return text.push_str("not opened\n");
     };
     match replay_window(alloc, hub, window.turns.as_slice(), window.seed, rounds) {
-        Ok((home, closed)) => push_closed(alloc, text, script, mode, &home, &closed),
-        Err(_) => Err(AllocError),
+        Ok((home, closed)) => {
+            let told = push_closed(alloc, text, script, mode, &home, &closed);
+            drop(home);
+            drop(closed);
+            told
+        }
+        Err((hub, _)) => {
+            drop(hub);
+            Err(AllocError)
+        }
     }
 }
 
@@ -49,17 +57,54 @@ pub fn push_play<R: Wait>(
     let Some(Opened { hub, rounds }) = open_first(alloc, script, mode)? else {
         return text.push_str("not opened\n");
     };
-    let mut player = match Player::open(alloc, hub, rounds) {
-        Ok(player) => player,
-        Err(_) => return Err(AllocError),
-    };
-    let told = push_picks(text, &mut player, window.turns.as_slice());
-    let Closed { why, home, record } = close_at_last(rt, player, window.seed);
-    told?;
+    match Player::open(alloc, hub, rounds) {
+        Ok(player) => {
+            let (told, Closed { why, home, record }) = play_all(
+                rt,
+                text,
+                player,
+                window.turns.as_slice(),
+                window.seed,
+            );
+            let ended = push_closed_late(alloc, text, script, mode, why, &home, &record);
+            drop(home);
+            drop(record);
+            told.and(ended)
+        }
+        Err((hub, _)) => {
+            drop(hub);
+            Err(AllocError)
+        }
+    }
+}
+
+fn play_all<R: Wait>(
+    rt: &R,
+    text: &mut String,
+    player: Player<Dev>,
+    turns: &[u32],
+    seed: u64,
+) -> (Result<(), AllocError>, Closed) {
+    let mut player = player;
+    let told = push_picks(text, &mut player, turns);
+    (told, close_at_last(rt, player, seed))
+}
+
+fn push_closed_late(
+    alloc: Global,
+    text: &mut String,
+    script: &Script,
+    mode: Mode,
+    why: Option<NotQuiet>,
+    home: &Home<Dev>,
+    record: &WindowRecord,
+) -> Result<(), AllocError>
+    requires sound { IsSound (plain_script script.now) }
+{
     if let Some(why) = why {
         writeln!(text, "not closed: {why:?}")?;
     }
-    push_closed(alloc, text, script, mode, &home, &record)
+    push_closed(alloc, text, script, mode, home, record)
 }
 
 fn push_picks(

@@ -29,12 +29,30 @@ pub fn push_run<R: Threads + Wait + Sync, C: Clock + Sync>(
         return text.push_str("not opened\n");
     };
     match run_window(rt, alloc, hub, rounds, clock) {
-        Ok((_, closed)) => {
-            writeln!(text, "run {} runs", ended_runs(&closed))?;
-            push_judgement(alloc, text, script, mode, &closed)
+        Ok((home, closed)) => {
+            drop(home);
+            let told = push_ended(alloc, text, script, mode, &closed);
+            drop(closed);
+            told
         }
-        Err(_) => Err(AllocError),
+        Err((hub, _)) => {
+            drop(hub);
+            Err(AllocError)
+        }
     }
+}
+
+fn push_ended(
+    alloc: Global,
+    text: &mut String,
+    script: &Script,
+    mode: Mode,
+    closed: &WindowRecord,
+) -> Result<(), AllocError>
+    requires sound { IsSound (plain_script script.now) }
+{
+    writeln!(text, "run {} runs", ended_runs(closed))?;
+    push_judgement(alloc, text, script, mode, closed)
 }
 
 fn ended_runs(closed: &WindowRecord) -> usize {
