@@ -1,12 +1,10 @@
 -- Planned times and deadlines stay at the greatest number of 64 bits.
-use Rattle.command_rules.specs.Rosters.{run_no}
 use Rattle.history_book.specs.Histories.{reading}
 use Rattle.history_book.specs.Plans.{planned_end, split_of}
 use Rattle.history_book.specs.Readings.{Reading}
-use Rattle.history_book.specs.declared.entries.Entry.TheVariants.{Arrived, Placed}
 use Rattle.lock_leasing.specs.Words.{lease_deadline}
-use Rattle.std.specs.Prelude.{[], refl, ◌∷◌, ◌≡◌}
 use Rattle.worked_windows.proofs.OneLight.{window}
+use Rattle.worked_windows.proofs.Words.{Arrived, Placed, [], refl, run_no, ◌∷◌, ◌≡◌}
 
 -- the one run of 100 ms, placed 50 ms before that number
 abbrev pub late : Reading

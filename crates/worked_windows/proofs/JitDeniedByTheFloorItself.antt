@@ -1,445 +1,48 @@
 -- The window jit-denied-by-the-floor-itself.
-use Rattle.command_rules.specs.Rosters.{device_no, run_no}
-use Rattle.history_book.specs.Histories.{answers_in, executed, reading}
-use Rattle.history_book.specs.Lines.{split_at}
-use Rattle.history_book.specs.Plans.{split_of}
-use Rattle.history_book.specs.Readings.{put}
-use Rattle.history_book.specs.Settings.{Setting, device_numbers}
-use Rattle.history_book.specs.declared.entries.Cause.TheVariants.{MustDown}
-use Rattle.history_book.specs.declared.entries.End.TheVariants.{Aborted, Committed}
-use Rattle.history_book.specs.declared.entries.Entry.{Entry}
-use Rattle.history_book.specs.declared.entries.Entry.TheVariants.{Arrived, Did, Doomed, Ended, Fell, Placed}
-use Rattle.home_types.specs.declared.commands.Answer.TheVariants.{Down, Fine}
-use Rattle.home_types.specs.declared.commands.Job.TheVariants.{Set}
-use Rattle.home_types.specs.declared.items.Item.{Item}
-use Rattle.home_types.specs.declared.items.Item.TheVariants.{Failed, Ran}
-use Rattle.home_types.specs.declared.kinds.Kind.TheVariants.{Range}
-use Rattle.home_types.specs.declared.modes.Scheduler.TheVariants.{JustInTime}
-use Rattle.home_types.specs.declared.modes.Visibility.TheVariants.{Eventual}
-use Rattle.hub_core.specs.AccountedCalls.{told_calls}
-use Rattle.hub_core.specs.LegalWindows.{all_ended}
-use Rattle.hub_core.specs.Steps.{Absent, HandsOut, Moves, Over, Waits, give_entries}
-use Rattle.device_gate.specs.declared.slips.Told.TheVariants.{Died, Worked}
-use Rattle.hub_core.specs.declared.waits.Why.TheVariants.{Busy, Denied}
-use Rattle.lock_leasing.specs.Configurations.{Commands, no_grips}
-use Rattle.lock_leasing.specs.Places.{At, DeniedBy}
-use Rattle.std.specs.Prelude.{List, None, Some, [], false, map, refl, take, true, ◌∷◌, ◌≡◌}
-use Rattle.worked_windows.proofs.Points.{clauses_of_history, clauses_of_line, verdict, words_at}
+use Rattle.worked_windows.proofs.Words.{Aborted, Absent, Arrived, At, Busy, Commands, Committed, Denied, DeniedBy, Did, Died, Doomed, Down, Ended, Entry, Eventual, Failed, Fell, Fine, HandsOut, IsWorked, JustInTime, List, Moves, MustDown, None, Over, Placed, Ran, Range, Set, Setting, Some, Table, Waits, Worked, [], device_no, false, give, held, less, more, no_grips, refl, row, run_no, slice_set, split_at, split_of, still, true, ◌++◌, ◌∷◌}
 
 abbrev pub window : Setting
 window = record {
-  runs =
-      record { commands = record { device = device_no 1; job = Set 0; must = true; ms = 100; takes = 100 } ∷ []; follows = None }
+  runs = record { commands = record { device = device_no 1; job = Set 0; must = true; ms = 100; takes = 100 } ∷ []; follows = None }
       ∷ record { commands = record { device = device_no 0; job = Set 0; must = true; ms = 100; takes = 100 } ∷ []; follows = None }
-      ∷ record { commands = record { device = device_no 1; job = Set 2; must = true; ms = 100; takes = 100 } ∷ record { device = device_no 0; job = Set 1; must = true; ms = 100; takes = 100 } ∷ []; follows = None }
-      ∷ [];
+      ∷ record { commands = record { device = device_no 1; job = Set 2; must = true; ms = 100; takes = 100 } ∷ record { device = device_no 0; job = Set 1; must = true; ms = 100; takes = 100 } ∷ []; follows = None } ∷ [];
   mode = record { model = Eventual; scheduler = JustInTime };
   kinds = Range 0 1 ∷ Range 0 3 ∷ [];
   first = record { value = 0; up = true } ∷ record { value = 0; up = true } ∷ [];
 }
 
 abbrev pub history : List Entry
-history =
-    Arrived (run_no 2) 0
-    ∷ Arrived (run_no 3) 0
-    ∷ Placed (run_no 2) 0 0
-    ∷ Arrived (run_no 1) 0
-    ∷ Placed (run_no 1) 0 0
-    ∷ Fell (device_no 0)
-    ∷ Did (run_no 2) 0 Down
-    ∷ Doomed (run_no 2) (MustDown 0)
-    ∷ Ended (run_no 2) (Aborted (MustDown 0))
-    ∷ Did (run_no 1) 0 Fine
-    ∷ Ended (run_no 1) Committed
-    ∷ Placed (run_no 3) 2 200
-    ∷ Fell (device_no 1)
-    ∷ Did (run_no 3) 0 Down
-    ∷ Doomed (run_no 3) (MustDown 0)
+history = Arrived (run_no 2) 0 ∷ Arrived (run_no 3) 0 ∷ Placed (run_no 2) 0 0 ∷ Arrived (run_no 1) 0 ∷ Placed (run_no 1) 0 0
+    ∷ Fell (device_no 0) ∷ Did (run_no 2) 0 Down ∷ Doomed (run_no 2) (MustDown 0) ∷ Ended (run_no 2) (Aborted (MustDown 0)) ∷ Did (run_no 1) 0 Fine
+    ∷ Ended (run_no 1) Committed ∷ Placed (run_no 3) 2 200 ∷ Fell (device_no 1) ∷ Did (run_no 3) 0 Down ∷ Doomed (run_no 3) (MustDown 0)
     ∷ Ended (run_no 3) (Aborted (MustDown 0)) ∷ []
 
-at_0 : words_at window (reading window (take 0 history)) no_grips 0 ≡ record {
-  line = [];
-  up = true ∷ true ∷ [];
-  writers = None ∷ None ∷ [];
-  values = 0 ∷ 0 ∷ [];
-  holders = [] ∷ [] ∷ [];
-  touched = [] ∷ [] ∷ [];
-  first_places = [];
-  places = [];
-  overdue = [];
-  starts = [];
-  ends = [];
-  whole_ends = [];
-  choices = Absent ∷ Moves (Arrived (run_no 1) 0 ∷ []) ∷ Moves (Arrived (run_no 2) 0 ∷ []) ∷ Moves (Arrived (run_no 3) 0 ∷ []) ∷ [];
+abbrev pub table : Table
+table = record {
+  first = record { line = []; up = true ∷ true ∷ []; writers = None ∷ None ∷ []; values = 0 ∷ 0 ∷ []; holders = [] ∷ [] ∷ []; touched = [] ∷ [] ∷ []; first_places = []; places = []; overdue = []; starts = []; ends = []; whole_ends = []; choices = Absent ∷ Moves (Arrived (run_no 1) 0 ∷ []) ∷ Moves (Arrived (run_no 2) 0 ∷ []) ∷ Moves (Arrived (run_no 3) 0 ∷ []) ∷ [] };
+  rows = still 0 no_grips 0
+      ∷ row 1 no_grips 0 (λ p. record p { first_places = 0 ∷ []; places = At (split_at [] 0) ∷ []; choices = slice_set p.choices 2 (Moves (Placed (run_no 2) 0 0 ∷ [])) })
+      ∷ row 2 no_grips 0 (λ p. record p { first_places = 0 ∷ 0 ∷ []; places = At (split_at [] 0) ∷ At (split_at [] 0) ∷ []; choices = slice_set p.choices 3 (Moves (Placed (run_no 3) 0 0 ∷ [])) })
+      ∷ row 3 no_grips 0 (λ p. record p { line = Ran (run_no 2) ∷ []; holders = (2 ∷ []) ∷ [] ∷ []; first_places = 0 ∷ []; places = At (split_at (Ran (run_no 2) ∷ []) 0) ∷ []; overdue = (None ∷ None ∷ []) ∷ []; starts = (0 ∷ []) ∷ []; ends = (100 ∷ []) ∷ []; whole_ends = 100 ∷ []; choices = slice_set p.choices 2 (HandsOut 0 (Commands 0)) })
+      ∷ row 4 no_grips 0 (λ p. record p { first_places = 0 ∷ 0 ∷ []; places = p.places ++ At (split_at (Ran (run_no 2) ∷ []) 0) ∷ []; choices = slice_set p.choices 1 (Moves (Placed (run_no 1) 0 0 ∷ [])) })
+      ∷ row 4 (held 0 2 (Commands 0) no_grips) 0 (λ p. record p { touched = (2 ∷ []) ∷ [] ∷ []; first_places = 0 ∷ 1 ∷ []; places = slice_set p.places 1 (DeniedBy 0 2); choices = slice_set (slice_set p.choices 2 (Waits (Busy (device_no 0)))) 3 (Waits (Denied (device_no 0) (run_no 2))) })
+      ∷ row 5 (held 0 2 (Commands 0) no_grips) 0 (λ p. record p { line = Ran (run_no 1) ∷ Ran (run_no 2) ∷ []; holders = (2 ∷ []) ∷ (1 ∷ []) ∷ []; first_places = 2 ∷ []; places = DeniedBy 0 2 ∷ []; overdue = (None ∷ None ∷ []) ∷ (None ∷ None ∷ []) ∷ []; starts = (0 ∷ []) ∷ (0 ∷ []) ∷ []; ends = (100 ∷ []) ∷ (100 ∷ []) ∷ []; whole_ends = 100 ∷ 100 ∷ []; choices = slice_set p.choices 1 (HandsOut 1 (Commands 0)) })
+      ∷ row 8 no_grips 100 (λ p. record p { line = more 1 (Failed (device_no 0) 1) p.line; up = false ∷ true ∷ []; holders = [] ∷ (1 ∷ []) ∷ []; first_places = 3 ∷ []; places = DeniedBy 1 1 ∷ []; choices = slice_set (slice_set p.choices 2 (Over (Aborted (MustDown 0)) (Ended (run_no 2) (Aborted (MustDown 0)) ∷ []))) 3 (Waits (Denied (device_no 1) (run_no 1))) })
+      ∷ row 8 (held 1 1 (Commands 0) no_grips) 100 (λ p. record p { touched = (2 ∷ []) ∷ (1 ∷ []) ∷ []; choices = slice_set p.choices 1 (Waits (Busy (device_no 1))) })
+      ∷ row 9 (held 1 1 (Commands 0) no_grips) 100 (λ p. record p { line = Ran (run_no 1) ∷ Failed (device_no 0) 1 ∷ []; first_places = 2 ∷ []; overdue = (None ∷ None ∷ []) ∷ []; starts = (0 ∷ []) ∷ []; ends = (100 ∷ []) ∷ []; whole_ends = 100 ∷ []; choices = slice_set p.choices 2 (Over (Aborted (MustDown 0)) []) })
+      ∷ row 10 no_grips 200 (λ p. record p { writers = None ∷ Some 1 ∷ []; holders = [] ∷ [] ∷ []; places = At (split_at (Ran (run_no 1) ∷ Failed (device_no 0) 1 ∷ []) 2) ∷ []; choices = slice_set (slice_set p.choices 1 (Over Committed (Ended (run_no 1) Committed ∷ []))) 3 (Moves (Placed (run_no 3) 2 200 ∷ [])) })
+      ∷ row 11 no_grips 200 (λ p. record p { overdue = []; starts = []; ends = []; whole_ends = []; choices = slice_set p.choices 1 (Over Committed []) })
+      ∷ row 12 no_grips 200 (λ p. record p { line = p.line ++ Ran (run_no 3) ∷ []; holders = (3 ∷ []) ∷ (3 ∷ []) ∷ []; first_places = []; places = []; overdue = (None ∷ None ∷ []) ∷ []; starts = (300 ∷ 200 ∷ []) ∷ []; ends = (400 ∷ 300 ∷ []) ∷ []; whole_ends = 400 ∷ []; choices = slice_set p.choices 3 (HandsOut 1 (Commands 0)) })
+      ∷ row 12 (held 1 3 (Commands 0) no_grips) 200 (λ p. record p { touched = (2 ∷ []) ∷ (1 ∷ 3 ∷ []) ∷ []; choices = slice_set p.choices 3 (Waits (Busy (device_no 1))) })
+      ∷ row 15 no_grips 300 (λ p. record p { line = more 2 (Failed (device_no 1) 1) p.line; up = false ∷ false ∷ []; holders = [] ∷ [] ∷ []; choices = slice_set p.choices 3 (Over (Aborted (MustDown 0)) (Ended (run_no 3) (Aborted (MustDown 0)) ∷ [])) })
+      ∷ row 16 no_grips 300 (λ p. record p { line = less 3 p.line; overdue = []; starts = []; ends = []; whole_ends = []; choices = slice_set p.choices 3 (Over (Aborted (MustDown 0)) []) }) ∷ [];
+  gives = give 5 0 2 (Commands 0) Died (Fell (device_no 0) ∷ Did (run_no 2) 0 Down ∷ Doomed (run_no 2) (MustDown 0) ∷ [])
+      ∷ give 9 1 1 (Commands 0) Worked (Did (run_no 1) 0 Fine ∷ [])
+      ∷ give 12 1 3 (Commands 0) Died (Fell (device_no 1) ∷ Did (run_no 3) 0 Down ∷ Doomed (run_no 3) (MustDown 0) ∷ []) ∷ [];
+  calls = 0 ∷ 1 ∷ [];
+  outcome = record { order = Ran (run_no 1) ∷ Failed (device_no 0) 1 ∷ Failed (device_no 1) 1 ∷ []; home = record { value = 0; up = false } ∷ record { value = 0; up = false } ∷ []; answers = record { run = run_no 1; answers = Fine ∷ [] } ∷ [] };
 }
-unfolding split_of
-at_0 = refl
 
-clauses_0 : clauses_of_line window (reading window (take 0 history)) no_grips ≡ clauses_of_history window (reading window (take 0 history))
+is_worked : IsWorked window history table
 unfolding split_of
-clauses_0 = refl
-
-at_1 : words_at window (reading window (take 1 history)) no_grips 0 ≡ record {
-  line = [];
-  up = true ∷ true ∷ [];
-  writers = None ∷ None ∷ [];
-  values = 0 ∷ 0 ∷ [];
-  holders = [] ∷ [] ∷ [];
-  touched = [] ∷ [] ∷ [];
-  first_places = 0 ∷ [];
-  places = At (split_at [] 0) ∷ [];
-  overdue = [];
-  starts = [];
-  ends = [];
-  whole_ends = [];
-  choices = Absent ∷ Moves (Arrived (run_no 1) 0 ∷ []) ∷ Moves (Placed (run_no 2) 0 0 ∷ []) ∷ Moves (Arrived (run_no 3) 0 ∷ []) ∷ [];
-}
-unfolding split_of
-at_1 = refl
-
-clauses_1 : clauses_of_line window (reading window (take 1 history)) no_grips ≡ clauses_of_history window (reading window (take 1 history))
-unfolding split_of
-clauses_1 = refl
-
-at_2 : words_at window (reading window (take 2 history)) no_grips 0 ≡ record {
-  line = [];
-  up = true ∷ true ∷ [];
-  writers = None ∷ None ∷ [];
-  values = 0 ∷ 0 ∷ [];
-  holders = [] ∷ [] ∷ [];
-  touched = [] ∷ [] ∷ [];
-  first_places = 0 ∷ 0 ∷ [];
-  places = At (split_at [] 0) ∷ At (split_at [] 0) ∷ [];
-  overdue = [];
-  starts = [];
-  ends = [];
-  whole_ends = [];
-  choices = Absent ∷ Moves (Arrived (run_no 1) 0 ∷ []) ∷ Moves (Placed (run_no 2) 0 0 ∷ []) ∷ Moves (Placed (run_no 3) 0 0 ∷ []) ∷ [];
-}
-unfolding split_of
-at_2 = refl
-
-clauses_2 : clauses_of_line window (reading window (take 2 history)) no_grips ≡ clauses_of_history window (reading window (take 2 history))
-unfolding split_of
-clauses_2 = refl
-
-at_3 : words_at window (reading window (take 3 history)) no_grips 0 ≡ record {
-  line = Ran (run_no 2) ∷ [];
-  up = true ∷ true ∷ [];
-  writers = None ∷ None ∷ [];
-  values = 0 ∷ 0 ∷ [];
-  holders = (2 ∷ []) ∷ [] ∷ [];
-  touched = [] ∷ [] ∷ [];
-  first_places = 0 ∷ [];
-  places = At (split_at (Ran (run_no 2) ∷ []) 0) ∷ [];
-  overdue = (None ∷ None ∷ []) ∷ [];
-  starts = (0 ∷ []) ∷ [];
-  ends = (100 ∷ []) ∷ [];
-  whole_ends = 100 ∷ [];
-  choices = Absent ∷ Moves (Arrived (run_no 1) 0 ∷ []) ∷ HandsOut 0 (Commands 0) ∷ Moves (Placed (run_no 3) 0 0 ∷ []) ∷ [];
-}
-unfolding split_of
-at_3 = refl
-
-clauses_3 : clauses_of_line window (reading window (take 3 history)) no_grips ≡ clauses_of_history window (reading window (take 3 history))
-unfolding split_of
-clauses_3 = refl
-
-at_4 : words_at window (reading window (take 4 history)) no_grips 0 ≡ record {
-  line = Ran (run_no 2) ∷ [];
-  up = true ∷ true ∷ [];
-  writers = None ∷ None ∷ [];
-  values = 0 ∷ 0 ∷ [];
-  holders = (2 ∷ []) ∷ [] ∷ [];
-  touched = [] ∷ [] ∷ [];
-  first_places = 0 ∷ 0 ∷ [];
-  places = At (split_at (Ran (run_no 2) ∷ []) 0) ∷ At (split_at (Ran (run_no 2) ∷ []) 0) ∷ [];
-  overdue = (None ∷ None ∷ []) ∷ [];
-  starts = (0 ∷ []) ∷ [];
-  ends = (100 ∷ []) ∷ [];
-  whole_ends = 100 ∷ [];
-  choices = Absent ∷ Moves (Placed (run_no 1) 0 0 ∷ []) ∷ HandsOut 0 (Commands 0) ∷ Moves (Placed (run_no 3) 0 0 ∷ []) ∷ [];
-}
-unfolding split_of
-at_4 = refl
-
-clauses_4 : clauses_of_line window (reading window (take 4 history)) no_grips ≡ clauses_of_history window (reading window (take 4 history))
-unfolding split_of
-clauses_4 = refl
-
-at_5 : words_at window (reading window (take 4 history)) (put no_grips 0 (Some (record { maker = 2; purpose = Commands 0 }))) 0 ≡ record {
-  line = Ran (run_no 2) ∷ [];
-  up = true ∷ true ∷ [];
-  writers = None ∷ None ∷ [];
-  values = 0 ∷ 0 ∷ [];
-  holders = (2 ∷ []) ∷ [] ∷ [];
-  touched = (2 ∷ []) ∷ [] ∷ [];
-  first_places = 0 ∷ 1 ∷ [];
-  places = At (split_at (Ran (run_no 2) ∷ []) 0) ∷ DeniedBy 0 2 ∷ [];
-  overdue = (None ∷ None ∷ []) ∷ [];
-  starts = (0 ∷ []) ∷ [];
-  ends = (100 ∷ []) ∷ [];
-  whole_ends = 100 ∷ [];
-  choices = Absent ∷ Moves (Placed (run_no 1) 0 0 ∷ []) ∷ Waits (Busy (device_no 0)) ∷ Waits (Denied (device_no 0) (run_no 2)) ∷ [];
-}
-unfolding split_of
-at_5 = refl
-
-clauses_5 : clauses_of_line window (reading window (take 4 history)) (put no_grips 0 (Some (record { maker = 2; purpose = Commands 0 }))) ≡ clauses_of_history window (reading window (take 4 history))
-unfolding split_of
-clauses_5 = refl
-
-at_6 : words_at window (reading window (take 5 history)) (put no_grips 0 (Some (record { maker = 2; purpose = Commands 0 }))) 0 ≡ record {
-  line = Ran (run_no 1) ∷ Ran (run_no 2) ∷ [];
-  up = true ∷ true ∷ [];
-  writers = None ∷ None ∷ [];
-  values = 0 ∷ 0 ∷ [];
-  holders = (2 ∷ []) ∷ (1 ∷ []) ∷ [];
-  touched = (2 ∷ []) ∷ [] ∷ [];
-  first_places = 2 ∷ [];
-  places = DeniedBy 0 2 ∷ [];
-  overdue = (None ∷ None ∷ []) ∷ (None ∷ None ∷ []) ∷ [];
-  starts = (0 ∷ []) ∷ (0 ∷ []) ∷ [];
-  ends = (100 ∷ []) ∷ (100 ∷ []) ∷ [];
-  whole_ends = 100 ∷ 100 ∷ [];
-  choices = Absent ∷ HandsOut 1 (Commands 0) ∷ Waits (Busy (device_no 0)) ∷ Waits (Denied (device_no 0) (run_no 2)) ∷ [];
-}
-unfolding split_of
-at_6 = refl
-
-clauses_6 : clauses_of_line window (reading window (take 5 history)) (put no_grips 0 (Some (record { maker = 2; purpose = Commands 0 }))) ≡ clauses_of_history window (reading window (take 5 history))
-unfolding split_of
-clauses_6 = refl
-
-at_7 : words_at window (reading window (take 8 history)) no_grips 100 ≡ record {
-  line = Ran (run_no 1) ∷ Failed (device_no 0) 1 ∷ Ran (run_no 2) ∷ [];
-  up = false ∷ true ∷ [];
-  writers = None ∷ None ∷ [];
-  values = 0 ∷ 0 ∷ [];
-  holders = [] ∷ (1 ∷ []) ∷ [];
-  touched = (2 ∷ []) ∷ [] ∷ [];
-  first_places = 3 ∷ [];
-  places = DeniedBy 1 1 ∷ [];
-  overdue = (None ∷ None ∷ []) ∷ (None ∷ None ∷ []) ∷ [];
-  starts = (0 ∷ []) ∷ (0 ∷ []) ∷ [];
-  ends = (100 ∷ []) ∷ (100 ∷ []) ∷ [];
-  whole_ends = 100 ∷ 100 ∷ [];
-  choices = Absent ∷ HandsOut 1 (Commands 0) ∷ Over (Aborted (MustDown 0)) (Ended (run_no 2) (Aborted (MustDown 0)) ∷ []) ∷ Waits (Denied (device_no 1) (run_no 1)) ∷ [];
-}
-unfolding split_of
-at_7 = refl
-
-clauses_7 : clauses_of_line window (reading window (take 8 history)) no_grips ≡ clauses_of_history window (reading window (take 8 history))
-unfolding split_of
-clauses_7 = refl
-
-at_8 : words_at window (reading window (take 8 history)) (put no_grips 1 (Some (record { maker = 1; purpose = Commands 0 }))) 100 ≡ record {
-  line = Ran (run_no 1) ∷ Failed (device_no 0) 1 ∷ Ran (run_no 2) ∷ [];
-  up = false ∷ true ∷ [];
-  writers = None ∷ None ∷ [];
-  values = 0 ∷ 0 ∷ [];
-  holders = [] ∷ (1 ∷ []) ∷ [];
-  touched = (2 ∷ []) ∷ (1 ∷ []) ∷ [];
-  first_places = 3 ∷ [];
-  places = DeniedBy 1 1 ∷ [];
-  overdue = (None ∷ None ∷ []) ∷ (None ∷ None ∷ []) ∷ [];
-  starts = (0 ∷ []) ∷ (0 ∷ []) ∷ [];
-  ends = (100 ∷ []) ∷ (100 ∷ []) ∷ [];
-  whole_ends = 100 ∷ 100 ∷ [];
-  choices = Absent ∷ Waits (Busy (device_no 1)) ∷ Over (Aborted (MustDown 0)) (Ended (run_no 2) (Aborted (MustDown 0)) ∷ []) ∷ Waits (Denied (device_no 1) (run_no 1)) ∷ [];
-}
-unfolding split_of
-at_8 = refl
-
-clauses_8 : clauses_of_line window (reading window (take 8 history)) (put no_grips 1 (Some (record { maker = 1; purpose = Commands 0 }))) ≡ clauses_of_history window (reading window (take 8 history))
-unfolding split_of
-clauses_8 = refl
-
-at_9 : words_at window (reading window (take 9 history)) (put no_grips 1 (Some (record { maker = 1; purpose = Commands 0 }))) 100 ≡ record {
-  line = Ran (run_no 1) ∷ Failed (device_no 0) 1 ∷ [];
-  up = false ∷ true ∷ [];
-  writers = None ∷ None ∷ [];
-  values = 0 ∷ 0 ∷ [];
-  holders = [] ∷ (1 ∷ []) ∷ [];
-  touched = (2 ∷ []) ∷ (1 ∷ []) ∷ [];
-  first_places = 2 ∷ [];
-  places = DeniedBy 1 1 ∷ [];
-  overdue = (None ∷ None ∷ []) ∷ [];
-  starts = (0 ∷ []) ∷ [];
-  ends = (100 ∷ []) ∷ [];
-  whole_ends = 100 ∷ [];
-  choices = Absent ∷ Waits (Busy (device_no 1)) ∷ Over (Aborted (MustDown 0)) [] ∷ Waits (Denied (device_no 1) (run_no 1)) ∷ [];
-}
-unfolding split_of
-at_9 = refl
-
-clauses_9 : clauses_of_line window (reading window (take 9 history)) (put no_grips 1 (Some (record { maker = 1; purpose = Commands 0 }))) ≡ clauses_of_history window (reading window (take 9 history))
-unfolding split_of
-clauses_9 = refl
-
-at_10 : words_at window (reading window (take 10 history)) no_grips 200 ≡ record {
-  line = Ran (run_no 1) ∷ Failed (device_no 0) 1 ∷ [];
-  up = false ∷ true ∷ [];
-  writers = None ∷ Some 1 ∷ [];
-  values = 0 ∷ 0 ∷ [];
-  holders = [] ∷ [] ∷ [];
-  touched = (2 ∷ []) ∷ (1 ∷ []) ∷ [];
-  first_places = 2 ∷ [];
-  places = At (split_at (Ran (run_no 1) ∷ Failed (device_no 0) 1 ∷ []) 2) ∷ [];
-  overdue = (None ∷ None ∷ []) ∷ [];
-  starts = (0 ∷ []) ∷ [];
-  ends = (100 ∷ []) ∷ [];
-  whole_ends = 100 ∷ [];
-  choices = Absent ∷ Over Committed (Ended (run_no 1) Committed ∷ []) ∷ Over (Aborted (MustDown 0)) [] ∷ Moves (Placed (run_no 3) 2 200 ∷ []) ∷ [];
-}
-unfolding split_of
-at_10 = refl
-
-clauses_10 : clauses_of_line window (reading window (take 10 history)) no_grips ≡ clauses_of_history window (reading window (take 10 history))
-unfolding split_of
-clauses_10 = refl
-
-at_11 : words_at window (reading window (take 11 history)) no_grips 200 ≡ record {
-  line = Ran (run_no 1) ∷ Failed (device_no 0) 1 ∷ [];
-  up = false ∷ true ∷ [];
-  writers = None ∷ Some 1 ∷ [];
-  values = 0 ∷ 0 ∷ [];
-  holders = [] ∷ [] ∷ [];
-  touched = (2 ∷ []) ∷ (1 ∷ []) ∷ [];
-  first_places = 2 ∷ [];
-  places = At (split_at (Ran (run_no 1) ∷ Failed (device_no 0) 1 ∷ []) 2) ∷ [];
-  overdue = [];
-  starts = [];
-  ends = [];
-  whole_ends = [];
-  choices = Absent ∷ Over Committed [] ∷ Over (Aborted (MustDown 0)) [] ∷ Moves (Placed (run_no 3) 2 200 ∷ []) ∷ [];
-}
-unfolding split_of
-at_11 = refl
-
-clauses_11 : clauses_of_line window (reading window (take 11 history)) no_grips ≡ clauses_of_history window (reading window (take 11 history))
-unfolding split_of
-clauses_11 = refl
-
-at_12 : words_at window (reading window (take 12 history)) no_grips 200 ≡ record {
-  line = Ran (run_no 1) ∷ Failed (device_no 0) 1 ∷ Ran (run_no 3) ∷ [];
-  up = false ∷ true ∷ [];
-  writers = None ∷ Some 1 ∷ [];
-  values = 0 ∷ 0 ∷ [];
-  holders = (3 ∷ []) ∷ (3 ∷ []) ∷ [];
-  touched = (2 ∷ []) ∷ (1 ∷ []) ∷ [];
-  first_places = [];
-  places = [];
-  overdue = (None ∷ None ∷ []) ∷ [];
-  starts = (300 ∷ 200 ∷ []) ∷ [];
-  ends = (400 ∷ 300 ∷ []) ∷ [];
-  whole_ends = 400 ∷ [];
-  choices = Absent ∷ Over Committed [] ∷ Over (Aborted (MustDown 0)) [] ∷ HandsOut 1 (Commands 0) ∷ [];
-}
-unfolding split_of
-at_12 = refl
-
-clauses_12 : clauses_of_line window (reading window (take 12 history)) no_grips ≡ clauses_of_history window (reading window (take 12 history))
-unfolding split_of
-clauses_12 = refl
-
-at_13 : words_at window (reading window (take 12 history)) (put no_grips 1 (Some (record { maker = 3; purpose = Commands 0 }))) 200 ≡ record {
-  line = Ran (run_no 1) ∷ Failed (device_no 0) 1 ∷ Ran (run_no 3) ∷ [];
-  up = false ∷ true ∷ [];
-  writers = None ∷ Some 1 ∷ [];
-  values = 0 ∷ 0 ∷ [];
-  holders = (3 ∷ []) ∷ (3 ∷ []) ∷ [];
-  touched = (2 ∷ []) ∷ (1 ∷ 3 ∷ []) ∷ [];
-  first_places = [];
-  places = [];
-  overdue = (None ∷ None ∷ []) ∷ [];
-  starts = (300 ∷ 200 ∷ []) ∷ [];
-  ends = (400 ∷ 300 ∷ []) ∷ [];
-  whole_ends = 400 ∷ [];
-  choices = Absent ∷ Over Committed [] ∷ Over (Aborted (MustDown 0)) [] ∷ Waits (Busy (device_no 1)) ∷ [];
-}
-unfolding split_of
-at_13 = refl
-
-clauses_13 : clauses_of_line window (reading window (take 12 history)) (put no_grips 1 (Some (record { maker = 3; purpose = Commands 0 }))) ≡ clauses_of_history window (reading window (take 12 history))
-unfolding split_of
-clauses_13 = refl
-
-at_14 : words_at window (reading window (take 15 history)) no_grips 300 ≡ record {
-  line = Ran (run_no 1) ∷ Failed (device_no 0) 1 ∷ Failed (device_no 1) 1 ∷ Ran (run_no 3) ∷ [];
-  up = false ∷ false ∷ [];
-  writers = None ∷ Some 1 ∷ [];
-  values = 0 ∷ 0 ∷ [];
-  holders = [] ∷ [] ∷ [];
-  touched = (2 ∷ []) ∷ (1 ∷ 3 ∷ []) ∷ [];
-  first_places = [];
-  places = [];
-  overdue = (None ∷ None ∷ []) ∷ [];
-  starts = (300 ∷ 200 ∷ []) ∷ [];
-  ends = (400 ∷ 300 ∷ []) ∷ [];
-  whole_ends = 400 ∷ [];
-  choices = Absent ∷ Over Committed [] ∷ Over (Aborted (MustDown 0)) [] ∷ Over (Aborted (MustDown 0)) (Ended (run_no 3) (Aborted (MustDown 0)) ∷ []) ∷ [];
-}
-unfolding split_of
-at_14 = refl
-
-clauses_14 : clauses_of_line window (reading window (take 15 history)) no_grips ≡ clauses_of_history window (reading window (take 15 history))
-unfolding split_of
-clauses_14 = refl
-
-at_15 : words_at window (reading window history) no_grips 300 ≡ record {
-  line = Ran (run_no 1) ∷ Failed (device_no 0) 1 ∷ Failed (device_no 1) 1 ∷ [];
-  up = false ∷ false ∷ [];
-  writers = None ∷ Some 1 ∷ [];
-  values = 0 ∷ 0 ∷ [];
-  holders = [] ∷ [] ∷ [];
-  touched = (2 ∷ []) ∷ (1 ∷ 3 ∷ []) ∷ [];
-  first_places = [];
-  places = [];
-  overdue = [];
-  starts = [];
-  ends = [];
-  whole_ends = [];
-  choices = Absent ∷ Over Committed [] ∷ Over (Aborted (MustDown 0)) [] ∷ Over (Aborted (MustDown 0)) [] ∷ [];
-}
-unfolding split_of
-at_15 = refl
-
-clauses_15 : clauses_of_line window (reading window history) no_grips ≡ clauses_of_history window (reading window history)
-unfolding split_of
-clauses_15 = refl
-
-give_0 : give_entries window (reading window (take 5 history)) 0 (record { maker = 2; purpose = Commands 0 }) Died ≡ Fell (device_no 0) ∷ Did (run_no 2) 0 Down ∷ Doomed (run_no 2) (MustDown 0) ∷ []
-unfolding split_of
-give_0 = refl
-
-give_1 : give_entries window (reading window (take 9 history)) 1 (record { maker = 1; purpose = Commands 0 }) Worked ≡ Did (run_no 1) 0 Fine ∷ []
-unfolding split_of
-give_1 = refl
-
-give_2 : give_entries window (reading window (take 12 history)) 1 (record { maker = 3; purpose = Commands 0 }) Died ≡ Fell (device_no 1) ∷ Did (run_no 3) 0 Down ∷ Doomed (run_no 3) (MustDown 0) ∷ []
-unfolding split_of
-give_2 = refl
-
-all_have_ended : all_ended window history ≡ true
-unfolding split_of
-all_have_ended = refl
-
-verdict_is : verdict window history ≡ record { well_formed = true; clean = true; justified = true; isolated = true }
-unfolding split_of
-verdict_is = refl
-
-abbrev pub order : List Item
-order = Ran (run_no 1) ∷ Failed (device_no 0) 1 ∷ Failed (device_no 1) 1 ∷ []
-
-order_gives : executed window order ≡ record { home = record { value = 0; up = false } ∷ record { value = 0; up = false } ∷ []; answers = record { run = run_no 1; answers = Fine ∷ [] } ∷ []; refused = false }
-unfolding split_of
-order_gives = refl
-
-answers_are : answers_in (reading window history) order ≡ record { run = run_no 1; answers = Fine ∷ [] } ∷ []
-unfolding split_of
-answers_are = refl
-
-calls_are : map (told_calls window.runs history) (device_numbers window) ≡ 0 ∷ 1 ∷ []
-unfolding split_of
-calls_are = refl
+is_worked = record { points = refl; clauses = refl; gives = refl; calls = refl; ended = refl; allowed = refl; order = refl; answers = refl }

@@ -1,29 +1,16 @@
 -- A day of two windows that is legal, put together whole: in the first the light fails when its run is done with it, in the second
 -- it comes back and is turned off.
 use Rattle.worked_windows.proofs.LegalWindow as first_window
-use Rattle.command_rules.specs.Rosters.{device_no, run_no}
 use Rattle.history_book.specs.Histories.{kept_by, reading}
-use Rattle.history_book.specs.Plans.{split_of}
-use Rattle.history_book.specs.Settings.{Setting}
-use Rattle.history_book.specs.declared.entries.End.TheVariants.{Committed}
-use Rattle.history_book.specs.declared.entries.Entry.{Entry}
-use Rattle.history_book.specs.declared.entries.Entry.TheVariants.{Arrived, Did, Ended, Placed, Rose}
 use Rattle.history_book.specs.declared.records.WindowRecord.{WindowRecord}
 use Rattle.home_types.specs.HomeStates.{stand_at}
-use Rattle.home_types.specs.declared.commands.Answer.TheVariants.{Fine}
-use Rattle.home_types.specs.declared.commands.Job.TheVariants.{Set}
 use Rattle.home_types.specs.declared.items.Item.{Item}
-use Rattle.home_types.specs.declared.items.Item.TheVariants.{Back, Ran}
-use Rattle.home_types.specs.declared.kinds.Kind.TheVariants.{Range, States}
 use Rattle.home_types.specs.declared.modes.Mode.{Mode}
-use Rattle.home_types.specs.declared.modes.Scheduler.TheVariants.{Fcfs}
-use Rattle.home_types.specs.declared.modes.Visibility.TheVariants.{Eventual}
 use Rattle.hub_core.specs.AccountedCalls.{CallsAreAccounted}
 use Rattle.hub_core.specs.Agreement.{AgreesWithSerial}
 use Rattle.hub_core.specs.LegalDays.{DevicesAreLeft, IsDeviceOf, IsLegalDay, RecordsAreLegal, setting_of, total}
 use Rattle.hub_core.specs.LegalWindows.{IsLegalWindow}
 use Rattle.hub_core.specs.Orders.{IsOrderFor}
-use Rattle.lock_leasing.specs.Configurations.{no_grips}
 use Rattle.lock_leasing.specs.Places.{MayBeOut}
 use Rattle.routine_reader.specs.declared.scripts.DeviceText.{DeviceText}
 use Rattle.routine_reader.specs.declared.scripts.Script.{Script}
@@ -31,6 +18,7 @@ use Rattle.routine_reader.specs.declared.scripts.WindowText.{WindowText}
 use Rattle.std.proofs.Common.{arith, subst}
 use Rattle.std.proofs.lemmas.Grind.{common_steps}
 use Rattle.std.specs.Prelude.{List, None, Option, Some, [], codes, drop, refl, slice_get, suc, take, true, zero, ⊤, ℕ, ◌++◌, ◌∷◌, ◌≡◌}
+use Rattle.worked_windows.proofs.Words.{Arrived, Back, Committed, Did, Ended, Entry, Eventual, Fcfs, Fine, Placed, Ran, Range, Rose, Set, Setting, States, device_no, no_grips, run_no, split_of}
 
 -- The script
 

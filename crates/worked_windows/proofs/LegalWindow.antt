@@ -1,20 +1,17 @@
 -- A window's record that is legal, put together whole.
 use Rattle.worked_windows.proofs.FailureAfterLastAccess as worked
 use Rattle.history_book.specs.Histories.{kept_by, reading}
-use Rattle.history_book.specs.Plans.{split_of}
 use Rattle.history_book.specs.declared.entries.Kept.{Kept}
 use Rattle.history_book.specs.declared.records.WindowRecord.{WindowRecord}
-use Rattle.home_types.specs.declared.modes.Scheduler.TheVariants.{Fcfs}
-use Rattle.home_types.specs.declared.modes.Visibility.TheVariants.{Eventual}
 use Rattle.hub_core.specs.AccountedCalls.{CallsAreAccounted}
 use Rattle.hub_core.specs.Agreement.{AgreesWithSerial}
 use Rattle.hub_core.specs.LegalWindows.{IsLegalWindow}
 use Rattle.hub_core.specs.Orders.{IsOrderFor}
-use Rattle.lock_leasing.specs.Configurations.{no_grips}
 use Rattle.lock_leasing.specs.Places.{MayBeOut}
 use Rattle.std.proofs.Common.{arith}
 use Rattle.std.proofs.lemmas.Grind.{common_steps}
 use Rattle.std.specs.Prelude.{List, [], drop, false, refl, take, true, ◌++◌, ◌∷◌}
+use Rattle.worked_windows.proofs.Words.{Eventual, Fcfs, no_grips, split_of}
 
 -- the failure is the detector's, all else the run's
 abbrev pub made : List Kept
@@ -25,7 +22,7 @@ closed = record {
   mode = record { model = Eventual; scheduler = Fcfs };
   first = record { devices = record { items = worked.window.first; spare = 0 } };
   history = record { items = made; spare = 0 };
-  order = record { items = worked.order; spare = 0 };
+  order = record { items = worked.table.outcome.order; spare = 0 };
   last = record { devices = record { items = (record { value = 1; up = false } ∷ record { value = 1; up = true } ∷ record { value = 0; up = true } ∷ record { value = 18; up = true } ∷ []); spare = 0 } };
   turns = record { items = 1 ∷ 1 ∷ 0 ∷ 0 ∷ []; spare = 0 };
   faults = record { items = 1 ∷ 0 ∷ 0 ∷ 0 ∷ []; spare = 0 };
@@ -36,7 +33,7 @@ nothing_out : MayBeOut worked.window (reading worked.window (take 1 worked.histo
 unfolding split_of
 nothing_out = record { commands = λ d r k out. absurd (cc); undos = λ d r v out. absurd (cc); one = λ d e r p q out too. absurd (cc) }
 
-order_is : IsOrderFor worked.window worked.history worked.order
+order_is : IsOrderFor worked.window worked.history worked.table.outcome.order
 unfolding split_of
 order_is = record { runs = λ r. grind (arith, common_steps); events = λ d. grind (arith, common_steps); following = λ r f both. grind (arith, common_steps) }
 
@@ -44,7 +41,7 @@ calls_are : CallsAreAccounted worked.window worked.history (1 ∷ 1 ∷ 0 ∷ 0 
 unfolding split_of
 calls_are = record { turns_size = refl; faults_size = refl; turns_of = λ d within. grind (arith, common_steps); faults_of = λ d within. grind (arith, common_steps) }
 
-agrees_is : AgreesWithSerial worked.window worked.history worked.order closed.last.devices.items
+agrees_is : AgreesWithSerial worked.window worked.history worked.table.outcome.order closed.last.devices.items
 unfolding split_of
 agrees_is = record { applies = refl; answers = refl; home = refl; counted = λ d within. grind (arith, common_steps) }
 

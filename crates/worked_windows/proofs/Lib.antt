@@ -1,4 +1,7 @@
 pub mod Points
+pub mod Tables
+pub mod Words
+pub mod SameClauses
 pub mod Edits
 pub mod OneLight
 pub mod BehindOnFan

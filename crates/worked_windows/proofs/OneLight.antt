@@ -1,202 +1,31 @@
 -- The window one-light: one run sets one lamp.
-use Rattle.command_rules.specs.Rosters.{device_no, run_no}
-use Rattle.history_book.specs.Histories.{answers_in, executed, reading}
-use Rattle.history_book.specs.Lines.{split_at}
-use Rattle.history_book.specs.Plans.{split_of}
-use Rattle.history_book.specs.Readings.{put}
-use Rattle.history_book.specs.Settings.{Setting, device_numbers}
-use Rattle.history_book.specs.declared.entries.End.TheVariants.{Committed}
-use Rattle.history_book.specs.declared.entries.Entry.{Entry}
-use Rattle.history_book.specs.declared.entries.Entry.TheVariants.{Arrived, Did, Ended, Placed}
-use Rattle.home_types.specs.declared.commands.Answer.TheVariants.{Fine}
-use Rattle.home_types.specs.declared.commands.Job.TheVariants.{Set}
-use Rattle.home_types.specs.declared.items.Item.{Item}
-use Rattle.home_types.specs.declared.items.Item.TheVariants.{Ran}
-use Rattle.home_types.specs.declared.kinds.Kind.TheVariants.{States}
-use Rattle.home_types.specs.declared.modes.Scheduler.TheVariants.{Fcfs}
-use Rattle.home_types.specs.declared.modes.Visibility.TheVariants.{Eventual}
-use Rattle.hub_core.specs.AccountedCalls.{told_calls}
-use Rattle.hub_core.specs.LegalWindows.{all_ended}
-use Rattle.hub_core.specs.Steps.{Absent, HandsOut, Moves, Over, Waits, give_entries}
-use Rattle.device_gate.specs.declared.slips.Told.TheVariants.{Worked}
-use Rattle.hub_core.specs.declared.waits.Why.TheVariants.{Busy}
-use Rattle.lock_leasing.specs.Configurations.{Commands, no_grips}
-use Rattle.lock_leasing.specs.Places.{At}
-use Rattle.std.specs.Prelude.{List, None, Some, [], false, map, refl, take, true, ◌∷◌, ◌≡◌}
-use Rattle.worked_windows.proofs.Points.{clauses_of_history, clauses_of_line, verdict, words_at}
+use Rattle.worked_windows.proofs.Words.{Absent, Arrived, At, Busy, Commands, Committed, Did, Ended, Entry, Eventual, Fcfs, Fine, HandsOut, IsWorked, List, Moves, None, Over, Placed, Ran, Set, Setting, Some, States, Table, Waits, Worked, [], device_no, give, held, no_grips, refl, row, run_no, split_at, split_of, still, true, ◌∷◌}
 
 abbrev pub window : Setting
 window = record {
-  runs =
-      record { commands = record { device = device_no 0; job = Set 1; must = true; ms = 100; takes = 100 } ∷ []; follows = None }
-      ∷ [];
+  runs = record { commands = record { device = device_no 0; job = Set 1; must = true; ms = 100; takes = 100 } ∷ []; follows = None } ∷ [];
   mode = record { model = Eventual; scheduler = Fcfs };
   kinds = States 2 ∷ [];
   first = record { value = 0; up = true } ∷ [];
 }
 
 abbrev pub history : List Entry
-history =
-    Arrived (run_no 1) 0
-    ∷ Placed (run_no 1) 0 0
-    ∷ Did (run_no 1) 0 Fine
-    ∷ Ended (run_no 1) Committed ∷ []
+history = Arrived (run_no 1) 0 ∷ Placed (run_no 1) 0 0 ∷ Did (run_no 1) 0 Fine ∷ Ended (run_no 1) Committed ∷ []
 
-at_0 : words_at window (reading window (take 0 history)) no_grips 0 ≡ record {
-  line = [];
-  up = true ∷ [];
-  writers = None ∷ [];
-  values = 0 ∷ [];
-  holders = [] ∷ [];
-  touched = [] ∷ [];
-  first_places = [];
-  places = [];
-  overdue = [];
-  starts = [];
-  ends = [];
-  whole_ends = [];
-  choices = Absent ∷ Moves (Arrived (run_no 1) 0 ∷ []) ∷ [];
+abbrev pub table : Table
+table = record {
+  first = record { line = []; up = true ∷ []; writers = None ∷ []; values = 0 ∷ []; holders = [] ∷ []; touched = [] ∷ []; first_places = []; places = []; overdue = []; starts = []; ends = []; whole_ends = []; choices = Absent ∷ Moves (Arrived (run_no 1) 0 ∷ []) ∷ [] };
+  rows = still 0 no_grips 0
+      ∷ row 1 no_grips 0 (λ p. record p { first_places = 0 ∷ []; places = At (split_at [] 0) ∷ []; choices = Absent ∷ Moves (Placed (run_no 1) 0 0 ∷ []) ∷ [] })
+      ∷ row 2 no_grips 0 (λ p. record p { line = Ran (run_no 1) ∷ []; holders = (1 ∷ []) ∷ []; first_places = []; places = []; overdue = (None ∷ []) ∷ []; starts = (0 ∷ []) ∷ []; ends = (100 ∷ []) ∷ []; whole_ends = 100 ∷ []; choices = Absent ∷ HandsOut 0 (Commands 0) ∷ [] })
+      ∷ row 2 (held 0 1 (Commands 0) no_grips) 0 (λ p. record p { touched = (1 ∷ []) ∷ []; choices = Absent ∷ Waits (Busy (device_no 0)) ∷ [] })
+      ∷ row 3 no_grips 100 (λ p. record p { writers = Some 1 ∷ []; values = 1 ∷ []; holders = [] ∷ []; choices = Absent ∷ Over Committed (Ended (run_no 1) Committed ∷ []) ∷ [] })
+      ∷ row 4 no_grips 100 (λ p. record p { overdue = []; starts = []; ends = []; whole_ends = []; choices = Absent ∷ Over Committed [] ∷ [] }) ∷ [];
+  gives = give 2 0 1 (Commands 0) Worked (Did (run_no 1) 0 Fine ∷ []) ∷ [];
+  calls = 1 ∷ [];
+  outcome = record { order = Ran (run_no 1) ∷ []; home = record { value = 1; up = true } ∷ []; answers = record { run = run_no 1; answers = Fine ∷ [] } ∷ [] };
 }
-unfolding split_of
-at_0 = refl
 
-clauses_0 : clauses_of_line window (reading window (take 0 history)) no_grips ≡ clauses_of_history window (reading window (take 0 history))
+is_worked : IsWorked window history table
 unfolding split_of
-clauses_0 = refl
-
-at_1 : words_at window (reading window (take 1 history)) no_grips 0 ≡ record {
-  line = [];
-  up = true ∷ [];
-  writers = None ∷ [];
-  values = 0 ∷ [];
-  holders = [] ∷ [];
-  touched = [] ∷ [];
-  first_places = 0 ∷ [];
-  places = At (split_at [] 0) ∷ [];
-  overdue = [];
-  starts = [];
-  ends = [];
-  whole_ends = [];
-  choices = Absent ∷ Moves (Placed (run_no 1) 0 0 ∷ []) ∷ [];
-}
-unfolding split_of
-at_1 = refl
-
-clauses_1 : clauses_of_line window (reading window (take 1 history)) no_grips ≡ clauses_of_history window (reading window (take 1 history))
-unfolding split_of
-clauses_1 = refl
-
-at_2 : words_at window (reading window (take 2 history)) no_grips 0 ≡ record {
-  line = Ran (run_no 1) ∷ [];
-  up = true ∷ [];
-  writers = None ∷ [];
-  values = 0 ∷ [];
-  holders = (1 ∷ []) ∷ [];
-  touched = [] ∷ [];
-  first_places = [];
-  places = [];
-  overdue = (None ∷ []) ∷ [];
-  starts = (0 ∷ []) ∷ [];
-  ends = (100 ∷ []) ∷ [];
-  whole_ends = 100 ∷ [];
-  choices = Absent ∷ HandsOut 0 (Commands 0) ∷ [];
-}
-unfolding split_of
-at_2 = refl
-
-clauses_2 : clauses_of_line window (reading window (take 2 history)) no_grips ≡ clauses_of_history window (reading window (take 2 history))
-unfolding split_of
-clauses_2 = refl
-
-at_3 : words_at window (reading window (take 2 history)) (put no_grips 0 (Some (record { maker = 1; purpose = Commands 0 }))) 0 ≡ record {
-  line = Ran (run_no 1) ∷ [];
-  up = true ∷ [];
-  writers = None ∷ [];
-  values = 0 ∷ [];
-  holders = (1 ∷ []) ∷ [];
-  touched = (1 ∷ []) ∷ [];
-  first_places = [];
-  places = [];
-  overdue = (None ∷ []) ∷ [];
-  starts = (0 ∷ []) ∷ [];
-  ends = (100 ∷ []) ∷ [];
-  whole_ends = 100 ∷ [];
-  choices = Absent ∷ Waits (Busy (device_no 0)) ∷ [];
-}
-unfolding split_of
-at_3 = refl
-
-clauses_3 : clauses_of_line window (reading window (take 2 history)) (put no_grips 0 (Some (record { maker = 1; purpose = Commands 0 }))) ≡ clauses_of_history window (reading window (take 2 history))
-unfolding split_of
-clauses_3 = refl
-
-at_4 : words_at window (reading window (take 3 history)) no_grips 100 ≡ record {
-  line = Ran (run_no 1) ∷ [];
-  up = true ∷ [];
-  writers = Some 1 ∷ [];
-  values = 1 ∷ [];
-  holders = [] ∷ [];
-  touched = (1 ∷ []) ∷ [];
-  first_places = [];
-  places = [];
-  overdue = (None ∷ []) ∷ [];
-  starts = (0 ∷ []) ∷ [];
-  ends = (100 ∷ []) ∷ [];
-  whole_ends = 100 ∷ [];
-  choices = Absent ∷ Over Committed (Ended (run_no 1) Committed ∷ []) ∷ [];
-}
-unfolding split_of
-at_4 = refl
-
-clauses_4 : clauses_of_line window (reading window (take 3 history)) no_grips ≡ clauses_of_history window (reading window (take 3 history))
-unfolding split_of
-clauses_4 = refl
-
-at_5 : words_at window (reading window history) no_grips 100 ≡ record {
-  line = Ran (run_no 1) ∷ [];
-  up = true ∷ [];
-  writers = Some 1 ∷ [];
-  values = 1 ∷ [];
-  holders = [] ∷ [];
-  touched = (1 ∷ []) ∷ [];
-  first_places = [];
-  places = [];
-  overdue = [];
-  starts = [];
-  ends = [];
-  whole_ends = [];
-  choices = Absent ∷ Over Committed [] ∷ [];
-}
-unfolding split_of
-at_5 = refl
-
-clauses_5 : clauses_of_line window (reading window history) no_grips ≡ clauses_of_history window (reading window history)
-unfolding split_of
-clauses_5 = refl
-
-give_0 : give_entries window (reading window (take 2 history)) 0 (record { maker = 1; purpose = Commands 0 }) Worked ≡ Did (run_no 1) 0 Fine ∷ []
-unfolding split_of
-give_0 = refl
-
-all_have_ended : all_ended window history ≡ true
-unfolding split_of
-all_have_ended = refl
-
-verdict_is : verdict window history ≡ record { well_formed = true; clean = true; justified = true; isolated = true }
-unfolding split_of
-verdict_is = refl
-
-abbrev pub order : List Item
-order = Ran (run_no 1) ∷ []
-
-order_gives : executed window order ≡ record { home = record { value = 1; up = true } ∷ []; answers = record { run = run_no 1; answers = Fine ∷ [] } ∷ []; refused = false }
-unfolding split_of
-order_gives = refl
-
-answers_are : answers_in (reading window history) order ≡ record { run = run_no 1; answers = Fine ∷ [] } ∷ []
-unfolding split_of
-answers_are = refl
-
-calls_are : map (told_calls window.runs history) (device_numbers window) ≡ 1 ∷ []
-unfolding split_of
-calls_are = refl
+is_worked = record { points = refl; clauses = refl; gives = refl; calls = refl; ended = refl; allowed = refl; order = refl; answers = refl }

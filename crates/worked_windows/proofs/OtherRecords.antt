@@ -6,14 +6,9 @@ use Rattle.worked_windows.proofs.LostBetweenAccesses as lost_between_accesses
 use Rattle.worked_windows.proofs.NoDirtyRead as no_dirty_read
 use Rattle.worked_windows.proofs.ReleasedLampOverwritten as released_lamp_overwritten
 use Rattle.worked_windows.proofs.UndoDies as undo_dies
-use Rattle.command_rules.specs.Rosters.{device_no, run_no}
 use Rattle.command_rules.specs.Serial.{Served}
-use Rattle.history_book.specs.Plans.{split_of}
-use Rattle.history_book.specs.declared.entries.Entry.TheVariants.{Did, Placed, Undid}
 use Rattle.home_types.specs.HomeStates.{stand_at}
 use Rattle.home_types.specs.declared.commands.Answer.{Answer}
-use Rattle.home_types.specs.declared.commands.Answer.TheVariants.{Down, Fine, Found}
-use Rattle.home_types.specs.declared.items.Item.TheVariants.{Back, Failed, Ran}
 use Rattle.hub_core.specs.AccountedCalls.{CallsAreAccounted}
 use Rattle.hub_core.specs.Agreement.{AgreesWithSerial}
 use Rattle.hub_core.specs.Orders.{IsOrderFor}
@@ -22,6 +17,7 @@ use Rattle.std.proofs.Common.{ap, arith}
 use Rattle.std.proofs.lemmas.Grind.{common_steps}
 use Rattle.std.specs.Prelude.{List, [], false, length, refl, true, ℕ, ◌==◌, ◌∷◌, ◌≡◌, ◌≤◌}
 use Rattle.worked_windows.proofs.Edits.{replaced}
+use Rattle.worked_windows.proofs.Words.{Back, Did, Down, Failed, Fine, Found, Placed, Ran, Undid, device_no, run_no, split_of}
 
 pub differ : (a b : ℕ) → (a == b) ≡ false → a ≡ b → ⊥
 differ a b other same = grind (arith, common_steps)
@@ -75,7 +71,7 @@ with_the_runs_exchanged : AgreesWithSerial released_lamp_overwritten.window rele
 unfolding split_of
 with_the_runs_exchanged agrees = differ 1 0 refl (ap (λ home. (stand_at home 0).value) agrees.home)
 
-with_another_last_value : AgreesWithSerial released_lamp_overwritten.window released_lamp_overwritten.history released_lamp_overwritten.order (record { value = 0; up = true } ∷ record { value = 0; up = true } ∷ record { value = 0; up = true } ∷ record { value = 18; up = true } ∷ []) → ⊥
+with_another_last_value : AgreesWithSerial released_lamp_overwritten.window released_lamp_overwritten.history released_lamp_overwritten.table.outcome.order (record { value = 0; up = true } ∷ record { value = 0; up = true } ∷ record { value = 0; up = true } ∷ record { value = 18; up = true } ∷ []) → ⊥
 unfolding split_of
 with_another_last_value agrees = differ 1 0 refl (ap (λ home. (stand_at home 1).value) agrees.home)
 
@@ -87,7 +83,7 @@ with_another_answer : AgreesWithSerial no_dirty_read.window (replaced 8 (Did (ru
 unfolding split_of
 with_another_answer agrees = differ 18 20 refl (ap first_found agrees.answers)
 
-with_a_device_up_that_is_down : AgreesWithSerial failure_after_last_access.window failure_after_last_access.history failure_after_last_access.order (record { value = 1; up = true } ∷ record { value = 1; up = true } ∷ record { value = 0; up = true } ∷ record { value = 18; up = true } ∷ []) → ⊥
+with_a_device_up_that_is_down : AgreesWithSerial failure_after_last_access.window failure_after_last_access.history failure_after_last_access.table.outcome.order (record { value = 1; up = true } ∷ record { value = 1; up = true } ∷ record { value = 0; up = true } ∷ record { value = 18; up = true } ∷ []) → ⊥
 unfolding split_of
 with_a_device_up_that_is_down agrees = let up : false ≡ true = ap (λ home. (stand_at home 0).up) agrees.home in absurd (cc)
 

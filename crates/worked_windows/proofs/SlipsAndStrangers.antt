@@ -1,18 +1,12 @@
 -- The grips of the window lease-overdue: a step that hands a device out carries the slip written for it, the grip that is out is
 -- taken back, and any other one is a stranger: it is refused with the slip that is kept and the slip that it told.
-use Rattle.command_rules.specs.Rosters.{device_no, run_no}
 use Rattle.device_gate.specs.declared.slips.Slip.{Slip}
 use Rattle.device_gate.specs.declared.slips.Task.TheVariants.{Drive, Probe, Sense}
-use Rattle.device_gate.specs.declared.slips.Told.TheVariants.{Died, Worked}
 use Rattle.history_book.specs.Histories.{kept_by}
-use Rattle.history_book.specs.Plans.{split_of}
-use Rattle.history_book.specs.declared.entries.Entry.TheVariants.{Did, Fell}
-use Rattle.home_types.specs.declared.commands.Answer.TheVariants.{Fine}
 use Rattle.hub_core.specs.HubSteps.{Carried, Gave, HubState, Refused, give, give_probe, take as take_step, take_probe}
-use Rattle.hub_core.specs.Steps.{HandsOut}
-use Rattle.lock_leasing.specs.Configurations.{Commands, no_grips}
 use Rattle.std.specs.Prelude.{None, Some, [], refl, take, ◌∷◌, ◌≡◌}
 use Rattle.worked_windows.proofs.LeaseOverdue.{history, window}
+use Rattle.worked_windows.proofs.Words.{Commands, Did, Died, Fell, Fine, HandsOut, Worked, device_no, no_grips, run_no, split_of}
 
 -- both runs are placed, nothing is out, and one probe of each device is left
 abbrev pub home : HubState
@@ -31,82 +25,49 @@ carried = record { slip = slip; task = Drive 1 }
 abbrev pub out : HubState
 out = (take_step home 1 0 slip).next
 
-takes_the_light : (take_step home 1 0 slip).choice ≡ HandsOut 0 (Commands 0)
+-- The grip that is out
+
+record IsOutAndBack : Type 0 where
+  takes_the_light : (take_step home 1 0 slip).choice ≡ HandsOut 0 (Commands 0)
+  carries_the_slip : out.carried 0 ≡ Some carried
+  carries_no_other : out.carried 2 ≡ None
+  is_out : out.configuration.grips 0 ≡ Some (record { maker = 1; purpose = Commands 0 })
+  is_taken_back : (give out carried Worked 111).answer ≡ Gave (Did (run_no 1) 0 Fine ∷ [])
+  is_home_again : (give out carried Worked 111).next.carried 0 ≡ None
+
+is_out_and_back : IsOutAndBack
 unfolding split_of
-takes_the_light = refl
+is_out_and_back = record { takes_the_light = refl; carries_the_slip = refl; carries_no_other = refl; is_out = refl; is_taken_back = refl; is_home_again = refl }
 
-carries_the_slip : out.carried 0 ≡ Some carried
-unfolding split_of
-carries_the_slip = refl
+-- Strangers
 
-carries_no_other : out.carried 2 ≡ None
-unfolding split_of
-carries_no_other = refl
-
-is_out : out.configuration.grips 0 ≡ Some (record { maker = 1; purpose = Commands 0 })
-unfolding split_of
-is_out = refl
-
-is_taken_back : (give out carried Worked 111).answer ≡ Gave (Did (run_no 1) 0 Fine ∷ [])
-unfolding split_of
-is_taken_back = refl
-
-is_home_again : (give out carried Worked 111).next.carried 0 ≡ None
-unfolding split_of
-is_home_again = refl
-
--- a slip of another ticket, of another maker, or that tells another value at which the light stood
-
+-- slips of another ticket, of another maker, and that tell another value at which the light stood
 abbrev later : Carried
 later = record { slip = record slip { ticket = 2 }; task = Drive 1 }
-
-another_ticket : (give out later Worked 111).answer ≡ Refused (record { kept = Some slip; told = later.slip })
-unfolding split_of
-another_ticket = refl
-
-nothing_changes : (give out later Worked 111).next ≡ out
-unfolding split_of
-nothing_changes = refl
 
 abbrev others : Carried
 others = record { slip = record slip { maker = 2 }; task = Drive 1 }
 
-another_maker : (give out others Worked 111).answer ≡ Refused (record { kept = Some slip; told = others.slip })
-unfolding split_of
-another_maker = refl
-
 abbrev stood_on : Carried
 stood_on = record { slip = record slip { stood = 1 }; task = Drive 1 }
 
-another_value : (give out stood_on Worked 111).answer ≡ Refused (record { kept = Some slip; told = stood_on.slip })
+record AreStrangers : Type 0 where
+  another_ticket : (give out later Worked 111).answer ≡ Refused (record { kept = Some slip; told = later.slip })
+  nothing_changes : (give out later Worked 111).next ≡ out
+  another_maker : (give out others Worked 111).answer ≡ Refused (record { kept = Some slip; told = others.slip })
+  another_value : (give out stood_on Worked 111).answer ≡ Refused (record { kept = Some slip; told = stood_on.slip })
+  -- the slip with another task
+  another_drive : (give out (record { slip = slip; task = Drive 0 }) Worked 111).answer ≡ Refused (record { kept = Some slip; told = slip })
+  a_sense : (give out (record { slip = slip; task = Sense }) Worked 111).answer ≡ Refused (record { kept = Some slip; told = slip })
+  -- a grip of a device that is home, and one that is given twice
+  given_at_home : (give home carried Worked 111).answer ≡ Refused (record { kept = None; told = slip })
+  given_twice : (give (give out carried Worked 111).next carried Worked 111).answer ≡ Refused (record { kept = None; told = slip })
+  -- a run's grip is no probe
+  given_as_a_probe : (give_probe out carried Worked).answer ≡ Refused (record { kept = Some slip; told = slip })
+
+are_strangers : AreStrangers
 unfolding split_of
-another_value = refl
-
--- the slip with another task
-
-another_drive : (give out (record { slip = slip; task = Drive 0 }) Worked 111).answer ≡ Refused (record { kept = Some slip; told = slip })
-unfolding split_of
-another_drive = refl
-
-a_sense : (give out (record { slip = slip; task = Sense }) Worked 111).answer ≡ Refused (record { kept = Some slip; told = slip })
-unfolding split_of
-a_sense = refl
-
--- a grip of a device that is home, and one that is given twice
-
-given_at_home : (give home carried Worked 111).answer ≡ Refused (record { kept = None; told = slip })
-unfolding split_of
-given_at_home = refl
-
-given_twice : (give (give out carried Worked 111).next carried Worked 111).answer ≡ Refused (record { kept = None; told = slip })
-unfolding split_of
-given_twice = refl
-
--- a run's grip is no probe
-
-given_as_a_probe : (give_probe out carried Worked).answer ≡ Refused (record { kept = Some slip; told = slip })
-unfolding split_of
-given_as_a_probe = refl
+are_strangers = record { another_ticket = refl; nothing_changes = refl; another_maker = refl; another_value = refl; another_drive = refl; a_sense = refl; given_at_home = refl; given_twice = refl; given_as_a_probe = refl }
 
 -- The detector's grip of the fan
 
@@ -119,38 +80,17 @@ probe = record { slip = probe_slip; task = Probe None }
 abbrev pub probing : HubState
 probing = (take_probe out 1 probe_slip).next
 
-takes_a_probe : (take_probe out 1 probe_slip).task ≡ Some (Probe None)
-unfolding split_of
-takes_a_probe = refl
+record IsProbedAndBack : Type 0 where
+  takes_a_probe : (take_probe out 1 probe_slip).task ≡ Some (Probe None)
+  carries_the_probe : probing.carried 1 ≡ Some probe
+  takes_no_second_probe : (take_probe probing 1 probe_slip).task ≡ None
+  probes_no_device_that_is_out : (take_probe out 0 probe_slip).task ≡ None
+  finds_it_up : (give_probe probing probe Worked).answer ≡ Gave []
+  finds_it_down : (give_probe probing probe Died).answer ≡ Gave (Fell (device_no 1) ∷ [])
+  given_as_a_run : (give probing probe Worked 111).answer ≡ Refused (record { kept = Some probe_slip; told = probe_slip })
+  another_restoring : (give_probe probing (record { slip = probe_slip; task = Probe (Some 0) }) Worked).answer ≡ Refused (record { kept = Some probe_slip; told = probe_slip })
+  both_are_out : (give probing carried Worked 111).answer ≡ Gave (Did (run_no 1) 0 Fine ∷ [])
 
-carries_the_probe : probing.carried 1 ≡ Some probe
+is_probed_and_back : IsProbedAndBack
 unfolding split_of
-carries_the_probe = refl
-
-takes_no_second_probe : (take_probe probing 1 probe_slip).task ≡ None
-unfolding split_of
-takes_no_second_probe = refl
-
-probes_no_device_that_is_out : (take_probe out 0 probe_slip).task ≡ None
-unfolding split_of
-probes_no_device_that_is_out = refl
-
-finds_it_up : (give_probe probing probe Worked).answer ≡ Gave []
-unfolding split_of
-finds_it_up = refl
-
-finds_it_down : (give_probe probing probe Died).answer ≡ Gave (Fell (device_no 1) ∷ [])
-unfolding split_of
-finds_it_down = refl
-
-given_as_a_run : (give probing probe Worked 111).answer ≡ Refused (record { kept = Some probe_slip; told = probe_slip })
-unfolding split_of
-given_as_a_run = refl
-
-another_restoring : (give_probe probing (record { slip = probe_slip; task = Probe (Some 0) }) Worked).answer ≡ Refused (record { kept = Some probe_slip; told = probe_slip })
-unfolding split_of
-another_restoring = refl
-
-both_are_out : (give probing carried Worked 111).answer ≡ Gave (Did (run_no 1) 0 Fine ∷ [])
-unfolding split_of
-both_are_out = refl
+is_probed_and_back = record { takes_a_probe = refl; carries_the_probe = refl; takes_no_second_probe = refl; probes_no_device_that_is_out = refl; finds_it_up = refl; finds_it_down = refl; given_as_a_run = refl; another_restoring = refl; both_are_out = refl }
