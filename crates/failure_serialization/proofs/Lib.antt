@@ -1,3 +1,4 @@
 pub mod FirstAccesses
 pub mod ToldByTable
 pub mod WorkedEvents
+pub mod RuledEvents

@@ -1,5 +1,6 @@
 ghost use Rattle.std.specs.Prelude.{◌≡◌, ◌+◌, ◌<◌, None, false, length, true};
 ghost use Rattle.failure_serialization.specs.Events.{event_place, lost_run};
+ghost use Rattle.failure_serialization.specs.Ruled.{IsEventOf, IsLossOf};
 ghost use Rattle.home_types.specs.declared.items.Item.TheVariants.{Back, Failed};
 ghost use Rattle.lineage_table.specs.Accesses.{has_access};
 ghost use Rattle.lineage_table.specs.Lineages.{accesses_at, counted_up, lineage_at, with_lineage};
@@ -38,6 +39,8 @@ pub fn fell(
     ensures spare { line.new.spare + 1 ≡ line.old.spare }
     ensures table { table.new ≡ with_lineage table.old d.0 (counted_up false) }
     ensures lost { result ≡ lost_run book.now.items (accesses_at table.old d.0) }
+    ensures placed { IsEventOf table.old line.old.marks book.now.items first d (Failed d n) line.new.marks }
+    ensures loses { IsLossOf table.old line.old.marks book.now.items d.0 result }
 {
     let lost = lost_run(table, book, d);
     let at = event_place(line, table, book, d, first);
@@ -63,6 +66,7 @@ pub fn rose(line: &mut Line, table: &mut Table, book: &Book, d: DeviceNo, n: u32
     ensures marks { line.new.marks ≡ with_item (event_place book.now.items None (accesses_at table.old d.0) line.old.marks) (Back d n) line.old.marks }
     ensures spare { line.new.spare + 1 ≡ line.old.spare }
     ensures table { table.new ≡ with_lineage table.old d.0 (counted_up true) }
+    ensures placed { IsEventOf table.old line.old.marks book.now.items None d (Back d n) line.new.marks }
 {
     let at = event_place(line, table, book, d, None);
     line.insert(at, Item::Back(d, n));

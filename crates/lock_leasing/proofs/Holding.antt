@@ -36,7 +36,8 @@ abbrev tail_of : List ℕ → List ℕ
 tail_of [] = []
 tail_of (y ∷ ys) = ys
 
-weaker : (P Q : Item → List Item → Type 0) → ((i : Item) (is : List Item) → P i is → Q i is) → (is : List Item) → EachTail P is → EachTail Q is
+-- what follows from what holds of each item holds of each
+pub weaker : (P Q : Item → List Item → Type 0) → ((i : Item) (is : List Item) → P i is → Q i is) → (is : List Item) → EachTail P is → EachTail Q is
 weaker P Q each [] all = tt
 weaker P Q each (i ∷ is) all = (each i is all.0, weaker P Q each is all.1)
 

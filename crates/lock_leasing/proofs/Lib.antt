@@ -14,3 +14,4 @@ pub mod ClearPlaces
 pub mod EarliestPlaces
 pub mod TouchCounts
 pub mod FirstRuns
+pub mod EventRuns
