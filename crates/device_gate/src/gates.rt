@@ -90,6 +90,13 @@ impl<D: Device> Gate<D> {
         devices
     }
 
+    /// Does nothing. Its contract is that each device which is home is in the place of its number.
+    pub fn numbered(&self)
+        ensures { (d : ℕ) (device : D) → slice_get self.now.places d ≡ Some (Place.Home device) → D.tag device ≡ d }
+    {
+        let _ = &self.tickets;
+    }
+
     /// How many devices the gate has.
     pub fn len(&self) -> u64
         ensures { result ≡ length self.now.places }

@@ -10,6 +10,7 @@ pub mod EndedRuns
 pub mod HubCloses
 pub mod HubLaws
 pub mod HubChanges
+pub mod PackedEntries
 pub mod Departures
 pub mod HubOuts
 pub mod Homecomings

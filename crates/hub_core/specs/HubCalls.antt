@@ -8,7 +8,7 @@ use Rattle.device_gate.specs.declared.slips.Slip.{Slip}
 use Rattle.device_gate.specs.declared.strangers.Stranger.{Stranger}
 use Rattle.history_book.specs.Histories.{entries_made, entries_of, reading}
 use Rattle.history_book.specs.Settings.{Setting, is_weak, scheduler_of}
-use Rattle.history_book.specs.WellFormed.{IsWellFormed}
+use Rattle.history_book.specs.WellFormed.{IsWellFormed, each_entry}
 use Rattle.history_book.specs.declared.entries.End.TheVariants.{Committed}
 use Rattle.history_book.specs.declared.entries.Entry.TheVariants.{Placed}
 use Rattle.history_book.specs.declared.entries.Made.{Made}
@@ -21,7 +21,7 @@ use Rattle.hub_core.specs.CleanReads.{ReadsAreClean}
 use Rattle.hub_core.specs.Homes.{HomeState}
 use Rattle.hub_core.specs.HubSteps.{Carried, Chose, Give, GiveProbe, Gave, HubStep, Probed, Refused, Returned, Take, TakeProbe, task_of}
 use Rattle.hub_core.specs.JustifiedAborts.{IsJustified}
-use Rattle.hub_core.specs.LegalWindows.{IsLegalWindow, history_of}
+use Rattle.hub_core.specs.LegalWindows.{IsLegalWindow, history_of, weakly_allowed}
 use Rattle.hub_core.specs.MustChecks.{has_must_check}
 use Rattle.hub_core.specs.OpenHubs.{OpenHub, configuration_of, device_at, state_of}
 use Rattle.hub_core.specs.Steps.{Absent as IsAbsent, Choice, HandsOut, Moves, Over as IsOver, Waits, choice_of, opened}
@@ -33,7 +33,7 @@ use Rattle.lock_leasing.specs.Order.{OrderStands}
 use Rattle.lock_leasing.specs.Places.{GripsFit, IsEarliestPlace, PlacesAreScheduled}
 use Rattle.lock_leasing.specs.Words.{standing_value}
 use Rattle.command_rules.specs.Rosters.{command_at, is_run, run_no}
-use Rattle.std.specs.Prelude.{Bool, Err, List, None, Ok, Option, Result, Some, [], false, is_some, length, not, slice_get, slice_index_or, slice_set, true, ℕ, ⊤, ◌+◌, ◌-◌, ◌<◌, ◌∷◌, ◌≡◌, ◌≢◌, ◌≤◌, ◌||◌}
+use Rattle.std.specs.Prelude.{Bool, Err, IsTrue, List, None, Ok, Option, Result, Some, [], false, is_some, length, max, not, slice_get, slice_index_or, slice_set, true, ℕ, ⊤, ◌+◌, ◌-◌, ◌<◌, ◌∷◌, ◌≡◌, ◌≢◌, ◌≤◌, ◌||◌}
 
 -- the hub is in the same window, with the same counts of its devices at the opening
 pub record SameWindow {D : Type 0} (s t : OpenHub D) : Type 0 where
@@ -42,10 +42,22 @@ pub record SameWindow {D : Type 0} (s t : OpenHub D) : Type 0 where
   pub opened : t.opened ≡ s.opened
   pub at_opening : (d : ℕ) → (device_at t.devices d).at_opening ≡ (device_at s.devices d).at_opening
 
+-- the entries stand in the first places: one in the second only behind one in the first, and one in the third only behind one in the second
+pub record IsPacked (made : Made) : Type 0 where
+  pub second : made.a ≡ None → made.b ≡ None
+  pub third : made.b ≡ None → made.c ≡ None
+
 -- the step of the run answers so and hands no device out
 pub record Answers {D : Type 0} (s : OpenHub D) (r m : ℕ) (choice : Choice) (t : OpenHub D) : Type 0 where
   pub step : (slip : Slip) → HubStep (state_of s) (Take r m slip) (Chose choice) (state_of t)
   pub places : t.places ≡ s.places
+  pub tickets : t.tickets ≡ s.tickets
+
+-- the grip that goes out has the next ticket, and its slip says at which value its device is known to stand
+pub record IsNextGrip {D : Type 0} (s : OpenHub D) (grip : Gripped D Ready) (t : OpenHub D) : Type 0 where
+  pub ticket : grip.slip.ticket ≡ s.tickets + 1
+  pub tickets : t.tickets ≡ s.tickets + 1
+  pub stood : grip.slip.stood ≡ (device_at s.devices grip.slip.device.0).held
 
 -- the step of the run hands this device out, for what it needs it
 pub record GoesOut {D : Type 0} (s : OpenHub D) (r m : ℕ) (grip : Gripped D Ready) (t : OpenHub D) : Type 0 where
@@ -54,14 +66,15 @@ pub record GoesOut {D : Type 0} (s : OpenHub D) (r m : ℕ) (grip : Gripped D Re
   pub task : grip.task ≡ task_of (configuration_of s) r purpose
   pub home : slice_get s.places grip.slip.device.0 ≡ Some (Home grip.device)
   pub places : t.places ≡ slice_set s.places grip.slip.device.0 (Out grip.slip grip.task)
+  pub next : IsNextGrip s grip t
 
--- what the step of a run answers, and the hub after it
+-- what the step of a run answers, and the hub after it: where the run waits, or is none of the window, its last moment alone may be another
 abbrev pub IsTurn : {D : Type 0} → OpenHub D → ℕ → ℕ → Turn D → OpenHub D → Type 0
 IsTurn s r m (Go grip) t = GoesOut s r m grip t
-IsTurn s r m (Moved made) t = Answers s r m (Moves (entries_made made)) t
-IsTurn s r m (Wait why) t = Answers s r m (Waits why) t
-IsTurn s r m (Over end made) t = Answers s r m (IsOver end (entries_made made)) t
-IsTurn s r m Absent t = Answers s r m IsAbsent t
+IsTurn s r m (Moved made) t = Answers s r m (Moves (entries_made made)) t × IsPacked made
+IsTurn s r m (Wait why) t = Answers s r m (Waits why) t × (t ≡ record s { moment = max s.moment m })
+IsTurn s r m (Over end made) t = Answers s r m (IsOver end (entries_made made)) t × IsPacked made
+IsTurn s r m Absent t = Answers s r m IsAbsent t × (t ≡ record s { moment = max s.moment m })
 
 -- where the step places the run by the timeline, no place that fits, from the first one on, plans an earlier end of it
 abbrev pub PlansEarliest : {D : Type 0} → Configuration → ℕ → Turn D → Type 0
@@ -80,6 +93,7 @@ abbrev pub IsGiven : {D : Type 0} → OpenHub D → Gripped D Done → ℕ → R
 IsGiven s grip m (Ok made) t =
     HubStep (state_of s) (Give (carried_by grip) grip.stage.told m) (Returned (Gave (entries_made made))) (state_of t)
     × (t.places ≡ slice_set s.places grip.slip.device.0 (Home grip.device))
+    × (t.tickets ≡ s.tickets) × IsPacked made
 IsGiven s grip m (Err refused) t =
     HubStep (state_of s) (Give (carried_by grip) grip.stage.told m) (Returned (Refused refused.1)) (state_of t)
     × (refused.0 ≡ grip) × (t ≡ s)
@@ -90,6 +104,7 @@ IsProbed s d (Some grip) t =
     HubStep (state_of s) (TakeProbe d grip.slip) (Probed (Some grip.task)) (state_of t)
     × (slice_get s.places d ≡ Some (Home grip.device))
     × (t.places ≡ slice_set s.places d (Out grip.slip grip.task))
+    × IsNextGrip s grip t
 IsProbed s d None t = ((slip : Slip) → HubStep (state_of s) (TakeProbe d slip) (Probed None) (state_of t)) × (t ≡ s)
 
 -- the same for the detector's grip
@@ -97,16 +112,18 @@ abbrev pub IsProbeGiven : {D : Type 0} → OpenHub D → Gripped D Done → Resu
 IsProbeGiven s grip (Ok made) t =
     HubStep (state_of s) (GiveProbe (carried_by grip) grip.stage.told) (Returned (Gave (entries_made made))) (state_of t)
     × (t.places ≡ slice_set s.places grip.slip.device.0 (Home grip.device))
+    × (t.tickets ≡ s.tickets) × IsPacked made
 IsProbeGiven s grip (Err refused) t =
     HubStep (state_of s) (GiveProbe (carried_by grip) grip.stage.told) (Returned (Refused refused.1)) (state_of t)
     × (refused.0 ≡ grip) × (t ≡ s)
 
--- the window was opened on this home: with an empty history, each device home, and its counts as it has them
+-- the window was opened on this home: with an empty history, each device home, no ticket given, and the counts of each device as it has them
 pub record IsOpened {D : Type 0} (turns probes faults : D → ℕ) (w : Setting) (rounds : ℕ) (home : HomeState D) (hub : OpenHub D) : Type 0 where
   pub configuration : configuration_of hub ≡ opened w rounds
   pub places : hub.places ≡ all_home home.devices
   pub rounds_are : hub.rounds ≡ rounds
   pub windows : hub.opened ≡ home.opened
+  pub tickets : hub.tickets ≡ 0
   pub turns_then : (d : ℕ) (device : D) → slice_get home.devices d ≡ Some device → (device_at hub.devices d).at_opening.turns ≡ turns device
   pub probes_then : (d : ℕ) (device : D) → slice_get home.devices d ≡ Some device → (device_at hub.devices d).at_opening.probes ≡ probes device
   pub faults_then : (d : ℕ) (device : D) → slice_get home.devices d ≡ Some device → (device_at hub.devices d).at_opening.faults ≡ faults device
@@ -174,10 +191,11 @@ pub record CallsAreTold {D : Type 0} (turns probes faults : D → ℕ) (s : Open
   pub falls_told : (d : ℕ) (device : D) → slice_get s.places d ≡ Some (Home device) → faults_told s d ≤ faults device
   pub few_faults : (d : ℕ) (device : D) → slice_get s.places d ≡ Some (Home device) → faults device ≤ faults_told s d + probes_taken s d
 
--- in every hub each device has a place, the history is well formed, the grips that are out fit it, aborts are justified, devices stand where they should, and their calls are told;
--- and outside the weak model the four clauses of the order hold, reads are clean, and places are the scheduler's
-pub record HubStands {D : Type 0} (stands turns probes faults : D → ℕ) (s : OpenHub D) : Type 0 where
+-- in every hub each device has a place, and one that is home stands in that of its number, the history is well formed, the grips that are out fit it, aborts are justified, devices stand where they should, and their calls are told;
+-- outside the weak model the four clauses of the order hold, reads are clean, and places are the scheduler's; and under it answers, dooms and ends are such as the weak model allows
+pub record HubStands {D : Type 0} (tag stands turns probes faults : D → ℕ) (s : OpenHub D) : Type 0 where
   pub size : length s.places ≡ length s.setting.first
+  pub numbered : (d : ℕ) (device : D) → slice_get s.places d ≡ Some (Home device) → tag device ≡ d
   pub few_runs : length s.setting.runs ≤ most_runs
   pub few_devices : length s.setting.first ≤ most_devices
   pub well_formed : IsWellFormed s.setting (entries_of s.history)
@@ -185,6 +203,7 @@ pub record HubStands {D : Type 0} (stands turns probes faults : D → ℕ) (s : 
   pub order : is_weak s.setting.mode ≡ false → OrderStands s.setting (read_of (configuration_of s)) (configuration_of s).grips
   pub clean : is_weak s.setting.mode ≡ false → ReadsAreClean s.setting (entries_of s.history)
   pub places : is_weak s.setting.mode ≡ false → PlacesAreScheduled s.setting (entries_of s.history)
+  pub weakly : is_weak s.setting.mode ≡ true → IsTrue (each_entry s.setting (weakly_allowed s.setting) (entries_of s.history))
   pub justified : IsJustified s.setting (entries_of s.history)
   -- no moment that the history tells is later than the last one
   pub moment : (read_of (configuration_of s)).moment ≤ s.moment

@@ -2,7 +2,7 @@ ghost use Rattle.std.specs.Prelude.{◌≡◌, ◌<◌, ◌||◌, IsSome, IsTrue
 ghost use Rattle.command_rules.specs.Rosters.{is_run};
 ghost use Rattle.lock_leasing.specs.Configurations.{read_of};
 ghost use Rattle.hub_core.specs.Decisions.{told_choice};
-ghost use Rattle.hub_core.specs.HubCalls.{Answers, GoesOut, SameWindow};
+ghost use Rattle.hub_core.specs.HubCalls.{Answers, GoesOut, IsPacked, SameWindow};
 ghost use Rattle.hub_core.specs.OpenHubs.{configuration_of, purpose_of};
 ghost use Rattle.hub_core.specs.KeptOrders.{MayNoteAnswer, is_first, noted_first};
 ghost use Rattle.hub_core.specs.PlannedPlaces.{HoldsPlan};
@@ -37,7 +37,8 @@ pub(crate) const NONE_MADE: Made = Made {
 
 /// One entry.
 pub(crate) fn one_made(entry: Entry) -> Made
-    ensures { entries_made result ≡ entry ∷ [] }
+    ensures entries { entries_made result ≡ entry ∷ [] }
+    ensures packed { IsPacked result }
 {
     Made {
         a: Some(entry),
@@ -58,6 +59,7 @@ impl<D: Device> OpenWindow<D> {
     pub(crate) fn arrive(&mut self, r: RunNo, moment: u64) -> Made
         requires { choice_of (configuration_of self.old) r.0 moment ≡ told_choice r.0 (max self.old.moment moment) Chosen.Arrives }
         ensures answer { Answers self.old r.0 moment (Moves (entries_made result)) self.new }
+        ensures packed { IsPacked result }
         ensures window { SameWindow self.old self.new }
     {
         self.moment = self.moment.max(moment);
@@ -69,6 +71,7 @@ impl<D: Device> OpenWindow<D> {
         requires chosen { choice_of (configuration_of self.old) r.0 moment ≡ told_choice r.0 (max self.old.moment moment) (Chosen.Joins at) }
         requires planned { HoldsPlan scratch.now (configuration_of self.old) r.0 (max self.old.moment moment) at }
         ensures answer { Answers self.old r.0 moment (Moves (entries_made result)) self.new }
+        ensures packed { IsPacked result }
         ensures window { SameWindow self.old self.new }
     {
         if self.history.is_weak() {
@@ -84,6 +87,7 @@ impl<D: Device> OpenWindow<D> {
         requires chosen { choice_of (configuration_of self.old) r.0 moment ≡ told_choice r.0 (max self.old.moment moment) (Chosen.Joins at) }
         requires planned { HoldsPlan scratch.now (configuration_of self.old) r.0 (max self.old.moment moment) at }
         ensures answer { Answers self.old r.0 moment (Moves (entries_made result)) self.new }
+        ensures packed { IsPacked result }
         ensures window { SameWindow self.old self.new }
     {
         self.moment = self.moment.max(moment);
@@ -96,6 +100,7 @@ impl<D: Device> OpenWindow<D> {
     pub(crate) fn drop_undo(&mut self, r: RunNo, moment: u64, d: DeviceNo) -> Made
         requires { choice_of (configuration_of self.old) r.0 moment ≡ told_choice r.0 (max self.old.moment moment) (Chosen.Drops d) }
         ensures answer { Answers self.old r.0 moment (Moves (entries_made result)) self.new }
+        ensures packed { IsPacked result }
         ensures window { SameWindow self.old self.new }
     {
         self.moment = self.moment.max(moment);
@@ -108,6 +113,7 @@ impl<D: Device> OpenWindow<D> {
     pub(crate) fn answer_down(&mut self, r: RunNo, moment: u64, k: u32, must: bool) -> Made
         requires { choice_of (configuration_of self.old) r.0 moment ≡ told_choice r.0 (max self.old.moment moment) (Chosen.AnswersDown k must) }
         ensures answer { Answers self.old r.0 moment (Moves (entries_made result)) self.new }
+        ensures packed { IsPacked result }
         ensures window { SameWindow self.old self.new }
     {
         let d = self.history.command(r, k).device;
@@ -127,6 +133,7 @@ impl<D: Device> OpenWindow<D> {
     pub(crate) fn fail_at_end(&mut self, r: RunNo, moment: u64, d: DeviceNo) -> Made
         requires { choice_of (configuration_of self.old) r.0 moment ≡ told_choice r.0 (max self.old.moment moment) (Chosen.FailsAtEnd d) }
         ensures answer { Answers self.old r.0 moment (Moves (entries_made result)) self.new }
+        ensures packed { IsPacked result }
         ensures window { SameWindow self.old self.new }
     {
         self.moment = self.moment.max(moment);
@@ -146,6 +153,7 @@ impl<D: Device> OpenWindow<D> {
     ) -> Made
         requires { choice_of (configuration_of self.old) r.0 moment ≡ told_choice r.0 (max self.old.moment moment) (Chosen.Revokes borrower d deadline) }
         ensures answer { Answers self.old r.0 moment (Moves (entries_made result)) self.new }
+        ensures packed { IsPacked result }
         ensures window { SameWindow self.old self.new }
     {
         let out = self.grip_of(borrower);
@@ -164,6 +172,7 @@ impl<D: Device> OpenWindow<D> {
     pub(crate) fn commit(&mut self, r: RunNo, moment: u64) -> Made
         requires { choice_of (configuration_of self.old) r.0 moment ≡ told_choice r.0 (max self.old.moment moment) Chosen.Commits }
         ensures answer { Answers self.old r.0 moment (Over Committed (entries_made result)) self.new }
+        ensures packed { IsPacked result }
         ensures window { SameWindow self.old self.new }
     {
         self.moment = self.moment.max(moment);
@@ -175,6 +184,7 @@ impl<D: Device> OpenWindow<D> {
     pub(crate) fn abort(&mut self, r: RunNo, moment: u64, cause: Cause) -> Made
         requires { choice_of (configuration_of self.old) r.0 moment ≡ told_choice r.0 (max self.old.moment moment) (Chosen.Aborts cause) }
         ensures answer { Answers self.old r.0 moment (Over (Aborted cause) (entries_made result)) self.new }
+        ensures packed { IsPacked result }
         ensures window { SameWindow self.old self.new }
     {
         self.order.table.kept();

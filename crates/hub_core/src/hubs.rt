@@ -1,4 +1,4 @@
-ghost use Rattle.std.specs.Prelude.{◌≡◌, ◌≤◌, ◌↔◌, IfErr, IfOk, IsTrue, None, Some, false, length, ℕ};
+ghost use Rattle.std.specs.Prelude.{◌≡◌, ◌≤◌, ◌↔◌, IfErr, IfOk, IsTrue, None, Some, [], false, length, true, ℕ};
 ghost use Rattle.history_book.specs.Settings.{is_weak};
 ghost use Rattle.hub_core.specs.BlockedRuns.{IsBlocked};
 ghost use Rattle.hub_core.specs.Bounds.{IsBounded};
@@ -48,7 +48,7 @@ impl<D: Device> Model for Hub<D> {
 impl<D: Device> Hub<D> {
     /// Does nothing. Its contract is what holds of every hub.
     pub fn kept(&self)
-        ensures { HubStands D.stands D.turns D.probes D.faults self.now }
+        ensures { HubStands D.tag D.stands D.turns D.probes D.faults self.now }
     {
         self.window.kept();
     }
@@ -67,12 +67,13 @@ impl<D: Device> Hub<D> {
         self.window.bounded();
     }
 
-    /// The lineage table of the window. It has at most one access of each run on a device, and outside the weak model it
-    /// represents the configuration.
+    /// The lineage table of the window. It has at most one access of each run on a device, under the weak model none, and
+    /// outside it it represents the configuration.
     pub fn table(&self) -> &Table
         ensures represents { is_weak self.now.setting.mode ≡ false → Represents self.now.setting (read_of (configuration_of self.now)) (configuration_of self.now).grips result.now }
         ensures few { (d : ℕ) → length (accesses_at result.now d) ≤ length self.now.setting.runs }
         ensures disciplined { (d : ℕ) → IsDisciplined (accesses_at result.now d) }
+        ensures bare { is_weak self.now.setting.mode ≡ true → (d : ℕ) → accesses_at result.now d ≡ [] }
     {
         self.window.table()
     }

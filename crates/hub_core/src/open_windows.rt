@@ -84,9 +84,9 @@ impl<D: Device> Model for OpenWindow<D> {
 impl<D: Device> OpenWindow<D> {
     /// Does nothing. Its contract is what holds of every hub.
     pub(crate) fn kept(&self)
-        ensures { HubStands D.stands D.turns D.probes D.faults self.now }
+        ensures { HubStands D.tag D.stands D.turns D.probes D.faults self.now }
     {
-        let _ = &self.moment;
+        self.gate.numbered();
     }
 
     /// Does nothing. Its contract is what is kept of every window.
@@ -110,12 +110,13 @@ impl<D: Device> OpenWindow<D> {
         let _ = &self.moment;
     }
 
-    /// The lineage table of the window. It has at most one access of each run on a device, and outside the weak model it
-    /// represents the configuration.
+    /// The lineage table of the window. It has at most one access of each run on a device, under the weak model none, and
+    /// outside it it represents the configuration.
     pub(crate) fn table(&self) -> &Table
         ensures represents { is_weak self.now.setting.mode ≡ false → Represents self.now.setting (read_of (configuration_of self.now)) (configuration_of self.now).grips result.now }
         ensures few { (d : ℕ) → length (accesses_at result.now d) ≤ length self.now.setting.runs }
         ensures disciplined { (d : ℕ) → IsDisciplined (accesses_at result.now d) }
+        ensures bare { is_weak self.now.setting.mode ≡ true → (d : ℕ) → accesses_at result.now d ≡ [] }
     {
         self.order.table.kept();
         &self.order.table

@@ -4,7 +4,7 @@ ghost use Rattle.command_rules.specs.Rosters.{is_run};
 ghost use Rattle.history_book.specs.Histories.{entries_made};
 ghost use Rattle.history_book.specs.Settings.{is_weak};
 ghost use Rattle.hub_core.specs.Decisions.{told_choice};
-ghost use Rattle.hub_core.specs.HubCalls.{Answers, SameWindow};
+ghost use Rattle.hub_core.specs.HubCalls.{Answers, IsPacked, SameWindow};
 ghost use Rattle.hub_core.specs.OpenHubs.{configuration_of, progress_of};
 ghost use Rattle.hub_core.specs.Steps.{Moves, choice_of};
 ghost use Rattle.hub_core.specs.WeakSteps.{weak_rest};
@@ -50,6 +50,7 @@ impl<D: Device> OpenWindow<D> {
         requires weak { is_weak self.old.setting.mode ≡ true }
         requires chosen { choice_of (configuration_of self.old) r.0 moment ≡ told_choice r.0 (max self.old.moment moment) (Chosen.Joins at) }
         ensures answer { Answers self.old r.0 moment (Moves (entries_made result)) self.new }
+        ensures packed { IsPacked result }
         ensures window { SameWindow self.old self.new }
     {
         self.moment = self.moment.max(moment);

@@ -79,10 +79,10 @@ some_slip = record { ticket = 0; device = record { 0 = 0 }; maker = 0; stood = 0
 
 pub turn_adds : {D : Type 0} (s t : OpenHub D) (r m : ℕ) (turn : Turn D) → IsTurn s r m turn t → Adds s r (entries_told turn) (max s.moment m) t
 turn_adds s t r m (Go grip) is = took_adds s t r m grip.slip (HandsOut grip.slip.device.0 is.purpose) is.step
-turn_adds s t r m (Moved made) is = took_adds s t r m some_slip (Moves (entries_made made)) (is.step some_slip)
-turn_adds s t r m (Wait why) is = took_adds s t r m some_slip (Waits why) (is.step some_slip)
-turn_adds s t r m (Over end made) is = took_adds s t r m some_slip (IsOver end (entries_made made)) (is.step some_slip)
-turn_adds s t r m Absent is = took_adds s t r m some_slip IsAbsent (is.step some_slip)
+turn_adds s t r m (Moved made) is = took_adds s t r m some_slip (Moves (entries_made made)) (is.0.step some_slip)
+turn_adds s t r m (Wait why) is = took_adds s t r m some_slip (Waits why) (is.0.step some_slip)
+turn_adds s t r m (Over end made) is = took_adds s t r m some_slip (IsOver end (entries_made made)) (is.0.step some_slip)
+turn_adds s t r m Absent is = took_adds s t r m some_slip IsAbsent (is.0.step some_slip)
 
 -- Grips that come back
 

@@ -40,9 +40,9 @@ turn_held plan w rounds opened opening plans latest s t r m turn told now asleep
 pub idle_sleepers : {D : Type 0} (s t : OpenHub D) (r m : ℕ) (turn : Turn D) (asleep : ℕ) → IsTurn s r m turn t → is_idle turn ≡ true → SleepersAreBlocked (configuration_of s) asleep → SleepersAreBlocked (configuration_of t) asleep
 idle_sleepers s t r m (Go grip) asleep is idle are = absurd (cc)
 idle_sleepers s t r m (Moved made) asleep is idle are = absurd (cc)
-idle_sleepers s t r m (Wait why) asleep is idle are = subst (λ (x : Configuration). SleepersAreBlocked x asleep) (sym (took s t r m some_slip (Waits why) (is.step some_slip))) (sleepers_later (configuration_of s) m (has_run asleep) are)
+idle_sleepers s t r m (Wait why) asleep is idle are = subst (λ (x : Configuration). SleepersAreBlocked x asleep) (sym (took s t r m some_slip (Waits why) (is.0.step some_slip))) (sleepers_later (configuration_of s) m (has_run asleep) are)
 idle_sleepers s t r m (Over end made) asleep is idle are = absurd (cc)
-idle_sleepers s t r m Absent asleep is idle are = subst (λ (x : Configuration). SleepersAreBlocked x asleep) (sym (took s t r m some_slip IsAbsent (is.step some_slip))) (sleepers_later (configuration_of s) m (has_run asleep) are)
+idle_sleepers s t r m Absent asleep is idle are = subst (λ (x : Configuration). SleepersAreBlocked x asleep) (sym (took s t r m some_slip IsAbsent (is.0.step some_slip))) (sleepers_later (configuration_of s) m (has_run asleep) are)
 
 -- a grip that comes back
 pub given_held : {D : Type 0} (plan : D → Plan) (w : Setting) (rounds opened : ℕ) (opening : ℕ → Counts) (plans : ℕ → Plan) (latest : ℕ) (s t : OpenHub D) (grip : Gripped D Done) (m : ℕ) (answer : Result Made (Gripped D Done × Stranger)) (told now asleep left : ℕ)

@@ -35,10 +35,10 @@ plans_by plan plans before after same have = subst (HavePlans plan plans) (sym s
 
 turn_plans : {D : Type 0} (plan : D → Plan) (plans : ℕ → Plan) (s t : OpenHub D) (r m : ℕ) (turn : Turn D) → IsTurn s r m turn t → HavePlans plan plans s.places → HavePlans plan plans t.places
 turn_plans plan plans s t r m (Go grip) is have = plans_by plan plans _ t.places is.places (plans_out plan plans s.places grip.slip.device.0 grip.slip grip.task have)
-turn_plans plan plans s t r m (Moved made) is have = plans_by plan plans s.places t.places is.places have
-turn_plans plan plans s t r m (Wait why) is have = plans_by plan plans s.places t.places is.places have
-turn_plans plan plans s t r m (Over end made) is have = plans_by plan plans s.places t.places is.places have
-turn_plans plan plans s t r m Absent is have = plans_by plan plans s.places t.places is.places have
+turn_plans plan plans s t r m (Moved made) is have = plans_by plan plans s.places t.places is.0.places have
+turn_plans plan plans s t r m (Wait why) is have = plans_by plan plans s.places t.places is.0.places have
+turn_plans plan plans s t r m (Over end made) is have = plans_by plan plans s.places t.places is.0.places have
+turn_plans plan plans s t r m Absent is have = plans_by plan plans s.places t.places is.0.places have
 
 pub turn_named : {D : Type 0} (plan : D → Plan) (w : Setting) (rounds opened : ℕ) (opening : ℕ → Counts) (plans : ℕ → Plan) (latest : ℕ) (s t : OpenHub D) (r m : ℕ) (turn : Turn D)
     → IsNamed plan w rounds opened opening plans latest s → IsTurn s r m turn t → SameWindow s t → m ≤ latest → IsNamed plan w rounds opened opening plans latest t

@@ -20,9 +20,9 @@ abbrev pub plans_of : {D : Type 0} → (D → Plan) → OpenHub D → ℕ → Pl
 plans_of plan hub d = plan_in plan (slice_get hub.places d)
 
 pub worked_so : {D : Type 0} (tag : D → ℕ) (plan : D → Plan) (stands turns probes faults : D → ℕ) (latest : ℕ) (hub last : OpenHub D) (home : HomeState D) (closed : WindowRecord)
-    → HubStands stands turns probes faults hub
+    → HubStands tag stands turns probes faults hub
     → IsNamed plan hub.setting hub.rounds hub.opened (λ d. (device_at hub.devices d).at_opening) (plans_of plan hub) latest last
-    → HubStands stands turns probes faults last → IsClosed turns probes faults last home closed → NoneIsLeft last → AreNumbered tag home.devices
+    → HubStands tag stands turns probes faults last → IsClosed turns probes faults last home closed → NoneIsLeft last → AreNumbered tag home.devices
     → IsWorked tag plan turns probes faults latest hub home closed
 worked_so {D = D} tag plan stands turns probes faults latest hub last home closed before named after closes none numbered = record {
   legal = subst (λ w. IsLegalWindow w closed) named.setting closes.legal;

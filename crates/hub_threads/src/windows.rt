@@ -223,7 +223,7 @@ fn in_threads<R: Threads + Wait + Sync, D: Device + Send, C: Clock + Sync, N: Na
 
 /// Closes the window once it is quiet and no probe is left. After the joins it is: this does not wait then.
 fn closed<R: Wait, D: Device>(rt: &R, hub: Hub<D>) -> (Home<D>, WindowRecord)
-    ensures stands { HubStands D.stands D.turns D.probes D.faults hub }
+    ensures stands { HubStands D.tag D.stands D.turns D.probes D.faults hub }
     ensures closed { IsClosed D.turns D.probes D.faults hub result.0 result.1 }
     ensures none_left { NoneIsLeft hub }
     ensures numbered { AreNumbered D.tag result.0.devices }

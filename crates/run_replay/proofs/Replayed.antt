@@ -59,8 +59,8 @@ is_replay hub picks seed rounds first played last went =
     between = (went.plays 0).0
 
 -- the hub is quiet then
-pub quiet_then : {D : Type 0} (stands turns probes faults : D → ℕ) (hub : OpenHub D) (picks : List ℕ) (seed rounds : ℕ) (first played last : PlayerState D) → Went hub picks seed rounds first played last → PlayerIsKept last → HubStands stands turns probes faults last.hub → not_quiet (configuration_of last.hub) ≡ None
-quiet_then stands turns probes faults hub picks seed rounds first played last went kept stand =
+pub quiet_then : {D : Type 0} (tag stands turns probes faults : D → ℕ) (hub : OpenHub D) (picks : List ℕ) (seed rounds : ℕ) (first played last : PlayerState D) → Went hub picks seed rounds first played last → PlayerIsKept last → HubStands tag stands turns probes faults last.hub → not_quiet (configuration_of last.hub) ≡ None
+quiet_then tag stands turns probes faults hub picks seed rounds first played last went kept stand =
     quiet_at_end last kept stand.grips (sym (actors_are course last later kept stand.size (sym went.rounds_last)) ∙ (went.finishes between).1.over course refl)
   where
     between : ℕ
@@ -89,7 +89,7 @@ home_at : {D : Type 0} (places : List (Place D)) (devices : List D) (d : ℕ) (d
 home_at places devices d device all at = ap (λ ps. slice_get ps d) all ∙ slice_get-map (λ x. Home x) devices d ∙ ap (option_map (λ x. Home x)) at
 
 pub replayed_so : {D : Type 0} (tag : D → ℕ) (plan : D → Option (List (ℕ × ℕ))) (stands turns probes faults : D → ℕ) (hub : OpenHub D) (picks : List ℕ) (seed rounds : ℕ) (first played last : PlayerState D) (home : HomeState D) (closed : WindowRecord)
-    → Went hub picks seed rounds first played last → HubStands stands turns probes faults hub → HubStands stands turns probes faults last.hub → HavePlans plan (plans_of plan hub) last → IsClosed turns probes faults last.hub home closed → AreNumbered tag home.devices
+    → Went hub picks seed rounds first played last → HubStands tag stands turns probes faults hub → HubStands tag stands turns probes faults last.hub → HavePlans plan (plans_of plan hub) last → IsClosed turns probes faults last.hub home closed → AreNumbered tag home.devices
     → IsReplayed tag plan turns probes faults hub picks seed rounds home closed
 replayed_so {D = D} tag plan stands turns probes faults hub picks seed rounds first played last home closed went before after plans closes numbered = record {
   legal = subst (λ w. IsLegalWindow w closed) window.setting closes.legal;

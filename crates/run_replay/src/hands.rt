@@ -1,9 +1,9 @@
 ghost use Rattle.std.specs.Prelude.{◌≡◌, ◌≢◌, ◌<◌, ◌≤◌, ◌^◌, None, Some, IfErr, IfOk, IsTrue, false, length, true, vec_capacity, ℕ};
 ghost use Rattle.hub_core.specs.BlockedRuns.{IsBlocked};
-ghost use Rattle.hub_core.specs.HubCalls.{HubStands, IsClosed, SameWindow};
+ghost use Rattle.hub_core.specs.HubCalls.{HubStands, IsClosed, IsPacked, SameWindow};
 ghost use Rattle.hub_core.specs.OpenHubs.{configuration_of};
 ghost use Rattle.hub_core.specs.Steps.{not_quiet, opened};
-ghost use Rattle.run_replay.specs.Players.{HavePlans, HoldNothing, IsOpened, MovesAreFew, PlayerStands, is_ended, is_full, picked_of, play_of, steps_left, with_moves};
+ghost use Rattle.run_replay.specs.Players.{HavePlans, HoldNothing, IsOpened, MovesAreFew, PickIsPacked, PlayerStands, is_ended, is_full, picked_of, play_of, steps_left, with_moves};
 ghost use Rattle.run_replay.specs.Playing.{IsPicked, IsStepped};
 ghost use Rattle.run_replay.specs.Replays.{moves_after, waits};
 
@@ -72,6 +72,7 @@ impl<D: Device> Hands<D> {
     pub(crate) fn pick(&mut self, actor: u32) -> Picked
         requires few { MovesAreFew self.old }
         ensures picked { (acts : ℕ) → (later : ℕ) × IsPicked self.old.rounds actor (play_of self.old acts) (picked_of result) (play_of self.new later) }
+        ensures packed { PickIsPacked result }
         ensures window { SameWindow self.old.hub self.new.hub }
         ensures rounds { self.new.rounds ≡ self.old.rounds }
         ensures plans { (plans : ℕ → _) → HavePlans D.plan plans self.old → HavePlans D.plan plans self.new }
@@ -106,6 +107,7 @@ impl<D: Device> Hands<D> {
     fn step(&mut self, actor: u32) -> Picked
         requires going { is_ended self.old actor ≡ false }
         ensures stepped { (acts : ℕ) → (later : ℕ) × IsStepped self.old.rounds actor (play_of self.old acts) (picked_of result) (play_of self.new later) }
+        ensures packed { PickIsPacked result }
         ensures window { SameWindow self.old.hub self.new.hub }
         ensures rounds { self.new.rounds ≡ self.old.rounds }
         ensures moves { self.new.moves ≡ self.old.moves }
@@ -167,6 +169,7 @@ impl<D: Device> Hands<D> {
         requires going { is_ended self.old actor ≡ false }
         requires holds { is_full self.old actor ≡ true }
         ensures stepped { (acts : ℕ) → (later : ℕ) × IsStepped self.old.rounds actor (play_of self.old acts) (picked_of (Picked.Made result)) (play_of self.new later) }
+        ensures packed { IsPacked result }
         ensures window { SameWindow self.old.hub self.new.hub }
         ensures rounds { self.new.rounds ≡ self.old.rounds }
         ensures moves { self.new.moves ≡ self.old.moves }
@@ -198,6 +201,7 @@ impl<D: Device> Hands<D> {
         requires going { is_ended self.old r.0 ≡ false }
         requires empty { is_full self.old r.0 ≡ false }
         ensures stepped { (acts : ℕ) → (later : ℕ) × IsStepped self.old.rounds r.0 (play_of self.old acts) (picked_of result) (play_of self.new later) }
+        ensures packed { PickIsPacked result }
         ensures window { SameWindow self.old.hub self.new.hub }
         ensures rounds { self.new.rounds ≡ self.old.rounds }
         ensures moves { self.new.moves ≡ self.old.moves }
@@ -230,6 +234,7 @@ impl<D: Device> Hands<D> {
     fn probe(&mut self) -> Picked
         requires going { is_ended self.old 0 ≡ false }
         ensures stepped { (acts : ℕ) → (later : ℕ) × IsStepped self.old.rounds 0 (play_of self.old acts) (picked_of result) (play_of self.new later) }
+        ensures packed { PickIsPacked result }
         ensures window { SameWindow self.old.hub self.new.hub }
         ensures rounds { self.new.rounds ≡ self.old.rounds }
         ensures moves { self.new.moves ≡ self.old.moves }
@@ -251,6 +256,7 @@ impl<D: Device> Hands<D> {
         requires going { is_ended self.old 0 ≡ false }
         requires holds { is_full self.old 0 ≡ true }
         ensures stepped { (acts : ℕ) → (later : ℕ) × IsStepped self.old.rounds 0 (play_of self.old acts) (picked_of (Picked.Made result)) (play_of self.new later) }
+        ensures packed { IsPacked result }
         ensures window { SameWindow self.old.hub self.new.hub }
         ensures rounds { self.new.rounds ≡ self.old.rounds }
         ensures moves { self.new.moves ≡ self.old.moves }
@@ -277,6 +283,7 @@ impl<D: Device> Hands<D> {
         requires going { is_ended self.old 0 ≡ false }
         requires empty { is_full self.old 0 ≡ false }
         ensures stepped { (acts : ℕ) → (later : ℕ) × IsStepped self.old.rounds 0 (play_of self.old acts) (picked_of result) (play_of self.new later) }
+        ensures packed { PickIsPacked result }
         ensures window { SameWindow self.old.hub self.new.hub }
         ensures rounds { self.new.rounds ≡ self.old.rounds }
         ensures moves { self.new.moves ≡ self.old.moves }
@@ -302,7 +309,7 @@ impl<D: Device> Hands<D> {
     /// Does nothing. Its contract is what is kept of every player and of its hub, and that its window is never stuck.
     pub(crate) fn kept(&self)
         ensures player { PlayerStands self.now }
-        ensures hub { HubStands D.stands D.turns D.probes D.faults self.now.hub }
+        ensures hub { HubStands D.tag D.stands D.turns D.probes D.faults self.now.hub }
     {
         self.hub.kept();
         self.hub.progress();

@@ -1,6 +1,6 @@
 ghost use Rattle.std.specs.Prelude.{◌≡◌, ◌<◌, ◌≤◌, ◌==◌, false, filter, length, not, ℕ};
 ghost use Rattle.hub_core.specs.HubCalls.{HubStands, SameWindow};
-ghost use Rattle.run_replay.specs.Players.{HavePlans, PlayerStands, is_ended, most_moves, picked_of, play_of, steps_left};
+ghost use Rattle.run_replay.specs.Players.{HavePlans, PickIsPacked, PlayerStands, is_ended, most_moves, picked_of, play_of, steps_left};
 ghost use Rattle.run_replay.specs.Playing.{IsPicked, IsPlayed};
 ghost use Rattle.run_replay.specs.Replays.{moves_after, waits};
 
@@ -38,6 +38,7 @@ impl<D: Device> Player<D> {
     /// Steps the actor, a run or 0 for the detector.
     pub fn pick(&mut self, actor: u32) -> Picked
         ensures picked { (acts : ℕ) → (later : ℕ) × IsPicked self.old.rounds actor (play_of self.old acts) (picked_of result) (play_of self.new later) }
+        ensures packed { PickIsPacked result }
         ensures window { SameWindow self.old.hub self.new.hub }
         ensures rounds { self.new.rounds ≡ self.old.rounds }
         ensures plans { (plans : ℕ → _) → HavePlans D.plan plans self.old → HavePlans D.plan plans self.new }
@@ -82,7 +83,7 @@ impl<D: Device> Player<D> {
     /// Does nothing. Its contract is what is kept of every player and of its hub, and that its window is never stuck.
     pub(crate) fn kept(&self)
         ensures player { PlayerStands self.now }
-        ensures hub { HubStands D.stands D.turns D.probes D.faults self.now.hub }
+        ensures hub { HubStands D.tag D.stands D.turns D.probes D.faults self.now.hub }
     {
         self.hands.kept();
     }

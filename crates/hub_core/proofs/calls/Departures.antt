@@ -23,6 +23,7 @@ use Rattle.hub_core.specs.Homes.{CountsAreLow}
 use Rattle.home_types.specs.Kinds.{has_value, kind_at}
 use Rattle.hub_core.specs.HubKept.{probes_of}
 use Rattle.hub_core.specs.KeptByModel.{IsKeptByModel}
+use Rattle.hub_core.specs.HubCalls.{IsNextGrip}
 use Rattle.hub_core.specs.HubSteps.{carrying, task_of}
 use Rattle.hub_core.specs.HubsKept.{FitsAtHome, FitsOut, HubIsKept, all_probes_taken, is_away}
 use Rattle.hub_core.specs.OpenHubs.{OpenHub, configuration_of, device_at, grip_in, held_in, no_device, purpose_of, state_of}
@@ -282,7 +283,12 @@ pub record IsSent {D : Type 0} (turns probes faults : D → ℕ) (places : List 
   pub does : grip.task ≡ task
   pub device : grip.slip.device.0 ≡ d
   pub maker : grip.slip.maker ≡ r
+  pub ticket : grip.slip.ticket ≡ tickets + 1
   pub stood : grip.slip.stood ≡ held
   pub had_turns : grip.slip.turns ≡ turns grip.device
   pub had_probes : grip.slip.probes ≡ probes grip.device
   pub had_faults : grip.slip.faults ≡ faults grip.device
+
+-- so its grip is the next one
+pub next_grip : {D : Type 0} (s t : OpenHub D) (grip : Gripped D Ready) (d : ℕ) → grip.slip.device.0 ≡ d → grip.slip.ticket ≡ s.tickets + 1 → t.tickets ≡ s.tickets + 1 → grip.slip.stood ≡ held_in s d → IsNextGrip s grip t
+next_grip s t grip d device ticket tickets stood = record { ticket = ticket; tickets = tickets; stood = stood ∙ ap (held_in s) (sym device) }

@@ -273,6 +273,7 @@ back_whole {D = D} {stands = stands} {turns = turns} {probes = probes} {faults =
 pub record StepsBack {D : Type 0} (s t : OpenHub D) (grip : Gripped D Done) (entries : List Entry) (moment : ℕ) : Type 0 where
   pub state : state_of t ≡ record { configuration = after_back s grip.slip entries moment; carried = put (state_of s).carried grip.slip.device.0 None }
   pub places : t.places ≡ slice_set s.places grip.slip.device.0 (Home grip.device)
+  pub tickets : t.tickets ≡ s.tickets
   pub window : SameWindow s t
 
 pub back_steps : {D : Type 0} {stands turns probes faults : D → ℕ} (h t : Inside D) (grip : Gripped D Done) (entries : List Entry) (value : ℕ) (events : Events) (moment : ℕ) → IsBack stands turns probes faults h t grip entries value events moment → IsWhole stands turns probes faults h → StepsBack (open_of h) (open_of t) grip entries moment
@@ -280,6 +281,7 @@ back_steps {D = D} h t grip entries value events moment is k =
     record {
       state = ap (λ (x : OpenHub D). state_of x) shows ∙ back_state (open_of h) grip.slip entries grip.device value events moment within known;
       places = is.places_are;
+      tickets = is.tickets_are;
       window = subst (λ (x : OpenHub D). SameWindow (open_of h) x) (sym shows) (record { setting = refl; rounds = refl; opened = refl; at_opening = known_same (λ (p : DeviceProgress). p.at_opening) h.devices.items grip.slip.device.0 (record (device_at h.devices.items grip.slip.device.0) { held = value; events = events }) known refl });
     }
   where

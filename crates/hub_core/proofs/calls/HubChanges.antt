@@ -229,7 +229,7 @@ entered_answers {D = D} h t s r m es made seen enters is =
     subst (λ x. Answers s r m (Moves x) (open_of t)) (sym is)
     (subst (λ (x : OpenHub D). Answers x r m (Moves es) (open_of t)) seen
     (subst (λ (x : Inside D). Answers (open_of h) r m (Moves es) (open_of x)) (sym enters.new)
-    (record { step = λ slip. step_is (open_of h) (open_of (entered h r m es t.order)) r m (Moves es) slip enters.chosen refl tt; places = refl })))
+    (record { step = λ slip. step_is (open_of h) (open_of (entered h r m es t.order)) r m (Moves es) slip enters.chosen refl tt; places = refl; tickets = refl })))
 
 -- a history that is kept has few entries
 pub few_entries : {D : Type 0} (stands turns probes faults : D → ℕ) (s : OpenHub D) → HubIsKept stands turns probes faults s → length s.history ≤ most_entries most_runs most_devices most_probes

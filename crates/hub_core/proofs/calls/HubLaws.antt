@@ -65,12 +65,13 @@ some_is x y e = cc
 device_has : {D : Type 0} (s : OpenHub D) (d : ℕ) (place : Place D) → length s.places ≡ length s.setting.first → slice_get s.places d ≡ Some place → is_device s.setting d ≡ true
 device_has s d place size at = let within : d < length s.setting.first = omega (arith, slice_get_within s.places d place at, size) in grind (arith, common_steps, within)
 
-pub stands_hub : {D : Type 0} (stands turns probes faults : D → ℕ) (s : OpenHub D) → HubIsKept stands turns probes faults s → HubStands stands turns probes faults s
-stands_hub {D = D} stands turns probes faults s k =
+pub stands_hub : {D : Type 0} (tag stands turns probes faults : D → ℕ) (s : OpenHub D) → ((d : ℕ) (device : D) → slice_get s.places d ≡ Some (Home device) → tag device ≡ d) → HubIsKept stands turns probes faults s → HubStands tag stands turns probes faults s
+stands_hub {D = D} tag stands turns probes faults s numbered k =
     let c = k.configuration in
     let read = read_facts s.setting (entries_of s.history) c.history.well_formed in
     record {
       size = k.places_size;
+      numbered = numbered;
       few_runs = c.opens.few_runs;
       few_devices = c.opens.few_devices;
       well_formed = c.history.well_formed;
@@ -78,6 +79,7 @@ stands_hub {D = D} stands turns probes faults s k =
       order = λ strong. order_stands s.setting (read_of (configuration_of s)) (configuration_of s).grips (held_in s) read (c.ordered strong).order;
       clean = λ strong. (c.ordered strong).history.clean;
       places = λ strong. (c.ordered strong).history.places;
+      weakly = λ weak. (c.weakly weak).allowed;
       justified = c.history.justified;
       moment = c.history.moment;
       stand = λ d device at up. (k.home d device at).stand up

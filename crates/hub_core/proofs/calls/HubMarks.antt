@@ -175,7 +175,7 @@ marks_weakly stands turns probes faults s t r m (TurnOver end made) after weak k
 marks_weakly stands turns probes faults s t r m TurnAbsent after weak kept is freed = none_blocked (configuration_of t) after (subst NoneMarked freed.marked freed.none)
 marks_weakly stands turns probes faults s t r m (Wait why) after weak kept is freed =
     may_mark (configuration_of t) r 0 why freed.freed after kept.configuration.history.well_formed
-    (ap (λ (x : Configuration). choice_of x r 0) (after_answer s t r m (Waits why) is) ∙ ap (decide s.setting (read_of (configuration_of s)) (configuration_of s).grips r) same_moment ∙ sym (chosen s t r m (Waits why) is))
+    (ap (λ (x : Configuration). choice_of x r 0) (after_answer s t r m (Waits why) is.0) ∙ ap (decide s.setting (read_of (configuration_of s)) (configuration_of s).grips r) same_moment ∙ sym (chosen s t r m (Waits why) is.0))
     (none_blocked (configuration_of t) freed.freed freed.none) freed.marked
   where
     same_moment : max (max s.moment m) 0 ≡ max s.moment m

@@ -258,6 +258,7 @@ first_opened tag stands turns probes faults home roster mode rounds known opens 
   places = refl;
   rounds_are = refl;
   windows = refl;
+  tickets = refl;
   turns_then = λ d device at. ap (λ (k : DeviceProgress). k.at_opening.turns) (known_there turns probes faults home rounds known d device opens.knows at);
   probes_then = λ d device at. ap (λ (k : DeviceProgress). k.at_opening.probes) (known_there turns probes faults home rounds known d device opens.knows at);
   faults_then = λ d device at. ap (λ (k : DeviceProgress). k.at_opening.faults) (known_there turns probes faults home rounds known d device opens.knows at);

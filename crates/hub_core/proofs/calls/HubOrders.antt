@@ -137,15 +137,16 @@ read_whole h k = read_kept _ h.rounds h.opened _ k.shown.configuration
 pub standing_whole : {D : Type 0} {stands turns probes faults : D → ℕ} (h : Inside D) → ((d : ℕ) → IsDisciplined (accesses_at h.order.table d)) → is_weak h.history.setting.mode ≡ false → IsWhole stands turns probes faults h → IsStandingOf (configuration_of (open_of h)) h.order.table h.order.line.marks h.history.history h.history.setting.runs
 standing_whole h disciplined strong k = hub_standing _ h.rounds h.opened _ h.history.spare h.order.line h.order.table disciplined (k.shown.configuration.ordered strong) k.order
 
+-- a device that the table has not has no access
+none_beyond : (table : List LineageState) (e : ℕ) → length table ≤ e → accesses_at table e ≡ []
+none_beyond [] e past = refl
+none_beyond (s ∷ table) zero past = absurd (omega (arith, past))
+none_beyond (s ∷ table) (suc e) past = none_beyond table e (omega (arith, past))
+
 -- a device has at most one access for each run
 pub few_whole : {D : Type 0} {stands turns probes faults : D → ℕ} (h : Inside D) → ((d : ℕ) → IsDisciplined (accesses_at h.order.table d)) → IsWhole stands turns probes faults h → (d : ℕ) → length (accesses_at h.order.table d) ≤ length h.history.setting.runs
 few_whole h disciplined k d = by_place (nat_lt d (length h.history.setting.first)) refl
   where
-    none_beyond : (table : List LineageState) (e : ℕ) → length table ≤ e → length (accesses_at table e) ≡ 0
-    none_beyond [] e past = refl
-    none_beyond (s ∷ table) zero past = absurd (omega (arith, past))
-    none_beyond (s ∷ table) (suc e) past = none_beyond table e (omega (arith, past))
-
     few_here : d < length h.history.setting.first → length (accesses_at h.order.table d) ≤ length h.history.setting.runs
     few_here below = elim (is_weak h.history.setting.mode) as (λ b. is_weak h.history.setting.mode ≡ b → length (accesses_at h.order.table d) ≤ length h.history.setting.runs) [
       | true ↦ (λ weak. let none : length (accesses_at h.order.table d) ≡ 0 = ap length (k.order.table_is.weakly weak d below).accesses in omega (arith, none))
@@ -154,7 +155,15 @@ few_whole h disciplined k d = by_place (nat_lt d (length h.history.setting.first
 
     by_place : (b : Bool) → nat_lt d (length h.history.setting.first) ≡ b → length (accesses_at h.order.table d) ≤ length h.history.setting.runs
     by_place true within = few_here (grind (arith, common_steps))
-    by_place false beyond = let none = none_beyond h.order.table d (let size = k.order.table_is.devices in let past : length h.history.setting.first ≤ d = grind (arith, common_steps) in omega (arith, size, past)) in omega (arith, none)
+    by_place false beyond = let none = ap length (none_beyond h.order.table d (let size = k.order.table_is.devices in let past : length h.history.setting.first ≤ d = grind (arith, common_steps) in omega (arith, size, past))) in omega (arith, none)
+
+-- under the weak model it has none
+pub bare_whole : {D : Type 0} {stands turns probes faults : D → ℕ} (h : Inside D) → IsWhole stands turns probes faults h → is_weak h.history.setting.mode ≡ true → (d : ℕ) → accesses_at h.order.table d ≡ []
+bare_whole h k weak d = by_place (nat_lt d (length h.history.setting.first)) refl
+  where
+    by_place : (b : Bool) → nat_lt d (length h.history.setting.first) ≡ b → accesses_at h.order.table d ≡ []
+    by_place true within = (k.order.table_is.weakly weak d (grind (arith, common_steps))).accesses
+    by_place false beyond = none_beyond h.order.table d (let size = k.order.table_is.devices in let past : length h.history.setting.first ≤ d = grind (arith, common_steps) in omega (arith, size, past))
 
 -- A run arrives
 

@@ -16,7 +16,7 @@ use Rattle.history_book.specs.Readings.{is_doomed, is_live, next_command, next_o
 use Rattle.history_book.specs.Settings.{is_device, is_weak}
 use Rattle.home_types.specs.declared.commands.Command.{Command}
 use Rattle.hub_core.proofs.calls.HubChanges.{step_is}
-use Rattle.hub_core.proofs.calls.Departures.{IsLeaving, IsSent, at_index, device_within, gone, gone_carries, gone_configuration, gone_kept, home_place, is_there, one_for}
+use Rattle.hub_core.proofs.calls.Departures.{IsLeaving, IsSent, next_grip, at_index, device_within, gone, gone_carries, gone_configuration, gone_kept, home_place, is_there, one_for}
 use Rattle.hub_core.proofs.kept.HubReads.{run_place}
 use Rattle.hub_core.proofs.calls.HubStates.{known_same, put_at}
 use Rattle.hub_core.proofs.kept.KeptByModel.{taken_kept}
@@ -218,6 +218,7 @@ went_out {D = D} {stands = stands} {turns = turns} {probes = probes} {faults = f
         task = sent.does ∙ leaves.does;
         home = subst (λ e. slice_get s.places e ≡ Some (Home grip.device)) (sym sent.device) sent.at;
         places = ap₂ (λ e x. slice_set s.places e (Out grip.slip x)) (sym sent.device) (sym sent.does);
+        next = next_grip s t' grip d sent.device sent.ticket refl leaves.stood;
       });
       window = subst (λ (x : OpenHub D). SameWindow s x) (sym new) (record { setting = refl; rounds = refl; opened = refl; at_opening = known_same (λ (p : DeviceProgress). p.at_opening) s.devices d (record (device_at s.devices d) { purpose = purpose }) within_devices refl });
     }

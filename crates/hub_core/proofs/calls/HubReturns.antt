@@ -42,7 +42,7 @@ use Rattle.hub_core.proofs.kept.ReturnsKept.{BringsFor, IsOut, out_is}
 use Rattle.hub_core.proofs.steps.Takes.{live_run}
 use Rattle.hub_core.proofs.kept.WrittenValues.{nearest_has}
 use Rattle.hub_core.specs.AccountedCalls.{told_calls, told_falls}
-use Rattle.hub_core.specs.HubCalls.{IsGiven, SameWindow, carried_by}
+use Rattle.hub_core.specs.HubCalls.{IsGiven, IsPacked, SameWindow, carried_by}
 use Rattle.hub_core.specs.Decisions.{refuted_by}
 use Rattle.hub_core.specs.HubKept.{is_of_run}
 use Rattle.hub_core.specs.HubSteps.{Gave, Given, Returned, command_task, give, give_if, task_of}
@@ -570,9 +570,9 @@ pub record CameBack {D : Type 0} (s t : OpenHub D) (grip : Gripped D Done) (m : 
   pub given : IsGiven s grip m (Ok made) t
   pub window : SameWindow s t
 
-pub back_given : {D : Type 0} {stands turns probes faults : D → ℕ} (h t : Inside D) (s₀ : OpenHub D) (m value : ℕ) (events : Events) (why : KeptPurpose) (tag : ℕ) (grip : Gripped D Done) (entries : List Entry) (made : Made) → open_of h ≡ s₀ → CameHome stands turns probes faults h t m value events why tag grip entries → entries_made made ≡ entries
+pub back_given : {D : Type 0} {stands turns probes faults : D → ℕ} (h t : Inside D) (s₀ : OpenHub D) (m value : ℕ) (events : Events) (why : KeptPurpose) (tag : ℕ) (grip : Gripped D Done) (entries : List Entry) (made : Made) → open_of h ≡ s₀ → CameHome stands turns probes faults h t m value events why tag grip entries → entries_made made ≡ entries → IsPacked made
     → IsWhole stands turns probes faults h → CameBack s₀ (open_of t) grip m made
-back_given {D = D} h t s₀ m value events why tag grip entries made seen came made_is k =
+back_given {D = D} h t s₀ m value events why tag grip entries made seen came made_is packed k =
     subst (λ (x : OpenHub D). CameBack x (open_of t) grip m made) seen (record {
       given = (
         (
@@ -580,6 +580,8 @@ back_given {D = D} h t s₀ m value events why tag grip entries made seen came m
           steps.state ∙ ap (λ es. record { configuration = after_back s grip.slip es (max s.moment m); carried = put (state_of s).carried grip.slip.device.0 None }) (sym came.gives) ∙ ap (λ (x : Given). x.next) (sym gives),
         ),
         steps.places,
+        steps.tickets,
+        packed,
       );
       window = steps.window;
     })

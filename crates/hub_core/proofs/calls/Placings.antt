@@ -118,7 +118,7 @@ joins_earliest s r at m now timed is =
 -- .. as the hub tells it
 pub turn_earliest : {D : Type 0} (s t : OpenHub D) (r m : ℕ) (turn : Turn D) → IsTurn s r m turn t → PlansEarliest (configuration_of s) r turn
 turn_earliest s t r m (Go grip) is = tt
-turn_earliest s t r m (Moved made) is = λ timed at now placed. joins_earliest (configuration_of s) r at m now timed (sym (chosen s t r m (Moves (entries_made made)) is) ∙ ap Moves placed)
+turn_earliest s t r m (Moved made) is = λ timed at now placed. joins_earliest (configuration_of s) r at m now timed (sym (chosen s t r m (Moves (entries_made made)) is.0) ∙ ap Moves placed)
 turn_earliest s t r m (Wait why) is = tt
 turn_earliest s t r m (Over end made) is = tt
 turn_earliest s t r m Absent is = tt

@@ -30,6 +30,7 @@ use Rattle.hub_core.proofs.kept.HubReads.{run_place, some_is}
 use Rattle.hub_core.proofs.kept.Finds.{none_does}
 use Rattle.hub_core.proofs.kept.OrderSteps.{read_more}
 use Rattle.hub_core.proofs.kept.ProbeSteps.{order_fell, order_lost, order_probe_home, order_rose}
+use Rattle.hub_core.specs.HubCalls.{IsPacked}
 use Rattle.hub_core.specs.HubsKept.{HandsAre, IsWhole, open_of}
 use Rattle.hub_core.specs.KeptOrders.{HasFallen, HasRisen, IsLostTo, MayTurn, OrderIsBeside, hand_of}
 use Rattle.hub_core.specs.OpenHubs.{OpenHub, configuration_of, device_at, held_after, held_in}
@@ -107,10 +108,10 @@ risen_whole {D = D} {stands = stands} {turns = turns} {probes = probes} {faults 
     own = subst (λ (z : Slip). IsRisen h t z events) known.same risen
 
 pub risen_given : {D : Type 0} {stands turns probes faults : D → ℕ} (h t : Inside D) (s : OpenHub D) (value tag : ℕ) (grip : Gripped D Done) (sl : Slip) (before events : Events) (made : Made) → ProbeKnown stands turns probes faults h s tag grip sl before → (read_of (configuration_of s)).up grip.slip.device.0 ≡ false → has_died grip.stage.told ≡ false
-    → events ≡ record before { rose = before.rose + 1 } → ProbeCame h t value events grip (Rose grip.slip.device ∷ []) → entries_made made ≡ Rose sl.device ∷ [] → IsWhole stands turns probes faults h → ProbeBack s (open_of t) grip made
-risen_given h t s value tag grip sl before events made known down lives more came made_is k =
+    → events ≡ record before { rose = before.rose + 1 } → ProbeCame h t value events grip (Rose grip.slip.device ∷ []) → entries_made made ≡ Rose sl.device ∷ [] → IsPacked made → IsWhole stands turns probes faults h → ProbeBack s (open_of t) grip made
+risen_given h t s value tag grip sl before events made known down lives more came made_is packed k =
     let here = probe_here h s tag grip sl before known k in
-    probe_given h t s value events here.v tag grip (Rose grip.slip.device ∷ []) made known.seen here.returned here.for (back_told h s tag grip sl before events known down lives more here) came (made_is ∙ ap (λ (z : Slip). Rose z.device ∷ []) known.same) k
+    probe_given h t s value events here.v tag grip (Rose grip.slip.device ∷ []) made known.seen here.returned here.for (back_told h s tag grip sl before events known down lives more here) came (made_is ∙ ap (λ (z : Slip). Rose z.device ∷ []) known.same) packed k
 
 -- there is a number for one restart, or one failure, more
 pub few_events_here : {D : Type 0} {stands turns probes faults : D → ℕ} (h : Inside D) (s : OpenHub D) (slip : Slip) (sl : Slip) (before : Events) → open_of h ≡ s → slip.device.0 < length h.history.setting.first → sl ≡ slip → before ≡ (device_at s.devices sl.device.0).events → IsWhole stands turns probes faults h → (before.fell + 1 < 4294967296) × (before.rose + 1 < 4294967296)
@@ -444,10 +445,10 @@ fallen_made d lost e o fell_is doom_is = (λ i. entries_made (record { a = Some 
     by_lost (Some r) = refl
 
 pub fallen_given : {D : Type 0} {stands turns probes faults : D → ℕ} (h t : Inside D) (s : OpenHub D) (value tag : ℕ) (grip : Gripped D Done) (sl : Slip) (before events : Events) (lost : Option RunNo) (fell : HistoryState) (fallen : KeptOrder) (made : Made) → ProbeKnown stands turns probes faults h s tag grip sl before → (read_of (configuration_of s)).up grip.slip.device.0 ≡ true → has_died grip.stage.told ≡ true
-    → events ≡ record before { fell = before.fell + 1 } → ProbeCame h t value events grip (dead_entries grip.slip.device.0 (lost_by h.history.setting (read_in h.history) grip.slip.device.0)) → IsFallen h t sl events lost fell fallen → entries_made made ≡ dead_entries sl.device.0 (option_map (λ (r : RunNo). r.0) lost) → IsWhole stands turns probes faults h → ProbeBack s (open_of t) grip made
-fallen_given h t s value tag grip sl before events lost fell fallen made known up died more came falls made_is k =
+    → events ≡ record before { fell = before.fell + 1 } → ProbeCame h t value events grip (dead_entries grip.slip.device.0 (lost_by h.history.setting (read_in h.history) grip.slip.device.0)) → IsFallen h t sl events lost fell fallen → entries_made made ≡ dead_entries sl.device.0 (option_map (λ (r : RunNo). r.0) lost) → IsPacked made → IsWhole stands turns probes faults h → ProbeBack s (open_of t) grip made
+fallen_given h t s value tag grip sl before events lost fell fallen made known up died more came falls made_is packed k =
     let here = probe_here h s tag grip sl before known k in
     probe_given h t s value events here.v tag grip _ made known.seen here.returned here.for (dead_told h s tag grip sl before events known up died more here) came
     (made_is ∙ ap (λ o. dead_entries sl.device.0 (option_map (λ (r : RunNo). r.0) o)) falls.found
     ∙ ap (λ (z : Slip). dead_entries z.device.0 (option_map (λ (r : RunNo). r.0) (lost_run h.history.history (accesses_at h.order.table z.device.0)))) known.same
-    ∙ ap (dead_entries grip.slip.device.0) (lost_is h grip.slip.device.0 here.v here.for.grip here.below k)) k
+    ∙ ap (dead_entries grip.slip.device.0) (lost_is h grip.slip.device.0 here.v here.for.grip here.below k)) packed k

@@ -28,7 +28,7 @@ use Rattle.hub_core.proofs.kept.ReturnsKept.{BringsFor}
 use Rattle.hub_core.proofs.steps.Afters.{read_with}
 use Rattle.hub_core.proofs.steps.Calls.{calls_with, falls_with}
 use Rattle.hub_core.specs.AccountedCalls.{told_calls, told_falls}
-use Rattle.hub_core.specs.HubCalls.{IsProbeGiven, SameWindow, carried_by}
+use Rattle.hub_core.specs.HubCalls.{IsPacked, IsProbeGiven, SameWindow, carried_by}
 use Rattle.hub_core.specs.KeptByModel.{IsKeptByModel}
 use Rattle.hub_core.specs.HubSteps.{Gave, Given, Returned, give_if, give_probe, task_of}
 use Rattle.hub_core.specs.HubsKept.{HandsAre, HubIsKept, IsWhole, open_of}
@@ -376,8 +376,8 @@ pub record ProbeBack {D : Type 0} (s t : OpenHub D) (grip : Gripped D Done) (mad
   pub window : SameWindow s t
 
 pub probe_given : {D : Type 0} {stands turns probes faults : D → ℕ} (h t : Inside D) (s₀ : OpenHub D) (value : ℕ) (events : Events) (v : Option ℕ) (tag : ℕ) (grip : Gripped D Done) (entries : List Entry) (made : Made) → open_of h ≡ s₀ → ProbeReturned stands turns probes faults h tag grip → IsForProbe (open_of h) grip.slip grip.task v
-    → ProbeTells h.history.setting (read_in h.history) grip.slip.device.0 v grip.stage.told entries events → ProbeCame h t value events grip entries → entries_made made ≡ entries → IsWhole stands turns probes faults h → ProbeBack s₀ (open_of t) grip made
-probe_given {D = D} h t s₀ value events v tag grip entries made seen returned for tells came made_is k =
+    → ProbeTells h.history.setting (read_in h.history) grip.slip.device.0 v grip.stage.told entries events → ProbeCame h t value events grip entries → entries_made made ≡ entries → IsPacked made → IsWhole stands turns probes faults h → ProbeBack s₀ (open_of t) grip made
+probe_given {D = D} h t s₀ value events v tag grip entries made seen returned for tells came made_is packed k =
     subst (λ (x : OpenHub D). ProbeBack x (open_of t) grip made) seen (record {
       given = (
         (
@@ -385,6 +385,8 @@ probe_given {D = D} h t s₀ value events v tag grip entries made seen returned 
           steps.state ∙ (λ i. record { configuration = with_grip (with_entries (configuration_of s) (returned.maker i) (sym tells.gives i)) grip.slip.device.0 None; carried = put (state_of s).carried grip.slip.device.0 None }) ∙ ap (λ (x : Given). x.next) (sym gives),
         ),
         steps.places,
+        steps.tickets,
+        packed,
       );
       window = steps.window;
     })
@@ -460,7 +462,7 @@ same_whole h t s value tag grip sl before known same came history order k =
     (order_probe_home h.history.setting (read_in h.history) (configuration_of (open_of h)).grips (configuration_of (open_of t)).grips grip.slip.device.0 here.v h.order.line h.order.table here.for.grip home k.order))) k
 
 pub same_given : {D : Type 0} {stands turns probes faults : D → ℕ} (h t : Inside D) (s : OpenHub D) (value tag : ℕ) (grip : Gripped D Done) (sl : Slip) (before : Events) (made : Made) → ProbeKnown stands turns probes faults h s tag grip sl before → (read_of (configuration_of s)).up grip.slip.device.0 ≡ not (has_died grip.stage.told)
-    → ProbeCame h t value before grip [] → entries_made made ≡ [] → IsWhole stands turns probes faults h → ProbeBack s (open_of t) grip made
-same_given h t s value tag grip sl before made known same came made_is k =
+    → ProbeCame h t value before grip [] → entries_made made ≡ [] → IsPacked made → IsWhole stands turns probes faults h → ProbeBack s (open_of t) grip made
+same_given h t s value tag grip sl before made known same came made_is packed k =
     let here = probe_here h s tag grip sl before known k in
-    probe_given h t s value before here.v tag grip [] made known.seen here.returned here.for (same_told h s tag grip sl before known same here) came made_is k
+    probe_given h t s value before here.v tag grip [] made known.seen here.returned here.for (same_told h s tag grip sl before known same here) came made_is packed k

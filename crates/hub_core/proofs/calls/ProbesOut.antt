@@ -8,7 +8,7 @@ use Rattle.device_gate.specs.declared.grips.Ready.{Ready}
 use Rattle.device_gate.specs.declared.slips.Task.TheVariants.{Probe}
 use Rattle.history_book.specs.Readings.{put}
 use Rattle.history_book.specs.Settings.{is_device, is_weak}
-use Rattle.hub_core.proofs.calls.Departures.{IsLeaving, IsSent, at_index, device_within, gone, gone_carries, gone_configuration, gone_kept}
+use Rattle.hub_core.proofs.calls.Departures.{next_grip, IsLeaving, IsSent, at_index, device_within, gone, gone_carries, gone_configuration, gone_kept}
 use Rattle.hub_core.proofs.calls.HubStates.{known_same}
 use Rattle.hub_core.proofs.kept.Hands.{probe_goes}
 use Rattle.hub_core.proofs.kept.ProbeSteps.{order_probe_out}
@@ -178,6 +178,7 @@ probe_sent {D = D} h t s₀ d value known grip seen out k =
         ),
         out.sent.at,
         ap (λ x. slice_set h.gate.places d (Out grip.slip x)) (sym out.sent.does),
+        next_grip s after grip d out.sent.device out.sent.ticket refl (probe_leaves h t d value known grip out).stood,
       );
       window = record { setting = refl; rounds = refl; opened = refl; at_opening = known_same (λ (p : DeviceProgress). p.at_opening) h.devices.items d (record (device_at h.devices.items d) { purpose = ForProbe value; probes_left = left_of h d }) (slice_get_within h.devices.items d known out.known_is) refl };
     }))

@@ -18,25 +18,25 @@ invariant_of-self-in-Go g c = record {
 
 pub invariant_of-self-in-Moved : goal.invariant_of-self-in-Moved
 invariant_of-self-in-Moved g c = record {
-  marks = marks_moved g.D.Device.stands g.D.Device.turns g.D.Device.probes g.D.Device.faults c.self.inside.window c.take-turn.new.self c.args.r.0 c.args.moment _ _ _ (model_before c.self.inside.window c.take-turn.new.self false c.take-turn.ensures.window (sym c.if-is_weak.ensures)) (sym c.if-is_weak.ensures) c.whole.ensures c.whole-2.ensures (subst (λ t. IsTurn c.self.inside.window c.args.r.0 c.args.moment t c.take-turn.new.self) c.in-Moved.is c.take-turn.ensures.turn) c.self.invariant.marks c.free_made.ensures;
+  marks = marks_moved g.D.Device.stands g.D.Device.turns g.D.Device.probes g.D.Device.faults c.self.inside.window c.take-turn.new.self c.args.r.0 c.args.moment _ _ _ (model_before c.self.inside.window c.take-turn.new.self false c.take-turn.ensures.window (sym c.if-is_weak.ensures)) (sym c.if-is_weak.ensures) c.whole.ensures c.whole-2.ensures (subst (λ t. IsTurn c.self.inside.window c.args.r.0 c.args.moment t c.take-turn.new.self) c.in-Moved.is c.take-turn.ensures.turn).0 c.self.invariant.marks c.free_made.ensures;
   scratch = c.take-turn.ensures.size ∙ c.self.invariant.scratch ∙ sym (ap (λ (w : Setting). length w.first) c.take-turn.ensures.window.setting);
 }
 
 pub invariant_of-self-in-Over : goal.invariant_of-self-in-Over
 invariant_of-self-in-Over g c = record {
-  marks = marks_over g.D.Device.stands g.D.Device.turns g.D.Device.probes g.D.Device.faults c.self.inside.window c.take-turn.new.self c.args.r.0 c.args.moment _ _ _ _ (model_before c.self.inside.window c.take-turn.new.self false c.take-turn.ensures.window (sym c.if-is_weak.ensures)) (sym c.if-is_weak.ensures) c.whole.ensures c.whole-2.ensures (subst (λ t. IsTurn c.self.inside.window c.args.r.0 c.args.moment t c.take-turn.new.self) c.in-Over.is c.take-turn.ensures.turn) c.self.invariant.marks c.free_made-in-Over.ensures;
+  marks = marks_over g.D.Device.stands g.D.Device.turns g.D.Device.probes g.D.Device.faults c.self.inside.window c.take-turn.new.self c.args.r.0 c.args.moment _ _ _ _ (model_before c.self.inside.window c.take-turn.new.self false c.take-turn.ensures.window (sym c.if-is_weak.ensures)) (sym c.if-is_weak.ensures) c.whole.ensures c.whole-2.ensures (subst (λ t. IsTurn c.self.inside.window c.args.r.0 c.args.moment t c.take-turn.new.self) c.in-Over.is c.take-turn.ensures.turn).0 c.self.invariant.marks c.free_made-in-Over.ensures;
   scratch = c.take-turn.ensures.size ∙ c.self.invariant.scratch ∙ sym (ap (λ (w : Setting). length w.first) c.take-turn.ensures.window.setting);
 }
 
 pub invariant_of-self-in-Wait : goal.invariant_of-self-in-Wait
 invariant_of-self-in-Wait g c = record {
-  marks = marks_wait g.D.Device.stands g.D.Device.turns g.D.Device.probes g.D.Device.faults c.self.inside.window c.take-turn.new.self c.args.r.0 c.args.moment _ _ _ (model_before c.self.inside.window c.take-turn.new.self false c.take-turn.ensures.window (sym c.if-is_weak.ensures)) (sym c.if-is_weak.ensures) c.whole.ensures c.whole-2.ensures (subst (λ t. IsTurn c.self.inside.window c.args.r.0 c.args.moment t c.take-turn.new.self) c.in-Wait.is c.take-turn.ensures.turn) c.self.invariant.marks c.mark_waiting.ensures;
+  marks = marks_wait g.D.Device.stands g.D.Device.turns g.D.Device.probes g.D.Device.faults c.self.inside.window c.take-turn.new.self c.args.r.0 c.args.moment _ _ _ (model_before c.self.inside.window c.take-turn.new.self false c.take-turn.ensures.window (sym c.if-is_weak.ensures)) (sym c.if-is_weak.ensures) c.whole.ensures c.whole-2.ensures (subst (λ t. IsTurn c.self.inside.window c.args.r.0 c.args.moment t c.take-turn.new.self) c.in-Wait.is c.take-turn.ensures.turn).0 c.self.invariant.marks c.mark_waiting.ensures;
   scratch = c.take-turn.ensures.size ∙ c.self.invariant.scratch ∙ sym (ap (λ (w : Setting). length w.first) c.take-turn.ensures.window.setting);
 }
 
 pub invariant_of-self-in-Absent : goal.invariant_of-self-in-Absent
 invariant_of-self-in-Absent g c = record {
-  marks = marks_absent g.D.Device.stands g.D.Device.turns g.D.Device.probes g.D.Device.faults c.self.inside.window c.take-turn.new.self c.args.r.0 c.args.moment _ (model_before c.self.inside.window c.take-turn.new.self false c.take-turn.ensures.window (sym c.if-is_weak.ensures)) (sym c.if-is_weak.ensures) c.whole.ensures c.whole-2.ensures (subst (λ t. IsTurn c.self.inside.window c.args.r.0 c.args.moment t c.take-turn.new.self) c.in-Absent.is c.take-turn.ensures.turn) c.self.invariant.marks;
+  marks = marks_absent g.D.Device.stands g.D.Device.turns g.D.Device.probes g.D.Device.faults c.self.inside.window c.take-turn.new.self c.args.r.0 c.args.moment _ (model_before c.self.inside.window c.take-turn.new.self false c.take-turn.ensures.window (sym c.if-is_weak.ensures)) (sym c.if-is_weak.ensures) c.whole.ensures c.whole-2.ensures (subst (λ t. IsTurn c.self.inside.window c.args.r.0 c.args.moment t c.take-turn.new.self) c.in-Absent.is c.take-turn.ensures.turn).0 c.self.invariant.marks;
   scratch = c.take-turn.ensures.size ∙ c.self.invariant.scratch ∙ sym (ap (λ (w : Setting). length w.first) c.take-turn.ensures.window.setting);
 }
 

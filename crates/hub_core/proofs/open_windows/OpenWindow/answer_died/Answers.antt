@@ -3,6 +3,7 @@ use Rattle.history_book.specs.Settings.{is_weak}
 use Rattle.home_types.specs.declared.commands.Answer.TheVariants.{Down}
 use Rattle.hub_core.proofs.calls.Deaths.{after_death, death_entries, death_known, death_made, death_may, death_number, died_back, died_whole, fallen_few}
 use Rattle.hub_core.proofs.calls.HubReturns.{CameHome, back_given, command_back, grip_back, hand_back}
+use Rattle.hub_core.proofs.calls.PackedEntries.{three_packed}
 use Rattle.hub_core.proofs.open_windows.OpenWindow.answer_died.Goals as goal
 use Rattle.hub_core.proofs.steps.LastAnswers.{just_answered}
 use Rattle.hub_core.specs.ReadHistories.{HistoryState, with_entry}
@@ -97,7 +98,7 @@ returns-clause-given g c =
       answered = c.answer-entry.ensures.new ∙ ap (with_entry c.note_fall-fell.new.history c.slip-slip.result.maker) c.answer-entry.ensures.entry;
       doomed = c.doom_for-doomed.ensures.history;
     }) c.self.invariant in
-    (back_given c.self.inside t c.args.self.now c.args.moment c.take_home-held.result.held c.fallen-events.result (ForCommand c.args.k) _ c.args.grip _ (record { a = Some c.note_fall-fell.result.entry; b = Some c.answer-entry.result; c = c.doom_for-doomed.result }) c.self.view_is back (death_made c.slip-slip.result c.args.k c.died_by-cause.result _ _ _ c.note_fall-fell.ensures.entry c.answer-entry.ensures.entry c.doom_for-doomed.ensures.entry) c.self.invariant).given
+    (back_given c.self.inside t c.args.self.now c.args.moment c.take_home-held.result.held c.fallen-events.result (ForCommand c.args.k) _ c.args.grip _ (record { a = Some c.note_fall-fell.result.entry; b = Some c.answer-entry.result; c = c.doom_for-doomed.result }) c.self.view_is back (death_made c.slip-slip.result c.args.k c.died_by-cause.result _ _ _ c.note_fall-fell.ensures.entry c.answer-entry.ensures.entry c.doom_for-doomed.ensures.entry) (three_packed _ _ _) c.self.invariant).given
 
 pub returns-clause-window : goal.returns-clause-window
 returns-clause-window g c =
@@ -112,4 +113,4 @@ returns-clause-window g c =
       answered = c.answer-entry.ensures.new ∙ ap (with_entry c.note_fall-fell.new.history c.slip-slip.result.maker) c.answer-entry.ensures.entry;
       doomed = c.doom_for-doomed.ensures.history;
     }) c.self.invariant in
-    (back_given c.self.inside t c.args.self.now c.args.moment c.take_home-held.result.held c.fallen-events.result (ForCommand c.args.k) _ c.args.grip _ (record { a = Some c.note_fall-fell.result.entry; b = Some c.answer-entry.result; c = c.doom_for-doomed.result }) c.self.view_is back (death_made c.slip-slip.result c.args.k c.died_by-cause.result _ _ _ c.note_fall-fell.ensures.entry c.answer-entry.ensures.entry c.doom_for-doomed.ensures.entry) c.self.invariant).window
+    (back_given c.self.inside t c.args.self.now c.args.moment c.take_home-held.result.held c.fallen-events.result (ForCommand c.args.k) _ c.args.grip _ (record { a = Some c.note_fall-fell.result.entry; b = Some c.answer-entry.result; c = c.doom_for-doomed.result }) c.self.view_is back (death_made c.slip-slip.result c.args.k c.died_by-cause.result _ _ _ c.note_fall-fell.ensures.entry c.answer-entry.ensures.entry c.doom_for-doomed.ensures.entry) (three_packed _ _ _) c.self.invariant).window

@@ -4,6 +4,7 @@ use Rattle.history_book.specs.Settings.{is_weak}
 use Rattle.home_types.specs.declared.commands.Answer.TheVariants.{Down}
 use Rattle.hub_core.proofs.calls.HubChanges.{chosen_here, entered_answers}
 use Rattle.hub_core.proofs.calls.HubOrders.{down_made, down_place, may_tell_down, told_enters, told_place, told_whole}
+use Rattle.hub_core.proofs.calls.PackedEntries.{two_packed}
 use Rattle.hub_core.proofs.open_windows.OpenWindow.answer_down.Goals as goal
 use Rattle.hub_core.proofs.steps.LastAnswers.{just_answered}
 use Rattle.hub_core.specs.ReadHistories.{HistoryState, with_entry}
@@ -91,3 +92,6 @@ returns-clause-answer g c =
       unchanged = c.doom_for-doomed.ensures.table;
       changed = c.doom_for-doomed.ensures.doomed;
     })) (down_made c.args.r.0 c.args.k c.must_down.result c.answer-entry.result c.doom_for-doomed.result c.answer-entry.ensures.entry c.doom_for-doomed.ensures.entry)
+
+pub returns-clause-packed : goal.returns-clause-packed
+returns-clause-packed g c = two_packed _ _

@@ -5,6 +5,7 @@ use Rattle.hub_core.proofs.calls.HubChanges.{answer_entries}
 use Rattle.hub_core.proofs.calls.HubReturns.{CameHome, answer_made, answered_back, back_given, back_place, command_back, doom_place, grip_back, hand_back, lived_events}
 use Rattle.hub_core.proofs.steps.LastAnswers.{just_answered}
 use Rattle.hub_core.proofs.calls.ReturnedOrders.{answered_whole, may_tell}
+use Rattle.hub_core.proofs.calls.PackedEntries.{two_packed}
 use Rattle.hub_core.proofs.open_windows.OpenWindow.answer_lived.Goals as goal
 use Rattle.device_gate.specs.declared.slips.Slip.{Slip}
 use Rattle.hub_core.specs.OpenHubs.{OpenHub, device_at}
@@ -101,7 +102,7 @@ returns-clause-given g c =
       answered = c.answer-entry.ensures.new ∙ ap (with_entry c.self.inside.history c.slip-slip.result.maker) c.answer-entry.ensures.entry;
       doomed = c.doom_for-doomed.ensures.history;
     }) in
-    (back_given c.self.inside t c.args.self.now c.args.moment c.take_home-told.result.held c.events-events.result (ForCommand c.args.k) _ c.args.grip _ (record { a = Some c.answer-entry.result; b = c.doom_for-doomed.result; c = None }) c.self.view_is back (answer_made c.slip-slip.result c.args.k c.answer_told-answer.result c.refuted-cause.result _ _ c.answer-entry.ensures.entry c.doom_for-doomed.ensures.entry) c.self.invariant).given
+    (back_given c.self.inside t c.args.self.now c.args.moment c.take_home-told.result.held c.events-events.result (ForCommand c.args.k) _ c.args.grip _ (record { a = Some c.answer-entry.result; b = c.doom_for-doomed.result; c = None }) c.self.view_is back (answer_made c.slip-slip.result c.args.k c.answer_told-answer.result c.refuted-cause.result _ _ c.answer-entry.ensures.entry c.doom_for-doomed.ensures.entry) (two_packed _ _) c.self.invariant).given
 
 pub returns-clause-window : goal.returns-clause-window
 returns-clause-window g c =
@@ -115,4 +116,4 @@ returns-clause-window g c =
       answered = c.answer-entry.ensures.new ∙ ap (with_entry c.self.inside.history c.slip-slip.result.maker) c.answer-entry.ensures.entry;
       doomed = c.doom_for-doomed.ensures.history;
     }) in
-    (back_given c.self.inside t c.args.self.now c.args.moment c.take_home-told.result.held c.events-events.result (ForCommand c.args.k) _ c.args.grip _ (record { a = Some c.answer-entry.result; b = c.doom_for-doomed.result; c = None }) c.self.view_is back (answer_made c.slip-slip.result c.args.k c.answer_told-answer.result c.refuted-cause.result _ _ c.answer-entry.ensures.entry c.doom_for-doomed.ensures.entry) c.self.invariant).window
+    (back_given c.self.inside t c.args.self.now c.args.moment c.take_home-told.result.held c.events-events.result (ForCommand c.args.k) _ c.args.grip _ (record { a = Some c.answer-entry.result; b = c.doom_for-doomed.result; c = None }) c.self.view_is back (answer_made c.slip-slip.result c.args.k c.answer_told-answer.result c.refuted-cause.result _ _ c.answer-entry.ensures.entry c.doom_for-doomed.ensures.entry) (two_packed _ _) c.self.invariant).window

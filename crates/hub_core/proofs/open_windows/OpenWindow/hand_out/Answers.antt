@@ -55,7 +55,7 @@ invariant_of-self g c =
       chosen = (chosen_here c.self.inside c.args.self.now c.args.r.0 c.args.moment (HandsOut c.args.d c.args.purpose) c.self.view_is c.requires);
       does = c.task-task.ensures ∙ ap (λ s. task_of (configuration_of s) c.args.r.0 (purpose_of c.args.purpose)) (sym c.self.view_is);
       known_is = sym c.get.ensures ∙ ap option_copied c.unwrap-known.ensures;
-      sent = record { at = e.device; after_is = e.places; number_is = e.tickets; does = e.task; device = ap (λ x. x.0) e.number; maker = e.maker; stood = e.stood; had_turns = e.turns; had_probes = e.probes; had_faults = e.faults };
+      sent = record { at = e.device; after_is = e.places; number_is = e.tickets; ticket = e.ticket; does = e.task; device = ap (λ x. x.0) e.number; maker = e.maker; stood = e.stood; had_turns = e.turns; had_probes = e.probes; had_faults = e.faults };
       moment_is = c.max-self-inside.ensures;
       devices_are = c.set.ensures.items;
       hands_are = c.set-2.ensures.items;
@@ -71,7 +71,7 @@ returns-clause-out g c =
       chosen = (chosen_here c.self.inside c.args.self.now c.args.r.0 c.args.moment (HandsOut c.args.d c.args.purpose) c.self.view_is c.requires);
       does = c.task-task.ensures ∙ ap (λ s. task_of (configuration_of s) c.args.r.0 (purpose_of c.args.purpose)) (sym c.self.view_is);
       known_is = sym c.get.ensures ∙ ap option_copied c.unwrap-known.ensures;
-      sent = record { at = e.device; after_is = e.places; number_is = e.tickets; does = e.task; device = ap (λ x. x.0) e.number; maker = e.maker; stood = e.stood; had_turns = e.turns; had_probes = e.probes; had_faults = e.faults };
+      sent = record { at = e.device; after_is = e.places; number_is = e.tickets; ticket = e.ticket; does = e.task; device = ap (λ x. x.0) e.number; maker = e.maker; stood = e.stood; had_turns = e.turns; had_probes = e.probes; had_faults = e.faults };
       moment_is = c.max-self-inside.ensures;
       devices_are = c.set.ensures.items;
       hands_are = c.set-2.ensures.items;
@@ -87,7 +87,7 @@ returns-clause-window g c =
       chosen = (chosen_here c.self.inside c.args.self.now c.args.r.0 c.args.moment (HandsOut c.args.d c.args.purpose) c.self.view_is c.requires);
       does = c.task-task.ensures ∙ ap (λ s. task_of (configuration_of s) c.args.r.0 (purpose_of c.args.purpose)) (sym c.self.view_is);
       known_is = sym c.get.ensures ∙ ap option_copied c.unwrap-known.ensures;
-      sent = record { at = e.device; after_is = e.places; number_is = e.tickets; does = e.task; device = ap (λ x. x.0) e.number; maker = e.maker; stood = e.stood; had_turns = e.turns; had_probes = e.probes; had_faults = e.faults };
+      sent = record { at = e.device; after_is = e.places; number_is = e.tickets; ticket = e.ticket; does = e.task; device = ap (λ x. x.0) e.number; maker = e.maker; stood = e.stood; had_turns = e.turns; had_probes = e.probes; had_faults = e.faults };
       moment_is = c.max-self-inside.ensures;
       devices_are = c.set.ensures.items;
       hands_are = c.set-2.ensures.items;

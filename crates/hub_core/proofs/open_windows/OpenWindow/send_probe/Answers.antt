@@ -27,7 +27,7 @@ invariant_of-self g c =
       may = ap (λ s. may_probe (configuration_of s) c.args.d.0) c.self.view_is ∙ c.requires;
       value_is = c.restored-value.ensures ∙ ap (λ s. restored (configuration_of s) c.args.d.0) (sym c.self.view_is);
       known_is = sym c.get.ensures ∙ ap option_copied c.unwrap-known.ensures;
-      sent = record { at = e.device; after_is = e.places; number_is = e.tickets; does = e.task; device = ap (λ x. x.0) e.number; maker = e.maker; stood = e.stood; had_turns = e.turns; had_probes = e.probes; had_faults = e.faults };
+      sent = record { at = e.device; after_is = e.places; number_is = e.tickets; ticket = e.ticket; does = e.task; device = ap (λ x. x.0) e.number; maker = e.maker; stood = e.stood; had_turns = e.turns; had_probes = e.probes; had_faults = e.faults };
       devices_are = c.set.ensures.items;
       new = refl;
     }) c.self.invariant
@@ -40,7 +40,7 @@ returns-clause-probed g c =
       may = ap (λ s. may_probe (configuration_of s) c.args.d.0) c.self.view_is ∙ c.requires;
       value_is = c.restored-value.ensures ∙ ap (λ s. restored (configuration_of s) c.args.d.0) (sym c.self.view_is);
       known_is = sym c.get.ensures ∙ ap option_copied c.unwrap-known.ensures;
-      sent = record { at = e.device; after_is = e.places; number_is = e.tickets; does = e.task; device = ap (λ x. x.0) e.number; maker = e.maker; stood = e.stood; had_turns = e.turns; had_probes = e.probes; had_faults = e.faults };
+      sent = record { at = e.device; after_is = e.places; number_is = e.tickets; ticket = e.ticket; does = e.task; device = ap (λ x. x.0) e.number; maker = e.maker; stood = e.stood; had_turns = e.turns; had_probes = e.probes; had_faults = e.faults };
       devices_are = c.set.ensures.items;
       new = refl;
     }) c.self.invariant).probed
@@ -53,7 +53,7 @@ returns-clause-window g c =
       may = ap (λ s. may_probe (configuration_of s) c.args.d.0) c.self.view_is ∙ c.requires;
       value_is = c.restored-value.ensures ∙ ap (λ s. restored (configuration_of s) c.args.d.0) (sym c.self.view_is);
       known_is = sym c.get.ensures ∙ ap option_copied c.unwrap-known.ensures;
-      sent = record { at = e.device; after_is = e.places; number_is = e.tickets; does = e.task; device = ap (λ x. x.0) e.number; maker = e.maker; stood = e.stood; had_turns = e.turns; had_probes = e.probes; had_faults = e.faults };
+      sent = record { at = e.device; after_is = e.places; number_is = e.tickets; ticket = e.ticket; does = e.task; device = ap (λ x. x.0) e.number; maker = e.maker; stood = e.stood; had_turns = e.turns; had_probes = e.probes; had_faults = e.faults };
       devices_are = c.set.ensures.items;
       new = refl;
     }) c.self.invariant).window

@@ -1,11 +1,11 @@
-use Rattle.hub_core.proofs.calls.HubOrders.{few_whole, standing_whole}
+use Rattle.hub_core.proofs.calls.HubOrders.{bare_whole, few_whole, standing_whole}
 use Rattle.hub_core.proofs.open_windows.OpenWindow.table.Goals as goal
 use Rattle.history_book.specs.Settings.{is_weak}
 use Rattle.hub_core.specs.OpenHubs.{OpenHub, configuration_of}
 use Rattle.lineage_table.specs.Lineages.{accesses_at}
 use Rattle.lock_leasing.specs.Configurations.{read_of}
 use Rattle.lock_leasing.specs.Tables.{Represents}
-use Rattle.std.proofs.Common.{false, length, subst, ◌≡◌, ◌≤◌, ℕ}
+use Rattle.std.proofs.Common.{[], false, length, subst, true, ◌≡◌, ◌≤◌, ℕ}
 
 pub returns-clause-represents : goal.returns-clause-represents
 returns-clause-represents g c =
@@ -20,3 +20,9 @@ returns-clause-few g c =
 
 pub returns-clause-disciplined : goal.returns-clause-disciplined
 returns-clause-disciplined g c = c.kept.ensures
+
+-- under the weak model none
+pub returns-clause-bare : goal.returns-clause-bare
+returns-clause-bare g c =
+    subst (λ (t : OpenHub g.row.D.Denot). is_weak t.setting.mode ≡ true → (d : ℕ) → accesses_at c.self.inside.order.table d ≡ []) c.self.view_is
+    (bare_whole c.self.inside c.self.invariant)

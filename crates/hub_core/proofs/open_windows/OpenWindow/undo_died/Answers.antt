@@ -1,6 +1,7 @@
 use Rattle.command_rules.specs.Rosters.{is_run}
 use Rattle.hub_core.proofs.calls.Deaths.{death_known, death_number, drop_may, drop_place, dropped_back, dropped_entries, dropped_whole, fallen_few}
 use Rattle.hub_core.proofs.calls.HubReturns.{CameHome, back_given, grip_back, hand_back, undo_run, undone_value}
+use Rattle.hub_core.proofs.calls.PackedEntries.{two_packed}
 use Rattle.hub_core.proofs.open_windows.OpenWindow.undo_died.Goals as goal
 use Rattle.hub_core.specs.OpenHubs.{device_at}
 use Rattle.hub_core.specs.ReadHistories.{with_entry}
@@ -53,7 +54,7 @@ returns-clause-given g c =
       falls = c.note_fall-fell.ensures.order;
       number_is = (death_number c.self.inside c.args.self.now c.slip-slip.result c.events.result c.fallen-events.result c.self.view_is c.events.ensures c.fallen-events.ensures);
     }) in
-    (back_given c.self.inside t c.args.self.now c.args.moment c.take_home.result.held c.fallen-events.result (ForUndo value.0) _ c.args.grip _ (record { a = Some c.note_fall-fell.result.entry; b = Some c.undo-entry.result; c = None }) c.self.view_is back (λ i. c.note_fall-fell.ensures.entry i ∷ c.undo-entry.ensures.entry i ∷ []) c.self.invariant).given
+    (back_given c.self.inside t c.args.self.now c.args.moment c.take_home.result.held c.fallen-events.result (ForUndo value.0) _ c.args.grip _ (record { a = Some c.note_fall-fell.result.entry; b = Some c.undo-entry.result; c = None }) c.self.view_is back (λ i. c.note_fall-fell.ensures.entry i ∷ c.undo-entry.ensures.entry i ∷ []) (two_packed _ _) c.self.invariant).given
 
 pub returns-clause-window : goal.returns-clause-window
 returns-clause-window g c =
@@ -68,4 +69,4 @@ returns-clause-window g c =
       falls = c.note_fall-fell.ensures.order;
       number_is = (death_number c.self.inside c.args.self.now c.slip-slip.result c.events.result c.fallen-events.result c.self.view_is c.events.ensures c.fallen-events.ensures);
     }) in
-    (back_given c.self.inside t c.args.self.now c.args.moment c.take_home.result.held c.fallen-events.result (ForUndo value.0) _ c.args.grip _ (record { a = Some c.note_fall-fell.result.entry; b = Some c.undo-entry.result; c = None }) c.self.view_is back (λ i. c.note_fall-fell.ensures.entry i ∷ c.undo-entry.ensures.entry i ∷ []) c.self.invariant).window
+    (back_given c.self.inside t c.args.self.now c.args.moment c.take_home.result.held c.fallen-events.result (ForUndo value.0) _ c.args.grip _ (record { a = Some c.note_fall-fell.result.entry; b = Some c.undo-entry.result; c = None }) c.self.view_is back (λ i. c.note_fall-fell.ensures.entry i ∷ c.undo-entry.ensures.entry i ∷ []) (two_packed _ _) c.self.invariant).window
