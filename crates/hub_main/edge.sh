@@ -115,6 +115,19 @@ ends 1 'script: too many bytes 4194305 of 4194304'
 zeros 67108865 check
 ends 1 'script: too many bytes 67108865 of 67108864'
 
+# a trial reads nothing, nor does a call of refused words: they end the same where there is no standard input
+call='Replay of no standard input'
+"$room/hub_main" Replay <&- >"$room/out" 2>"$room/err"
+got=$?
+ends 2 words
+call='trial of no standard input'
+printf 'trial 2 windows 2 runs 128 committed 128 aborted 0 agree 2\n' >"$room/trial"
+"$room/hub_main" trial 2 <&- >"$room/out" 2>"$room/err"
+got=$?
+if [ "$got" != 0 ] || [ -s "$room/err" ] || ! cmp -s "$room/trial" "$room/out"; then
+    echo "edge: $call: status $got and '$(cat "$room/err")'" >&2
+    failed=1
+fi
 call='replay of no standard input'
 "$room/hub_main" replay <&- >"$room/out" 2>"$room/err"
 got=$?
@@ -168,7 +181,40 @@ for scheduler in jit timeline; do
     plays "$room/record" run --scheduler "$scheduler"
 done
 
-# of a script, the line that divides and the record of its day the record agrees; a trial reads nothing
+# the devices are down where the script says so, in a replay and in a run: a day in which some fail, with its trace, and
+# one of a run whose only device is down in its first call
+kept=$input
+input=$(cat ../../examples/failing.json)
+plays ../../examples/failing.record replay --trace
+input=$(day '{"name":"lamp","states":["off","on"],"start":"off","down":[[1,2]]}' "$light" \
+    '{"at":"2021-04-26T07:00:00","runs":[{"routine":"light"}]}')
+printf '%s\n' 'safehome day' 'model ev fcfs' 'window 1 2021-04-26T07:00:00' 'run 1 light aborted must 1' \
+    'order fail(lamp)' 'home lamp=off!' 'total windows 1 runs 1 committed 0 aborted 1' >"$room/record"
+plays "$room/record" replay
+plays "$room/record" run
+
+# moments are those of a clock that goes: in the last of sixty windows, behind some hundred threads, it is later than in
+# the first
+runs='{"routine":"light"}'
+runs="$runs,$runs,$runs,$runs"
+windows=
+for tens in 0 1 2 3 4 5; do
+    for ones in 0 1 2 3 4 5 6 7 8 9; do
+        windows="$windows${windows:+,}{\"at\":\"2021-04-26T07:$tens$ones:00\",\"runs\":[$runs,$runs]}"
+    done
+done
+input=$(day "$lamp" "$light" "$windows")
+call run --trace
+sed -n 's/^# arrived 1 at //p' "$room/out" >"$room/moments"
+first=$(head -n 1 "$room/moments")
+last=$(tail -n 1 "$room/moments")
+if [ "$got" != 0 ] || [ -s "$room/err" ] || [ "$(wc -l <"$room/moments")" -ne 60 ] || ! [ "$last" -gt "$first" ]; then
+    echo "edge: a run of sixty windows: status $got, from '$first' to '$last'" >&2
+    failed=1
+fi
+input=$kept
+
+# of a script, the line that divides and the record of its day the record agrees
 input="$input
 %%
 $(cat stdout)
@@ -198,6 +244,5 @@ script "$(block '{' | sed 's/"on": "lamp"/"on": "lmap"/; s/"at": "[^"]*"/"at": "
     'script: unknown name command 1.1'
 script '{' 'script: not json'
 
-printf 'trial 2 windows 2 runs 128 committed 128 aborted 0 agree 2\n' >"$room/trial"
 plays "$room/trial" trial 2
 exit "$failed"

@@ -7,12 +7,10 @@ use Rattle.lineage_laws.proofs.Sweeps.{writes_nothing}
 use Rattle.lineage_table.specs.Accesses.{IsDisciplined, effective_writer, has_access}
 use Rattle.lineage_table.specs.Lineages.{LineageState, accesses_at, lineage_at}
 use Rattle.std.proofs.Common.{Bool, List, None, Option, Some, ap, arith, cond, false, length, refl, subst, suc, sym, true, zero, ℕ, ◌+◌, ◌<◌, ◌∙◌, ◌≡◌, ◌≤◌}
+use Rattle.std.proofs.lemmas.Bool.{both_ways, eq-eqb}
 use Rattle.std.proofs.lemmas.Grind.{common_steps}
 use Rattle.std.specs.List.{range_with_len}
 use Rattle.std.specs.Prelude.{find, if◌then◌else◌, option_map, nat_lt, unwrap_or, ◌==◌, ◌≢◌}
-
-two : (b : Bool) → b ≡ true → b ≡ false → ⊥
-two b s t = cc
 
 -- the number passes, and none of the range before it
 first_from : (p : ℕ → Bool) (a n d : ℕ) → a ≤ d → d < a + n → p d ≡ true → ((e : ℕ) → e < d → p e ≡ false) → find p (range_with_len a n) ≡ Some d
@@ -80,15 +78,12 @@ pub nothing_effective : (table : List LineageState) (r : RunNo) → next_undo ta
 nothing_effective table r finished d within writes = at (first_effective table r.0) refl
   where
     own : has_effective_write table r.0 d ≡ true
-    own = ap (λ o. unwrap_or (option_map (λ q. q.0 == r.0) o) false) writes ∙ itself r.0
-      where
-        itself : (k : ℕ) → (k == k) ≡ true
-        itself k = grind (arith, common_steps)
+    own = ap (λ o. unwrap_or (option_map (λ q. q.0 == r.0) o) false) writes ∙ (eq-eqb r.0 r.0 refl)
 
     undoes : (b : Bool) (k v : ℕ) → (if b then Drive (device_no k) v else Drop (device_no k)) ≡ Finished → ⊥
     undoes true k v e = cc
     undoes false k v e = cc
 
     at : (o : Option ℕ) → first_effective table r.0 ≡ o → ⊥
-    at None e = two (has_effective_write table r.0 d) own (none_from (has_effective_write table r.0) 0 (length table) e d (omega arith) (omega (arith, within)))
+    at None e = both_ways (has_effective_write table r.0 d) (none_from (has_effective_write table r.0) 0 (length table) e d (omega arith) (omega (arith, within))) own
     at (Some k) e = undoes (lineage_at table k).up k _ (ap (λ o. unwrap_or (option_map (undo_on table r.0) o) Finished) (sym e) ∙ finished)

@@ -1,3 +1,4 @@
+//! The next undo of a run: on which device, and whether the device is driven back or its write is dropped.
 ghost use Rattle.std.specs.Prelude.{◌≡◌, ◌<◌, length};
 ghost use Rattle.abort_rollback.specs.Undos.{next_undo, undo_on};
 

@@ -1,3 +1,4 @@
+//! An aborted run leaves the lineage table.
 ghost use Rattle.std.specs.Prelude.{◌≡◌, ◌<◌, ℕ, length};
 ghost use Rattle.abort_rollback.specs.Undos.{next_undo};
 ghost use Rattle.lineage_laws.specs.Laws.{stand_of};

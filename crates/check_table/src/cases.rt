@@ -1,3 +1,4 @@
+//! A case of the table: a script, and a record to judge by it.
 use std::alloc::{AllocError, Global};
 
 /// Why a line of the table was not added to its case.

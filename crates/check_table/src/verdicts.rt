@@ -1,3 +1,4 @@
+//! A verdict, as one line of the output.
 ghost use Rattle.std.specs.Prelude.{IfOk};
 ghost use Rattle.routine_reader.specs.Scripts.{plain_script};
 ghost use Rattle.routine_reader.specs.Sound.{IsSound};

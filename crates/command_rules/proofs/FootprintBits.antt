@@ -1,4 +1,5 @@
 -- A footprint is made from the last command on.
+use Rattle.command_rules.proofs.FirstUses.{CoversUses}
 use Rattle.command_rules.specs.Footprints.{AreFootprints, IsFootprint, ends_use}
 use Rattle.command_rules.specs.Rosters.{Run, commands_of, is_on, no_command}
 use Rattle.command_rules.specs.declared.indexed_rosters.Footprint.{Footprint}
@@ -29,10 +30,6 @@ covers_none cs = let all : length cs ≡ length cs - 0 = omega arith in subst (�
   lasts = λ k low high. absurd (omega (arith, low, high));
   unset = λ k low. bit_at-zero k;
 })
-
--- each command is passed
-pub covers_all : (cs : List Command) (devices : Devices) (lasts : ℕ) → Covers cs 0 devices lasts → IsFootprint cs (record { devices = devices; lasts = lasts })
-covers_all cs devices lasts all = record { devices = all.devices; lasts = λ k within. all.lasts k (omega arith) within }
 
 module _ (cs : List Command) (i : ℕ) (within : i < length cs) (devices : Devices) (lasts : ℕ) (old : Covers cs (suc i) devices lasts) where
   abbrev pub its_device : ℕ

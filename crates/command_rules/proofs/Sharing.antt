@@ -5,13 +5,10 @@ use Rattle.command_rules.specs.declared.indexed_rosters.Footprint.{Footprint}
 use Rattle.home_types.specs.DeviceSets.{Meet}
 use Rattle.home_types.specs.declared.commands.Command.{Command}
 use Rattle.std.proofs.Common.{arith, refl, subst, sym, ◌∙◌}
+use Rattle.std.proofs.lemmas.Bool.{or_right}
 use Rattle.std.proofs.lemmas.Grind.{common_steps}
 use Rattle.std.specs.List.{list_any}
 use Rattle.std.specs.Prelude.{Bool, IsTrue, List, [], false, true, ℕ, ◌==◌, ◌||◌, ◌∷◌, ◌≡◌}
-
-or_right : (a b : Bool) → b ≡ true → (a || b) ≡ true
-or_right true b e = refl
-or_right false b e = e
 
 -- a device in both lists
 shared : (cs others : List Command) (d : ℕ) → list_any (is_on d) cs ≡ true → list_any (is_on d) others ≡ true → list_any (λ (c : Command). list_any (is_on c.device.0) others) cs ≡ true

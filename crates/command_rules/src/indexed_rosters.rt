@@ -1,21 +1,28 @@
-ghost use Rattle.std.specs.Prelude.{◌≡◌, ◌<◌, ◌≤◌, IfOk, IsTrue, Some, length, option_map, slice_get, ℕ};
+//! A roster with the footprint of each run, made once: its devices as bits, and which commands are the last ones there.
+ghost use Rattle.std.specs.Prelude.{◌≡◌, ◌<◌, ◌≤◌, ◌&&◌, IfOk, IsTrue, Some, length, option_map, slice_get, ℕ};
 ghost use Rattle.command_rules.specs.Footprints.{FitsIndex, IsFootprint};
-ghost use Rattle.command_rules.specs.Rosters.{commands_of, is_last, is_run, runs_of, shares, touches};
+ghost use Rattle.command_rules.specs.Rosters.{commands_of, is_last, is_run, reads_first, runs_of, shares, touches, writes_on};
 ghost use Rattle.home_types.specs.DeviceSets.{IsFirstFrom};
 ghost use Rattle.std.specs.FinSet as set;
 ghost use Rattle.home_types.specs.Limits.{most_commands, most_devices};
 
+use crate::jobs::reads;
 use crate::rosters::Roster;
 use home_types::{Command, DeviceNo, DeviceSet, List, NoMemory, RunNo};
 use std::alloc::Global;
 use std::marker::Model;
 
-/// The devices of a run's commands, and which of its commands are the last ones on their devices.
+/// The devices of a run's commands, which of its commands are the last ones on their devices, and which of its devices it
+/// reads first and writes.
 #[derive(Drop)]
 pub(crate) struct Footprint {
     devices: DeviceSet,
     /// A bit for each command, the lowest for the first one.
     lasts: u64,
+    /// The devices that it reads first.
+    first_reads: DeviceSet,
+    /// The devices that it writes.
+    written: DeviceSet,
 }
 
 /// The runs of an open window, with the footprint of each, made once and never changed: no call goes over the commands
@@ -123,6 +130,24 @@ impl IndexedRoster {
         self.footprint(r).devices.next(from)
     }
 
+    /// Whether `r` reads the device `d` first.
+    pub fn reads_first(&self, r: RunNo, d: DeviceNo) -> bool
+        requires { IsTrue (is_run (runs_of self.now) r.0) }
+        ensures { result ≡ reads_first (runs_of self.now) r.0 d.0 }
+    {
+        self.footprint(r).first_reads.has(d)
+    }
+
+    /// The devices that `r` reads first and `x` writes.
+    pub fn first_reads_of(&self, r: RunNo, x: RunNo) -> DeviceSet
+        requires reader { IsTrue (is_run (runs_of self.now) r.0) }
+        requires writer { IsTrue (is_run (runs_of self.now) x.0) }
+        ensures { (d : ℕ) → set.contains result d ≡ (reads_first (runs_of self.now) r.0 d && writes_on (runs_of self.now) x.0 d) }
+    {
+        let written = &self.footprint(x).written;
+        self.footprint(r).first_reads.both(written)
+    }
+
     /// The footprint of the run.
     fn footprint(&self, r: RunNo) -> &Footprint
         requires { IsTrue (is_run (runs_of self.now) r.0) }
@@ -134,7 +159,7 @@ impl IndexedRoster {
 }
 
 /// The footprint of a run with these commands. Goes over them from the last one on: a command is the last one on its
-/// device where no later one is there.
+/// device where no later one is there, and the first one where no earlier one is.
 fn footprint_of(commands: &[Command]) -> Footprint
     requires few { length commands.now ≤ most_commands }
     requires low { (k : ℕ) (c : Command) → slice_get commands.now k ≡ Some c → c.device.0 < most_devices }
@@ -142,13 +167,26 @@ fn footprint_of(commands: &[Command]) -> Footprint
 {
     let mut devices = DeviceSet::none();
     let mut lasts: u64 = 0;
+    let mut first_reads = DeviceSet::none();
+    let mut written = DeviceSet::none();
     'commands: for passed in 0..commands.len() {
         let k = commands.len() - 1 - passed;
         let device = commands[k].device;
+        if reads(commands[k].job) {
+            first_reads.add(device);
+        } else {
+            first_reads.remove(device);
+            written.add(device);
+        }
         if !devices.has(device) {
             devices.add(device);
             lasts |= 1 << k;
         }
     }
-    Footprint { devices, lasts }
+    Footprint {
+        devices,
+        lasts,
+        first_reads,
+        written,
+    }
 }

@@ -5,8 +5,6 @@ pub mod footprints;
 mod indexed_rosters;
 pub mod jobs;
 mod rosters;
-#[cfg(test)]
-mod tests;
 
 pub use indexed_rosters::IndexedRoster;
 pub use jobs::{driven, fails, reads, register_after, writes};

@@ -1,6 +1,6 @@
 -- The command line by its command.
 use Rattle.command_words.specs.CommandLines.{command_line_of, command_of}
-use Rattle.command_words.specs.OptionWords.{options_of}
+use Rattle.command_words.specs.OptionGrammar.{options_by_words}
 use Rattle.command_words.specs.declared.command_lines.CommandLine.TheVariants.{Replay, Run}
 use Rattle.command_words.specs.declared.command_lines.Options.{Options}
 use Rattle.std.proofs.Common.{List, Option, [], ap, ap₂, arith, codes, drop, length, map, option_map, refl, sym, take, ℕ, ◌-◌, ◌≡◌, ◌≤◌, ◌∙◌, ◌∷◌}
@@ -18,14 +18,14 @@ module _ {X : Type 0} (bytes : X → List ℕ) where
   command_split (w ∷ ws) word some is =
       ap₂ command_of (ap bytes (sym is)) (ap (map bytes) (sym (take_rest (w ∷ ws) 1)))
 
-  run_read : (words : List (List ℕ)) → command_of (codes "run") words ≡ option_map Run (options_of words)
+  run_read : (words : List (List ℕ)) → command_of (codes "run") words ≡ option_map Run (options_by_words words)
   run_read words = refl
 
-  replay_read : (words : List (List ℕ)) → command_of (codes "replay") words ≡ option_map Replay (options_of words)
+  replay_read : (words : List (List ℕ)) → command_of (codes "replay") words ≡ option_map Replay (options_by_words words)
   replay_read words = refl
 
   module _ (words : List X) (word : X) (said : List ℕ) (some : 1 ≤ length words) (is : word ≡ slice_index_or words 0 word)
-      (told : said ≡ bytes word) (options : Option Options) (given : options_of (Rest words) ≡ options) where
+      (told : said ≡ bytes word) (options : Option Options) (given : options_by_words (Rest words) ≡ options) where
     pub run_means : said ≡ codes "run" → command_line_of (map bytes words) ≡ option_map Run options
     run_means run =
         command_split words word some is ∙ ap (λ w. command_of w (Rest words)) (sym told ∙ run) ∙ run_read (Rest words)

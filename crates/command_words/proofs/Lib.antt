@@ -1,4 +1,11 @@
 pub mod CommandLineLemmas
+pub mod DueValues
+pub mod GrammarLemmas
+pub mod OptionLaw
 pub mod OptionLemmas
+pub mod OptionRows
+pub mod OptionSteps
 pub mod PairedModes
 pub mod TrialLemmas
+pub mod WalkedOptions
+pub mod WordShapes

@@ -1,15 +1,15 @@
 -- A command line has no mode but one whose scheduler goes with its model.
 use Rattle.command_words.specs.CommandLines.{check_of, command_line_of, trial_of}
-use Rattle.command_words.specs.OptionWords.{goes_with, has_end_mark, options_of, options_read, paired, unless_refused}
+use Rattle.command_words.specs.OptionGrammar.{Given, Valued, nothing_given, options_after, options_by_words, options_given, with_word}
+use Rattle.command_words.specs.OptionWords.{goes_with, mode_of, model_of, paired, scheduler_of}
 use Rattle.command_words.specs.TrialNumbers.{number_of}
 use Rattle.command_words.specs.declared.command_lines.CommandLine.TheVariants.{Check, Replay, Run, Trial}
 use Rattle.command_words.specs.declared.command_lines.CommandLine.{CommandLine}
 use Rattle.command_words.specs.declared.command_lines.Options.{Options}
-use Rattle.clap.specs.Kinds.{Kinds}
 use Rattle.home_types.specs.declared.modes.Mode.{Mode}
 use Rattle.home_types.specs.declared.modes.Scheduler.{Scheduler}
 use Rattle.home_types.specs.declared.modes.Visibility.{Visibility}
-use Rattle.std.proofs.Common.{Bool, List, None, Option, Some, [], codes, false, if◌then◌else◌, option_map, refl, subst, true, ℕ, ◌≡◌, ◌∷◌}
+use Rattle.std.proofs.Common.{Bool, List, None, Option, Some, [], codes, false, if◌then◌else◌, is_some, option_map, refl, subst, true, ℕ, ◌≡◌, ◌∷◌}
 use Rattle.std.specs.Prelude.{option_and_then, ⊤}
 use Rattle.std.specs.Str.{bytes_eq}
 
@@ -37,24 +37,31 @@ mode_goes (Some model) (Some scheduler) trace options is = by_mode (paired model
     by_mode None none found = absurd (cc)
     by_mode (Some mode) some found = let same : record { mode = mode; trace = trace } ≡ options = cc in subst (λ (x : Options). goes_with x.mode.scheduler x.mode.model ≡ true) same (pair_goes model scheduler mode some)
 
-not_refused : (ks : Kinds) (o : Option Options) (options : Options) → unless_refused ks o ≡ Some options → o ≡ Some options
-not_refused [] o options is = is
-not_refused (k ∷ ks) o options is = absurd (cc)
+given_go : (given : Given) (options : Options) → options_given given ≡ Some options → goes_with options.mode.scheduler options.mode.model ≡ true
+given_go given options is = by_due given.due is
+  where
+    by_due : (due : Option Valued)
+        → (if is_some due then None else option_map (λ mode. record { mode = mode; trace = given.trace }) (mode_of given.model given.scheduler)) ≡ Some options
+        → goes_with options.mode.scheduler options.mode.model ≡ true
+    by_due None found = mode_goes (model_of given.model) (scheduler_of given.scheduler) given.trace options found
+    by_due (Some option) found = absurd (cc)
 
-not_marked : (b : Bool) (o : Option Options) (options : Options) → (if b then None else o) ≡ Some options → o ≡ Some options
-not_marked true o options is = absurd (cc)
-not_marked false o options is = is
-
-options_go : (words : List (List ℕ)) (options : Options) → options_of words ≡ Some options → goes_with options.mode.scheduler options.mode.model ≡ true
-options_go words options is = mode_goes _ _ _ options (not_refused _ _ options (not_marked (has_end_mark words) (options_read words) options is))
+options_go : (words : List (List ℕ)) (given : Given) (options : Options) → options_after given words ≡ Some options → goes_with options.mode.scheduler options.mode.model ≡ true
+options_go [] given options is = given_go given options is
+options_go (word ∷ words) given options is = by_word (λ g more. options_go words g options more) (with_word given.due word given) is
+  where
+    by_word : ((g : Given) → options_after g words ≡ Some options → goes_with options.mode.scheduler options.mode.model ≡ true)
+        → (o : Option Given) → option_and_then (λ g. options_after g words) o ≡ Some options → goes_with options.mode.scheduler options.mode.model ≡ true
+    by_word goes None found = absurd (cc)
+    by_word goes (Some g) found = goes g found
 
 read_goes : (make : Options → CommandLine) (words : List (List ℕ)) (line : CommandLine) → ((options : Options) → goes_with options.mode.scheduler options.mode.model ≡ true → IsPaired (make options))
-    → option_map make (options_of words) ≡ Some line → IsPaired line
-read_goes make words line paired_by is = by_options (options_of words) refl is
+    → option_map make (options_by_words words) ≡ Some line → IsPaired line
+read_goes make words line paired_by is = by_options (options_by_words words) refl is
   where
-    by_options : (o : Option Options) → options_of words ≡ o → option_map make o ≡ Some line → IsPaired line
+    by_options : (o : Option Options) → options_by_words words ≡ o → option_map make o ≡ Some line → IsPaired line
     by_options None none found = absurd (cc)
-    by_options (Some options) some found = let same : make options ≡ line = cc in subst IsPaired same (paired_by options (options_go words options some))
+    by_options (Some options) some found = let same : make options ≡ line = cc in subst IsPaired same (paired_by options (options_go words nothing_given options some))
 
 check_goes : (words : List (List ℕ)) (line : CommandLine) → check_of words ≡ Some line → IsPaired line
 check_goes [] line is = let same : Check ≡ line = cc in subst IsPaired same tt
@@ -70,7 +77,7 @@ trial_goes (word ∷ []) line is = by_number (number_of word) is
 trial_goes (word ∷ next ∷ words) line is = absurd (cc)
 
 command_goes : (run replay check trial : Bool) (words : List (List ℕ)) (line : CommandLine)
-    → (if run then option_map Run (options_of words) else (if replay then option_map Replay (options_of words) else (if check then check_of words else (if trial then trial_of words else None)))) ≡ Some line → IsPaired line
+    → (if run then option_map Run (options_by_words words) else (if replay then option_map Replay (options_by_words words) else (if check then check_of words else (if trial then trial_of words else None)))) ≡ Some line → IsPaired line
 command_goes true replay check trial words line is = read_goes Run words line (λ options goes. goes) is
 command_goes false true check trial words line is = read_goes Replay words line (λ options goes. goes) is
 command_goes false false true trial words line is = check_goes words line is

@@ -1,5 +1,5 @@
 -- The command line that words are.
-use Rattle.command_words.specs.OptionWords.{options_of}
+use Rattle.command_words.specs.OptionGrammar.{options_by_words}
 use Rattle.command_words.specs.TrialNumbers.{number_of}
 use Rattle.command_words.specs.declared.command_lines.CommandLine.TheVariants.{Check, Replay, Run, Trial}
 use Rattle.command_words.specs.declared.command_lines.CommandLine.{CommandLine}
@@ -20,8 +20,8 @@ trial_of (word ∷ next ∷ words) = None
 -- what a command means with the words after it
 abbrev pub command_of : List ℕ → List (List ℕ) → Option CommandLine
 command_of command words =
-    if bytes_eq command (codes "run") then option_map Run (options_of words)
-    else (if bytes_eq command (codes "replay") then option_map Replay (options_of words)
+    if bytes_eq command (codes "run") then option_map Run (options_by_words words)
+    else (if bytes_eq command (codes "replay") then option_map Replay (options_by_words words)
     else (if bytes_eq command (codes "check") then check_of words
     else (if bytes_eq command (codes "trial") then trial_of words else None)))
 

@@ -1,3 +1,4 @@
 pub mod CommandLines
+pub mod OptionGrammar
 pub mod OptionWords
 pub mod TrialNumbers

@@ -1,3 +1,4 @@
+//! What a command line asks for, and why one is refused.
 use home_types::Mode;
 
 /// What the words of a command line ask for.

@@ -1,5 +1,7 @@
+//! The options of a day, read by `clap`: the model, the scheduler and the trace.
 ghost use Rattle.clap.specs.Words.{app_of, found_of};
-ghost use Rattle.command_words.specs.OptionWords.{goes_with, mode_of, model_of, options_app, options_found, options_of, options_read, options_with, scheduler_of, trace_of};
+ghost use Rattle.command_words.specs.OptionGrammar.{options_by_words};
+ghost use Rattle.command_words.specs.OptionWords.{goes_with, mode_of, model_of, options_app, options_found, options_read, options_with, scheduler_of, trace_of};
 ghost use Rattle.std.specs.List.{list_any};
 ghost use Rattle.std.specs.Str.{bytes_eq};
 ghost use Rattle.std.specs.Prelude.{◌≡◌, codes, Err, IfOk, None, Some, map, option_map, string_bytes};
@@ -14,8 +16,8 @@ use std::alloc::Global;
 ///
 /// Answers `Words` where they are not of the format, and `NoMemory` where memory is wanted.
 pub fn read_options(alloc: Global, words: &[String]) -> Result<Options, WordFault>
-    ensures meaning { IfOk result (λ options. options_of (map string_bytes words.now) ≡ Some options) }
-    ensures refused { result ≡ Err WordFault.Words → options_of (map string_bytes words.now) ≡ None }
+    ensures meaning { IfOk result (λ options. options_by_words (map string_bytes words.now) ≡ Some options) }
+    ensures refused { result ≡ Err WordFault.Words → options_by_words (map string_bytes words.now) ≡ None }
 {
     if has_end_mark(words) {
         return Err(WordFault::Words);

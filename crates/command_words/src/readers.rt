@@ -1,3 +1,4 @@
+//! The words of a command line, read whole.
 ghost use Rattle.command_words.specs.CommandLines.{check_of, command_line_of, has_options, trial_of};
 ghost use Rattle.std.specs.Prelude.{◌≡◌, Err, IfOk, None, Some, map, string_bytes, true};
 

@@ -1,3 +1,4 @@
+//! The number of a trial, read from its word.
 ghost use Rattle.command_words.specs.TrialNumbers.{is_digit, is_numeral, number_of};
 ghost use Rattle.std.specs.List.{list_all};
 ghost use Rattle.std.specs.Prelude.{◌≡◌};

@@ -1,3 +1,4 @@
+//! The commit of a run: what is left of the lineage of each device that it has used.
 ghost use Rattle.std.specs.Prelude.{◌≡◌, ◌<◌, ℕ, length};
 ghost use Rattle.lineage_laws.specs.Laws.{stand_of};
 ghost use Rattle.lineage_table.specs.Lineages.{committed_lineage, lineage_at, with_lineage};

@@ -1,3 +1,4 @@
+//! A sink in memory, which fails in the calls that it is told.
 ghost use Rattle.std.specs.Prelude.{◌≡◌, ◌<◌, ◌≤◌, ◌++◌, [], length, take, IfOk};
 
 use crate::call_plans::CallPlan;

@@ -1,3 +1,4 @@
+//! A source in memory, which fails in the calls that it is told.
 ghost use Rattle.std.specs.Prelude.{◌≡◌, ◌<◌, ◌≤◌, ◌++◌, [], length, drop, take, IfOk, OnErr};
 
 use crate::call_plans::CallPlan;

@@ -1,3 +1,4 @@
+//! Which calls of a source or a sink in memory fail.
 ghost use Rattle.std.specs.Prelude.{◌≡◌};
 ghost use Rattle.day_clock.specs.CallPlans.{after_call, fails_next, fresh_plan};
 

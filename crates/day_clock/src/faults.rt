@@ -1,3 +1,4 @@
+//! A failed call of a source or a sink, and the count of such calls.
 ghost use Rattle.std.specs.Prelude.{◌≡◌, ◌+◌};
 
 use std::marker::Model;

@@ -12,8 +12,6 @@ mod sources;
 mod std_clocks;
 mod std_sinks;
 mod std_sources;
-#[cfg(test)]
-mod tests;
 pub mod times;
 
 pub use bytes_sinks::BytesSink;

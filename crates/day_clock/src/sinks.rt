@@ -1,3 +1,4 @@
+//! Where bytes go, and how all bytes of a text are written.
 ghost use Rattle.std.specs.Prelude.{◌≡◌, ◌<◌, ◌≤◌, ℕ, List, Option, length, take, IfOk, OnOk, OnErr};
 ghost use Rattle.std.specs.Io.KnownBytes.{Appends, Keeps};
 ghost use Rattle.day_clock.specs.Sinks.{AppendsPart};

@@ -1,3 +1,4 @@
+//! Where bytes come from, and how a source is read to its end within a limit.
 ghost use Rattle.std.specs.Prelude.{◌≡◌, ◌+◌, ◌<◌, ◌≤◌, ℕ, List, Option, length, take, IfOk, IfSome, OnOk, OnErr, IsErrOf, vec_len};
 ghost use Rattle.std.specs.Io.KnownBytes.{Consumes, IsAtEnd, Keeps};
 ghost use Rattle.day_clock.specs.Sources.{CountsFaults, TakesCount, TakesUpTo};

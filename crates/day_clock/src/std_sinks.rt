@@ -1,3 +1,4 @@
+//! The standard output as a sink.
 ghost use Rattle.std.specs.Prelude.{◌≡◌};
 
 use crate::faults::{Failed, FaultCount};

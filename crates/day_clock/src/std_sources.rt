@@ -1,3 +1,4 @@
+//! The standard input as a source.
 ghost use Rattle.std.specs.Prelude.{◌≡◌};
 
 use crate::faults::{Failed, FaultCount};

@@ -1,3 +1,4 @@
+//! A time of day, read as `jiff` reads one.
 ghost use Rattle.std.specs.Prelude.{◌≡◌, IfOk};
 ghost use Rattle.day_clock.specs.Times.{IsCivilTime, read_as_option, time_of};
 

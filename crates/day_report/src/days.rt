@@ -17,7 +17,7 @@ pub fn head_text(alloc: Global, mode: Mode) -> Result<Bytes, NoMemory>
     let model = model_word(mode.model);
     let scheduler = scheduler_word(mode.scheduler);
     match format!(in alloc; "safehome day\nmodel {model} {scheduler}\n") {
-        Ok(text) => Bytes::of(alloc, text.as_bytes()),
+        Ok(text) => Ok(Bytes::from_text(text)),
         Err(_) => Err(NoMemory),
     }
 }
@@ -67,7 +67,7 @@ pub fn window_text(
             Err(_) => return Err(NoMemory),
         }
     }
-    Bytes::of(alloc, text.as_bytes())
+    Ok(Bytes::from_text(text))
 }
 
 #[tactic(auto, unfolding(crate::specs::Days::window_lines))]
@@ -99,7 +99,7 @@ pub fn total_text(alloc: Global, windows: &List<WindowRecord>) -> Result<Bytes, 
 {
     let mut text = String::new(alloc);
     match push_total(&mut text, windows.as_slice()) {
-        Ok(()) => Bytes::of(alloc, text.as_bytes()),
+        Ok(()) => Ok(Bytes::from_text(text)),
         Err(_) => Err(NoMemory),
     }
 }

@@ -10,7 +10,7 @@ use crate::run_entries::entries_by_run;
 use crate::words::{push_answer, push_cause, push_value};
 use day_clock::When;
 use history_book::{End, Entry, Kept};
-use home_types::{Item, Stand, Visibility, World};
+use home_types::{Answer, Item, Stand, Visibility, World};
 use routine_reader::{DeviceText, RunText, Script, WindowText};
 use std::alloc::{AllocError, Global};
 use std::fmt::Write;
@@ -115,7 +115,7 @@ fn end_of(run: u64, history: &[Kept]) -> Option<End>
 }
 
 /// Appends the answer of an entry, where it is one of the run.
-#[tactic(auto, unfolding(crate::specs::Lines::answer_word))]
+#[tactic(auto, unfolding(crate::specs::Lines::answer_word, crate::specs::Words::answer_text))]
 fn push_answer_of(
     text: &mut String,
     script: &Script,
@@ -128,7 +128,13 @@ fn push_answer_of(
     match entry {
         Entry::Did(asked, command, answer) if asked.0 as u64 == run => {
             text.push_str(" ")?;
-            push_answer(text, states_of(script, window, run, command), answer)
+            match answer {
+                // the device's states are looked up for a value alone
+                Answer::Found(value) => {
+                    push_value(text, states_of(script, window, run, command), value)
+                }
+                _ => push_answer(text, &[], answer),
+            }
         }
         _ => Ok(()),
     }

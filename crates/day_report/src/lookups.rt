@@ -60,7 +60,7 @@ pub fn device_of<'a>(
 {
     let run = run_at(window, run)?;
     let routine = routine_at(script, run.routine)?;
-    let command = routine.routine.commands.get(command as u64)?;
+    let command = routine.routine.commands.as_slice().get(command as usize)?;
     device_at(script, command.device)
 }
 

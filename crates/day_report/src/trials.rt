@@ -20,7 +20,7 @@ pub fn trial_text(
 {
     let mut text = String::new(alloc);
     match push_trial(&mut text, number, windows.as_slice(), agree) {
-        Ok(()) => Bytes::of(alloc, text.as_bytes()),
+        Ok(()) => Ok(Bytes::from_text(text)),
         Err(_) => Err(NoMemory),
     }
 }

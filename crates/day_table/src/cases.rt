@@ -1,3 +1,4 @@
+//! A case of the table: the words, the input, and the calls that fail.
 use std::alloc::{AllocError, Global};
 
 /// Why a line of the table was not added to its case.

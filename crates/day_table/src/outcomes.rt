@@ -1,3 +1,4 @@
+//! The call of a case, and what came of it, as lines of the output.
 use crate::cases::{Before, Behaviour, Case, copy_of};
 use day_clock::{BytesSink, BytesSource, Source};
 use device_states::{Device, SimBench};

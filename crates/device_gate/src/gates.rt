@@ -1,3 +1,4 @@
+//! The places of the devices of a home: each is there, or out with a grip.
 ghost use Rattle.std.specs.Prelude.{◌≡◌, ◌+◌, ◌<◌, ◌≤◌, ◌^◌, ◌↔◌, ℕ, IfErr, IfNone, IfOk, IfSome, IsTrue, length, slice_get, slice_set};
 ghost use Rattle.device_gate.specs.Calls.{is_counted_up};
 ghost use Rattle.device_gate.specs.Grips.{WasCalled};
@@ -95,13 +96,6 @@ impl<D: Device> Gate<D> {
         ensures { (d : ℕ) (device : D) → slice_get self.now.places d ≡ Some (Place.Home device) → D.tag device ≡ d }
     {
         let _ = &self.tickets;
-    }
-
-    /// How many devices the gate has.
-    pub fn len(&self) -> u64
-        ensures { result ≡ length self.now.places }
-    {
-        self.places.len() as u64
     }
 
     /// Whether the gate has the device, and it is home.

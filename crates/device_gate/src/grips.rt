@@ -1,3 +1,4 @@
+//! The grip of a device: made ready for one task, done by one call, spent by giving it back.
 ghost use Rattle.std.specs.Prelude.{◌≡◌, ◌+◌, ℕ, IfSome, IsTrue};
 ghost use Rattle.device_states.specs.Devices.{HasRoom};
 ghost use Rattle.device_gate.specs.Calls.{answered, failed, may_tell, probed, stands_after};

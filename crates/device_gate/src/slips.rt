@@ -1,3 +1,4 @@
+//! What a grip was handed out for, and what its call told.
 use home_types::{DeviceNo, Value};
 
 /// What was known of a device when it left the gate.

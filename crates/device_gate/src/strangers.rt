@@ -1,3 +1,4 @@
+//! Why a grip is not taken back: what is kept of its device.
 use crate::slips::Slip;
 
 /// Why a grip is not taken back: it is not the one that is out.

@@ -1,3 +1,4 @@
+-- An aborted run leaves the order of a device.
 use Rattle.device_order.proofs.Below.{Below, Under, under}
 use Rattle.device_order.proofs.Effects.{Alike, alike, overwritten}
 use Rattle.device_order.proofs.Lists.{walk_join, end_join}

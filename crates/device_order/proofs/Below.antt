@@ -1,3 +1,4 @@
+-- A walk of which less is seen than of another one.
 use Rattle.device_order.specs.Usages.{awaits_first, has_committed_write, has_live_write, is_open, is_restart, spans_up}
 use Rattle.device_order.specs.Walks.{UsageFits, WalkHolds, WalkState, after_usage, is_command_out, is_home, out_after, walk_end}
 use Rattle.device_order.specs.declared.records.OrderEntry.TheVariants.{Occurred, Used}

@@ -1,3 +1,4 @@
+-- Each kind of change on a device keeps its invariant.
 use Rattle.device_order.proofs.Answers.{write_ok, read_ok, dead_first, dead_later}
 use Rattle.device_order.proofs.Claims.{settled_front}
 use Rattle.device_order.proofs.Commands.{go}

@@ -1,3 +1,4 @@
+-- A command goes out.
 use Rattle.device_order.proofs.Effects.{out_free}
 use Rattle.device_order.proofs.Lists.{has_front, has_back, has_head, opened_end}
 use Rattle.device_order.proofs.Parts.{Cut, cut, Put, put}

@@ -1,3 +1,4 @@
+-- A command is answered Down with no call.
 use Rattle.device_order.proofs.Answers.{tidy_front, waits_up}
 use Rattle.device_order.proofs.Below.{Below}
 use Rattle.device_order.proofs.Commands.{home_front, shut_front, open_blocks}

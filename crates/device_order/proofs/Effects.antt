@@ -1,9 +1,11 @@
+-- The writes of an order: which one is in effect, and what undos and grips leave of it.
 use Rattle.device_order.specs.Usages.{has_effect, has_grip, has_write, is_restart, spans_up}
 use Rattle.device_order.specs.Walks.{Commands, GripOut, Home, Undo, UsageFits, WalkHolds, WalkState, after_usage, has, if_written, is_command_out, is_home, walk_end}
 use Rattle.device_order.specs.declared.records.OrderEntry.TheVariants.{Occurred, Used}
 use Rattle.device_order.specs.declared.records.OrderEntry.{OrderEntry}
 use Rattle.device_order.specs.declared.records.Usage.{Usage}
 use Rattle.std.proofs.Common.{◌≡◌, Bool, true, false, List, [], ◌∷◌, arith, refl, ap, ◌∙◌, sym, subst}
+use Rattle.std.proofs.lemmas.Bool.{both_ways, or_from, or_parts}
 use Rattle.std.proofs.lemmas.Grind.{common_steps}
 use Rattle.std.specs.Prelude.{◌||◌}
 
@@ -22,33 +24,21 @@ alike s t [] r = r
 alike s t (Occurred e ∷ b) r = alike (record s { up = is_restart e }) (record t { up = is_restart e }) b (record { stand = r.stand; settled = r.settled; undoing = r.undoing })
 alike s t (Used c ∷ b) r = alike (after_usage s c) (after_usage t c) b (alike_next s t c r)
 
-either : (a b : Bool) → (a || b) ≡ false → (a ≡ false) × (b ≡ false)
-either a b h = grind (arith, common_steps)
-
 -- where no write is in effect, the stand stays
 pub unmoved : (s : WalkState) (b : List OrderEntry) → has has_effect b ≡ false → (walk_end s b).stand ≡ s.stand
 unfolding walk_end has
 unmoved s [] h = refl
 unmoved s (Occurred e ∷ b) h = unmoved (record s { up = is_restart e }) b h
-unmoved s (Used c ∷ b) h = let p = either (has_effect c) (has has_effect b) h in unmoved (after_usage s c) b p.1 ∙ one s c p.0
+unmoved s (Used c ∷ b) h = let p = or_parts (has_effect c) (has has_effect b) h in unmoved (after_usage s c) b p.1 ∙ one s c p.0
   where
     one : (s : WalkState) (c : Usage) → has_effect c ≡ false → (after_usage s c).stand ≡ s.stand
-    one s c h = grind (arith, common_steps)
-
-pub unsettled : (s : WalkState) (b : List OrderEntry) → has has_effect b ≡ false → (walk_end s b).settled ≡ s.settled
-unfolding walk_end has
-unsettled s [] h = refl
-unsettled s (Occurred e ∷ b) h = unsettled (record s { up = is_restart e }) b h
-unsettled s (Used c ∷ b) h = let p = either (has_effect c) (has has_effect b) h in unsettled (after_usage s c) b p.1 ∙ one s c p.0
-  where
-    one : (s : WalkState) (c : Usage) → has_effect c ≡ false → (after_usage s c).settled ≡ s.settled
     one s c h = grind (arith, common_steps)
 
 pub undone_stays : (s : WalkState) (b : List OrderEntry) → has has_write b ≡ false → (walk_end s b).undoing ≡ s.undoing
 unfolding walk_end has
 undone_stays s [] h = refl
 undone_stays s (Occurred e ∷ b) h = undone_stays (record s { up = is_restart e }) b h
-undone_stays s (Used c ∷ b) h = let p = either (has_write c) (has has_write b) h in undone_stays (after_usage s c) b p.1 ∙ one s c p.0
+undone_stays s (Used c ∷ b) h = let p = or_parts (has_write c) (has has_write b) h in undone_stays (after_usage s c) b p.1 ∙ one s c p.0
   where
     one : (s : WalkState) (c : Usage) → has_write c ≡ false → (after_usage s c).undoing ≡ s.undoing
     one s c h = grind (arith, common_steps)
@@ -72,7 +62,7 @@ pub out_free : (s : WalkState) (b : List OrderEntry) → has has_grip b ≡ fals
 unfolding walk_end has
 out_free s [] h = refl
 out_free s (Occurred e ∷ b) h = out_free (record s { up = is_restart e }) b h
-out_free s (Used c ∷ b) h = let p = either (has_grip c) (has has_grip b) h in out_free (after_usage s c) b p.1 ∙ one s c p.0
+out_free s (Used c ∷ b) h = let p = or_parts (has_grip c) (has has_grip b) h in out_free (after_usage s c) b p.1 ∙ one s c p.0
   where
     one : (s : WalkState) (c : Usage) → has_grip c ≡ false → (after_usage s c).out ≡ s.out
     one s c h = grind (arith, common_steps)
@@ -90,32 +80,23 @@ pub free_behind : (s : WalkState) (b : List OrderEntry) → is_home s.out ≡ fa
 unfolding WalkHolds has
 free_behind s [] h k = refl
 free_behind s (Occurred e ∷ b) h k = free_behind (record s { up = is_restart e }) b h k.1
-free_behind s (Used c ∷ b) h k = join (has_grip c) (has has_grip b) (one s c k.0 h) (free_behind (after_usage s c) b (held_next s c h) k.1)
+free_behind s (Used c ∷ b) h k = or_from (has_grip c) (has has_grip b) (one s c k.0 h) (free_behind (after_usage s c) b (held_next s c h) k.1)
   where
     one : (s : WalkState) (c : Usage) → UsageFits s c → is_home s.out ≡ false → has_grip c ≡ false
     one s c f h = grind (arith, common_steps)
-
-    join : (x y : Bool) → x ≡ false → y ≡ false → (x || y) ≡ false
-    join x y f g = grind (arith, common_steps)
 
 pub home_free : (s : WalkState) (b : List OrderEntry) → is_home (walk_end s b).out ≡ true → has has_grip b ≡ false
 unfolding walk_end has
 home_free s [] h = refl
 home_free s (Occurred e ∷ b) h = home_free (record s { up = is_restart e }) b h
-home_free s (Used c ∷ b) h = join (has_grip c) (has has_grip b) (one s c (at (is_home (after_usage s c).out) refl)) (home_free (after_usage s c) b h)
+home_free s (Used c ∷ b) h = or_from (has_grip c) (has has_grip b) (one s c (at (is_home (after_usage s c).out) refl)) (home_free (after_usage s c) b h)
   where
-    clash : (x : Bool) → x ≡ false → x ≡ true → ⊥
-    clash x f g = grind (arith, common_steps)
-
     at : (x : Bool) → is_home (after_usage s c).out ≡ x → is_home (after_usage s c).out ≡ true
     at true e = e
-    at false e = absurd (clash (is_home (walk_end (after_usage s c) b).out) (held_end (after_usage s c) b e) h)
+    at false e = absurd (both_ways (is_home (walk_end (after_usage s c) b).out) (held_end (after_usage s c) b e) h)
 
     one : (s : WalkState) (c : Usage) → is_home (after_usage s c).out ≡ true → has_grip c ≡ false
     one s c h = grind (arith, common_steps)
-
-    join : (x y : Bool) → x ≡ false → y ≡ false → (x || y) ≡ false
-    join x y f g = grind (arith, common_steps)
 
 -- behind an entry with no grip behind it, the grip that is out may be another, if no command's
 pub record Outs (s : WalkState) (o : GripOut) (b : List OrderEntry) : Type 0 where
@@ -127,7 +108,7 @@ unfolding WalkHolds walk_end has
 another_out s o [] h n k = record { walk = tt; ends = refl }
 another_out s o (Occurred e ∷ b) h n k = let i = another_out (record s { up = is_restart e }) o b h n k.1 in record { walk = (record { turns = k.0.turns; none_waits = k.0.none_waits }, i.walk); ends = i.ends }
 another_out s o (Used c ∷ b) h n k =
-    let p = either (has_grip c) (has has_grip b) h in
+    let p = or_parts (has_grip c) (has has_grip b) h in
     let i = another_out (after_usage s c) o b p.1 n k.1 in
     let e : after_usage (record s { out = o }) c ≡ record (after_usage s c) { out = o } = one s o c p.0 in
     record {
@@ -145,7 +126,7 @@ pub acts_stays : (b : List OrderEntry) → has has_grip b ≡ false → has has_
 unfolding has
 acts_stays [] h = refl
 acts_stays (Occurred e ∷ b) h = acts_stays b h
-acts_stays (Used c ∷ b) h = let p = either (has_grip c) (has has_grip b) h in one c (has has_write b) (has has_effect b) p.0 (acts_stays b p.1)
+acts_stays (Used c ∷ b) h = let p = or_parts (has_grip c) (has has_grip b) h in one c (has has_write b) (has has_effect b) p.0 (acts_stays b p.1)
   where
     one : (c : Usage) (x y : Bool) → has_grip c ≡ false → x ≡ y → (has_write c || x) ≡ (has_effect c || y)
     one c x y h e = grind (arith, common_steps)
@@ -181,7 +162,7 @@ pub spanned_end : (s : WalkState) (b : List OrderEntry) → has spans_up b ≡ f
 unfolding walk_end has
 spanned_end s [] h = refl
 spanned_end s (Occurred e ∷ b) h = spanned_end (record s { up = is_restart e }) b h
-spanned_end s (Used c ∷ b) h = let p = either (spans_up c) (has spans_up b) h in spanned_end (after_usage s c) b p.1 ∙ one s c p.0
+spanned_end s (Used c ∷ b) h = let p = or_parts (spans_up c) (has spans_up b) h in spanned_end (after_usage s c) b p.1 ∙ one s c p.0
   where
     one : (s : WalkState) (c : Usage) → spans_up c ≡ false → (after_usage s c).spanned ≡ s.spanned
     one s c h = grind (arith, common_steps)
@@ -192,7 +173,7 @@ unfolding walk_end has
 undo_last s [] n h = refl
 undo_last s (Occurred e ∷ b) n h = undo_last (record s { up = is_restart e }) b n h
 undo_last s (Used c ∷ b) n h =
-    let p = either (has_grip c) (has has_grip b) n in
+    let p = or_parts (has_grip c) (has has_grip b) n in
     let r : has has_write b ≡ false = undo_last (after_usage s c) b p.1 h in
     one s c (has has_write b) p.0 (sym (undone_stays (after_usage s c) b r) ∙ h) r
   where
@@ -205,7 +186,7 @@ unfolding WalkHolds walk_end has
 none_lost s [] x n k = refl
 none_lost s (Occurred e ∷ b) x n k = none_lost (record s { up = is_restart e }) b x n k.1
 none_lost s (Used c ∷ b) x n k =
-    let p = either (has_write c) (has has_write b) n in
+    let p = or_parts (has_write c) (has has_write b) n in
     none_lost (after_usage s c) b (open_still s c k.0 x p.0) p.1 k.1 ∙ one s c k.0 x p.0
   where
     open_still : (s : WalkState) (c : Usage) → UsageFits s c → s.exposed ≡ true → has_write c ≡ false → (after_usage s c).exposed ≡ true

@@ -29,8 +29,9 @@ use Rattle.home_types.specs.declared.items.Item.{Item}
 use Rattle.home_types.specs.declared.items.Item.TheVariants.{Back, Failed, Ran}
 use Rattle.home_types.specs.declared.kinds.Kind.{Kind}
 use Rattle.std.proofs.Common.{Bool, List, Some, [], ap, arith, false, length, refl, subst, sym, true, ℕ, ◌++◌, ◌<◌, ◌∙◌, ◌∷◌, ◌≡◌, ◌≢◌, ◌≤◌}
+use Rattle.std.proofs.lemmas.Bool.{both_ways, eq-eqb, or_left}
 use Rattle.std.proofs.lemmas.Grind.{common_steps}
-use Rattle.std.specs.Prelude.{if◌then◌else◌, ◌==◌, ◌||◌}
+use Rattle.std.specs.Prelude.{if◌then◌else◌, ◌==◌}
 
 -- the device's list at a run that moves, and the list then
 pub entries_before : (kinds : List Kind) (s s' : WindowRecord) (r d : ℕ) (m : ChangesInPlace s s' r) → uses d (s.states r).commands ≡ true → entries kinds s.states d s.line ≡ entries kinds s.states d m.front ++ Used (usage kinds (s.states r) d) ∷ entries kinds s.states d m.back
@@ -59,15 +60,9 @@ off_device kinds s s' r d m h u = still_device kinds s s' r d m h (ap (λ x. ent
 pub next_used : (l : RunState) (c : Command) (ds : List Command) → rest l ≡ c ∷ ds → uses c.device.0 l.commands ≡ true
 next_used l c ds e = at_ (uses c.device.0 l.commands) refl
   where
-    self : (d : ℕ) (x : Bool) → ((d == d) || x) ≡ true
-    self d x = grind (arith, common_steps)
-
-    clash : (y : Bool) → y ≡ true → y ≡ false → ⊥
-    clash y e f = grind (arith, common_steps)
-
     at_ : (b : Bool) → uses c.device.0 l.commands ≡ b → uses c.device.0 l.commands ≡ true
     at_ true u = u
-    at_ false u = absurd (clash (uses c.device.0 (rest l)) (ap (uses c.device.0) e ∙ self c.device.0 (uses c.device.0 ds)) (uses_rest c.device.0 l.commands l.answers u))
+    at_ false u = absurd (both_ways (uses c.device.0 (rest l)) (uses_rest c.device.0 l.commands l.answers u) (ap (uses c.device.0) e ∙ or_left (c.device.0 == c.device.0) (uses c.device.0 ds) (eq-eqb c.device.0 c.device.0 refl)))
 
 -- the next command's device is one of the home
 pub next_homed : (n : ℕ) (cs : List Command) (xs : List Answer) (c : Command) (ds : List Command) → remaining cs xs ≡ c ∷ ds → AreHomed n cs → c.device.0 < n

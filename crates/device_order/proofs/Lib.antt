@@ -14,14 +14,9 @@ pub mod Undos
 pub mod Probes
 pub mod Changes
 pub mod Claims
-pub mod Pairs
 pub mod Losses
 pub mod Standing
-pub mod Fits
-pub mod Decisions
-mod Verdicts
 pub mod Runs
-pub mod Converse
 pub mod Swaps
 pub mod Paired
 pub mod LineEntries
@@ -33,6 +28,4 @@ pub mod WindowAnswers
 pub mod WindowGrips
 pub mod WindowRuns
 pub mod WindowClaims
-pub mod WindowTimes
-pub mod Examples
-pub mod Distinct
+pub mod EventCuts

@@ -1,6 +1,6 @@
 -- What inserting, removing and changing a run, and an event, do to the order of a device.
 use Rattle.command_rules.specs.Rosters.{run_no}
-use Rattle.device_order.specs.LineChanges.{IsFront, Lacks, SameBut, all_off, is_off, line_with_event, out_of, waits_at, without}
+use Rattle.device_order.specs.LineChanges.{Lacks, SameBut, line_with_event, waits_at}
 use Rattle.device_order.specs.LineEntries.{entries, entry_if, entry_of, stage_of, usage, with_entry}
 use Rattle.device_order.specs.RunStates.{RunStates, device_summary, remaining, rest, uses}
 use Rattle.device_order.specs.Usages.{awaits_first, is_open}
@@ -14,9 +14,10 @@ use Rattle.home_types.specs.declared.commands.Command.{Command}
 use Rattle.home_types.specs.declared.items.Item.{Item}
 use Rattle.home_types.specs.declared.items.Item.TheVariants.{Back, Failed, Ran}
 use Rattle.home_types.specs.declared.kinds.Kind.{Kind}
-use Rattle.std.proofs.Common.{Bool, List, None, Option, Some, [], ap, arith, false, filter, not, refl, subst, sym, true, ℕ, ◌++◌, ◌∙◌, ◌∷◌, ◌≡◌, ◌≢◌}
+use Rattle.std.proofs.Common.{Bool, List, None, Option, Some, [], ap, arith, false, not, refl, subst, sym, true, ℕ, ◌++◌, ◌∙◌, ◌∷◌, ◌≡◌}
+use Rattle.std.proofs.lemmas.Bool.{or_parts}
 use Rattle.std.proofs.lemmas.Grind.{common_steps}
-use Rattle.std.specs.Prelude.{cond, if◌then◌else◌, is_some, ◌&&◌, ◌==◌, ◌||◌}
+use Rattle.std.specs.Prelude.{if◌then◌else◌, is_some, ◌&&◌, ◌==◌}
 
 with_join : (o : Option OrderEntry) (cs ds : List OrderEntry) → with_entry o (cs ++ ds) ≡ with_entry o cs ++ ds
 with_join None cs ds = refl
@@ -77,39 +78,12 @@ entries_unmoved kinds states states' d r is h e = entries_same kinds states stat
     item (Failed e n) = refl
     item (Back e n) = refl
 
--- a line without a run
-without_lacks : (r : ℕ) (is : List Item) → Lacks r is → without r is ≡ is
-unfolding Lacks without
-without_lacks r [] h = refl
-without_lacks r (Ran q ∷ is) h = ap (λ b. if b then without r is else Ran q ∷ without r is) (differ q.0 h.0) ∙ ap (λ l. Ran q ∷ l) (without_lacks r is h.1)
-  where
-    differ : (q : ℕ) → q ≢ r → (q == r) ≡ false
-    differ q x = grind (arith, common_steps)
-without_lacks r (Failed e n ∷ is) h = ap (λ l. Failed e n ∷ l) (without_lacks r is h)
-without_lacks r (Back e n ∷ is) h = ap (λ l. Back e n ∷ l) (without_lacks r is h)
-
-pub without_at : (r : ℕ) (a b : List Item) → Lacks r a → Lacks r b → without r (a ++ Ran (run_no r) ∷ b) ≡ a ++ b
-unfolding Lacks without
-without_at r [] b h g = ap (λ x. if x then without r b else Ran (run_no r) ∷ without r b) (self r) ∙ without_lacks r b g
-  where
-    self : (r : ℕ) → (r == r) ≡ true
-    self r = grind (arith, common_steps)
-without_at r (Ran q ∷ a) b h g = ap (λ x. if x then without r (a ++ Ran (run_no r) ∷ b) else Ran q ∷ without r (a ++ Ran (run_no r) ∷ b)) (differ q.0 h.0) ∙ ap (λ l. Ran q ∷ l) (without_at r a b h.1 g)
-  where
-    differ : (q : ℕ) → q ≢ r → (q == r) ≡ false
-    differ q x = grind (arith, common_steps)
-without_at r (Failed e n ∷ a) b h g = ap (λ l. Failed e n ∷ l) (without_at r a b h g)
-without_at r (Back e n ∷ a) b h g = ap (λ l. Back e n ∷ l) (without_at r a b h g)
-
 -- a command without an answer is one of the routine
 pub uses_rest : (d : ℕ) (cs : List Command) (xs : List Answer) → uses d cs ≡ false → uses d (remaining cs xs) ≡ false
 unfolding remaining
 uses_rest d [] xs h = h
 uses_rest d (c ∷ cs) [] h = h
-uses_rest d (c ∷ cs) (a ∷ xs) h = uses_rest d cs xs (tail (c.device.0 == d) (uses d cs) h)
-  where
-    tail : (x y : Bool) → (x || y) ≡ false → y ≡ false
-    tail x y h = grind (arith, common_steps)
+uses_rest d (c ∷ cs) (a ∷ xs) h = uses_rest d cs xs (or_parts (c.device.0 == d) (uses d cs) h).1
 
 -- an event goes where the device's own order has it
 pub entries_event : (kinds : List Kind) (states : RunStates) (d : ℕ) (e : Event) (i : Item) (is : List Item) → entry_of kinds states d i ≡ Some (Occurred e)
@@ -160,41 +134,3 @@ entries_event_off kinds states d e i (j ∷ is) h = at_ (entries_event_off kinds
     at_ : entries kinds states d (line_with_event kinds states e i is) ≡ entries kinds states d is → (x : Bool) → entries kinds states d (if x then i ∷ j ∷ is else j ∷ line_with_event kinds states e i is) ≡ with_entry (entry_of kinds states d j) (entries kinds states d is)
     at_ g true = ap (λ o. with_entry o (with_entry (entry_of kinds states d j) (entries kinds states d is))) h
     at_ g false = ap (with_entry (entry_of kinds states d j)) g
-
--- items that are nothing at the device have no entries there
-entries_off : (kinds : List Kind) (states : RunStates) (d : ℕ) (is : List Item) → all_off kinds states d is ≡ true → entries kinds states d is ≡ []
-unfolding entries all_off
-entries_off kinds states d [] h = refl
-entries_off kinds states d (i ∷ is) h = part (entry_of kinds states d i) (entries kinds states d is) (all_off kinds states d is) h (entries_off kinds states d is)
-  where
-    part : (o : Option OrderEntry) (l : List OrderEntry) (x : Bool) → (is_off o && x) ≡ true → (x ≡ true → l ≡ []) → with_entry o l ≡ []
-    part None l x h g = g h
-    part (Some c) l x h g = absurd (clash h)
-      where
-        clash : false ≡ true → ⊥
-        clash h = grind (arith, common_steps)
-
--- a line that is parted, the items of a set before the others, has the same entries where the set is a front at the device
-pub entries_parted : (kinds : List Kind) (states : RunStates) (d : ℕ) (s : Item → Bool) (is : List Item) → IsFront kinds states d s is
-    → entries kinds states d (filter s is) ++ entries kinds states d (filter (out_of s) is) ≡ entries kinds states d is
-unfolding entries IsFront
-entries_parted kinds states d s [] f = refl
-entries_parted kinds states d s (i ∷ is) f = at_ (entries_parted kinds states d s is f.1) (s i) refl
-  where
-    L : List OrderEntry
-    L = entries kinds states d (filter s is)
-
-    R : List OrderEntry
-    R = entries kinds states d (filter (out_of s) is)
-
-    middle : (o : Option OrderEntry) → (is_off o ≡ false → L ≡ []) → L ++ with_entry o R ≡ with_entry o (L ++ R)
-    middle None h = refl
-    middle (Some c) h = ap (λ l. l ++ c ∷ R) (h refl) ∙ ap (λ l. c ∷ (l ++ R)) (sym (h refl))
-
-    at_ : L ++ R ≡ entries kinds states d is → (b : Bool) → s i ≡ b → entries kinds states d (filter s (i ∷ is)) ++ entries kinds states d (filter (out_of s) (i ∷ is)) ≡ with_entry (entry_of kinds states d i) (entries kinds states d is)
-    at_ g true h =
-        ap (λ x. entries kinds states d (cond x (i ∷ filter s is) (filter s is)) ++ entries kinds states d (cond (not x) (i ∷ filter (out_of s) is) (filter (out_of s) is))) h
-        ∙ sym (with_join (entry_of kinds states d i) L R) ∙ ap (with_entry (entry_of kinds states d i)) g
-    at_ g false h =
-        ap (λ x. entries kinds states d (cond x (i ∷ filter s is) (filter s is)) ++ entries kinds states d (cond (not x) (i ∷ filter (out_of s) is) (filter (out_of s) is))) h
-        ∙ middle (entry_of kinds states d i) (λ n. entries_off kinds states d (filter s is) (f.0 h n)) ∙ ap (with_entry (entry_of kinds states d i)) g

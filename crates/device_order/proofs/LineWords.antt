@@ -2,7 +2,7 @@
 use Rattle.command_rules.specs.Rosters.{run_no}
 use Rattle.device_order.proofs.Claims.{effect}
 use Rattle.device_order.specs.Changes.{is_calm}
-use Rattle.device_order.specs.LineChanges.{Lacks, line_with_event, waits_at}
+use Rattle.device_order.specs.LineChanges.{Lacks}
 use Rattle.device_order.specs.LineEntries.{entries, entry_if, usage, with_entry}
 use Rattle.device_order.specs.LineWords.{CutAt, RunsAreDistinct, any_run, at_device, effective_writer, is_calm_line, standing_value_on}
 use Rattle.device_order.specs.Records.{walk_start}
@@ -16,6 +16,7 @@ use Rattle.home_types.specs.declared.items.Item.{Item}
 use Rattle.home_types.specs.declared.items.Item.TheVariants.{Back, Failed, Ran}
 use Rattle.home_types.specs.declared.kinds.Kind.{Kind}
 use Rattle.std.proofs.Common.{Bool, List, None, Option, Some, [], ap, arith, false, not, refl, subst, sym, true, ℕ, ◌++◌, ◌∙◌, ◌∷◌, ◌≡◌, ◌≢◌}
+use Rattle.std.proofs.lemmas.Bool.{and_from, and_parts, or_parts}
 use Rattle.std.proofs.lemmas.Grind.{common_steps}
 use Rattle.std.specs.Option.{option_map_or}
 use Rattle.std.specs.Prelude.{if◌then◌else◌, option_map, unwrap_or, ◌&&◌, ◌==◌, ◌||◌}
@@ -116,74 +117,13 @@ cut_at r (Ran q ∷ is) h g = at_ (λ x. cut_at r is h.1 x) (q.0 == r) refl
     at_ ih true x = record { front = []; back = is; at = ap (λ z. Ran (run_no z) ∷ is) (same x); before = tt; behind = subst (λ z. Lacks z is) (same x) h.0 }
     at_ ih false x = let c = ih (tail (q.0 == r) (any_run (is_it r) is) x g) in record { front = Ran q ∷ c.front; back = c.back; at = ap (λ l. Ran q ∷ l) c.at; before = ((λ y. differ x y), c.before); behind = c.behind }
 
--- an item that is no run
-abbrev pub NoRun : Item → Type 0
-NoRun (Ran r) = ⊥
-NoRun (Failed e n) = Unit {0}
-NoRun (Back e n) = Unit {0}
-
-pub lacks_cons : (r : ℕ) (i : Item) (is : List Item) → NoRun i → Lacks r is → Lacks r (i ∷ is)
-unfolding Lacks
-lacks_cons r (Ran q) is n h = absurd n
-lacks_cons r (Failed e k) is n h = h
-lacks_cons r (Back e k) is n h = h
-
-pub distinct_cons : (i : Item) (is : List Item) → NoRun i → RunsAreDistinct is → RunsAreDistinct (i ∷ is)
-unfolding RunsAreDistinct
-distinct_cons (Ran q) is n h = absurd n
-distinct_cons (Failed e k) is n h = h
-distinct_cons (Back e k) is n h = h
-
-any_cons : (p : ℕ → Bool) (i : Item) (is : List Item) → NoRun i → any_run p (i ∷ is) ≡ any_run p is
-unfolding any_run
-any_cons p (Ran q) is n = absurd n
-any_cons p (Failed e k) is n = refl
-any_cons p (Back e k) is n = refl
-
--- an event changes no run's place among the runs
-pub event_lacks : (kinds : List Kind) (states : RunStates) (d r : ℕ) (i : Item) (is : List Item) → NoRun i → Lacks r is → Lacks r (line_with_event kinds states d i is)
-unfolding Lacks line_with_event
-event_lacks kinds states d r i [] n h = lacks_cons r i [] n tt
-event_lacks kinds states d r i (Ran q ∷ is) n h = at_ (event_lacks kinds states d r i is n h.1) (waits_at kinds states d (Ran q))
-  where
-    at_ : Lacks r (line_with_event kinds states d i is) → (b : Bool) → Lacks r (if b then i ∷ Ran q ∷ is else Ran q ∷ line_with_event kinds states d i is)
-    at_ g true = lacks_cons r i (Ran q ∷ is) n h
-    at_ g false = (h.0, g)
-event_lacks kinds states d r i (Failed e k ∷ is) n h = event_lacks kinds states d r i is n h
-event_lacks kinds states d r i (Back e k ∷ is) n h = event_lacks kinds states d r i is n h
-
-pub event_distinct : (kinds : List Kind) (states : RunStates) (d : ℕ) (i : Item) (is : List Item) → NoRun i → RunsAreDistinct is → RunsAreDistinct (line_with_event kinds states d i is)
-unfolding RunsAreDistinct line_with_event
-event_distinct kinds states d i [] n h = distinct_cons i [] n tt
-event_distinct kinds states d i (Ran q ∷ is) n h = at_ (event_distinct kinds states d i is n h.1) (waits_at kinds states d (Ran q))
-  where
-    at_ : RunsAreDistinct (line_with_event kinds states d i is) → (b : Bool) → RunsAreDistinct (if b then i ∷ Ran q ∷ is else Ran q ∷ line_with_event kinds states d i is)
-    at_ g true = distinct_cons i (Ran q ∷ is) n h
-    at_ g false = (event_lacks kinds states d q.0 i is n h.0, g)
-event_distinct kinds states d i (Failed e k ∷ is) n h = event_distinct kinds states d i is n h
-event_distinct kinds states d i (Back e k ∷ is) n h = event_distinct kinds states d i is n h
-
-pub event_runs : (kinds : List Kind) (states : RunStates) (d : ℕ) (p : ℕ → Bool) (i : Item) (is : List Item) → NoRun i → any_run p (line_with_event kinds states d i is) ≡ any_run p is
-unfolding any_run line_with_event
-event_runs kinds states d p i [] n = any_cons p i [] n
-event_runs kinds states d p i (Ran q ∷ is) n = at_ (event_runs kinds states d p i is n) (waits_at kinds states d (Ran q))
-  where
-    at_ : any_run p (line_with_event kinds states d i is) ≡ any_run p is → (b : Bool) → any_run p (if b then i ∷ Ran q ∷ is else Ran q ∷ line_with_event kinds states d i is) ≡ (p q.0 || any_run p is)
-    at_ g true = any_cons p i (Ran q ∷ is) n
-    at_ g false = ap (λ x. p q.0 || x) g
-event_runs kinds states d p i (Failed e k ∷ is) n = event_runs kinds states d p i is n
-event_runs kinds states d p i (Back e k ∷ is) n = event_runs kinds states d p i is n
-
 -- where no run of the line has a write in effect, the effective write is what it was
 writer_none : (kinds : List Kind) (states : RunStates) (d : ℕ) (o : Option ℕ) (is : List Item) → any_run (at_device kinds states d has_effect) is ≡ false → effective_writer kinds states d o is ≡ o
 unfolding any_run effective_writer
 writer_none kinds states d o [] h = refl
 writer_none kinds states d o (Ran q ∷ is) h =
-    let e = neither (at_device kinds states d has_effect q.0) (any_run (at_device kinds states d has_effect) is) h in
+    let e = or_parts (at_device kinds states d has_effect q.0) (any_run (at_device kinds states d has_effect) is) h in
     ap (λ x. effective_writer kinds states d (if x then Some q.0 else o) is) e.0 ∙ writer_none kinds states d o is e.1
-  where
-    neither : (x y : Bool) → (x || y) ≡ false → (x ≡ false) × (y ≡ false)
-    neither x y h = (grind (arith, common_steps), grind (arith, common_steps))
 writer_none kinds states d o (Failed e k ∷ is) h = writer_none kinds states d o is h
 writer_none kinds states d o (Back e k ∷ is) h = writer_none kinds states d o is h
 
@@ -220,7 +160,7 @@ unfolding effective_writer
 writer_cut kinds states d r a b la lb h =
     let w = writer_is kinds states d r (if at_device kinds states d has_effect r then Some r else effective_writer kinds states d None a) b lb (sym (writer_join kinds states d None a (Ran (run_no r) ∷ b)) ∙ h) in
     let e = own (at_device kinds states d has_effect r) w.0 in
-    record { uses = (both (uses d (states r).commands) (has_effect (usage kinds (states r) d)) e).0; effect = (both (uses d (states r).commands) (has_effect (usage kinds (states r) d)) e).1; none_behind = has_entries kinds states d has_effect b ∙ w.1 }
+    record { uses = (and_parts (uses d (states r).commands) (has_effect (usage kinds (states r) d)) e).0; effect = (and_parts (uses d (states r).commands) (has_effect (usage kinds (states r) d)) e).1; none_behind = has_entries kinds states d has_effect b ∙ w.1 }
   where
     none : None ≡ Some r → ⊥
     none e = grind (arith, common_steps)
@@ -229,22 +169,16 @@ writer_cut kinds states d r a b la lb h =
     own true e = refl
     own false e = absurd (none (writer_is kinds states d r None a la e).0)
 
-    both : (x y : Bool) → (x && y) ≡ true → (x ≡ true) × (y ≡ true)
-    both x y e = (grind (arith, common_steps), grind (arith, common_steps))
-
 -- a run that has not the effective write has no write in effect, or one behind it has
 pub writer_not : (kinds : List Kind) (states : RunStates) (d r : ℕ) (a b : List Item) → effective_writer kinds states d None (a ++ Ran (run_no r) ∷ b) ≢ Some r → uses d (states r).commands ≡ true
     → (has_effect (usage kinds (states r) d) && not (has has_effect (entries kinds states d b))) ≡ false
 unfolding effective_writer
 writer_not kinds states d r a b n u = at_ (has_effect (usage kinds (states r) d)) (has has_effect (entries kinds states d b)) refl refl
   where
-    here : (x y : Bool) → x ≡ true → y ≡ true → (x && y) ≡ true
-    here x y h g = grind (arith, common_steps)
-
     at_ : (x y : Bool) → has_effect (usage kinds (states r) d) ≡ x → has has_effect (entries kinds states d b) ≡ y → (x && not y) ≡ false
     at_ true false h g = absurd (n (
         writer_join kinds states d None a (Ran (run_no r) ∷ b)
-        ∙ ap (λ x. effective_writer kinds states d (if x then Some r else effective_writer kinds states d None a) b) (here (uses d (states r).commands) (has_effect (usage kinds (states r) d)) u h)
+        ∙ ap (λ x. effective_writer kinds states d (if x then Some r else effective_writer kinds states d None a) b) (and_from (uses d (states r).commands) (has_effect (usage kinds (states r) d)) u h)
         ∙ writer_none kinds states d (Some r) b (sym (has_entries kinds states d has_effect b) ∙ g)))
     at_ true true h g = refl
     at_ false y h g = refl

@@ -1,3 +1,4 @@
+-- The walk along an order of two parts.
 use Rattle.device_order.specs.declared.records.Event.{Event}
 use Rattle.device_order.specs.Usages.{awaits_first, has_pending, is_restart}
 use Rattle.device_order.specs.Walks.{WalkHolds, WalkState, after_entry, after_usage, has, walk_end, with_event}
@@ -5,6 +6,7 @@ use Rattle.device_order.specs.declared.records.OrderEntry.TheVariants.{Occurred,
 use Rattle.device_order.specs.declared.records.OrderEntry.{OrderEntry}
 use Rattle.device_order.specs.declared.records.Usage.{Usage}
 use Rattle.std.proofs.Common.{◌≡◌, Bool, true, false, List, [], ◌∷◌, ◌++◌, arith, refl, ap, ◌∙◌}
+use Rattle.std.proofs.lemmas.Bool.{or_left, or_parts, or_right}
 use Rattle.std.proofs.lemmas.Grind.{common_steps}
 use Rattle.std.specs.Prelude.{◌||◌, if◌then◌else◌}
 
@@ -51,17 +53,11 @@ has_back p a b h = one (has p a) (has p b) (has p (a ++ b)) (has_join p a b) h
 
 pub has_head : (p : Usage → Bool) (c : Usage) (b : List OrderEntry) → has p (Used c ∷ b) ≡ false → p c ≡ false
 unfolding has
-has_head p c b h = one (p c) (has p b) h
-  where
-    one : (x y : Bool) → (x || y) ≡ false → x ≡ false
-    one x y h = grind (arith, common_steps)
+has_head p c b h = (or_parts (p c) (has p b) h).0
 
 pub has_tail : (p : Usage → Bool) (c : Usage) (b : List OrderEntry) → has p (Used c ∷ b) ≡ false → has p b ≡ false
 unfolding has
-has_tail p c b h = one (p c) (has p b) h
-  where
-    one : (x y : Bool) → (x || y) ≡ false → y ≡ false
-    one x y h = grind (arith, common_steps)
+has_tail p c b h = (or_parts (p c) (has p b) h).1
 
 pub opened_end : (s : WalkState) (a : List OrderEntry) → has has_pending a ≡ false → (walk_end s a).opened ≡ s.opened
 unfolding walk_end has
@@ -84,12 +80,6 @@ has_event p e (Used c ∷ l) = at (awaits_first c) (has_event p e l)
 
 pub has_at : (p : Usage → Bool) (a : List OrderEntry) (c : Usage) (b : List OrderEntry) → p c ≡ true → has p (a ++ Used c ∷ b) ≡ true
 unfolding has
-has_at p [] c b h = one (p c) (has p b) h
-  where
-    one : (x y : Bool) → x ≡ true → (x || y) ≡ true
-    one x y h = grind (arith, common_steps)
+has_at p [] c b h = or_left (p c) (has p b) h
 has_at p (Occurred e ∷ a) c b h = has_at p a c b h
-has_at p (Used d ∷ a) c b h = one (p d) (has p (a ++ Used c ∷ b)) (has_at p a c b h)
-  where
-    one : (x y : Bool) → y ≡ true → (x || y) ≡ true
-    one x y h = grind (arith, common_steps)
+has_at p (Used d ∷ a) c b h = or_right (p d) (has p (a ++ Used c ∷ b)) (has_at p a c b h)

@@ -1,3 +1,4 @@
+-- How many runs a failure or a restart loses.
 use Rattle.device_order.proofs.Answers.{tidy_front}
 use Rattle.device_order.proofs.Claims.{opened_stays, untouched_behind, up_spanned}
 use Rattle.device_order.proofs.Effects.{Tidy, none_lost, undo_last}
@@ -14,6 +15,7 @@ use Rattle.device_order.specs.declared.records.Probe.TheVariants.{Restores}
 use Rattle.device_order.specs.declared.records.Probe.{Probe}
 use Rattle.device_order.specs.declared.records.Usage.{Usage}
 use Rattle.std.proofs.Common.{Bool, List, [], ap, arith, false, refl, subst, sym, true, ℕ, ◌++◌, ◌∙◌, ◌∷◌, ◌≡◌}
+use Rattle.std.proofs.lemmas.Bool.{both_ways, or_from, or_parts}
 use Rattle.std.proofs.lemmas.Grind.{common_steps}
 use Rattle.std.specs.Prelude.{◌||◌}
 
@@ -35,14 +37,8 @@ none_opened : (s : WalkState) (l : List OrderEntry) → (walk_end s l).opened �
 unfolding walk_end has
 none_opened s [] h = refl
 none_opened s (Occurred e ∷ l) h = none_opened (record s { up = is_restart e }) l h
-none_opened s (Used u ∷ l) h = both (spans_up u) (has spans_up l) (at (is_open u.stage) refl) (none_opened (after_usage s u) l h)
+none_opened s (Used u ∷ l) h = or_from (spans_up u) (has spans_up l) (at (is_open u.stage) refl) (none_opened (after_usage s u) l h)
   where
-    both : (x y : Bool) → x ≡ false → y ≡ false → (x || y) ≡ false
-    both x y f g = grind (arith, common_steps)
-
-    clash : (x : Bool) → x ≡ true → x ≡ false → ⊥
-    clash x f g = grind (arith, common_steps)
-
     now : (s : WalkState) (u : Usage) → is_open u.stage ≡ true → (after_usage s u).opened ≡ true
     now s u o = grind (arith, common_steps)
 
@@ -50,7 +46,7 @@ none_opened s (Used u ∷ l) h = both (spans_up u) (has spans_up l) (at (is_open
     shut u o = grind (arith, common_steps)
 
     at : (x : Bool) → is_open u.stage ≡ x → spans_up u ≡ false
-    at true o = absurd (clash ((walk_end (after_usage s u) l).opened) (opened_stays (after_usage s u) l (now s u o)) h)
+    at true o = absurd (both_ways ((walk_end (after_usage s u) l).opened) h (opened_stays (after_usage s u) l (now s u o)))
     at false o = shut u o
 
 -- nor is there one among runs that did not touch the device
@@ -58,14 +54,8 @@ none_touched : (l : List OrderEntry) → has has_touched l ≡ false → has spa
 unfolding has
 none_touched [] h = refl
 none_touched (Occurred e ∷ l) h = none_touched l h
-none_touched (Used u ∷ l) h = let p = parts (has_touched u) (has has_touched l) h in both (spans_up u) (has spans_up l) (bare u p.0) (none_touched l p.1)
+none_touched (Used u ∷ l) h = let p = or_parts (has_touched u) (has has_touched l) h in or_from (spans_up u) (has spans_up l) (bare u p.0) (none_touched l p.1)
   where
-    parts : (x y : Bool) → (x || y) ≡ false → (x ≡ false) × (y ≡ false)
-    parts x y h = grind (arith, common_steps)
-
-    both : (x y : Bool) → x ≡ false → y ≡ false → (x || y) ≡ false
-    both x y f g = grind (arith, common_steps)
-
     bare : (u : Usage) → has_touched u ≡ false → spans_up u ≡ false
     bare u h = grind (arith, common_steps)
 
@@ -84,10 +74,7 @@ one_spans d a b u i at o =
     blocks s u o = grind (arith, common_steps)
 
 none_spans : (s : WalkState) (l : List OrderEntry) → (walk_end s l).spanned ≡ false → has spans_up l ≡ false
-none_spans s l h = right s.spanned (has spans_up l) (sym (spanned_has s l) ∙ h)
-  where
-    right : (x y : Bool) → (x || y) ≡ false → y ≡ false
-    right x y h = grind (arith, common_steps)
+none_spans s l h = (or_parts s.spanned (has spans_up l) (sym (spanned_has s l) ∙ h)).1
 
 -- while a restoring probe is out no run spans
 pub restart_loses_none : (d : DeviceRecord) (v : ℕ) → DeviceInvariant d → d.probe ≡ Restores v → has spans_up d.order ≡ false
@@ -127,9 +114,6 @@ down_unseen d a b u i at o down = by (is_up u.view) refl
     spans : (u : Usage) → is_open u.stage ≡ true → is_up u.view ≡ true → spans_up u ≡ true
     spans u o v = grind (arith, common_steps)
 
-    clash : (x : Bool) → x ≡ true → x ≡ false → ⊥
-    clash x f g = grind (arith, common_steps)
-
     by : (x : Bool) → is_up u.view ≡ x → is_up u.view ≡ false
-    by true v = absurd (clash d.up (up_spanned d a b u i at (spans u o v)) down)
+    by true v = absurd (both_ways d.up down (up_spanned d a b u i at (spans u o v)))
     by false v = v

@@ -1,3 +1,4 @@
+-- A use of which less is seen stands in the place of another one.
 use Rattle.device_order.proofs.Below.{Below}
 use Rattle.device_order.proofs.Effects.{Alike}
 use Rattle.device_order.proofs.Parts.{Cut, cut, Lower, lower, likewise}

@@ -14,6 +14,7 @@ use Rattle.home_types.specs.declared.commands.Answer.{Answer}
 use Rattle.home_types.specs.declared.commands.Command.{Command}
 use Rattle.home_types.specs.declared.kinds.Kind.{Kind}
 use Rattle.std.proofs.Common.{Bool, List, [], ap, arith, false, length, refl, subst, sym, true, ℕ, ◌++◌, ◌∙◌, ◌∷◌, ◌≡◌, ◌≢◌, ◌≤◌}
+use Rattle.std.proofs.lemmas.Bool.{both_ways, or_parts}
 use Rattle.std.proofs.lemmas.Grind.{common_steps}
 use Rattle.std.specs.Prelude.{◌==◌, ◌||◌}
 
@@ -121,18 +122,12 @@ length_done (c ∷ cs) (x ∷ xs) h k = let i = length_done cs xs h (omega arith
 pub gave_run : (kinds : List Kind) (n : ℕ) (l l' : RunState) (c : Command) (ds : List Command) (a : Answer) (k : Bool) → GetsAnswer l l' c ds a k → RunInvariant kinds n l → l.committed ≡ false
     → (l.doomed ≡ false → k ≡ false → FitsSummary (summary_of kinds l) (record { command = c; answer = a })) → (k ≡ false → fails c a ≡ false) → RunInvariant kinds n l'
 gave_run kinds n l l' c ds a k g i live fit ok =
-    let sound : l'.doomed ≡ false → (l.doomed ≡ false) × (k ≡ false) = λ h. parts l.doomed k (sym g.doomed ∙ h) in
+    let sound : l'.doomed ≡ false → (l.doomed ≡ false) × (k ≡ false) = λ h. or_parts l.doomed k (sym g.doomed ∙ h) in
     let e = gave_answered l l' c ds a k g in
     record {
       homed = subst (AreHomed n) (sym g.commands) i.homed;
       size = subst (λ cs. length l'.answers ≤ length cs) (sym g.commands) (subst (λ xs. length xs ≤ length l.commands) (sym g.answers) (length_more l.commands l.answers c ds a g.next));
       fit = λ h. subst (AnswersFit kinds blank) (sym e) (fit_more kinds blank (answered l) (record { command = c; answer = a }) (i.fit (sound h).0) (fit (sound h).0 (sound h).1));
       none_fails = λ h. subst NoneFails (sym e) (none_more (answered l) (record { command = c; answer = a }) (i.none_fails (sound h).0) (ok (sound h).1));
-      whole = λ h. absurd (clash l'.committed (g.committed ∙ live) h);
+      whole = λ h. absurd (both_ways l'.committed (g.committed ∙ live) h);
     }
-  where
-    parts : (x y : Bool) → (x || y) ≡ false → (x ≡ false) × (y ≡ false)
-    parts x y h = (grind (arith, common_steps), grind (arith, common_steps))
-
-    clash : (x : Bool) → x ≡ false → x ≡ true → ⊥
-    clash x h g = grind (arith, common_steps)

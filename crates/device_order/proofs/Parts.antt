@@ -1,3 +1,4 @@
+-- An order, cut at a use.
 use Rattle.device_order.proofs.Below.{Below, under}
 use Rattle.device_order.proofs.Effects.{Alike, alike}
 use Rattle.device_order.proofs.Lists.{end_join, walk_join, walk_front, walk_back}

@@ -1,3 +1,4 @@
+-- A run is placed on a device.
 use Rattle.device_order.proofs.Lists.{walk_front, walk_back, walk_join, end_join}
 use Rattle.device_order.proofs.Suffix.{Idle, Calm, calm}
 use Rattle.device_order.specs.Changes.{is_calm, new_usage}

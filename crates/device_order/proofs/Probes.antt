@@ -1,3 +1,4 @@
+-- A probe goes out, and comes home with whatever it found.
 use Rattle.device_order.proofs.Answers.{tidy_front, Fell, fell}
 use Rattle.device_order.proofs.Effects.{Tidy, out_free, spanned_end}
 use Rattle.device_order.proofs.Parts.{Cut, cut, Put, put}

@@ -1,3 +1,4 @@
+-- A use that has not touched the device has done nothing there.
 use Rattle.device_order.specs.Usages.{awaits_first, has_touched, is_command, is_open, is_up}
 use Rattle.device_order.specs.Walks.{UsageFits, WalkState, after_usage, is_command_out}
 use Rattle.device_order.specs.declared.records.Grip.TheVariants.{Free}

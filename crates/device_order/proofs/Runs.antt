@@ -1,7 +1,7 @@
 -- A run whose answers fit one another is executed serially with them.
-use Rattle.device_order.specs.Summaries.{Answered, AnswerFits, AnswersFit, AreHomed, DeviceSummary, FitsSummary, GivesAnswers, Meets, MeetsHome, NoneFails, Summary, answer_of, blank, command_of, device_summary_then, first_view, overwritten, summary, summary_then}
+use Rattle.device_order.specs.Summaries.{Answered, AnswerFits, AnswersFit, AreHomed, DeviceSummary, FitsSummary, Meets, MeetsHome, NoneFails, Summary, answer_of, blank, command_of, device_summary_then, first_view, overwritten, summary, summary_then}
 use Rattle.device_order.specs.Usages.{is_down, is_up}
-use Rattle.home_types.specs.Commands.{Effect, Execution, command_effect, driven, execute, fails, reads, register_after, routine_execution, with_effect}
+use Rattle.home_types.specs.Commands.{Effect, Execution, command_effect, driven, execute, fails, reads, register_after, with_effect}
 use Rattle.home_types.specs.HomeStates.{stand_at}
 use Rattle.home_types.specs.Kinds.{kind_at}
 use Rattle.home_types.specs.declared.commands.Answer.TheVariants.{Down, Fine, Found}
@@ -12,6 +12,7 @@ use Rattle.home_types.specs.declared.commands.View.{View}
 use Rattle.home_types.specs.declared.kinds.Kind.{Kind}
 use Rattle.home_types.specs.declared.worlds.Stand.{Stand}
 use Rattle.std.proofs.Common.{Bool, List, None, Option, Some, [], ap, append-nil, append_assoc, arith, false, fold, inl, inr, length, length-set, map, refl, set, subst, suc, sym, true, zero, ℕ, ◌++◌, ◌<◌, ◌≡◌, ◌≢◌, ◌⊎◌, ◌∙◌, ◌∷◌}
+use Rattle.std.proofs.lemmas.Bool.{or_from}
 use Rattle.std.proofs.lemmas.Grind.{common_steps}
 use Rattle.std.specs.Prelude.{if◌then◌else◌, is_some, slice_set, ◌==◌, ◌||◌}
 
@@ -92,12 +93,9 @@ step_fits kinds w from s p er eb es f ok m =
     ap (λ r. command_effect k p.command.job r (stand_at from.home d)) er
     ∙ ap (command_effect k p.command.job s.register) es
     ∙ effect_fits k p.command.job s.register (s.on d) (stand_at w d) p.answer f (subst (Meets (stand_at w d)) here m) in
-    let no : (from.refused || fails p.command p.answer) ≡ false = neither from.refused (fails p.command p.answer) eb ok in
+    let no : (from.refused || fails p.command p.answer) ≡ false = or_from from.refused (fails p.command p.answer) eb ok in
     ap (with_effect from p.command) e
     ∙ (λ i. record { home = slice_set from.home d (overwritten (stand_at w d) (sym here i).wrote); register = register_after p.command.job p.answer s.register; answers = from.answers ++ p.answer ∷ []; refused = no i })
-  where
-    neither : (x y : Bool) → x ≡ false → y ≡ false → (x || y) ≡ false
-    neither x y h g = grind (arith, common_steps)
 
 -- from the middle: the execution of the answered commands gives their answers, and overwrites the home with the last writes
 pub record Executes (kinds : List Kind) (w : List Stand) (from : Execution) (s : Summary) (ps : List Answered) : Type 0 where
@@ -137,12 +135,6 @@ executes kinds w from s (p ∷ ps) er eb ez es co ok ho m =
 pub serves : (kinds : List Kind) (home : List Stand) (ps : List Answered) → AnswersFit kinds blank ps → NoneFails ps → AreHomed (length home) (map command_of ps)
     → MeetsHome home (summary kinds blank ps) → Executes kinds home (record { home = home; register = 0; answers = []; refused = false }) (summary kinds blank ps) ps
 serves kinds home ps co ok ho m = executes kinds home (record { home = home; register = 0; answers = []; refused = false }) blank ps refl refl refl (λ d lt. refl) co ok ho m
-
-pub gives_answers : (kinds : List Kind) (home : List Stand) (ps : List Answered) → AnswersFit kinds blank ps → NoneFails ps → AreHomed (length home) (map command_of ps)
-    → MeetsHome home (summary kinds blank ps) → GivesAnswers kinds home ps (routine_execution kinds (map command_of ps) home)
-gives_answers kinds home ps co ok ho m =
-    let e = serves kinds home ps co ok ho m in
-    subst (GivesAnswers kinds home ps) (sym e.is) (record { refused = refl; answers = refl; register = refl; size = e.size; stands = e.stands })
 
 -- the forms for a list that grows at its end
 pub summary_more : (kinds : List Kind) (s : Summary) (ps qs : List Answered) → summary kinds s (ps ++ qs) ≡ summary kinds (summary kinds s ps) qs

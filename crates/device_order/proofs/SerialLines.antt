@@ -24,6 +24,7 @@ use Rattle.home_types.specs.declared.numbers.DeviceNo.{DeviceNo}
 use Rattle.home_types.specs.declared.numbers.RunNo.{RunNo}
 use Rattle.home_types.specs.declared.worlds.Stand.{Stand}
 use Rattle.std.proofs.Common.{Bool, List, None, Option, Some, [], ap, append-nil, append_assoc, arith, false, fold, inl, inr, length, length-set, not, refl, subst, sym, true, ℕ, ◌++◌, ◌<◌, ◌∙◌, ◌∷◌, ◌≡◌, ◌≢◌}
+use Rattle.std.proofs.lemmas.Bool.{or_from}
 use Rattle.std.proofs.lemmas.Grind.{common_steps}
 use Rattle.std.specs.Prelude.{if◌then◌else◌, is_some, ◌==◌, ◌||◌}
 
@@ -105,16 +106,13 @@ event_stands home z e x h st d lt = elim (stand_at_set home e d (record { value 
 event_applies : (home : List Stand) (z : WalkState) (e : ℕ) (x : Event) → stand_at home e ≡ walk_stand z → FitsIf z (entry_if (e == e) (Occurred x)) → (stand_at home e).up ≡ not (is_restart x)
 event_applies home z e x st f = ap (λ (s : Stand). s.up) st ∙ (subst (FitsIf z) (event_here e e (Occurred x) refl) f).turns
 
-neither : (a b : Bool) → a ≡ false → b ≡ false → (a || b) ≡ false
-neither a b h g = grind (arith, common_steps)
-
 falls : (kinds : List Kind) (runs : List Run) (s : SerialRun) (e : DeviceNo) (k : ℕ) (is : List Item) → s.refused ≡ false → (stand_at s.home e.0).up ≡ true
     → fold (serve runs kinds) s (Failed e k ∷ is) ≡ fold (serve runs kinds) (record { home = with_up s.home e.0 false; answers = s.answers; refused = false }) is
-falls kinds runs s e k is h g = ap (λ b. fold (serve runs kinds) (record { home = with_up s.home e.0 false; answers = s.answers; refused = b }) is) (neither s.refused (not (stand_at s.home e.0).up) h (ap not g))
+falls kinds runs s e k is h g = ap (λ b. fold (serve runs kinds) (record { home = with_up s.home e.0 false; answers = s.answers; refused = b }) is) (or_from s.refused (not (stand_at s.home e.0).up) h (ap not g))
 
 comes : (kinds : List Kind) (runs : List Run) (s : SerialRun) (e : DeviceNo) (k : ℕ) (is : List Item) → s.refused ≡ false → (stand_at s.home e.0).up ≡ false
     → fold (serve runs kinds) s (Back e k ∷ is) ≡ fold (serve runs kinds) (record { home = with_up s.home e.0 true; answers = s.answers; refused = false }) is
-comes kinds runs s e k is h g = ap (λ b. fold (serve runs kinds) (record { home = with_up s.home e.0 true; answers = s.answers; refused = b }) is) (neither s.refused (stand_at s.home e.0).up h g)
+comes kinds runs s e k is h g = ap (λ b. fold (serve runs kinds) (record { home = with_up s.home e.0 true; answers = s.answers; refused = b }) is) (or_from s.refused (stand_at s.home e.0).up h g)
 
 sound : (committed doomed pending : Bool) → committed ≡ true → (is_committed (stage_of committed doomed pending) ≡ true) × (counts_serially (stage_of committed doomed pending) ≡ true)
 sound committed doomed pending h = (grind (arith, common_steps), grind (arith, common_steps))
@@ -146,7 +144,7 @@ runs_so : (kinds : List Kind) (runs : List Run) (s : SerialRun) (r : RunNo) (hom
     → fold (serve runs kinds) s (Ran r ∷ is) ≡ fold (serve runs kinds) (record { home = home; answers = s.answers ++ record { run = r; answers = answers } ∷ []; refused = false }) is
 runs_so kinds runs s r home register answers is h e =
     ap (λ (x : Execution). fold (serve runs kinds) (record { home = x.home; answers = s.answers ++ record { run = r; answers = x.answers } ∷ []; refused = s.refused || x.refused }) is) e
-    ∙ ap (λ b. fold (serve runs kinds) (record { home = home; answers = s.answers ++ record { run = r; answers = answers } ∷ []; refused = b }) is) (neither s.refused false h refl)
+    ∙ ap (λ b. fold (serve runs kinds) (record { home = home; answers = s.answers ++ record { run = r; answers = answers } ∷ []; refused = b }) is) (or_from s.refused false h refl)
 
 pub serializes : (kinds : List Kind) (runs : List Run) (states : RunStates) (s : SerialRun) (z : ℕ → WalkState) (line : List Item) → ((r : ℕ) → (states r).commands ≡ commands_of runs r) → s.refused ≡ false
     → ((d : ℕ) → d < length s.home → stand_at s.home d ≡ walk_stand (z d)) → ((d : ℕ) → d < length s.home → WalkHolds (z d) (entries kinds states d line)) → EventsAreHomed (length s.home) line

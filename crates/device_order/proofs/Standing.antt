@@ -1,3 +1,4 @@
+-- Where a device stands.
 use Rattle.device_order.proofs.Answers.{call_blocks}
 use Rattle.device_order.proofs.Claims.{effect}
 use Rattle.device_order.proofs.Effects.{out_free}

@@ -1,3 +1,4 @@
+-- What stands behind an open run, and behind an event that is put in.
 use Rattle.device_order.specs.declared.records.Event.{Event}
 use Rattle.device_order.proofs.Quiet.{quiet, untouched, quiet_fits, quiet_next}
 use Rattle.device_order.specs.Changes.{is_calm}

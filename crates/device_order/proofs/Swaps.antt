@@ -12,6 +12,7 @@ use Rattle.home_types.specs.declared.kinds.Kind.{Kind}
 use Rattle.home_types.specs.declared.numbers.RunNo.{RunNo}
 use Rattle.home_types.specs.declared.worlds.Stand.{Stand}
 use Rattle.std.proofs.Common.{Bool, List, [], ap, append_assoc, arith, false, fold, refl, set, subst, subst₂, sym, true, ℕ, ◌++◌, ◌≡◌, ◌≢◌, ◌∙◌, ◌∷◌}
+use Rattle.std.proofs.lemmas.Bool.{eq-eqb, or_left}
 use Rattle.std.proofs.lemmas.Grind.{common_steps, fold-append}
 use Rattle.std.proofs.lemmas.List.{get_or-set_other, set_comm}
 use Rattle.std.proofs.lemmas.List.Elements.{filter-append}
@@ -110,11 +111,8 @@ misses d (c ∷ cs) h = ((λ z. differ c (list_any (is_on d) cs) h z), misses d 
 avoids : (cs ds : List Command) → ((d : ℕ) → list_any (is_on d) cs ≡ true → list_any (is_on d) ds ≡ false) → Avoids cs ds
 unfolding Avoids
 avoids [] ds h = tt
-avoids (c ∷ cs) ds h = (misses c.device.0 ds (h c.device.0 (self c.device.0 (list_any (is_on c.device.0) cs))), avoids cs ds (λ d g. h d (more c d (list_any (is_on d) cs) g)))
+avoids (c ∷ cs) ds h = (misses c.device.0 ds (h c.device.0 (or_left (c.device.0 == c.device.0) (list_any (is_on c.device.0) cs) (eq-eqb c.device.0 c.device.0 refl))), avoids cs ds (λ d g. h d (more c d (list_any (is_on d) cs) g)))
   where
-    self : (d : ℕ) (b : Bool) → ((d == d) || b) ≡ true
-    self d b = grind (arith, common_steps)
-
     more : (c : Command) (d : ℕ) (b : Bool) → b ≡ true → ((c.device.0 == d) || b) ≡ true
     more c d b h = grind (arith, common_steps)
 
@@ -252,23 +250,14 @@ turn_turn s d e f h g k ne =
     there = get_or-set_other s.home e d (h (stand_at s.home e)) nowhere ne
 
 run_misses : (runs : List Run) (r : RunNo) (d : ℕ) → ((e : ℕ) → touches runs r.0 e ≡ true → (d == e) ≡ false) → Misses d (commands_of runs r.0)
-run_misses runs r d h = misses d (commands_of runs r.0) (turned (touches runs r.0) (λ e. d == e) h d (self d))
-  where
-    self : (d : ℕ) → (d == d) ≡ true
-    self d = grind (arith, common_steps)
+run_misses runs r d h = misses d (commands_of runs r.0) (turned (touches runs r.0) (λ e. d == e) h d (eq-eqb d d refl))
 
 missed : (runs : List Run) (r : RunNo) (d : ℕ) → ((e : ℕ) → (d == e) ≡ true → touches runs r.0 e ≡ false) → Misses d (commands_of runs r.0)
-missed runs r d h = misses d (commands_of runs r.0) (h d (self d))
-  where
-    self : (d : ℕ) → (d == d) ≡ true
-    self d = grind (arith, common_steps)
+missed runs r d h = misses d (commands_of runs r.0) (h d (eq-eqb d d refl))
 
 two_devices : (d e : ℕ) → ((q : ℕ) → (d == q) ≡ true → (e == q) ≡ false) → d ≢ e
-two_devices d e h z = differ (h d (self d)) z
+two_devices d e h z = differ (h d (eq-eqb d d refl)) z
   where
-    self : (d : ℕ) → (d == d) ≡ true
-    self d = grind (arith, common_steps)
-
     differ : (e == d) ≡ false → d ≡ e → ⊥
     differ x z = grind (arith, common_steps)
 

@@ -1,3 +1,4 @@
+-- An undo goes out, is dropped, and comes back.
 use Rattle.device_order.proofs.Answers.{tidy_front, Fell, fell, held_up}
 use Rattle.device_order.proofs.Below.{Below, Under, under}
 use Rattle.device_order.proofs.Commands.{home_front}

@@ -24,6 +24,7 @@ use Rattle.home_types.specs.declared.items.Item.TheVariants.{Back, Failed, Ran}
 use Rattle.home_types.specs.declared.kinds.Kind.{Kind}
 use Rattle.home_types.specs.declared.worlds.Stand.{Stand}
 use Rattle.std.proofs.Common.{Bool, List, Option, [], ap, arith, false, length, not, refl, subst, sym, true, ℕ, ◌++◌, ◌<◌, ◌∙◌, ◌∷◌, ◌≡◌}
+use Rattle.std.proofs.lemmas.Bool.{and_parts, both_ways}
 use Rattle.std.proofs.lemmas.Grind.{common_steps}
 use Rattle.std.specs.Prelude.{if◌then◌else◌, is_some, ◌&&◌, ◌==◌, ◌||◌}
 
@@ -68,12 +69,9 @@ untouched_after kinds s d x w p o lt q u =
     open_ : (b c p : Bool) → b ≡ false → c ≡ false → p ≡ true → has_pending (record (usage kinds (s.states x) d) { stage = stage_of b c p }) ≡ true
     open_ b c p e f g = grind (arith, common_steps)
 
-    clash : (y : Bool) → y ≡ true → y ≡ false → ⊥
-    clash y e f = grind (arith, common_steps)
-
     used : (y : Bool) → uses d (s.states x).commands ≡ y → uses d (s.states x).commands ≡ true
     used true e = e
-    used false e = absurd (clash (uses d (rest (s.states x))) q.left (uses_rest d (s.states x).commands (s.states x).answers e))
+    used false e = absurd (both_ways (uses d (rest (s.states x))) (uses_rest d (s.states x).commands (s.states x).answers e) q.left)
 
 -- a committed write among the entries is one of the line
 covering : (kinds : List Kind) (states : RunStates) (d : ℕ) (m : List Item) → has has_committed_write (entries kinds states d m) ≡ true → IsCovered kinds states d m
@@ -132,10 +130,7 @@ read_covered kinds s d x w p o lt q r =
 pub order_all : (states : RunStates) (is : List Item) → all_committed states is ≡ true → serial_order states is ≡ is
 unfolding serial_order all_committed
 order_all states [] h = refl
-order_all states (Ran r ∷ is) h = ap (λ b. if b then Ran r ∷ serial_order states is else serial_order states is) (parts (states r.0).committed (all_committed states is) h).0 ∙ ap (λ l. Ran r ∷ l) (order_all states is (parts (states r.0).committed (all_committed states is) h).1)
-  where
-    parts : (x y : Bool) → (x && y) ≡ true → (x ≡ true) × (y ≡ true)
-    parts x y h = (grind (arith, common_steps), grind (arith, common_steps))
+order_all states (Ran r ∷ is) h = ap (λ b. if b then Ran r ∷ serial_order states is else serial_order states is) (and_parts (states r.0).committed (all_committed states is) h).0 ∙ ap (λ l. Ran r ∷ l) (order_all states is (and_parts (states r.0).committed (all_committed states is) h).1)
 order_all states (Failed e n ∷ is) h = ap (λ l. Failed e n ∷ l) (order_all states is h)
 order_all states (Back e n ∷ is) h = ap (λ l. Back e n ∷ l) (order_all states is h)
 
@@ -157,11 +152,8 @@ settles kinds states d z (Back e n ∷ is) h g k = at_ (λ z g k. settles kinds 
     at_ : ((z : WalkState) → Settles z → WalkHolds z (entries kinds states d is) → Settles (walk_end z (entries kinds states d is))) → (b : Bool) → WalkHolds z (with_entry (entry_if b (Occurred Restart)) (entries kinds states d is)) → Settles (walk_end z (with_entry (entry_if b (Occurred Restart)) (entries kinds states d is)))
     at_ ih true k = ih (record z { up = true }) (record { stand = g.stand; out = g.out }) k.1
     at_ ih false k = ih z g k
-settles kinds states d z (Ran r ∷ is) h g k = at_ (λ z g k. settles kinds states d z is (parts (states r.0).committed (all_committed states is) h).1 g k) (uses d (states r.0).commands) k
+settles kinds states d z (Ran r ∷ is) h g k = at_ (λ z g k. settles kinds states d z is (and_parts (states r.0).committed (all_committed states is) h).1 g k) (uses d (states r.0).commands) k
   where
-    parts : (x y : Bool) → (x && y) ≡ true → (x ≡ true) × (y ≡ true)
-    parts x y h = (grind (arith, common_steps), grind (arith, common_steps))
-
     of : (b k p : Bool) → b ≡ true → stage_of b k p ≡ stage_of true false false
     of b k p h = grind (arith, common_steps)
 
@@ -169,7 +161,7 @@ settles kinds states d z (Ran r ∷ is) h g k = at_ (λ z g k. settles kinds sta
     one z c h f g = grind (arith, common_steps)
 
     at_ : ((z : WalkState) → Settles z → WalkHolds z (entries kinds states d is) → Settles (walk_end z (entries kinds states d is))) → (b : Bool) → WalkHolds z (with_entry (entry_if b (Used (usage kinds (states r.0) d))) (entries kinds states d is)) → Settles (walk_end z (with_entry (entry_if b (Used (usage kinds (states r.0) d))) (entries kinds states d is)))
-    at_ ih true k = ih (after_usage z (usage kinds (states r.0) d)) (one z (usage kinds (states r.0) d) (of (states r.0).committed (states r.0).doomed (uses d (rest (states r.0))) (parts (states r.0).committed (all_committed states is) h).0) k.0 g) k.1
+    at_ ih true k = ih (after_usage z (usage kinds (states r.0) d)) (one z (usage kinds (states r.0) d) (of (states r.0).committed (states r.0).doomed (uses d (rest (states r.0))) (and_parts (states r.0).committed (all_committed states is) h).0) k.0 g) k.1
     at_ ih false k = ih z g k
 
 -- .. so a device that is home and up stands where the serial execution leaves it

@@ -3,7 +3,7 @@ use Rattle.command_rules.specs.Rosters.{device_no, run_no}
 use Rattle.device_order.proofs.Changes.{keeps}
 use Rattle.device_order.proofs.Claims.{begins}
 use Rattle.device_order.proofs.InPlace.{acted, entries_before, evented, events_insert, off_device, same_run, same_usage, stepped, window_keeps}
-use Rattle.device_order.proofs.LineEntries.{entries_changed, entries_event_off, entries_join, entries_lack, entries_parted, unused_at, used_at}
+use Rattle.device_order.proofs.LineEntries.{entries_changed, entries_event_off, entries_join, entries_lack, unused_at, used_at}
 use Rattle.device_order.proofs.LineWords.{calm_entries, writer_not}
 use Rattle.device_order.proofs.NewAnswers.{length_done, rest_none}
 use Rattle.device_order.proofs.SerialLines.{event_here, event_there}
@@ -11,14 +11,14 @@ use Rattle.device_order.proofs.WindowAnswers.{homed_failure}
 use Rattle.device_order.proofs.WindowGrips.{same_commands, same_runs}
 use Rattle.device_order.specs.Changes.{ProbeDiedUnderRun, RunAborted, RunCommitted, RunDoomed, RunPlaced, new_usage}
 use Rattle.device_order.specs.Invariant.{DeviceInvariant}
-use Rattle.device_order.specs.LineChanges.{line_with_event, out_of}
+use Rattle.device_order.specs.LineChanges.{line_with_event}
 use Rattle.device_order.specs.LineEntries.{entries, stage_of, usage}
 use Rattle.device_order.specs.LineOrders.{EventsAreHomed}
 use Rattle.device_order.specs.LineWords.{effective_writer}
 use Rattle.device_order.specs.RunStates.{RunState, answered, paired, remaining, rest, uses}
 use Rattle.device_order.specs.Summaries.{AnswersFit, AreHomed, NoneFails, blank, summary}
 use Rattle.device_order.specs.Usages.{doomed_stage, is_doomed, is_free, is_open, is_up, spans_up}
-use Rattle.device_order.specs.WindowSteps.{IsNew, KeepsAnswers, LineIsParted, ProbeDiesUnderRun, RunCommits, RunIsDoomed, RunIsPlaced, RunLeaves, WindowStarts}
+use Rattle.device_order.specs.WindowSteps.{IsNew, KeepsAnswers, ProbeDiesUnderRun, RunCommits, RunIsDoomed, RunIsPlaced, RunLeaves, WindowStarts}
 use Rattle.device_order.specs.Windows.{RunInvariant, WindowInvariant, WindowRecord, device_of}
 use Rattle.device_order.specs.declared.records.Event.TheVariants.{Failure}
 use Rattle.device_order.specs.declared.records.Grip.{Grip}
@@ -34,12 +34,10 @@ use Rattle.home_types.specs.declared.commands.View.{View}
 use Rattle.home_types.specs.declared.items.Item.{Item}
 use Rattle.home_types.specs.declared.items.Item.TheVariants.{Back, Failed, Ran}
 use Rattle.home_types.specs.declared.kinds.Kind.{Kind}
-use Rattle.std.proofs.Common.{Bool, List, None, Option, [], ap, arith, false, filter, length, not, refl, set, subst, sym, true, ℕ, ◌++◌, ◌<◌, ◌∙◌, ◌∷◌, ◌≡◌, ◌≤◌}
+use Rattle.std.proofs.Common.{Bool, List, None, Option, [], ap, arith, false, length, not, refl, subst, sym, true, ℕ, ◌++◌, ◌<◌, ◌∙◌, ◌∷◌, ◌≡◌, ◌≤◌}
+use Rattle.std.proofs.lemmas.Bool.{and_parts, both_ways}
 use Rattle.std.proofs.lemmas.Grind.{common_steps}
-use Rattle.std.specs.Prelude.{cond, ◌&&◌}
-
-clash : (x : Bool) → x ≡ false → x ≡ true → ⊥
-clash x h g = grind (arith, common_steps)
+use Rattle.std.specs.Prelude.{◌&&◌}
 
 -- a run that commits: the same at each of its devices
 commit_device : (kinds : List Kind) (s s' : WindowRecord) (r d : ℕ) → RunCommits s s' r → DeviceInvariant (device_of kinds s d) → DeviceInvariant (device_of kinds s' d)
@@ -72,7 +70,7 @@ stage_doomed a x p a' x' h g e = grind (arith, common_steps)
 pub run_doomed : (kinds : List Kind) (s s' : WindowRecord) (r : ℕ) → RunIsDoomed s s' r → WindowInvariant kinds s → WindowInvariant kinds s'
 run_doomed kinds s s' r w o =
     window_keeps kinds s s' r w.place.first w.place.runs w.place.others w.place.commands (subst (EventsAreHomed (length s.first)) (sym w.place.line) o.events) o
-    (same_run kinds (length s.first) l (s'.states r) same (λ h. absurd (clash (s'.states r).doomed h w.doomed)) (λ h. absurd (clash (s'.states r).committed w.committed h)) (o.runs r))
+    (same_run kinds (length s.first) l (s'.states r) same (λ h. absurd (both_ways (s'.states r).doomed h w.doomed)) (λ h. absurd (both_ways (s'.states r).committed w.committed h)) (o.runs r))
     (λ d lt. at_ d (o.devices d lt) (uses d l.commands) refl)
   where
     l : RunState
@@ -96,7 +94,7 @@ pub probe_died_under_run : (kinds : List Kind) (s s' : WindowRecord) (r d k : �
 probe_died_under_run kinds s s' r d k w o =
     acted kinds s s' r d L true w.place (λ q ne. entries_event_off kinds s.states q d (Failed (device_no d) k) s.line (event_there d q (Occurred Failure) ne)) w.still
     (λ q ne. same_usage kinds l (s'.states r) q (doomed_stage (usage kinds l q).stage) (l.undid q) (l.grip q) same (stage q) (w.keeps.undid q) (w.keeps.grip q)) (homed_failure kinds s d k w.homed o)
-    (same_run kinds (length s.first) l (s'.states r) same (λ h. absurd (clash (s'.states r).doomed h w.doomed)) (λ h. absurd (clash (s'.states r).committed w.committed h)) (o.runs r))
+    (same_run kinds (length s.first) l (s'.states r) same (λ h. absurd (both_ways (s'.states r).doomed h w.doomed)) (λ h. absurd (both_ways (s'.states r).committed w.committed h)) (o.runs r))
     (stepped kinds s s' r d L w.place (record u { stage = doomed_stage u.stage }) false (s'.held d) Unprobed used (same_usage kinds l (s'.states r) d (doomed_stage u.stage) (l.undid d) (l.grip d) same (stage d) (w.keeps.undid d) (w.keeps.grip d)) w.up refl w.probe
     (ProbeDiedUnderRun (entries kinds s.states d w.place.front) (entries kinds s.states d w.place.back) u (s'.held d) w.out (evented kinds s s' r d (Failed (device_no d) k) Failure w.place used (event_here d d (Occurred Failure) refl)) spans)) o
   where
@@ -109,14 +107,11 @@ probe_died_under_run kinds s s' r d k w o =
     u : Usage
     u = usage kinds l d
 
-    both : (x y : Bool) → (x && y) ≡ true → (x ≡ true) × (y ≡ true)
-    both x y h = (grind (arith, common_steps), grind (arith, common_steps))
-
     used : uses d l.commands ≡ true
-    used = (both (uses d l.commands) (spans_up u) w.spans).0
+    used = (and_parts (uses d l.commands) (spans_up u) w.spans).0
 
     spans : spans_up u ≡ true
-    spans = (both (uses d l.commands) (spans_up u) w.spans).1
+    spans = (and_parts (uses d l.commands) (spans_up u) w.spans).1
 
     same : KeepsAnswers l (s'.states r)
     same = record { commands = w.keeps.commands; answers = w.keeps.answers }
@@ -175,7 +170,7 @@ new_run kinds n l w h = record {
   size = subst (λ xs. length xs ≤ length l.commands) (sym w.answers) (omega arith);
   fit = λ g. subst (AnswersFit kinds blank) (sym none) tt;
   none_fails = λ g. subst NoneFails (sym none) tt;
-  whole = λ g. absurd (clash l.committed w.committed g);
+  whole = λ g. absurd (both_ways l.committed w.committed g);
 }
   where
     none : answered l ≡ []
@@ -216,47 +211,6 @@ run_placed kinds s s' r w o =
         ∙ sym (ap (entries kinds s.states d) w.at ∙ entries_join kinds s.states d w.front w.back) in
         let y : device_of kinds s' d ≡ device_of kinds s d = λ i. record { order = x i; first_up = (stand_at (w.first i) d).up; first = (stand_at (w.first i) d).value; up = (w.still d).up i; held = (w.still d).held i; probe = (w.still d).probe i } in
         subst DeviceInvariant (sym y) (o.devices d lt)
-
--- a part of a line whose events are of devices of the home, as are those of the whole
-events_filter : (n : ℕ) (p : Item → Bool) (is : List Item) → EventsAreHomed n is → EventsAreHomed n (filter p is)
-unfolding EventsAreHomed
-events_filter n p [] h = tt
-events_filter n p (Ran r ∷ is) h = at_ (p (Ran r)) (events_filter n p is h)
-  where
-    at_ : (b : Bool) → EventsAreHomed n (filter p is) → EventsAreHomed n (cond b (Ran r ∷ filter p is) (filter p is))
-    at_ true g = g
-    at_ false g = g
-events_filter n p (Failed e k ∷ is) h = at_ (p (Failed e k)) (events_filter n p is h.1)
-  where
-    at_ : (b : Bool) → EventsAreHomed n (filter p is) → EventsAreHomed n (cond b (Failed e k ∷ filter p is) (filter p is))
-    at_ true g = (h.0, g)
-    at_ false g = g
-events_filter n p (Back e k ∷ is) h = at_ (p (Back e k)) (events_filter n p is h.1)
-  where
-    at_ : (b : Bool) → EventsAreHomed n (filter p is) → EventsAreHomed n (cond b (Back e k ∷ filter p is) (filter p is))
-    at_ true g = (h.0, g)
-    at_ false g = g
-
-events_join : (n : ℕ) (a b : List Item) → EventsAreHomed n a → EventsAreHomed n b → EventsAreHomed n (a ++ b)
-unfolding EventsAreHomed
-events_join n [] b h g = g
-events_join n (Ran r ∷ a) b h g = events_join n a b h g
-events_join n (Failed e k ∷ a) b h g = (h.0, events_join n a b h.1 g)
-events_join n (Back e k ∷ a) b h g = (h.0, events_join n a b h.1 g)
-
-pub line_parted : (kinds : List Kind) (s s' : WindowRecord) (set : Item → Bool) → LineIsParted kinds s s' set → WindowInvariant kinds s → WindowInvariant kinds s'
-line_parted kinds s s' set w o = record {
-  devices = λ d lt. subst DeviceInvariant (λ i. sym (then_ d (subst (λ x. d < length x) w.first lt)) i) (o.devices d (subst (λ x. d < length x) w.first lt));
-  runs = same_runs kinds s s' w.states w.first o;
-  commands = same_commands kinds s s' w.states w.runs o;
-  events = subst (λ x. EventsAreHomed (length x) s'.line) (sym w.first) (subst (EventsAreHomed (length s.first)) (sym w.line) (events_join (length s.first) (filter set s.line) (filter (out_of set) s.line) (events_filter (length s.first) set s.line o.events) (events_filter (length s.first) (out_of set) s.line o.events)));
-}
-  where
-    order : (d : ℕ) → d < length s.first → entries kinds s'.states d s'.line ≡ entries kinds s.states d s.line
-    order d lt = (λ i. entries kinds (λ q. w.states q i) d (w.line i)) ∙ entries_join kinds s.states d (filter set s.line) (filter (out_of set) s.line) ∙ entries_parted kinds s.states d set s.line (w.front d lt)
-
-    then_ : (d : ℕ) → d < length s.first → device_of kinds s' d ≡ device_of kinds s d
-    then_ d lt = λ i. record { order = order d lt i; first_up = (stand_at (w.first i) d).up; first = (stand_at (w.first i) d).value; up = (w.still d).up i; held = (w.still d).held i; probe = (w.still d).probe i }
 
 -- at its start a window is so
 pub window_begins : (kinds : List Kind) (s : WindowRecord) → WindowStarts s → WindowInvariant kinds s

@@ -1,14 +1,13 @@
 -- What is claimed of an order beside the invariant.
 use Rattle.device_order.specs.Records.{DeviceRecord, IsHome, state_after}
-use Rattle.device_order.specs.Walks.{effective, is_settled, with_event, written_by}
-use Rattle.device_order.specs.declared.records.Event.{Event}
-use Rattle.device_order.specs.declared.records.OrderEntry.TheVariants.{Occurred, Used}
+use Rattle.device_order.specs.Walks.{effective, is_settled, written_by}
+use Rattle.device_order.specs.declared.records.OrderEntry.TheVariants.{Used}
 use Rattle.device_order.specs.declared.records.OrderEntry.{OrderEntry}
 use Rattle.device_order.specs.declared.records.Usage.{Usage}
 use Rattle.device_order.specs.Usages.{counts_serially, is_command}
 use Rattle.device_order.specs.declared.records.Grip.TheVariants.{Undoes}
 use Rattle.device_order.specs.declared.records.Probe.TheVariants.{Asks, Restores}
-use Rattle.std.specs.Prelude.{Bool, List, None, Some, [], false, is_some, not, true, ℕ, ◌&&◌, ◌++◌, ◌∷◌, ◌≡◌}
+use Rattle.std.specs.Prelude.{List, None, Some, true, ℕ, ◌++◌, ◌∷◌, ◌≡◌}
 
 -- what a read of a run finds, behind these entries: its own last write, else the committed value there, which is what it read before if it counts; and then no run that is not committed has the effective write
 pub record ReadFinds (d : DeviceRecord) (before : List OrderEntry) (u : Usage) (x : ℕ) : Type 0 where
@@ -16,20 +15,6 @@ pub record ReadFinds (d : DeviceRecord) (before : List OrderEntry) (u : Usage) (
   pub committed : u.wrote ≡ None → x ≡ (state_after d before).value
   pub again : counts_serially u.stage ≡ true → u.wrote ≡ None → (y : ℕ) → u.read ≡ Some y → x ≡ y
   pub settled : u.wrote ≡ None → is_settled (effective None before) ≡ true
-
--- neither an event nor a run with an answer
-unfoldable pub is_bare : List OrderEntry → Bool
-is_bare [] = true
-is_bare (Occurred e ∷ xs) = false
-is_bare (Used u ∷ xs) = not (is_some u.view) && is_bare xs
-
--- an event goes in somewhere, and behind it no run has an answer and no event stands
-pub record EventIsLast (e : Event) (order : List OrderEntry) : Type 0 where
-  pub front : List OrderEntry
-  pub back : List OrderEntry
-  pub whole : order ≡ front ++ back
-  pub with_event : with_event e order ≡ front ++ Occurred e ∷ back
-  pub bare : is_bare back ≡ true
 
 -- the device stands at this value wherever it is up, and each drive that is out drives it
 pub record StandsAt (d : DeviceRecord) (v : ℕ) : Type 0 where

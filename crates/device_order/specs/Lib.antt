@@ -4,8 +4,6 @@ pub mod Records
 pub mod Invariant
 pub mod Changes
 pub mod Claims
-pub mod Pairs
-pub mod Marks
 pub mod Summaries
 pub mod Exchanges
 pub mod RunStates
@@ -15,4 +13,3 @@ pub mod LineChanges
 pub mod LineWords
 pub mod Windows
 pub mod WindowSteps
-pub mod WindowTimes

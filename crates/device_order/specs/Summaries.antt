@@ -1,6 +1,6 @@
 -- What the answers of a run say, read from the first to the last, and when they are those of a serial execution.
 use Rattle.device_order.specs.Usages.{is_down, is_up}
-use Rattle.home_types.specs.Commands.{Execution, driven, fails, reads, register_after}
+use Rattle.home_types.specs.Commands.{driven, fails, reads, register_after}
 use Rattle.home_types.specs.HomeStates.{stand_at}
 use Rattle.home_types.specs.Kinds.{kind_at}
 use Rattle.home_types.specs.declared.commands.Answer.TheVariants.{Down, Fine, Found}
@@ -10,7 +10,7 @@ use Rattle.home_types.specs.declared.commands.View.TheVariants.{Down as ViewDown
 use Rattle.home_types.specs.declared.commands.View.{View}
 use Rattle.home_types.specs.declared.kinds.Kind.{Kind}
 use Rattle.home_types.specs.declared.worlds.Stand.{Stand}
-use Rattle.std.specs.Prelude.{Bool, List, None, Option, Some, [], false, if◌then◌else◌, is_some, length, map, true, ℕ, ◌<◌, ◌==◌, ◌||◌, ◌≡◌, ◌∷◌}
+use Rattle.std.specs.Prelude.{Bool, List, None, Option, Some, [], false, if◌then◌else◌, is_some, length, true, ℕ, ◌<◌, ◌==◌, ◌||◌, ◌≡◌, ◌∷◌}
 
 -- a command with its answer
 pub record Answered : Type 0 where
@@ -105,20 +105,3 @@ MeetsHome home s = (d : ℕ) → d < length home → Meets (stand_at home d) (s.
 abbrev pub overwritten : Stand → Option ℕ → Stand
 overwritten s None = s
 overwritten s (Some v) = record { value = v; up = s.up }
-
--- an execution of a routine that is not refused, gives these answers, and leaves each device as the last write there says
-pub record GivesAnswers (kinds : List Kind) (home : List Stand) (ps : List Answered) (x : Execution) : Type 0 where
-  pub refused : x.refused ≡ false
-  pub answers : x.answers ≡ map answer_of ps
-  pub register : x.register ≡ (summary kinds blank ps).register
-  pub size : length x.home ≡ length home
-  pub stands : (d : ℕ) → d < length home → stand_at x.home d ≡ overwritten (stand_at home d) ((summary kinds blank ps).on d).wrote
-
--- the answers of an execution with their commands: each fits those before it, none is a failure, and the home at the start was as they say
-pub record FitsExecution (kinds : List Kind) (home : List Stand) (routine : List Command) (told : List Answer) : Type 0 where
-  pub pairs : List Answered
-  pub commands : map command_of pairs ≡ routine
-  pub answers : map answer_of pairs ≡ told
-  pub fit : AnswersFit kinds blank pairs
-  pub none_fails : NoneFails pairs
-  pub meets : MeetsHome home (summary kinds blank pairs)

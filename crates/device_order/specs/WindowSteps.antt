@@ -1,7 +1,7 @@
 -- The steps of a window: for each kind, what is so before it, and what is so after it.
 use Rattle.command_rules.specs.Rosters.{commands_of, device_no, run_no}
 use Rattle.device_order.specs.Changes.{probe_for}
-use Rattle.device_order.specs.LineChanges.{IsFront, Lacks, SameBut, line_with_event, out_of}
+use Rattle.device_order.specs.LineChanges.{Lacks, SameBut, line_with_event}
 use Rattle.device_order.specs.LineEntries.{command_grip}
 use Rattle.device_order.specs.LineWords.{any_run, at_device, effective_writer, is_calm_line, standing_value_on}
 use Rattle.device_order.specs.RunStates.{RunState, device_summary, rest, summary_of, uses}
@@ -22,7 +22,7 @@ use Rattle.home_types.specs.declared.items.Item.{Item}
 use Rattle.home_types.specs.declared.items.Item.TheVariants.{Back, Failed, Ran}
 use Rattle.home_types.specs.declared.kinds.Kind.{Kind}
 use Rattle.std.specs.Option.{option_map_or}
-use Rattle.std.specs.Prelude.{Bool, List, None, Option, Some, [], false, filter, is_some, length, true, ℕ, ◌++◌, ◌<◌, ◌||◌, ◌∷◌, ◌≡◌, ◌≢◌, ◌⊎◌}
+use Rattle.std.specs.Prelude.{Bool, List, None, Option, Some, [], false, is_some, length, true, ℕ, ◌++◌, ◌<◌, ◌||◌, ◌∷◌, ◌≡◌, ◌≢◌, ◌⊎◌}
 
 -- a device is as it was
 pub record IsStill (s s' : WindowRecord) (d : ℕ) : Type 0 where
@@ -106,15 +106,6 @@ pub record RunIsPlaced (kinds : List Kind) (s s' : WindowRecord) (r : ℕ) : Typ
   pub commands : (s'.states r).commands ≡ (s.states r).commands
   pub new : IsNew (s'.states r)
   pub calm : (d : ℕ) → uses d (s'.states r).commands ≡ true → is_calm_line kinds s.states d back ≡ true
-  pub still : (d : ℕ) → IsStill s s' d
-
--- the line is parted, the items of a set before the others: at each device the set is a front
-pub record LineIsParted (kinds : List Kind) (s s' : WindowRecord) (set : Item → Bool) : Type 0 where
-  pub line : s'.line ≡ filter set s.line ++ filter (out_of set) s.line
-  pub front : (d : ℕ) → d < length s.first → IsFront kinds s.states d set s.line
-  pub states : (q : ℕ) → s'.states q ≡ s.states q
-  pub runs : s'.runs ≡ s.runs
-  pub first : s'.first ≡ s.first
   pub still : (d : ℕ) → IsStill s s' d
 
 -- the grip goes out for the next command of a run: no run before it has a command left on the device, and where it reads what it has not written the effective write before it is a committed run's, or there is none

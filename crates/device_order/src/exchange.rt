@@ -1,3 +1,4 @@
+//! The exchange of two neighbours of an order that share no device.
 ghost use Rattle.std.specs.Prelude.{List, ◌++◌, ◌∷◌};
 ghost use Rattle.home_types.specs.declared.items.Item.{Item};
 ghost use Rattle.home_types.specs.declared.kinds.Kind.{Kind};

@@ -4,9 +4,7 @@
 
 pub mod device_laws;
 pub mod exchange;
-pub mod line_laws;
 pub mod records;
-pub mod serial_laws;
 pub mod walks;
 pub mod window_laws;
 

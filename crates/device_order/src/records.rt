@@ -1,3 +1,4 @@
+//! What an order of a device is made of: the uses of runs, and the device's failures and restarts.
 use home_types::{Value, View};
 
 /// How far a run of the line is with a device, and whether its answers count.

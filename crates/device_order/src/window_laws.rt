@@ -1,33 +1,24 @@
 //! Laws of a whole window: its invariant at the start, in each kind of step, and what it says of the window's order.
 //! Each is a function with no work in it, whose contract is the law.
 
-ghost use Rattle.command_rules.specs.Rosters.{run_no};
-ghost use Rattle.device_order.specs.LineChanges.{IsFront, line_with_event, out_of};
 ghost use Rattle.device_order.specs.LineEntries.{usage};
 ghost use Rattle.device_order.specs.LineOrders.{all_committed};
-ghost use Rattle.device_order.specs.Marks.{EventAt, InOrder, IsPast, Unmarked};
-ghost use Rattle.device_order.specs.Pairs.{Every, Pairs};
 ghost use Rattle.device_order.specs.RunStates.{device_summary, uses};
 ghost use Rattle.device_order.specs.Usages.{has_touched};
-ghost use Rattle.device_order.specs.WindowSteps.{AccessDies, CommandGoesOut, DeviceRestarts, DownIsAnswered, LineIsParted, ProbeDies, ProbeDiesUnderRun, ProbeFindsDown, ProbeFindsUp, ProbeGoesOut, ReadIsAnswered, RunCommits, RunIsDoomed, RunIsPlaced, RunLeaves, UndoDies, UndoGoesOut, UndoIsAnswered, UndoIsDropped, WindowStarts, WriteIsAnswered};
-ghost use Rattle.device_order.specs.WindowTimes.{FirstTouch, IsInTime, TouchTimes, mark_of, marks};
+ghost use Rattle.device_order.specs.WindowSteps.{AccessDies, CommandGoesOut, DeviceRestarts, DownIsAnswered, ProbeDies, ProbeDiesUnderRun, ProbeFindsDown, ProbeFindsUp, ProbeGoesOut, ReadIsAnswered, RunCommits, RunIsDoomed, RunIsPlaced, RunLeaves, UndoDies, UndoGoesOut, UndoIsAnswered, UndoIsDropped, WindowStarts, WriteIsAnswered};
 ghost use Rattle.device_order.specs.Windows.{HasLiveWriteAt, IsCovered, IsPendingAt, LineIsWhole, OrderIsSerial, StandsBefore, WindowInvariant, WindowRecord};
 ghost use Rattle.home_types.specs.declared.commands.Command.{Command};
-ghost use Rattle.home_types.specs.declared.items.Item.{Item};
-ghost use Rattle.home_types.specs.declared.items.Item.TheVariants.{Ran};
 ghost use Rattle.home_types.specs.declared.kinds.Kind.{Kind};
-ghost use Rattle.std.specs.Prelude.{Bool, List, false, filter, is_some, length, true, ℕ, ◌++◌, ◌<◌, ◌∷◌, ◌≡◌, ◌≤◌};
+ghost use Rattle.std.specs.Prelude.{Bool, List, false, is_some, length, true, ℕ, ◌<◌, ◌≡◌};
 
 /// At its start a window is as its invariant says.
 pub fn window_starts()
     ensures { (kinds : List Kind) (s : WindowRecord) → WindowStarts s → WindowInvariant kinds s }
 {}
 
-/// The invariant stays where a run is placed, doomed, committed or aborted, and where the line is parted before a run is
-/// placed.
+/// The invariant stays where a run is placed, doomed, committed or aborted.
 pub fn runs_keep_window()
     ensures placed { (kinds : List Kind) (s next : WindowRecord) (r : ℕ) → RunIsPlaced kinds s next r → WindowInvariant kinds s → WindowInvariant kinds next }
-    ensures parted { (kinds : List Kind) (s next : WindowRecord) (set : Item → Bool) → LineIsParted kinds s next set → WindowInvariant kinds s → WindowInvariant kinds next }
     ensures doomed { (kinds : List Kind) (s next : WindowRecord) (r : ℕ) → RunIsDoomed s next r → WindowInvariant kinds s → WindowInvariant kinds next }
     ensures commits { (kinds : List Kind) (s next : WindowRecord) (r : ℕ) → RunCommits s next r → WindowInvariant kinds s → WindowInvariant kinds next }
     ensures leaves { (kinds : List Kind) (s next : WindowRecord) (r : ℕ) → RunLeaves kinds s next r → WindowInvariant kinds s → WindowInvariant kinds next }
@@ -81,16 +72,4 @@ pub fn read_is_covered()
 /// where it ends.
 pub fn window_ends()
     ensures { (kinds : List Kind) (s : WindowRecord) → WindowInvariant kinds s → all_committed s.states s.line ≡ true → LineIsWhole kinds s }
-{}
-
-/// First touches and events stand in the line in the order of their times: a first touch, and an event at its place, are
-/// the newest of their device; a run without a touch may be placed anywhere, and any run may leave; parting the line
-/// leaves the order as it was; and what is past stays past.
-pub fn marks_stay_in_order()
-    ensures touch { (kinds : List Kind) (s : WindowRecord) (d r now : ℕ) (t later : TouchTimes) (late : Bool) → d < length s.first → WindowInvariant kinds s → IsInTime kinds s d t now → FirstTouch kinds s d r now t later late → Pairs InOrder (marks d later s.line) }
-    ensures event { (kinds : List Kind) (s : WindowRecord) (d now : ℕ) (t : TouchTimes) (i : Item) → d < length s.first → WindowInvariant kinds s → IsInTime kinds s d t now → mark_of d t i ≡ EventAt now → Pairs InOrder (marks d t (line_with_event kinds s.states d i s.line)) }
-    ensures placed { (d r : ℕ) (t : TouchTimes) (a b : List Item) → t.touch r ≡ Unmarked → Pairs InOrder (marks d t (a ++ b)) → Pairs InOrder (marks d t (a ++ Ran (run_no r) ∷ b)) }
-    ensures leaves { (d r : ℕ) (t : TouchTimes) (a b : List Item) → Pairs InOrder (marks d t (a ++ Ran (run_no r) ∷ b)) → Pairs InOrder (marks d t (a ++ b)) }
-    ensures parted { (kinds : List Kind) (s : WindowRecord) (d now : ℕ) (t : TouchTimes) (set : Item → Bool) → IsInTime kinds s d t now → IsFront kinds s.states d set s.line → Pairs InOrder (marks d t (filter set s.line ++ filter (out_of set) s.line)) }
-    ensures past { (d now later : ℕ) (t : TouchTimes) (line : List Item) → now ≤ later → Every (IsPast now) (marks d t line) → Every (IsPast later) (marks d t line) }
 {}

@@ -1,3 +1,4 @@
+-- What is counted of a device.
 use Rattle.std.specs.Prelude.{ℕ, ◌<◌, ◌^◌}
 
 -- each count of a device may still rise: the turns, the probes and the faults are below this bound

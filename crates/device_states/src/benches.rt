@@ -1,3 +1,4 @@
+//! A bench, which builds the devices of a home.
 ghost use Rattle.std.specs.Prelude.{◌≡◌, IfOk, IfSome};
 
 use crate::devices::Device;

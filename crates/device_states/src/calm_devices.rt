@@ -1,3 +1,4 @@
+//! A device that never fails, and its bench.
 use crate::benches::Bench;
 use crate::devices::{Dead, Device};
 use home_types::{DeviceNo, NoMemory, Value};

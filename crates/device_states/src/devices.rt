@@ -1,3 +1,4 @@
+//! A device: three calls that may die, and what is counted of them.
 ghost use Rattle.std.specs.Prelude.{◌≡◌, ◌+◌, OnOk, OnErr, IfOk};
 ghost use Rattle.device_states.specs.Devices.{HasRoom};
 

@@ -5,8 +5,6 @@ pub mod benches;
 pub mod calm_devices;
 pub mod devices;
 pub mod sim_devices;
-#[cfg(test)]
-mod tests;
 
 pub use benches::Bench;
 pub use calm_devices::{CalmBench, CalmDevice};

@@ -1,3 +1,4 @@
+//! A simulated device, which dies in the calls that its plan lists, and its bench.
 ghost use Rattle.std.specs.Prelude.{◌≡◌, ◌<◌, ◌^◌, IfOk, OnErr, OnOk};
 ghost use Rattle.device_states.specs.Devices.{HasRoom};
 
@@ -5,6 +6,7 @@ use crate::benches::Bench;
 use crate::devices::{Dead, Device};
 use home_types::{DeviceNo, List, NoMemory, Value};
 use std::alloc::Global;
+use std::boxed::Box;
 use std::marker::Model;
 
 /// A device in memory that is down in calls of listed numbers. It tells its plan.
@@ -12,6 +14,12 @@ use std::marker::Model;
 /// Its calls of all three kinds are numbered together, from 1. A call that dies leaves the device where it stands.
 #[derive(Drop)]
 pub struct SimDevice {
+    parts: Box<SimParts>,
+}
+
+/// What a simulated device keeps. It stands in a box, since a device goes from hand to hand at each call.
+#[derive(Drop)]
+struct SimParts {
     number: DeviceNo,
     // The device is down from the first call of a pair to before the second.
     downs: List<(u32, u32)>,
@@ -30,9 +38,9 @@ impl Model for SimDevice {
     ghost Value = { SimState };
 
     // Each call was answered or has died.
-    ghost view = { λ s. record { tag = s.number.0; plan = s.downs.items; stands = s.value; calls = s.turns + s.answered + s.faults; turns = s.turns; probes = s.probes; faults = s.faults } };
+    ghost view = { λ s. record { tag = s.parts.value.number.0; plan = s.parts.value.downs.items; stands = s.parts.value.value; calls = s.parts.value.turns + s.parts.value.answered + s.parts.value.faults; turns = s.parts.value.turns; probes = s.parts.value.probes; faults = s.parts.value.faults } };
 
-    ghost invariant = { λ s. s.answered ≤ s.probes };
+    ghost invariant = { λ s. s.parts.value.answered ≤ s.parts.value.probes };
 }
 
 impl SimDevice {
@@ -44,11 +52,13 @@ impl SimDevice {
     {
         // No range reaches to 2^64 - 1, so a greater number may count as that one.
         let call = self
+            .parts
             .turns
-            .saturating_add(self.answered)
-            .saturating_add(self.faults)
+            .saturating_add(self.parts.answered)
+            .saturating_add(self.parts.faults)
             .saturating_add(1);
-        self.downs
+        self.parts
+            .downs
             .as_slice()
             .iter()
             .any(|range| range.0 as u64 <= call && call < range.1 as u64)
@@ -62,7 +72,7 @@ impl SimDevice {
         ensures up { OnOk result (self.new ≡ self.old) }
     {
         if self.is_down() {
-            self.faults += 1;
+            self.parts.faults += 1;
             return Err(Dead);
         }
         Ok(())
@@ -91,8 +101,8 @@ impl Device for SimDevice {
         ensures after { self.new ≡ after_drive self.old v }
     {
         self.fail_if_down()?;
-        self.value = v;
-        self.turns += 1;
+        self.parts.value = v;
+        self.parts.turns += 1;
         Ok(())
     }
 
@@ -102,8 +112,8 @@ impl Device for SimDevice {
         ensures after { self.new ≡ after_sense self.old }
     {
         self.fail_if_down()?;
-        self.turns += 1;
-        Ok(self.value)
+        self.parts.turns += 1;
+        Ok(self.parts.value)
     }
 
     fn probe(&mut self) -> Result<(), Dead>
@@ -111,26 +121,27 @@ impl Device for SimDevice {
         ensures answer { result ≡ next_answer self.old }
         ensures after { self.new ≡ after_probe self.old }
     {
-        self.probes += 1;
+        self.parts.probes += 1;
         self.fail_if_down()?;
-        self.answered += 1;
+        self.parts.answered += 1;
         Ok(())
     }
 
     fn turns(&self) -> u64 {
-        self.turns
+        self.parts.turns
     }
 
     fn probes(&self) -> u64 {
-        self.probes
+        self.parts.probes
     }
 
     fn faults(&self) -> u64 {
-        self.faults
+        self.parts.faults
     }
 }
 
-/// The bench of simulated devices. A device keeps a copy of its ranges, so building one may answer `NoMemory`.
+/// The bench of simulated devices. A device takes memory for itself and for a copy of its ranges, so building one may answer
+/// `NoMemory`.
 #[derive(Clone, Copy, Debug, PartialEq, Eq)]
 pub struct SimBench;
 
@@ -148,7 +159,7 @@ impl Bench for SimBench {
     ) -> Result<SimDevice, NoMemory>
         ensures fresh { IfOk result (λ device. device ≡ fresh_device d.0 start downs.now) }
     {
-        Ok(SimDevice {
+        let parts = SimParts {
             number: d,
             downs: List::of(alloc, downs)?,
             value: start,
@@ -156,6 +167,10 @@ impl Bench for SimBench {
             probes: 0,
             answered: 0,
             faults: 0,
-        })
+        };
+        match Box::new(alloc, parts) {
+            Ok(parts) => Ok(SimDevice { parts }),
+            Err(_) => Err(NoMemory),
+        }
     }
 }

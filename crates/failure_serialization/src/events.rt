@@ -1,3 +1,4 @@
+//! Where a failure or a restart comes into the line, and which run a failure loses.
 ghost use Rattle.std.specs.Prelude.{◌≡◌, ◌+◌, ◌<◌, None, false, length, true};
 ghost use Rattle.failure_serialization.specs.Events.{event_place, lost_run};
 ghost use Rattle.failure_serialization.specs.Ruled.{IsEventOf, IsLossOf};

@@ -4,7 +4,5 @@
 mod events;
 mod losses;
 mod places;
-#[cfg(test)]
-mod tests;
 
 pub use events::{fell, rose};

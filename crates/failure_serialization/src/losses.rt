@@ -23,5 +23,5 @@ fn is_lost(book: &Book, access: Access) -> bool
 {
     access.status == Status::Acquired
         && access.view == Some(View::Up)
-        && book.doom_of(access.run).is_none()
+        && !book.is_doomed(access.run)
 }

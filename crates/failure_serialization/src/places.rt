@@ -43,6 +43,5 @@ fn first_waiting(table: &Table, book: &Book, d: DeviceNo, first: Option<RunNo>) 
 fn waits(book: &Book, first: Option<RunNo>, access: Access) -> bool
     ensures { result ≡ waits book.now.items first access }
 {
-    (access.status == Status::Scheduled || first == Some(access.run))
-        && book.doom_of(access.run).is_none()
+    (access.status == Status::Scheduled || first == Some(access.run)) && !book.is_doomed(access.run)
 }

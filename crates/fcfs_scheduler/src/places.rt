@@ -1,3 +1,4 @@
+//! First come first served: a run is placed at the end of the line.
 ghost use Rattle.std.specs.Prelude.{◌≡◌, length};
 ghost use Rattle.fcfs_scheduler.specs.Served.{IsServedAt};
 

@@ -1,5 +1,5 @@
 -- What a reading counts, and how failures and restarts take turns.
-use Rattle.history_book.specs.Histories.{entry, is_fall_of, is_rise_of, reading}
+use Rattle.history_book.specs.Histories.{entry, is_fall_of, reading}
 use Rattle.history_book.specs.Readings.{Reading, nothing_read, put}
 use Rattle.history_book.specs.Settings.{Setting}
 use Rattle.history_book.specs.declared.entries.Entry.{Entry}
@@ -61,17 +61,3 @@ fell_step w d n (Ended r e) = nothing_more (n.fell d)
 -- it counts the failures of a device
 pub fell_is : (w : Setting) (h : List Entry) (d : ℕ) → (reading w h).fell d ≡ count_by (is_fall_of d) h
 fell_is w h d = from_none _ (count_by (is_fall_of d) h) (counts_from w (λ n. n.fell d) (is_fall_of d) (fell_step w d) (nothing_read w) h)
-
-rose_step : (w : Setting) (d : ℕ) (n : Reading) (e : Entry) → (entry w n e).rose d ≡ n.rose d + cond (is_rise_of d e) 1 0
-rose_step w d n (Arrived r m) = nothing_more (n.rose d)
-rose_step w d n (Placed r at m) = nothing_more (n.rose d)
-rose_step w d n (Did r c a) = nothing_more (n.rose d)
-rose_step w d n (Undid r e drove) = nothing_more (n.rose d)
-rose_step w d n (Fell e) = nothing_more (n.rose d)
-rose_step w d n (Rose e) = raised n.rose e.0 d
-rose_step w d n (Doomed r cause) = nothing_more (n.rose d)
-rose_step w d n (Ended r e) = nothing_more (n.rose d)
-
--- and its restarts
-pub rose_is : (w : Setting) (h : List Entry) (d : ℕ) → (reading w h).rose d ≡ count_by (is_rise_of d) h
-rose_is w h d = from_none _ (count_by (is_rise_of d) h) (counts_from w (λ n. n.rose d) (is_rise_of d) (rose_step w d) (nothing_read w) h)

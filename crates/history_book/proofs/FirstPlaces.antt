@@ -53,6 +53,16 @@ first_told-place {T} told (x ∷ xs) = rw (position_cons (λ k. is_some (told k.
     by_cases (Some v) e rest = e
     by_cases None e rest = further (first_place told xs) ∙ rest
 
+-- there is such a place exactly where something is told
+pub told-placed : {T : Type 0} (told : Entry → Option T) (h : List Kept) → is_some (first_place told h) ≡ is_some (first_told told h)
+told-placed told [] = refl
+told-placed {T} told (x ∷ xs) = rw (position_cons (λ k. is_some (told k.entry)) x xs) (by_cases (told x.entry) (first_place told xs) (told-placed told xs))
+  where
+    by_cases : (t : Option T) (o : Option ℕ) → is_some o ≡ is_some (first_told told xs) → is_some (if is_some t then Some 0 else option_map (λ k. k + 1) o) ≡ is_some (option_or t (first_told told xs))
+    by_cases (Some v) o rest = refl
+    by_cases None (Some k) rest = rest
+    by_cases None None rest = rest
+
 -- a place that is read is the first
 pub place_read : {T : Type 0} (told : ℕ → Entry → Option T) (h : List Kept) (places : List (Option ℕ)) (r : ℕ) (place : Option ℕ) → true ≡ nat_lt r (length places) → place ≡ slice_index_or places r place → ArePlaces told h places → place ≡ first_place (told r) h
 place_read told h places r place within read are = read ∙ any_default places r within ∙ are r (grind (arith, common_steps))

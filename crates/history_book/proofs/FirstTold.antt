@@ -2,8 +2,7 @@
 use Rattle.history_book.specs.Books.{first_told}
 use Rattle.history_book.specs.declared.entries.Entry.{Entry}
 use Rattle.history_book.specs.declared.entries.Kept.{Kept}
-use Rattle.std.proofs.Common.{IfNone, IfSome, List, None, Option, Some, [], arith, length, refl, slice_index_or, suc, sym, zero, ℕ, ◌++◌, ◌<◌, ◌≡◌, ◌∷◌}
-use Rattle.std.specs.Option.{option_or}
+use Rattle.std.proofs.Common.{IfNone, IfSome, List, None, Option, Some, [], arith, length, refl, slice_index_or, suc, sym, zero, ℕ, ◌<◌, ◌≡◌, ◌∷◌}
 
 module _ {T : Type 0} (told : Entry → Option T) where
   -- no entry tells anything
@@ -27,16 +26,3 @@ module _ {T : Type 0} (told : Entry → Option T) where
   pub first_told-places : (h : List Kept) (r : Option T) → IfNone r (TellsNothing h (length h)) → IfSome r (λ t. (i : ℕ) × (i < length h) × ((d : Kept) → told (slice_index_or h i d).entry ≡ Some t) × TellsNothing h i) → r ≡ first_told told h
   first_told-places h None nothing first = sym (none h nothing)
   first_told-places h (Some t) nothing first = sym (some h first.0 t first.1 first.2 first.3)
-
-  or_none : (o : Option T) → option_or o None ≡ o
-  or_none None = refl
-  or_none (Some t) = refl
-
-  or_later : (o later all : Option T) (t : Option T) → later ≡ option_or all t → option_or o later ≡ option_or (option_or o all) t
-  or_later None later all t e = e
-  or_later (Some x) later all t e = refl
-
-  -- after one more entry: what was told before, else what it tells
-  pub first_told-append : (h : List Kept) (kept : Kept) → first_told told (h ++ kept ∷ []) ≡ option_or (first_told told h) (told kept.entry)
-  first_told-append [] kept = or_none (told kept.entry)
-  first_told-append (x ∷ xs) kept = or_later (told x.entry) _ (first_told told xs) (told kept.entry) (first_told-append xs kept)

@@ -143,16 +143,6 @@ is_fall_of d (Rose e) = false
 is_fall_of d (Doomed r cause) = false
 is_fall_of d (Ended r e) = false
 
-abbrev pub is_rise_of : ℕ → Entry → Bool
-is_rise_of d (Rose e) = e.0 == d
-is_rise_of d (Arrived r m) = false
-is_rise_of d (Placed r at m) = false
-is_rise_of d (Did r c a) = false
-is_rise_of d (Undid r e drove) = false
-is_rise_of d (Fell e) = false
-is_rise_of d (Doomed r cause) = false
-is_rise_of d (Ended r e) = false
-
 -- The serial execution of an order, beside a history
 
 -- the order executed from the window's first state

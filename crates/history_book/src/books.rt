@@ -1,3 +1,4 @@
+//! The history of a window, a list that only grows, with each run's end, doom and placing found at once.
 ghost use Rattle.std.specs.Prelude.{◌≡◌, ◌+◌, ◌<◌, ◌≤◌, [], ◌∷◌, ◌++◌, is_some, length, max, OnOk, OnErr, slice_get};
 ghost use Rattle.history_book.specs.BookParts.{entry_at, noted};
 ghost use Rattle.history_book.specs.Books.{doom_in, doom_of, end_in, end_of, placing_in, placing_of};
@@ -115,6 +116,16 @@ impl Book {
         match self.dooms.get(r.0 as usize) {
             Some(place) => self.entry_at(*place).and_then(|entry| doom_in(r, entry)),
             None => first_doom(self.kept.as_slice(), r),
+        }
+    }
+
+    /// Whether the run `r` has a `Doomed` entry.
+    pub fn is_doomed(&self, r: RunNo) -> bool
+        ensures { result ≡ is_some (doom_of self.now.items r.0) }
+    {
+        match self.dooms.get(r.0 as usize) {
+            Some(place) => place.is_some(),
+            None => first_doom(self.kept.as_slice(), r).is_some(),
         }
     }
 

@@ -1,3 +1,4 @@
+//! The entries of a history, with the causes and ends that they tell, and those of one step.
 use home_types::{Answer, DeviceNo, RunNo, Value};
 
 /// Why a run is aborted. Commands count from 0.

@@ -1,3 +1,4 @@
+//! The record of a closed window.
 use crate::entries::Kept;
 use home_types::{Item, List, Mode, World};
 

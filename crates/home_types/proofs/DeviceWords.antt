@@ -1,13 +1,13 @@
 -- What the words of sets of devices say together, and from a device on.
 use Rattle.home_types.proofs.DeviceBits.{contains_bits}
-use Rattle.home_types.specs.DeviceSets.{HasBit, IsFirstFrom, Meet, devices_of_bits}
-use Rattle.std.proofs.Common.{ap, arith, refl, sym, ◌∙◌}
+use Rattle.home_types.specs.DeviceSets.{HasBit, IsFirstFrom, Meet, devices_of_bits, has_bit}
+use Rattle.std.proofs.Common.{ap, ap₂, arith, refl, sym, ◌∙◌}
 use Rattle.std.proofs.lemmas.Grind.{common_steps}
 use Rattle.std.proofs.lemmas.Nat.Bits.{bit_at-lt, bit_at-trailing_zeros, bit_at-zero, bit_at_above, bit_at_and, bit_at_or}
 use Rattle.std.proofs.lemmas.Nat.{shr-shr, shr_le}
 use Rattle.std.specs.FinSet as set
 use Rattle.std.specs.Int.{bit_at, trailing_zeros, w64}
-use Rattle.std.specs.Prelude.{Bool, IsTrue, List, Some, bit_and, bit_or, false, max, min, nat_lt, not, slice_index, suc, true, zero, ℕ, ◌%◌, ◌&&◌, ◌*◌, ◌+◌, ◌-◌, ◌/◌, ◌<◌, ◌==◌, ◌^◌, ◌≡◌, ◌≢◌, ◌≤◌}
+use Rattle.std.specs.Prelude.{Bool, IsTrue, List, Some, [], bit_and, bit_or, false, max, min, nat_lt, not, slice_index, suc, true, zero, ℕ, ◌%◌, ◌&&◌, ◌*◌, ◌+◌, ◌-◌, ◌/◌, ◌<◌, ◌==◌, ◌^◌, ◌∷◌, ◌≡◌, ◌≢◌, ◌≤◌}
 
 -- a device by its word and its bit there
 contains_at : (words : List ℕ) (d k t : ℕ) → k < 4 → d / 64 ≡ k → d % 64 ≡ t → set.contains (devices_of_bits words) d ≡ (bit_at (slice_index words k) t == 1)
@@ -90,6 +90,37 @@ module _ (a b : List ℕ) where
   -- some device is in both sets where some bit is in both words
   pub words_meet : (result : Bool) → (IsTrue result → HasBit words_of_both) × (HasBit words_of_both → IsTrue result) → (IsTrue result → Meet (devices_of_bits a) (devices_of_bits b)) × (Meet (devices_of_bits a) (devices_of_bits b) → IsTrue result)
   words_meet result told = ((λ b. found (told.0 b)), (λ meet. told.1 (kept meet)))
+
+-- a bit of a word is a bit of both words exactly where it is one of each
+and_bit : (m n t : ℕ) → (bit_at (bit_and m n) t == 1) ≡ ((bit_at m t == 1) && (bit_at n t == 1))
+and_bit m n t =
+    let small = bit_at-lt m t in
+    let little = bit_at-lt n t in
+    ap (λ b. b == 1) (bit_at_and m n t) ∙ at (bit_at m t) (bit_at n t) small little
+  where
+    at : (x y : ℕ) → x < 2 → y < 2 → (min x y == 1) ≡ ((x == 1) && (y == 1))
+    at x y small little = grind (arith, common_steps)
+
+-- the words of both lists, word by word
+abbrev pub both_words : List ℕ → List ℕ → List ℕ
+both_words a b = word_of_both a b 0 ∷ word_of_both a b 1 ∷ word_of_both a b 2 ∷ word_of_both a b 3 ∷ []
+
+-- they stand for the devices of both
+pub words_both : (a b : List ℕ) (d : ℕ) → set.contains (devices_of_bits (both_words a b)) d ≡ (set.contains (devices_of_bits a) d && set.contains (devices_of_bits b) d)
+words_both a b d = contains_bits (both_words a b) d ∙ at (nat_lt d 256) refl ∙ sym (ap₂ (λ x y. x && y) (contains_bits a d) (contains_bits b d))
+  where
+    word : (k : ℕ) → k < 4 → slice_index (both_words a b) k ≡ word_of_both a b k
+    word zero low = refl
+    word (suc zero) low = refl
+    word (suc (suc zero)) low = refl
+    word (suc (suc (suc zero))) low = refl
+    word (suc (suc (suc (suc k)))) low = absurd (omega (arith, low))
+
+    at : (i : Bool) → nat_lt d 256 ≡ i → (i && has_bit (both_words a b) d) ≡ ((i && has_bit a d) && (i && has_bit b d))
+    at false e = refl
+    at true e =
+        let small : d < 256 = grind (arith, common_steps) in
+        ap (λ w. bit_at w (d % 64) == 1) (word (d / 64) (omega (arith, small))) ∙ and_bit (slice_index a (d / 64)) (slice_index b (d / 64)) (d % 64)
 
 -- a word has a bit exactly where it is not 0
 pub has_some_bit : (word : ℕ) → word < 2 ^ 64 → (IsTrue (not (word == 0)) → HasBit word) × (HasBit word → IsTrue (not (word == 0)))

@@ -1,3 +1,4 @@
+-- A list as callers see it.
 use Rattle.std.specs.Prelude.{List, ℕ}
 
 -- the items of a list, and how many more it takes with no memory

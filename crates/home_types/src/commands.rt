@@ -1,5 +1,10 @@
+ghost use Rattle.std.specs.Prelude.{◌≡◌, IfOk};
+
 use crate::lists::List;
+use crate::memory::NoMemory;
 use crate::numbers::{DeviceNo, Value};
+use crate::shared_lists::SharedList;
+use std::alloc::Global;
 
 /// What a command does with its device, and with the register of its run.
 #[derive(Clone, Copy, Debug, PartialEq, Eq)]
@@ -27,10 +32,30 @@ pub struct Command {
     pub takes: u32,
 }
 
-/// A list of commands, to be done in order.
+/// A list of commands, to be done in order, which its script and its runs own together.
 #[derive(Drop)]
 pub struct Routine {
-    pub commands: List<Command>,
+    pub commands: SharedList<Command>,
+}
+
+impl Routine {
+    /// Makes a routine of these commands, or answers `NoMemory`; they are dropped then.
+    pub fn new(alloc: Global, commands: List<Command>) -> Result<Routine, NoMemory>
+        ensures { IfOk result (λ routine. routine.commands ≡ commands) }
+    {
+        Ok(Routine {
+            commands: SharedList::new(alloc, commands)?,
+        })
+    }
+
+    /// The same routine for one more owner: no command is copied. `NoMemory` where it has 2^63 owners.
+    pub fn share(&self) -> Result<Routine, NoMemory>
+        ensures { IfOk result (λ routine. routine ≡ self.now) }
+    {
+        Ok(Routine {
+            commands: self.commands.share()?,
+        })
+    }
 }
 
 /// What a command was told.

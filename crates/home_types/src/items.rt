@@ -1,3 +1,4 @@
+//! The items of a line: runs, failures and restarts.
 use crate::numbers::{DeviceNo, RunNo};
 
 /// An item of a serial order.

@@ -1,3 +1,4 @@
+//! The kinds of devices, and the values that each has.
 ghost use Rattle.std.specs.Prelude.{◌≡◌};
 ghost use Rattle.home_types.specs.Kinds.{has_value, nearest as nearest_value};
 

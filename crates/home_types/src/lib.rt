@@ -10,6 +10,7 @@ pub mod lists;
 pub mod memory;
 pub mod modes;
 pub mod numbers;
+pub mod shared_lists;
 pub mod texts;
 pub mod worlds;
 
@@ -21,5 +22,6 @@ pub use lists::List;
 pub use memory::NoMemory;
 pub use modes::{Mode, Scheduler, Visibility};
 pub use numbers::{DeviceNo, RunNo, Value};
+pub use shared_lists::SharedList;
 pub use texts::{Bytes, Text};
 pub use worlds::{Stand, World};

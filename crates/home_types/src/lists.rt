@@ -1,3 +1,4 @@
+//! A list that tells how many more items it takes with no memory.
 ghost use Rattle.std.specs.Prelude.{◌≡◌, ◌+◌, ◌<◌, ◌≤◌, ◌^◌, ◌↔◌, [], ◌∷◌, ◌++◌, length, IsOk, IsSome, IfOk, OnOk, OnErr, IfSome, IfNone, max, slice_get, slice_set};
 ghost use Rattle.std.specs.Option.{option_copied};
 
@@ -115,13 +116,10 @@ impl<T: Drop> List<T> {
         ensures roomy { 0 < self.old.spare → IsOk result }
         ensures used { 0 < self.old.spare → self.new.spare + 1 ≡ self.old.spare }
     {
-        if self.items.len() == self.items.capacity() {
-            self.reserve(1)?;
+        if self.items.len() == self.items.capacity() && self.items.reserve(1).is_err() {
+            return Err(NoMemory);
         }
-        let end = self.items.len();
-        match self.items.insert(end, t) {
-            Ok(()) => Ok(()),
-            Err(_) => Err(NoMemory),
-        }
+        self.items.push_reserved(t);
+        Ok(())
     }
 }

@@ -1,4 +1,5 @@
-ghost use Rattle.std.specs.Prelude.{◌≡◌, IfOk};
+//! Texts and bytes that are owned.
+ghost use Rattle.std.specs.Prelude.{◌≡◌, IfOk, string_bytes};
 
 use crate::memory::NoMemory;
 use std::alloc::Global;
@@ -59,6 +60,15 @@ impl Bytes {
         match Vec::from_slice(alloc, bytes) {
             Ok(bytes) => Ok(Bytes { bytes }),
             Err(_) => Err(NoMemory),
+        }
+    }
+
+    /// The bytes of a text, which gives its memory to them.
+    pub fn from_text(text: String) -> Bytes
+        ensures { result ≡ string_bytes text }
+    {
+        Bytes {
+            bytes: text.into_bytes(),
         }
     }
 

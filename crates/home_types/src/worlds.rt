@@ -1,3 +1,4 @@
+//! How each device of a home stands.
 use crate::lists::List;
 use crate::numbers::Value;
 

@@ -1,6 +1,6 @@
 -- The number of a trial: from 1 to as many windows as a script may have.
 use Rattle.command_words.specs.CommandLines.{check_of, command_line_of, trial_of}
-use Rattle.command_words.specs.OptionWords.{options_of}
+use Rattle.command_words.specs.OptionGrammar.{options_by_words}
 use Rattle.command_words.specs.TrialNumbers.{is_numeral, number_of}
 use Rattle.command_words.specs.declared.command_lines.CommandLine.TheVariants.{Replay, Run, Trial}
 use Rattle.command_words.specs.declared.command_lines.CommandLine.{CommandLine}
@@ -44,9 +44,9 @@ trial_within (word ∷ []) n is = by_number (number_of word) refl is
 trial_within (word ∷ next ∷ words) n is = absurd (cc)
 
 command_within : (run replay check trial : Bool) (words : List (List ℕ)) (n : ℕ)
-    → (if run then option_map Run (options_of words) else (if replay then option_map Replay (options_of words) else (if check then check_of words else (if trial then trial_of words else None)))) ≡ Some (Trial n) → IsWithin n
-command_within true replay check trial words n is = absurd (options_no_trial Run (options_of words) n (λ options same. absurd (cc)) is)
-command_within false true check trial words n is = absurd (options_no_trial Replay (options_of words) n (λ options same. absurd (cc)) is)
+    → (if run then option_map Run (options_by_words words) else (if replay then option_map Replay (options_by_words words) else (if check then check_of words else (if trial then trial_of words else None)))) ≡ Some (Trial n) → IsWithin n
+command_within true replay check trial words n is = absurd (options_no_trial Run (options_by_words words) n (λ options same. absurd (cc)) is)
+command_within false true check trial words n is = absurd (options_no_trial Replay (options_by_words words) n (λ options same. absurd (cc)) is)
 command_within false false true trial words n is = absurd (check_no_trial words n is)
 command_within false false false true words n is = trial_within words n is
 command_within false false false false words n is = absurd (cc)

@@ -1,12 +1,13 @@
 -- A day under way, and one window more.
 use Rattle.history_book.specs.Settings.{Setting}
 use Rattle.history_book.specs.declared.records.WindowRecord.{WindowRecord}
+use Rattle.home_types.proofs.Snocs.{snoc_get}
 use Rattle.home_types.specs.HomeStates.{stand_at}
 use Rattle.home_types.specs.declared.modes.Mode.{Mode}
 use Rattle.hub_core.specs.Homes.{AreNew, HomeIsKept, HomeState}
 use Rattle.hub_core.specs.LegalDays.{IsLegalCutDay, IsLegalDay, setting_of, state_after, total}
 use Rattle.hub_core.specs.LegalWindows.{IsLegalWindow}
-use Rattle.hub_commands.proofs.Snocs.{get_before, get_last, given, length_more, snoc_get, sum_more}
+use Rattle.hub_commands.proofs.Snocs.{get_before, get_last, given, length_more, sum_more}
 use Rattle.hub_commands.specs.Days.{HaveCommitted, IsUnderWay, NoneHasFailed, WindowsArePlayed}
 use Rattle.hub_commands.specs.Played.{HasGoneOn, IsPlayed, setting_on}
 use Rattle.routine_reader.specs.Rosters.{kinds_of, script_runs, start_home, start_stand}

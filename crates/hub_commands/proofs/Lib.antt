@@ -1,8 +1,6 @@
 mod Snocs
 mod DaysUnderWay
-mod SoundScripts
 mod AskedModes
-pub mod Openings
 mod PlayedWindows
 mod WorkedWays
 mod NextWindows

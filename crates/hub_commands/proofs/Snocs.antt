@@ -1,16 +1,6 @@
 -- Lists with one item more.
-use Rattle.std.proofs.Common.{ap, arith, inl, inr, refl}
-use Rattle.std.specs.Prelude.{List, Some, [], fold, length, slice_get, suc, sum_by, zero, ℕ, ◌+◌, ◌++◌, ◌<◌, ◌∷◌, ◌≡◌, ◌⊎◌}
-
--- a place of a list with one item more is a place of the list, or the new one
-pub snoc_get : {X : Type 0} (xs : List X) (x y : X) (k : ℕ) → slice_get (xs ++ x ∷ []) k ≡ Some y → (slice_get xs k ≡ Some y) ⊎ ((k ≡ length xs) × (x ≡ y))
-snoc_get [] x y zero h = inr (refl, cc)
-snoc_get [] x y (suc k) h = absurd (cc)
-snoc_get (z ∷ xs) x y zero h = inl h
-snoc_get (z ∷ xs) x y (suc k) h = elim (snoc_get xs x y k h) [
-  | inl e ↦ inl e
-  | inr p ↦ inr (ap (λ n. suc n) p.0, p.1)
-]
+use Rattle.std.proofs.Common.{ap, arith, refl}
+use Rattle.std.specs.Prelude.{List, Some, [], fold, length, slice_get, suc, sum_by, zero, ℕ, ◌+◌, ◌++◌, ◌<◌, ◌∷◌, ◌≡◌}
 
 pub get_before : {X : Type 0} (xs : List X) (x : X) (k : ℕ) → k < length xs → slice_get (xs ++ x ∷ []) k ≡ slice_get xs k
 get_before [] x k within = absurd (omega (arith, within))

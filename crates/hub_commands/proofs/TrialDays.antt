@@ -1,13 +1,18 @@
 -- The day of a trial.
 use Rattle.command_words.specs.declared.command_lines.Options.{Options}
 use Rattle.hub_commands.specs.Finishes.{DayEnds, IsWhole, Shown, Writes}
+use Rattle.hub_commands.specs.Trials.{HasJudged, IsTrialDay, TrialEnds, finding, trial_mode}
 use Rattle.hub_commands.specs.Ways.{IsReplayOf}
+use Rattle.hub_commands.specs.declared.faults.Fault.TheVariants.{Check, Memory, Read, Script as Refuses, Words, Write}
 use Rattle.hub_commands.specs.declared.faults.Fault.{Fault}
 use Rattle.hub_commands.specs.declared.finishes.Day.{Day}
 use Rattle.hub_core.specs.LegalDays.{RecordsAreLegal}
+use Rattle.order_checker.specs.declared.verdicts.Verdict.TheVariants.{Agrees}
+use Rattle.routine_reader.specs.Scripts.{plain_script}
 use Rattle.routine_reader.specs.declared.scripts.Script.{Script}
-use Rattle.std.proofs.Common.{subst, sym, ◌∙◌}
-use Rattle.std.specs.Prelude.{None, Option, Some, ◌≡◌}
+use Rattle.std.proofs.Common.{inr, refl, subst, sym, ◌∙◌}
+use Rattle.std.specs.Prelude.{None, Option, Some, false, ℕ, ◌≡◌}
+use Rattle.trial_scripts.specs.TrialScripts.{trial_script}
 
 -- what is true of the day that was handed back is true of this one
 given_day : {D : Type 0} (P : Day D → Type 0) (day other : Day D) → ◌≡◌ {A = Option (Day D)} (Some day) (Some other) → P other → P day
@@ -19,3 +24,51 @@ pub whole_legal : {D : Type 0} (shown : Shown D) (script : Script) (options : Op
 whole_legal shown script options sink o fault day is none ends =
     let whole : IsWhole IsReplayOf shown script options sink o = subst (λ f. DayEnds IsReplayOf shown script options sink o f) none ends in
     given_day (λ d. RecordsAreLegal script options.mode d.windows.items) day whole.day (sym is ∙ whole.given) whole.legal.legal
+
+module _ {D : Type 0} (shown : Shown D) (n : ℕ) (script : Script) (made : plain_script script ≡ trial_script n) (text sink : Writes) (after : Option (Day D)) where
+  abbrev trial_options : Options
+  trial_options = record { mode = trial_mode; trace = false }
+
+  trial_day : (o : Option (Day D)) (whole : IsWhole IsReplayOf shown script trial_options text o) → finding script whole.day ≡ Agrees → IsTrialDay shown n whole.day
+  trial_day o whole agrees = record {
+    script = script;
+    made = made;
+    devices = whole.devices;
+    there = whole.there;
+    legal = whole.legal;
+    takes = whole.takes;
+    played = whole.played;
+    probed = whole.probed;
+    agrees = agrees;
+  }
+
+  judged_whole : (o : Option (Day D)) (whole : IsWhole IsReplayOf shown script trial_options text o) (told : Option Fault)
+      → finding script whole.day ≡ Agrees → HasJudged n script sink whole.day after told → TrialEnds shown n sink after told
+  unfolding trial_day
+  judged_whole o whole None agrees judged =
+      record { day = whole.day; given = judged.0; trial = trial_day o whole agrees; text = judged.1; calm = judged.2 }
+  judged_whole o whole (Some (Refuses fault)) agrees judged = judged
+  judged_whole o whole (Some Words) agrees judged = judged
+  judged_whole o whole (Some Read) agrees judged = judged
+  judged_whole o whole (Some Write) agrees judged =
+      record { day = whole.day; given = judged.0; trial = trial_day o whole agrees; text = judged.1; failed = judged.2 }
+  judged_whole o whole (Some Memory) agrees judged = (
+    judged.1,
+    inr (record {
+      script = script;
+      made = made;
+      day = record { windows = whole.day.windows; devices = None };
+      given = judged.0;
+      no_devices = refl;
+      takes = whole.takes;
+      played = whole.played;
+    }),
+  )
+  judged_whole o whole (Some (Check window place name)) agrees judged = judged
+
+  -- a day that was played and judged
+  pub judged_ends : (o : Option (Day D)) (fault : Option Fault) (day : Day D) (told : Option Fault) → o ≡ Some day → fault ≡ None
+      → DayEnds IsReplayOf shown script trial_options text o fault → finding script day ≡ Agrees → HasJudged n script sink day after told → TrialEnds shown n sink after told
+  judged_ends o fault day told is none ends =
+      let whole : IsWhole IsReplayOf shown script trial_options text o = subst (λ f. DayEnds IsReplayOf shown script trial_options text o f) none ends in
+      given_day (λ d. finding script d ≡ Agrees → HasJudged n script sink d after told → TrialEnds shown n sink after told) day whole.day (sym is ∙ whole.given) (judged_whole o whole told)

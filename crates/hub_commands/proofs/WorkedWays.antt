@@ -52,10 +52,10 @@ replayed_as tag plan turns probes faults hub window picks home closed rounds sam
 }
 
 -- the threads took every probe
-pub run_as : {D : Type 0} (tag : D → ℕ) (plan : D → Option (List (ℕ × ℕ))) (turns probes faults : D → ℕ) (latest : ℕ) (hub : OpenHub D) (window : WindowText) (home : HomeState D) (closed : WindowRecord)
-    → hub.rounds ≡ window.probes → IsWorked tag plan turns probes faults latest hub home closed
-    → IsWorkedAs (IsRunWithin latest) tag plan turns probes faults hub window home closed
-run_as tag plan turns probes faults latest hub window home closed rounds is = record {
+pub run_as : {D : Type 0} (tag : D → ℕ) (plan : D → Option (List (ℕ × ℕ))) (turns probes faults : D → ℕ) (earliest latest : ℕ) (hub : OpenHub D) (window : WindowText) (home : HomeState D) (closed : WindowRecord)
+    → hub.rounds ≡ window.probes → IsWorked tag plan turns probes faults earliest latest hub home closed
+    → IsWorkedAs (IsRunWithin earliest latest) tag plan turns probes faults hub window home closed
+run_as tag plan turns probes faults earliest latest hub window home closed rounds is = record {
   taken = λ d. window.probes;
   worked = record { moments = is.moments; probes = λ d. refl };
   legal = is.legal;

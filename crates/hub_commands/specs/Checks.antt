@@ -13,6 +13,7 @@ use Rattle.order_checker.specs.declared.verdicts.Verdict.TheVariants.{Agrees, Di
 use Rattle.order_checker.specs.declared.verdicts.Verdict.{Verdict}
 use Rattle.routine_reader.specs.Readings.{script_reading}
 use Rattle.routine_reader.specs.Scripts.{PlainScript, plain_script}
+use Rattle.routine_reader.specs.Sound.{IsSound}
 use Rattle.routine_reader.specs.Spots.{is_memory}
 use Rattle.routine_reader.specs.declared.faults.Count.TheVariants.{Bytes}
 use Rattle.routine_reader.specs.declared.faults.ReadFault.TheVariants.{TooMany}
@@ -57,11 +58,12 @@ IsJudged script text (Err (Check window place name)) = (verdict_of script text �
 abbrev pub IsWithinCheckLimit : Reads → Type 0
 IsWithinCheckLimit source = TakesUpTo source.left source.rest (most_check_bytes + 1)
 
--- the source gave all of its bytes without a fault, the script is the reading of those before the dividing line, and this is found of the record behind it
+-- the source gave all of its bytes without a fault, the script is the reading of those before the dividing line, and sound, and this is found of the record behind it
 pub record IsFound (source : Reads) (script : Script) (verdict : Verdict) : Type 0 where
   pub ended : IsAtEnd source.rest
   pub within : IsWithinCheckLimit source
   pub reading : IfSome source.left (λ bytes. input_reading bytes ≡ Ok (plain_script script))
+  pub sound : IsSound (plain_script script)
   pub finding : IfSome source.left (λ bytes. input_verdict script bytes ≡ verdict)
   pub calm : source.faults_after ≡ source.faults
 

@@ -3,8 +3,9 @@ use Rattle.hub_commands.specs.declared.faults.Fault.TheVariants.{Check, Memory, 
 use Rattle.hub_commands.specs.declared.faults.Fault.{Fault}
 use Rattle.order_checker.specs.declared.verdicts.Place.TheVariants.{Answer, Device, Head, Home, Order, Run, Total, Window}
 use Rattle.order_checker.specs.declared.verdicts.Place.{Place}
+use Rattle.routine_reader.specs.Spots.{refusal_text}
 use Rattle.std.specs.Fmt.{decimal}
-use Rattle.std.specs.Prelude.{List, None, Option, Some, codes, ℕ, ◌+◌, ◌++◌}
+use Rattle.std.specs.Prelude.{List, codes, ℕ, ◌+◌, ◌++◌}
 
 -- a command counts from 1; a device is told by its number
 abbrev pub place_text : Place → List ℕ
@@ -28,11 +29,11 @@ named_place Home name = place_text Home
 named_place (Device device) name = codes "device " ++ name
 named_place Total name = place_text Total
 
--- the text of a fault; that of a refused script is told by no clause
-abbrev pub fault_text : Fault → Option (List ℕ)
-fault_text (Script fault) = None
-fault_text Words = Some (codes "words")
-fault_text Read = Some (codes "read")
-fault_text Write = Some (codes "write")
-fault_text Memory = Some (codes "memory")
-fault_text (Check window place name) = Some (codes "check: window " ++ decimal window ++ codes " " ++ named_place place name)
+-- the text of a fault
+abbrev pub fault_text : Fault → List ℕ
+fault_text (Script fault) = codes "script: " ++ refusal_text fault
+fault_text Words = codes "words"
+fault_text Read = codes "read"
+fault_text Write = codes "write"
+fault_text Memory = codes "memory"
+fault_text (Check window place name) = codes "check: window " ++ decimal window ++ codes " " ++ named_place place name

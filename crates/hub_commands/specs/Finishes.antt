@@ -14,6 +14,7 @@ use Rattle.hub_commands.specs.declared.faults.Fault.{Fault}
 use Rattle.hub_commands.specs.declared.finishes.Day.{Day}
 use Rattle.routine_reader.specs.Readings.{script_reading}
 use Rattle.routine_reader.specs.Scripts.{plain_script}
+use Rattle.routine_reader.specs.Sound.{IsSound}
 use Rattle.routine_reader.specs.Spots.{is_memory}
 use Rattle.routine_reader.specs.declared.faults.ReadFault.{ReadFault}
 use Rattle.routine_reader.specs.declared.scripts.Script.{Script}
@@ -45,11 +46,12 @@ written held holds faults faults_after = record { held = held; holds = holds; fa
 abbrev pub IsWithinLimit : Reads → Type 0
 IsWithinLimit source = TakesUpTo source.left source.rest (most_script_bytes + 1)
 
--- the source gave all of its bytes without a fault, and the script is their reading
+-- the source gave all of its bytes without a fault, and the script is their reading, and sound
 pub record IsRead (source : Reads) (script : Script) : Type 0 where
   pub ended : IsAtEnd source.rest
   pub within : IsWithinLimit source
   pub reading : IfSome source.left (λ bytes. script_reading bytes ≡ Ok (plain_script script))
+  pub sound : IsSound (plain_script script)
   pub calm : source.faults_after ≡ source.faults
 
 -- all of it was read, or one byte more than a script may have

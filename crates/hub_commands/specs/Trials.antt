@@ -1,5 +1,6 @@
 -- How a trial ends: by its fault, what was played and written.
 use Rattle.day_clock.specs.Sinks.{AppendsPart}
+use Rattle.day_report.specs.Days.{day_text}
 use Rattle.day_report.specs.Trials.{trial_text}
 use Rattle.home_types.specs.Listed.{Listed}
 use Rattle.home_types.specs.declared.modes.Mode.{Mode}
@@ -12,12 +13,13 @@ use Rattle.hub_commands.specs.declared.faults.Fault.TheVariants.{Check, Memory, 
 use Rattle.hub_commands.specs.declared.faults.Fault.{Fault}
 use Rattle.hub_commands.specs.declared.finishes.Day.{Day}
 use Rattle.hub_core.specs.LegalDays.{IsLegalDay}
+use Rattle.order_checker.specs.Records.{verdict_of}
 use Rattle.order_checker.specs.declared.verdicts.Verdict.TheVariants.{Agrees, Differs}
 use Rattle.order_checker.specs.declared.verdicts.Verdict.{Verdict}
 use Rattle.routine_reader.specs.Scripts.{plain_script}
 use Rattle.routine_reader.specs.declared.scripts.Script.{Script}
 use Rattle.std.specs.Io.KnownBytes.{Appends}
-use Rattle.std.specs.Prelude.{List, None, Option, Some, length, option_map, ℕ, ◌-◌, ◌<◌, ◌≡◌, ◌⊎◌}
+use Rattle.std.specs.Prelude.{List, None, Option, Some, false, length, option_map, ℕ, ◌-◌, ◌<◌, ◌≡◌, ◌⊎◌}
 use Rattle.trial_scripts.specs.TrialScripts.{trial_script}
 
 -- the mode of a trial
@@ -29,7 +31,11 @@ abbrev pub agreeing : Verdict → ℕ → ℕ
 agreeing Agrees windows = windows
 agreeing (Differs window place) windows = window - 1
 
--- the day that is handed back is the whole day of the trial's script, legal, each of its windows the replay of its seed, and in each every run has ended
+-- what is found of the day's record, which is made and not written
+abbrev pub finding : {D : Type 0} → Script → Day D → Verdict
+finding script day = verdict_of script (day_text script day.windows.items trial_mode false)
+
+-- the day that is handed back is the whole day of the trial's script, legal, each of its windows the replay of its seed, and in each every run has ended; its record agrees
 pub record IsTrialDay {D : Type 0} (shown : Shown D) (n : ℕ) (day : Day D) : Type 0 where
   pub script : Script
   pub made : plain_script script ≡ trial_script n
@@ -39,17 +45,19 @@ pub record IsTrialDay {D : Type 0} (shown : Shown D) (n : ℕ) (day : Day D) : T
   pub takes : List (ℕ → ℕ)
   pub played : WindowsArePlayed IsReplayOf script trial_mode day.windows.items takes
   pub probed : DevicesAreProbed shown.probes takes devices.items
+  pub agrees : finding script day ≡ Agrees
 
--- the line of the trial: the counts of its day, of whose windows each agrees
-abbrev pub line_due : {D : Type 0} → ℕ → Day D → List ℕ
-line_due n day = trial_text n day.windows.items (length day.windows.items)
+-- the line of the trial: the counts of its day, and how many of its windows agree by what is found of its record
+abbrev pub line_due : {D : Type 0} → ℕ → Script → Day D → List ℕ
+line_due n script day =
+    trial_text n day.windows.items (agreeing (finding script day) (length day.windows.items))
 
 -- the day was played, and its line was written
 pub record TrialIsWritten {D : Type 0} (shown : Shown D) (n : ℕ) (sink : Writes) (o : Option (Day D)) : Type 0 where
   pub day : Day D
   pub given : o ≡ Some day
   pub trial : IsTrialDay shown n day
-  pub text : Appends sink.held sink.holds (line_due n day)
+  pub text : Appends sink.held sink.holds (line_due n trial.script day)
   pub calm : sink.faults_after ≡ sink.faults
 
 -- the day was played, and the sink failed: it got a first part of the line, and not all
@@ -57,7 +65,7 @@ pub record TrialIsCut {D : Type 0} (shown : Shown D) (n : ℕ) (sink : Writes) (
   pub day : Day D
   pub given : o ≡ Some day
   pub trial : IsTrialDay shown n day
-  pub text : AppendsPart sink.held sink.holds (line_due n day)
+  pub text : AppendsPart sink.held sink.holds (line_due n trial.script day)
   pub failed : sink.faults < sink.faults_after
 
 -- memory was wanted when the script was made: its windows are legal up to there, and no device is handed back
@@ -89,11 +97,11 @@ abbrev pub HasStarved : {D : Type 0} → Option (Day D) → Option (Day D) → O
 HasStarved day after fault = (fault ≡ Some Memory) × (after ≡ option_map (λ d. record { windows = d.windows; devices = None }) day)
 
 -- the line of the trial was written, or a first part of it, or there was no memory for that
-abbrev pub HasJudged : {D : Type 0} → ℕ → Writes → Day D → Option (Day D) → Option Fault → Type 0
-HasJudged n sink day after None = (after ≡ Some day) × Appends sink.held sink.holds (line_due n day) × (sink.faults_after ≡ sink.faults)
-HasJudged n sink day after (Some (Refuses fault)) = ⊥
-HasJudged n sink day after (Some Words) = ⊥
-HasJudged n sink day after (Some Read) = ⊥
-HasJudged n sink day after (Some Write) = (after ≡ Some day) × AppendsPart sink.held sink.holds (line_due n day) × (sink.faults < sink.faults_after)
-HasJudged n sink day after (Some Memory) = (after ≡ Some (record { windows = day.windows; devices = None })) × IsUnwritten sink
-HasJudged n sink day after (Some (Check window place name)) = ⊥
+abbrev pub HasJudged : {D : Type 0} → ℕ → Script → Writes → Day D → Option (Day D) → Option Fault → Type 0
+HasJudged n script sink day after None = (after ≡ Some day) × Appends sink.held sink.holds (line_due n script day) × (sink.faults_after ≡ sink.faults)
+HasJudged n script sink day after (Some (Refuses fault)) = ⊥
+HasJudged n script sink day after (Some Words) = ⊥
+HasJudged n script sink day after (Some Read) = ⊥
+HasJudged n script sink day after (Some Write) = (after ≡ Some day) × AppendsPart sink.held sink.holds (line_due n script day) × (sink.faults < sink.faults_after)
+HasJudged n script sink day after (Some Memory) = (after ≡ Some (record { windows = day.windows; devices = None })) × IsUnwritten sink
+HasJudged n script sink day after (Some (Check window place name)) = ⊥

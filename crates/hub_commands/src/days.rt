@@ -1,3 +1,4 @@
+//! A day, window after window: how it begins, goes on and ends, and what is written of it.
 ghost use Rattle.std.specs.Prelude.{◌≡◌, ◌<◌, ◌≤◌, ◌++◌, ◌∷◌, [], IfOk, None, Some, length};
 ghost use Rattle.day_report.specs.Days.{window_text as window_lines_of};
 ghost use Rattle.home_types.specs.Limits.{most_windows};

@@ -1,3 +1,4 @@
+//! Why a call ends early, its status, and the line that tells it.
 ghost use Rattle.std.specs.Prelude.{◌≡◌};
 ghost use Rattle.hub_commands.specs.Statuses.{fault_status};
 
@@ -52,8 +53,9 @@ impl Fault {
 
 impl fmt::Display for Fault {
     ghost use Rattle.hub_commands.specs.FaultTexts.{fault_text};
+    ghost use Rattle.std.specs.Prelude.{Some};
 
-    ghost output = { λ fault. fault_text fault };
+    ghost output = { λ fault. Some (fault_text fault) };
 
     fn fmt<W: fmt::Write>(&self, f: &mut fmt::Formatter<W>) -> fmt::Result {
         match self {

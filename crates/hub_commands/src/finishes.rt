@@ -1,3 +1,4 @@
+//! What a call hands back: its source, its sink, the day, and the fault.
 use crate::faults::Fault;
 use device_states::Device;
 use history_book::WindowRecord;

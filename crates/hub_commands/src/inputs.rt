@@ -1,3 +1,4 @@
+//! The input of a call, read to its end as a script.
 ghost use Rattle.std.specs.Prelude.{IfOk};
 ghost use Rattle.hub_commands.specs.Finishes.{InputIsRead, read_off};
 ghost use Rattle.routine_reader.specs.Scripts.{plain_script};

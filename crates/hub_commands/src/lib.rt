@@ -12,8 +12,6 @@ mod plays;
 mod replays;
 mod runs;
 mod stills;
-#[cfg(test)]
-mod tests;
 mod trials;
 mod ways;
 

@@ -1,3 +1,4 @@
+//! A piece of text, made and written.
 ghost use Rattle.std.specs.Prelude.{◌≡◌, ◌<◌, Err, IfOk, Ok};
 ghost use Rattle.hub_commands.specs.Pieces.{PieceEnds};
 ghost use Rattle.hub_commands.specs.Finishes.{written};

@@ -1,3 +1,4 @@
+//! The call for `run`: a day that is run with threads.
 ghost use Rattle.std.specs.Prelude.{◌≡◌, ◌<◌, Err, IfErr, IfOk, IsTrue, None, Some, false, length, map, string_bytes};
 ghost use Rattle.hub_commands.specs.CommandsTaken.{run_line_of};
 ghost use Rattle.hub_commands.specs.Days.{IsUnderWay};
@@ -40,7 +41,9 @@ fn run_opened<R: Threads + Wait + Sync, D: Device + Send, C: Clock + Sync>(
 ) -> Result<(Home<D>, WindowRecord), NoMemory>
     requires fresh { configuration_of hub ≡ opened hub.setting hub.rounds }
     requires rounds { hub.rounds ≡ window.now.probes }
-    ensures { IfOk result (λ done. IsWorkedAs (IsRunWithin (C.latest clock.now)) D.tag D.plan D.turns D.probes D.faults hub window.now done.0 done.1) }
+    ensures { IfOk result (λ done.
+        IsWorkedAs (IsRunWithin (C.earliest clock.now) (C.latest clock.now))
+        D.tag D.plan D.turns D.probes D.faults hub window.now done.0 done.1) }
 {
     match run_window(rt, alloc, hub, window.probes, clock) {
         Ok(done) => Ok(done),
@@ -65,8 +68,13 @@ fn run_next<R: Threads + Wait + Sync, D: Device + Send, C: Clock + Sync>(
     requires sound { IsSound (plain_script script.now) }
     requires goes { IsTrue (is_mode mode) }
     requires next { length day.windows.items < length script.now.windows.items }
-    requires under_way { IsUnderWay (IsRunWithin (C.latest clock.now)) D.tag D.plan D.stands D.turns D.probes D.faults script.now mode day.home day.windows.items }
-    ensures played { IfOk result (λ next. HasGoneOn (IsRunWithin (C.latest clock.now)) D.tag D.plan D.stands D.turns D.probes D.faults script.now mode day.windows.items next.home next.windows.items) }
+    requires under_way { IsUnderWay (IsRunWithin (C.earliest clock.now) (C.latest clock.now))
+        D.tag D.plan D.stands D.turns D.probes D.faults
+        script.now mode day.home day.windows.items }
+    ensures played { IfOk result (λ next.
+        HasGoneOn (IsRunWithin (C.earliest clock.now) (C.latest clock.now))
+        D.tag D.plan D.stands D.turns D.probes D.faults
+        script.now mode day.windows.items next.home next.windows.items) }
     ensures starved { IfErr result (λ windows. windows.items ≡ day.windows.items) }
 {
     let (hub, windows) = match open_next(alloc, script, mode, day) {
@@ -97,7 +105,7 @@ where
     requires sound { IsSound (plain_script script.now) }
     requires goes { IsTrue (is_mode options.mode) }
     ensures status { result.status ≡ status_of result.fault }
-    ensures ends { DayEnds (IsRunWithin (C.latest clock.now))
+    ensures ends { DayEnds (IsRunWithin (C.earliest clock.now) (C.latest clock.now))
         (shown_by B.Dev.tag B.Dev.plan B.Dev.stands B.Dev.turns B.Dev.probes B.Dev.faults)
         script.now options
         (written (K.holds sink.old) (K.holds sink.new) (K.faults sink.old) (K.faults sink.new))
@@ -152,7 +160,7 @@ pub fn run_command<R: Threads + Wait + Sync, S: Source, K: Sink, B: Bench, C: Cl
 where
     B::Dev: Send,
     ensures status { result.status ≡ status_of result.fault }
-    ensures ends { CallEnds (IsRunWithin (C.latest clock.now))
+    ensures ends { CallEnds (IsRunWithin (C.earliest clock.now) (C.latest clock.now))
         (shown_by B.Dev.tag B.Dev.plan B.Dev.stands B.Dev.turns B.Dev.probes B.Dev.faults)
         (run_line_of (map string_bytes words.now))
         (read_off (S.left source.old) (S.left source.new) (S.faults source.old) (S.faults source.new))

@@ -4,8 +4,9 @@ ghost use Rattle.day_report.specs.Days.{day_text};
 ghost use Rattle.home_types.specs.Limits.{most_windows};
 ghost use Rattle.hub_commands.specs.Finishes.{shown_by, written};
 ghost use Rattle.hub_commands.specs.Statuses.{status_of};
-ghost use Rattle.hub_commands.specs.Trials.{HasJudged, HasStarved, TrialEnds, agreeing, trial_mode};
+ghost use Rattle.hub_commands.specs.Trials.{HasJudged, HasStarved, TrialEnds, agreeing, finding, trial_mode};
 ghost use Rattle.hub_core.specs.LegalDays.{RecordsAreLegal};
+ghost use Rattle.order_checker.specs.declared.verdicts.Verdict.TheVariants.{Agrees};
 ghost use Rattle.routine_reader.specs.Scripts.{plain_script};
 ghost use Rattle.routine_reader.specs.Sound.{IsSound};
 ghost use Rattle.trial_scripts.specs.TrialScripts.{trial_script};
@@ -74,7 +75,8 @@ fn judge_day<K: Sink, Dev: Device>(
     requires legal { RecordsAreLegal script.now trial_mode day.windows.items }
     requires text { text.now ≡ day_text script.now day.windows.items trial_mode false }
     ensures status { result.status ≡ status_of result.fault }
-    ensures judged { HasJudged number
+    ensures agrees { finding script.now day ≡ Agrees }
+    ensures judged { HasJudged number script.now
         (written (K.holds sink.old) (K.holds sink.new) (K.faults sink.old) (K.faults sink.new))
         day result.day result.fault }
 {

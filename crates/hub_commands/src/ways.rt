@@ -1,3 +1,4 @@
+//! The ways of working a window: step by step, or in threads.
 ghost use Rattle.std.specs.Prelude.{ℕ};
 ghost use Rattle.history_book.specs.Settings.{Setting};
 ghost use Rattle.history_book.specs.declared.records.WindowRecord.{WindowRecord};
@@ -31,5 +32,5 @@ pub struct InThreads<'a, C> {
 impl<'a, C: Clock> Way for InThreads<'a, C> {
     ghost use Rattle.hub_commands.specs.Ways.{IsRunWithin};
 
-    ghost works = { λ way. IsRunWithin (C.latest way.clock.now) };
+    ghost works = { λ way. IsRunWithin (C.earliest way.clock.now) (C.latest way.clock.now) };
 }

@@ -4,4 +4,4 @@ pub mod kept
 pub mod waiting
 pub mod calls
 pub mod weak
-pub mod FirstWindows
+pub mod SoundWindows

@@ -1,3 +1,4 @@
+//! What each choice of a step makes of the window, and the entries that it writes.
 ghost use Rattle.std.specs.Prelude.{◌≡◌, ◌<◌, ◌||◌, IsSome, IsTrue, None, Some, [], ◌∷◌, false, if◌then◌else◌, max, not, option_map, true};
 ghost use Rattle.command_rules.specs.Rosters.{is_run};
 ghost use Rattle.lock_leasing.specs.Configurations.{read_of};

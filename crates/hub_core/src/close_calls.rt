@@ -1,3 +1,4 @@
+//! Closing a window that is quiet: the home, and the window's record.
 ghost use Rattle.std.specs.Prelude.{◌≡◌, ◌≤◌, ◌+◌, IfErr, IfOk, None, Some, [], false, length, map, true, ℕ};
 ghost use Rattle.hub_core.specs.ClosedHomes.{HaveRisen, NoneFell, all_known_left, stand_left};
 ghost use Rattle.hub_core.specs.HubCalls.{IsClosed};

@@ -1,3 +1,4 @@
+//! What a run does at its turn: the cases of the rules, in their order, with nothing changed.
 ghost use Rattle.std.specs.Prelude.{◌≡◌, ◌<◌, ◌≤◌, IsTrue, None, false, find, length, max, option_map, true, unwrap_or, ℕ};
 ghost use Rattle.command_rules.specs.Rosters.{command_at, commands_of, is_run};
 ghost use Rattle.history_book.specs.Readings.{is_live};

@@ -1,3 +1,4 @@
+//! A hub: an open window with the marks of its blocked runs, and what is asked of it.
 ghost use Rattle.std.specs.Prelude.{◌≡◌, ◌≤◌, ◌↔◌, IfErr, IfOk, IsTrue, None, Some, [], false, length, true, ℕ};
 ghost use Rattle.history_book.specs.Settings.{is_weak};
 ghost use Rattle.hub_core.specs.BlockedRuns.{IsBlocked};

@@ -1,3 +1,4 @@
+//! What is known of each run and each device beside the history.
 use crate::purposes::Purpose;
 use history_book::{Cause, End};
 use home_types::Value;

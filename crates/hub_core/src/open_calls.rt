@@ -1,3 +1,4 @@
+//! Opening a window, which takes all of its memory.
 ghost use Rattle.std.specs.Prelude.{◌≡◌, ◌<◌, ◌≤◌, ◌^◌, IfErr, IfOk, None, [], length, replicate, slice_get, ℕ};
 ghost use Rattle.command_rules.specs.Rosters.{runs_of};
 ghost use Rattle.home_types.specs.HomeStates.{stand_at};

@@ -1,3 +1,4 @@
+//! An open window: its parts, and what is asked of them.
 ghost use Rattle.std.specs.Prelude.{◌≡◌, ◌+◌, ◌-◌, ◌<◌, ◌≤◌, ◌↔◌, IfSome, IsTrue, None, [], false, length, option_map, true, ℕ};
 ghost use Rattle.command_rules.specs.Rosters.{command_at, runs_of};
 ghost use Rattle.history_book.specs.Settings.{is_weak};

@@ -1,3 +1,4 @@
+//! The detector takes a device for a probe, and gives it back.
 ghost use Rattle.std.specs.Prelude.{◌≡◌, ◌<◌, Some, false, length, not, true, ℕ};
 ghost use Rattle.device_gate.specs.Calls.{has_died};
 ghost use Rattle.device_gate.specs.Places.{IsKept};

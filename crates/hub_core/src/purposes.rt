@@ -1,3 +1,4 @@
+//! What a device is out for.
 use home_types::Value;
 
 /// For what a device is out.

@@ -1,3 +1,4 @@
+//! The history of a window with the progress of each run, which every entry keeps up to date.
 ghost use Rattle.std.specs.Prelude.{◌≡◌, ◌+◌, ◌<◌, ◌^◌, ◌&&◌, ◌||◌, IfSome, IsTrue, None, Some, find, if◌then◌else◌, is_none, length, not, option_map, true, ℕ};
 ghost use Rattle.command_rules.specs.Rosters.{command_at, commands_of, followed_by, is_run, runs_of};
 ghost use Rattle.history_book.specs.Settings.{is_weak, run_numbers, scheduler_of};

@@ -1,3 +1,4 @@
+//! Why a window cannot be closed.
 use home_types::{DeviceNo, RunNo};
 
 /// Why a window cannot be closed yet.

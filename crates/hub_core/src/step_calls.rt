@@ -1,3 +1,4 @@
+//! The four calls that make a step of a hub: the window's step, and then the marks.
 ghost use Rattle.std.specs.Prelude.{◌≡◌, ℕ};
 ghost use Rattle.hub_core.specs.HubCalls.{IsGiven, IsProbeGiven, IsProbed, IsTurn, PlansEarliest, SameWindow};
 ghost use Rattle.hub_core.specs.OpenHubs.{configuration_of};

@@ -1,3 +1,4 @@
+//! A run takes its turn in its window.
 ghost use Rattle.std.specs.Prelude.{◌≡◌, length, ℕ};
 ghost use Rattle.hub_core.specs.HubCalls.{IsTurn, SameWindow};
 ghost use Rattle.hub_core.specs.PlannedPlaces.{IsForHome};

@@ -1,3 +1,4 @@
+//! What a turn comes to.
 use crate::waits::Why;
 use device_gate::{Grip, Ready};
 use device_states::Device;

@@ -1,3 +1,4 @@
+//! Why a run waits.
 use home_types::{DeviceNo, RunNo};
 
 /// For what a run waits.

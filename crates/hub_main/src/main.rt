@@ -1,8 +1,9 @@
 // A day of a smart home: reads its script, plays its windows, and prints the record.
 #![tactic(auto)]
 
-ghost use Rattle.std.specs.Prelude.{◌≡◌};
-ghost use Rattle.hub_commands.specs.Statuses.{fault_status};
+ghost use Rattle.std.specs.Prelude.{◌≡◌, map, string_bytes};
+ghost use Rattle.hub_commands.specs.Statuses.{fault_status, status_of};
+ghost use Rattle.hub_main.specs.FirstWords.{asks_for_run};
 
 use day_clock::{Clock, Sink, Source, StdClock, StdSink, StdSource};
 use device_states::{SimBench, SimDevice};
@@ -41,7 +42,9 @@ fn call<R: Threads + Wait + Sync, S: Source, K: Sink, C: Clock + Sync>(
     source: &mut S,
     sink: &mut K,
     clock: &C,
-) -> Finish<SimDevice> {
+) -> Finish<SimDevice>
+    ensures status { result.status ≡ status_of result.fault }
+{
     if asks_for_run(words) {
         run_command(rt, alloc, words, source, sink, &mut SimBench, clock)
     } else {
@@ -50,7 +53,9 @@ fn call<R: Threads + Wait + Sync, S: Source, K: Sink, C: Clock + Sync>(
 }
 
 /// Whether the first word is `run`.
-fn asks_for_run(words: &[String]) -> bool {
+fn asks_for_run(words: &[String]) -> bool
+    ensures { result ≡ asks_for_run (map string_bytes words.now) }
+{
     matches!(words.first(), Some(word) if word.as_str() == "run")
 }
 

@@ -40,7 +40,7 @@ adds_nothing s t maker moment same at = record { history = same ∙ sym (append-
 
 -- Steps of a run
 
-abbrev chosen_entries : Choice → List Entry
+abbrev pub chosen_entries : Choice → List Entry
 chosen_entries IsAbsent = []
 chosen_entries (IsOver end entries) = entries
 chosen_entries (Moves entries) = entries
@@ -118,29 +118,50 @@ out_by {D} s told kept = by_place (slice_get s.places d) refl kept
 history_back : (s : Configuration) (m d : ℕ) (grip : Grip) (result : Told) (maker : ℕ) (entries : List Entry) → grip.maker ≡ maker → entries ≡ give_entries s.setting (read_of s) d grip result → (after_give (at_moment s m) d grip result).history ≡ s.history ++ kept_by maker entries
 history_back s m d grip result maker entries own made = ap (λ k. s.history ++ kept_by k (give_entries s.setting (read_of s) d grip result)) own ∙ ap (λ es. s.history ++ kept_by maker es) (sym made)
 
-gave_adds : {D : Type 0} (s t : OpenHub D) (told : Carried) (result : Told) (m : ℕ) (entries : List Entry) → HubStep (state_of s) (Give told result m) (Returned (Gave entries)) (state_of t) → Adds s told.slip.maker entries (max s.moment m) t
-gave_adds s t told result m entries step =
+-- the entries of a grip that is taken back, by the grip that is out
+gave_entries : {D : Type 0} (s t : OpenHub D) (told : Carried) (result : Told) (m : ℕ) (entries : List Entry) → HubStep (state_of s) (Give told result m) (Returned (Gave entries)) (state_of t)
+    → (by : IsOutBy s told) × (entries ≡ give_entries s.setting (read_of (configuration_of s)) told.slip.device.0 by.grip result) × (configuration_of t ≡ after_give (at_moment (configuration_of s) m) told.slip.device.0 by.grip result)
+gave_entries s t told result m entries step =
     let kept = both (is_kept (state_of s) told) (nat_lt 0 told.slip.maker) (taken_if (is_kept (state_of s) told && nat_lt 0 told.slip.maker) (state_of s) (at_moment (configuration_of s) m) told result entries step.0) in
     let by = out_by s told kept.0 in
     let back = gave_back (state_of s) (state_of t) told result m by.grip entries by.out step in
+    (by, back.0, back.1)
+
+gave_adds : {D : Type 0} (s t : OpenHub D) (told : Carried) (result : Told) (m : ℕ) (entries : List Entry) → HubStep (state_of s) (Give told result m) (Returned (Gave entries)) (state_of t) → Adds s told.slip.maker entries (max s.moment m) t
+gave_adds s t told result m entries step =
+    let back = gave_entries s t told result m entries step in
     record {
-      history = ap (λ (x : Configuration). x.history) back.1 ∙ history_back (configuration_of s) m told.slip.device.0 by.grip result told.slip.maker entries by.maker back.0;
-      moment_is = ap (λ (x : Configuration). x.moment) back.1;
+      history = ap (λ (x : Configuration). x.history) back.2 ∙ history_back (configuration_of s) m told.slip.device.0 back.0.grip result told.slip.maker entries back.0.maker back.1;
+      moment_is = ap (λ (x : Configuration). x.moment) back.2;
     }
 
-gave_probe_adds : {D : Type 0} (s t : OpenHub D) (told : Carried) (result : Told) (entries : List Entry) → HubStep (state_of s) (GiveProbe told result) (Returned (Gave entries)) (state_of t) → Adds s 0 entries s.moment t
-gave_probe_adds s t told result entries step =
+gave_probe_entries : {D : Type 0} (s t : OpenHub D) (told : Carried) (result : Told) (entries : List Entry) → HubStep (state_of s) (GiveProbe told result) (Returned (Gave entries)) (state_of t)
+    → (by : IsOutBy s told) × (told.slip.maker ≡ 0) × (entries ≡ give_entries s.setting (read_of (configuration_of s)) told.slip.device.0 by.grip result) × (configuration_of t ≡ after_give (configuration_of s) told.slip.device.0 by.grip result)
+gave_probe_entries s t told result entries step =
     let kept = both (is_kept (state_of s) told) (told.slip.maker == 0) (taken_if (is_kept (state_of s) told && (told.slip.maker == 0)) (state_of s) (configuration_of s) told result entries step.0) in
     let by = out_by s told kept.0 in
     let back = gave_probe_back (state_of s) (state_of t) told result by.grip entries by.out step in
-    let is_detector : told.slip.maker ≡ 0 = of_detector told.slip.maker kept.1 in
-    record {
-      history = ap (λ (x : Configuration). x.history) back.1 ∙ history_back (configuration_of s) 0 told.slip.device.0 by.grip result 0 entries (by.maker ∙ is_detector) back.0;
-      moment_is = ap (λ (x : Configuration). x.moment) back.1;
-    }
+    (by, of_detector told.slip.maker kept.1, back.0, back.1)
   where
     of_detector : (maker : ℕ) → (maker == 0) ≡ true → maker ≡ 0
     of_detector maker e = grind (arith, common_steps)
+
+gave_probe_adds : {D : Type 0} (s t : OpenHub D) (told : Carried) (result : Told) (entries : List Entry) → HubStep (state_of s) (GiveProbe told result) (Returned (Gave entries)) (state_of t) → Adds s 0 entries s.moment t
+gave_probe_adds s t told result entries step =
+    let back = gave_probe_entries s t told result entries step in
+    record {
+      history = ap (λ (x : Configuration). x.history) back.3 ∙ history_back (configuration_of s) 0 told.slip.device.0 back.0.grip result 0 entries (back.0.maker ∙ back.1) back.2;
+      moment_is = ap (λ (x : Configuration). x.moment) back.3;
+    }
+
+-- the entries of a step back are those of some grip that is out
+pub given_entries_are : {D : Type 0} (s t : OpenHub D) (grip : Gripped D Done) (m : ℕ) (made : Made) → IsGiven s grip m (Ok made) t
+    → (out : Grip) × (entries_made made ≡ give_entries s.setting (read_of (configuration_of s)) grip.slip.device.0 out grip.stage.told)
+given_entries_are s t grip m made is = let back = gave_entries s t (carried_by grip) grip.stage.told m (entries_made made) is.0 in (back.0.grip, back.1)
+
+pub probe_given_entries_are : {D : Type 0} (s t : OpenHub D) (grip : Gripped D Done) (made : Made) → IsProbeGiven s grip (Ok made) t
+    → (out : Grip) × (entries_made made ≡ give_entries s.setting (read_of (configuration_of s)) grip.slip.device.0 out grip.stage.told)
+probe_given_entries_are s t grip made is = let back = gave_probe_entries s t (carried_by grip) grip.stage.told (entries_made made) is.0 in (back.0.grip, back.2)
 
 -- a grip that is refused changes nothing
 pub given_adds : {D : Type 0} (s t : OpenHub D) (grip : Gripped D Done) (m : ℕ) (answer : Result Made (Gripped D Done × Stranger)) → IsGiven s grip m answer t → Adds s grip.slip.maker (entries_given answer) t.moment t

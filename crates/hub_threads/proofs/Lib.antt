@@ -1,5 +1,6 @@
 pub mod Added
 pub mod Plans
+pub mod Moments
 pub mod Named
 pub mod RunWords
 pub mod Holding

@@ -4,28 +4,30 @@ use Rattle.device_gate.specs.declared.gates.Place.{Place}
 use Rattle.device_gate.specs.declared.grips.Done.{Done}
 use Rattle.device_gate.specs.declared.grips.Ready.{Ready}
 use Rattle.device_gate.specs.declared.strangers.Stranger.{Stranger}
-use Rattle.history_book.specs.Settings.{Setting}
 use Rattle.history_book.specs.declared.entries.Made.{Made}
 use Rattle.hub_core.proofs.steps.HubAnswers.{took_probe}
 use Rattle.hub_core.specs.HubCalls.{IsGiven, IsProbeGiven, IsProbed, IsTurn, SameWindow}
 use Rattle.hub_core.specs.OpenHubs.{OpenHub, state_of}
-use Rattle.hub_core.specs.declared.known.Counts.{Counts}
 use Rattle.hub_core.specs.declared.turns.Turn.TheVariants.{Absent, Go, Moved, Over, Wait}
 use Rattle.hub_core.specs.declared.turns.Turn.{Turn}
 use Rattle.hub_threads.proofs.Plans.{plans_home, plans_out}
-use Rattle.hub_threads.proofs.Added.{given_moment, probe_given_adds, probed_adds, turn_adds}
-use Rattle.hub_threads.specs.Named.{HasPlan, HavePlans, IsNamed, Plan, TurnHasPlan}
+use Rattle.hub_threads.proofs.Added.{given_adds, given_moment, probe_given_adds, probed_adds, turn_adds}
+use Rattle.hub_threads.proofs.Moments.{given_within, probe_given_within, turn_within, within_more}
+use Rattle.hub_threads.specs.Moments.{AreWithin}
+use Rattle.hub_threads.specs.Named.{HasPlan, HavePlans, IsNamed, TurnHasPlan}
+use Rattle.hub_threads.specs.Names.{IsWithin, NamedWindow, Plan}
 use Rattle.std.proofs.Common.{ap, arith, subst, sym, ◌∙◌}
-use Rattle.std.specs.Prelude.{Err, List, None, Ok, Option, Result, Some, ℕ, ◌≡◌, ◌≤◌}
+use Rattle.std.specs.Prelude.{Err, List, None, Ok, Option, Result, Some, max, ℕ, ◌≡◌, ◌≤◌}
 
-named_after : {D : Type 0} (plan : D → Plan) (w : Setting) (rounds opened : ℕ) (opening : ℕ → Counts) (plans : ℕ → Plan) (latest : ℕ) (s t : OpenHub D)
-    → IsNamed plan w rounds opened opening plans latest s → SameWindow s t → t.moment ≤ latest → HavePlans plan plans t.places → IsNamed plan w rounds opened opening plans latest t
-named_after plan w rounds opened opening plans latest s t named same moment have = record {
+named_after : {D : Type 0} (plan : D → Plan) (window : NamedWindow) (s t : OpenHub D)
+    → IsNamed plan window s → SameWindow s t → t.moment ≤ window.latest → AreWithin window.earliest window.latest t.history → HavePlans plan window.plans t.places → IsNamed plan window t
+named_after plan window s t named same moment moments have = record {
   setting = same.setting ∙ named.setting;
   rounds_are = same.rounds ∙ named.rounds_are;
   opened_are = same.opened ∙ named.opened_are;
   at_opening = λ d. same.at_opening d ∙ named.at_opening d;
   moment = moment;
+  moments = moments;
   have_plans = have;
 }
 
@@ -40,12 +42,16 @@ turn_plans plan plans s t r m (Wait why) is have = plans_by plan plans s.places 
 turn_plans plan plans s t r m (Over end made) is have = plans_by plan plans s.places t.places is.0.places have
 turn_plans plan plans s t r m Absent is have = plans_by plan plans s.places t.places is.0.places have
 
-pub turn_named : {D : Type 0} (plan : D → Plan) (w : Setting) (rounds opened : ℕ) (opening : ℕ → Counts) (plans : ℕ → Plan) (latest : ℕ) (s t : OpenHub D) (r m : ℕ) (turn : Turn D)
-    → IsNamed plan w rounds opened opening plans latest s → IsTurn s r m turn t → SameWindow s t → m ≤ latest → IsNamed plan w rounds opened opening plans latest t
-turn_named plan w rounds opened opening plans latest s t r m turn named is same early =
-    let at = (turn_adds s t r m turn is).moment_is in
-    let was : s.moment ≤ latest = named.moment in
-    named_after plan w rounds opened opening plans latest s t named same (subst (λ k. k ≤ latest) (sym at) (omega (arith, was, early))) (turn_plans plan plans s t r m turn is named.have_plans)
+pub turn_named : {D : Type 0} (plan : D → Plan) (window : NamedWindow) (s t : OpenHub D) (r m : ℕ) (turn : Turn D)
+    → IsNamed plan window s → IsTurn s r m turn t → SameWindow s t → IsWithin window m → IsNamed plan window t
+turn_named plan window s t r m turn named is same early =
+    let adds = turn_adds s t r m turn is in
+    let was : s.moment ≤ window.latest = named.moment in
+    let until : m ≤ window.latest = early.1 in
+    let now : max s.moment m ≤ window.latest = omega (arith, was, until) in
+    named_after plan window s t named same (subst (λ k. k ≤ window.latest) (sym adds.moment_is) now)
+    (within_more window.earliest window.latest s t r _ adds.history named.moments (turn_within window.earliest window.latest s t r m turn early.0 now is))
+    (turn_plans plan window.plans s t r m turn is named.have_plans)
 
 pub turn_plan : {D : Type 0} (plan : D → Plan) (plans : ℕ → Plan) (s t : OpenHub D) (r m : ℕ) (turn : Turn D) → HavePlans plan plans s.places → IsTurn s r m turn t → TurnHasPlan plan plans turn
 turn_plan plan plans s t r m (Go grip) have is = have grip.slip.device.0 grip.device is.home
@@ -58,19 +64,23 @@ given_plans : {D : Type 0} (plan : D → Plan) (plans : ℕ → Plan) (s t : Ope
 given_plans plan plans s t grip m (Ok made) is own have = plans_by plan plans _ t.places is.1 (plans_home plan plans s.places grip.slip.device.0 grip.device have own)
 given_plans plan plans s t grip m (Err refused) is own have = plans_by plan plans s.places t.places (ap (λ (x : OpenHub _). x.places) is.2) have
 
-pub given_named : {D : Type 0} (plan : D → Plan) (w : Setting) (rounds opened : ℕ) (opening : ℕ → Counts) (plans : ℕ → Plan) (latest : ℕ) (s t : OpenHub D) (grip : Gripped D Done) (m : ℕ) (answer : Result Made (Gripped D Done × Stranger))
-    → IsNamed plan w rounds opened opening plans latest s → IsGiven s grip m answer t → SameWindow s t → HasPlan plan plans grip → m ≤ latest → IsNamed plan w rounds opened opening plans latest t
-given_named plan w rounds opened opening plans latest s t grip m answer named is same own early =
-    named_after plan w rounds opened opening plans latest s t named same (given_moment s t grip m latest answer is named.moment early) (given_plans plan plans s t grip m answer is own named.have_plans)
+pub given_named : {D : Type 0} (plan : D → Plan) (window : NamedWindow) (s t : OpenHub D) (grip : Gripped D Done) (m : ℕ) (answer : Result Made (Gripped D Done × Stranger))
+    → IsNamed plan window s → IsGiven s grip m answer t → SameWindow s t → HasPlan plan window.plans grip → IsWithin window m → IsNamed plan window t
+given_named plan window s t grip m answer named is same own early =
+    named_after plan window s t named same (given_moment s t grip m window.latest answer is named.moment early.1)
+    (within_more window.earliest window.latest s t grip.slip.maker _ (given_adds s t grip m answer is).history named.moments (given_within window.earliest window.latest s t grip m answer is))
+    (given_plans plan window.plans s t grip m answer is own named.have_plans)
 
 probed_plans : {D : Type 0} (plan : D → Plan) (plans : ℕ → Plan) (s t : OpenHub D) (d : ℕ) (probe : Option (Gripped D Ready)) → IsProbed s d probe t → HavePlans plan plans s.places → HavePlans plan plans t.places
 probed_plans plan plans s t d (Some grip) is have = plans_by plan plans _ t.places is.2 (plans_out plan plans s.places d grip.slip grip.task have)
 probed_plans plan plans s t d None is have = plans_by plan plans s.places t.places (ap (λ (x : OpenHub _). x.places) is.1) have
 
-pub probed_named : {D : Type 0} (plan : D → Plan) (w : Setting) (rounds opened : ℕ) (opening : ℕ → Counts) (plans : ℕ → Plan) (latest : ℕ) (s t : OpenHub D) (d : ℕ) (probe : Option (Gripped D Ready))
-    → IsNamed plan w rounds opened opening plans latest s → IsProbed s d probe t → SameWindow s t → IsNamed plan w rounds opened opening plans latest t
-probed_named plan w rounds opened opening plans latest s t d probe named is same =
-    named_after plan w rounds opened opening plans latest s t named same (subst (λ k. k ≤ latest) (sym (probed_adds s t d probe is).1) named.moment) (probed_plans plan plans s t d probe is named.have_plans)
+pub probed_named : {D : Type 0} (plan : D → Plan) (window : NamedWindow) (s t : OpenHub D) (d : ℕ) (probe : Option (Gripped D Ready))
+    → IsNamed plan window s → IsProbed s d probe t → SameWindow s t → IsNamed plan window t
+probed_named plan window s t d probe named is same =
+    let adds = probed_adds s t d probe is in
+    named_after plan window s t named same (subst (λ k. k ≤ window.latest) (sym adds.1) named.moment) (subst (AreWithin window.earliest window.latest) (sym adds.0) named.moments)
+    (probed_plans plan window.plans s t d probe is named.have_plans)
 
 pub probed_plan : {D : Type 0} (plan : D → Plan) (plans : ℕ → Plan) (s t : OpenHub D) (d : ℕ) (grip : Gripped D Ready) → HavePlans plan plans s.places → IsProbed s d (Some grip) t → HasPlan plan plans grip
 probed_plan plan plans s t d grip have is =
@@ -81,7 +91,10 @@ probe_given_plans : {D : Type 0} (plan : D → Plan) (plans : ℕ → Plan) (s t
 probe_given_plans plan plans s t grip (Ok made) is own have = plans_by plan plans _ t.places is.1 (plans_home plan plans s.places grip.slip.device.0 grip.device have own)
 probe_given_plans plan plans s t grip (Err refused) is own have = plans_by plan plans s.places t.places (ap (λ (x : OpenHub _). x.places) is.2) have
 
-pub probe_given_named : {D : Type 0} (plan : D → Plan) (w : Setting) (rounds opened : ℕ) (opening : ℕ → Counts) (plans : ℕ → Plan) (latest : ℕ) (s t : OpenHub D) (grip : Gripped D Done) (answer : Result Made (Gripped D Done × Stranger))
-    → IsNamed plan w rounds opened opening plans latest s → IsProbeGiven s grip answer t → SameWindow s t → HasPlan plan plans grip → IsNamed plan w rounds opened opening plans latest t
-probe_given_named plan w rounds opened opening plans latest s t grip answer named is same own =
-    named_after plan w rounds opened opening plans latest s t named same (subst (λ k. k ≤ latest) (sym (probe_given_adds s t grip answer is).moment_is) named.moment) (probe_given_plans plan plans s t grip answer is own named.have_plans)
+pub probe_given_named : {D : Type 0} (plan : D → Plan) (window : NamedWindow) (s t : OpenHub D) (grip : Gripped D Done) (answer : Result Made (Gripped D Done × Stranger))
+    → IsNamed plan window s → IsProbeGiven s grip answer t → SameWindow s t → HasPlan plan window.plans grip → IsNamed plan window t
+probe_given_named plan window s t grip answer named is same own =
+    let adds = probe_given_adds s t grip answer is in
+    named_after plan window s t named same (subst (λ k. k ≤ window.latest) (sym adds.moment_is) named.moment)
+    (within_more window.earliest window.latest s t 0 _ adds.history named.moments (probe_given_within window.earliest window.latest s t grip answer is))
+    (probe_given_plans plan window.plans s t grip answer is own named.have_plans)

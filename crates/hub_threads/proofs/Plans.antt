@@ -3,7 +3,8 @@ use Rattle.device_gate.specs.declared.gates.Place.TheVariants.{Home, Out}
 use Rattle.device_gate.specs.declared.gates.Place.{Place}
 use Rattle.device_gate.specs.declared.slips.Slip.{Slip}
 use Rattle.device_gate.specs.declared.slips.Task.{Task}
-use Rattle.hub_threads.specs.Named.{HavePlans, Plan}
+use Rattle.hub_threads.specs.Named.{HavePlans}
+use Rattle.hub_threads.specs.Names.{Plan}
 use Rattle.std.proofs.Common.{ap, inl, inr, refl, sym, ◌∙◌}
 use Rattle.std.specs.Prelude.{List, Some, [], slice_get, slice_set, suc, zero, ℕ, ◌∷◌, ◌≡◌, ◌⊎◌}
 

@@ -2,32 +2,41 @@
 use Rattle.device_gate.proofs.Places.{home_at}
 use Rattle.device_gate.specs.Places.{AreNumbered}
 use Rattle.device_gate.specs.declared.gates.Place.TheVariants.{Home}
-use Rattle.history_book.specs.Histories.{entries_of, reading}
 use Rattle.history_book.specs.declared.records.WindowRecord.{WindowRecord}
 use Rattle.hub_core.specs.Homes.{HomeState}
 use Rattle.hub_core.specs.HubCalls.{HubStands, IsClosed, NoneFails, RunsHaveEnded}
-use Rattle.hub_core.specs.LegalWindows.{IsLegalWindow, history_of}
+use Rattle.hub_core.specs.LegalWindows.{IsLegalWindow}
 use Rattle.hub_core.specs.OpenHubs.{OpenHub, device_at}
-use Rattle.hub_threads.specs.Named.{IsNamed, Plan, plan_in}
+use Rattle.hub_threads.specs.Moments.{AreWithin}
+use Rattle.hub_threads.specs.Named.{IsNamed, plan_in}
+use Rattle.hub_threads.specs.Names.{NamedWindow, Plan}
 use Rattle.hub_threads.specs.WorkedWindows.{IsWorked, NoneIsLeft}
 use Rattle.std.proofs.Common.{ap, arith, subst, sym, ◌∙◌}
 use Rattle.std.proofs.lemmas.List.{length-map}
 use Rattle.std.proofs.lemmas.Option.{slice_get_within}
-use Rattle.std.specs.Prelude.{Some, length, slice_get, slice_index_or, ℕ, ◌+◌, ◌<◌, ◌≡◌, ◌≤◌}
+use Rattle.std.specs.Prelude.{Some, length, slice_get, slice_index_or, ℕ, ◌+◌, ◌<◌, ◌≡◌}
 
--- the plan of each device that is home
-abbrev pub plans_of : {D : Type 0} → (D → Plan) → OpenHub D → ℕ → Plan
-plans_of plan hub d = plan_in plan (slice_get hub.places d)
+-- what the hub of a window keeps from its opening on, worked between these moments
+abbrev pub window_of : {D : Type 0} → (D → Plan) → ℕ → ℕ → OpenHub D → NamedWindow
+window_of plan earliest latest hub = record {
+  setting = hub.setting;
+  rounds = hub.rounds;
+  opened = hub.opened;
+  opening = λ d. (device_at hub.devices d).at_opening;
+  plans = λ d. plan_in plan (slice_get hub.places d);
+  earliest = earliest;
+  latest = latest;
+}
 
-pub worked_so : {D : Type 0} (tag : D → ℕ) (plan : D → Plan) (stands turns probes faults : D → ℕ) (latest : ℕ) (hub last : OpenHub D) (home : HomeState D) (closed : WindowRecord)
+pub worked_so : {D : Type 0} (tag : D → ℕ) (plan : D → Plan) (stands turns probes faults : D → ℕ) (earliest latest : ℕ) (hub last : OpenHub D) (home : HomeState D) (closed : WindowRecord)
     → HubStands tag stands turns probes faults hub
-    → IsNamed plan hub.setting hub.rounds hub.opened (λ d. (device_at hub.devices d).at_opening) (plans_of plan hub) latest last
+    → IsNamed plan (window_of plan earliest latest hub) last
     → HubStands tag stands turns probes faults last → IsClosed turns probes faults last home closed → NoneIsLeft last → AreNumbered tag home.devices
-    → IsWorked tag plan turns probes faults latest hub home closed
-worked_so {D = D} tag plan stands turns probes faults latest hub last home closed before named after closes none numbered = record {
+    → IsWorked tag plan turns probes faults earliest latest hub home closed
+worked_so {D = D} tag plan stands turns probes faults earliest latest hub last home closed before named after closes none numbered = record {
   legal = subst (λ w. IsLegalWindow w closed) named.setting closes.legal;
   ends = subst (λ w. RunsHaveEnded w closed) named.setting closes.ends;
-  moments = subst (λ w. (reading w (history_of closed)).moment ≤ latest) named.setting (subst (λ h. (reading last.setting (entries_of h)).moment ≤ latest) (sym closes.history) early);
+  moments = subst (AreWithin earliest latest) (sym closes.history) named.moments;
   kinds = closes.kinds ∙ ap (λ w. w.kinds) named.setting;
   last = closes.last;
   opened = closes.opened ∙ ap (λ n. n + 1) named.opened_are;
@@ -40,9 +49,6 @@ worked_so {D = D} tag plan stands turns probes faults latest hub last home close
   faults_rose = λ d y y_at. closes.faults_rose d y y_at ∙ ap (λ c. c.faults + slice_index_or closed.faults.items d 0) (named.at_opening d);
 }
   where
-    early : (reading last.setting (entries_of last.history)).moment ≤ latest
-    early = let told = after.moment in let stood = named.moment in omega (arith, told, stood)
-
     home_last : (d : ℕ) (device : D) → slice_get home.devices d ≡ Some device → slice_get last.places d ≡ Some (Home device)
     home_last d device at = ap (λ ps. slice_get ps d) closes.places ∙ home_at home.devices d device at
 

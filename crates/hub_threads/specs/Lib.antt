@@ -1,3 +1,5 @@
+pub mod Moments
+pub mod Names
 pub mod Named
 pub mod Sleepers
 pub mod Holding

@@ -3,18 +3,14 @@ use Rattle.device_gate.specs.Grips.{Gripped}
 use Rattle.device_gate.specs.declared.gates.Place.TheVariants.{Home, Out}
 use Rattle.device_gate.specs.declared.gates.Place.{Place}
 use Rattle.history_book.specs.Histories.{entries_made}
-use Rattle.history_book.specs.Settings.{Setting}
 use Rattle.history_book.specs.declared.entries.Entry.{Entry}
 use Rattle.history_book.specs.declared.entries.Made.{Made}
 use Rattle.hub_core.specs.OpenHubs.{OpenHub, device_at}
-use Rattle.hub_core.specs.declared.known.Counts.{Counts}
 use Rattle.hub_core.specs.declared.turns.Turn.TheVariants.{Absent, Go, Moved, Over, Wait}
 use Rattle.hub_core.specs.declared.turns.Turn.{Turn}
+use Rattle.hub_threads.specs.Moments.{AreWithin}
+use Rattle.hub_threads.specs.Names.{NamedWindow, Plan}
 use Rattle.std.specs.Prelude.{Bool, Err, List, None, Ok, Option, Result, Some, [], false, length, slice_get, true, ℕ, ⊤, ◌≡◌, ◌≤◌}
-
--- a device's plan, where it tells one
-abbrev pub Plan : Type 0
-Plan = Option (List (ℕ × ℕ))
 
 -- each device that is home has this plan
 abbrev pub HavePlans : {D : Type 0} → (D → Plan) → (ℕ → Plan) → List (Place D) → Type 0
@@ -27,13 +23,14 @@ plan_in plan (Some (Home device)) = plan device
 plan_in plan (Some (Out slip task)) = None
 
 -- the hub is of the window of which this is the name
-pub record IsNamed {D : Type 0} (plan : D → Plan) (w : Setting) (rounds opened : ℕ) (opening : ℕ → Counts) (plans : ℕ → Plan) (latest : ℕ) (s : OpenHub D) : Type 0 where
-  pub setting : s.setting ≡ w
-  pub rounds_are : s.rounds ≡ rounds
-  pub opened_are : s.opened ≡ opened
-  pub at_opening : (d : ℕ) → (device_at s.devices d).at_opening ≡ opening d
-  pub moment : s.moment ≤ latest
-  pub have_plans : HavePlans plan plans s.places
+pub record IsNamed {D : Type 0} (plan : D → Plan) (window : NamedWindow) (s : OpenHub D) : Type 0 where
+  pub setting : s.setting ≡ window.setting
+  pub rounds_are : s.rounds ≡ window.rounds
+  pub opened_are : s.opened ≡ window.opened
+  pub at_opening : (d : ℕ) → (device_at s.devices d).at_opening ≡ window.opening d
+  pub moment : s.moment ≤ window.latest
+  pub moments : AreWithin window.earliest window.latest s.history
+  pub have_plans : HavePlans plan window.plans s.places
 
 -- the device of the grip has the plan of its place
 abbrev pub HasPlan : {D S : Type 0} → (D → Plan) → (ℕ → Plan) → Gripped D S → Type 0

@@ -1,24 +1,24 @@
 -- A window that threads worked, from the hub that was opened to the home that it leaves.
 use Rattle.device_gate.specs.Places.{AreNumbered}
 use Rattle.device_gate.specs.declared.gates.Place.TheVariants.{Home}
-use Rattle.history_book.specs.Histories.{reading}
 use Rattle.history_book.specs.declared.records.WindowRecord.{WindowRecord}
 use Rattle.home_types.specs.HomeStates.{stand_at}
 use Rattle.hub_core.specs.Homes.{HomeState}
 use Rattle.hub_core.specs.HubCalls.{NoneFails, RunsHaveEnded}
-use Rattle.hub_core.specs.LegalWindows.{IsLegalWindow, history_of}
+use Rattle.hub_core.specs.LegalWindows.{IsLegalWindow}
 use Rattle.hub_core.specs.OpenHubs.{OpenHub, device_at}
-use Rattle.std.specs.Prelude.{List, Option, Some, length, slice_get, slice_index_or, true, ℕ, ◌+◌, ◌<◌, ◌≡◌, ◌≤◌}
+use Rattle.hub_threads.specs.Moments.{AreWithin}
+use Rattle.std.specs.Prelude.{List, Option, Some, length, slice_get, slice_index_or, true, ℕ, ◌+◌, ◌<◌, ◌≡◌}
 
 -- no probe of a device is left
 pub record NoneIsLeft {D : Type 0} (s : OpenHub D) : Type 0 where
   pub none : (d : ℕ) → d < length s.setting.first → (device_at s.devices d).probes_left ≡ 0
 
--- the hub's window was worked by threads: its record is legal and tells of no moment above the latest of the clock, and the home has each device in the place of its number, with the plan that it had and with counts that rose as the record says, the probes by all its rounds
-pub record IsWorked {D : Type 0} (tag : D → ℕ) (plan : D → Option (List (ℕ × ℕ))) (turns probes faults : D → ℕ) (latest : ℕ) (s : OpenHub D) (home : HomeState D) (closed : WindowRecord) : Type 0 where
+-- the hub's window was worked by threads: its record is legal, each moment that it tells is from the clock's earliest to its latest, and the home has each device in the place of its number, with the plan that it had and with counts that rose as the record says, the probes by all its rounds
+pub record IsWorked {D : Type 0} (tag : D → ℕ) (plan : D → Option (List (ℕ × ℕ))) (turns probes faults : D → ℕ) (earliest latest : ℕ) (s : OpenHub D) (home : HomeState D) (closed : WindowRecord) : Type 0 where
   pub legal : IsLegalWindow s.setting closed
   pub ends : RunsHaveEnded s.setting closed
-  pub moments : (reading s.setting (history_of closed)).moment ≤ latest
+  pub moments : AreWithin earliest latest closed.history.items
   pub kinds : home.kinds ≡ s.setting.kinds
   pub last : home.world ≡ closed.last.devices.items
   pub opened : home.opened ≡ s.opened + 1

@@ -1,3 +1,4 @@
+//! The bells at which workers sleep, and how long a worker naps.
 use home_types::{NoMemory, RunNo};
 use std::alloc::Global;
 use std::sync::{Condvar, MutexGuard, Wait};

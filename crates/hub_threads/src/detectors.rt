@@ -1,4 +1,6 @@
+//! The detector's thread: round after round of probes.
 ghost use Rattle.std.specs.Prelude.{◌≡◌, ◌<◌, ◌≤◌};
+ghost use Rattle.hub_threads.specs.Names.{IsTimedBy};
 
 use crate::held::Steps;
 use crate::names::Name;
@@ -22,7 +24,7 @@ pub(crate) fn detect<D: Device, N: Name, S: Steps<D, N, Grip<D, Done>>, R: Wait,
     clock: &C,
 ) -> u64
     requires share { 0 < share.old.parts }
-    requires latest { C.latest clock.now ≡ N.latest }
+    requires clock { IsTimedBy N.window (C.earliest clock.now) (C.latest clock.now) }
     ensures { share.new.parts ≡ share.old.parts }
 {
     let mut passed = 0u64;
@@ -89,7 +91,7 @@ fn finish<D: Device, N: Name, S: Steps<D, N, Grip<D, Done>>, R: Wait, C: Clock>(
     clock: &C,
 )
     requires share { 0 < share.old.parts }
-    requires latest { C.latest clock.now ≡ N.latest }
+    requires clock { IsTimedBy N.window (C.earliest clock.now) (C.latest clock.now) }
     ensures { share.new.parts ≡ share.old.parts }
 {
     for _ in rt.forever() {
@@ -112,7 +114,7 @@ fn sweep<D: Device, N: Name, S: Steps<D, N, Grip<D, Done>>, R: Wait, C: Clock>(
     clock: &C,
 ) -> Stepped
     requires share { 0 < share.old.parts }
-    requires latest { C.latest clock.now ≡ N.latest }
+    requires clock { IsTimedBy N.window (C.earliest clock.now) (C.latest clock.now) }
     ensures { share.new.parts ≡ share.old.parts }
 {
     if door.unstarted.is_empty() {

@@ -1,4 +1,6 @@
+//! A fake of the steps under the lock, for the tests of a worker.
 ghost use Rattle.std.specs.Prelude.{◌≡◌, ◌+◌, ◌<◌, ◌≤◌, ℕ};
+ghost use Rattle.hub_threads.specs.Names.{IsTimedBy};
 
 use crate::bells::Bells;
 use crate::held::Steps;
@@ -136,7 +138,7 @@ fn work_named<D: Device, R: Wait, C: Clock, N: Name>(
 ) -> u64
     requires name { blank.name ≡ N.name }
     requires parts { (blank.parts ≡ N.parts) × (N.parts ≡ 1) }
-    requires latest { C.latest clock.now ≡ N.latest }
+    requires clock { IsTimedBy N.window (C.earliest clock.now) (C.latest clock.now) }
 {
     let (book, all) = blank.open::<N>();
     let door = Door {

@@ -5,6 +5,7 @@ ghost use Rattle.hub_core.specs.BlockedRuns.{IsBlocked};
 ghost use Rattle.hub_core.specs.HubCalls.{IsGiven, IsProbeGiven, IsProbed, IsTurn, SameWindow};
 ghost use Rattle.hub_core.specs.OpenHubs.{configuration_of};
 ghost use Rattle.hub_core.specs.Steps.{not_quiet};
+ghost use Rattle.hub_threads.specs.Names.{IsWithin};
 ghost use Rattle.hub_threads.specs.Named.{HasPlan, IsNamed, TurnHasPlan, entries_given, entries_told, given_entries, is_idle, turn_entries};
 
 use crate::names::Name;
@@ -44,16 +45,16 @@ pub trait Steps<D: Device, N: Name, G: DoneGrip<D>>: Drop {
     /// The step of a run.
     fn take(&mut self, share: &mut Share<N>, r: RunNo, moment: u64) -> Turn<D>
         requires share { 0 < share.old.parts }
-        requires moment { moment ≤ N.latest }
+        requires moment { IsWithin N.window moment }
         ensures told { share.new.amount ≡ share.old.amount + turn_entries result }
         ensures parts { share.new.parts ≡ share.old.parts }
-        ensures plan { TurnHasPlan D.plan N.plans result };
+        ensures plan { TurnHasPlan D.plan N.window.plans result };
 
     /// The step back of a run's grip. One that is not out comes back.
     fn give(&mut self, share: &mut Share<N>, grip: G, moment: u64) -> Result<Made, (G, Stranger)>
         requires share { 0 < share.old.parts }
-        requires moment { moment ≤ N.latest }
-        requires plan { D.plan (G.device grip) ≡ N.plans (G.place grip) }
+        requires moment { IsWithin N.window moment }
+        requires plan { D.plan (G.device grip) ≡ N.window.plans (G.place grip) }
         ensures told { share.new.amount ≡ share.old.amount + given_entries result }
         ensures parts { share.new.parts ≡ share.old.parts }
         ensures same { IfErr result (λ refused. refused.0 ≡ grip) };
@@ -63,12 +64,12 @@ pub trait Steps<D: Device, N: Name, G: DoneGrip<D>>: Drop {
         requires share { 0 < share.old.parts }
         ensures told { share.new.amount ≡ share.old.amount }
         ensures parts { share.new.parts ≡ share.old.parts }
-        ensures plan { IfSome result (λ grip. HasPlan D.plan N.plans grip) };
+        ensures plan { IfSome result (λ grip. HasPlan D.plan N.window.plans grip) };
 
     /// The step back of the detector's grip.
     fn give_probe(&mut self, share: &mut Share<N>, grip: G) -> Result<Made, (G, Stranger)>
         requires share { 0 < share.old.parts }
-        requires plan { D.plan (G.device grip) ≡ N.plans (G.place grip) }
+        requires plan { D.plan (G.device grip) ≡ N.window.plans (G.place grip) }
         ensures told { share.new.amount ≡ share.old.amount + given_entries result }
         ensures parts { share.new.parts ≡ share.old.parts }
         ensures same { IfErr result (λ refused. refused.0 ≡ grip) };
@@ -103,90 +104,20 @@ impl<D: Device, N: Name> Model for Held<D, N> {
 
     ghost view = { λ h. h.hub };
 
-    ghost invariant = { λ h. IsHeld D.plan N.setting N.rounds N.opened N.opening N.plans N.latest h.hub h.book.total h.sleepers.blocked };
+    ghost invariant = { λ h. IsHeld D.plan N.window h.hub h.book.total h.sleepers.blocked };
 }
 
 impl<D: Device, N: Name> Steps<D, N, Grip<D, Done>> for Held<D, N> {
-    fn take(&mut self, share: &mut Share<N>, r: RunNo, moment: u64) -> Turn<D> {
-        self.step(share, r, moment)
-    }
-
-    fn give(
-        &mut self,
-        share: &mut Share<N>,
-        grip: Grip<D, Done>,
-        moment: u64,
-    ) -> Result<Made, (Grip<D, Done>, Stranger)> {
-        self.step_back(share, grip, moment)
-    }
-
-    fn take_probe(&mut self, share: &mut Share<N>, d: DeviceNo) -> Option<Grip<D, Ready>> {
-        self.probe(share, d)
-    }
-
-    fn give_probe(
-        &mut self,
-        share: &mut Share<N>,
-        grip: Grip<D, Done>,
-    ) -> Result<Made, (Grip<D, Done>, Stranger)> {
-        self.probe_back(share, grip)
-    }
-
-    fn quiet(&self) -> Option<NotQuiet>
-        ensures { result ≡ not_quiet (configuration_of self.now) }
-    {
-        self.hub.quiet()
-    }
-
-    fn sleep(&mut self, r: RunNo, why: Why) -> bool {
-        self.fall_asleep(r, why)
-    }
-
-    fn wake(&mut self) -> u64 {
-        self.take_called()
-    }
-}
-
-impl<D: Device, N: Name> Held<D, N> {
-    /// Nobody sleeps yet.
-    pub fn new(hub: Hub<D>, book: Book<N>) -> Held<D, N>
-        requires named { IsNamed D.plan N.setting N.rounds N.opened N.opening N.plans N.latest hub }
-        requires counted { book.total ≡ length hub.history }
-        ensures { result ≡ hub }
-    {
-        Held {
-            hub,
-            book,
-            sleepers: Sleepers::new(),
-        }
-    }
-
-    /// The hub, whose history has as many entries as the whole share counts.
-    pub fn ended(self, all: &mut Share<N>) -> Hub<D>
-        requires { all.old.parts ≡ N.parts }
-        ensures hub { result ≡ self }
-        ensures named { IsNamed D.plan N.setting N.rounds N.opened N.opening N.plans N.latest result }
-        ensures counted { length result.history ≡ all.new.amount }
-    {
-        let Held {
-            hub,
-            mut book,
-            sleepers: _,
-        } = self;
-        book.audit(all);
-        hub
-    }
-
-    /// The step of a run on the hub, told to the ledger.
-    pub fn step(&mut self, share: &mut Share<N>, r: RunNo, moment: u64) -> Turn<D>
+    fn take(&mut self, share: &mut Share<N>, r: RunNo, moment: u64) -> Turn<D>
         requires share { 0 < share.old.parts }
-        requires moment { moment ≤ N.latest }
+        requires moment { IsWithin N.window moment }
         ensures turn { IsTurn self.old r.0 moment result self.new }
         ensures window { SameWindow self.old self.new }
-        ensures appended { self.new.history ≡ self.old.history ++ kept_by r.0 (entries_told result) }
+        ensures appended { self.new.history
+            ≡ self.old.history ++ kept_by r.0 (entries_told result) }
         ensures told { share.new.amount ≡ share.old.amount + turn_entries result }
         ensures parts { share.new.parts ≡ share.old.parts }
-        ensures plan { TurnHasPlan D.plan N.plans result }
+        ensures plan { TurnHasPlan D.plan N.window.plans result }
     {
         let Held {
             hub,
@@ -202,19 +133,19 @@ impl<D: Device, N: Name> Held<D, N> {
         turn
     }
 
-    /// The step back of a run's grip on the hub, told to the ledger.
-    pub fn step_back(
+    fn give(
         &mut self,
         share: &mut Share<N>,
         grip: Grip<D, Done>,
         moment: u64,
     ) -> Result<Made, (Grip<D, Done>, Stranger)>
         requires share { 0 < share.old.parts }
-        requires moment { moment ≤ N.latest }
-        requires plan { HasPlan D.plan N.plans grip }
+        requires moment { IsWithin N.window moment }
+        requires plan { HasPlan D.plan N.window.plans grip }
         ensures given { IsGiven self.old grip moment result self.new }
         ensures window { SameWindow self.old self.new }
-        ensures appended { self.new.history ≡ self.old.history ++ kept_by grip.slip.maker (entries_given result) }
+        ensures appended { self.new.history
+            ≡ self.old.history ++ kept_by grip.slip.maker (entries_given result) }
         ensures told { share.new.amount ≡ share.old.amount + given_entries result }
         ensures parts { share.new.parts ≡ share.old.parts }
         ensures same { IfErr result (λ refused. refused.0 ≡ grip) }
@@ -230,15 +161,14 @@ impl<D: Device, N: Name> Held<D, N> {
         Ok(made)
     }
 
-    /// A probe of the device goes out of the hub, where it may. It makes no entry.
-    pub fn probe(&mut self, share: &mut Share<N>, d: DeviceNo) -> Option<Grip<D, Ready>>
+    fn take_probe(&mut self, share: &mut Share<N>, d: DeviceNo) -> Option<Grip<D, Ready>>
         requires share { 0 < share.old.parts }
         ensures probed { IsProbed self.old d.0 result self.new }
         ensures window { SameWindow self.old self.new }
         ensures appended { self.new.history ≡ self.old.history }
         ensures told { share.new.amount ≡ share.old.amount }
         ensures parts { share.new.parts ≡ share.old.parts }
-        ensures plan { IfSome result (λ grip. HasPlan D.plan N.plans grip) }
+        ensures plan { IfSome result (λ grip. HasPlan D.plan N.window.plans grip) }
     {
         let Held {
             hub,
@@ -251,17 +181,17 @@ impl<D: Device, N: Name> Held<D, N> {
         Some(grip)
     }
 
-    /// The step back of the detector's grip on the hub, told to the ledger.
-    pub fn probe_back(
+    fn give_probe(
         &mut self,
         share: &mut Share<N>,
         grip: Grip<D, Done>,
     ) -> Result<Made, (Grip<D, Done>, Stranger)>
         requires share { 0 < share.old.parts }
-        requires plan { HasPlan D.plan N.plans grip }
+        requires plan { HasPlan D.plan N.window.plans grip }
         ensures given { IsProbeGiven self.old grip result self.new }
         ensures window { SameWindow self.old self.new }
-        ensures appended { self.new.history ≡ self.old.history ++ kept_by 0 (entries_given result) }
+        ensures appended { self.new.history
+            ≡ self.old.history ++ kept_by 0 (entries_given result) }
         ensures told { share.new.amount ≡ share.old.amount + given_entries result }
         ensures parts { share.new.parts ≡ share.old.parts }
         ensures same { IfErr result (λ refused. refused.0 ≡ grip) }
@@ -277,8 +207,13 @@ impl<D: Device, N: Name> Held<D, N> {
         Ok(found)
     }
 
-    /// The run, which waits so, falls asleep. Whether it is known to be blocked.
-    pub fn fall_asleep(&mut self, r: RunNo, why: Why) -> bool
+    fn quiet(&self) -> Option<NotQuiet>
+        ensures { result ≡ not_quiet (configuration_of self.now) }
+    {
+        self.hub.quiet()
+    }
+
+    fn sleep(&mut self, r: RunNo, why: Why) -> bool
         ensures blocked { IsTrue result → IsBlocked (configuration_of self.new) r.0 }
         ensures same { self.new ≡ self.old }
     {
@@ -298,11 +233,41 @@ impl<D: Device, N: Name> Held<D, N> {
         blocked
     }
 
-    /// The runs that are to be called, the run r as the bit r - 1.
-    pub fn take_called(&mut self) -> u64
+    fn wake(&mut self) -> u64
         ensures { self.new ≡ self.old }
     {
         self.sleepers.take_called()
+    }
+}
+
+impl<D: Device, N: Name> Held<D, N> {
+    /// Nobody sleeps yet.
+    pub fn new(hub: Hub<D>, book: Book<N>) -> Held<D, N>
+        requires named { IsNamed D.plan N.window hub }
+        requires counted { book.total ≡ length hub.history }
+        ensures { result ≡ hub }
+    {
+        Held {
+            hub,
+            book,
+            sleepers: Sleepers::new(),
+        }
+    }
+
+    /// The hub, whose history has as many entries as the whole share counts.
+    pub fn ended(self, all: &mut Share<N>) -> Hub<D>
+        requires { all.old.parts ≡ N.parts }
+        ensures hub { result ≡ self }
+        ensures named { IsNamed D.plan N.window result }
+        ensures counted { length result.history ≡ all.new.amount }
+    {
+        let Held {
+            hub,
+            mut book,
+            sleepers: _,
+        } = self;
+        book.audit(all);
+        hub
     }
 }
 

@@ -1,9 +1,11 @@
+//! A window worked with a thread for each run.
 ghost use Rattle.std.specs.Prelude.{◌≡◌, ◌+◌, ◌<◌, ◌≤◌, IfErr, IfOk, IsTrue, [], length, vec_capacity, ℕ};
 ghost use Rattle.device_gate.specs.Places.{AreNumbered};
 ghost use Rattle.hub_core.specs.HubCalls.{HubStands, IsClosed};
 ghost use Rattle.hub_core.specs.OpenHubs.{configuration_of};
 ghost use Rattle.hub_core.specs.Steps.{opened};
 ghost use Rattle.hub_threads.specs.Named.{IsNamed};
+ghost use Rattle.hub_threads.specs.Names.{IsTimedBy};
 ghost use Rattle.hub_threads.specs.WorkedWindows.{IsWorked, NoneIsLeft};
 
 use crate::bells::{Bells, Naps};
@@ -31,6 +33,16 @@ pub(crate) struct Means {
     pub(crate) naps: Naps,
 }
 
+/// A window that is to be worked: so many runs, rounds of probes and devices, at the moments of this clock.
+#[derive(Drop)]
+struct Window<'a, C> {
+    runs: u32,
+    rounds: u32,
+    devices: u16,
+    clock: &'a C,
+    means: Means,
+}
+
 /// A thread for each run.
 const USUAL: Means = Means {
     threads: u32::MAX,
@@ -54,7 +66,9 @@ pub fn run_window<R: Threads + Wait + Sync, D: Device + Send, C: Clock + Sync>(
 ) -> Result<(Home<D>, WindowRecord), (Hub<D>, NoMemory)>
     requires fresh { configuration_of hub ≡ opened hub.setting hub.rounds }
     requires rounds { (d : ℕ) → d < length hub.setting.first → (configuration_of hub).probes d ≡ rounds }
-    ensures worked { IfOk result (λ closed. IsWorked D.tag D.plan D.turns D.probes D.faults (C.latest clock.now) hub closed.0 closed.1) }
+    ensures worked { IfOk result (λ closed.
+        IsWorked D.tag D.plan D.turns D.probes D.faults (C.earliest clock.now) (C.latest clock.now)
+        hub closed.0 closed.1) }
     ensures refused { IfErr result (λ refused. refused.0 ≡ hub) }
 {
     run_window_by(rt, alloc, hub, rounds, clock, USUAL)
@@ -70,71 +84,82 @@ pub(crate) fn run_window_by<R: Threads + Wait + Sync, D: Device + Send, C: Clock
     means: Means,
 ) -> Result<(Home<D>, WindowRecord), (Hub<D>, NoMemory)>
     requires fresh { configuration_of hub ≡ opened hub.setting hub.rounds }
-    ensures worked { IfOk result (λ closed. IsWorked D.tag D.plan D.turns D.probes D.faults (C.latest clock.now) hub closed.0 closed.1) }
+    ensures worked { IfOk result (λ closed.
+        IsWorked D.tag D.plan D.turns D.probes D.faults (C.earliest clock.now) (C.latest clock.now)
+        hub closed.0 closed.1) }
     ensures refused { IfErr result (λ refused. refused.0 ≡ hub) }
 {
     hub.kept();
-    let devices = hub.device_count() as u16;
-    let runs = hub.run_count();
-    let blank = Blank::new(u64::from(runs) + 1);
-    match run_named::<R, D, C, Brand>(rt, alloc, hub, blank, runs, rounds, devices, clock, means) {
+    let window = Window {
+        runs: hub.run_count(),
+        rounds,
+        devices: hub.device_count() as u16,
+        clock,
+        means,
+    };
+    let blank = Blank::new(u64::from(window.runs) + 1);
+    match run_named::<R, D, C, Brand>(rt, alloc, hub, blank, window) {
         Ok(last) => Ok(closed(rt, last)),
         Err(refused) => Err(refused),
     }
 }
 
 /// The steps of a window, with no type of its name among the arguments and the answer.
-fn run_named<R: Threads + Wait + Sync, D: Device + Send, C: Clock + Sync, N: Name + Send + Sync>(
+fn run_named<
+    'a,
+    R: Threads + Wait + Sync,
+    D: Device + Send,
+    C: Clock + Sync,
+    N: Name + Send + Sync,
+>(
     rt: &R,
     alloc: Global,
     hub: Hub<D>,
     blank: Blank,
-    runs: u32,
-    rounds: u32,
-    devices: u16,
-    clock: &C,
-    means: Means,
+    window: Window<'a, C>,
 ) -> Result<Hub<D>, (Hub<D>, NoMemory)>
     requires name { blank.name ≡ N.name }
-    requires parts { (blank.parts ≡ N.parts) × (blank.parts ≡ runs + 1) }
-    requires latest { C.latest clock.now ≡ N.latest }
-    requires named { IsNamed D.plan N.setting N.rounds N.opened N.opening N.plans N.latest hub }
+    requires parts { (blank.parts ≡ N.parts) × (blank.parts ≡ window.runs + 1) }
+    requires clock { IsTimedBy N.window (C.earliest window.clock.now) (C.latest window.clock.now) }
+    requires named { IsNamed D.plan N.window hub }
     requires fresh { hub.history ≡ [] }
-    ensures named { IfOk result (λ last. IsNamed D.plan N.setting N.rounds N.opened N.opening N.plans N.latest last) }
+    ensures named { IfOk result (λ last. IsNamed D.plan N.window last) }
     ensures refused { IfErr result (λ refused. refused.0 ≡ hub) }
 {
-    match run_counted::<R, D, C, N>(rt, alloc, hub, blank, runs, rounds, devices, clock, means) {
+    match run_counted::<R, D, C, N>(rt, alloc, hub, blank, window) {
         Ok((last, _)) => Ok(last),
         Err(refused) => Err(refused),
     }
 }
 
 /// The steps of a window, and the whole ledger: it counts what all of them have answered.
-fn run_counted<R: Threads + Wait + Sync, D: Device + Send, C: Clock + Sync, N: Name + Send + Sync>(
+fn run_counted<
+    'a,
+    R: Threads + Wait + Sync,
+    D: Device + Send,
+    C: Clock + Sync,
+    N: Name + Send + Sync,
+>(
     rt: &R,
     alloc: Global,
     hub: Hub<D>,
     blank: Blank,
-    runs: u32,
-    rounds: u32,
-    devices: u16,
-    clock: &C,
-    means: Means,
+    window: Window<'a, C>,
 ) -> Result<(Hub<D>, Share<N>), (Hub<D>, NoMemory)>
     requires name { blank.name ≡ N.name }
-    requires parts { (blank.parts ≡ N.parts) × (blank.parts ≡ runs + 1) }
-    requires latest { C.latest clock.now ≡ N.latest }
-    requires named { IsNamed D.plan N.setting N.rounds N.opened N.opening N.plans N.latest hub }
+    requires parts { (blank.parts ≡ N.parts) × (blank.parts ≡ window.runs + 1) }
+    requires clock { IsTimedBy N.window (C.earliest window.clock.now) (C.latest window.clock.now) }
+    requires named { IsNamed D.plan N.window hub }
     requires fresh { hub.history ≡ [] }
-    ensures named { IfOk result (λ last. IsNamed D.plan N.setting N.rounds N.opened N.opening N.plans N.latest last.0) }
+    ensures named { IfOk result (λ last. IsNamed D.plan N.window last.0) }
     ensures counted { IfOk result (λ last. length last.0.history ≡ last.1.amount) }
     ensures refused { IfErr result (λ refused. refused.0 ≡ hub) }
 {
-    let Ok(bells) = Bells::new(alloc, runs, means.naps) else {
+    let Ok(bells) = Bells::new(alloc, window.runs, window.means.naps) else {
         let _ = blank.open::<N>();
         return Err((hub, NoMemory));
     };
-    let Ok(handles) = room_for(alloc, runs) else {
+    let Ok(handles) = room_for(alloc, window.runs) else {
         let _ = blank.open::<N>();
         return Err((hub, NoMemory));
     };
@@ -144,7 +169,7 @@ fn run_counted<R: Threads + Wait + Sync, D: Device + Send, C: Clock + Sync, N: N
         bells,
         unstarted: Unstarted::new(),
     };
-    let mut all = in_threads(rt, &door, all, handles, runs, rounds, devices, clock, means);
+    let mut all = in_threads(rt, &door, all, handles, window);
     let Door {
         held,
         bells: _,
@@ -163,28 +188,39 @@ fn room_for<N: Name>(alloc: Global, workers: u32) -> Result<Vec<JoinHandle<Spent
 }
 
 /// Starts the workers, detects, joins the workers and gathers their shares.
-fn in_threads<R: Threads + Wait + Sync, D: Device + Send, C: Clock + Sync, N: Name + Send + Sync>(
+fn in_threads<
+    'a,
+    R: Threads + Wait + Sync,
+    D: Device + Send,
+    C: Clock + Sync,
+    N: Name + Send + Sync,
+>(
     rt: &R,
     door: &Door<Held<D, N>>,
     all: Share<N>,
     handles: Vec<JoinHandle<Spent<N>>>,
-    runs: u32,
-    rounds: u32,
-    devices: u16,
-    clock: &C,
-    means: Means,
+    window: Window<'a, C>,
 ) -> Share<N>
-    requires parts { (all.parts ≡ N.parts) × (all.parts ≡ runs + 1) × (all.amount ≡ 0) }
-    requires latest { C.latest clock.now ≡ N.latest }
-    requires room { runs ≤ vec_capacity handles }
+    requires parts { (all.parts ≡ N.parts) × (all.parts ≡ window.runs + 1) × (all.amount ≡ 0) }
+    requires clock { IsTimedBy N.window (C.earliest window.clock.now) (C.latest window.clock.now) }
+    requires room { window.runs ≤ vec_capacity handles }
     requires none { handles.items ≡ [] }
     ensures { result.parts ≡ N.parts }
 {
+    let Window {
+        runs,
+        rounds,
+        devices,
+        clock,
+        means,
+    } = window;
     thread::scope(
         thread::scope_env(),
         rt,
         move |scope| -> Share<N>
-            requires { (all.parts ≡ N.parts) × (all.parts ≡ runs + 1) × (all.amount ≡ 0) × (C.latest clock.now ≡ N.latest) × (runs ≤ vec_capacity handles) × (handles.items ≡ []) }
+            requires { (all.parts ≡ N.parts) × (all.parts ≡ runs + 1) × (all.amount ≡ 0)
+                × IsTimedBy N.window (C.earliest clock.now) (C.latest clock.now)
+                × (runs ≤ vec_capacity handles) × (handles.items ≡ []) }
             ensures { result.parts ≡ N.parts }
         {
             let mut all = all;
@@ -197,7 +233,8 @@ fn in_threads<R: Threads + Wait + Sync, D: Device + Send, C: Clock + Sync, N: Na
                 }
                 let share = all.split_off(1, 0);
                 let job = move || -> Spent<N>
-                    requires { (share.parts ≡ 1) × (C.latest clock.now ≡ N.latest) }
+                    requires { (share.parts ≡ 1)
+                        × IsTimedBy N.window (C.earliest clock.now) (C.latest clock.now) }
                 { work(rt, door, share, r, clock) };
                 match scope.spawn(job) {
                     Ok(handle) => handles.push_reserved(handle),

@@ -1,5 +1,7 @@
+//! The thread of a run: steps under the lock, calls of devices outside it.
 ghost use Rattle.std.specs.Prelude.{◌≡◌, ◌<◌, ◌≤◌, IfErr, IfSome};
 ghost use Rattle.hub_threads.specs.Named.{HasPlan};
+ghost use Rattle.hub_threads.specs.Names.{IsTimedBy};
 
 use crate::bells::Bells;
 use crate::held::Steps;
@@ -79,7 +81,7 @@ pub(crate) fn work<D: Device, N: Name, S: Steps<D, N, Grip<D, Done>>, R: Wait, C
     clock: &C,
 ) -> Spent<N>
     requires part { share.parts ≡ 1 }
-    requires latest { C.latest clock.now ≡ N.latest }
+    requires clock { IsTimedBy N.window (C.earliest clock.now) (C.latest clock.now) }
 {
     if door.unstarted.has(r) {
         return Spent { share };
@@ -104,7 +106,7 @@ pub(crate) fn step<D: Device, N: Name, S: Steps<D, N, Grip<D, Done>>, R: Wait, C
     sleeps: bool,
 ) -> Stepped
     requires share { 0 < share.old.parts }
-    requires latest { C.latest clock.now ≡ N.latest }
+    requires clock { IsTimedBy N.window (C.earliest clock.now) (C.latest clock.now) }
     ensures { share.new.parts ≡ share.old.parts }
 {
     let mut guard = door.held.lock(rt);
@@ -151,8 +153,8 @@ fn give<D: Device, N: Name, S: Steps<D, N, Grip<D, Done>>, R: Wait, C: Clock>(
     clock: &C,
 )
     requires share { 0 < share.old.parts }
-    requires latest { C.latest clock.now ≡ N.latest }
-    requires plan { HasPlan D.plan N.plans grip }
+    requires clock { IsTimedBy N.window (C.earliest clock.now) (C.latest clock.now) }
+    requires plan { HasPlan D.plan N.window.plans grip }
     ensures { share.new.parts ≡ share.old.parts }
 {
     let mut grip = grip;
@@ -177,8 +179,8 @@ fn give_once<D: Device, N: Name, S: Steps<D, N, Grip<D, Done>>, R: Wait, C: Cloc
     clock: &C,
 ) -> Option<Grip<D, Done>>
     requires share { 0 < share.old.parts }
-    requires latest { C.latest clock.now ≡ N.latest }
-    requires plan { HasPlan D.plan N.plans grip }
+    requires clock { IsTimedBy N.window (C.earliest clock.now) (C.latest clock.now) }
+    requires plan { HasPlan D.plan N.window.plans grip }
     ensures parts { share.new.parts ≡ share.old.parts }
     ensures same { IfSome result (λ back. back ≡ grip) }
 {
@@ -227,7 +229,7 @@ fn take_probe<D: Device, N: Name, S: Steps<D, N, Grip<D, Done>>, R: Wait>(
 ) -> Option<Grip<D, Ready>>
     requires share { 0 < share.old.parts }
     ensures parts { share.new.parts ≡ share.old.parts }
-    ensures plan { IfSome result (λ grip. HasPlan D.plan N.plans grip) }
+    ensures plan { IfSome result (λ grip. HasPlan D.plan N.window.plans grip) }
 {
     let mut guard = door.held.lock(rt);
     let probe = guard.take_probe(share, d);
@@ -243,7 +245,7 @@ fn give_probe_once<D: Device, N: Name, S: Steps<D, N, Grip<D, Done>>, R: Wait>(
     grip: Grip<D, Done>,
 ) -> Option<Grip<D, Done>>
     requires share { 0 < share.old.parts }
-    requires plan { HasPlan D.plan N.plans grip }
+    requires plan { HasPlan D.plan N.window.plans grip }
     ensures parts { share.new.parts ≡ share.old.parts }
     ensures same { IfSome result (λ back. back ≡ grip) }
 {

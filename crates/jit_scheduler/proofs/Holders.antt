@@ -18,6 +18,7 @@ use Rattle.lock_leasing.specs.Order.{covers}
 use Rattle.lock_leasing.specs.Tables.{EachTellsOfRun, TellsOfRun, runs_with_access, status_by_answers, uses}
 use Rattle.lock_leasing.specs.Words.{effective_write, has_effect, holds_device, live_runs}
 use Rattle.std.proofs.Common.{ap, arith, cond, refl, sym, ◌∙◌}
+use Rattle.std.proofs.lemmas.Bool.{and_from}
 use Rattle.std.proofs.lemmas.Grind.{common_steps}
 use Rattle.std.specs.List.{cons_option, list_any}
 use Rattle.std.specs.Prelude.{Bool, List, None, Option, Some, [], false, find, if◌then◌else◌, is_some, map, not, option_map, true, ℕ, ◌&&◌, ◌==◌, ◌∷◌, ◌≡◌}
@@ -37,10 +38,6 @@ another n q r live dead = at (q == r) refl
     at : (b : Bool) → (q == r) ≡ b → b ≡ false
     at true e = let same : q ≡ r = grind (arith, common_steps) in absurd (cc (ap (is_live n) same, live, dead))
     at false e = refl
-
-both_true : (a b : Bool) → a ≡ true → b ≡ true → (a && b) ≡ true
-both_true true b e h = h
-both_true false b e h = e
 
 module _ (w : Setting) (n : Reading) (g : Grips) (f : Facts w n g) (d : ℕ) where
   abbrev holds : ℕ → Bool
@@ -131,7 +128,7 @@ module _ (w : Setting) (n : Reading) (g : Grips) (f : Facts w n g) (d : ℕ) whe
       at false none ys same all = behind ys (same, all) ∙ by_live (is_live n q.0) refl (λ live. unheld (holds q.0) refl live)
         where
           unheld : (b : Bool) → holds q.0 ≡ b → is_live n q.0 ≡ true → b ≡ false
-          unheld true yes' live = let some : (uses w n d q.0 && not (list_any (covers n d) is)) ≡ true = has (holds_works q.0 (both_true (is_live n q.0) (holds q.0) live yes')) in absurd (cc (some, none))
+          unheld true yes' live = let some : (uses w n d q.0 && not (list_any (covers n d) is)) ≡ true = has (holds_works q.0 (and_from (is_live n q.0) (holds q.0) live yes')) in absurd (cc (some, none))
           unheld false no' live = refl
 
   walk_further : (test : Access → Bool) (r : ℕ) → TellsHolding test → is_live n r ≡ false → (is : List Item) (xs : List Access) → EachTail (HasAccess w n g f d) is → Shows is xs → FindsHolder test r is xs

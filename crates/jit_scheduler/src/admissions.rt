@@ -1,3 +1,4 @@
+//! Just-in-time admission: where a run is placed, or which device it is denied.
 ghost use Rattle.std.specs.Prelude.{◌≡◌};
 ghost use Rattle.command_rules.specs.Rosters.{runs_of};
 ghost use Rattle.jit_scheduler.specs.Admissions.{IsAdmissionOf, IsPlacingOf, IsWithin, MayAdmit, answer_by};

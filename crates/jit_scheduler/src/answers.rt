@@ -1,3 +1,4 @@
+//! What just-in-time admission answers.
 use home_types::{DeviceNo, RunNo};
 
 /// What a run that is to be placed is told.

@@ -1,3 +1,4 @@
+//! The first device that a run is denied, and the run that denies it.
 ghost use Rattle.std.specs.Prelude.{◌≡◌, ◌<◌, ◌≤◌, IsTrue, ℕ, length, true};
 ghost use Rattle.command_rules.specs.Rosters.{is_run, runs_of, touches};
 ghost use Rattle.home_types.specs.Limits.{most_devices};
@@ -42,7 +43,7 @@ fn find_denier(s: &Standing, d: DeviceNo, r: RunNo, place: u32) -> Option<RunNo>
 {
     match find_holder_before(s, d, r, place) {
         Some(x) => Some(x),
-        None if s.roster.roster().reads_first(r, d) => s.table.effective_writer(d),
+        None if s.roster.reads_first(r, d) => s.table.effective_writer(d),
         None => None,
     }
 }

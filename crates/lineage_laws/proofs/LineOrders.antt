@@ -7,6 +7,7 @@ use Rattle.lineage_table.proofs.Splits.{without_none}
 use Rattle.lineage_table.specs.Accesses.{has_access, is_of, put_before, put_before_run, without}
 use Rattle.lineage_table.specs.declared.accesses.Access.{Access}
 use Rattle.std.proofs.Common.{Bool, List, None, Option, Some, [], ap, ap₂, arith, cond, drop, false, refl, subst, suc, sym, take, true, zero, ℕ, ◌++◌, ◌∙◌, ◌∷◌, ◌≡◌}
+use Rattle.std.proofs.lemmas.Bool.{or_from, or_parts}
 use Rattle.std.proofs.lemmas.Grind.{common_steps}
 use Rattle.std.proofs.lemmas.List.Elements.{filter-append, filter_agree}
 use Rattle.std.proofs.lemmas.List.Kept.{AllPairs-filter}
@@ -19,12 +20,6 @@ run_of x = x.run
 
 abbrev has : List Access → RunNo → Bool
 has xs q = has_access q.0 xs
-
-neither : (a b : Bool) → (a || b) ≡ false → (a ≡ false) × (b ≡ false)
-neither a b e = grind (arith, common_steps)
-
-both : (p q : Bool) → p ≡ false → q ≡ false → (p || q) ≡ false
-both p q e f = grind (arith, common_steps)
 
 -- Without a run
 
@@ -61,7 +56,7 @@ differ a b h = at (b.0 == a.0) refl
 
 none_later : (x : Access) (xs : List Access) → AllByRecursion (λ q. x.run ≢ q) (map run_of xs) → has_access x.run.0 xs ≡ false
 none_later x [] h = refl
-none_later x (y ∷ xs) h = both (is_of x.run.0 y) (has_access x.run.0 xs) (differ x.run y.run h.0) (none_later x xs h.1)
+none_later x (y ∷ xs) h = or_from (is_of x.run.0 y) (has_access x.run.0 xs) (differ x.run y.run h.0) (none_later x xs h.1)
 
 runs_differ : (runs : List RunNo) (xs : List Access) → AreDifferent runs → AreInOrder runs xs → Pairs (λ a b. a ≢ b) (map run_of xs)
 runs_differ runs xs d h = pairs_from_all (λ a b. a ≢ b) (map run_of xs) (subst (AllPairs (λ a b. a ≢ b)) h (AllPairs-filter (λ a b. a ≢ b) (has xs) runs d))
@@ -96,7 +91,7 @@ has_put (Some r) q y xs = has_put_run r.0 q y xs
 same_runs : (y : Access) (xs zs : List Access) (l : List RunNo) → ((q : RunNo) → has zs q ≡ (has xs q || is_of q.0 y)) → is_among y.run l ≡ false → filter (has zs) l ≡ filter (has xs) l
 same_runs y xs zs [] h n = refl
 same_runs y xs zs (q ∷ l) h n =
-    let p = neither (q.0 == y.run.0) (is_among y.run l) n in
+    let p = or_parts (q.0 == y.run.0) (is_among y.run l) n in
     one (has zs q) (has xs q) (is_of q.0 y) (h q) (turned q.0 y.run.0 p.0) (filter (has zs) l) (filter (has xs) l) (same_runs y xs zs l h p.1)
   where
     turned : (a b : ℕ) → (a == b) ≡ false → (b == a) ≡ false
@@ -107,7 +102,7 @@ same_runs y xs zs (q ∷ l) h n =
 
 among_parts : (r : RunNo) (a b : List RunNo) → is_among r (a ++ b) ≡ false → (is_among r a ≡ false) × (is_among r b ≡ false)
 among_parts r [] b n = (refl, n)
-among_parts r (q ∷ a) b n = let p = neither (q.0 == r.0) (is_among r (a ++ b)) n in let f = among_parts r a b p.1 in (both (q.0 == r.0) (is_among r a) p.0 f.0, f.1)
+among_parts r (q ∷ a) b n = let p = or_parts (q.0 == r.0) (is_among r (a ++ b)) n in let f = among_parts r a b p.1 in (or_from (q.0 == r.0) (is_among r a) p.0 f.0, f.1)
 
 put_runs : (y : Access) (xs zs : List Access) (a b : List RunNo) → ((q : RunNo) → has zs q ≡ (has xs q || is_of q.0 y)) → is_among y.run (a ++ b) ≡ false
     → filter (has zs) (a ++ y.run ∷ b) ≡ filter (has xs) a ++ y.run ∷ filter (has xs) b
@@ -154,7 +149,7 @@ put_run q y [] b (x ∷ xs) e n = first (is_of q.0 x) (own (cc))
     first true h = ap (λ l. y.run ∷ l) e
     first false h = absurd (cc)
 put_run q y (u ∷ a) b (x ∷ xs) e n =
-    let p = neither (u.0 == q.0) (is_among q a) n in
+    let p = or_parts (u.0 == q.0) (is_among q a) n in
     later (is_of q.0 x) (own (cc) p.0) (cc) (put_run q y a b xs (cc) p.1)
   where
     own : x.run ≡ u → (u.0 == q.0) ≡ false → is_of q.0 x ≡ false
@@ -169,7 +164,7 @@ not_before q a b h = none a (pairs_front (λ a b. a ≢ b) a q b h)
   where
     none : (a : List RunNo) → AllByRecursion (λ u. u ≢ q) a → is_among q a ≡ false
     none [] f = refl
-    none (u ∷ a) f = both (u.0 == q.0) (is_among q a) (differ q u (λ e. f.0 (sym e))) (none a f.1)
+    none (u ∷ a) f = or_from (u.0 == q.0) (is_among q a) (differ q u (λ e. f.0 (sym e))) (none a f.1)
 
 pub order_put : (runs : List RunNo) (xs : List Access) (place : ℕ) (y : Access) → AreDifferent runs → AreInOrder runs xs → is_among y.run runs ≡ false
     → AreInOrder (insert runs place y.run) (put_before (next_with_access (drop place runs) xs) y xs)

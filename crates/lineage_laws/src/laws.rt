@@ -1,3 +1,4 @@
+//! Laws of a lineage table: the order of statuses and of the line, and what keeps the value that stands.
 ghost use Rattle.std.specs.Prelude.{◌≡◌, ◌≢◌, ◌<◌, ◌≤◌, ℕ, false, IsSome, Some, drop, insert, length};
 ghost use Rattle.lineage_laws.specs.Laws.{AreDifferent, AreInOrder, StandByStatus, is_among, next_with_access, stand_of};
 ghost use Rattle.lineage_table.specs.Accesses.{effective_writer, put_before, status_of, without, written_by};

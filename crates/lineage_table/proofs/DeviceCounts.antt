@@ -9,6 +9,7 @@ use Rattle.home_types.specs.declared.commands.Command.{Command}
 use Rattle.lineage_table.proofs.RunSets.{differ, equal}
 use Rattle.lineage_table.specs.Lineages.{runs_on}
 use Rattle.std.proofs.Common.{List, [], ap, arith, cond, get_or, length, refl, set as set_at, subst, suc, sym, take, zero, ℕ, ◌+◌, ◌<◌, ◌∙◌, ◌∷◌, ◌≡◌, ◌≤◌}
+use Rattle.std.proofs.lemmas.Bool.{or_right}
 use Rattle.std.proofs.lemmas.Grind.{common_steps}
 use Rattle.std.proofs.lemmas.List.Sums.{count_by-le-length, sum_by_more}
 use Rattle.std.proofs.lemmas.List.{get_or-map, get_or-set_other, get_or-set_same, length-map, take_all}
@@ -79,11 +80,7 @@ module _ (cs : List Command) (i : ℕ) (e : Command) (within : i < length cs) (s
       ∙ sym (any_next (is_on d) cs i e within)
     where
       turned : (a b : ℕ) (c : Bool) → ((a == b) || c) ≡ (c || (b == a))
-      turned a b true = or_true (a == b)
-        where
-          or_true : (x : Bool) → (x || true) ≡ true
-          or_true true = refl
-          or_true false = refl
+      turned a b true = or_right (a == b) true refl
       turned a b false = or_false (a == b) ∙ around a b
         where
           or_false : (x : Bool) → (x || false) ≡ x

@@ -10,17 +10,17 @@ use Rattle.lineage_table.specs.declared.accesses.Status.TheVariants.{Acquired, R
 use Rattle.lineage_table.specs.declared.accesses.Status.{Status}
 use Rattle.home_types.specs.declared.numbers.RunNo.{RunNo}
 use Rattle.lineage_table.specs.Lineages.{LineageState, removed, scheduled, settled}
+use Rattle.std.proofs.lemmas.Bool.{or_from, or_parts, or_right}
 use Rattle.std.specs.Option.{ForSome}
 use Rattle.std.proofs.lemmas.List.Quantifiers.{position-Some}
 use Rattle.std.proofs.Common.{rules, ◌-◌, Bool, IsSome, IsTrue, List, None, Option, Some, [], add-one, ap, ap₂, arith, drop, false, get_or, inl, inr, length, refl, set, subst, suc, sym, take, true, zero, ℕ, ◌++◌, ◌+◌, ◌<◌, ◌∙◌, ◌≤◌, ◌∷◌, ◌≡◌}
 use Rattle.std.proofs.lemmas.Grind.{common_steps}
 use Rattle.std.proofs.lemmas.List.Edits.{insert_end, length-remove}
-use Rattle.std.proofs.lemmas.List.Kept.{AllPairs-filter}
 use Rattle.std.proofs.lemmas.List.Folds.{list_any-append}
 use Rattle.std.proofs.lemmas.Option.{slice_get-get_or, slice_get_past}
 use Rattle.std.proofs.lemmas.List.{append-nil, drop_at, get_or_at, set_at, take-append-drop, take_at, take_more}
 use Rattle.std.specs.List.{position_or_len, AllByRecursion, AllPairs, insert, remove}
-use Rattle.std.specs.Prelude.{nat_lt, if◌then◌else◌, is_some, not, option_and_then, option_map, position, slice_get, unwrap_or, slice_set, ◌||◌}
+use Rattle.std.specs.Prelude.{nat_lt, if◌then◌else◌, is_some, option_and_then, option_map, position, slice_get, unwrap_or, slice_set, ◌||◌}
 
 -- Places
 
@@ -170,12 +170,6 @@ kept_at a x y b same front back k = record {
     after : (x y v : Access) → y.run.0 ≡ x.run.0 → AreOfTwoRuns x v → AreOfTwoRuns y v
     after x y v e h = grind (arith, common_steps)
 
-neither : (p q : Bool) → (p || q) ≡ false → (p ≡ false) × (q ≡ false)
-neither p q h = grind (arith, common_steps)
-
-both : (p q : Bool) → p ≡ false → q ≡ false → (p || q) ≡ false
-both p q e f = grind (arith, common_steps)
-
 only : (s : Status) → is_scheduled s ≡ true → s ≡ Scheduled
 only Released h = absurd (cc)
 only Acquired h = absurd (cc)
@@ -201,8 +195,8 @@ quiet (x ∷ a) b n = grind (arith, common_steps, quiet a b)
 behind_released : (x y : Access) (a : List Access) → some_acquired a ≡ false → some_scheduled a ≡ false → AllByRecursion (λ u. AreInTurn u x → AreInTurn u y) a
 behind_released x y [] n f = tt
 behind_released x y (u ∷ a) n f =
-    let p = neither (is_acquired u.status) (some_acquired a) n in
-    let q = neither (is_scheduled u.status) (some_scheduled a) f in
+    let p = or_parts (is_acquired u.status) (some_acquired a) n in
+    let q = or_parts (is_scheduled u.status) (some_scheduled a) f in
     (in_front u x y p.0 q.0, behind_released x y a p.1 q.1)
 
 -- the run touches the device: none before it is acquired or scheduled
@@ -278,7 +272,7 @@ answer_keeps xs r i x y k h is may f same =
 
     only_released : (x : Access) (a : List Access) → x.status ≡ Acquired → AllByRecursion (λ u. AreInTurn u x) a → some_acquired a ≡ false
     only_released x [] e h = refl
-    only_released x (u ∷ a) e h = both (is_acquired u.status) (some_acquired a) (at u.status refl) (only_released x a e h.1)
+    only_released x (u ∷ a) e h = or_from (is_acquired u.status) (some_acquired a) (at u.status refl) (only_released x a e h.1)
       where
         at : (s : Status) → u.status ≡ s → is_acquired s ≡ false
         at Released q = refl
@@ -299,7 +293,7 @@ tests_scheduled Scheduled = refl
 none_scheduled : (xs : List Access) (d z : Access) (n : ℕ) → n ≤ length xs → ((j : ℕ) → j < n → AreInTurn (get_or xs j d) z) → is_scheduled z.status ≡ false → some_scheduled (take n xs) ≡ false
 none_scheduled xs d z zero within turns e = refl
 none_scheduled [] d z (suc n) within turns e = absurd (omega (arith, within))
-none_scheduled (x ∷ xs) d z (suc n) within turns e = both (is_scheduled x.status) (some_scheduled (take n xs)) (one x z (turns 0 (omega arith)) e) (none_scheduled xs d z n (omega (arith, within)) (λ j q. turns (suc j) (omega (arith, q))) e)
+none_scheduled (x ∷ xs) d z (suc n) within turns e = or_from (is_scheduled x.status) (some_scheduled (take n xs)) (one x z (turns 0 (omega arith)) e) (none_scheduled xs d z n (omega (arith, within)) (λ j q. turns (suc j) (omega (arith, q))) e)
   where
     one : (x z : Access) → AreInTurn x z → is_scheduled z.status ≡ false → is_scheduled x.status ≡ false
     one x z t e = at x.status refl
@@ -316,11 +310,7 @@ last_tells xs i d k within =
     ∙ at (is_scheduled (get_or xs i d).status) refl
   where
     at : (b : Bool) → is_scheduled (get_or xs i d).status ≡ b → (some_scheduled (take i xs) || (b || false)) ≡ b
-    at true e = or_true (some_scheduled (take i xs))
-      where
-        or_true : (b : Bool) → (b || true) ≡ true
-        or_true true = refl
-        or_true false = refl
+    at true e = or_right (some_scheduled (take i xs)) true refl
     at false e = ap (λ b. b || false) (none_scheduled xs d (get_or xs i d) i (omega (arith, within)) (λ j q. k.in_turn j i d q within) e)
 
 -- the discipline where an access is put in
@@ -346,11 +336,11 @@ put_keeps a y b s m n q k = record {
 
     ones : (a : List Access) → has_access y.run.0 a ≡ false → AllByRecursion (λ u. AreOfTwoRuns u y) a
     ones [] m = tt
-    ones (u ∷ a) m = let p = neither (is_of y.run.0 u) (has_access y.run.0 a) m in (two u y p.0, ones a p.1)
+    ones (u ∷ a) m = let p = or_parts (is_of y.run.0 u) (has_access y.run.0 a) m in (two u y p.0, ones a p.1)
 
     others : (b : List Access) → has_access y.run.0 b ≡ false → AllByRecursion (AreOfTwoRuns y) b
     others [] m = tt
-    others (v ∷ b) m = let p = neither (is_of y.run.0 v) (has_access y.run.0 b) m in (two_others y v p.0, others b p.1)
+    others (v ∷ b) m = let p = or_parts (is_of y.run.0 v) (has_access y.run.0 b) m in (two_others y v p.0, others b p.1)
 
 -- an access is scheduled before that of a run, which is scheduled
 pub schedule_keeps : (xs : List Access) (q i : ℕ) (y d : Access) → IsDisciplined xs → position (is_of q) xs ≡ Some i → status_of q xs ≡ Some Scheduled
@@ -367,7 +357,7 @@ schedule_keeps xs q i y d k h s t n =
   where
     apart : (r : ℕ) (a b : List Access) → has_access r (a ++ b) ≡ false → (has_access r a ≡ false) × (has_access r b ≡ false)
     apart r [] b n = (refl, n)
-    apart r (x ∷ a) b n = let p = neither (is_of r x) (has_access r (a ++ b)) n in let f = apart r a b p.1 in (both (is_of r x) (has_access r a) p.0 f.0, f.1)
+    apart r (x ∷ a) b n = let p = or_parts (is_of r x) (has_access r (a ++ b)) n in let f = apart r a b p.1 in (or_from (is_of r x) (has_access r a) p.0 f.0, f.1)
 
     one : (x v : Access) → x.status ≡ Scheduled → AreInTurn x v → v.status ≡ Scheduled
     one x v e h = only v.status (behind_scheduled x v e h)
@@ -384,13 +374,6 @@ pub schedule_place_keeps : (xs : List Access) (before : Option RunNo) (i : ℕ) 
     → y.status ≡ Scheduled → has_access y.run.0 xs ≡ false → IsDisciplined (insert xs i y)
 schedule_place_keeps xs None i y k h s t n = subst (λ p. IsDisciplined (insert xs p y)) (same_place (length xs) i h) (schedule_last_keeps xs y k t n)
 schedule_place_keeps xs (Some r) i y k h s t n = schedule_keeps xs r.0 i y y k h (s r refl) t n
-
--- the access of a run leaves
-pub remove_keeps : (xs : List Access) (r i : ℕ) (d : Access) → IsDisciplined xs → position (is_of r) xs ≡ Some i → IsDisciplined (remove xs i)
-remove_keeps xs r i d k h = subst IsDisciplined (sym (without_remove r i xs d k h)) (record {
-  in_turn = AllPairs-filter AreInTurn (λ x. not (is_of r x)) xs k.in_turn;
-  one_each = AllPairs-filter AreOfTwoRuns (λ x. not (is_of r x)) xs k.one_each;
-})
 
 -- the first ones leave
 pub drop_keeps : (xs : List Access) (n : ℕ) → IsDisciplined xs → IsDisciplined (drop n xs)

@@ -2,8 +2,8 @@
 use Rattle.home_types.specs.Limits.{most_devices}
 use Rattle.lineage_table.specs.Accesses.{IsDisciplined}
 use Rattle.lineage_table.specs.Lineages.{IsTable, LineageState, accesses_at, no_lineage}
-use Rattle.std.proofs.Common.{List, arith, get_or, length, refl, set, subst, sym, ℕ, ◌<◌, ◌≡◌, ◌≢◌, ◌∙◌}
-use Rattle.std.proofs.lemmas.Grind.{common_steps}
+use Rattle.std.proofs.Common.{List, get_or, length, refl, set, subst, sym, ℕ, ◌<◌, ◌≡◌, ◌∙◌}
+use Rattle.std.proofs.lemmas.Bool.{eqb-false, eqb-true}
 use Rattle.std.proofs.lemmas.List.{get_or-set_other, get_or-set_same, length-set}
 use Rattle.std.specs.Prelude.{Bool, false, true, ◌==◌, ◌≤◌}
 
@@ -17,12 +17,6 @@ table_set table now d s x is same below there turns = record {
     inside : d < length table
     inside = subst (λ (l : List LineageState). d < length l) (sym same) below
 
-    equal : (x y : ℕ) → (x == y) ≡ true → x ≡ y
-    equal x y h = grind (arith, common_steps)
-
-    differ : (x y : ℕ) → (x == y) ≡ false → x ≢ y
-    differ x y h k = grind (arith, common_steps)
-
     own : x ≡ s
     own = there ∙ get_or-set_same table d s x inside
 
@@ -30,5 +24,5 @@ table_set table now d s x is same below there turns = record {
     here = subst (λ (y : LineageState). IsDisciplined y.accesses) (own ∙ sym (get_or-set_same table d s no_lineage inside)) turns
 
     at_ : (e : ℕ) (b : Bool) → (e == d) ≡ b → IsDisciplined (accesses_at (set table d s) e)
-    at_ e true h = subst (λ k. IsDisciplined (accesses_at (set table d s) k)) (sym (equal e d h)) here
-    at_ e false h = subst (λ (y : LineageState). IsDisciplined y.accesses) (sym (get_or-set_other table d e s no_lineage (differ e d h))) (is.turns e)
+    at_ e true h = subst (λ k. IsDisciplined (accesses_at (set table d s) k)) (sym (eqb-true e d h)) here
+    at_ e false h = subst (λ (y : LineageState). IsDisciplined y.accesses) (sym (get_or-set_other table d e s no_lineage (eqb-false e d h))) (is.turns e)

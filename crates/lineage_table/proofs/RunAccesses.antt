@@ -9,6 +9,7 @@ use Rattle.lineage_table.specs.Answers.{answered_access, answered_if}
 use Rattle.lineage_table.specs.Lineages.{LineageState}
 use Rattle.lineage_table.specs.declared.accesses.Access.{Access}
 use Rattle.std.proofs.Common.{List, None, Option, Some, [], ap, arith, get_or, length, refl, sym, take, ℕ, ◌++◌, ◌+◌, ◌<◌, ◌∙◌, ◌∷◌, ◌≡◌}
+use Rattle.std.proofs.lemmas.Bool.{and_right}
 use Rattle.std.proofs.lemmas.Grind.{common_steps}
 use Rattle.std.specs.Prelude.{Bool, IsTrue, false, if◌then◌else◌, is_some, not, true, ◌&&◌, ◌==◌, ◌||◌}
 
@@ -107,11 +108,7 @@ behind_has q r xs disciplined has = along xs (pairs_from_all AreOfTwoRuns xs dis
     one false b h = refl
 
     further : (a b c d : Bool) → (a ≡ true → d ≡ false) → (not (b || c) && d) ≡ (not ((a || b) || c) && (a || d))
-    further true b c d h = ap (λ x. not (b || c) && x) (h refl) ∙ nothing (not (b || c))
-      where
-        nothing : (x : Bool) → (x && false) ≡ false
-        nothing true = refl
-        nothing false = refl
+    further true b c d h = ap (λ x. not (b || c) && x) (h refl) ∙ and_right (not (b || c)) false refl
     further false b c d h = refl
 
     along : (ys : List Access) → Pairs AreOfTwoRuns ys → IsTrue (has_access r ys) → has_access q (behind r ys) ≡ (not (has_access q (before r ys) || (q == r)) && has_access q ys)

@@ -6,6 +6,7 @@ use Rattle.lineage_table.specs.Accesses.{IsDisciplined, has_access}
 use Rattle.lineage_table.specs.Lineages.{LineageState, accesses_at, lineage_at, no_lineage}
 use Rattle.lineage_table.specs.RunDevices.{HasLess, HasMore, IsSound, is_in}
 use Rattle.std.proofs.Common.{List, [], ap, arith, get_or, length, refl, set as set_at, subst, suc, sym, zero, ℕ, ◌++◌, ◌+◌, ◌<◌, ◌∙◌, ◌∷◌, ◌≡◌, ◌≢◌}
+use Rattle.std.proofs.lemmas.Bool.{eq-eqb}
 use Rattle.std.proofs.lemmas.Grind.{common_steps}
 use Rattle.std.proofs.lemmas.List.{get_or-set_other, get_or-set_same, length-set}
 use Rattle.std.specs.FinSet as set
@@ -17,9 +18,6 @@ equal x y h = grind (arith, common_steps)
 
 pub differ : (x y : ℕ) → (x == y) ≡ false → x ≢ y
 differ x y h k = grind (arith, common_steps)
-
-itself : (k : ℕ) → (k == k) ≡ true
-itself k = grind (arith, common_steps)
 
 -- none up to here, and not here
 pub none_next : (test : ℕ → Bool) (from d : ℕ) → ((e : ℕ) → from ≤ e → e < d → test e ≡ false) → test d ≡ false → (e : ℕ) → from ≤ e → e < d + 1 → test e ≡ false
@@ -125,7 +123,7 @@ module _ (sets now : List Devices) (table now_table : List LineageState) (d : �
   sound_more r more runs =
       sound_from more.runs
       (λ q e within other. more.each q e within ∙ ap (λ b. ((q == r) && b) || is_in sets q e) other ∙ unchanged (q == r) (is_in sets q e))
-      (λ q within told. more.each q d within ∙ ap (λ b. ((q == r) && b) || is_in sets q d) (itself d) ∙ own (q == r) (is_in sets q d) ∙ ap (λ b. (q == r) || b) told ∙ sym (runs q))
+      (λ q within told. more.each q d within ∙ ap (λ b. ((q == r) && b) || is_in sets q d) (eq-eqb d d refl) ∙ own (q == r) (is_in sets q d) ∙ ap (λ b. (q == r) || b) told ∙ sym (runs q))
     where
       unchanged : (b y : Bool) → ((b && false) || y) ≡ y
       unchanged true y = refl
@@ -140,4 +138,4 @@ module _ (sets now : List Devices) (table now_table : List LineageState) (d : �
   sound_less leaves less runs =
       sound_from less.runs
       (λ q e within other. less.each q e within ∙ ap (λ b. not (b && leaves q) && is_in sets q e) other)
-      (λ q within told. less.each q d within ∙ ap (λ b. not (b && leaves q) && is_in sets q d) (itself d) ∙ ap (λ b. not (leaves q) && b) told ∙ sym (runs q))
+      (λ q within told. less.each q d within ∙ ap (λ b. not (b && leaves q) && is_in sets q d) (eq-eqb d d refl) ∙ ap (λ b. not (leaves q) && b) told ∙ sym (runs q))

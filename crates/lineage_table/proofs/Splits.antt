@@ -3,10 +3,11 @@ use Rattle.lineage_table.specs.Accesses.{access_of, before, behind, has_access, 
 use Rattle.command_rules.specs.Rosters.{run_no}
 use Rattle.lineage_table.specs.declared.accesses.Access.{Access}
 use Rattle.lineage_table.specs.declared.accesses.Status.TheVariants.{Released}
-use Rattle.std.proofs.Common.{Bool, List, None, Some, [], ap, arith, false, get_or, length, refl, suc, true, zero, ℕ, ◌++◌, ◌<◌, ◌∷◌, ◌≡◌}
+use Rattle.std.proofs.Common.{List, None, Some, [], ap, arith, false, get_or, length, refl, suc, true, zero, ℕ, ◌++◌, ◌<◌, ◌∷◌, ◌≡◌}
+use Rattle.std.proofs.lemmas.Bool.{or_from}
 use Rattle.std.proofs.lemmas.Grind.{common_steps}
 use Rattle.std.proofs.lemmas.List.Quantifiers.{position-Some}
-use Rattle.std.specs.Prelude.{position, ◌||◌}
+use Rattle.std.specs.Prelude.{position}
 
 abbrev pub any_access : Access
 any_access = record { run = run_no 0; status = Released; view = None; wrote = None; from = 0; to = 0 }
@@ -32,12 +33,9 @@ cut_from r (suc i) (x ∷ xs) d p h n =
       rest = c.rest;
       list = ap (λ l. x ∷ l) c.list;
       size = omega (arith, c.size);
-      none = either (is_of r x) (has_access r c.front) (n 0 (omega arith)) c.none;
+      none = or_from (is_of r x) (has_access r c.front) (n 0 (omega arith)) c.none;
       own = c.own;
     }
-  where
-    either : (p q : Bool) → p ≡ false → q ≡ false → (p || q) ≡ false
-    either p q e f = grind (arith, common_steps)
 
 -- the list is cut at the place of the run's access
 pub cut_at : (r i : ℕ) (xs : List Access) (d : Access) → position (is_of r) xs ≡ Some i → Cut r i xs

@@ -2,17 +2,13 @@
 use Rattle.command_rules.specs.Rosters.{run_no}
 use Rattle.home_types.specs.declared.numbers.RunNo.{RunNo}
 use Rattle.lineage_table.proofs.Pairs.{Pairs, pairs_from_all}
+use Rattle.std.proofs.lemmas.Bool.{both_ways, or_left, or_right}
 use Rattle.std.specs.List.{AllByRecursion}
 use Rattle.lineage_table.specs.Accesses.{AreOfTwoRuns, IsDisciplined, has_access, access_of, behind, effective_writer, is_of, standing_value, with_change, without, written_by}
 use Rattle.lineage_table.specs.declared.accesses.Access.{Access}
-use Rattle.std.proofs.Common.{◌∙◌, Bool, IsSome, ap, subst, List, None, Option, Some, [], arith, false, refl, sym, true, ℕ, ◌++◌, ◌∷◌, ◌≡◌}
+use Rattle.std.proofs.Common.{◌∙◌, Bool, IsSome, ap, subst, List, None, Option, Some, [], arith, false, refl, sym, true, ℕ, ◌∷◌, ◌≡◌}
 use Rattle.std.proofs.lemmas.Grind.{common_steps}
 use Rattle.std.specs.Prelude.{fold, if◌then◌else◌, is_some, not, option_and_then, option_map, unwrap_or, ◌==◌, ◌≢◌, ◌||◌}
-
--- a list in two parts
-pub standing-append : (c : ℕ) (a b : List Access) → standing_value c (a ++ b) ≡ standing_value (standing_value c a) b
-standing-append c [] b = refl
-standing-append c (x ∷ a) b = standing-append (unwrap_or x.wrote c) a b
 
 -- where the run's access is passed over
 pub passing_stands : (r c : ℕ) (xs : List Access) → fold (λ value x. if is_of r x then value else unwrap_or x.wrote value) c xs ≡ standing_value c (without r xs)
@@ -76,10 +72,7 @@ without_from g quiet over r v u w (x ∷ xs) h e =
   where
     gone : is_of r x ≡ true → (o : Option ℕ) → x.wrote ≡ o → is_writer r (if is_some o then Some x.run else w) ≡ false → u ≡ g v x
     gone q None i f = h f ∙ sym (quiet v x i)
-    gone q (Some k) i f = absurd (two (is_of r x) q f)
-      where
-        two : (b : Bool) → b ≡ true → b ≡ false → ⊥
-        two b s t = cc
+    gone q (Some k) i f = absurd (both_ways (is_of r x) f q)
 
     stays : (o : Option ℕ) → x.wrote ≡ o → is_writer r (if is_some o then Some x.run else w) ≡ false → g u x ≡ g v x
     stays None i f = quiet u x i ∙ h f ∙ sym (quiet v x i)
@@ -153,15 +146,9 @@ has_written q (x ∷ xs) e = at (effective_writer xs) refl (has_written q xs)
     own None h = absurd (cc)
     own (Some k) h = grind (arith, common_steps)
 
-    either : (a b : Bool) → b ≡ true → (a || b) ≡ true
-    either a b h = grind (arith, common_steps)
-
-    first : (a b : Bool) → a ≡ true → (a || b) ≡ true
-    first a b h = grind (arith, common_steps)
-
     at : (w : Option RunNo) → effective_writer xs ≡ w → (effective_writer xs ≡ Some q → has_access q.0 xs ≡ true) → (is_of q.0 x || has_access q.0 xs) ≡ true
-    at None h f = first (is_of q.0 x) (has_access q.0 xs) (own x.wrote (sym (writer_earlier (if is_some x.wrote then Some x.run else None) xs h) ∙ e))
-    at (Some p) h f = either (is_of q.0 x) (has_access q.0 xs) (f (h ∙ sym (writer_later (if is_some x.wrote then Some x.run else None) p xs h) ∙ e))
+    at None h f = or_left (is_of q.0 x) (has_access q.0 xs) (own x.wrote (sym (writer_earlier (if is_some x.wrote then Some x.run else None) xs h) ∙ e))
+    at (Some p) h f = or_right (is_of q.0 x) (has_access q.0 xs) (f (h ∙ sym (writer_later (if is_some x.wrote then Some x.run else None) p xs h) ∙ e))
 
 none_behind : (x : Access) (xs : List Access) → AllByRecursion (AreOfTwoRuns x) xs → has_access x.run.0 xs ≡ false
 none_behind x [] h = refl
@@ -195,13 +182,10 @@ writer_stands c q (x ∷ xs) k e = at (effective_writer xs) refl (writer_stands 
     other h = split (is_of q.0 x) refl
       where
         split : (b : Bool) → is_of q.0 x ≡ b → is_of q.0 x ≡ false
-        split true f = absurd (two (has_access q.0 xs) h (subst (λ n. has_access n xs ≡ false) (same f) (none_behind x xs k.0)))
+        split true f = absurd (both_ways (has_access q.0 xs) (subst (λ n. has_access n xs ≡ false) (same f) (none_behind x xs k.0)) h)
           where
             same : is_of q.0 x ≡ true → x.run.0 ≡ q.0
             same f = grind (arith, common_steps)
-
-            two : (b : Bool) → b ≡ true → b ≡ false → ⊥
-            two b s t = cc
         split false f = f
 
     at : (w : Option RunNo) → effective_writer xs ≡ w → (effective_writer xs ≡ Some q → written_by q.0 xs ≡ Some (standing_value (unwrap_or x.wrote c) xs)) → written_by q.0 (x ∷ xs) ≡ Some (standing_value (unwrap_or x.wrote c) xs)

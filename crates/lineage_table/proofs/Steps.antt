@@ -1,13 +1,12 @@
 -- What a step of the hub does with a list of accesses that is cut at a run's access.
 use Rattle.home_types.specs.declared.commands.View.{View}
-use Rattle.lineage_table.proofs.Splits.{access_at, behind_at, change_at, put_at, without_at}
-use Rattle.lineage_table.specs.Accesses.{behind, has_access, is_acquired, is_of, put_before, some_acquired, status_of, with_change, without, written_by}
+use Rattle.lineage_table.proofs.Splits.{access_at, change_at}
+use Rattle.lineage_table.specs.Accesses.{has_access, is_acquired, is_of, some_acquired, status_of, with_change, written_by}
 use Rattle.lineage_table.specs.declared.accesses.Access.{Access}
 use Rattle.lineage_table.specs.declared.accesses.Status.TheVariants.{Acquired, Released}
-use Rattle.std.proofs.Common.{List, None, Some, [], ap, arith, false, refl, true, ℕ, ◌++◌, ◌∙◌, ◌∷◌, ◌≡◌}
+use Rattle.std.proofs.Common.{List, Some, [], ap, arith, false, true, ℕ, ◌++◌, ◌∙◌, ◌∷◌, ◌≡◌}
 use Rattle.std.proofs.lemmas.Grind.{common_steps}
-use Rattle.std.proofs.lemmas.List.{append-nil}
-use Rattle.std.specs.Prelude.{option_and_then, option_map, unwrap_or}
+use Rattle.std.specs.Prelude.{option_and_then, option_map}
 
 -- what is read at the cut
 
@@ -28,20 +27,3 @@ pub pass_at : (r : ℕ) (v : View) (a : List Access) (x : Access) (b : List Acce
 pass_at r v a x b n o =
     ap (with_change r (λ (y : Access). record y { status = Released })) (change_at r (λ (y : Access). record y { status = Acquired; view = Some v }) a x b n o)
     ∙ change_at r (λ (y : Access). record y { status = Released }) a (record x { status = Acquired; view = Some v }) b n o
-
--- an access is taken out, and scheduled again before what stood behind it
-pub again_at : (r : ℕ) (y : Access) (a : List Access) (x z : Access) (b : List Access) → has_access r a ≡ false → has_access r (z ∷ b) ≡ false → is_of r x ≡ true → has_access z.run.0 a ≡ false
-    → put_before (Some z.run) y (without r (a ++ x ∷ z ∷ b)) ≡ a ++ y ∷ z ∷ b
-again_at r y a x z b n m o f = ap (put_before (Some z.run) y) (without_at r a x (z ∷ b) n m o) ∙ put_at z.run.0 y a z b f (own z)
-  where
-    own : (z : Access) → is_of z.run.0 z ≡ true
-    own z = grind (arith, common_steps)
-
--- .. or last, where nothing stands behind it
-pub again_last : (r : ℕ) (y : Access) (a : List Access) (x : Access) → has_access r a ≡ false → is_of r x ≡ true → put_before None y (without r (a ++ x ∷ [])) ≡ a ++ y ∷ []
-again_last r y a x n o = ap (λ l. l ++ y ∷ []) (without_at r a x [] n refl o ∙ append-nil a)
-
--- a run commits: its value is committed, and what stood behind it is left
-pub settle_at : (r c : ℕ) (a : List Access) (x : Access) (b : List Access) → has_access r a ≡ false → is_of r x ≡ true
-    → (unwrap_or (written_by r (a ++ x ∷ b)) c ≡ unwrap_or x.wrote c) × (behind r (a ++ x ∷ b) ≡ b)
-settle_at r c a x b n o = (ap (λ w. unwrap_or w c) (written_at r a x b n o), behind_at r a x b n o)

@@ -3,12 +3,10 @@ use Rattle.home_types.specs.declared.numbers.RunNo.{RunNo}
 use Rattle.lineage_table.proofs.Keeping.{none_behind}
 use Rattle.lineage_table.proofs.Pairs.{Pairs, pairs_from_all}
 use Rattle.lineage_table.proofs.Splits.{without_none}
-use Rattle.lineage_table.proofs.Standing.{has_written}
-use Rattle.lineage_table.specs.Accesses.{AreOfTwoRuns, IsDisciplined, effective_writer, has_access, is_of, standing_value, with_change, without}
+use Rattle.lineage_table.specs.Accesses.{AreOfTwoRuns, IsDisciplined, effective_writer, is_of, with_change, without}
 use Rattle.lineage_table.specs.declared.accesses.Access.{Access}
-use Rattle.std.proofs.Common.{◌∙◌, Bool, ap, arith, List, None, Option, Some, [], false, refl, sym, true, ℕ, ◌∷◌, ◌≡◌}
-use Rattle.std.proofs.lemmas.Grind.{common_steps}
-use Rattle.std.specs.Prelude.{fold, if◌then◌else◌, is_some, not, unwrap_or, ◌≢◌}
+use Rattle.std.proofs.Common.{◌∙◌, Bool, ap, List, None, Option, Some, [], false, refl, sym, true, ℕ, ◌∷◌, ◌≡◌}
+use Rattle.std.specs.Prelude.{fold, if◌then◌else◌, is_some, not}
 
 -- what goes by written values alone goes by the undone list as by the list without the run
 pub passes_undone : {B : Type 0} (g : B → Access → B) → ((b : B) (x : Access) → x.wrote ≡ None → g b x ≡ b) → (r : ℕ) (b : B) (xs : List Access) → Pairs AreOfTwoRuns xs
@@ -25,28 +23,9 @@ passes_undone g quiet r b (x ∷ xs) k = at (is_of r x) refl (passes_undone g qu
     at true own h = ap (λ u. fold g u xs) (quiet b (undo x) refl) ∙ ap (fold g b) (sym (without_none r xs (none_behind r x xs own k.0)))
     at false own h = h
 
--- the value that stands after an undo is the one that stands without the run
-pub undone_stands : (r c : ℕ) (xs : List Access) → IsDisciplined xs → standing_value c (with_change r (λ x. record x { wrote = None }) xs) ≡ standing_value c (without r xs)
-undone_stands r c xs k = passes_undone (λ value x. unwrap_or x.wrote value) (λ value x e. ap (λ o. unwrap_or o value) e) r c xs (pairs_from_all AreOfTwoRuns xs k.one_each)
-
 -- .. and so is the effective writer
 pub undone_writer : (r : ℕ) (xs : List Access) → IsDisciplined xs → effective_writer (with_change r (λ x. record x { wrote = None }) xs) ≡ effective_writer (without r xs)
 undone_writer r xs k = passes_undone (λ writer x. if is_some x.wrote then Some x.run else writer) quiet r None xs (pairs_from_all AreOfTwoRuns xs k.one_each)
   where
     quiet : (writer : Option RunNo) (x : Access) → x.wrote ≡ None → (if is_some x.wrote then Some x.run else writer) ≡ writer
     quiet writer x e = ap (λ o. if is_some o then Some x.run else writer) e
-
--- a run without an access wrote nothing
-pub none_without : (r : ℕ) (xs : List Access) → has_access r (without r xs) ≡ false
-none_without r [] = refl
-none_without r (x ∷ xs) = grind (arith, common_steps, none_without r xs)
-
-pub writer_without : (r : RunNo) (xs : List Access) → effective_writer (without r.0 xs) ≢ Some r
-writer_without r xs e = two (has_access r.0 (without r.0 xs)) (has_written r (without r.0 xs) e) (none_without r.0 xs)
-  where
-    two : (b : Bool) → b ≡ true → b ≡ false → ⊥
-    two b s t = cc
-
--- an undone run is not the effective writer
-pub undone_not_writer : (r : RunNo) (xs : List Access) → IsDisciplined xs → effective_writer (with_change r.0 (λ x. record x { wrote = None }) xs) ≢ Some r
-undone_not_writer r xs k e = writer_without r xs (sym (undone_writer r.0 xs k) ∙ e)

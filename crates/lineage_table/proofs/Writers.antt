@@ -11,16 +11,13 @@ use Rattle.lineage_table.specs.Accesses.{AreOfTwoRuns, IsDisciplined, behind, ef
 use Rattle.lineage_table.specs.KeptWriters.{IsSoundLineage}
 use Rattle.lineage_table.specs.Lineages.{LineageState}
 use Rattle.lineage_table.specs.declared.accesses.Access.{Access}
-use Rattle.std.proofs.Common.{Bool, IsTrue, List, None, Option, Some, [], ap, arith, drop, false, get_or, length, refl, subst, sym, take, true, ℕ, ◌++◌, ◌+◌, ◌<◌, ◌∙◌, ◌∷◌, ◌≡◌}
+use Rattle.std.proofs.Common.{Bool, IsTrue, List, None, Option, Some, [], ap, arith, drop, false, get_or, refl, subst, sym, true, ℕ, ◌++◌, ◌+◌, ◌∙◌, ◌∷◌, ◌≡◌}
+use Rattle.std.proofs.lemmas.Bool.{both_ways}
 use Rattle.std.proofs.lemmas.Grind.{common_steps}
-use Rattle.std.proofs.lemmas.List.Sums.{fold-append, fold_more}
+use Rattle.std.proofs.lemmas.List.Sums.{fold-append}
 use Rattle.std.specs.List.{AllPairs, insert, remove}
 use Rattle.std.specs.Option.{option_eq}
 use Rattle.std.specs.Prelude.{if◌then◌else◌, is_some, not, option_and_then, position, slice_set, ◌==◌}
-
--- one access further
-pub writer_next : (xs : List Access) (i : ℕ) (d : Access) → i < length xs → effective_writer (take (i + 1) xs) ≡ (if is_some (get_or xs i d).wrote then Some (get_or xs i d).run else effective_writer (take i xs))
-writer_next xs i d within = fold_more (λ w x. if is_some x.wrote then Some x.run else w) None xs i d within
 
 -- a change that keeps the run and the written value keeps it
 pub change_writer : (r : ℕ) (f : Access → Access) → ((x : Access) → (f x).wrote ≡ x.wrote) → ((x : Access) → (f x).run ≡ x.run) → (xs : List Access) → effective_writer (with_change r f xs) ≡ effective_writer xs
@@ -57,14 +54,11 @@ alone r i xs disciplined c = none_behind r c.access c.rest c.own (rest AreOfTwoR
 not_own : (r : ℕ) (q : RunNo) (b : List Access) → has_access r b ≡ false → effective_writer b ≡ Some q → (q.0 == r) ≡ false
 not_own r q b none wrote = at (q.0 == r) refl
   where
-    two : (b : Bool) → b ≡ true → b ≡ false → ⊥
-    two b s t = cc
-
     same : (q.0 == r) ≡ true → q.0 ≡ r
     same e = grind (arith, common_steps)
 
     at : (t : Bool) → (q.0 == r) ≡ t → (q.0 == r) ≡ false
-    at true e = absurd (two (has_access r b) (subst (λ k. has_access k b ≡ true) (same e) (has_written q b wrote)) none)
+    at true e = absurd (both_ways (has_access r b) none (subst (λ k. has_access k b ≡ true) (same e) (has_written q b wrote)))
     at false e = e
 
 -- a run writes where no other run's write stands: its own does
@@ -78,9 +72,6 @@ written_writer r i v wrote value run xs disciplined place only = ap effective_wr
     now : with_change r.0 wrote xs ≡ c.front ++ wrote c.access ∷ c.rest
     now = ap (with_change r.0 wrote) c.list ∙ change_at r.0 wrote c.front c.access c.rest c.none c.own
 
-    two : (b : Bool) → b ≡ true → b ≡ false → ⊥
-    two b s t = cc
-
     before : Option RunNo
     before = if is_some c.access.wrote then Some c.access.run else effective_writer c.front
 
@@ -91,7 +82,7 @@ written_writer r i v wrote value run xs disciplined place only = ap effective_wr
     at None e = writer_earlier (Some c.access.run) c.rest e ∙ ap (λ q. Some q) (own_run r c.access c.own)
     at (Some q) e =
         let same : q ≡ r = only q (was ∙ writer_later before q c.rest e) in
-        absurd (two (has_access r.0 c.rest) (subst (λ (z : RunNo). has_access z.0 c.rest ≡ true) same (has_written q c.rest e)) (alone r.0 i xs disciplined c))
+        absurd (both_ways (has_access r.0 c.rest) (alone r.0 i xs disciplined c) (subst (λ (z : RunNo). has_access z.0 c.rest ≡ true) same (has_written q c.rest e)))
 
 -- what stands behind a run that wrote: the same effective writer, or none where it was the run
 pub behind_writer : (r i v : ℕ) (xs : List Access) → IsDisciplined xs → position (is_of r) xs ≡ Some i → written_by r xs ≡ Some v

@@ -1,3 +1,4 @@
+//! An access of a run to a device, and its status.
 use home_types::{RunNo, Value, View};
 
 /// How the lease of a run on a device stands.

@@ -5,8 +5,6 @@ mod accesses;
 mod lineages;
 mod run_devices;
 mod tables;
-#[cfg(test)]
-mod tests;
 
 pub use accesses::{Access, Status};
 pub use home_types::View;

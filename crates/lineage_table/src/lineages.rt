@@ -1,4 +1,6 @@
-ghost use Rattle.std.specs.Prelude.{◌≡◌, ◌<◌, ◌≤◌, [], false, IfOk, IsSome, IsTrue, None, Some, length, not, option_map, position, slice_index_or, take};
+//! The lineage of one device: its committed value and its accesses, in line order.
+ghost use Rattle.std.specs.Prelude.{◌≡◌, ◌+◌, ◌<◌, ◌≤◌, [], drop, false, IfOk, IsSome, IsTrue, None, Some, length, not, option_map, position, slice_index_or, take, vec_capacity, vec_len};
+ghost use Rattle.std.specs.List.{insert};
 ghost use Rattle.std.specs.Option.{ForSome};
 ghost use Rattle.lineage_table.specs.declared.accesses.Access.{Access};
 ghost use Rattle.lineage_table.specs.Accesses.{IsDisciplined, IsFirstBefore, access_of, before, effective_writer, has_access, is_of, place_before, run_behind, some_acquired, some_scheduled, standing_value, status_of, without, written_by};
@@ -60,10 +62,7 @@ impl Lineage {
         ensures { self.new ≡ scheduled before access self.old }
     {
         let at = self.place_before(before);
-        match self.accesses.insert(at, access) {
-            Ok(()) => {}
-            Err(_) => unreachable!(),
-        }
+        put_in(&mut self.accesses, at, access);
         let stays = access.wrote.is_none();
         self.writer = writer_of(stays, self.writer, self.accesses.as_slice());
     }
@@ -166,7 +165,7 @@ impl Lineage {
     {
         let at = self.place(r);
         self.committed = self.accesses[at].wrote.unwrap();
-        self.accesses.drain(..=at);
+        leave_through(&mut self.accesses, at);
         self.writer = if self.writer == Some(r) {
             None
         } else {
@@ -322,6 +321,35 @@ impl Lineage {
     {
         self.accesses.iter().position(|access| access.run == r)
     }
+}
+
+/// Puts an access in at this place. There is room for it; at the end none is moved.
+fn put_in(accesses: &mut Vec<Access>, at: usize, access: Access)
+    requires place { at ≤ vec_len accesses.old }
+    requires room { vec_len accesses.old < vec_capacity accesses.old }
+    ensures items { accesses.new.items ≡ insert accesses.old.items at access }
+    ensures len { vec_len accesses.new ≡ vec_len accesses.old + 1 }
+    ensures capacity { vec_capacity accesses.new ≡ vec_capacity accesses.old }
+{
+    if at == accesses.len() {
+        accesses.push_reserved(access);
+    } else {
+        let inserted = accesses.insert(at, access);
+        inserted.unwrap();
+    }
+}
+
+/// Takes out the access at this place and those before it.
+fn leave_through(accesses: &mut Vec<Access>, at: usize)
+    requires { at < vec_len accesses.old }
+    ensures items { accesses.new.items ≡ drop (at + 1) accesses.old.items }
+    ensures len { vec_len accesses.new + (at + 1) ≡ vec_len accesses.old }
+    ensures capacity { vec_capacity accesses.new ≡ vec_capacity accesses.old }
+{
+    'leaving: for _ in 0..at {
+        accesses.remove(0);
+    }
+    accesses.remove(0);
 }
 
 /// The access when its run has noted an answer.

@@ -1,3 +1,4 @@
+//! To which devices each run has an access.
 ghost use Rattle.std.specs.Prelude.{◌≡◌, ◌<◌, ◌==◌, ◌↔◌, IfOk, IsTrue, length, option_map};
 ghost use Rattle.home_types.specs.DeviceSets.{IsFirstFrom};
 ghost use Rattle.home_types.specs.Limits.{most_devices};

@@ -1,3 +1,4 @@
+//! The lineage table: the lineage of each device of a home.
 ghost use Rattle.std.specs.Prelude.{◌≡◌, ◌+◌, ◌<◌, ◌≤◌, ◌==◌, ◌||◌, ◌^◌, [], false, if◌then◌else◌, IfOk, IfSome, IsSome, IsTrue, Some, length, not, option_map, slice_index_or, ℕ};
 ghost use Rattle.std.specs.List.{list_any};
 ghost use Rattle.std.specs.Option.{ForSome};

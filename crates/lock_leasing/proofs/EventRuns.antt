@@ -16,14 +16,12 @@ use Rattle.lock_leasing.specs.Order.{covers}
 use Rattle.lock_leasing.specs.Places.{up_to_first}
 use Rattle.lock_leasing.specs.Tables.{EachTellsOfRun, runs_with_access, uses}
 use Rattle.lock_leasing.specs.Words.{live_runs}
-use Rattle.serial_line.proofs.Ties.{items_inserted}
-use Rattle.serial_line.specs.Marks.{Mark, items_of, place_of, with_item}
-use Rattle.std.proofs.Common.{ap, arith, cond, refl, subst, sym, ◌∙◌}
+use Rattle.serial_line.specs.Marks.{Mark, items_of, place_of}
+use Rattle.std.proofs.Common.{ap, arith, cond, refl, sym, ◌∙◌}
 use Rattle.std.proofs.lemmas.Grind.{common_steps}
 use Rattle.std.proofs.lemmas.List.Recursion.{is_position_or_len}
-use Rattle.std.proofs.lemmas.List.{length-map}
 use Rattle.std.specs.List.{cons_option, list_any, position_or_len}
-use Rattle.std.specs.Prelude.{Bool, List, None, Option, Some, [], drop, false, find, if◌then◌else◌, length, map, nat_lt, not, option_map, position, suc, take, true, unwrap_or, ℕ, ◌&&◌, ◌++◌, ◌+◌, ◌==◌, ◌||◌, ◌∷◌, ◌≡◌}
+use Rattle.std.specs.Prelude.{Bool, List, None, Option, Some, [], drop, false, find, if◌then◌else◌, length, map, nat_lt, not, option_map, position, suc, take, true, ℕ, ◌&&◌, ◌++◌, ◌+◌, ◌==◌, ◌||◌, ◌∷◌, ◌≡◌}
 
 -- Which run it is
 
@@ -115,6 +113,15 @@ module _ (n : Reading) (held : ℕ → Bool) (lives : (q : ℕ) → held q ≡ t
   clash : (b : Bool) → b ≡ true → b ≡ false → ⊥
   clash b h k = grind (arith, common_steps)
 
+  equal : (x y : ℕ) → (x == y) ≡ true → x ≡ y
+  equal x y h = grind (arith, common_steps)
+
+  self : (x y : ℕ) → x ≡ y → (x == y) ≡ true
+  self x y h = grind (arith, common_steps)
+
+  next : (x y : ℕ) → x ≡ y → x + 1 ≡ suc y
+  next x y h = omega (arith, h)
+
   -- where it holds of a run it holds of the first one of these, whose place is that of the first item with it
   pub before_first : (r : ℕ) (is : List Item) → find held (live_runs n is) ≡ Some r → up_to_first (of_run held) is ≡ up_to_first (is_ran r) is
   before_first r [] h = absurd (cc)
@@ -122,12 +129,6 @@ module _ (n : Reading) (held : ℕ → Bool) (lives : (q : ℕ) → held q ≡ t
   before_first r (Back e k ∷ is) h = ap (λ x. x + 1) (before_first r is h)
   before_first r (Ran q ∷ is) h = at_ (before_first r is) (held q.0) refl (is_live n q.0) refl (q.0 == r) refl h
     where
-      equal : (x y : ℕ) → (x == y) ≡ true → x ≡ y
-      equal x y h = grind (arith, common_steps)
-
-      self : (x y : ℕ) → x ≡ y → (x == y) ≡ true
-      self x y h = grind (arith, common_steps)
-
       -- the run that is found passes the test
       passes : (xs : List ℕ) → find held xs ≡ Some r → held r ≡ true
       passes [] h = absurd (cc)
@@ -151,18 +152,9 @@ module _ (n : Reading) (held : ℕ → Bool) (lives : (q : ℕ) → held q ≡ t
   pub before_none : (is : List Item) → find held (live_runs n is) ≡ None → up_to_first (of_run held) is ≡ length is
   before_none [] h = refl
   before_none (Failed e k ∷ is) h = next _ _ (before_none is h)
-    where
-      next : (x y : ℕ) → x ≡ y → x + 1 ≡ suc y
-      next x y h = omega (arith, h)
   before_none (Back e k ∷ is) h = next _ _ (before_none is h)
-    where
-      next : (x y : ℕ) → x ≡ y → x + 1 ≡ suc y
-      next x y h = omega (arith, h)
   before_none (Ran q ∷ is) h = at_ (before_none is) (held q.0) refl (is_live n q.0) refl h
     where
-      next : (x y : ℕ) → x ≡ y → x + 1 ≡ suc y
-      next x y h = omega (arith, h)
-
       at_ : (find held (live_runs n is) ≡ None → up_to_first (of_run held) is ≡ length is) → (b : Bool) → held q.0 ≡ b → (l : Bool) → is_live n q.0 ≡ l
           → find held (cons_option (if l then Some q.0 else None) (live_runs n is)) ≡ None → (if b then 0 else up_to_first (of_run held) is + 1) ≡ suc (length is)
       at_ ih true e true live h = absurd (none_some (sym (ap (λ b. cond b (Some q.0) (find held (live_runs n is))) e) ∙ h))
@@ -180,9 +172,6 @@ module _ (n : Reading) (held : ℕ → Bool) (lives : (q : ℕ) → held q ≡ t
   found_there r (Back e k ∷ is) h = found_there r is h
   found_there r (Ran q ∷ is) h = at_ (found_there r is) (held q.0) refl (is_live n q.0) refl h
     where
-      self : (x y : ℕ) → x ≡ y → (x == y) ≡ true
-      self x y h = grind (arith, common_steps)
-
       here : (a b : Bool) → a ≡ true → (a || b) ≡ true
       here a b h = grind (arith, common_steps)
 

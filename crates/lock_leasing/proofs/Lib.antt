@@ -1,4 +1,3 @@
-pub mod LastPlaces
 pub mod Places
 pub mod Effects
 pub mod Facts

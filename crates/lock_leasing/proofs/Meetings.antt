@@ -1,6 +1,6 @@
 -- What a run meets at its next command, as parts that belong to one window tell it.
 use Rattle.command_rules.specs.Items.{is_ran}
-use Rattle.command_rules.specs.Rosters.{Run, command_at, commands_of, is_on, is_run, no_command}
+use Rattle.command_rules.specs.Rosters.{Run, command_at, commands_of, is_on, no_command}
 use Rattle.history_book.proofs.Told.{doom_is}
 use Rattle.history_book.specs.Readings.{is_open, next_of}
 use Rattle.history_book.specs.declared.entries.Kept.{Kept}
@@ -11,15 +11,15 @@ use Rattle.lock_leasing.proofs.Facts.{facts_of, live_stands, next_is_left}
 use Rattle.lock_leasing.proofs.Holding.{dirty_is, holder_is}
 use Rattle.lock_leasing.specs.Configurations.{Configuration, read_of}
 use Rattle.lock_leasing.specs.Holders.{dirty_writer, holder_before}
-use Rattle.lock_leasing.specs.Standings.{IsAsking, IsAtCommand, IsStandingOf, MayTouch, Touching}
+use Rattle.lock_leasing.specs.Standings.{IsAsking, IsAtCommand, IsStandingOf}
 use Rattle.lock_leasing.specs.Tables.{IsLineageOf}
 use Rattle.lock_leasing.specs.Touches.{IsTouchOf, touch_by, touch_of}
 use Rattle.lock_leasing.specs.declared.touches.Touch.TheVariants.{Behind, Dirty, Free}
 use Rattle.serial_line.specs.Marks.{Mark}
 use Rattle.std.proofs.Common.{ap, ap₂, arith, refl, subst, sym, ◌∙◌}
-use Rattle.std.proofs.lemmas.Grind.{common_steps}
+use Rattle.std.proofs.lemmas.Bool.{eq-eqb}
 use Rattle.std.specs.List.{list_any}
-use Rattle.std.specs.Prelude.{IsTrue, List, None, Some, [], false, is_some, length, option_map, slice_get, slice_index_or, suc, true, unwrap_or, zero, ℕ, ◌<◌, ◌==◌, ◌∷◌, ◌≡◌}
+use Rattle.std.specs.Prelude.{List, None, Some, [], false, is_some, length, option_map, slice_get, slice_index_or, suc, true, unwrap_or, zero, ℕ, ◌<◌, ◌∷◌, ◌≡◌}
 
 -- an item of a list, by its place
 pub item_there : {A : Type 0} (xs : List A) (k : ℕ) (d : A) → k < length xs → slice_get xs k ≡ Some (slice_index_or xs k d)
@@ -36,14 +36,11 @@ item_same {A} xs ys k d e same within = ap (λ l. slice_index_or l k d) same ∙
     there (z ∷ zs) zero inside = refl
     there (z ∷ zs) (suc j) inside = there zs j (omega (arith, inside))
 
-own_run : (r : ℕ) → (r == r) ≡ true
-own_run r = grind (arith, common_steps)
-
 -- A run at a command asks for its device, and a run that asks for a device has more to do there
 
 pub asks_at : (s : Configuration) (r c : ℕ) → IsAtCommand s r c → IsAsking s r (command_at s.setting.runs r c).device.0
 asks_at s r c turn =
-    let on : unwrap_or (option_map (is_on (command_at s.setting.runs r c).device.0) (slice_get (commands_of s.setting.runs r) c)) false ≡ true = ap (λ o. unwrap_or (option_map (is_on (command_at s.setting.runs r c).device.0) o) false) (item_there (commands_of s.setting.runs r) c no_command turn.command) ∙ own_run (command_at s.setting.runs r c).device.0 in
+    let on : unwrap_or (option_map (is_on (command_at s.setting.runs r c).device.0) (slice_get (commands_of s.setting.runs r) c)) false ≡ true = ap (λ o. unwrap_or (option_map (is_on (command_at s.setting.runs r c).device.0) o) false) (item_there (commands_of s.setting.runs r) c no_command turn.command) ∙ eq-eqb (command_at s.setting.runs r c).device.0 (command_at s.setting.runs r c).device.0 refl in
     record { live = turn.live; sound = turn.sound; next = ap (λ k. unwrap_or (option_map (is_on (command_at s.setting.runs r c).device.0) (slice_get (commands_of s.setting.runs r) k)) false) turn.next ∙ on }
 
 pub asking_opens : (s : Configuration) (r d : ℕ) → IsAsking s r d → is_open s.setting (read_of s) r d ≡ true
@@ -111,19 +108,3 @@ met_none table line history runs r c command same none unwritten s parts turn =
     (λ h k. ap₂ (λ o q. touch_by (command_at runs r c).device (option_map (λ z. z.0) o) (option_map (λ z. z.0) q)) h k ∙ touch_is table line history runs r c s parts turn) none unwritten
 
 -- A run that may do its command
-
--- it is one of the roster, it has the command, and the command's device is one of the table
-pub may_run : (table : List LineageState) (line : List Mark) (history : List Kept) (runs : List Run) (r c : ℕ) → MayTouch table line history runs r c → IsTrue (is_run runs r)
-may_run table line history runs r c (Touching s parts turn) = subst (λ xs. IsTrue (is_run xs r)) parts.its_roster known
-  where
-    known : IsTrue (is_run s.setting.runs r)
-    known = let shape = (facts_of s table line history runs parts).shaped r in shape.known (shape.arrived (grind (arith, common_steps, turn.live)))
-
-pub may_command : (table : List LineageState) (line : List Mark) (history : List Kept) (runs : List Run) (r c : ℕ) → MayTouch table line history runs r c → c < length (commands_of runs r)
-may_command table line history runs r c (Touching s parts turn) = subst (λ xs. c < length (commands_of xs r)) parts.its_roster turn.command
-
-pub may_reach : (table : List LineageState) (line : List Mark) (history : List Kept) (runs : List Run) (r c : ℕ) → MayTouch table line history runs r c → (command_at runs r c).device.0 < length table
-may_reach table line history runs r c (Touching s parts turn) =
-    let homed = parts.allowed.homed r c (command_at s.setting.runs r c) (item_there (commands_of s.setting.runs r) c no_command turn.command) in
-    let size = parts.its_table.devices in
-    subst (λ xs. (command_at xs r c).device.0 < length table) parts.its_roster (omega (arith, homed, size))

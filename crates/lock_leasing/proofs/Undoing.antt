@@ -19,6 +19,7 @@ use Rattle.lock_leasing.specs.Order.{committed_value, covers}
 use Rattle.lock_leasing.specs.Tables.{EachTellsOfRun, TellsOfRun, runs_with_access, uses}
 use Rattle.lock_leasing.specs.Words.{Write, committed_write, effective_write, has_effect, is_undone, next_undo_of, value_without, write_of}
 use Rattle.std.proofs.Common.{ap, arith, cond, refl, subst, sym, ◌∙◌}
+use Rattle.std.proofs.lemmas.Bool.{or_right}
 use Rattle.std.proofs.lemmas.Grind.{common_steps}
 use Rattle.std.specs.List.{list_any, range_with_len}
 use Rattle.std.specs.Option.{option_or}
@@ -137,10 +138,6 @@ module _ (w : Setting) (n : Reading) (g : Grips) (f : Facts w n g) (d r : ℕ) (
           ap (λ b. standing_value value (if not b then (x ∷ without r ys) else without r ys)) (ap (λ k. k == r) first ∙ other)
           ∙ behind ys next later (unwrap_or x.wrote value) (ap tail_of same) all.1 committed (λ covered. absurd (cc)) (λ e. shown x ys q.0 best value all.0 first before)
 
-      or_true : (b : Bool) → (b || true) ≡ true
-      or_true true = refl
-      or_true false = refl
-
       -- it is the run itself, which is live
       not_covering : (q.0 == r) ≡ true → (b : Bool) → covers n d (Ran q) ≡ b → b ≡ false
       not_covering same true e =
@@ -152,16 +149,16 @@ module _ (w : Setting) (n : Reading) (g : Grips) (f : Facts w n g) (d r : ℕ) (
       mine : (q.0 == r) ≡ true → (a u : Bool) → list_any (covers n d) is ≡ a → uses w n d q.0 ≡ u → map (λ x. x.run.0) xs ≡ (if u && not a then (q.0 ∷ runs_with_access w n d is) else runs_with_access w n d is)
           → ((covers n d (Ran q) || a) ≡ true → value ≡ c) → ((covers n d (Ran q) || a) ≡ false → value ≡ value_in best)
           → standing_value value (without r xs) ≡ value_in (last_from w n g f d best (line_without r is))
-      mine same true true covered used runs' own' none' = behind xs best later value runs' tells committed (λ e. own' (or_true (covers n d (Ran q)))) (λ e. absurd (cc))
-      mine same true false covered used runs' own' none' = behind xs best later value runs' tells committed (λ e. own' (or_true (covers n d (Ran q)))) (λ e. absurd (cc))
+      mine same true true covered used runs' own' none' = behind xs best later value runs' tells committed (λ e. own' (or_right (covers n d (Ran q)) true refl)) (λ e. absurd (cc))
+      mine same true false covered used runs' own' none' = behind xs best later value runs' tells committed (λ e. own' (or_right (covers n d (Ran q)) true refl)) (λ e. absurd (cc))
       mine same false true covered used runs' own' none' = passed xs same covered runs' tells (none' (rw (not_covering same (covers n d (Ran q)) refl) refl))
       mine same false false covered used runs' own' none' = behind xs best later value runs' tells committed (λ e. absurd (cc)) (λ e. none' (rw (not_covering same (covers n d (Ran q)) refl) refl))
 
       another : (q.0 == r) ≡ false → (a b u : Bool) → list_any (covers n d) is ≡ a → covers n d (Ran q) ≡ b → uses w n d q.0 ≡ u → map (λ x. x.run.0) xs ≡ (if u && not a then (q.0 ∷ runs_with_access w n d is) else runs_with_access w n d is)
           → ((b || a) ≡ true → value ≡ c) → ((b || a) ≡ false → value ≡ value_in best)
           → standing_value value (without r xs) ≡ value_in (last_from w n g f d next (line_without r is))
-      another other true b true covered own-cover used runs' own' none' = behind xs next later value runs' tells committed (λ e. own' (or_true b)) (λ e. absurd (cc))
-      another other true b false covered own-cover used runs' own' none' = behind xs next later value runs' tells committed (λ e. own' (or_true b)) (λ e. absurd (cc))
+      another other true b true covered own-cover used runs' own' none' = behind xs next later value runs' tells committed (λ e. own' (or_right b true refl)) (λ e. absurd (cc))
+      another other true b false covered own-cover used runs' own' none' = behind xs next later value runs' tells committed (λ e. own' (or_right b true refl)) (λ e. absurd (cc))
       another other false true true covered own-cover used runs' own' none' = let uncommitted : is_committed n q.0 ≡ false = live_uncommitted n q.0 (grind (arith, common_steps)) in absurd (grind (arith, common_steps))
       another other false true false covered own-cover used runs' own' none' =
           behind xs next later value runs' tells committed (λ e. absurd (cc)) (λ e. own' refl ∙ sym committed ∙ ap (λ o. unwrap_or o (stand_at w.first d).value) (none_committed is later covered) ∙ covering q.0 own-cover best known)

@@ -16,7 +16,7 @@ use Rattle.lock_leasing.specs.Configurations.{Commands, Grips, Probes, Purpose, 
 use Rattle.lock_leasing.specs.Words.{effective_writer_of, has_touched, holds_device, live_runs}
 use Rattle.std.specs.List.{list_all, list_any, range_with_len}
 use Rattle.std.specs.Option.{option_or}
-use Rattle.std.specs.Prelude.{Bool, IsTrue, List, None, Option, Some, [], drop, false, find, fold, if◌then◌else◌, length, max, nat_le, not, option_map, suc, take, true, unwrap_or, zero, ℕ, ⊤, ◌&&◌, ◌+◌, ◌-◌, ◌==◌, ◌||◌, ◌∷◌, ◌≡◌, ◌≤◌}
+use Rattle.std.specs.Prelude.{Bool, IsTrue, List, None, Option, Some, [], drop, false, find, fold, if◌then◌else◌, length, max, nat_le, not, option_map, suc, take, true, unwrap_or, ℕ, ⊤, ◌&&◌, ◌+◌, ◌-◌, ◌==◌, ◌||◌, ◌∷◌, ◌≡◌, ◌≤◌}
 
 -- the number of items up to and with the last one of which the test holds
 abbrev pub up_to_last : (Item → Bool) → List Item → ℕ
@@ -41,14 +41,6 @@ first_place w n g r = max (up_to_last (binds w n g r) n.line) (up_to_first (of_r
 -- no item behind the place must stand before the run
 abbrev pub IsClear : Setting → Reading → Grips → ℕ → ℕ → Type 0
 IsClear w n g r at = list_any (binds w n g r) (drop at n.line) ≡ false
-
--- the floor's place in the line, if there is a floor
-abbrev pub floor_of : Setting → Reading → Grips → ℕ → Option ℕ
-floor_of w n g r = place_before (first_place w n g r)
-  where
-    place_before : ℕ → Option ℕ
-    place_before zero = None
-    place_before (suc k) = Some k
 
 -- what a scheduler answers: where the run stands, or by which run a device is denied to it
 pub data Placing : Type 0 where

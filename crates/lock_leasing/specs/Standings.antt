@@ -62,11 +62,6 @@ pub record IsWeakStandingOf (s : Configuration) (table : List LineageState) (his
   pub its_history : s.history ≡ history
   pub none : (d : ℕ) → accesses_at table d ≡ []
 
--- the four parts belong to one window
-pub data BelongTogether (table : List LineageState) (line : List Mark) (history : List Kept) (runs : List Run) : Type 0 where
-  InOrder : (s : Configuration) (parts : IsStandingOf s table line history runs) → BelongTogether table line history runs
-  Weakly : (s : Configuration) (parts : IsWeakStandingOf s table history runs) → BelongTogether table line history runs
-
 -- the run may do its next command, the one of this number: it is live, it is not doomed, and it has such a command
 pub record IsAtCommand (s : Configuration) (r c : ℕ) : Type 0 where
   pub live : is_live (read_of s) r ≡ true

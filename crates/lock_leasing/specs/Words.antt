@@ -9,7 +9,7 @@ use Rattle.home_types.specs.declared.items.Item.{Item}
 use Rattle.home_types.specs.declared.items.Item.TheVariants.{Back, Failed, Ran}
 use Rattle.lock_leasing.specs.Configurations.{Grips, grips_command, grips_undo}
 use Rattle.std.specs.Option.{option_or}
-use Rattle.std.specs.Prelude.{Bool, List, None, Option, Some, false, filter, filter_map, find, fold, if◌then◌else◌, min, nat_lt, not, option_map, unwrap_or, ℕ, ◌&&◌, ◌+◌, ◌/◌, ◌==◌, ◌||◌}
+use Rattle.std.specs.Prelude.{Bool, List, None, Option, Some, false, filter_map, find, fold, if◌then◌else◌, min, nat_lt, not, option_map, unwrap_or, ℕ, ◌&&◌, ◌+◌, ◌/◌, ◌==◌, ◌||◌}
 
 -- Accesses
 
@@ -82,10 +82,6 @@ live_runs n items = filter_map live_run items
     live_run (Ran r) = if is_live n r.0 then Some r.0 else None
     live_run (Failed d k) = None
     live_run (Back d k) = None
-
--- the device's queue: the live runs with it in their footprint, in line order
-abbrev pub queue_of : Setting → Reading → ℕ → List ℕ
-queue_of w n d = filter (λ r. touches w.runs r d) (live_runs n n.line)
 
 -- the live runs before the run
 abbrev pub live_before : Reading → ℕ → List ℕ

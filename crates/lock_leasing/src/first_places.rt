@@ -1,3 +1,4 @@
+//! The first place where a run may be put.
 ghost use Rattle.std.specs.Prelude.{◌≡◌, ◌+◌, ◌<◌, IsTrue, length};
 ghost use Rattle.command_rules.specs.Rosters.{commands_of, is_run, runs_of};
 ghost use Rattle.history_book.specs.Books.{end_of};

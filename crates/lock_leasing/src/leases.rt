@@ -1,3 +1,4 @@
+//! Leases: which one is overdue for a run, its deadline, and whether one may ever be.
 ghost use Rattle.std.specs.Prelude.{◌≡◌, ◌<◌, ◌≤◌, false, length, ℕ};
 ghost use Rattle.command_rules.specs.Rosters.{commands_of, estimate_to_last, runs_of};
 ghost use Rattle.home_types.specs.Limits.{most_commands};
@@ -86,7 +87,7 @@ fn is_borrower(book: &Book, placed: u64, access: Access) -> bool
 {
     access.status != Status::Released
         && placed < placed_at(book, access.run)
-        && book.doom_of(access.run).is_none()
+        && !book.is_doomed(access.run)
 }
 
 /// When the run was placed: the number of entries before.

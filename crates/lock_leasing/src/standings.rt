@@ -1,3 +1,4 @@
+//! The parts by which a hub decides: table, line, history and roster.
 use command_rules::IndexedRoster;
 use history_book::Book;
 use lineage_table::Table;

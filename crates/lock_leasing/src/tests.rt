@@ -23,9 +23,7 @@ fn run(alloc: Global, command: Command) -> Result<RosterRun, NoMemory>
     ensures { IfOk result (λ run. run.routine.commands.items ≡ command ∷ []) }
 {
     Ok(RosterRun {
-        routine: Routine {
-            commands: List::of(alloc, &[command])?,
-        },
+        routine: Routine::new(alloc, List::of(alloc, &[command])?)?,
         follows: None,
     })
 }

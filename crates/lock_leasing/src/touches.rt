@@ -1,3 +1,4 @@
+//! What a run meets at its next command: a holder, a dirty value, or nothing.
 ghost use Rattle.std.specs.Prelude.{◌≡◌, ◌<◌, IsTrue, length};
 ghost use Rattle.command_rules.specs.Rosters.{command_at, commands_of, is_run, runs_of};
 ghost use Rattle.lineage_table.specs.Lineages.{accesses_at};
@@ -67,9 +68,10 @@ pub fn first_holder(s: &Standing, d: DeviceNo, r: RunNo) -> Option<RunNo>
 fn holds(book: &Book, writer: Option<RunNo>, access: Access) -> bool
     ensures { result ≡ access_holds book.now.items writer access }
 {
-    match book.doom_of(access.run) {
-        Some(_) => writer == Some(access.run),
-        None => access.status != Status::Released,
+    if book.is_doomed(access.run) {
+        writer == Some(access.run)
+    } else {
+        access.status != Status::Released
     }
 }
 

@@ -8,8 +8,6 @@ mod lines;
 mod order_lines;
 mod records;
 mod run_lines;
-#[cfg(test)]
-mod tests;
 mod totals;
 mod values;
 mod verdicts;

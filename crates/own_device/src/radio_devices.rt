@@ -1,3 +1,4 @@
+//! A device type of one's own, which fails, and its bench.
 ghost use Rattle.std.specs.Prelude.{◌≡◌, ◌+◌, ◌<◌, ◌^◌, OnErr, OnOk};
 
 use device_states::{Bench, Dead, Device};

@@ -1,3 +1,4 @@
+//! A window that is stepped by hand.
 ghost use Rattle.std.specs.Prelude.{◌<◌};
 ghost use Rattle.routine_reader.specs.Scripts.{plain_script};
 ghost use Rattle.routine_reader.specs.Sound.{IsSound};

@@ -1,9 +1,9 @@
--- The texts of places and counts.
+-- The texts of places, counts and refusals.
 use Rattle.routine_reader.specs.declared.faults.Count.TheVariants.{Bytes, Commands, Devices, Downs, Ms, Probes, Routines, Runs, States, Turns, Windows}
 use Rattle.routine_reader.specs.declared.faults.Count.{Count}
 use Rattle.routine_reader.specs.declared.faults.Part.TheVariants.{Command, Device, Down, Routine, Run, Top, Turn, Window}
 use Rattle.routine_reader.specs.declared.faults.Part.{Part}
-use Rattle.routine_reader.specs.declared.faults.ReadFault.TheVariants.{NoMemory}
+use Rattle.routine_reader.specs.declared.faults.ReadFault.TheVariants.{BadFollow, BadName, BadState, BadTime, BadTurn, BadVersion, DoubleName, NoMemory, NotJson, Shape, TooMany, UnknownName}
 use Rattle.routine_reader.specs.declared.faults.ReadFault.{ReadFault}
 use Rattle.routine_reader.specs.declared.faults.Spot.{Spot}
 use Rattle.std.specs.Fmt.{decimal}
@@ -51,6 +51,22 @@ count_text Windows = codes "windows"
 count_text Runs = codes "runs"
 count_text Turns = codes "turns"
 count_text Probes = codes "probes"
+
+-- why a script is refused, as it is printed
+abbrev pub refusal_text : ReadFault → List ℕ
+refusal_text NoMemory = codes "memory"
+refusal_text NotJson = codes "not json"
+refusal_text (Shape spot) = codes "shape " ++ spot_text spot
+refusal_text (UnknownName spot) = codes "unknown name " ++ spot_text spot
+refusal_text (DoubleName spot) = codes "double name " ++ spot_text spot
+refusal_text (BadName spot) = codes "bad name " ++ spot_text spot
+refusal_text (BadState spot) = codes "bad state " ++ spot_text spot
+refusal_text (BadTime spot) = codes "bad time " ++ spot_text spot
+refusal_text (TooMany kind count limit) =
+    codes "too many " ++ count_text kind ++ codes " " ++ decimal count ++ codes " of " ++ decimal limit
+refusal_text (BadFollow spot) = codes "bad follow " ++ spot_text spot
+refusal_text (BadVersion version) = codes "bad version " ++ decimal version
+refusal_text (BadTurn spot) = codes "bad turn " ++ spot_text spot
 
 -- want of memory, which may come at any point
 abbrev pub is_memory : ReadFault → Bool

@@ -1,3 +1,4 @@
+//! A command of a script, read.
 ghost use Rattle.home_types.specs.Limits.{most_states};
 ghost use Rattle.routine_reader.specs.AreRead.{AreDevices};
 ghost use Rattle.routine_reader.specs.Commands.{command_members, command_reading, job_of, kind_of, states_of, suits_verb, verb_of};
@@ -115,7 +116,7 @@ fn states_of(devices: &[DeviceText], d: usize) -> &[Text]
 /// Reads the command at this place, of these devices.
 #[tactic(auto, unfolding(crate::specs::Commands::command_reading))]
 pub fn read_command(
-    devices: &Devices,
+    devices: &Devices<'_>,
     routine: u32,
     number: u32,
     value: &Json,

@@ -1,3 +1,4 @@
+//! The devices of a script, read.
 ghost use Rattle.home_types.specs.Limits.{most_devices, most_downs, most_states};
 ghost use Rattle.home_types.specs.Listed.{Listed};
 ghost use Rattle.routine_reader.specs.AreRead.{AreDevices};
@@ -6,7 +7,7 @@ ghost use Rattle.routine_reader.specs.Names.{is_among};
 ghost use Rattle.routine_reader.specs.Scripts.{plain_device};
 ghost use Rattle.routine_reader.specs.Walks.{IsReading, read_each};
 ghost use Rattle.serde_json.specs.View.{view};
-ghost use Rattle.std.specs.Prelude.{◌≡◌, ◌<◌, ◌≤◌, ◌^◌, [], All, IfOk, false, length, map, option_map};
+ghost use Rattle.std.specs.Prelude.{◌≡◌, ◌<◌, ◌≤◌, ◌^◌, ◌++◌, ◌∷◌, [], All, IfOk, false, length, map, option_map};
 
 use crate::faults::{Count, Part, ReadFault, Spot, within_limit};
 use crate::forms::{
@@ -59,7 +60,7 @@ fn device_members(value: &Json) -> Option<DeviceMembers<'_>>
 }
 
 /// Reads the name of a state, unlike these.
-fn read_state<'a>(spot: Spot, names: &Names, value: &'a Json) -> Result<&'a str, ReadFault>
+fn read_state<'a>(spot: Spot, names: &Names<'a>, value: &'a Json) -> Result<&'a str, ReadFault>
     ensures reading { IsReading (λ name. name.now) result (state_name spot names.now (view value.now)) }
     ensures new { IfOk result (λ name. is_among names.now name.now ≡ false) }
 {
@@ -75,9 +76,10 @@ fn read_each_state(alloc: Global, spot: Spot, values: &[Json]) -> Result<List<Te
 {
     let mut names = Names::new(alloc);
     let mut states = List::new(alloc);
+    states.reserve(values.len() as u64)?;
     'values: for value in values {
         let name = read_state(spot, &names, value)?;
-        names.add(alloc, name)?;
+        names.add(name)?;
         states.push(Text::of(alloc, name)?)?;
     }
     Ok(states)
@@ -176,6 +178,7 @@ fn read_each_down(
     ensures { IsReading (λ downs. downs.items) result (read_each (next_down device) [] (map view values.now)) }
 {
     let mut downs = List::new(alloc);
+    downs.reserve(values.len() as u64)?;
     'values: for value in values {
         let number = downs.len() as u32 + 1;
         let down = read_down(Part::Down.inside(device, number), value)?;
@@ -192,17 +195,17 @@ fn read_downs(alloc: Global, device: u32, values: &[Json]) -> Result<List<(u32, 
     read_each_down(alloc, device, values)
 }
 
-/// Reads the device with this number, after devices with these names.
+/// Reads the device with this number, after devices with these names, and adds its name to them.
 #[tactic(auto, unfolding(crate::specs::Devices::device_reading))]
-fn read_device(
+fn read_device<'a>(
     alloc: Global,
     number: u32,
-    names: &Names,
-    value: &Json,
+    names: &mut Names<'a>,
+    value: &'a Json,
 ) -> Result<DeviceText, ReadFault>
-    ensures reading { IsReading plain_device result (device_reading number names.now (view value.now)) }
+    ensures reading { IsReading plain_device result (device_reading number names.old (view value.now)) }
     ensures few { IfOk result (λ device. length device.states.items ≤ most_states) }
-    ensures new { IfOk result (λ device. is_among names.now device.name ≡ false) }
+    ensures named { IfOk result (λ device. names.new ≡ names.old ++ device.name ∷ []) }
 {
     let spot = Part::Device.at(number);
     let Some(members) = device_members(value) else {
@@ -214,6 +217,7 @@ fn read_device(
         return Err(ReadFault::BadState(spot));
     };
     let downs = read_downs(alloc, number, members.down)?;
+    names.add(name)?;
     Ok(DeviceText {
         name: Text::of(alloc, name)?,
         kind,
@@ -225,23 +229,23 @@ fn read_device(
 
 /// The devices of a script, with their numbers by name.
 #[derive(Drop)]
-pub struct Devices {
-    pub names: Names,
+pub struct Devices<'a> {
+    pub names: Names<'a>,
     pub texts: List<DeviceText>,
 }
 
 /// Reads the devices of a script.
-pub fn read_devices(alloc: Global, values: &[Json]) -> Result<Devices, ReadFault>
+pub fn read_devices<'a>(alloc: Global, values: &'a [Json]) -> Result<Devices<'a>, ReadFault>
     requires { length values.now ≤ most_devices }
     ensures reading { IsReading (λ devices. map plain_device devices.texts.items) result (read_each next_device [] (map view values.now)) }
     ensures devices { IfOk result AreDevices }
 {
     let mut names = Names::new(alloc);
     let mut texts = List::new(alloc);
+    texts.reserve(values.len() as u64)?;
     'values: for value in values {
         let number = texts.len() as u32 + 1;
-        let device = read_device(alloc, number, &names, value)?;
-        names.add(alloc, device.name.as_str())?;
+        let device = read_device(alloc, number, &mut names, value)?;
         texts.push(device)?;
     }
     Ok(Devices { names, texts })

@@ -1,3 +1,4 @@
+//! Why a script is refused, and where, with the text that tells it.
 ghost use Rattle.routine_reader.specs.Limits.{limit_of};
 ghost use Rattle.routine_reader.specs.Spots.{at, inside};
 ghost use Rattle.routine_reader.specs.Walks.{within_limit};
@@ -164,41 +165,55 @@ impl fmt::Display for Count {
 #[derive(Clone, Copy, Debug, PartialEq, Eq, Error)]
 pub enum ReadFault {
     /// Want of memory; it may come at any point.
-    #[error("memory")]
     NoMemory,
     /// The bytes are no JSON text.
-    #[error("not json")]
     NotJson,
     /// No object, a member that is missing, foreign or of the wrong JSON type, or a list that may not be empty.
-    #[error("shape {0}")]
     Shape(Spot),
     /// No device or routine has this name.
-    #[error("unknown name {0}")]
     UnknownName(Spot),
     /// The name stands before.
-    #[error("double name {0}")]
     DoubleName(Spot),
     /// The text is no name.
-    #[error("bad name {0}")]
     BadName(Spot),
     /// The device has no such value, or its range is empty.
-    #[error("bad state {0}")]
     BadState(Spot),
     /// The text is no time, or one that is not later than that of the window before.
-    #[error("bad time {0}")]
     BadTime(Spot),
     /// More than the limit: of the entries of a list, of bytes, of ms or of rounds of probes.
-    #[error("too many {kind} {count} of {limit}")]
     TooMany { kind: Count, count: u64, limit: u64 },
     /// The run that is to be followed is not before this one.
-    #[error("bad follow {0}")]
     BadFollow(Spot),
     /// The version is not 1.
-    #[error("bad version {0}")]
     BadVersion(u64),
     /// The turn is no run of the window.
-    #[error("bad turn {0}")]
     BadTurn(Spot),
+}
+
+impl fmt::Display for ReadFault {
+    ghost use Rattle.routine_reader.specs.Spots.{refusal_text};
+    ghost use Rattle.std.specs.Prelude.{Some};
+
+    ghost output = { λ fault. Some (refusal_text fault) };
+
+    fn fmt<W: fmt::Write>(&self, f: &mut fmt::Formatter<W>) -> fmt::Result {
+        match self {
+            ReadFault::NoMemory => write!(f, "memory"),
+            ReadFault::NotJson => write!(f, "not json"),
+            ReadFault::Shape(spot) => write!(f, "shape {spot}"),
+            ReadFault::UnknownName(spot) => write!(f, "unknown name {spot}"),
+            ReadFault::DoubleName(spot) => write!(f, "double name {spot}"),
+            ReadFault::BadName(spot) => write!(f, "bad name {spot}"),
+            ReadFault::BadState(spot) => write!(f, "bad state {spot}"),
+            ReadFault::BadTime(spot) => write!(f, "bad time {spot}"),
+            ReadFault::TooMany { kind, count, limit } => {
+                write!(f, "too many {kind} {count} of {limit}")
+            }
+            ReadFault::BadFollow(spot) => write!(f, "bad follow {spot}"),
+            ReadFault::BadVersion(version) => write!(f, "bad version {version}"),
+            ReadFault::BadTurn(spot) => write!(f, "bad turn {spot}"),
+        }
+    }
 }
 
 impl From<NoMemory> for ReadFault {

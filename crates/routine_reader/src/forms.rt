@@ -1,3 +1,4 @@
+//! The members that an object of a script may have, and the parts that are read of them.
 ghost use Rattle.routine_reader.specs.Forms.{has_form, if_there, is_state, items_in, knows, lacks, long_number_of, needed, number_of, or_default, state_of};
 ghost use Rattle.serde_json.specs.Find.{as_bool, as_str};
 ghost use Rattle.serde_json.specs.View.{view};

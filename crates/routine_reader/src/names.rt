@@ -1,3 +1,4 @@
+//! Names of devices and routines, which are told apart.
 ghost use Rattle.routine_reader.specs.Names.{is_among, is_name, is_name_byte, new_name, place_of, starts_with_letter};
 ghost use Rattle.routine_reader.specs.Walks.{IsReading};
 ghost use Rattle.std.specs.List.{list_all};
@@ -49,23 +50,24 @@ pub fn place_of(names: &[Text], name: &str) -> Option<usize>
     names.iter().position(|known| name == known.as_str())
 }
 
-/// Names, all different, each with its number from 0 in the order in which they were added.
+/// Names, all different, each with its number from 0 in the order in which they were added. They stand in the value that
+/// is read, and are not copied.
 #[derive(Drop)]
-pub struct Names {
-    names: IndexSet<String>,
+pub struct Names<'a> {
+    names: IndexSet<&'a str>,
 }
 
-impl Model for Names {
-    ghost use Rattle.std.specs.Prelude.{ℕ, List, map, string_bytes};
+impl<'a> Model for Names<'a> {
+    ghost use Rattle.std.specs.Prelude.{ℕ, List, map};
 
     ghost Value = { List (List ℕ) };
 
-    ghost view = { λ s. map string_bytes s.names.keys };
+    ghost view = { λ s. map (λ name. name.now) s.names.keys };
 }
 
-impl Names {
+impl<'a> Names<'a> {
     /// No names. Takes no memory.
-    pub fn new(alloc: Global) -> Names
+    pub fn new(alloc: Global) -> Names<'a>
         ensures { result ≡ [] }
     {
         Names {
@@ -89,14 +91,11 @@ impl Names {
     }
 
     /// Gives the next number to a name, or answers `NoMemory`.
-    pub fn add(&mut self, alloc: Global, name: &str) -> Result<(), NoMemory>
+    pub fn add(&mut self, name: &'a str) -> Result<(), NoMemory>
         requires { is_among self.old name.now ≡ false }
         ensures { OnOk result (self.new ≡ self.old ++ name.now ∷ []) }
     {
-        let Ok(owned) = String::from_str(alloc, name) else {
-            return Err(NoMemory);
-        };
-        match self.names.insert(owned) {
+        match self.names.insert(name) {
             Ok(_) => Ok(()),
             Err(_) => Err(NoMemory),
         }
@@ -104,7 +103,7 @@ impl Names {
 }
 
 /// Refuses a text that is no name, and a name that is one of these.
-pub fn new_name<'a>(spot: Spot, names: &Names, text: &'a str) -> Result<&'a str, ReadFault>
+pub fn new_name<'a>(spot: Spot, names: &Names<'a>, text: &'a str) -> Result<&'a str, ReadFault>
     ensures reading { IsReading (λ name. name.now) result (new_name spot names.now text.now) }
     ensures new { IfOk result (λ name. is_among names.now name.now ≡ false) }
 {

@@ -1,3 +1,4 @@
+//! A script, read from its bytes.
 ghost use Rattle.home_types.specs.Limits.{most_devices, most_routines, most_windows};
 ghost use Rattle.day_clock.specs.Times.{IsCivilTime};
 ghost use Rattle.routine_reader.specs.Readings.{day_members, members_reading, parts_reading, script_reading, value_of, value_reading};

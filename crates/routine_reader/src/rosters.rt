@@ -1,3 +1,4 @@
+//! The roster of a window of a script.
 ghost use Rattle.command_rules.specs.Rosters.{plain_run, runs_of};
 ghost use Rattle.home_types.specs.Listed.{Listed};
 ghost use Rattle.routine_reader.specs.Rosters.{run_of_text, script_runs};
@@ -7,19 +8,17 @@ ghost use Rattle.std.specs.Prelude.{◌≡◌, ◌<◌, All, IfOk, length, map};
 
 use crate::scripts::{RunText, Script};
 use command_rules::{Roster, RosterRun};
-use home_types::{List, NoMemory, Routine};
+use home_types::{List, NoMemory};
 use std::alloc::Global;
 
 /// The run with the commands of its routine.
-fn roster_run(alloc: Global, script: &Script, run: &RunText) -> Result<RosterRun, NoMemory>
+fn roster_run(script: &Script, run: &RunText) -> Result<RosterRun, NoMemory>
     requires { run.now.routine < length script.now.routines.items }
     ensures { IfOk result (λ made. plain_run made ≡ run_of_text script.now run.now) }
 {
     let text = &script.routines.as_slice()[run.routine as usize];
     Ok(RosterRun {
-        routine: Routine {
-            commands: List::of(alloc, text.routine.commands.as_slice())?,
-        },
+        routine: text.routine.share()?,
         follows: run.follows,
     })
 }
@@ -29,8 +28,9 @@ fn roster_of(alloc: Global, script: &Script, texts: &[RunText]) -> Result<Roster
     ensures { IfOk result (λ roster. runs_of roster ≡ map (run_of_text script.now) texts.now) }
 {
     let mut runs = List::new(alloc);
+    runs.reserve(texts.len() as u64)?;
     'texts: for text in texts {
-        runs.push(roster_run(alloc, script, text)?)?;
+        runs.push(roster_run(script, text)?)?;
     }
     Ok(Roster { runs })
 }

@@ -1,13 +1,13 @@
+//! The routines of a script, read.
 ghost use Rattle.home_types.specs.Limits.{most_commands, most_routines};
 ghost use Rattle.home_types.specs.Listed.{Listed};
 ghost use Rattle.routine_reader.specs.AreRead.{AreDevices};
 ghost use Rattle.routine_reader.specs.Commands.{next_command};
-ghost use Rattle.routine_reader.specs.Names.{is_among};
 ghost use Rattle.routine_reader.specs.Routines.{commands_reading, next_routine, routine_members, routine_names, routine_reading};
 ghost use Rattle.routine_reader.specs.Scripts.{plain_device, plain_routine};
 ghost use Rattle.routine_reader.specs.Walks.{IsReading, read_each};
 ghost use Rattle.serde_json.specs.View.{view};
-ghost use Rattle.std.specs.Prelude.{◌≡◌, ◌≤◌, [], IfOk, false, length, map, option_map};
+ghost use Rattle.std.specs.Prelude.{◌≡◌, ◌≤◌, ◌++◌, ◌∷◌, [], IfOk, length, map, option_map};
 
 use crate::commands::read_command;
 use crate::devices::Devices;
@@ -40,7 +40,7 @@ fn routine_members(value: &Json) -> Option<RoutineMembers<'_>>
 
 fn read_each_command(
     alloc: Global,
-    devices: &Devices,
+    devices: &Devices<'_>,
     routine: u32,
     values: &[Json],
 ) -> Result<List<Command>, ReadFault>
@@ -50,6 +50,7 @@ fn read_each_command(
         (read_each (next_command (map plain_device devices.now.texts.items) routine) [] (map view values.now)) }
 {
     let mut commands = List::new(alloc);
+    commands.reserve(values.len() as u64)?;
     'values: for value in values {
         let number = commands.len() as u32 + 1;
         let command = read_command(devices, routine, number, value)?;
@@ -62,7 +63,7 @@ fn read_each_command(
 #[tactic(auto, unfolding(crate::specs::Routines::commands_reading))]
 fn read_commands(
     alloc: Global,
-    devices: &Devices,
+    devices: &Devices<'_>,
     routine: u32,
     values: &[Json],
 ) -> Result<List<Command>, ReadFault>
@@ -77,19 +78,19 @@ fn read_commands(
     read_each_command(alloc, devices, routine, values)
 }
 
-/// Reads the routine with this number, after routines with these names.
+/// Reads the routine with this number, after routines with these names, and adds its name to them.
 #[tactic(auto, unfolding(crate::specs::Routines::routine_reading))]
-fn read_routine(
+fn read_routine<'a>(
     alloc: Global,
-    devices: &Devices,
+    devices: &Devices<'_>,
     number: u32,
-    names: &Names,
-    value: &Json,
+    names: &mut Names<'a>,
+    value: &'a Json,
 ) -> Result<RoutineText, ReadFault>
     requires { AreDevices devices.now }
     ensures reading { IsReading plain_routine result
-        (routine_reading (map plain_device devices.now.texts.items) number names.now (view value.now)) }
-    ensures new { IfOk result (λ routine. is_among names.now routine.name ≡ false) }
+        (routine_reading (map plain_device devices.now.texts.items) number names.old (view value.now)) }
+    ensures named { IfOk result (λ routine. names.new ≡ names.old ++ routine.name ∷ []) }
 {
     let spot = Part::Routine.at(number);
     let Some(members) = routine_members(value) else {
@@ -97,25 +98,26 @@ fn read_routine(
     };
     let name = new_name(spot, names, members.name)?;
     let commands = read_commands(alloc, devices, number, members.commands)?;
+    names.add(name)?;
     Ok(RoutineText {
         name: Text::of(alloc, name)?,
-        routine: Routine { commands },
+        routine: Routine::new(alloc, commands)?,
     })
 }
 
 /// The routines of a script, with their numbers by name.
 #[derive(Drop)]
-pub struct Routines {
-    pub names: Names,
+pub struct Routines<'a> {
+    pub names: Names<'a>,
     pub texts: List<RoutineText>,
 }
 
 /// Reads the routines of a script with these devices.
-pub fn read_routines(
+pub fn read_routines<'a>(
     alloc: Global,
-    devices: &Devices,
-    values: &[Json],
-) -> Result<Routines, ReadFault>
+    devices: &Devices<'_>,
+    values: &'a [Json],
+) -> Result<Routines<'a>, ReadFault>
     requires devices { AreDevices devices.now }
     requires few { length values.now ≤ most_routines }
     ensures reading { IsReading (λ routines. map plain_routine routines.texts.items) result
@@ -125,10 +127,10 @@ pub fn read_routines(
 {
     let mut names = Names::new(alloc);
     let mut texts = List::new(alloc);
+    texts.reserve(values.len() as u64)?;
     'values: for value in values {
         let number = texts.len() as u32 + 1;
-        let routine = read_routine(alloc, devices, number, &names, value)?;
-        names.add(alloc, routine.name.as_str())?;
+        let routine = read_routine(alloc, devices, number, &mut names, value)?;
         texts.push(routine)?;
     }
     Ok(Routines { names, texts })

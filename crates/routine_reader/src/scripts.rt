@@ -1,3 +1,4 @@
+//! A script, as it is held.
 use day_clock::When;
 use home_types::{Kind, List, Routine, RunNo, Text, Value};
 

@@ -1,3 +1,4 @@
+//! The windows of a script, read: their time, runs, turns and seeds.
 ghost use Rattle.home_types.specs.Limits.{most_routines, most_runs, most_turns, most_windows};
 ghost use Rattle.day_clock.specs.Times.{IsCivilTime};
 ghost use Rattle.home_types.specs.Listed.{Listed};
@@ -90,6 +91,7 @@ fn read_each_turn(
     ensures { IsReading (λ turns. turns.items) result (read_each (next_turn window runs) [] (map view values.now)) }
 {
     let mut turns = List::new(alloc);
+    turns.reserve(values.len() as u64)?;
     'values: for value in values {
         let number = turns.len() as u32 + 1;
         let turn = read_turn(window, runs, number, value)?;
@@ -130,7 +132,12 @@ fn read_follows(spot: Spot, number: u32, follows: Option<u32>) -> Result<Option<
 
 /// Reads the run at this place, of routines with these names.
 #[tactic(auto, unfolding(crate::specs::Windows::run_reading))]
-fn read_run(routines: &Names, window: u32, number: u32, value: &Json) -> Result<RunText, ReadFault>
+fn read_run(
+    routines: &Names<'_>,
+    window: u32,
+    number: u32,
+    value: &Json,
+) -> Result<RunText, ReadFault>
     requires { length routines.now ≤ most_routines }
     ensures { result ≡ run_reading routines.now window number (view value.now) }
 {
@@ -150,7 +157,7 @@ fn read_run(routines: &Names, window: u32, number: u32, value: &Json) -> Result<
 
 fn read_each_run(
     alloc: Global,
-    routines: &Names,
+    routines: &Names<'_>,
     window: u32,
     values: &[Json],
 ) -> Result<List<RunText>, ReadFault>
@@ -159,6 +166,7 @@ fn read_each_run(
     ensures { IsReading (λ runs. runs.items) result (read_each (next_run routines.now window) [] (map view values.now)) }
 {
     let mut runs = List::new(alloc);
+    runs.reserve(values.len() as u64)?;
     'values: for value in values {
         let number = runs.len() as u32 + 1;
         let run = read_run(routines, window, number, value)?;
@@ -171,7 +179,7 @@ fn read_each_run(
 #[tactic(auto, unfolding(crate::specs::Windows::window_reading))]
 fn read_window(
     alloc: Global,
-    routines: &Names,
+    routines: &Names<'_>,
     number: u32,
     before: Option<When>,
     value: &Json,
@@ -203,7 +211,7 @@ fn read_window(
 /// Reads the windows of a script, of routines with these names.
 pub fn read_windows(
     alloc: Global,
-    routines: &Names,
+    routines: &Names<'_>,
     values: &[Json],
 ) -> Result<List<WindowText>, ReadFault>
     requires routines { length routines.now ≤ most_routines }
@@ -213,6 +221,7 @@ pub fn read_windows(
     ensures in_range { IfOk result (λ windows. All (λ window. IsCivilTime window.at) windows.items) }
 {
     let mut windows = List::new(alloc);
+    windows.reserve(values.len() as u64)?;
     let mut before = None;
     'values: for value in values {
         let number = windows.len() as u32 + 1;

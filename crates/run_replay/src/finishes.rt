@@ -1,3 +1,4 @@
+//! A play goes on to its end: which actor is tried next.
 ghost use Rattle.std.specs.Prelude.{◌≡◌, ◌<◌, List, Some, length, slice_get, ℕ};
 ghost use Rattle.hub_core.specs.HubCalls.{SameWindow};
 ghost use Rattle.run_replay.specs.Players.{HavePlans, are_live, play_of, steps_left};

@@ -1,3 +1,4 @@
+//! A hub with the grips that its actors hold, and how one actor is stepped.
 ghost use Rattle.std.specs.Prelude.{◌≡◌, ◌≢◌, ◌<◌, ◌≤◌, ◌^◌, None, Some, IfErr, IfOk, IsTrue, false, length, true, vec_capacity, ℕ};
 ghost use Rattle.hub_core.specs.BlockedRuns.{IsBlocked};
 ghost use Rattle.hub_core.specs.HubCalls.{HubStands, IsClosed, IsPacked, SameWindow};

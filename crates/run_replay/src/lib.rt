@@ -5,8 +5,6 @@ mod finishes;
 mod hands;
 pub mod picked;
 pub mod players;
-#[cfg(test)]
-mod tests;
 pub mod windows;
 
 pub use picked::Picked;

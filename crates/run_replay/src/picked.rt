@@ -1,3 +1,4 @@
+//! What came of a pick.
 ghost use Rattle.std.specs.Prelude.{◌≡◌};
 ghost use Rattle.run_replay.specs.Players.{picked_of};
 ghost use Rattle.run_replay.specs.Replays.{has_moved, waits};

@@ -1,3 +1,4 @@
+//! A player: it makes the picks that it is told, one after another.
 ghost use Rattle.std.specs.Prelude.{◌≡◌, ◌<◌, ◌≤◌, ◌==◌, false, filter, length, not, ℕ};
 ghost use Rattle.hub_core.specs.HubCalls.{HubStands, SameWindow};
 ghost use Rattle.run_replay.specs.Players.{HavePlans, PickIsPacked, PlayerStands, is_ended, most_moves, picked_of, play_of, steps_left};

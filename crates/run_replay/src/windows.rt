@@ -1,3 +1,4 @@
+//! A window, opened, replayed by its turns and its seed, and closed.
 ghost use Rattle.std.specs.Prelude.{◌≡◌, ◌<◌, ◌≤◌, None, Some, IfErr, IfOk, ℕ, length};
 ghost use Rattle.hub_core.specs.HubCalls.{IsClosed};
 ghost use Rattle.hub_core.specs.OpenHubs.{configuration_of};

@@ -1,3 +1,4 @@
+//! A script that was read, as a line of the output.
 use home_types::{Command, Job, Kind};
 use routine_reader::{DeviceText, RoutineText, RunText, Script, WindowText};
 use std::alloc::{AllocError, Global};

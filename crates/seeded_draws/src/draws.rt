@@ -1,3 +1,4 @@
+//! A generator of draws from a seed.
 ghost use Rattle.std.specs.Prelude.{◌≡◌, ◌<◌};
 ghost use Rattle.seeded_draws.specs.Draws.{below as below_of, drawn};
 

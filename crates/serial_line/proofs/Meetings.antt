@@ -2,6 +2,7 @@
 use Rattle.home_types.proofs.DeviceBits.{contains_one}
 use Rattle.home_types.specs.DeviceSets.{Devices, Meet}
 use Rattle.std.proofs.Common.{ap, ap₂, arith, refl, sym, ◌∙◌}
+use Rattle.std.proofs.lemmas.Bool.{eq-eqb, or_left, or_right}
 use Rattle.std.proofs.lemmas.Grind.{common_steps}
 use Rattle.std.specs.Cmp.{unsigned_tied}
 use Rattle.std.specs.FinSet as set
@@ -14,15 +15,9 @@ picked : {A : Type 0} (number : A → ℕ) (p : ℕ → Bool) (xs : List A) → 
 picked number p [] some = absurd (cc)
 picked {A} number p (x ∷ xs) some = at (p (number x)) refl (picked number p xs)
   where
-    own : (d : ℕ) (b : Bool) → ((d == d) || b) ≡ true
-    own d b = grind (arith, common_steps)
-
-    later : (a b : Bool) → b ≡ true → (a || b) ≡ true
-    later a b e = grind (arith, common_steps)
-
     at : (b : Bool) → p (number x) ≡ b → (list_any (λ y. p (number y)) xs ≡ true → (d : ℕ) × (list_any (λ y. number y == d) xs ≡ true) × (p d ≡ true)) → (d : ℕ) × (list_any (λ y. number y == d) (x ∷ xs) ≡ true) × (p d ≡ true)
-    at true e behind = (number x, own (number x) (list_any (λ y. number y == number x) xs), e)
-    at false e behind = let found = behind (grind (arith, common_steps)) in (found.0, later (number x == found.0) (list_any (λ y. number y == found.0) xs) found.1, found.2)
+    at true e behind = (number x, (or_left ((number x) == (number x)) (list_any (λ y. number y == number x) xs) (eq-eqb (number x) (number x) refl)), e)
+    at false e behind = let found = behind (grind (arith, common_steps)) in (found.0, or_right (number x == found.0) (list_any (λ y. number y == found.0) xs) found.1, found.2)
 
 carried : {A : Type 0} (number : A → ℕ) (p : ℕ → Bool) (xs : List A) (d : ℕ) → list_any (λ x. number x == d) xs ≡ true → p d ≡ true → list_any (λ x. p (number x)) xs ≡ true
 carried number p [] d there passes = absurd (cc)

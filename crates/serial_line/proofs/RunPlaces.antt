@@ -11,7 +11,7 @@ use Rattle.std.proofs.Common.{ap, arith, refl, subst, sym, ◌∙◌}
 use Rattle.std.proofs.lemmas.Grind.{common_steps, get_or-set_at}
 use Rattle.std.proofs.lemmas.List.{get_or-map, get_or-set_other, length-map}
 use Rattle.std.proofs.lemmas.List.Edits.{get_or-insert_above, get_or-insert_below, get_or-remove_above, get_or-remove_below, length-insert, length-remove}
-use Rattle.std.specs.Prelude.{Bool, List, None, Option, Some, [], false, get_or, if◌then◌else◌, insert, length, nat_lt, position, remove, replicate, slice_index_or, slice_set, suc, true, zero, ℕ, ◌+◌, ◌-◌, ◌<◌, ◌∷◌, ◌≡◌, ◌≢◌, ◌≤◌}
+use Rattle.std.specs.Prelude.{Bool, List, None, Option, Some, [], false, get_or, if◌then◌else◌, insert, length, nat_lt, position, remove, replicate, slice_index_or, slice_set, suc, true, zero, ℕ, ◌+◌, ◌-◌, ◌<◌, ◌≡◌, ◌≢◌, ◌≤◌}
 
 abbrev the_run : ℕ → Item
 the_run r = Ran (record { 0 = r })
@@ -31,15 +31,6 @@ none_from r ms ns d moved none = by_cases (run_place r ms) refl
         absurd (cc (sym (moved k found.0 found.1) ∙ untold_stands (the_run r) ns none))
 
 -- what is kept is read
-
--- a place that is read is the run's
-pub place_read : (marks : List Mark) (places : List (Option ℕ)) (r : ℕ) (place : Option ℕ) → true ≡ nat_lt r (length places) → place ≡ slice_index_or places r place → ArePlaces marks places → place ≡ run_place r marks
-place_read marks places r place within read are = read ∙ any_default places r within ∙ are r (grind (arith, common_steps))
-  where
-    any_default : (xs : List (Option ℕ)) (k : ℕ) → true ≡ nat_lt k (length xs) → slice_index_or xs k place ≡ slice_index_or xs k None
-    any_default [] k inside = absurd (grind (arith, common_steps))
-    any_default (x ∷ xs) zero inside = refl
-    any_default (x ∷ xs) (suc k) inside = any_default xs k (grind (arith, common_steps))
 
 -- no item: no places
 pub no_places : (n : ℕ) → ArePlaces [] (replicate n None)
@@ -95,14 +86,6 @@ told_one ms k i d places differ inside is before r within here = by_cases (is_ra
         earlier (Some j) f upto =
             let apart : j ≢ k = λ same. cc (sym (ap (is_ran r) is ∙ ap (λ n. is_ran r (get_or ms n d).item) (sym same) ∙ (place_told (the_run r) ms j d f).1) ∙ e) in
             grind (arith, common_steps)
-
--- where all are told, all are right
-pub told_all : (ms : List Mark) (k : ℕ) (places : List (Option ℕ)) → length ms ≤ k → ArePlacesBefore k ms places → ArePlaces ms places
-told_all ms k places all before r within = before r within (by_cases (run_place r ms) refl)
-  where
-    by_cases : (o : Option ℕ) → run_place r ms ≡ o → is_before k o ≡ true
-    by_cases None e = refl
-    by_cases (Some j) e = let found = place_told (the_run r) ms j (untouched (the_run r)) e in let inside : j < length ms = found.0 in grind (arith, common_steps)
 
 -- an item comes: the places before it are right
 pub before_inserted : (ms : List Mark) (at : ℕ) (x : Mark) (places : List (Option ℕ)) → all_differ (items_of ms) ≡ true → at ≤ length ms → ArePlaces ms places → ArePlacesBefore at (insert ms at x) places

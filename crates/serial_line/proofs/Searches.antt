@@ -6,7 +6,7 @@ use Rattle.std.proofs.lemmas.Grind.{common_steps}
 use Rattle.std.proofs.lemmas.List.Sums.{prefix_len_stops}
 use Rattle.std.specs.List.{list_any, prefix_len}
 use Rattle.std.specs.Option.{option_or}
-use Rattle.std.specs.Prelude.{Bool, List, None, Option, Some, [], drop, false, get_or, if◌then◌else◌, length, max, nat_lt, not, option_map, position, suc, take, true, unwrap_or, zero, ℕ, ◌+◌, ◌++◌, ◌<◌, ◌∷◌, ◌≡◌, ◌≤◌, ◌||◌}
+use Rattle.std.specs.Prelude.{Bool, List, None, Option, Some, [], false, get_or, if◌then◌else◌, length, max, nat_lt, not, option_map, position, suc, true, unwrap_or, zero, ℕ, ◌+◌, ◌<◌, ◌∷◌, ◌≡◌, ◌≤◌, ◌||◌}
 
 -- what stands at a place is among the list
 pub any_at : {A : Type 0} (p : A → Bool) (xs : List A) (k : ℕ) (d : A) → k < length xs → p (get_or xs k d) ≡ true → list_any p xs ≡ true
@@ -96,17 +96,3 @@ up_to_either {A} p q (x ∷ xs) = by_cases (list_any p (x ∷ xs)) (list_any q (
 abbrev pub up_to_first : {A : Type 0} → (A → Bool) → List A → ℕ
 up_to_first test [] = 0
 up_to_first test (x ∷ xs) = if test x then 0 else up_to_first test xs + 1
-
--- the item stands immediately before the first one of which the test holds, else at the end
-abbrev pub put_before : {A : Type 0} → (A → Bool) → A → List A → List A
-put_before test new [] = new ∷ []
-put_before test new (x ∷ xs) = if test x then new ∷ x ∷ xs else x ∷ put_before test new xs
-
--- .. which is to put it at that place
-pub put_before_at : {A : Type 0} (test : A → Bool) (new : A) (xs : List A) → put_before test new xs ≡ take (up_to_first test xs) xs ++ new ∷ drop (up_to_first test xs) xs
-put_before_at test new [] = refl
-put_before_at {A} test new (x ∷ xs) = by_cases (test x) (put_before_at test new xs)
-  where
-    by_cases : (b : Bool) → put_before test new xs ≡ take (up_to_first test xs) xs ++ new ∷ drop (up_to_first test xs) xs → (if b then new ∷ x ∷ xs else x ∷ put_before test new xs) ≡ take (if b then 0 else up_to_first test xs + 1) (x ∷ xs) ++ new ∷ drop (if b then 0 else up_to_first test xs + 1) (x ∷ xs)
-    by_cases true rest = refl
-    by_cases false rest = let next : up_to_first test xs + 1 ≡ suc (up_to_first test xs) = omega arith in rw next (ap (λ ys. x ∷ ys) rest)

@@ -16,7 +16,7 @@ use Rattle.std.specs.FinSet as set
 use Rattle.std.specs.List.{list_any}
 use Rattle.std.specs.Option.{option_or}
 use Rattle.std.specs.Ordering.{nat_cmp}
-use Rattle.std.specs.Prelude.{Bool, List, None, Some, [], drop, false, filter, if◌then◌else◌, insert, length, not, option_map, suc, take, true, zero, ℕ, ◌&&◌, ◌+◌, ◌++◌, ◌==◌, ◌||◌, ◌∷◌, ◌≡◌}
+use Rattle.std.specs.Prelude.{Bool, List, None, Some, [], drop, false, filter, if◌then◌else◌, insert, not, option_map, suc, take, true, zero, ℕ, ◌&&◌, ◌+◌, ◌++◌, ◌==◌, ◌||◌, ◌∷◌, ◌≡◌}
 
 -- an empty line has no items
 pub line_empty : (touched : Item → ℕ → Bool) (ended : ℕ → Bool) → IsLineOf [] touched ended []
@@ -34,11 +34,6 @@ pub items_inserted : (marks : List Mark) (at : ℕ) (x : Item) → items_of (wit
 items_inserted marks at x =
     map-append (λ m. m.item) (take at marks) (untouched x ∷ drop at marks)
     ∙ (λ i. sym (take-map (λ m. m.item) at marks) i ++ x ∷ sym (drop-map (λ m. m.item) at marks) i)
-
--- .. at the end, behind them all
-pub items_at_end : (marks : List Mark) (x : Item) → items_of (with_item (length marks) x marks) ≡ items_of marks ++ x ∷ []
-items_at_end [] x = refl
-items_at_end (m ∷ marks) x = ap (λ is. m.item ∷ is) (items_at_end marks x)
 
 pub line_inserted : {line : List Item} {touched : Item → ℕ → Bool} {ended : ℕ → Bool} {marks : List Mark} (at : ℕ) (x : Item) → IsLineOf line touched ended marks → TouchesAs touched (untouched x) → of_run ended x ≡ false → IsLineOf (take at line ++ x ∷ drop at line) touched ended (with_item at x marks)
 line_inserted {marks} at x old new lives = record {

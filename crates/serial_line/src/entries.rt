@@ -1,3 +1,4 @@
+//! An item of the line with the devices that it has touched.
 ghost use Rattle.std.specs.Prelude.{◌≡◌, ◌<◌, true};
 ghost use Rattle.command_rules.specs.Items.{is_ran};
 ghost use Rattle.std.specs.FinSet as set;

@@ -3,7 +3,5 @@
 
 mod entries;
 mod lines;
-#[cfg(test)]
-mod tests;
 
 pub use lines::Line;

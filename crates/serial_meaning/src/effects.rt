@@ -1,3 +1,4 @@
+//! What one command does to a device that stands so.
 ghost use Rattle.std.specs.Prelude.{◌≡◌};
 ghost use Rattle.home_types.specs.Commands.{command_effect};
 ghost use Rattle.serial_meaning.specs.Progress.{effect_of};

@@ -4,8 +4,6 @@
 mod effects;
 mod orders;
 mod routines;
-#[cfg(test)]
-mod tests;
 
 pub use effects::{Outcome, outcome_of};
 pub use orders::{RunAnswers, run_order};

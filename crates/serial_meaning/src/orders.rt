@@ -1,3 +1,4 @@
+//! The serial execution of a list of items.
 ghost use Rattle.std.specs.Prelude.{◌≡◌, ◌<◌, All, length, IfOk, IfSome, IfNone, IsTrue, OnErr};
 ghost use Rattle.command_rules.specs.Rosters.{is_run, runs_of};
 ghost use Rattle.serial_meaning.specs.Conditions.{HasKinds, HasRosterDevices, IsItemOf};

@@ -1,3 +1,4 @@
+//! The execution of a whole routine.
 ghost use Rattle.std.specs.Prelude.{◌≡◌, ◌<◌, length, IfOk, IfSome, IfNone, OnErr};
 ghost use Rattle.serial_meaning.specs.Conditions.{HasDevices, HasKinds};
 ghost use Rattle.serial_meaning.specs.Executions.{routine_answers, routine_in, shown_answers};

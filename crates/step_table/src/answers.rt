@@ -1,3 +1,4 @@
+//! What a step made and how a window closed, as text.
 ghost use Rattle.routine_reader.specs.Scripts.{plain_script};
 ghost use Rattle.routine_reader.specs.Sound.{IsSound};
 

@@ -1,3 +1,4 @@
+//! A desk: the hub of a row, with the grips that are out, worked step by step.
 ghost use Rattle.std.specs.Prelude.{◌≡◌, vec_len};
 ghost use Rattle.routine_reader.specs.Scripts.{plain_script};
 ghost use Rattle.routine_reader.specs.Sound.{IsSound};

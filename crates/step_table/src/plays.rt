@@ -1,3 +1,4 @@
+//! The replays and plays of a row.
 ghost use Rattle.routine_reader.specs.Scripts.{plain_script};
 ghost use Rattle.routine_reader.specs.Sound.{IsSound};
 

@@ -1,3 +1,4 @@
+//! A row of the table: what it asks for, and its answer.
 use crate::desks::push_steps;
 use crate::plays::{push_play, push_replay};
 use crate::runs::push_run;

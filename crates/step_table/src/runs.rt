@@ -1,3 +1,4 @@
+//! A row that is run with threads.
 ghost use Rattle.routine_reader.specs.Scripts.{plain_script};
 ghost use Rattle.routine_reader.specs.Sound.{IsSound};
 

@@ -1,3 +1,4 @@
+//! Whether the printed order of a window, executed serially, gives its record.
 ghost use Rattle.std.specs.Prelude.{◌≡◌, ◌<◌, length};
 ghost use Rattle.std.specs.List.{list_all};
 ghost use Rattle.routine_reader.specs.Scripts.{plain_script};

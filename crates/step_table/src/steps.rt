@@ -1,3 +1,4 @@
+//! The steps of a row, read from its words.
 use home_types::RunNo;
 
 /// One of two hubs of the same window.

@@ -20,6 +20,7 @@ use Rattle.lock_leasing.specs.Places.{first_place, fits, fits_on}
 use Rattle.lock_leasing.specs.Tables.{EachTellsOfRun, runs_with_access}
 use Rattle.lock_leasing.specs.Words.{has_touched, live_runs}
 use Rattle.std.proofs.Common.{ap, ap₂, arith, cond, refl, sym, ◌∙◌}
+use Rattle.std.proofs.lemmas.Bool.{eq-eqb, or_left, or_parts, or_right}
 use Rattle.std.proofs.lemmas.Grind.{common_steps}
 use Rattle.std.proofs.lemmas.List.Folds.{list_any-append}
 use Rattle.std.specs.List.{cons_option, list_all, list_any, range_with_len}
@@ -36,14 +37,8 @@ use Rattle.timeline_scheduler.specs.declared.scratches.Slot.{Slot}
 plan_alike : (a b : ℕ → ℕ) (cs : List Command) (p : Planning) → ((d : ℕ) → list_any (is_on d) cs ≡ true → a d ≡ b d) → fold (plan_more a) p cs ≡ fold (plan_more b) p cs
 plan_alike a b [] p same = refl
 plan_alike a b (c ∷ cs) p same =
-    ap (λ k. fold (plan_more a) (record { clock = min (max p.clock k + c.ms) greatest; planned = p.planned ++ record { device = c.device.0; from = max p.clock k; to = min (max p.clock k + c.ms) greatest } ∷ [] }) cs) (same c.device.0 (own c.device.0 (list_any (is_on c.device.0) cs)))
-    ∙ plan_alike a b cs (plan_more b p c) (λ d on. same d (later (c.device.0 == d) (list_any (is_on d) cs) on))
-  where
-    own : (k : ℕ) (e : Bool) → ((k == k) || e) ≡ true
-    own k e = grind (arith, common_steps)
-
-    later : (x y : Bool) → y ≡ true → (x || y) ≡ true
-    later x y e = grind (arith, common_steps)
+    ap (λ k. fold (plan_more a) (record { clock = min (max p.clock k + c.ms) greatest; planned = p.planned ++ record { device = c.device.0; from = max p.clock k; to = min (max p.clock k + c.ms) greatest } ∷ [] }) cs) (same c.device.0 (or_left (c.device.0 == c.device.0) (list_any (is_on c.device.0) cs) (eq-eqb c.device.0 c.device.0 refl)))
+    ∙ plan_alike a b cs (plan_more b p c) (λ d on. same d (or_right (c.device.0 == d) (list_any (is_on d) cs) on))
 
 -- the devices that are planned are those of the commands
 plan_devices : (a : ℕ → ℕ) (d : ℕ) (cs : List Command) (p : Planning) → list_any (λ x. x.device == d) (fold (plan_more a) p cs).planned ≡ (list_any (λ x. x.device == d) p.planned || list_any (is_on d) cs)
@@ -88,11 +83,8 @@ module _ (w : Setting) (n : Reading) (d : ℕ) where
   first_user [] none = refl
   first_user (Failed e k ∷ is) none = first_user is none
   first_user (Back e k ∷ is) none = first_user is none
-  first_user (Ran q ∷ is) none = at (is_live n q.0) (touches w.runs q.0 d) (passed_by w n q.0 d) (list_any (covers n d) is) (last (covers n d (Ran q)) (list_any (covers n d) is) none) (first_user is (last (covers n d (Ran q)) (list_any (covers n d) is) none))
+  first_user (Ran q ∷ is) none = at (is_live n q.0) (touches w.runs q.0 d) (passed_by w n q.0 d) (list_any (covers n d) is) (or_parts (covers n d (Ran q)) (list_any (covers n d) is) none).1 (first_user is (or_parts (covers n d (Ran q)) (list_any (covers n d) is) none).1)
     where
-      last : (a b : Bool) → (a || b) ≡ false → b ≡ false
-      last a b h = grind (arith, common_steps)
-
       by_use : (a b : Bool) → find in_use (live_runs n is) ≡ head (runs_with_access w n d is)
           → cond (a && not b) (Some q.0) (find in_use (live_runs n is)) ≡ head (if (true && a && not b) && not false then (q.0 ∷ runs_with_access w n d is) else runs_with_access w n d is)
       by_use true true rest = rest
@@ -128,10 +120,6 @@ uncovered w n g f r at d from within used =
 module _ (w : Setting) (n : Reading) (g : Grips) (r d : ℕ) (planned : List Planned) (back : List Item) (xs : List Access) (s : Slot) where
   abbrev fits_before : Option ℕ → Bool
   fits_before o = unwrap_or (option_map (λ x. nat_le (planned_end planned d) (planned_start (n.run x).planned d)) o) true
-
-  abbrev by_next : Option Access → Bool
-  by_next None = true
-  by_next (Some next) = nat_le (planned_end planned d) next.from
 
   abbrev by_plan : Option (ℕ × ℕ) → Option Access → Bool
   by_plan None next = true

@@ -4,6 +4,7 @@ use Rattle.history_book.specs.Plans.{greatest, plan_more, planned_end}
 use Rattle.history_book.specs.Readings.{Planned}
 use Rattle.home_types.specs.declared.commands.Command.{Command}
 use Rattle.std.proofs.Common.{ap, arith, cond, refl, subst, sym, ◌∙◌}
+use Rattle.std.proofs.lemmas.Bool.{eq-eqb, or_left, or_right}
 use Rattle.std.proofs.lemmas.Grind.{common_steps}
 use Rattle.std.proofs.lemmas.List.Folds.{list_any-append}
 use Rattle.std.proofs.lemmas.List.Sums.{fold-append}
@@ -99,14 +100,8 @@ leaves_set slots d s within passed free = record { size = length-set slots d s; 
 -- a command is on its own device
 pub own_device : (cs : List Command) (k : ℕ) (c : Command) → k < length cs → list_any (is_on (slice_index_or cs k c).device.0) cs ≡ true
 own_device [] k c within = absurd (omega (arith, within))
-own_device (x ∷ cs) zero c within = own x.device.0 (list_any (is_on x.device.0) cs)
-  where
-    own : (d : ℕ) (b : Bool) → ((d == d) || b) ≡ true
-    own d b = grind (arith, common_steps)
-own_device (x ∷ cs) (suc k) c within = later (x.device.0 == (slice_index_or cs k c).device.0) (list_any (is_on (slice_index_or cs k c).device.0) cs) (own_device cs k c (omega (arith, within)))
-  where
-    later : (a b : Bool) → b ≡ true → (a || b) ≡ true
-    later a b e = grind (arith, common_steps)
+own_device (x ∷ cs) zero c within = or_left (x.device.0 == x.device.0) (list_any (is_on x.device.0) cs) (eq-eqb x.device.0 x.device.0 refl)
+own_device (x ∷ cs) (suc k) c within = or_right (x.device.0 == (slice_index_or cs k c).device.0) (list_any (is_on (slice_index_or cs k c).device.0) cs) (own_device cs k c (omega (arith, within)))
 
 -- the times of the first k commands are held, of no other device any, and those that are left make the plan
 pub record IsPlannedTo (start slots : List Slot) (cs : List Command) (m k clock : ℕ) : Type 0 where

@@ -6,3 +6,4 @@ pub mod Reached
 pub mod Searched
 pub mod SlotSets
 pub mod Wholes
+pub mod WriterWaits

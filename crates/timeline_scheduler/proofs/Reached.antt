@@ -18,6 +18,7 @@ use Rattle.lock_leasing.specs.Order.{covers}
 use Rattle.lock_leasing.specs.Tables.{EachTellsOfRun, TellsOfRun, runs_with_access, uses}
 use Rattle.lock_leasing.specs.Words.{has_effect, holds_device}
 use Rattle.std.proofs.Common.{ap, arith, refl, subst, sym, ◌∙◌}
+use Rattle.std.proofs.lemmas.Bool.{and_parts, or_parts}
 use Rattle.std.proofs.lemmas.Grind.{common_steps}
 use Rattle.std.proofs.lemmas.List.Sums.{fold-append}
 use Rattle.std.specs.List.{list_any}
@@ -49,20 +50,11 @@ drop_next xs k y ys same = let further : k + 1 ≡ suc k = omega arith in ap (λ
 -- a run with no access has no next one
 none_got : (q : ℕ) (xs : List Access) (k : ℕ) → has_access q xs ≡ false → option_and_then (λ (a : Access). if is_of q a then Some a else None) (slice_get xs k) ≡ None
 none_got q [] k none = refl
-none_got q (x ∷ xs) zero none = ap (λ b. if b then Some x else None) (first (is_of q x) (has_access q xs) none)
-  where
-    first : (a b : Bool) → (a || b) ≡ false → a ≡ false
-    first a b h = grind (arith, common_steps)
-none_got q (x ∷ xs) (suc k) none = none_got q xs k (last (is_of q x) (has_access q xs) none)
-  where
-    last : (a b : Bool) → (a || b) ≡ false → b ≡ false
-    last a b h = grind (arith, common_steps)
+none_got q (x ∷ xs) zero none = ap (λ b. if b then Some x else None) (or_parts (is_of q x) (has_access q xs) none).0
+none_got q (x ∷ xs) (suc k) none = none_got q xs k (or_parts (is_of q x) (has_access q xs) none).1
 
 pub none_next : (q : ℕ) (xs : List Access) (s : Slot) → has_access q xs ≡ false → next_access xs s q ≡ None
 none_next q xs s none = none_got q xs s.passed none
-
-first_of : (a b : Bool) → (a && b) ≡ true → a ≡ true
-first_of a b h = grind (arith, common_steps)
 
 -- Numbers
 
@@ -125,16 +117,10 @@ module _ (w : Setting) (n : Reading) (g : Grips) (d : ℕ) where
   apart q [] x xs none same = absurd (cc)
   apart q (Failed e k ∷ is) x xs none same = apart q is x xs none same
   apart q (Back e k ∷ is) x xs none same = apart q is x xs none same
-  apart q (Ran p ∷ is) x xs none same = at (uses w n d p.0 && not (list_any (covers n d) is)) (apart q is x xs (last (p.0 == q) (list_any (is_ran q) is) none)) same
+  apart q (Ran p ∷ is) x xs none same = at (uses w n d p.0 && not (list_any (covers n d) is)) (apart q is x xs (or_parts (p.0 == q) (list_any (is_ran q) is) none).1) same
     where
-      first : (a b : Bool) → (a || b) ≡ false → a ≡ false
-      first a b h = grind (arith, common_steps)
-
-      last : (a b : Bool) → (a || b) ≡ false → b ≡ false
-      last a b h = grind (arith, common_steps)
-
       at : (b : Bool) → (runs_with_access w n d is ≡ x ∷ xs → (x == q) ≡ false) → (if b then (p.0 ∷ runs_with_access w n d is) else runs_with_access w n d is) ≡ x ∷ xs → (x == q) ≡ false
-      at true rest same = ap (λ k. k == q) (sym (ap (λ l. head_or l 0) same)) ∙ first (p.0 == q) (list_any (is_ran q) is) none
+      at true rest same = ap (λ k. k == q) (sym (ap (λ l. head_or l 0) same)) ∙ (or_parts (p.0 == q) (list_any (is_ran q) is) none).0
       at false rest same = rest same
 
   pub next_tells : (q : RunNo) (is : List Item) (xs : List Access) (s : Slot) → list_any (is_ran q.0) is ≡ false → Shows w n g d (Ran q ∷ is) (drop s.passed xs) → Next w n g d q.0 is xs s
@@ -215,7 +201,7 @@ module _ (w : Setting) (n : Reading) (g : Grips) (f : Facts w n g) (r d : ℕ) w
       → IsPassed front is q.0 xs (slot_behind doomed (next_access xs s q.0) s)
   passed front is q xs s doomed has doom time (Own x rest found its own tells left) = subst (λ o. IsPassed front is q.0 xs (slot_behind doomed o s)) (sym found) (record {
     accesses = left;
-    time = ap (λ b. if b || is_released x.status then s.free else max s.free x.to) doom ∙ own_end q.0 x rest s.free own tells (first_of (uses w n d q.0) (not (list_any (covers n d) is)) its) ∙ ap (λ t. max t (end_on q.0)) time;
+    time = ap (λ b. if b || is_released x.status then s.free else max s.free x.to) doom ∙ own_end q.0 x rest s.free own tells (and_parts (uses w n d q.0) (not (list_any (covers n d) is)) its).0 ∙ ap (λ t. max t (end_on q.0)) time;
   })
   passed front is q xs s doomed has doom time (Other none lacks left) = subst (λ o. IsPassed front is q.0 xs (slot_behind doomed o s)) (sym none) (record {
     accesses = left;

@@ -12,7 +12,7 @@ use Rattle.history_book.specs.declared.entries.Kept.{Kept}
 use Rattle.home_types.specs.declared.items.Item.TheVariants.{Ran}
 use Rattle.home_types.specs.declared.items.Item.{Item}
 use Rattle.home_types.specs.declared.modes.Scheduler.TheVariants.{Timeline}
-use Rattle.lineage_table.specs.Lineages.{LineageState, accesses_at, lineage_at}
+use Rattle.lineage_table.specs.Lineages.{LineageState, accesses_at}
 use Rattle.lock_leasing.proofs.ClearPlaces.{place_within}
 use Rattle.lock_leasing.proofs.EarliestPlaces.{timeline_is_earliest}
 use Rattle.lock_leasing.proofs.Facts.{Facts, facts_of}
@@ -20,19 +20,19 @@ use Rattle.lock_leasing.specs.Configurations.{Configuration, read_of}
 use Rattle.lock_leasing.specs.FirstPlaces.{IsFirstPlaceOf}
 use Rattle.lock_leasing.specs.Places.{At, Placing, at_end, first_place, fits}
 use Rattle.lock_leasing.specs.Standings.{IsStandingOf}
-use Rattle.lock_leasing.specs.Tables.{IsLineageOf}
 use Rattle.serial_line.specs.Marks.{Mark, items_of}
 use Rattle.std.proofs.Common.{ap, arith, cond, refl, subst, sym, ◌∙◌}
+use Rattle.std.proofs.lemmas.Bool.{and_parts, eq-eqb, or_left, or_right}
 use Rattle.std.proofs.lemmas.Grind.{common_steps}
 use Rattle.std.proofs.lemmas.List.{length-map}
 use Rattle.std.specs.List.{list_all, list_any, range_with_len}
-use Rattle.std.specs.Prelude.{Bool, IsTrue, List, None, Option, Some, [], drop, false, find, is_some, length, option_map, slice_get, suc, take, true, unwrap_or, zero, ℕ, ◌&&◌, ◌+◌, ◌-◌, ◌<◌, ◌==◌, ◌||◌, ◌∷◌, ◌≡◌, ◌≢◌, ◌≤◌}
+use Rattle.std.specs.Prelude.{Bool, IsTrue, List, None, Option, Some, [], drop, false, find, is_some, length, option_map, slice_get, suc, take, true, unwrap_or, zero, ℕ, ◌+◌, ◌-◌, ◌<◌, ◌==◌, ◌||◌, ◌∷◌, ◌≡◌, ◌≢◌, ◌≤◌}
 use Rattle.timeline_scheduler.proofs.Fitting.{fits_told, times_told}
 use Rattle.timeline_scheduler.proofs.Passes.{item_length, item_planned, pass_next}
 use Rattle.timeline_scheduler.proofs.Reached.{IsReached, Shows}
 use Rattle.timeline_scheduler.specs.Placings.{IsEarliestOf, IsPlaceOf, IsPlanOf, MayPlan, Planning}
 use Rattle.timeline_scheduler.specs.Scratches.{HoldsTimes}
-use Rattle.timeline_scheduler.specs.Slots.{AreHomed, AreRuns, IsFresh, LeavesPassed, PlansOnly, devices_among, fits_slot, no_slot, passed_item, plan_behind, slot_at}
+use Rattle.timeline_scheduler.specs.Slots.{AreHomed, AreRuns, LeavesPassed, PlansOnly, devices_among, fits_slot, passed_item, plan_behind, slot_at}
 use Rattle.timeline_scheduler.specs.declared.scratches.Slot.{Slot}
 
 -- The least number of a range that passes a test
@@ -58,10 +58,6 @@ found_nowhere test a (suc k) none =
 -- What the parts of one window are
 
 module _ (table : List LineageState) (line : List Mark) (history : List Kept) (runs : List Run) (r : ℕ) where
-  -- the run is one of the roster
-  pub may_run : MayPlan table line history runs r → IsTrue (is_run runs r)
-  may_run (Planning s parts run) = run
-
   device_within : (s : Configuration) → IsStandingOf s table line history runs → (x d : ℕ) → touches s.setting.runs x d ≡ true → d < length s.setting.first
   device_within s parts x d on = device_below d (length s.setting.first) (commands_of s.setting.runs x) (λ k c there. parts.allowed.homed x k c there) on
 
@@ -78,25 +74,16 @@ module _ (table : List LineageState) (line : List Mark) (history : List Kept) (r
       f : Facts s.setting (read_of s) s.grips
       f = facts_of s table line history runs parts
 
-      own : (k : ℕ) (b : Bool) → ((k == k) || b) ≡ true
-      own k b = grind (arith, common_steps)
-
-      later : (a b : Bool) → b ≡ true → (a || b) ≡ true
-      later a b e = grind (arith, common_steps)
-
       among : (is : List Item) (k : ℕ) → slice_get is k ≡ Some (Ran x) → list_any (is_ran x.0) is ≡ true
       among [] k there = absurd (cc)
-      among (i ∷ is) zero there = ap (λ o. unwrap_or (option_map (λ j. is_ran x.0 j || list_any (is_ran x.0) is) o) true) there ∙ own x.0 (list_any (is_ran x.0) is)
-      among (i ∷ is) (suc k) there = later (is_ran x.0 i) (list_any (is_ran x.0) is) (among is k there)
+      among (i ∷ is) zero there = ap (λ o. unwrap_or (option_map (λ j. is_ran x.0 j || list_any (is_ran x.0) is) o) true) there ∙ or_left (x.0 == x.0) (list_any (is_ran x.0) is) (eq-eqb x.0 x.0 refl)
+      among (i ∷ is) (suc k) there = or_right (is_ran x.0 i) (list_any (is_ran x.0) is) (among is k there)
 
       stands : stands_in ((read_of s).run x.0) ≡ true
       stands = sym (f.line.line x.0) ∙ among (read_of s).line at (ap (λ is. slice_get is at) (sym parts.its_line.items) ∙ there)
 
-      first : (a b : Bool) → (a && b) ≡ true → a ≡ true
-      first a b h = grind (arith, common_steps)
-
       known : IsTrue (is_run s.setting.runs x.0)
-      known = (f.shaped x.0).known ((f.shaped x.0).arrived (first (is_some ((read_of s).run x.0).placed) _ stands))
+      known = (f.shaped x.0).known ((f.shaped x.0).arrived (and_parts (is_some ((read_of s).run x.0).placed) _ stands).0)
 
   line_length : (s : Configuration) → IsStandingOf s table line history runs → length line ≡ length (read_of s).line
   line_length s parts = sym (length-map line (λ (k : Mark). k.item)) ∙ ap length parts.its_line.items
@@ -119,16 +106,6 @@ module _ (table : List LineageState) (line : List Mark) (history : List Kept) (r
     pub size : length slots ≡ length table
     pub only : PlansOnly (commands_of runs r) slots
     pub reached : (s : Configuration) → IsStandingOf s table line history runs → Reaches s slots at
-
-  pub passed_none : (slots : List Slot) → IsFresh slots → length slots ≡ length table → IsPassedTo slots 0
-  passed_none slots fresh size = record {
-    size = size;
-    only = λ d off. ap (λ (x : Slot). x.planned) (fresh d);
-    reached = λ s parts d within. subst (IsReached s.setting (read_of s) s.grips r d [] (read_of s).line (accesses_at table d)) (sym (fresh d)) (start s (parts.its_table.each d within));
-  }
-    where
-      start : {d : ℕ} (s : Configuration) → IsLineageOf s.setting (read_of s) s.grips d (lineage_at table d) → IsReached s.setting (read_of s) s.grips r d [] (read_of s).line (accesses_at table d) no_slot
-      start s lineage = record { accesses = (lineage.runs, lineage.each); time = refl }
 
   pub passed_next : (slots more : List Slot) (at : ℕ) → at < length line → more ≡ passed_item table history runs r (slice_get (items_of line) at) slots → IsPassedTo slots at → IsPassedTo more (at + 1)
   passed_next slots more at within is was = record {

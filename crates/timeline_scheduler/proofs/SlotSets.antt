@@ -19,6 +19,12 @@ set_other slots d e x other = get_or-set_other slots d e x no_slot other
 pub slot_read : (slots : List Slot) (d : ℕ) (s : Slot) → d < length slots → s ≡ slice_index_or slots d s → slot_at slots d ≡ s
 slot_read slots d s within is = get_or_default slots d no_slot s within ∙ sym is
 
+-- a slot put where it is
+set_own : (slots : List Slot) (d : ℕ) → d < length slots → slice_set slots d (slot_at slots d) ≡ slots
+set_own [] d within = refl
+set_own (s ∷ slots) zero within = refl
+set_own (s ∷ slots) (suc d) within = ap (λ rest. s ∷ rest) (set_own slots d (omega (arith, within)))
+
 module _ (change : ℕ → Slot → Slot) where
   -- the slot of one device is changed
   pub changed_is : (slots : List Slot) (d : ℕ) (s x : Slot) → d < length slots → s ≡ slice_index_or slots d s → x ≡ change d s → slice_set slots d x ≡ changed_on change slots d
@@ -71,3 +77,26 @@ module _ (change : ℕ → Slot → Slot) where
     -- each device is changed, where the others would stay
     pub changed_at : (n : ℕ) (slots : List Slot) (d : ℕ) → length slots ≡ n → d < n → slot_at (changed change (filter p (range_with_len 0 n)) slots) d ≡ change d (slot_at slots d)
     changed_at n slots d size within = in_range 0 n slots d (omega (arith, size)) (omega arith) (omega (arith, within))
+
+  module _ (p q : ℕ → Bool) (only : (d : ℕ) → q d ≡ true → p d ≡ true) (else_same : (d : ℕ) (s : Slot) → p d ≡ true → q d ≡ false → change d s ≡ s) where
+    fewer_in_range : (a n : ℕ) (slots : List Slot) → a + n ≤ length slots → changed change (filter q (range_with_len a n)) slots ≡ changed change (filter p (range_with_len a n)) slots
+    fewer_in_range a zero slots size = refl
+    fewer_in_range a (suc n) slots size = by_test (p a) (q a) refl refl (λ s long. fewer_in_range (a + 1) n s long)
+      where
+        Goal : Bool → Bool → Type 0
+        Goal b c = changed change (cond c (a ∷ filter q (range_with_len (a + 1) n)) (filter q (range_with_len (a + 1) n))) slots ≡ changed change (cond b (a ∷ filter p (range_with_len (a + 1) n)) (filter p (range_with_len (a + 1) n))) slots
+
+        long : length (changed_on change slots a) ≡ length slots
+        long = length-set slots a (change a (slot_at slots a))
+
+        by_test : (b c : Bool) → p a ≡ b → q a ≡ c → ((s : List Slot) → a + 1 + n ≤ length s → changed change (filter q (range_with_len (a + 1) n)) s ≡ changed change (filter p (range_with_len (a + 1) n)) s) → Goal b c
+        by_test true true on both rest = rest (changed_on change slots a) (omega (arith, long, size))
+        by_test false false off neither rest = rest slots (omega (arith, size))
+        by_test false true off both rest = let on = only a both in absurd (grind (arith, common_steps, on, off))
+        by_test true false on other rest =
+            let stays : changed_on change slots a ≡ slots = ap (slice_set slots a) (else_same a (slot_at slots a) on other) ∙ set_own slots a (omega (arith, size)) in
+            rest slots (omega (arith, size)) ∙ ap (changed change (filter p (range_with_len (a + 1) n))) (sym stays)
+
+    -- those that would stay may be left out
+    pub changed_fewer : (n : ℕ) (slots : List Slot) → length slots ≡ n → changed change (filter q (range_with_len 0 n)) slots ≡ changed change (filter p (range_with_len 0 n)) slots
+    changed_fewer n slots size = fewer_in_range 0 n slots (omega (arith, size))

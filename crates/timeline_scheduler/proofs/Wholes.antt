@@ -15,9 +15,10 @@ use Rattle.lock_leasing.proofs.AccessRuns.{Alone, EachTail}
 use Rattle.lock_leasing.specs.Configurations.{Grips}
 use Rattle.lock_leasing.specs.Order.{covers}
 use Rattle.std.proofs.Common.{ap, arith, cond, refl, sym, ◌∙◌}
+use Rattle.std.proofs.lemmas.Bool.{eq-eqb, or_left, or_right}
 use Rattle.std.proofs.lemmas.Grind.{common_steps}
 use Rattle.std.specs.List.{list_any, range_with_len}
-use Rattle.std.specs.Prelude.{Bool, List, Option, [], false, filter, fold, if◌then◌else◌, length, max, not, suc, true, zero, ℕ, ◌&&◌, ◌++◌, ◌+◌, ◌<◌, ◌==◌, ◌||◌, ◌∷◌, ◌≡◌}
+use Rattle.std.specs.Prelude.{Bool, List, Option, [], false, filter, fold, if◌then◌else◌, length, max, not, suc, true, zero, ℕ, ◌&&◌, ◌++◌, ◌+◌, ◌<◌, ◌==◌, ◌∷◌, ◌≡◌}
 use Rattle.timeline_scheduler.proofs.Reached.{IsReached, Next, Other, Own, max_none, next_tells, none_next}
 use Rattle.timeline_scheduler.specs.Slots.{end_of_access, next_access, slot_at, whole_passed}
 use Rattle.timeline_scheduler.specs.declared.scratches.Slot.{Slot}
@@ -43,20 +44,11 @@ fold_stays t (x ∷ xs) = fold_stays t xs
 -- What stands behind a run of a line in which no run stands twice
 
 any_behind : (q : RunNo) (front is : List Item) → list_any (is_ran q.0) (front ++ Ran q ∷ is) ≡ true
-any_behind q [] is = own q.0 (list_any (is_ran q.0) is)
-  where
-    own : (k : ℕ) (b : Bool) → ((k == k) || b) ≡ true
-    own k b = grind (arith, common_steps)
-any_behind q (i ∷ front) is = later (is_ran q.0 i) (list_any (is_ran q.0) (front ++ Ran q ∷ is)) (any_behind q front is)
-  where
-    later : (a b : Bool) → b ≡ true → (a || b) ≡ true
-    later a b e = grind (arith, common_steps)
+any_behind q [] is = or_left (q.0 == q.0) (list_any (is_ran q.0) is) (eq-eqb q.0 q.0 refl)
+any_behind q (i ∷ front) is = or_right (is_ran q.0 i) (list_any (is_ran q.0) (front ++ Ran q ∷ is)) (any_behind q front is)
 
 behind_is : (q : RunNo) (front is : List Item) → EachTail Alone (front ++ Ran q ∷ is) → behind q.0 (front ++ Ran q ∷ is) ≡ is
-behind_is q [] is alone = ap (λ b. if b then is else behind q.0 is) (own q.0)
-  where
-    own : (k : ℕ) → (k == k) ≡ true
-    own k = grind (arith, common_steps)
+behind_is q [] is alone = ap (λ b. if b then is else behind q.0 is) (eq-eqb q.0 q.0 refl)
 behind_is q (i ∷ front) is alone = by_test (is_ran q.0 i) refl (behind_is q front is alone.1)
   where
     by_test : (b : Bool) → is_ran q.0 i ≡ b → behind q.0 (front ++ Ran q ∷ is) ≡ is → (if b then front ++ Ran q ∷ is else behind q.0 (front ++ Ran q ∷ is)) ≡ is

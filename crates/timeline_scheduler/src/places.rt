@@ -1,3 +1,4 @@
+//! The timeline's place of a run: the first one at which its plan fits.
 ghost use Rattle.std.specs.Prelude.{◌≡◌, ◌≤◌, length};
 ghost use Rattle.command_rules.specs.Rosters.{runs_of};
 ghost use Rattle.timeline_scheduler.specs.Placings.{IsEarliestOf, IsPlaceOf, IsPlanOf, MayPlan};

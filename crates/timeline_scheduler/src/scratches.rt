@@ -1,4 +1,5 @@
-ghost use Rattle.std.specs.Prelude.{◌≡◌, ◌+◌, ◌-◌, ◌<◌, ◌^◌, IfOk, IfSome, IsTrue, is_some, length, slice_get};
+//! The room in which the timeline searches: for each device, when it is free, and the plan so far.
+ghost use Rattle.std.specs.Prelude.{◌≡◌, ◌+◌, ◌-◌, ◌<◌, ◌^◌, IfOk, IfSome, IsTrue, is_some, length, max, slice_get};
 ghost use Rattle.std.specs.List.{list_all};
 ghost use Rattle.command_rules.specs.Rosters.{commands_of, is_run, runs_of};
 ghost use Rattle.history_book.specs.Books.{doom_of};
@@ -7,7 +8,7 @@ ghost use Rattle.serial_line.specs.Marks.{items_of};
 ghost use Rattle.timeline_scheduler.specs.Scratches.{HoldsTimes, planned_in};
 ghost use Rattle.timeline_scheduler.specs.Slots.{AreHomed, AreRuns, IsFresh, LeavesPassed, PlansOnly, changed, devices_among, devices_with, end_of_access, fits_slot, next_access, passed_item, plan_behind, slot_at, slot_behind, slot_passed, slot_waiting, used_again, whole_passed};
 
-use command_rules::{IndexedRoster, Roster};
+use command_rules::IndexedRoster;
 use home_types::{DeviceNo, Item, NoMemory, RunNo};
 use lineage_table::{Access, Status};
 use lock_leasing::Standing;
@@ -110,7 +111,7 @@ impl Scratch {
         ensures slots { self.new ≡ changed (slot_passed s.now.table.now (is_some (doom_of s.now.book.now.items x.0)) x.0) (devices_with s.now.table.now x.0) self.old }
         ensures whole { result ≡ whole_passed s.now.table.now x.0 self.old }
     {
-        let doomed = s.book.doom_of(x).is_some();
+        let doomed = s.book.is_doomed(x);
         let mut whole = 0;
         let mut from = DeviceNo(0);
         'devices: while let Some(d) = s.table.next_device(x, from) {
@@ -132,10 +133,11 @@ impl Scratch {
         ensures { self.new ≡ changed (slot_waiting (runs_of roster.now) r.0 x.0 whole) (devices_among (runs_of roster.now) r.0 (length self.old)) self.old }
     {
         roster.kept();
+        let waiting = roster.first_reads_of(r, x);
         let mut from = DeviceNo(0);
-        'devices: while let Some(d) = roster.next_device(r, from) {
+        'devices: while let Some(d) = waiting.next(from) {
             let slot = self.slots[d.0 as usize];
-            self.slots[d.0 as usize] = slot.behind_writer(roster.roster(), r, x, d, whole);
+            self.slots[d.0 as usize] = slot.behind_writer(whole);
             from = DeviceNo(d.0 + 1);
         }
     }
@@ -207,20 +209,13 @@ impl Slot {
         }
     }
 
-    /// The slot behind the run `x`, whose whole plan ends at this moment: where the run `r` begins with a read on the device,
-    /// and `x` writes it, the device is free then.
-    fn behind_writer(self, runs: &Roster, r: RunNo, x: RunNo, d: DeviceNo, whole: u64) -> Slot
-        requires run { IsTrue (is_run (runs_of runs.now) r.0) }
-        requires writer { IsTrue (is_run (runs_of runs.now) x.0) }
-        ensures { result ≡ slot_waiting (runs_of runs.now) r.0 x.0 whole d.0 self }
+    /// The slot behind a run that writes the device, whose whole plan ends at this moment: the device is free then.
+    fn behind_writer(self, whole: u64) -> Slot
+        ensures { result ≡ record self { free = max self.free whole } }
     {
-        if self.free < whole && runs.reads_first(r, d) && runs.writes(x, d) {
-            Slot {
-                free: whole,
-                ..self
-            }
-        } else {
-            self
+        Slot {
+            free: self.free.max(whole),
+            ..self
         }
     }
 

@@ -1,3 +1,4 @@
+//! The devices of a trial's script.
 ghost use Rattle.routine_reader.specs.Scripts.{plain_device};
 ghost use Rattle.std.specs.Prelude.{◌≡◌, ◌<◌, IfOk, map};
 ghost use Rattle.trial_scripts.specs.TrialDevices.{trial_device, trial_devices};

@@ -5,8 +5,6 @@ mod devices;
 mod names;
 mod routines;
 mod scripts;
-#[cfg(test)]
-mod tests;
 mod windows;
 
 pub use scripts::trial_script;

@@ -1,3 +1,4 @@
+//! The names of a trial's script, by their numbers.
 ghost use Rattle.std.specs.Prelude.{◌≡◌, ◌<◌, ◌∷◌, IfOk, string_bytes};
 ghost use Rattle.trial_scripts.specs.Drawings.{two_digits};
 

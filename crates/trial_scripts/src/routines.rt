@@ -1,3 +1,4 @@
+//! The routines of a trial's script, drawn.
 ghost use Rattle.home_types.specs.Listed.{Listed};
 ghost use Rattle.routine_reader.specs.Scripts.{plain_routine};
 ghost use Rattle.seeded_draws.specs.Draws.{below, drawn};
@@ -82,9 +83,7 @@ fn draw_routine(alloc: Global, draws: &mut Draws, number: u32) -> Result<Routine
 {
     Ok(RoutineText {
         name: numbered_name(alloc, 'r', number)?,
-        routine: Routine {
-            commands: draw_commands(alloc, draws)?,
-        },
+        routine: Routine::new(alloc, draw_commands(alloc, draws)?)?,
     })
 }
 

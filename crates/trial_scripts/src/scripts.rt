@@ -1,3 +1,4 @@
+//! The script of a trial, made of its number.
 ghost use Rattle.home_types.specs.Limits.{most_windows};
 ghost use Rattle.routine_reader.specs.Scripts.{plain_script};
 ghost use Rattle.routine_reader.specs.Sound.{IsSound};

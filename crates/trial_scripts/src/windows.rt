@@ -1,3 +1,4 @@
+//! The windows of a trial's script, drawn.
 ghost use Rattle.home_types.specs.Limits.{most_windows};
 ghost use Rattle.home_types.specs.Listed.{Listed};
 ghost use Rattle.routine_reader.specs.Scripts.{plain_window};

@@ -1,25 +1,23 @@
 -- The device for which a strict model aborts a run is the one that the table, the line and the roster tell.
 use Rattle.command_rules.specs.Items.{is_ran}
 use Rattle.command_rules.specs.Rosters.{Run, touches}
-use Rattle.history_book.specs.Readings.{Reading}
-use Rattle.history_book.specs.Settings.{Setting}
 use Rattle.history_book.specs.declared.entries.Kept.{Kept}
 use Rattle.home_types.specs.declared.items.Item.TheVariants.{Ran}
 use Rattle.home_types.specs.declared.modes.Visibility.TheVariants.{Eventual, Global, Partitioned, Weak}
 use Rattle.home_types.specs.declared.modes.Visibility.{Visibility}
 use Rattle.home_types.specs.declared.numbers.RunNo.{RunNo}
 use Rattle.lineage_table.specs.Lineages.{LineageState, lineage_at}
-use Rattle.lock_leasing.specs.Configurations.{Configuration, Grips, read_of}
-use Rattle.lock_leasing.specs.Standings.{IsStandingOf, item_has_touched}
+use Rattle.lock_leasing.specs.Configurations.{Configuration, read_of}
+use Rattle.lock_leasing.specs.Standings.{IsStandingOf}
 use Rattle.lock_leasing.specs.Waits.{down_at_end}
 use Rattle.lock_leasing.specs.Words.{has_touched}
 use Rattle.serial_line.proofs.Ties.{touched_in_line}
-use Rattle.serial_line.specs.Marks.{Mark, items_of, stands}
+use Rattle.serial_line.specs.Marks.{Mark, stands}
 use Rattle.serial_line.specs.Marks.{has_touched as mark_has_touched}
 use Rattle.std.proofs.Common.{ap, arith, refl, sym, ◌∙◌}
 use Rattle.std.proofs.lemmas.Grind.{common_steps}
 use Rattle.std.specs.List.{list_any, range_with_len}
-use Rattle.std.specs.Prelude.{Bool, List, None, Option, Some, [], false, filter, find, if◌then◌else◌, length, not, suc, true, zero, ℕ, ◌&&◌, ◌+◌, ◌<◌, ◌≤◌, ◌∷◌, ◌≡◌}
+use Rattle.std.specs.Prelude.{Bool, List, Some, [], filter, find, if◌then◌else◌, length, not, suc, true, zero, ℕ, ◌&&◌, ◌+◌, ◌<◌, ◌∷◌, ◌≡◌}
 use Rattle.visibility_models.specs.Models.{under}
 use Rattle.visibility_models.specs.Searches.{first_down_for, is_down_for, is_strict_model}
 

@@ -16,6 +16,7 @@ use Rattle.lock_leasing.specs.Standings.{has_ended}
 use Rattle.serial_line.specs.Marks.{Mark, front_of, is_open, items_of}
 use Rattle.serial_line.specs.Ties.{Each, EndsAs}
 use Rattle.std.proofs.Common.{ap, arith, refl, sym, ◌∙◌}
+use Rattle.std.proofs.lemmas.Bool.{eqb-true}
 use Rattle.std.proofs.lemmas.Grind.{common_steps}
 use Rattle.std.specs.Option.{option_or}
 use Rattle.std.specs.Prelude.{Bool, List, None, Option, Some, [], drop, false, if◌then◌else◌, is_none, is_some, not, suc, true, ℕ, ◌&&◌, ◌+◌, ◌==◌, ◌∷◌, ◌≡◌}
@@ -27,9 +28,6 @@ passed : (test : ℕ → Bool) (n : Reading) (history : List Kept) (r : ℕ) (m 
     → first_unended_before test history r (m.item ∷ items) ≡ first_unended_before test history r items
 passed test n history r m items told lives as_told closed = by_item m.item m.ended as_told closed
   where
-    equal : (a b : ℕ) → (a == b) ≡ true → a ≡ b
-    equal a b h = grind (arith, common_steps)
-
     ended : (x : RunNo) (b : Bool) → b ≡ has_ended n x.0 → not b ≡ false → has_ended n x.0 ≡ true
     ended x b e h = grind (arith, common_steps)
 
@@ -37,7 +35,7 @@ passed test n history r m items told lives as_told closed = by_item m.item m.end
     past o e = grind (arith, common_steps)
 
     by_run : (x : RunNo) (b : Bool) → (x.0 == r) ≡ b → has_ended n x.0 ≡ true → (if b then None else option_or (unended_run test history (Ran x)) (first_unended_before test history r items)) ≡ first_unended_before test history r items
-    by_run x true own over = absurd (cc (sym over ∙ ap (has_ended n) (equal x.0 r own) ∙ lives))
+    by_run x true own over = absurd (cc (sym over ∙ ap (has_ended n) (eqb-true x.0 r own) ∙ lives))
     by_run x false other over = (λ i. option_or (if past (end_of history x.0) (ap is_some (told x.0) ∙ over) i && test x.0 then Some x else None) (first_unended_before test history r items))
 
     by_item : (i : Item) (b : Bool) → b ≡ of_run (has_ended n) i → of_run (λ q. not b) i ≡ false → first_unended_before test history r (i ∷ items) ≡ first_unended_before test history r items

@@ -3,4 +3,3 @@ pub mod LineRuns
 pub mod Fronts
 pub mod StrictWaits
 pub mod DownDevices
-pub mod OwnModel

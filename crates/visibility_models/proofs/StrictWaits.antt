@@ -1,30 +1,26 @@
 -- The run for which a model lets a run wait is the one that the line, the ends and the roster tell.
 use Rattle.command_rules.specs.Items.{is_ran}
-use Rattle.command_rules.specs.Rosters.{Run, is_run, run_no, shares}
+use Rattle.command_rules.specs.Rosters.{Run, run_no}
 use Rattle.history_book.specs.Books.{end_of}
-use Rattle.history_book.specs.Histories.{entries_of}
 use Rattle.history_book.specs.Lines.{before}
 use Rattle.history_book.specs.Readings.{Reading, is_live}
-use Rattle.history_book.specs.Settings.{Setting}
 use Rattle.history_book.specs.declared.entries.Kept.{Kept}
 use Rattle.home_types.specs.declared.items.Item.TheVariants.{Back, Failed, Ran}
 use Rattle.home_types.specs.declared.items.Item.{Item}
 use Rattle.home_types.specs.declared.modes.Visibility.TheVariants.{Eventual, Global, Partitioned, Weak}
 use Rattle.home_types.specs.declared.modes.Visibility.{Visibility}
-use Rattle.home_types.specs.declared.numbers.DeviceNo.{DeviceNo}
-use Rattle.home_types.specs.declared.numbers.RunNo.{RunNo}
 use Rattle.lineage_table.specs.Lineages.{LineageState}
 use Rattle.lock_leasing.specs.Configurations.{Configuration, read_of}
 use Rattle.lock_leasing.specs.Standings.{IsStandingOf}
 use Rattle.lock_leasing.specs.Waits.{strict_wait}
 use Rattle.lock_leasing.specs.Words.{live_runs}
-use Rattle.serial_line.specs.Marks.{Mark, items_of, stands}
-use Rattle.std.proofs.Common.{ap, arith, refl, subst, sym, ◌∙◌}
+use Rattle.serial_line.specs.Marks.{Mark, items_of}
+use Rattle.std.proofs.Common.{ap, arith, refl, sym, ◌∙◌}
 use Rattle.std.proofs.lemmas.Grind.{common_steps}
 use Rattle.std.proofs.lemmas.List.Sums.{take_while-cons}
 use Rattle.std.specs.List.{list_any}
 use Rattle.std.specs.Option.{option_or}
-use Rattle.std.specs.Prelude.{Bool, IsTrue, List, None, Option, Some, [], drop, false, find, if◌then◌else◌, is_none, is_some, not, option_map, slice_get, suc, true, unwrap_or, zero, ℕ, ◌&&◌, ◌+◌, ◌==◌, ◌||◌, ◌∷◌, ◌≡◌}
+use Rattle.std.specs.Prelude.{Bool, List, None, [], false, find, if◌then◌else◌, is_none, not, option_map, true, ℕ, ◌==◌, ◌∷◌, ◌≡◌}
 use Rattle.visibility_models.proofs.LineRuns.{live_in_line}
 use Rattle.visibility_models.specs.Models.{under}
 use Rattle.visibility_models.specs.Searches.{bars, first_unended_before, unended_run}

@@ -1,3 +1,4 @@
+//! For which device a strict model aborts a run at its end.
 ghost use Rattle.std.specs.Prelude.{◌≡◌, IsTrue, None, option_map, true};
 ghost use Rattle.command_rules.specs.Rosters.{device_no, is_run, runs_of};
 ghost use Rattle.home_types.specs.declared.items.Item.TheVariants.{Ran};

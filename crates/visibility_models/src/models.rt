@@ -1,3 +1,4 @@
+//! Which models are strict.
 ghost use Rattle.std.specs.Prelude.{◌≡◌};
 ghost use Rattle.visibility_models.specs.Searches.{is_strict_model};
 

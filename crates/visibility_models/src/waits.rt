@@ -1,3 +1,4 @@
+//! For which run a model lets a run wait.
 ghost use Rattle.std.specs.Prelude.{◌≡◌, IsTrue, None, drop};
 ghost use Rattle.command_rules.specs.Items.{is_ran};
 ghost use Rattle.command_rules.specs.Rosters.{is_run, runs_of};

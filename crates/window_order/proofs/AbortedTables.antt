@@ -18,6 +18,7 @@ use Rattle.lock_leasing.specs.Configurations.{Grips}
 use Rattle.lock_leasing.specs.Tables.{uses}
 use Rattle.lock_leasing.specs.Words.{committed_write}
 use Rattle.std.proofs.Common.{ap, arith, refl, subst, sym, ◌∙◌}
+use Rattle.std.proofs.lemmas.Bool.{eqb-false, eqb-true}
 use Rattle.std.proofs.lemmas.Grind.{common_steps}
 use Rattle.std.specs.Option.{option_or}
 use Rattle.std.specs.Prelude.{Bool, List, None, Option, Some, [], false, fold, if◌then◌else◌, is_none, is_some, length, not, true, unwrap_or, ℕ, ◌&&◌, ◌+◌, ◌-◌, ◌==◌, ◌∷◌, ◌≡◌, ◌≢◌, ◌≤◌}
@@ -33,16 +34,10 @@ write_without : (n m : Reading) (d r : ℕ) (is : List Item) → write_by d (n.r
 write_without n m d r [] none others best = refl
 write_without n m d r (Ran q ∷ is) none others best = at_ (q.0 == r) refl (λ b. write_without n m d r is none others b)
   where
-    same : (x y : ℕ) → (x == y) ≡ true → x ≡ y
-    same x y e = grind (arith, common_steps)
-
-    other : (x y : ℕ) → (x == y) ≡ false → x ≢ y
-    other x y e k = grind (arith, common_steps)
-
     at_ : (b : Bool) → (q.0 == r) ≡ b → ((best : Option ℕ) → fold (λ b x. option_or (committed_write m d x) b) best (line_without r is) ≡ fold (λ b x. option_or (committed_write n d x) b) best is)
         → fold (λ b x. option_or (committed_write m d x) b) best (if not b then (Ran q ∷ line_without r is) else line_without r is) ≡ fold (λ b x. option_or (committed_write n d x) b) (option_or (committed_write n d (Ran q)) best) is
-    at_ true e ih = ih best ∙ ap (λ o. fold (λ b x. option_or (committed_write n d x) b) (option_or o best) is) (sym (ap (λ x. write_by d (n.run x)) (same q.0 r e) ∙ none))
-    at_ false e ih = ih (option_or (committed_write m d (Ran q)) best) ∙ ap (λ o. fold (λ b x. option_or (committed_write n d x) b) (option_or o best) is) (others q.0 (other q.0 r e))
+    at_ true e ih = ih best ∙ ap (λ o. fold (λ b x. option_or (committed_write n d x) b) (option_or o best) is) (sym (ap (λ x. write_by d (n.run x)) (eqb-true q.0 r e) ∙ none))
+    at_ false e ih = ih (option_or (committed_write m d (Ran q)) best) ∙ ap (λ o. fold (λ b x. option_or (committed_write n d x) b) (option_or o best) is) (others q.0 (eqb-false q.0 r e))
 write_without n m d r (Failed e k ∷ is) none others best = write_without n m d r is none others best
 write_without n m d r (Back e k ∷ is) none others best = write_without n m d r is none others best
 

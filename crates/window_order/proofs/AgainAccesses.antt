@@ -11,6 +11,7 @@ use Rattle.lineage_table.specs.declared.accesses.Access.{Access}
 use Rattle.lineage_table.specs.declared.accesses.Status.TheVariants.{Acquired, Released, Scheduled}
 use Rattle.lineage_table.specs.declared.accesses.Status.{Status}
 use Rattle.std.proofs.Common.{ap, append_assoc, arith, length-append, refl, subst, sym, ◌∙◌}
+use Rattle.std.proofs.lemmas.Bool.{or_parts}
 use Rattle.std.proofs.lemmas.Grind.{common_steps}
 use Rattle.std.proofs.lemmas.List.Folds.{list_any-append}
 use Rattle.std.proofs.lemmas.List.{append-nil}
@@ -20,9 +21,6 @@ use Rattle.std.specs.Prelude.{Bool, List, None, Option, Some, [], false, if◌th
 use Rattle.window_order.proofs.AccessLists.{again_from_at, again_run, from_at}
 use Rattle.window_order.proofs.PassedAccesses.{alone}
 use Rattle.window_order.specs.TableChanges.{IsNewOn, accesses_from, first_with_access, from_run, rescheduled, waits_again, with_again, with_again_from}
-
-neither : (a b : Bool) → (a || b) ≡ false → (a ≡ false) × (b ≡ false)
-neither a b h = (grind (arith, common_steps), grind (arith, common_steps))
 
 same : (a b : ℕ) → (a == b) ≡ true → a ≡ b
 same a b h = grind (arith, common_steps)
@@ -62,12 +60,12 @@ lacks_behind q x a b own pairs = each b (pairs_back AreOfTwoRuns a (x ∷ b) pai
 
 from_past : (r : ℕ) (a : List Access) (x : Access) (b : List Access) → has_access r a ≡ false → is_of r x ≡ false → from_run r (a ++ x ∷ b) ≡ from_run r b
 from_past r [] x b none other = λ i. if other i then (x ∷ b) else from_run r b
-from_past r (y ∷ a) x b none other = let p = neither (is_of r y) (has_access r a) none in (λ i. if p.0 i then (y ∷ (a ++ x ∷ b)) else from_run r (a ++ x ∷ b)) ∙ from_past r a x b p.1 other
+from_past r (y ∷ a) x b none other = let p = or_parts (is_of r y) (has_access r a) none in (λ i. if p.0 i then (y ∷ (a ++ x ∷ b)) else from_run r (a ++ x ∷ b)) ∙ from_past r a x b p.1 other
 
 again_past : (r : ℕ) (a : List Access) (x : Access) (b : List Access) → has_access r a ≡ false → is_of r x ≡ false → with_again_from r (a ++ x ∷ b) ≡ a ++ x ∷ with_again_from r b
 again_past r [] x b none other = λ i. if other i then (waits_again x ∷ map waits_again b) else (x ∷ with_again_from r b)
 again_past r (y ∷ a) x b none other =
-    let p = neither (is_of r y) (has_access r a) none in
+    let p = or_parts (is_of r y) (has_access r a) none in
     (λ i. if p.0 i then (waits_again y ∷ map waits_again (a ++ x ∷ b)) else (y ∷ with_again_from r (a ++ x ∷ b))) ∙ ap (λ l. y ∷ l) (again_past r a x b p.1 other)
 
 has_again : (q : ℕ) (xs : List Access) → has_access q (map waits_again xs) ≡ has_access q xs
@@ -158,11 +156,11 @@ module _ (q : RunNo) (x : Access) (s : LineageState) (disciplined : IsDiscipline
     put = ap (λ l. l ++ again ∷ []) (append-nil cut.front);
   }
   behind_it (z ∷ b) list none = record {
-    unused_ = ap some_acquired from_next ∙ (neither (is_acquired x.status) (some_acquired (z ∷ b)) none).1;
+    unused_ = ap some_acquired from_next ∙ (or_parts (is_acquired x.status) (some_acquired (z ∷ b)) none).1;
     fewer_ = less;
     after = ap (with_again_from z.run.0) list ∙ again_past z.run.0 cut.front x (z ∷ b) apart.0 apart.1 ∙ (λ i. cut.front ++ x ∷ (if self z i then (waits_again z ∷ map waits_again b) else (z ∷ with_again_from z.run.0 b)));
     before_ = λ r h. subst (λ (y : RunNo). status_of y.0 (cut.front ++ waits_again z ∷ map waits_again b) ≡ Some Scheduled) (the r h)
-        (status_at z.run.0 cut.front (waits_again z) (map waits_again b) apart.0 again_own ∙ ap (λ t. Some t) (again_waits z (neither (is_acquired z.status) (some_acquired b) (neither (is_acquired x.status) (some_acquired (z ∷ b)) none).1).0));
+        (status_at z.run.0 cut.front (waits_again z) (map waits_again b) apart.0 again_own ∙ ap (λ t. Some t) (again_waits z (or_parts (is_acquired z.status) (some_acquired b) (or_parts (is_acquired x.status) (some_acquired (z ∷ b)) none).1).0));
     put = put_at z.run.0 again cut.front (waits_again z) (map waits_again b) apart.0 again_own;
   }
     where
@@ -180,8 +178,8 @@ module _ (q : RunNo) (x : Access) (s : LineageState) (disciplined : IsDiscipline
 
       apart : (has_access z.run.0 cut.front ≡ false) × (is_of z.run.0 x ≡ false)
       apart =
-          let parts = neither (has_access z.run.0 cut.front) (is_of z.run.0 x || false) (sym (list_any-append (is_of z.run.0) cut.front (x ∷ [])) ∙ alone z (cut.front ++ x ∷ []) b (subst (Pairs AreOfTwoRuns) whole (pairs_from_all AreOfTwoRuns s.accesses disciplined.one_each))) in
-          (parts.0, (neither (is_of z.run.0 x) false parts.1).0)
+          let parts = or_parts (has_access z.run.0 cut.front) (is_of z.run.0 x || false) (sym (list_any-append (is_of z.run.0) cut.front (x ∷ [])) ∙ alone z (cut.front ++ x ∷ []) b (subst (Pairs AreOfTwoRuns) whole (pairs_from_all AreOfTwoRuns s.accesses disciplined.one_each))) in
+          (parts.0, (or_parts (is_of z.run.0 x) false parts.1).0)
 
       from_next : from_run z.run.0 s.accesses ≡ z ∷ b
       from_next = ap (from_run z.run.0) list ∙ from_past z.run.0 cut.front x (z ∷ b) apart.0 apart.1 ∙ (λ i. if self z i then (z ∷ b) else from_run z.run.0 b)
@@ -254,7 +252,7 @@ waits_from q (x ∷ xs) there unused = by_run (is_of q x) refl there unused (wai
         → status_of q (if b then (waits_again x ∷ map waits_again xs) else (x ∷ with_again_from q xs)) ≡ Some Scheduled
     by_run true e there unused rest =
         (λ i. option_map (λ (y : Access). y.status) (if (ap (λ (o : RunNo). o.0 == q) (again_run x) ∙ e) i then Some (waits_again x) else access_of q (map waits_again xs)))
-        ∙ ap (λ t. Some t) (again_waits x (neither (is_acquired x.status) (some_acquired xs) unused).0)
+        ∙ ap (λ t. Some t) (again_waits x (or_parts (is_acquired x.status) (some_acquired xs) unused).0)
     by_run false e there unused rest = (λ i. option_map (λ (y : Access). y.status) (if e i then Some x else access_of q (with_again_from q xs))) ∙ rest there unused
 
 -- the run that is found has an access

@@ -21,6 +21,7 @@ use Rattle.home_types.specs.declared.commands.Command.{Command}
 use Rattle.lock_leasing.specs.Configurations.{Grips, is_out}
 use Rattle.lock_leasing.specs.Waits.{behind_wait, busy_wait, grip_wait}
 use Rattle.std.proofs.Common.{ap, arith, inl, inr, refl, subst, sym, ◌∙◌}
+use Rattle.std.proofs.lemmas.Bool.{both_ways, eq-eqb, or_left}
 use Rattle.std.proofs.lemmas.Grind.{common_steps}
 use Rattle.std.specs.Prelude.{Bool, List, None, Option, Some, drop, false, is_some, not, option_map, true, unwrap_or, ℕ, ◌&&◌, ◌+◌, ◌==◌, ◌||◌, ◌∷◌, ◌≡◌, ◌≢◌}
 use Rattle.window_order.proofs.Firsts.{IsNewest, below_home, calm_behind, device_order_at, did_history, seen_view}
@@ -63,10 +64,7 @@ told_touches w n g held r c s = next_used (run_state w n g r) c (drop (next_of n
 
 -- it is open there
 pub told_open : (w : Setting) (n : Reading) (g : Grips) (held : ℕ → ℕ) (r : ℕ) (c : Command) → IsToldDown w n g held r c → stage_is_open (usage w.kinds (run_state w n g r) c.device.0).stage ≡ true
-told_open w n g held r c s = λ i. stage_is_open (stage_of (live_uncommitted n r s.live i) (is_some (s.sound i)) ((ap (uses c.device.0) (told_left w n g held r c s) ∙ self c.device.0 (uses c.device.0 (drop (next_of n r + 1) (commands_of w.runs r)))) i))
-  where
-    self : (x : ℕ) (b : Bool) → ((x == x) || b) ≡ true
-    self x b = grind (arith, common_steps)
+told_open w n g held r c s = λ i. stage_is_open (stage_of (live_uncommitted n r s.live i) (is_some (s.sound i)) ((ap (uses c.device.0) (told_left w n g held r c s) ∙ or_left (c.device.0 == c.device.0) (uses c.device.0 (drop (next_of n r + 1) (commands_of w.runs r))) (eq-eqb c.device.0 c.device.0 refl)) i))
 
 -- the run sees the device down, or it is its first answer there and the device is home and counted down
 told_may : (w : Setting) (n : Reading) (g : Grips) (held : ℕ → ℕ) (r : ℕ) (c : Command) (cut : CutAt r n.line) → IsToldDown w n g held r c → MayAnswerDown w.kinds (window_of w n g held) c.device.0 cut.front (device_summary w.kinds (run_state w n g r) c.device.0).view
@@ -123,7 +121,7 @@ told_kept w n g held r s misses = record {
     live = live_uncommitted n r s.live;
     counts = ap is_some s.sound;
     free = held_none w g r c.device.0 (told_holds w n g held r c s);
-    must = λ h. absurd (clash (fails c Down) h misses);
+    must = λ h. absurd (both_ways (fails c Down) misses h);
     may = told_may w n g held r c cut s;
     still = λ e. record { up = refl; held = refl; probe = refl };
   }) s.kept.window;
@@ -144,9 +142,6 @@ told_kept w n g held r s misses = record {
 
     cut : CutAt r n.line
     cut = cut_live w n r s.read s.live
-
-    clash : (b : Bool) → b ≡ true → b ≡ false → ⊥
-    clash b h k = grind (arith, common_steps)
 
     answer : GetsAnswer (run_state w n g r) (run_state w next (put g c.device.0 None) r) c later Down (is_doomed n r)
     answer = gets_answer w n g r (next_of n r) Down refl (next_is (commands_of w.runs r) (next_of n r) c s.next).0

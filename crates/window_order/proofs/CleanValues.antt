@@ -32,6 +32,7 @@ use Rattle.home_types.specs.declared.items.Item.{Item}
 use Rattle.lock_leasing.specs.Configurations.{Commands, Grips, grips_undo, is_command, is_undo, no_grips}
 use Rattle.lock_leasing.specs.Words.{Write, committed_write, effective_write, has_effect, is_undone, last_some, live_before, live_runs, write_of}
 use Rattle.std.proofs.Common.{ap, ap₂, arith, inl, inr, refl, subst, sym, ◌∙◌, ◌⊎◌}
+use Rattle.std.proofs.lemmas.Bool.{and_right, both_ways, eq-eqb, or_parts, or_right}
 use Rattle.std.proofs.lemmas.Grind.{common_steps, fold-append}
 use Rattle.std.proofs.lemmas.List.Sums.{take_while-cons}
 use Rattle.std.specs.List.{cons_option, list_any}
@@ -43,9 +44,6 @@ use Rattle.window_order.proofs.SettledOrders.{value_along}
 use Rattle.window_order.proofs.StandingValues.{ActsOn, acts_on, live_stands, writer_on_line}
 use Rattle.window_order.specs.OrderKept.{OrderIsKept}
 use Rattle.window_order.specs.ReadWindows.{held_by, run_state, window_of}
-
-clash : (x : Bool) → x ≡ true → x ≡ false → ⊥
-clash x e f = grind (arith, common_steps)
 
 -- Lines
 
@@ -137,12 +135,8 @@ last_write_at : (n : Reading) (g : Grips) (d : ℕ) (line : List Item) (e : Writ
 last_write_at n g d [] e h = absurd (cc)
 last_write_at n g d (i ∷ is) e h = by (λ k. last_write_at n g d is e k) (last_some (write_of n g d) is) (write_of n g d i) refl refl (sym (last_some_cut (write_of n g d) [] is i) ∙ h)
   where
-    either : (b : Bool) → (b || true) ≡ true
-    either true = refl
-    either false = refl
-
     by : (last_some (write_of n g d) is ≡ Some e → list_any (is_ran e.run) is ≡ true) → (x y : Option Write) → last_some (write_of n g d) is ≡ x → write_of n g d i ≡ y → option_or (last_some (write_of n g d) is) (option_or (write_of n g d i) None) ≡ Some e → list_any (is_ran e.run) (i ∷ is) ≡ true
-    by ih (Some z) y f k m = ap (λ b. is_ran e.run i || b) (ih (f ∙ sym (ap (λ o. option_or o (option_or (write_of n g d i) None)) f) ∙ m)) ∙ either (is_ran e.run i)
+    by ih (Some z) y f k m = ap (λ b. is_ran e.run i || b) (ih (f ∙ sym (ap (λ o. option_or o (option_or (write_of n g d i) None)) f) ∙ m)) ∙ or_right (is_ran e.run i) true refl
     by ih None (Some z) f k m = ap (λ b. b || list_any (is_ran e.run) is) (write_at n g d i e (k ∙ sym (ap₂ (λ o p. option_or o (option_or p None)) f k) ∙ m))
     by ih None None f k m = absurd (none (sym (ap₂ (λ o p. option_or o (option_or p None)) f k) ∙ m))
       where
@@ -156,11 +150,8 @@ not_live_there n k (Failed d j ∷ is) h = not_live_there n k is h
 not_live_there n k (Back d j ∷ is) h = not_live_there n k is h
 not_live_there n k (Ran q ∷ is) h = at_ (not_live_there n k is (later h)) (is_live n q.0) (k == q.0) refl refl
   where
-    back : (x y : Bool) → (x || y) ≡ false → y ≡ false
-    back x y e = grind (arith, common_steps)
-
     later : (list_any (is_ran k) (Ran q ∷ is) ≡ false) ⊎ (is_live n k ≡ false) → (list_any (is_ran k) is ≡ false) ⊎ (is_live n k ≡ false)
-    later (inl e) = inl (back (q.0 == k) (list_any (is_ran k) is) e)
+    later (inl e) = inl (or_parts (q.0 == k) (list_any (is_ran k) is) e).1
     later (inr e) = inr e
 
     same : (k == q.0) ≡ true → k ≡ q.0
@@ -170,8 +161,8 @@ not_live_there n k (Ran q ∷ is) h = at_ (not_live_there n k is (later h)) (is_
     turned e = grind (arith, common_steps)
 
     never : (list_any (is_ran k) (Ran q ∷ is) ≡ false) ⊎ (is_live n k ≡ false) → is_live n q.0 ≡ true → k ≡ q.0 → ⊥
-    never (inl e) f g = clash (list_any (is_ran k) (Ran q ∷ is)) (ap (λ b. b || list_any (is_ran k) is) (turned g)) e
-    never (inr e) f g = clash (is_live n q.0) f (subst (λ x. is_live n x ≡ false) g e)
+    never (inl e) f g = both_ways (list_any (is_ran k) (Ran q ∷ is)) e (ap (λ b. b || list_any (is_ran k) is) (turned g))
+    never (inr e) f g = both_ways (is_live n q.0) (subst (λ x. is_live n x ≡ false) g e) f
 
     at_ : list_any (λ x. k == x) (live_runs n is) ≡ false → (x y : Bool) → is_live n q.0 ≡ x → (k == q.0) ≡ y → list_any (λ x. k == x) (cons_option (if x then Some q.0 else None) (live_runs n is)) ≡ false
     at_ ih true true e f = absurd (never h e (same f))
@@ -210,7 +201,7 @@ reads_at : (w : Setting) (n : Reading) (g : Grips) (held : ℕ → ℕ) (d r k :
 reads_at w n g held d r k s o device h =
     let acts : ActsOn w n r d = acts_on w n g held r d o (ap (λ x. unwrap_or (option_map (λ p. (p.maker == r) && is_command p.purpose) x) false) h.out ∙ own r) in
     let line : n.line ≡ before r n.line ++ Ran (run_no r) ∷ behind r n.line = cut_before r n.line (live_stands w n r s acts.live) in
-    let grip : (usage w.kinds (run_state w n g r) d).grip ≡ Reads = ap (held_by w r) h.out ∙ to_read (r == r) (reads (command_at w.runs r k).job) (same r) h.reading in
+    let grip : (usage w.kinds (run_state w n g r) d).grip ≡ Reads = ap (held_by w r) h.out ∙ to_read (r == r) (reads (command_at w.runs r k).job) (eq-eqb r r refl) h.reading in
     let order : entries w.kinds (λ q. run_state w n g q) d n.line ≡ entries w.kinds (λ q. run_state w n g q) d (before r n.line) ++ Used (usage w.kinds (run_state w n g r) d) ∷ entries w.kinds (λ q. run_state w n g q) d (behind r n.line) =
     ap (entries w.kinds (λ q. run_state w n g q) d) line ∙ used_at w.kinds (λ q. run_state w n g q) d r (before r n.line) (behind r n.line) acts.uses in
     let kept : DeviceInvariant (device_of w.kinds (window_of w n g held) d) = o.window.devices d (device_below w d device) in
@@ -226,9 +217,6 @@ reads_at w n g held d r k s o device h =
   where
     own : (r : ℕ) → ((r == r) && true) ≡ true
     own r = grind (arith, common_steps)
-
-    same : (k : ℕ) → (k == k) ≡ true
-    same k = grind (arith, common_steps)
 
     to_read : (x y : Bool) → x ≡ true → y ≡ true → (if x then (if y then Reads else Writes) else Free) ≡ Reads
     to_read true true e f = refl
@@ -277,11 +265,7 @@ writer_behind w n g held d r k s out at e h =
     same x = grind (arith, common_steps)
 
     no_undo : grips_undo g r d ≡ false
-    no_undo = ap (λ x. unwrap_or (option_map (λ p. (p.maker == r) && is_undo p.purpose) x) false) out ∙ never (r == r)
-      where
-        never : (b : Bool) → (b && false) ≡ false
-        never true = refl
-        never false = refl
+    no_undo = ap (λ x. unwrap_or (option_map (λ p. (p.maker == r) && is_undo p.purpose) x) false) out ∙ and_right (r == r) false refl
 
     writes : Option ℕ → Bool → Option Write
     writes v x = if x then None else option_map (λ v. record { run = r; value = v }) v
@@ -310,11 +294,7 @@ none_dirty w n g held d r k s o device h =
     no_effect_there n (effective_write n no_grips d) (before r n.line) (λ e f. writer_behind w n g held d r k s h.out (reads_at w n g held d r k s o device h) e (sym same_effect ∙ f))
   where
     no_undo : (q : ℕ) → grips_undo g q d ≡ false
-    no_undo q = ap (λ x. unwrap_or (option_map (λ p. (p.maker == q) && is_undo p.purpose) x) false) h.out ∙ never (r == q)
-      where
-        never : (b : Bool) → (b && false) ≡ false
-        never true = refl
-        never false = refl
+    no_undo q = ap (λ x. unwrap_or (option_map (λ p. (p.maker == q) && is_undo p.purpose) x) false) h.out ∙ and_right (r == q) false refl
 
     same_write : (i : Item) → write_of n no_grips d i ≡ write_of n g d i
     same_write (Ran q) = ap (λ x. if (((n.run q.0).on d).undid || x) then None else option_map (λ v. record { run = q.0; value = v }) ((n.run q.0).on d).wrote) (sym (no_undo q.0))

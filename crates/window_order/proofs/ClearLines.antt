@@ -14,6 +14,7 @@ use Rattle.lock_leasing.specs.Configurations.{Grips, grips_command}
 use Rattle.lock_leasing.specs.Places.{IsClear, binds}
 use Rattle.lock_leasing.specs.Words.{has_touched}
 use Rattle.std.proofs.Common.{ap, arith, refl, sym, ◌∙◌}
+use Rattle.std.proofs.lemmas.Bool.{eqb-true, or_parts}
 use Rattle.std.proofs.lemmas.Grind.{common_steps}
 use Rattle.std.specs.List.{list_any}
 use Rattle.std.specs.Prelude.{Bool, List, [], drop, false, is_some, not, true, ℕ, ◌&&◌, ◌==◌, ◌||◌, ◌∷◌, ◌≡◌}
@@ -41,19 +42,13 @@ clear_written w n g r at d read clear device used = none_beside (of_run (λ x. h
 pub clear_run : (w : Setting) (n : Reading) (g : Grips) (r at d x : ℕ) → IsClear w n g r at → is_device w d ≡ true → touches w.runs r d ≡ true → list_any (is_ran x) (drop at n.line) ≡ true → has_touched n g x d ≡ false
 clear_run w n g r at d x clear device used there = found (drop at n.line) (clear_touch w n g r at d clear device used) there
   where
-    same : (a b : ℕ) → (a == b) ≡ true → a ≡ b
-    same a b h = grind (arith, common_steps)
-
-    neither : (a b : Bool) → (a || b) ≡ false → (a ≡ false) × (b ≡ false)
-    neither a b h = (grind (arith, common_steps), grind (arith, common_steps))
-
     found : (is : List Item) → list_any (of_run (λ q. has_touched n g q d)) is ≡ false → list_any (is_ran x) is ≡ true → has_touched n g x d ≡ false
     found [] none there = absurd (cc)
-    found (Ran q ∷ is) none there = at_ (neither (has_touched n g q.0 d) (list_any (of_run (λ y. has_touched n g y d)) is) none) (found is) (q.0 == x) refl there
+    found (Ran q ∷ is) none there = at_ (or_parts (has_touched n g q.0 d) (list_any (of_run (λ y. has_touched n g y d)) is) none) (found is) (q.0 == x) refl there
       where
         at_ : (has_touched n g q.0 d ≡ false) × (list_any (of_run (λ y. has_touched n g y d)) is ≡ false) → (list_any (of_run (λ y. has_touched n g y d)) is ≡ false → list_any (is_ran x) is ≡ true → has_touched n g x d ≡ false)
             → (b : Bool) → (q.0 == x) ≡ b → (b || list_any (is_ran x) is) ≡ true → has_touched n g x d ≡ false
-        at_ parts ih true e h = sym (ap (λ y. has_touched n g y d) (same q.0 x e)) ∙ parts.0
+        at_ parts ih true e h = sym (ap (λ y. has_touched n g y d) (eqb-true q.0 x e)) ∙ parts.0
         at_ parts ih false e h = ih parts.1 h
     found (Failed e k ∷ is) none there = found is none there
     found (Back e k ∷ is) none there = found is none there
@@ -63,9 +58,6 @@ pub calm_place : (w : Setting) (n : Reading) (g : Grips) (held : ℕ → ℕ) (r
 unfolding is_calm_line
 calm_place w n g held r at d read clear device used = along (drop at n.line) clear
   where
-    neither : (a b : Bool) → (a || b) ≡ false → (a ≡ false) × (b ≡ false)
-    neither a b h = (grind (arith, common_steps), grind (arith, common_steps))
-
     -- the use of a run that has not touched the device
     untouched : (q : RunNo) → has_touched n g q.0 d ≡ false → at_device w.kinds (window_of w n g held).states d usage_has_touched q.0 ≡ false
     untouched q none = none_used (uses d (commands_of w.runs q.0)) (is_some (device_summary w.kinds (run_state w n g q.0) d).view) (holds_command (held_by w q.0 (g d))) (did n q.0 d) (grips_command g q.0 d) view (command_held w g q.0 d) none
@@ -82,6 +74,6 @@ calm_place w n g held r at d read clear device used = along (drop at n.line) cle
 
     along : (is : List Item) → list_any (binds w n g r) is ≡ false → is_calm_line w.kinds (window_of w n g held).states d is ≡ true
     along [] none = refl
-    along (Ran q ∷ is) none = let parts = neither (binds w n g r (Ran q)) (list_any (binds w n g r) is) none in λ i. not (untouched q (unbound_touch w n g r d q parts.0 device used) i) && along is parts.1 i
-    along (Failed e k ∷ is) none = let parts = neither (binds w n g r (Failed e k)) (list_any (binds w n g r) is) none in λ i. not (apart e.0 parts.0 (e.0 == d) refl i) && along is parts.1 i
-    along (Back e k ∷ is) none = let parts = neither (binds w n g r (Back e k)) (list_any (binds w n g r) is) none in λ i. not (apart e.0 parts.0 (e.0 == d) refl i) && along is parts.1 i
+    along (Ran q ∷ is) none = let parts = or_parts (binds w n g r (Ran q)) (list_any (binds w n g r) is) none in λ i. not (untouched q (unbound_touch w n g r d q parts.0 device used) i) && along is parts.1 i
+    along (Failed e k ∷ is) none = let parts = or_parts (binds w n g r (Failed e k)) (list_any (binds w n g r) is) none in λ i. not (apart e.0 parts.0 (e.0 == d) refl i) && along is parts.1 i
+    along (Back e k ∷ is) none = let parts = or_parts (binds w n g r (Back e k)) (list_any (binds w n g r) is) none in λ i. not (apart e.0 parts.0 (e.0 == d) refl i) && along is parts.1 i

@@ -13,6 +13,7 @@ use Rattle.home_types.specs.declared.commands.Answer.{Answer}
 use Rattle.home_types.specs.declared.commands.Command.{Command}
 use Rattle.home_types.specs.declared.numbers.RunNo.{RunNo}
 use Rattle.std.proofs.Common.{ap, arith, cond, length-append, refl, subst, sym, ◌∙◌}
+use Rattle.std.proofs.lemmas.Bool.{eq-eqb, eqb-false, eqb-true}
 use Rattle.std.proofs.lemmas.Grind.{common_steps}
 use Rattle.std.proofs.lemmas.List.Folds.{list_any-append}
 use Rattle.std.proofs.lemmas.List.Sums.{take_while-cons}
@@ -32,11 +33,8 @@ SpansClose w n = (r d : ℕ) → did n r d ≡ true → pends w n r d ≡ false 
 taken_last : (r : ℕ) (xs more : List Mark) → take_while (λ x. not (is_last r x)) (xs ++ Last r ∷ more) ≡ take_while (λ x. not (is_last r x)) (xs ++ Last r ∷ [])
 taken_last r [] more = ends more ∙ sym (ends [])
   where
-    self : (x : ℕ) → (x == x) ≡ true
-    self x = grind (arith, common_steps)
-
     ends : (ms : List Mark) → take_while (λ x. not (is_last r x)) (Last r ∷ ms) ≡ []
-    ends ms = take_while-cons (λ x. not (is_last r x)) (Last r) ms ∙ ap (λ b. cond (not b) (Last r ∷ take_while (λ x. not (is_last r x)) ms) []) (self r)
+    ends ms = take_while-cons (λ x. not (is_last r x)) (Last r) ms ∙ ap (λ b. cond (not b) (Last r ∷ take_while (λ x. not (is_last r x)) ms) []) (eq-eqb r r refl)
 taken_last r (x ∷ xs) more =
     take_while-cons (λ y. not (is_last r y)) x (xs ++ Last r ∷ more) ∙ ap (λ l. cond (not (is_last r x)) (x ∷ l) []) (taken_last r xs more)
     ∙ sym (take_while-cons (λ y. not (is_last r y)) x (xs ++ Last r ∷ []))
@@ -90,12 +88,6 @@ did_closed w n r k a number more logged s q e has none = by_device (e == d) refl
     next : Reading
     next = entry w n (Did r k a)
 
-    same : (x y : ℕ) → (x == y) ≡ true → x ≡ y
-    same x y h = grind (arith, common_steps)
-
-    differ : (x y : ℕ) → (x == y) ≡ false → x ≢ y
-    differ x y h = grind (arith, common_steps)
-
     unlike : (x y : ℕ) → x ≢ y → (y == x) ≡ false
     unlike x y h = grind (arith, common_steps)
 
@@ -128,8 +120,8 @@ did_closed w n r k a number more logged s q e has none = by_device (e == d) refl
     )
 
     elsewhere : e ≢ d → (b : Bool) → (q == r.0) ≡ b → IsClosed q (n.log e)
-    elsewhere ne true own = let old = own_elsewhere (same q r.0 own) ne in s q e old.0 old.1
-    elsewhere ne false own = let old = other_run (differ q r.0 own) in s q e old.0 old.1
+    elsewhere ne true own = let old = own_elsewhere (eqb-true q r.0 own) ne in s q e old.0 old.1
+    elsewhere ne false own = let old = other_run (eqb-false q r.0 own) in s q e old.0 old.1
 
     first_in : (b : Bool) → list_any (is_first r.0) (more_if b (Last r.0) mid) ≡ true → list_any (is_first r.0) mid ≡ true
     first_in true h = no_last (list_any (is_first r.0) mid) (sym (list_any-append (is_first r.0) mid (Last r.0 ∷ [])) ∙ h)
@@ -156,12 +148,12 @@ did_closed w n r k a number more logged s q e has none = by_device (e == d) refl
         subst (λ x. IsClosed q (next.log x)) (sym here) (subst (IsClosed q) (sym log_is) (closed_more q mid last (Last r.0) (closed_more q (n.log d) (is_access a && is_none ((n.run r.0).on d).view) (First r.0) (subst (λ x. IsClosed q (n.log x)) here (s q e old.0 old.1)))))
 
     by_run : e ≡ d → (b : Bool) → (q == r.0) ≡ b → IsClosed q (next.log e)
-    by_run here true own = its_own (same q r.0 own) here
-    by_run here false own = others (differ q r.0 own) here
+    by_run here true own = its_own (eqb-true q r.0 own) here
+    by_run here false own = others (eqb-false q r.0 own) here
 
     by_device : (b : Bool) → (e == d) ≡ b → IsClosed q (next.log e)
-    by_device true here = by_run (same e d here) (q == r.0) refl
-    by_device false there = subst (IsClosed q) (sym (put_other n.log d _ e (differ e d there))) (elsewhere (differ e d there) (q == r.0) refl)
+    by_device true here = by_run (eqb-true e d here) (q == r.0) refl
+    by_device false there = subst (IsClosed q) (sym (put_other n.log d _ e (eqb-false e d there))) (elsewhere (eqb-false e d there) (q == r.0) refl)
 
 pub closed_step : (w : Setting) (n : Reading) (e : Entry) → IsTrue (may_follow w n e) → Logged w n → SpansClose w n → SpansClose w (entry w n e)
 closed_step w n (Arrived r m) ok logs s = same_closed w n (entry w n (Arrived r m)) r.0 _ refl refl refl (λ d. refl) s

@@ -24,6 +24,7 @@ use Rattle.home_types.specs.declared.items.Item.{Item}
 use Rattle.lock_leasing.specs.Configurations.{Commands, Grips}
 use Rattle.lock_leasing.specs.Order.{InHistoryOrder, is_in_line, is_late}
 use Rattle.std.proofs.Common.{ap, arith, inl, inr, refl, subst, sym, ◌∙◌}
+use Rattle.std.proofs.lemmas.Bool.{and_right, both_ways, eqb-false, eqb-true, or_right}
 use Rattle.std.proofs.lemmas.Grind.{common_steps}
 use Rattle.std.proofs.lemmas.List.Folds.{list_any-append}
 use Rattle.std.specs.List.{list_any}
@@ -174,9 +175,6 @@ failed_newest w n m g held r k s turn = by_place (failed_cut w n g held r k s).b
     waits : (a l y p v : Bool) → a ≡ false → l ≡ true → y ≡ false → p ≡ true → v ≡ false → (not a && (l && not y && p) && not v) ≡ true
     waits a l y p v h j e f z = grind (arith, common_steps)
 
-    clash : (b : Bool) → b ≡ true → b ≡ false → ⊥
-    clash b h j = grind (arith, common_steps)
-
     by_place : (back ≡ cut.back) ⊎ ((t (Ran (run_no r)) ≡ false) × (back ≡ put_before t x cut.back)) → IsNewest m d r back
     by_place (inl same) = record {
       unseen = λ none. ap (list_any (of_run (λ q. did m q d))) same ∙ unseen_same cut.back ∙ old.unseen (unseen none);
@@ -184,7 +182,7 @@ failed_newest w n m g held r k s turn = by_place (failed_cut w n g held r k s).b
     }
     by_place (inr behind) = record {
       unseen = λ none. unseen_same back ∙ ap (list_any (of_run (λ q. did n q d))) behind.1 ∙ any_put_before (of_run (λ q. did n q d)) t x cut.back ∙ old.unseen (unseen none);
-      calm = λ none sound. absurd (clash (awaits_there w n d r) (waits (is_weak w.mode) (is_live n r) (is_doomed n r) (pends w n r d) (did n r d) s.strong s.out.live (turn.doomed r sound) (called_pends w n g held r k s) (unseen none)) behind.0);
+      calm = λ none sound. absurd (both_ways (awaits_there w n d r) behind.0 (waits (is_weak w.mode) (is_live n r) (is_doomed n r) (pends w n r d) (did n r d) s.strong s.out.live (turn.doomed r sound) (called_pends w n g held r k s) (unseen none)));
     }
 
 -- the answer keeps the order of the history, where the failure did
@@ -223,32 +221,17 @@ falls w n g held r k s lost = record {
     d : ℕ
     d = (command_at w.runs r k).device.0
 
-    equal : (y z : ℕ) → (y == z) ≡ true → y ≡ z
-    equal y z h = grind (arith, common_steps)
-
-    differ : (y z : ℕ) → (y == z) ≡ false → y ≢ z
-    differ y z h = grind (arith, common_steps)
-
-    gripped : (a b : Bool) → b ≡ true → (a || b) ≡ true
-    gripped a b h = grind (arith, common_steps)
-
     blind : (v : Option Bool) → is_some v ≡ false → unwrap_or v false ≡ false
     blind None h = refl
     blind (Some b) h = absurd (cc)
 
     unseen : (b : Bool) → did n r d ≡ b → is_doomed n r ≡ false → did n r d ≡ false
-    unseen true e sound = absurd (clash (is_doomed n r) (lost e) sound)
-      where
-        clash : (b : Bool) → b ≡ true → b ≡ false → ⊥
-        clash b h j = grind (arith, common_steps)
+    unseen true e sound = absurd (both_ways (is_doomed n r) sound (lost e))
     unseen false e sound = e
 
-    off : (a b : Bool) → b ≡ false → (a && b) ≡ false
-    off a b h = grind (arith, common_steps)
-
     by_run : (q : ℕ) → is_in_line n q ≡ true → is_doomed n q ≡ false → (b : Bool) → (q == r) ≡ b → (is_open w n q d && sees_up n q d) ≡ false
-    by_run q stands sound true own = ap (λ y. is_open w n y d && sees_up n y d) (equal q r own) ∙ off (is_open w n r d) (sees_up n r d) (blind (view_of n r d) (unseen (did n r d) refl (ap (is_doomed n) (sym (equal q r own)) ∙ sound)))
-    by_run q stands sound false other = out_spans_none w n g held d r (called_cut w n g held r k s) s.read s.kept (called_device w n g held r k s) (called_touches w n g held r k s) (gripped _ _ (called_command w n g held r k s)) q stands (differ q r other)
+    by_run q stands sound true own = ap (λ y. is_open w n y d && sees_up n y d) (eqb-true q r own) ∙ and_right (is_open w n r d) (sees_up n r d) (blind (view_of n r d) (unseen (did n r d) refl (ap (is_doomed n) (sym (eqb-true q r own)) ∙ sound)))
+    by_run q stands sound false other = out_spans_none w n g held d r (called_cut w n g held r k s) s.read s.kept (called_device w n g held r k s) (called_touches w n g held r k s) (or_right _ _ (called_command w n g held r k s)) q stands (eqb-false q r other)
 
 -- .. or with its doom
 falls_doomed : (w : Setting) (n : Reading) (g : Grips) (held : ℕ → ℕ) (r k : ℕ) (s : IsCalled w n g held r k) (cause : Cause) → Turns w n (entry w (entry w n (Fell (command_at w.runs r k).device)) (Doomed (run_no r) cause)) (command_at w.runs r k).device.0 (failure_of w n r k)
@@ -261,14 +244,11 @@ falls_doomed w n g held r k s cause = record {
   view = λ q e. put_keeps (λ o. (o.on e).view) n.run r _ refl q;
   late = λ q e. put_keeps (λ o. (o.on e).late) n.run r _ refl q;
   doomed = λ q h. sound_before w (entry w n (Fell (command_at w.runs r k).device)) r cause q h;
-  none_spans = λ q stands sound. out_spans_none w n g held d r (called_cut w n g held r k s) s.read s.kept (called_device w n g held r k s) (called_touches w n g held r k s) (gripped _ _ (called_command w n g held r k s)) q stands (λ own. doomed_now q own sound);
+  none_spans = λ q stands sound. out_spans_none w n g held d r (called_cut w n g held r k s) s.read s.kept (called_device w n g held r k s) (called_touches w n g held r k s) (or_right _ _ (called_command w n g held r k s)) q stands (λ own. doomed_now q own sound);
 }
   where
     d : ℕ
     d = (command_at w.runs r k).device.0
-
-    gripped : (a b : Bool) → b ≡ true → (a || b) ≡ true
-    gripped a b h = grind (arith, common_steps)
 
     doomed_now : (q : ℕ) → q ≡ r → is_doomed (entry w (entry w n (Fell (command_at w.runs r k).device)) (Doomed (run_no r) cause)) q ≡ false → ⊥
     doomed_now q own sound = clash (sym (ap (λ (o : OfRun). is_some o.doomed) (put_same n.run r (doomed_of (n.run r) cause))) ∙ ap (is_doomed (entry w (entry w n (Fell (command_at w.runs r k).device)) (Doomed (run_no r) cause))) (sym own) ∙ sound)
@@ -344,12 +324,9 @@ died_doomed_at w n g held after r k cause s still = record {
     others : (q : ℕ) → q ≢ r → next.run q ≡ n.run q
     others q ne = put_other did_.run r _ q ne ∙ put_other n.run r _ q ne
 
-    clash : (b : Bool) → b ≡ true → b ≡ false → ⊥
-    clash b h j = grind (arith, common_steps)
-
     by_view : (e : ℕ) (b : Bool) → did n r d ≡ b → InHistoryOrder next e
     by_view e true has = doom_first w fell r k Down cause has e (failed_history w n (entry w fell (Doomed (run_no r) cause)) g held r k s (falls_doomed w n g held r k s cause) e)
-    by_view e false none = doomed_history w did_ r cause e (failed_history w n fell g held r k s (falls w n g held r k s (λ has. absurd (clash (did n r d) has none))) e)
+    by_view e false none = doomed_history w did_ r cause e (failed_history w n fell g held r k s (falls w n g held r k s (λ has. absurd (both_ways (did n r d) none has))) e)
 
 -- the command of the run that is out on the device
 called : (w : Setting) (n : Reading) (g : Grips) (held : ℕ → ℕ) (d r k : ℕ) → IsRead w n → is_weak w.mode ≡ false → g d ≡ Some (record { maker = r; purpose = Commands k }) → OrderIsKept w n g held → IsCalled w n g held r k

@@ -7,8 +7,8 @@ use Rattle.history_book.specs.Readings.{Event, Reading, did, is_doomed, is_event
 use Rattle.home_types.specs.declared.items.Item.TheVariants.{Back, Failed, Ran}
 use Rattle.home_types.specs.declared.items.Item.{Item}
 use Rattle.lock_leasing.specs.Order.{InHistoryOrder, firsts_of_line, firsts_of_log, is_in_line, is_late, marks_of_line, marks_of_log}
-use Rattle.std.proofs.Common.{ap, arith, refl, sym, ◌∙◌}
-use Rattle.std.proofs.lemmas.Grind.{common_steps}
+use Rattle.std.proofs.Common.{ap, refl, sym, ◌∙◌}
+use Rattle.std.proofs.lemmas.Bool.{not-true}
 use Rattle.std.proofs.lemmas.List.Elements.{filter_map-append}
 use Rattle.std.proofs.lemmas.List.{append-nil}
 use Rattle.std.specs.List.{cons_option, list_any}
@@ -56,10 +56,7 @@ part_marks n m d x front back s part = same_items (if_kept (is_marked m d)) (if_
 seen_before : (n m : Reading) (d : ℕ) (x : Item) (front back : List Item) → EventComes n m d x front back → (q : ℕ) → IsTrue (is_in_line m q && not (is_doomed m q) && sees_up m q d) → (is_in_line n q ≡ true) × (is_doomed m q ≡ false) × (sees_up n q d ≡ true)
 seen_before n m d x front back s q facts =
     let parts = three (is_in_line m q) (not (is_doomed m q)) (sees_up m q d) facts in
-    (sym (event_in_line n m d x front back s q) ∙ parts.0, unsaid (is_doomed m q) parts.1, ap (λ v. unwrap_or v false) (sym (s.view q)) ∙ parts.2)
-  where
-    unsaid : (b : Bool) → not b ≡ true → b ≡ false
-    unsaid b h = grind (arith, common_steps)
+    (sym (event_in_line n m d x front back s q) ∙ parts.0, not-true (is_doomed m q) parts.1, ap (λ v. unwrap_or v false) (sym (s.view q)) ∙ parts.2)
 
 spans_before : (n m : Reading) (d : ℕ) (x : Item) (front back : List Item) → EventComes n m d x front back → (q : ℕ) → IsTrue (is_in_line m q && not (is_doomed m q) && sees_up m q d) → IsTrue (is_in_line n q && not (is_doomed n q) && sees_up n q d)
 spans_before n m d x front back s q facts =

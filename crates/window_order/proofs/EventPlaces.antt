@@ -4,7 +4,7 @@ use Rattle.command_rules.specs.Rosters.{commands_of, device_no, run_no, touches}
 use Rattle.device_order.proofs.Claims.{waits_calm}
 use Rattle.device_order.proofs.LineEntries.{used_at, uses_rest}
 use Rattle.device_order.proofs.LineWords.{calm_entries}
-use Rattle.device_order.proofs.WindowTimes.{EventCut}
+use Rattle.device_order.proofs.EventCuts.{EventCut}
 use Rattle.device_order.specs.LineChanges.{Lacks, line_with_event, waits_at}
 use Rattle.device_order.specs.LineEntries.{entries, stage_of, usage}
 use Rattle.device_order.specs.LineWords.{CutAt, at_device, is_calm_line}
@@ -22,6 +22,7 @@ use Rattle.home_types.specs.declared.items.Item.TheVariants.{Back, Failed, Ran}
 use Rattle.home_types.specs.declared.items.Item.{Item}
 use Rattle.lock_leasing.specs.Configurations.{Grips}
 use Rattle.std.proofs.Common.{ap, arith, inl, inr, refl, subst, sym, ◌∙◌}
+use Rattle.std.proofs.lemmas.Bool.{both_ways, eq-eqb, or_left, or_right}
 use Rattle.std.proofs.lemmas.Grind.{common_steps}
 use Rattle.std.specs.List.{list_any}
 use Rattle.std.specs.Prelude.{Bool, List, None, Option, Some, [], false, if◌then◌else◌, is_some, not, option_map, true, unwrap_or, ℕ, ◌&&◌, ◌++◌, ◌==◌, ◌||◌, ◌∷◌, ◌≡◌, ◌≢◌, ◌⊎◌}
@@ -64,13 +65,7 @@ event_on_part : (w : Setting) (n : Reading) (g : Grips) (held : ℕ → ℕ) (d 
 unfolding line_with_event
 event_on_part w n g held d x [] read strong stands = refl
 event_on_part w n g held d x (Ran q ∷ is) read strong stands =
-    λ i. if awaits_same w n g held d q.0 read strong (stands q.0 (self q.0 (list_any (is_ran q.0) is))) i then x ∷ Ran q ∷ is else Ran q ∷ event_on_part w n g held d x is read strong (λ y h. stands y (either (q.0 == y) (list_any (is_ran y) is) h)) i
-  where
-    self : (y : ℕ) (b : Bool) → ((y == y) || b) ≡ true
-    self y b = grind (arith, common_steps)
-
-    either : (a b : Bool) → b ≡ true → (a || b) ≡ true
-    either a b h = grind (arith, common_steps)
+    λ i. if awaits_same w n g held d q.0 read strong (stands q.0 (or_left (q.0 == q.0) (list_any (is_ran q.0) is) (eq-eqb q.0 q.0 refl))) i then x ∷ Ran q ∷ is else Ran q ∷ event_on_part w n g held d x is read strong (λ y h. stands y (or_right (q.0 == y) (list_any (is_ran y) is) h)) i
 event_on_part w n g held d x (Failed e k ∷ is) read strong stands = ap (λ xs. Failed e k ∷ xs) (event_on_part w n g held d x is read strong stands)
 event_on_part w n g held d x (Back e k ∷ is) read strong stands = ap (λ xs. Back e k ∷ xs) (event_on_part w n g held d x is read strong stands)
 
@@ -86,10 +81,7 @@ event_calm w n g held d x c read kept device = elim c.head [ inl none ↦ ap (li
   where
     left_used : (q : ℕ) (b : Bool) → touches w.runs q d ≡ b → uses d (rest (run_state w n g q)) ≡ true → touches w.runs q d ≡ true
     left_used q true e left = e
-    left_used q false e left = absurd (clash (uses d (rest (run_state w n g q))) left (uses_rest d (commands_of w.runs q) (n.run q).answers e))
-      where
-        clash : (b : Bool) → b ≡ true → b ≡ false → ⊥
-        clash b h k = grind (arith, common_steps)
+    left_used q false e left = absurd (both_ways (uses d (rest (run_state w n g q))) (uses_rest d (commands_of w.runs q) (n.run q).answers e) left)
 
     parts : (c x u s : Bool) → (not c && not x && u && not s) ≡ true → (u ≡ true) × (s ≡ false)
     parts c x u s h = (grind (arith, common_steps), grind (arith, common_steps))

@@ -27,20 +27,18 @@ use Rattle.home_types.specs.declared.items.Item.{Item}
 use Rattle.lock_leasing.specs.Configurations.{Grips}
 use Rattle.lock_leasing.specs.Order.{InHistoryOrder, is_late}
 use Rattle.std.proofs.Common.{ap, arith, refl, sym, ◌∙◌}
+use Rattle.std.proofs.lemmas.Bool.{ltb-true, or_parts}
 use Rattle.std.proofs.lemmas.Grind.{common_steps}
 use Rattle.std.specs.List.{list_any}
 use Rattle.std.specs.Option.{option_or}
-use Rattle.std.specs.Prelude.{Bool, List, None, Option, Some, [], false, is_none, is_some, length, nat_lt, not, option_map, true, ℕ, ◌&&◌, ◌++◌, ◌+◌, ◌<◌, ◌==◌, ◌||◌, ◌∷◌, ◌≡◌, ◌≢◌}
+use Rattle.std.specs.Prelude.{Bool, List, None, Option, Some, [], false, is_none, is_some, length, not, option_map, true, ℕ, ◌&&◌, ◌++◌, ◌+◌, ◌<◌, ◌==◌, ◌||◌, ◌∷◌, ◌≡◌, ◌≢◌}
 use Rattle.window_order.proofs.HistoryOrder.{first_history, is_marked, last_history, same_history}
 use Rattle.window_order.proofs.ReadFacts.{IsRead, view_from}
 use Rattle.window_order.specs.OrderKept.{OrderIsKept}
 use Rattle.window_order.specs.ReadWindows.{held_by, run_state, window_of}
 
 pub below_home : (w : Setting) (d : ℕ) → is_device w d ≡ true → d < length w.first
-below_home w d h = below d (length w.first) h
-  where
-    below : (d k : ℕ) → nat_lt d k ≡ true → d < k
-    below d k h = grind (arith, common_steps)
+below_home w d h = ltb-true d (length w.first) h
 
 pub seen_view : (v : Option Bool) → is_some (option_map view_from v) ≡ is_some v
 seen_view None = refl
@@ -63,10 +61,7 @@ untouched_unseen w n g held d q read none = at_ (did n q d) refl
 pub none_seen : (w : Setting) (n : Reading) (g : Grips) (held : ℕ → ℕ) (d : ℕ) (is : List Item) → IsRead w n → any_run (at_device w.kinds (window_of w n g held).states d has_touched) is ≡ false → list_any (of_run (λ q. did n q d)) is ≡ false
 unfolding any_run
 none_seen w n g held d [] read none = refl
-none_seen w n g held d (Ran q ∷ is) read none = let parts = neither (at_device w.kinds (window_of w n g held).states d has_touched q.0) (any_run (at_device w.kinds (window_of w n g held).states d has_touched) is) none in λ i. untouched_unseen w n g held d q.0 read parts.0 i || none_seen w n g held d is read parts.1 i
-  where
-    neither : (a b : Bool) → (a || b) ≡ false → (a ≡ false) × (b ≡ false)
-    neither a b h = (grind (arith, common_steps), grind (arith, common_steps))
+none_seen w n g held d (Ran q ∷ is) read none = let parts = or_parts (at_device w.kinds (window_of w n g held).states d has_touched q.0) (any_run (at_device w.kinds (window_of w n g held).states d has_touched) is) none in λ i. untouched_unseen w n g held d q.0 read parts.0 i || none_seen w n g held d is read parts.1 i
 none_seen w n g held d (Failed e k ∷ is) read none = none_seen w n g held d is read none
 none_seen w n g held d (Back e k ∷ is) read none = none_seen w n g held d is read none
 

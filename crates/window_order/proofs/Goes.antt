@@ -30,12 +30,13 @@ use Rattle.lock_leasing.specs.Configurations.{Grip, Grips}
 use Rattle.lock_leasing.specs.Waits.{behind_wait}
 use Rattle.lock_leasing.specs.Words.{Write, effective_write, has_effect, holds_device, is_undone, last_some, live_before, live_runs, write_of}
 use Rattle.std.proofs.Common.{ap, arith, cond, inl, inr, refl, subst, sym, ◌∙◌}
+use Rattle.std.proofs.lemmas.Bool.{and_right, both_ways, eq-eqb, eqb-true, ne_eqb, or_left, or_parts, or_right}
 use Rattle.std.proofs.lemmas.Grind.{common_steps}
 use Rattle.std.proofs.lemmas.List.Folds.{list_any-append}
 use Rattle.std.proofs.lemmas.List.Sums.{fold-append, take_while-cons}
 use Rattle.std.specs.List.{cons_option, list_any}
 use Rattle.std.specs.Option.{option_map_or, option_or}
-use Rattle.std.specs.Prelude.{Bool, List, None, Option, Some, [], false, find, fold, if◌then◌else◌, is_none, is_some, not, option_map, take_while, true, unwrap_or, ℕ, ◌&&◌, ◌++◌, ◌==◌, ◌||◌, ◌∷◌, ◌≡◌, ◌≢◌, ◌⊎◌}
+use Rattle.std.specs.Prelude.{Bool, List, None, Option, Some, [], false, find, fold, if◌then◌else◌, is_none, is_some, not, option_map, take_while, true, unwrap_or, ℕ, ◌&&◌, ◌++◌, ◌==◌, ◌||◌, ◌∷◌, ◌≡◌, ◌⊎◌}
 use Rattle.window_order.proofs.Firsts.{below_home, none_seen}
 use Rattle.window_order.proofs.ReadFacts.{IsRead, rest_drop, view_from}
 use Rattle.window_order.proofs.StandingValues.{writer_on_line}
@@ -46,16 +47,10 @@ use Rattle.window_order.specs.ReadWindows.{held_by, run_state, window_of}
 
 pub before_cut : (r : ℕ) (front back : List Item) → Lacks r front → before r (front ++ Ran (run_no r) ∷ back) ≡ front
 unfolding Lacks
-before_cut r [] back lacks = take_while-cons (λ i. not (is_ran r i)) (Ran (run_no r)) back ∙ ap (λ b. cond (not b) (Ran (run_no r) ∷ take_while (λ i. not (is_ran r i)) back) []) (self r)
-  where
-    self : (x : ℕ) → (x == x) ≡ true
-    self x = grind (arith, common_steps)
+before_cut r [] back lacks = take_while-cons (λ i. not (is_ran r i)) (Ran (run_no r)) back ∙ ap (λ b. cond (not b) (Ran (run_no r) ∷ take_while (λ i. not (is_ran r i)) back) []) (eq-eqb r r refl)
 before_cut r (Ran q ∷ front) back lacks =
     take_while-cons (λ i. not (is_ran r i)) (Ran q) (front ++ Ran (run_no r) ∷ back)
-    ∙ (λ i. cond (not (differ q.0 r lacks.0 i)) (Ran q ∷ before_cut r front back lacks.1 i) [])
-  where
-    differ : (x y : ℕ) → x ≢ y → (x == y) ≡ false
-    differ x y h = grind (arith, common_steps)
+    ∙ (λ i. cond (not (ne_eqb q.0 r lacks.0 i)) (Ran q ∷ before_cut r front back lacks.1 i) [])
 before_cut r (Failed e k ∷ front) back lacks = take_while-cons (λ i. not (is_ran r i)) (Failed e k) (front ++ Ran (run_no r) ∷ back) ∙ ap (λ xs. Failed e k ∷ xs) (before_cut r front back lacks)
 before_cut r (Back e k ∷ front) back lacks = take_while-cons (λ i. not (is_ran r i)) (Back e k) (front ++ Ran (run_no r) ∷ back) ∙ ap (λ xs. Back e k ∷ xs) (before_cut r front back lacks)
 
@@ -81,16 +76,10 @@ stands_committed n x stands dead = at_ (n.run x).placed (n.run x).ended stands d
     at_ (Some p) (Some (Aborted c)) h k = absurd (cc)
 
 tail_stands : (n : Reading) (i : Item) (is : List Item) → StandIn n (i ∷ is) → StandIn n is
-tail_stands n i is stands x h = stands x (either (is_ran x i) (list_any (is_ran x) is) h)
-  where
-    either : (a b : Bool) → b ≡ true → (a || b) ≡ true
-    either a b h = grind (arith, common_steps)
+tail_stands n i is stands x h = stands x (or_right (is_ran x i) (list_any (is_ran x) is) h)
 
 head_stands : (n : Reading) (q : RunNo) (is : List Item) → StandIn n (Ran q ∷ is) → stands_in (n.run q.0) ≡ true
-head_stands n q is stands = stands q.0 (self q.0 (list_any (is_ran q.0) is))
-  where
-    self : (x : ℕ) (b : Bool) → ((x == x) || b) ≡ true
-    self x b = grind (arith, common_steps)
+head_stands n q is stands = stands q.0 (or_left (q.0 == q.0) (list_any (is_ran q.0) is) (eq-eqb q.0 q.0 refl))
 
 -- what no live run of the part passes
 none_found : (p : ℕ → Bool) (x : ℕ) (xs : List ℕ) → find p (x ∷ xs) ≡ None → (p x ≡ false) × (find p xs ≡ None)
@@ -104,18 +93,12 @@ pub found_live : (n : Reading) (p : ℕ → Bool) (part : List Item) → find p 
 found_live n p [] none x stands live = absurd (cc)
 found_live n p (Ran q ∷ is) none x stands live = at_ (λ h. found_live n p is h x) (is_live n q.0) refl none (q.0 == x) refl
   where
-    same : (a b : ℕ) → (a == b) ≡ true → a ≡ b
-    same a b h = grind (arith, common_steps)
-
     tail : (a b : Bool) → a ≡ false → (a || b) ≡ true → b ≡ true
     tail a b h k = grind (arith, common_steps)
 
-    clash : (a : Bool) → a ≡ true → a ≡ false → ⊥
-    clash a h k = grind (arith, common_steps)
-
     at_ : (find p (live_runs n is) ≡ None → list_any (is_ran x) is ≡ true → is_live n x ≡ true → p x ≡ false) → (b : Bool) → is_live n q.0 ≡ b → find p (cons_option (if b then Some q.0 else None) (live_runs n is)) ≡ None → (c : Bool) → (q.0 == x) ≡ c → p x ≡ false
-    at_ ih true e h true here = sym (ap p (same q.0 x here)) ∙ (none_found p q.0 (live_runs n is) h).0
-    at_ ih false e h true here = absurd (clash (is_live n x) live (sym (ap (is_live n) (same q.0 x here)) ∙ e))
+    at_ ih true e h true here = sym (ap p (eqb-true q.0 x here)) ∙ (none_found p q.0 (live_runs n is) h).0
+    at_ ih false e h true here = absurd (both_ways (is_live n x) (sym (ap (is_live n) (eqb-true q.0 x here)) ∙ e) live)
     at_ ih true e h false here = ih (none_found p q.0 (live_runs n is) h).1 (tail (q.0 == x) (list_any (is_ran x) is) here stands) live
     at_ ih false e h false here = ih h (tail (q.0 == x) (list_any (is_ran x) is) here stands) live
 found_live n p (Failed d k ∷ is) none x stands live = found_live n p is none x stands live
@@ -146,13 +129,7 @@ none_left_there w n g held d x stands none = at_ (is_live n x) refl
 none_pending : (w : Setting) (n : Reading) (g : Grips) (held : ℕ → ℕ) (d : ℕ) (part : List Item) → StandIn n part → ((x : ℕ) → list_any (is_ran x) part ≡ true → is_live n x ≡ true → holds_device w n g x d ≡ false) → any_run (at_device w.kinds (window_of w n g held).states d has_pending) part ≡ false
 unfolding any_run
 none_pending w n g held d [] stands none = refl
-none_pending w n g held d (Ran q ∷ is) stands none = λ i. none_left_there w n g held d q.0 (head_stands n q is stands) (none q.0 (self q.0 (list_any (is_ran q.0) is))) i || none_pending w n g held d is (tail_stands n (Ran q) is stands) (λ x h. none x (either (is_ran x (Ran q)) (list_any (is_ran x) is) h)) i
-  where
-    self : (x : ℕ) (b : Bool) → ((x == x) || b) ≡ true
-    self x b = grind (arith, common_steps)
-
-    either : (a b : Bool) → b ≡ true → (a || b) ≡ true
-    either a b h = grind (arith, common_steps)
+none_pending w n g held d (Ran q ∷ is) stands none = λ i. none_left_there w n g held d q.0 (head_stands n q is stands) (none q.0 (or_left (q.0 == q.0) (list_any (is_ran q.0) is) (eq-eqb q.0 q.0 refl))) i || none_pending w n g held d is (tail_stands n (Ran q) is stands) (λ x h. none x (or_right (is_ran x (Ran q)) (list_any (is_ran x) is) h)) i
 none_pending w n g held d (Failed e k ∷ is) stands none = none_pending w n g held d is stands none
 none_pending w n g held d (Back e k ∷ is) stands none = none_pending w n g held d is stands none
 
@@ -166,12 +143,8 @@ unfolding any_run
 none_hold w n g held d [] home = refl
 none_hold w n g held d (Ran q ∷ is) home = λ i. free i || none_hold w n g held d is home i
   where
-    no_grip : (b : Bool) → (b && false) ≡ false
-    no_grip true = refl
-    no_grip false = refl
-
     free : at_device w.kinds (window_of w n g held).states d usage_has_grip q.0 ≡ false
-    free = ap (λ (o : Option Grip). uses d (commands_of w.runs q.0) && not (is_free (held_by w q.0 o))) home ∙ no_grip (uses d (commands_of w.runs q.0))
+    free = ap (λ (o : Option Grip). uses d (commands_of w.runs q.0) && not (is_free (held_by w q.0 o))) home ∙ and_right (uses d (commands_of w.runs q.0)) false refl
 none_hold w n g held d (Failed e k ∷ is) home = none_hold w n g held d is home
 none_hold w n g held d (Back e k ∷ is) home = none_hold w n g held d is home
 
@@ -204,12 +177,9 @@ open_behind w n g held d r at read kept device used pending =
 no_write : (w : Setting) (n : Reading) (d q : ℕ) → IsRead w n → did n q d ≡ false → ((n.run q).on d).wrote ≡ None
 no_write w n d q read none = at_ ((n.run q).on d).wrote refl
   where
-    clash : (b : Bool) → b ≡ false → b ≡ true → ⊥
-    clash b h k = grind (arith, common_steps)
-
     at_ : (o : Option ℕ) → ((n.run q).on d).wrote ≡ o → ((n.run q).on d).wrote ≡ None
     at_ None e = e
-    at_ (Some v) e = absurd (clash (did n q d) none ((read.shaped q).wrote d (ap is_some e)))
+    at_ (Some v) e = absurd (both_ways (did n q d) none ((read.shaped q).wrote d (ap is_some e)))
 
 unwritten : (n : Reading) (g : Grips) (d q : ℕ) → ((n.run q).on d).wrote ≡ None → write_of n g d (Ran (run_no q)) ≡ None
 unwritten n g d q none = ap (λ o. if is_undone n g q d then None else option_map (λ v. record { run = q; value = v }) o) none ∙ at_ (is_undone n g q d)
@@ -221,11 +191,8 @@ unwritten n g d q none = ap (λ o. if is_undone n g q d then None else option_ma
 -- what is not written behind does not change the effective write
 none_written : (w : Setting) (n : Reading) (g : Grips) (d : ℕ) (is : List Item) (best : Option Write) → IsRead w n → list_any (of_run (λ q. did n q d)) is ≡ false → fold (λ b x. option_or (write_of n g d x) b) best is ≡ best
 none_written w n g d [] best read none = refl
-none_written w n g d (Ran q ∷ is) best read none = let parts = neither (did n q.0 d) (list_any (of_run (λ x. did n x d)) is) none in
+none_written w n g d (Ran q ∷ is) best read none = let parts = or_parts (did n q.0 d) (list_any (of_run (λ x. did n x d)) is) none in
     ap (λ o. fold (λ b x. option_or (write_of n g d x) b) (option_or o best) is) (unwritten n g d q.0 (no_write w n d q.0 read parts.0)) ∙ none_written w n g d is best read parts.1
-  where
-    neither : (a b : Bool) → (a || b) ≡ false → (a ≡ false) × (b ≡ false)
-    neither a b h = (grind (arith, common_steps), grind (arith, common_steps))
 none_written w n g d (Failed e k ∷ is) best read none = none_written w n g d is best read none
 none_written w n g d (Back e k ∷ is) best read none = none_written w n g d is best read none
 
@@ -234,9 +201,6 @@ writer_stands : (n : Reading) (g : Grips) (d : ℕ) (is : List Item) (best : Opt
 writer_stands n g d [] best e at = inl at
 writer_stands n g d (Ran q ∷ is) best e at = after (writer_stands n g d is (option_or (write_of n g d (Ran q)) best) e at)
   where
-    either : (a b : Bool) → b ≡ true → (a || b) ≡ true
-    either a b h = grind (arith, common_steps)
-
     self : (x y : ℕ) (b : Bool) → x ≡ y → ((x == y) || b) ≡ true
     self x y b h = grind (arith, common_steps)
 
@@ -246,7 +210,7 @@ writer_stands n g d (Ran q ∷ is) best e at = after (writer_stands n g d is (op
     made false (Some k) h = inr (ap (λ (x : Write). x.run) (some_is (record { run = q.0; value = k }) e h))
 
     after : (option_or (write_of n g d (Ran q)) best ≡ Some e) ⊎ (list_any (is_ran e.run) is ≡ true) → (best ≡ Some e) ⊎ (list_any (is_ran e.run) (Ran q ∷ is) ≡ true)
-    after (inr h) = inr (either (q.0 == e.run) (list_any (is_ran e.run) is) h)
+    after (inr h) = inr (or_right (q.0 == e.run) (list_any (is_ran e.run) is) h)
     after (inl h) = elim (made (is_undone n g q.0 d) ((n.run q.0).on d).wrote h) [ inl x ↦ inl x | inr x ↦ inr (self q.0 e.run (list_any (is_ran e.run) is) x) ]
 writer_stands n g d (Failed x k ∷ is) best e at = writer_stands n g d is best e at
 writer_stands n g d (Back x k ∷ is) best e at = writer_stands n g d is best e at
@@ -265,14 +229,8 @@ clean_before w n g held r d cut read unseen own none =
     none_there : find (λ x. has_effect n g x d) (live_runs n cut.front) ≡ None
     none_there = sym (ap (λ l. find (λ x. has_effect n g x d) (live_runs n l)) (ap (before r) cut.at ∙ before_cut r cut.front cut.back cut.before)) ∙ none
 
-    self : (x : ℕ) → (x == x) ≡ true
-    self x = grind (arith, common_steps)
-
-    clash : (b : Bool) → b ≡ true → b ≡ false → ⊥
-    clash b h k = grind (arith, common_steps)
-
     settled : (e : Write) → last_some (write_of n g d) cut.front ≡ Some e → list_any (is_ran e.run) cut.front ≡ true → (b : Bool) → is_live n e.run ≡ b → is_committed n e.run ≡ true
-    settled e at stands true live = absurd (clash (has_effect n g e.run d) (ap (λ o. unwrap_or (option_map (λ x. x == e.run) (option_map (λ (y : Write). y.run) o)) false) (whole ∙ at) ∙ self e.run) (found_live n (λ x. has_effect n g x d) cut.front none_there e.run stands live))
+    settled e at stands true live = absurd (both_ways (has_effect n g e.run d) (found_live n (λ x. has_effect n g x d) cut.front none_there e.run stands live) (ap (λ o. unwrap_or (option_map (λ x. x == e.run) (option_map (λ (y : Write). y.run) o)) false) (whole ∙ at) ∙ eq-eqb e.run e.run refl))
     settled e at stands false dead = stands_committed n e.run (front_stands w n r cut read e.run stands) dead
 
     stands : (e : Write) → (None ≡ Some e) ⊎ (list_any (is_ran e.run) cut.front ≡ true) → list_any (is_ran e.run) cut.front ≡ true

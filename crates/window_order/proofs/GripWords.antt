@@ -3,8 +3,9 @@ use Rattle.history_book.proofs.Snoc.{put_keeps, put_other, put_same}
 use Rattle.history_book.specs.Readings.{put}
 use Rattle.lock_leasing.specs.Configurations.{Grip, Grips, Probes, Purpose, grips_command, grips_undo, is_command, is_undo}
 use Rattle.std.proofs.Common.{ap, arith, refl, sym, ◌∙◌}
+use Rattle.std.proofs.lemmas.Bool.{and_right}
 use Rattle.std.proofs.lemmas.Grind.{common_steps}
-use Rattle.std.specs.Prelude.{Bool, None, Option, Some, false, option_map, true, unwrap_or, ℕ, ◌&&◌, ◌==◌, ◌≡◌, ◌≢◌}
+use Rattle.std.specs.Prelude.{Bool, None, Option, Some, false, option_map, unwrap_or, ℕ, ◌&&◌, ◌==◌, ◌≡◌, ◌≢◌}
 
 -- the run with this grip has the device for a command, ..
 abbrev pub for_command : ℕ → Option Grip → Bool
@@ -25,10 +26,6 @@ differs x y b h = grind (arith, common_steps)
 self : (x : ℕ) (b : Bool) → ((x == x) && b) ≡ b
 self x b = grind (arith, common_steps)
 
-off : (b : Bool) → (b && false) ≡ false
-off true = refl
-off false = refl
-
 -- the maker of a grip has it for its purpose, and no other run has it
 pub own_command : (g : Grips) (d r : ℕ) (p : Purpose) → g d ≡ Some (record { maker = r; purpose = p }) → grips_command g r d ≡ is_command p
 own_command g d r p at = ap (for_command r) at ∙ self r (is_command p)
@@ -44,7 +41,7 @@ other_undo g d r q p at ne = ap (for_undo q) at ∙ differs r q (is_undo p) ne
 
 -- where it is for no command, no run has it for one
 pub no_command_out : (g : Grips) (d r q : ℕ) (p : Purpose) → g d ≡ Some (record { maker = r; purpose = p }) → is_command p ≡ false → grips_command g q d ≡ false
-no_command_out g d r q p at none = ap (for_command q) at ∙ (λ i. (r == q) && none i) ∙ off (r == q)
+no_command_out g d r q p at none = ap (for_command q) at ∙ (λ i. (r == q) && none i) ∙ and_right (r == q) false refl
 
 -- a device that is home
 pub home_command : (g : Grips) (d q : ℕ) → g d ≡ None → grips_command g q d ≡ false
@@ -74,12 +71,12 @@ grip_out g d r q p at ne = record {
 -- a device that goes out for a probe, or comes home from one, is no run's
 pub probe_out_grip : (g : Grips) (d m : ℕ) (v : Option ℕ) → g d ≡ None → (e q : ℕ) → SameGrip g (put g d (Some (record { maker = m; purpose = Probes v }))) e q
 probe_out_grip g d m v at e q = record {
-  command = put_keeps (for_command q) g d (Some (record { maker = m; purpose = Probes v })) (off (m == q) ∙ sym (ap (for_command q) at)) e;
-  undo = put_keeps (for_undo q) g d (Some (record { maker = m; purpose = Probes v })) (off (m == q) ∙ sym (ap (for_undo q) at)) e;
+  command = put_keeps (for_command q) g d (Some (record { maker = m; purpose = Probes v })) ((and_right (m == q) false refl) ∙ sym (ap (for_command q) at)) e;
+  undo = put_keeps (for_undo q) g d (Some (record { maker = m; purpose = Probes v })) ((and_right (m == q) false refl) ∙ sym (ap (for_undo q) at)) e;
 }
 
 pub probe_home_grip : (g : Grips) (d m : ℕ) (v : Option ℕ) → g d ≡ Some (record { maker = m; purpose = Probes v }) → (e q : ℕ) → SameGrip g (put g d None) e q
 probe_home_grip g d m v at e q = record {
-  command = put_keeps (for_command q) g d None (sym (ap (for_command q) at ∙ off (m == q))) e;
-  undo = put_keeps (for_undo q) g d None (sym (ap (for_undo q) at ∙ off (m == q))) e;
+  command = put_keeps (for_command q) g d None (sym (ap (for_command q) at ∙ and_right (m == q) false refl)) e;
+  undo = put_keeps (for_undo q) g d None (sym (ap (for_undo q) at ∙ and_right (m == q) false refl)) e;
 }

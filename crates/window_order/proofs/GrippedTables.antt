@@ -18,8 +18,9 @@ use Rattle.lineage_table.specs.declared.accesses.Status.{Status}
 use Rattle.lock_leasing.specs.Configurations.{Commands, Grips, Undoes, grips_command, grips_undo}
 use Rattle.lock_leasing.specs.Tables.{may_be_passed, view_when}
 use Rattle.std.proofs.Common.{ap, arith, refl, subst, sym, ◌∙◌}
+use Rattle.std.proofs.lemmas.Bool.{eq-eqb, ne_eqb, or_right}
 use Rattle.std.proofs.lemmas.Grind.{common_steps}
-use Rattle.std.specs.Prelude.{Bool, List, None, Some, [], false, find, if◌then◌else◌, is_none, is_some, length, not, option_map, true, unwrap_or, ℕ, ◌&&◌, ◌==◌, ◌||◌, ◌∷◌, ◌≡◌, ◌≢◌}
+use Rattle.std.specs.Prelude.{Bool, List, None, Some, [], false, find, if◌then◌else◌, is_none, is_some, length, not, option_map, true, unwrap_or, ℕ, ◌&&◌, ◌||◌, ◌∷◌, ◌≡◌, ◌≢◌}
 use Rattle.window_order.proofs.AnsweredTables.{lineage_with}
 use Rattle.window_order.proofs.GripWords.{SameGrip, grip_elsewhere, grip_home, grip_out, home_command, home_undo, no_command_out, own_undo}
 use Rattle.window_order.proofs.ReadFacts.{IsRead, runs_distinct}
@@ -72,15 +73,9 @@ command_out_kept w n g d r k at sound pending e = two_places (λ x. (s : Lineage
 
 -- An undo goes out
 
-self : (x : ℕ) → (x == x) ≡ true
-self x = grind (arith, common_steps)
-
-differ : (x y : ℕ) → x ≢ y → (x == y) ≡ false
-differ x y h = grind (arith, common_steps)
-
 -- what holds of the undone lineage and of the other devices' holds of what an undo makes of each
 undone_each : (P : ℕ → LineageState → LineageState → Type 0) (r d : ℕ) → ((s : LineageState) → P d s (undone r s)) → ((e : ℕ) (s : LineageState) → e ≢ d → P e s s) → (e : ℕ) (s : LineageState) → P e s (undone_change r d e s)
-undone_each P r d there elsewhere e s = two_places (λ x. P x s (undone_change r d x s)) e d (subst (P d s) (λ i. if sym (self d) i then undone r s else s) (there s)) (λ ne. subst (P e s) (λ i. if sym (differ e d ne) i then undone r s else s) (elsewhere e s ne))
+undone_each P r d there elsewhere e s = two_places (λ x. P x s (undone_change r d x s)) e d (subst (P d s) (λ i. if sym (eq-eqb d d refl) i then undone r s else s) (there s)) (λ ne. subst (P e s) (λ i. if sym (ne_eqb e d ne) i then undone r s else s) (elsewhere e s ne))
 
 pub undo_out_kept : (w : Setting) (n : Reading) (g : Grips) (d r v : ℕ) → IsRead w n → g d ≡ None → (e : ℕ) (s : LineageState) → LineageIsKept w n g e s → LineageIsKept w n (put g d (Some (record { maker = r; purpose = Undoes v }))) e (undone_change r d e s)
 undo_out_kept w n g d r v read at = undone_each (λ e s t. LineageIsKept w n g e s → LineageIsKept w n h e t) r d there elsewhere
@@ -98,15 +93,12 @@ undo_out_kept w n g d r v read at = undone_each (λ e s t. LineageIsKept w n g e
     none_out : (q : ℕ) → grips_command h q d ≡ grips_command g q d
     none_out q = no_command_out h d r q (Undoes v) out refl ∙ sym (home_command g d q at)
 
-    either : (a b : Bool) → b ≡ true → (a || b) ≡ true
-    either a b h = grind (arith, common_steps)
-
     own : (passed : ℕ → Bool) → access_by w h passed d r (n.run r) ≡ record (access_by w g passed d r (n.run r)) { wrote = None }
     own passed = λ i. record {
       run = run_no r;
       status = if passed r then Released else (if did n r d then (if (not (is_doomed n r) && pends w n r d) || none_out r i then Acquired else Released) else Scheduled);
       view = if passed r then Some Down else option_map view_when (view_of n r d);
-      wrote = if either ((n.run r).on d).undid (grips_undo h r d) (own_undo h d r (Undoes v) out) i then None else ((n.run r).on d).wrote;
+      wrote = if or_right ((n.run r).on d).undid (grips_undo h r d) (own_undo h d r (Undoes v) out) i then None else ((n.run r).on d).wrote;
       from = planned_start (n.run r).planned d;
       to = planned_end (n.run r).planned d;
     }

@@ -10,6 +10,7 @@ use Rattle.lock_leasing.specs.Configurations.{Commands, Grip, Grips, Probes, Pur
 use Rattle.lock_leasing.specs.Places.{GripsFit}
 use Rattle.lock_leasing.specs.Waits.{grip_wait}
 use Rattle.std.proofs.Common.{ap, arith, refl, subst, sym, ◌∙◌}
+use Rattle.std.proofs.lemmas.Bool.{eq-eqb, eqb-true}
 use Rattle.std.proofs.lemmas.Grind.{common_steps}
 use Rattle.std.specs.List.{range_with_len}
 use Rattle.std.specs.Prelude.{Bool, IsTrue, None, Option, Some, cond, false, find, if◌then◌else◌, is_none, is_some, length, nat_lt, not, option_map, slice_get, suc, true, unwrap_or, zero, ℕ, ◌&&◌, ◌+◌, ◌<◌, ◌==◌, ◌≡◌, ◌≢◌, ◌≤◌}
@@ -155,12 +156,9 @@ none_in p a (suc k) d none low high = at_ (λ rest more. none_in p (a + 1) k d r
 -- a run that waits for no grip holds none
 pub holds_none : (w : Setting) (g : Grips) (r : ℕ) → ((d : ℕ) → is_out g d ≡ true → is_device w d ≡ true) → grip_wait w g r ≡ None → HoldsNone g r
 holds_none w g r homed none d p at =
-    clash (unwrap_or (option_map (λ (x : Grip). x.maker == r) (g d)) false) (ap (λ (o : Option Grip). unwrap_or (option_map (λ (x : Grip). x.maker == r) o) false) at ∙ self r)
+    clash (unwrap_or (option_map (λ (x : Grip). x.maker == r) (g d)) false) (ap (λ (o : Option Grip). unwrap_or (option_map (λ (x : Grip). x.maker == r) o) false) at ∙ eq-eqb r r refl)
     (none_in (λ e. unwrap_or (option_map (λ (x : Grip). x.maker == r) (g e)) false) 0 (length w.first) d none (omega arith) (below d (length w.first) (homed d (ap is_some at))))
   where
-    self : (x : ℕ) → (x == x) ≡ true
-    self x = grind (arith, common_steps)
-
     clash : (b : Bool) → b ≡ true → b ≡ false → ⊥
     clash b h k = grind (arith, common_steps)
 
@@ -172,11 +170,8 @@ holds_none w g r homed none d p at =
 pub held_none : (w : Setting) (g : Grips) (r d : ℕ) → HoldsNone g r → held_by w r (g d) ≡ Free
 held_none w g r d none = at_ (g d) refl
   where
-    same : (x y : ℕ) → (x == y) ≡ true → x ≡ y
-    same x y h = grind (arith, common_steps)
-
     one : (x : Grip) → g d ≡ Some x → (b : Bool) → (x.maker == r) ≡ b → (if b then held_for w r x.purpose else Free) ≡ Free
-    one x e true h = absurd (none d x.purpose (e ∙ ap (λ y. Some (record { maker = y; purpose = x.purpose })) (same x.maker r h)))
+    one x e true h = absurd (none d x.purpose (e ∙ ap (λ y. Some (record { maker = y; purpose = x.purpose })) (eqb-true x.maker r h)))
     one x e false h = refl
 
     at_ : (o : Option Grip) → g d ≡ o → held_by w r o ≡ Free
@@ -192,10 +187,7 @@ held_other w r q p differ = ap (λ b. if b then held_for w q p else Free) (other
 
 -- its maker does
 pub held_own : (w : Setting) (r : ℕ) (p : Purpose) → held_by w r (Some (record { maker = r; purpose = p })) ≡ held_for w r p
-held_own w r p = ap (λ b. if b then held_for w r p else Free) (self r)
-  where
-    self : (x : ℕ) → (x == x) ≡ true
-    self x = grind (arith, common_steps)
+held_own w r p = ap (λ b. if b then held_for w r p else Free) (eq-eqb r r refl)
 
 -- one run of the line changes in its place
 abbrev pub in_place : (w : Setting) (n m : Reading) (g h : Grips) (held after : ℕ → ℕ) (r : ℕ) → CutAt r n.line → m.line ≡ n.line → ((q : ℕ) → q ≢ r → m.run q ≡ n.run q) → ((q e : ℕ) → q ≢ r → held_by w q (h e) ≡ held_by w q (g e))

@@ -13,6 +13,7 @@ use Rattle.home_types.specs.declared.numbers.DeviceNo.{DeviceNo}
 use Rattle.home_types.specs.declared.numbers.RunNo.{RunNo}
 use Rattle.lock_leasing.specs.Order.{InHistoryOrder, firsts_of_line, firsts_of_log, is_in_line, is_late, marks_of_line, marks_of_log}
 use Rattle.std.proofs.Common.{ap, arith, cond, refl, subst, sym, ◌∙◌}
+use Rattle.std.proofs.lemmas.Bool.{and_parts, and_right, both_ways, eq-eqb, eqb-false, eqb-true, or_from, or_left, or_parts}
 use Rattle.std.proofs.lemmas.Grind.{common_steps}
 use Rattle.std.proofs.lemmas.List.Elements.{filter_map-append}
 use Rattle.std.proofs.lemmas.List.Sums.{take_while-cons}
@@ -39,11 +40,8 @@ other_items f k r (Back e j ∷ xs) lacks runs failures backs = λ i. cons_optio
 -- two tests of marks that agree on each but the first mark of a run that the log lacks
 pub other_marks : {B : Type 0} (f k : Mark → Option B) (r : ℕ) (xs : List Mark) → list_any (is_first r) xs ≡ false → ((q : ℕ) → q ≢ r → f (First q) ≡ k (First q)) → ((i : Item) → f (Event i) ≡ k (Event i)) → ((q : ℕ) → f (Last q) ≡ k (Last q)) → filter_map f xs ≡ filter_map k xs
 other_marks f k r [] none firsts events lasts = refl
-other_marks f k r (First q ∷ xs) none firsts events lasts = λ i. cons_option (firsts q differ i) (other_marks f k r xs (tail (q == r) (list_any (is_first r) xs) none) firsts events lasts i)
+other_marks f k r (First q ∷ xs) none firsts events lasts = λ i. cons_option (firsts q differ i) (other_marks f k r xs (or_parts (q == r) (list_any (is_first r) xs) none).1 firsts events lasts i)
   where
-    tail : (x y : Bool) → (x || y) ≡ false → y ≡ false
-    tail x y h = grind (arith, common_steps)
-
     clash : (q r : ℕ) (y : Bool) → ((q == r) || y) ≡ false → q ≡ r → ⊥
     clash q r y h same = grind (arith, common_steps)
 
@@ -85,10 +83,7 @@ newest {B = B} f k front back r new before behind runs failures backs was is non
 
 pub span_none : (r : ℕ) (xs : List Mark) → list_any (is_first r) xs ≡ false → span_of r xs ≡ []
 span_none r [] none = refl
-span_none r (x ∷ xs) none = (λ i. if (parts (is_first r x) (list_any (is_first r) xs) none).0 i then take_while (λ y. not (is_last r y)) xs else span_of r xs) ∙ span_none r xs (parts (is_first r x) (list_any (is_first r) xs) none).1
-  where
-    parts : (a b : Bool) → (a || b) ≡ false → (a ≡ false) × (b ≡ false)
-    parts a b h = (grind (arith, common_steps), grind (arith, common_steps))
+span_none r (x ∷ xs) none = (λ i. if (or_parts (is_first r x) (list_any (is_first r) xs) none).0 i then take_while (λ y. not (is_last r y)) xs else span_of r xs) ∙ span_none r xs (or_parts (is_first r x) (list_any (is_first r) xs) none).1
 
 -- a mark that is no event leaves a span without events
 pub taken_quiet : (p : Mark → Bool) (xs : List Mark) (x : Mark) → is_event x ≡ false → list_any is_event (take_while p xs) ≡ false → list_any is_event (take_while p (xs ++ x ∷ [])) ≡ false
@@ -99,14 +94,8 @@ taken_quiet p [] x plain quiet = ap (list_any is_event) (take_while-cons p x [])
     at_ false = refl
 taken_quiet p (y ∷ xs) x plain quiet = ap (list_any is_event) (take_while-cons p y (xs ++ x ∷ [])) ∙ at_ (λ h. taken_quiet p xs x plain h) (p y) (sym (ap (list_any is_event) (take_while-cons p y xs)) ∙ quiet)
   where
-    parts : (a b : Bool) → (a || b) ≡ false → (a ≡ false) × (b ≡ false)
-    parts a b h = (grind (arith, common_steps), grind (arith, common_steps))
-
-    neither : (a b : Bool) → a ≡ false → b ≡ false → (a || b) ≡ false
-    neither a b h k = grind (arith, common_steps)
-
     at_ : (list_any is_event (take_while p xs) ≡ false → list_any is_event (take_while p (xs ++ x ∷ [])) ≡ false) → (b : Bool) → list_any is_event (cond b (y ∷ take_while p xs) []) ≡ false → list_any is_event (cond b (y ∷ take_while p (xs ++ x ∷ [])) []) ≡ false
-    at_ step true h = neither (is_event y) (list_any is_event (take_while p (xs ++ x ∷ []))) (parts (is_event y) (list_any is_event (take_while p xs)) h).0 (step (parts (is_event y) (list_any is_event (take_while p xs)) h).1)
+    at_ step true h = or_from (is_event y) (list_any is_event (take_while p (xs ++ x ∷ []))) (or_parts (is_event y) (list_any is_event (take_while p xs)) h).0 (step (or_parts (is_event y) (list_any is_event (take_while p xs)) h).1)
     at_ step false h = refl
 
 pub span_quiet : (r : ℕ) (xs : List Mark) (x : Mark) → is_event x ≡ false → list_any is_event (span_of r xs) ≡ false → list_any is_event (span_of r (xs ++ x ∷ [])) ≡ false
@@ -122,9 +111,6 @@ span_quiet r (y ∷ xs) x plain quiet = at_ (λ h. span_quiet r xs x plain h) (i
     at_ step false h = step h
 
 -- One entry more
-
-neither : (a b : Bool) → (a || b) ≡ false → (a ≡ false) × (b ≡ false)
-neither a b h = (grind (arith, common_steps), grind (arith, common_steps))
 
 pub three : (a b c : Bool) → IsTrue (a && b && c) → (a ≡ true) × (b ≡ true) × (c ≡ true)
 three a b c h = (grind (arith, common_steps), grind (arith, common_steps), grind (arith, common_steps))
@@ -203,9 +189,9 @@ last_history n m d r s log h = record {
 -- what no item passes keeps nothing
 pub none_items : {B : Type 0} (f : Item → Option B) (p : Item → Bool) (xs : List Item) → list_any p xs ≡ false → ((r : RunNo) → p (Ran r) ≡ false → f (Ran r) ≡ None) → ((e : DeviceNo) (j : ℕ) → p (Failed e j) ≡ false → f (Failed e j) ≡ None) → ((e : DeviceNo) (j : ℕ) → p (Back e j) ≡ false → f (Back e j) ≡ None) → filter_map f xs ≡ []
 none_items f p [] none runs failures backs = refl
-none_items f p (Ran r ∷ xs) none runs failures backs = let parts = neither (p (Ran r)) (list_any p xs) none in λ i. cons_option (runs r parts.0 i) (none_items f p xs parts.1 runs failures backs i)
-none_items f p (Failed e j ∷ xs) none runs failures backs = let parts = neither (p (Failed e j)) (list_any p xs) none in λ i. cons_option (failures e j parts.0 i) (none_items f p xs parts.1 runs failures backs i)
-none_items f p (Back e j ∷ xs) none runs failures backs = let parts = neither (p (Back e j)) (list_any p xs) none in λ i. cons_option (backs e j parts.0 i) (none_items f p xs parts.1 runs failures backs i)
+none_items f p (Ran r ∷ xs) none runs failures backs = let parts = or_parts (p (Ran r)) (list_any p xs) none in λ i. cons_option (runs r parts.0 i) (none_items f p xs parts.1 runs failures backs i)
+none_items f p (Failed e j ∷ xs) none runs failures backs = let parts = or_parts (p (Failed e j)) (list_any p xs) none in λ i. cons_option (failures e j parts.0 i) (none_items f p xs parts.1 runs failures backs i)
+none_items f p (Back e j ∷ xs) none runs failures backs = let parts = or_parts (p (Back e j)) (list_any p xs) none in λ i. cons_option (backs e j parts.0 i) (none_items f p xs parts.1 runs failures backs i)
 
 -- the run's first answer there came when it was not doomed
 abbrev pub counts_first : Reading → ℕ → ℕ → Bool
@@ -238,11 +224,8 @@ first_history n m d r s h = record {
     at : m.line ≡ all
     at = s.line ∙ s.cut.at
 
-    self : (x : ℕ) (b : Bool) → ((x == x) || b) ≡ true
-    self x b = grind (arith, common_steps)
-
     in_line : is_in_line m r ≡ true
-    in_line = ap (list_any (is_ran r)) at ∙ any_insert (is_ran r) s.cut.front s.cut.back (Ran (run_no r)) ∙ self r (list_any (is_ran r) (s.cut.front ++ s.cut.back))
+    in_line = ap (list_any (is_ran r)) at ∙ any_insert (is_ran r) s.cut.front s.cut.back (Ran (run_no r)) ∙ or_left (r == r) (list_any (is_ran r) (s.cut.front ++ s.cut.back)) (eq-eqb r r refl)
 
     line_runs : firsts_of_line m d ≡ firsts_of_line n d ++ r ∷ []
     line_runs =
@@ -274,15 +257,9 @@ first_history n m d r s h = record {
     events : (b : Bool) → is_late m r d ≡ b → marks_of_line m d ≡ marks_of_log m d
     events true late = line_marks ∙ h.events ∙ sym log_marks
       where
-        same : (x y : ℕ) → (x == y) ≡ true → x ≡ y
-        same x y e = grind (arith, common_steps)
-
-        differ : (x y : ℕ) → (x == y) ≡ false → x ≢ y
-        differ x y e k = grind (arith, common_steps)
-
         at_ : (q : ℕ) (b : Bool) → (q == r) ≡ b → counts_first m d q ≡ counts_first n d q
-        at_ q true e = subst (λ x. counts_first m d x ≡ counts_first n d x) (sym (same q r e)) (now true late ∙ sym was_none)
-        at_ q false e = counts q (differ q r e)
+        at_ q true e = subst (λ x. counts_first m d x ≡ counts_first n d x) (sym (eqb-true q r e)) (now true late ∙ sym was_none)
+        at_ q false e = counts q (eqb-false q r e)
 
         line_marks : marks_of_line m d ≡ marks_of_line n d
         line_marks =
@@ -309,20 +286,14 @@ first_history n m d r s h = record {
             ∙ ap (λ xs. xs ++ Ran (run_no r) ∷ []) (other_marks _ _ r (n.log d) s.unlogged (λ q ne i. if list_any (is_ran q) (s.line i) && not (s.late q ne i) then Some (Ran (run_no q)) else None) (λ e. refl) (λ q. refl))
 
     spans : (q : ℕ) → IsTrue (is_in_line m q && not (is_doomed m q) && sees_up m q d) → (b : Bool) → (q == r) ≡ b → list_any is_event (span_of q (n.log d ++ First r ∷ [])) ≡ false
-    spans q facts true e = span_quiet q (n.log d) (First r) refl (ap (list_any is_event) (span_none q (n.log d) (ap (λ x. list_any (is_first x) (n.log d)) (same q r e) ∙ s.unlogged)))
-      where
-        same : (x y : ℕ) → (x == y) ≡ true → x ≡ y
-        same x y e = grind (arith, common_steps)
+    spans q facts true e = span_quiet q (n.log d) (First r) refl (ap (list_any is_event) (span_none q (n.log d) (ap (λ x. list_any (is_first x) (n.log d)) (eqb-true q r e) ∙ s.unlogged)))
     spans q facts false e = span_quiet q (n.log d) (First r) refl (h.spans q before)
       where
-        differ : (x y : ℕ) → (x == y) ≡ false → x ≢ y
-        differ x y e k = grind (arith, common_steps)
-
         parts : (is_in_line m q ≡ true) × (not (is_doomed m q) ≡ true) × (sees_up m q d ≡ true)
         parts = three (is_in_line m q) (not (is_doomed m q)) (sees_up m q d) facts
 
         before : IsTrue (is_in_line n q && not (is_doomed n q) && sees_up n q d)
-        before = all_three (is_in_line n q) (not (is_doomed n q)) (sees_up n q d) (ap (list_any (is_ran q)) (sym s.line) ∙ parts.0) (sound (is_doomed m q) (is_doomed n q) (s.doomed q) parts.1) (ap (λ v. unwrap_or v false) (sym (s.view q (differ q r e))) ∙ parts.2)
+        before = all_three (is_in_line n q) (not (is_doomed n q)) (sees_up n q d) (ap (list_any (is_ran q)) (sym s.line) ∙ parts.0) (sound (is_doomed m q) (is_doomed n q) (s.doomed q) parts.1) (ap (λ v. unwrap_or v false) (sym (s.view q (eqb-false q r e))) ∙ parts.2)
 
 -- a run is placed that has no answer on the device
 pub record IsInserted (n m : Reading) (d r : ℕ) (front back : List Item) : Type 0 where
@@ -384,24 +355,15 @@ placed_history n m d r front back s h = record {
     unseen None e = refl
     unseen (Some b) e = absurd (cc)
 
-    clash : (b : Bool) → b ≡ false → b ≡ true → ⊥
-    clash b e k = grind (arith, common_steps)
-
     spans : (q : ℕ) → IsTrue (is_in_line m q && not (is_doomed m q) && sees_up m q d) → (b : Bool) → (q == r) ≡ b → list_any is_event (span_of q (n.log d)) ≡ false
-    spans q facts true e = absurd (clash (sees_up m q d) (unseen (view_of m q d) (ap (λ x. did m x d) (same q r e) ∙ none)) (three (is_in_line m q) (not (is_doomed m q)) (sees_up m q d) facts).2)
-      where
-        same : (x y : ℕ) → (x == y) ≡ true → x ≡ y
-        same x y e = grind (arith, common_steps)
+    spans q facts true e = absurd (both_ways (sees_up m q d) (unseen (view_of m q d) (ap (λ x. did m x d) (eqb-true q r e) ∙ none)) (three (is_in_line m q) (not (is_doomed m q)) (sees_up m q d) facts).2)
     spans q facts false e = h.spans q before
       where
-        differ : (x y : ℕ) → (x == y) ≡ false → x ≢ y
-        differ x y e k = grind (arith, common_steps)
-
         parts : (is_in_line m q ≡ true) × (not (is_doomed m q) ≡ true) × (sees_up m q d ≡ true)
         parts = three (is_in_line m q) (not (is_doomed m q)) (sees_up m q d) facts
 
         before : IsTrue (is_in_line n q && not (is_doomed n q) && sees_up n q d)
-        before = all_three (is_in_line n q) (not (is_doomed n q)) (sees_up n q d) (sym (in_line q (differ q r e)) ∙ parts.0) (sound (is_doomed m q) (is_doomed n q) (s.doomed q) parts.1) (ap (λ v. unwrap_or v false) (sym (s.view q)) ∙ parts.2)
+        before = all_three (is_in_line n q) (not (is_doomed n q)) (sees_up n q d) (sym (in_line q (eqb-false q r e)) ∙ parts.0) (sound (is_doomed m q) (is_doomed n q) (s.doomed q) parts.1) (ap (λ v. unwrap_or v false) (sym (s.view q)) ∙ parts.2)
 
 -- A run leaves the line
 
@@ -434,7 +396,7 @@ passing k (Some y) = if k y then Some y else None
 left_marks : {B : Type 0} (f l : Mark → Option B) (k : B → Bool) (r : ℕ) (xs : List Mark) → list_any (is_event_of r) xs ≡ false → ((q : ℕ) → l (First q) ≡ passing k (f (First q))) → ((i : Item) → is_ran r i ≡ false → l (Event i) ≡ passing k (f (Event i)))
     → ((q : ℕ) → l (Last q) ≡ passing k (f (Last q))) → filter_map l xs ≡ filter k (filter_map f xs)
 left_marks f l k r [] none firsts events lasts = refl
-left_marks {B = B} f l k r (x ∷ xs) none firsts events lasts = (λ i. cons_option (alike x (neither (is_event_of r x) (list_any (is_event_of r) xs) none).0 i) (left_marks f l k r xs (neither (is_event_of r x) (list_any (is_event_of r) xs) none).1 firsts events lasts i)) ∙ at_ (f x)
+left_marks {B = B} f l k r (x ∷ xs) none firsts events lasts = (λ i. cons_option (alike x (or_parts (is_event_of r x) (list_any (is_event_of r) xs) none).0 i) (left_marks f l k r xs (or_parts (is_event_of r x) (list_any (is_event_of r) xs) none).1 firsts events lasts i)) ∙ at_ (f x)
   where
     alike : (y : Mark) → is_event_of r y ≡ false → l y ≡ passing k (f y)
     alike (First q) h = firsts q
@@ -503,12 +465,6 @@ left_history n m d r s h = record {
     in_line : (q : ℕ) → is_in_line m q ≡ (is_in_line n q && not (q == r))
     in_line q = ap (list_any (is_ran q)) s.line ∙ at_ (q == r) refl
       where
-        equal : (x y : ℕ) → (x == y) ≡ true → x ≡ y
-        equal x y e = grind (arith, common_steps)
-
-        differ : (x y : ℕ) → (x == y) ≡ false → x ≢ y
-        differ x y e k = grind (arith, common_steps)
-
         and_true : (b : Bool) → b ≡ (b && true)
         and_true true = refl
         and_true false = refl
@@ -518,8 +474,8 @@ left_history n m d r s h = record {
         and_false false = refl
 
         at_ : (b : Bool) → (q == r) ≡ b → list_any (is_ran q) (without r n.line) ≡ (is_in_line n q && not b)
-        at_ true e = ap (λ x. list_any (is_ran x) (without r n.line)) (equal q r e) ∙ any_without r n.line ∙ and_false (is_in_line n q)
-        at_ false e = any_other q r n.line (differ q r e) ∙ and_true (is_in_line n q)
+        at_ true e = ap (λ x. list_any (is_ran x) (without r n.line)) (eqb-true q r e) ∙ any_without r n.line ∙ and_false (is_in_line n q)
+        at_ false e = any_other q r n.line (eqb-false q r e) ∙ and_true (is_in_line n q)
 
     log_runs : firsts_of_log m d ≡ filter other (firsts_of_log n d)
     log_runs = ap (filter_map _) s.log ∙ left_marks _ _ other r (n.log d) s.no_event (λ q. ap (λ b. if b then Some q else None) (in_line q) ∙ by q (is_in_line n q)) (λ i e. refl) (λ q. refl)
@@ -537,19 +493,12 @@ left_history n m d r s h = record {
         and_true true = refl
         and_true false = refl
 
-        and_false : (b : Bool) → (b && false) ≡ false
-        and_false true = refl
-        and_false false = refl
-
         by : (q : ℕ) (a l : Bool) → (if ((a && not (q == r)) && l) then Some (Ran (run_no q)) else None) ≡ passing stays (if (a && l) then Some (Ran (run_no q)) else None)
         by q true true = ap (λ b. if b then Some (Ran (run_no q)) else None) (and_true (not (q == r)))
-        by q true false = ap (λ b. if b then Some (Ran (run_no q)) else None) (and_false (not (q == r)))
+        by q true false = ap (λ b. if b then Some (Ran (run_no q)) else None) (and_right (not (q == r)) false refl)
         by q false l = refl
 
     before : (q : ℕ) → IsTrue (is_in_line m q && not (is_doomed m q) && sees_up m q d) → IsTrue (is_in_line n q && not (is_doomed n q) && sees_up n q d)
     before q facts =
         let parts = three (is_in_line m q) (not (is_doomed m q)) (sees_up m q d) facts in
-        all_three (is_in_line n q) (not (is_doomed n q)) (sees_up n q d) (left (is_in_line n q) (not (q == r)) (sym (in_line q) ∙ parts.0)) (sound (is_doomed m q) (is_doomed n q) (s.doomed q) parts.1) (ap (λ v. unwrap_or v false) (sym (s.view q)) ∙ parts.2)
-      where
-        left : (a b : Bool) → (a && b) ≡ true → a ≡ true
-        left a b e = grind (arith, common_steps)
+        all_three (is_in_line n q) (not (is_doomed n q)) (sees_up n q d) (and_parts (is_in_line n q) (not (q == r)) (sym (in_line q) ∙ parts.0)).0 (sound (is_doomed m q) (is_doomed n q) (s.doomed q) parts.1) (ap (λ v. unwrap_or v false) (sym (s.view q)) ∙ parts.2)

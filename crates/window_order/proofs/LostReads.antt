@@ -20,6 +20,7 @@ use Rattle.lock_leasing.specs.Tables.{may_be_passed, status_by_answers, uses, vi
 use Rattle.lock_leasing.specs.Waits.{lost_by}
 use Rattle.lock_leasing.specs.Words.{live_runs}
 use Rattle.std.proofs.Common.{ap, arith, cond, refl, subst, sym, ◌∙◌}
+use Rattle.std.proofs.lemmas.Bool.{and_parts, eq-eqb, or_left}
 use Rattle.std.proofs.lemmas.Grind.{common_steps}
 use Rattle.std.specs.List.{cons_option, list_any}
 use Rattle.std.specs.Prelude.{Bool, List, None, Option, Some, [], false, find, if◌then◌else◌, is_some, not, option_map, true, unwrap_or, ℕ, ◌&&◌, ◌++◌, ◌==◌, ◌||◌, ◌∷◌, ◌≡◌}
@@ -111,14 +112,11 @@ none_wrote w n g held d r front back read kept device at opened = none_commits w
     parts : (is_live n r ≡ true) × (is_doomed n r ≡ false) × (pends w n r d ≡ true)
     parts = of (is_live n r) (is_doomed n r) (pends w n r d) opened
 
-    self : (x : ℕ) (b : Bool) → ((x == x) || b) ≡ true
-    self x b = grind (arith, common_steps)
-
     distinct : RunsAreDistinct (Ran (run_no r) ∷ back) × ((x : ℕ) → list_any (is_ran x) (Ran (run_no r) ∷ back) ≡ true → Lacks x front)
     distinct = distinct_parts front (Ran (run_no r) ∷ back) (subst RunsAreDistinct at (runs_distinct n read.once))
 
     cut : CutAt r n.line
-    cut = record { front = front; back = back; at = at; before = distinct.1 r (self r (list_any (is_ran r) back)); behind = distinct.0.0 }
+    cut = record { front = front; back = back; at = at; before = distinct.1 r (or_left (r == r) (list_any (is_ran r) back) (eq-eqb r r refl)); behind = distinct.0.0 }
 
     stage : is_live n r ≡ true → is_doomed n r ≡ false → pends w n r d ≡ true → stage_is_open (usage w.kinds (run_state w n g r) d).stage ≡ true
     stage live sound left = λ i. stage_is_open (stage_of (live_uncommitted n r live i) (sound i) ((ap (uses_device d) (rest_drop (commands_of w.runs r) (n.run r).answers) ∙ left) i))
@@ -141,11 +139,8 @@ lost_read w n g held d s read strong device free kept own =
     (λ front back r at h. none_wrote w n g held d r front back read kept device at (opens_there r h))
     ∙ ap (λ xs. option_map (λ (x : Access). x.run.0) (find is_lost xs)) (sym own.accesses)
   where
-    first : (a b : Bool) → (a && b) ≡ true → a ≡ true
-    first a b h = grind (arith, common_steps)
-
     opens_there : (r : ℕ) → spans_there w n d r ≡ true → is_open w n r d ≡ true
-    opens_there r h = first (is_open w n r d) (sees_up n r d) h
+    opens_there r h = (and_parts (is_open w n r d) (sees_up n r d) h).0
 
 -- .. and the run before which its event stands: the first with a scheduled access that is not doomed
 pub waiting_read : (w : Setting) (n : Reading) (g : Grips) (held : ℕ → ℕ) (d : ℕ) (s : LineageState) → IsRead w n → is_weak w.mode ≡ false → is_device w d ≡ true → OrderIsKept w n g held → LineageIsKept w n g d s → find (awaits_there w n d) (live_runs n n.line) ≡ first_waiting (is_doomed n) s

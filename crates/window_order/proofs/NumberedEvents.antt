@@ -13,6 +13,7 @@ use Rattle.home_types.specs.declared.items.Item.TheVariants.{Back, Failed, Ran}
 use Rattle.home_types.specs.declared.items.Item.{Item}
 use Rattle.serial_line.specs.Marks.{is_failure, is_restart}
 use Rattle.std.proofs.Common.{arith, cond, refl, subst, sym, ◌∙◌}
+use Rattle.std.proofs.lemmas.Bool.{eqb-true, or_parts}
 use Rattle.std.proofs.lemmas.Grind.{common_steps}
 use Rattle.std.specs.List.{list_any}
 use Rattle.std.specs.Prelude.{Bool, List, [], false, filter, fold, if◌then◌else◌, not, true, ℕ, ◌&&◌, ◌+◌, ◌<◌, ◌==◌, ◌||◌, ◌∷◌, ◌≡◌}
@@ -24,22 +25,16 @@ pub record EventsAreNumbered (n : Reading) : Type 0 where
 
 any_filtered : (p q : Item → Bool) (is : List Item) → list_any p is ≡ false → list_any p (filter q is) ≡ false
 any_filtered p q [] none = refl
-any_filtered p q (i ∷ is) none = at_ (q i) (any_filtered p q is (parts (p i) (list_any p is) none).1)
+any_filtered p q (i ∷ is) none = at_ (q i) (any_filtered p q is (or_parts (p i) (list_any p is) none).1)
   where
-    parts : (a b : Bool) → (a || b) ≡ false → (a ≡ false) × (b ≡ false)
-    parts a b h = (grind (arith, common_steps), grind (arith, common_steps))
-
     at_ : (b : Bool) → list_any p (filter q is) ≡ false → list_any p (cond b (i ∷ filter q is) (filter q is)) ≡ false
-    at_ true rest = λ j. (parts (p i) (list_any p is) none).0 j || rest j
+    at_ true rest = λ j. (or_parts (p i) (list_any p is) none).0 j || rest j
     at_ false rest = rest
 
 -- a number above the raised one is above the old one, and is not the new one
 above : (f : ℕ → ℕ) (d e k : ℕ) → put f d (f d + 1) e < k → (f e < k) × (((d == e) && (f d + 1 == k)) ≡ false)
 above f d e k more = at_ (e == d) refl more
   where
-    equal : (x y : ℕ) → (x == y) ≡ true → x ≡ y
-    equal x y h = grind (arith, common_steps)
-
     differ : (x y : ℕ) (b : Bool) → (x == y) ≡ false → ((y == x) && b) ≡ false
     differ x y b h = grind (arith, common_steps)
 
@@ -47,7 +42,7 @@ above f d e k more = at_ (e == d) refl more
     not_it b x y h = grind (arith, common_steps)
 
     at_ : (b : Bool) → (e == d) ≡ b → (if b then f d + 1 else f e) < k → (f e < k) × (((d == e) && (f d + 1 == k)) ≡ false)
-    at_ true here h = (subst (λ x. f x < k) (sym (equal e d here)) (omega (arith, h)), not_it (d == e) (f d + 1) k h)
+    at_ true here h = (subst (λ x. f x < k) (sym (eqb-true e d here)) (omega (arith, h)), not_it (d == e) (f d + 1) k h)
     at_ false there h = (h, differ e d (f d + 1 == k) there)
 
 numbered_step : (w : Setting) (n : Reading) (e : Entry) → EventsAreNumbered n → EventsAreNumbered (entry w n e)

@@ -10,6 +10,7 @@ use Rattle.lineage_table.specs.declared.accesses.Access.{Access}
 use Rattle.lineage_table.specs.declared.accesses.Status.TheVariants.{Acquired, Released, Scheduled}
 use Rattle.lineage_table.specs.declared.accesses.Status.{Status}
 use Rattle.std.proofs.Common.{ap, arith, cond, refl, subst, sym, ◌∙◌}
+use Rattle.std.proofs.lemmas.Bool.{or_from, or_parts}
 use Rattle.std.proofs.lemmas.Grind.{common_steps}
 use Rattle.std.proofs.lemmas.List.Folds.{list_any-append}
 use Rattle.std.specs.List.{AllByRecursion}
@@ -27,9 +28,6 @@ next_waiting r xs = find waits (before r xs)
 -- how many of those there are
 abbrev pub waits_before : ℕ → List Access → ℕ
 waits_before r xs = count_by waits (before r xs)
-
-either : (a b : Bool) → a ≡ false → b ≡ false → (a || b) ≡ false
-either a b h k = grind (arith, common_steps)
 
 self : (x : Access) → is_of x.run.0 x ≡ true
 self x = grind (arith, common_steps)
@@ -58,7 +56,7 @@ cut_before r x (y ∷ ys) h = at_ (λ e. cut_before r x ys e) (is_of r y) (waits
         record { front = []; back = ys; list = ap (λ z. z ∷ ys) same; none_waits = refl; none_own = refl; other = ap (is_of r) (sym same) ∙ e; scheduled = ap waits (sym same) ∙ f }
     at_ ih false false e f h =
         let c : CutBefore r x ys = ih (ap (λ c. cond c (Some y) (find waits (before r ys))) (sym f) ∙ h) in
-        record { front = y ∷ c.front; back = c.back; list = ap (λ l. y ∷ l) c.list; none_waits = either (waits y) (some_scheduled c.front) f c.none_waits; none_own = either (is_of r y) (has_access r c.front) e c.none_own; other = c.other; scheduled = c.scheduled }
+        record { front = y ∷ c.front; back = c.back; list = ap (λ l. y ∷ l) c.list; none_waits = or_from (waits y) (some_scheduled c.front) f c.none_waits; none_own = or_from (is_of r y) (has_access r c.front) e c.none_own; other = c.other; scheduled = c.scheduled }
 
 -- no access in front is of the same run
 pub alone : (x : Access) (a b : List Access) → Pairs AreOfTwoRuns (a ++ x ∷ b) → has_access x.run.0 a ≡ false
@@ -69,17 +67,14 @@ alone x a b pairs = each a (pairs_front AreOfTwoRuns a x b pairs)
 
     each : (ys : List Access) → AllByRecursion (λ u. AreOfTwoRuns u x) ys → has_access x.run.0 ys ≡ false
     each [] h = refl
-    each (y ∷ ys) h = either (is_of x.run.0 y) (has_access x.run.0 ys) (differ x.run.0 y.run.0 h.0) (each ys h.1)
+    each (y ∷ ys) h = or_from (is_of x.run.0 y) (has_access x.run.0 ys) (differ x.run.0 y.run.0 h.0) (each ys h.1)
 
 -- the accesses with one in the middle that is not the run's
 
 passed_at : (r : ℕ) (a : List Access) (z : Access) (b : List Access) → has_access r a ≡ false → is_of r z ≡ false → with_passed r (a ++ z ∷ b) ≡ map pass_access a ++ pass_access z ∷ with_passed r b
 passed_at r [] z b none other = ap (λ c. if c then (z ∷ b) else (pass_access z ∷ with_passed r b)) other
-passed_at r (y ∷ a) z b none other = let p = parts (is_of r y) (has_access r a) none in
+passed_at r (y ∷ a) z b none other = let p = or_parts (is_of r y) (has_access r a) none in
     ap (λ c. if c then (y ∷ (a ++ z ∷ b)) else (pass_access y ∷ with_passed r (a ++ z ∷ b))) p.0 ∙ ap (λ l. pass_access y ∷ l) (passed_at r a z b p.1 other)
-  where
-    parts : (p q : Bool) → (p || q) ≡ false → (p ≡ false) × (q ≡ false)
-    parts p q h = (grind (arith, common_steps), grind (arith, common_steps))
 
 before_past : (r : ℕ) (a : List Access) (z : Access) (b : List Access) → has_access r a ≡ false → is_of r z ≡ false → before r (a ++ z ∷ b) ≡ a ++ z ∷ before r b
 before_past r [] z b none other = grind (arith, common_steps)
@@ -170,7 +165,7 @@ none_waits r (y ∷ ys) h = at_ (λ e. none_waits r ys e) (is_of r y) refl
   where
     at_ : (next_waiting r ys ≡ None → some_scheduled (before r ys) ≡ false) → (b : Bool) → is_of r y ≡ b → some_scheduled (if b then [] else (y ∷ before r ys)) ≡ false
     at_ ih true e = refl
-    at_ ih false e = let p = none_later r y ys e h in either (waits y) (some_scheduled (before r ys)) p.0 (ih p.1)
+    at_ ih false e = let p = none_later r y ys e h in or_from (waits y) (some_scheduled (before r ys)) p.0 (ih p.1)
 
 none_passes : (r : ℕ) (xs : List Access) → next_waiting r xs ≡ None → with_passed r xs ≡ xs
 none_passes r [] h = refl
@@ -204,15 +199,12 @@ status_passed r (y ∷ ys) = at_ (status_passed r ys) (is_of r y) (waits y) refl
 
 unacquired_passed : (r : ℕ) (xs : List Access) → some_acquired xs ≡ false → some_acquired (with_passed r xs) ≡ false
 unacquired_passed r [] h = refl
-unacquired_passed r (y ∷ ys) h = at_ (unacquired_passed r ys (parts (is_acquired y.status) (some_acquired ys) h).1) (is_of r y) (waits y)
+unacquired_passed r (y ∷ ys) h = at_ (unacquired_passed r ys (or_parts (is_acquired y.status) (some_acquired ys) h).1) (is_of r y) (waits y)
   where
-    parts : (p q : Bool) → (p || q) ≡ false → (p ≡ false) × (q ≡ false)
-    parts p q h = (grind (arith, common_steps), grind (arith, common_steps))
-
     at_ : some_acquired (with_passed r ys) ≡ false → (b c : Bool) → some_acquired (if b then (y ∷ ys) else ((if c then passed_access y else y) ∷ with_passed r ys)) ≡ false
     at_ ih true c = h
     at_ ih false true = ih
-    at_ ih false false = either (is_acquired y.status) (some_acquired (with_passed r ys)) (parts (is_acquired y.status) (some_acquired ys) h).0 ih
+    at_ ih false false = or_from (is_acquired y.status) (some_acquired (with_passed r ys)) (or_parts (is_acquired y.status) (some_acquired ys) h).0 ih
 
 none_before_passed : (r : ℕ) (xs : List Access) → some_scheduled (before r (with_passed r xs)) ≡ false
 none_before_passed r [] = refl
@@ -221,7 +213,7 @@ none_before_passed r (y ∷ ys) = at_ (none_before_passed r ys) (is_of r y) (wai
     at_ : some_scheduled (before r (with_passed r ys)) ≡ false → (b c : Bool) → is_of r y ≡ b → waits y ≡ c → some_scheduled (before r (if b then (y ∷ ys) else ((if c then passed_access y else y) ∷ with_passed r ys))) ≡ false
     at_ ih true c e f = ap (λ d. some_scheduled (if d then [] else (y ∷ before r ys))) e
     at_ ih false true e f = ap (λ d. some_scheduled (if d then [] else (passed_access y ∷ before r (with_passed r ys)))) e ∙ ih
-    at_ ih false false e f = ap (λ d. some_scheduled (if d then [] else (y ∷ before r (with_passed r ys)))) e ∙ either (waits y) (some_scheduled (before r (with_passed r ys))) f ih
+    at_ ih false false e f = ap (λ d. some_scheduled (if d then [] else (y ∷ before r (with_passed r ys)))) e ∙ or_from (waits y) (some_scheduled (before r (with_passed r ys))) f ih
 
 -- .. the run's access is the first of those that are left scheduled
 pub passed_first : (r : ℕ) (s : LineageState) → IsWaiting r s → IsFirst r (passed r s)

@@ -24,6 +24,7 @@ use Rattle.lock_leasing.specs.Places.{GripsFit}
 use Rattle.lock_leasing.specs.Waits.{lost_by}
 use Rattle.lock_leasing.specs.Words.{effective_write, standing_value}
 use Rattle.std.proofs.Common.{ap, arith, refl, sym, ◌∙◌}
+use Rattle.std.proofs.lemmas.Bool.{and_parts, eq-eqb, or_left, or_right}
 use Rattle.std.proofs.lemmas.Grind.{common_steps}
 use Rattle.std.specs.List.{list_any}
 use Rattle.std.specs.Prelude.{Bool, List, None, Option, Some, [], false, if◌then◌else◌, is_some, not, option_map, suc, true, unwrap_or, ℕ, ◌&&◌, ◌+◌, ◌==◌, ◌||◌, ◌∷◌, ◌≡◌, ◌≢◌}
@@ -181,13 +182,7 @@ fits_probed w n m g d run f = fits_without w m g d (fits_same w n m g (λ q e k 
 none_any : (p : ℕ → Bool) (line : List Item) → ((q : ℕ) → list_any (is_ran q) line ≡ true → p q ≡ false) → any_run p line ≡ false
 unfolding any_run
 none_any p [] none = refl
-none_any p (Ran r ∷ is) none = λ i. none r.0 (self r.0 (list_any (is_ran r.0) is)) i || none_any p is (λ q h. none q (either (r.0 == q) (list_any (is_ran q) is) h)) i
-  where
-    self : (x : ℕ) (b : Bool) → ((x == x) || b) ≡ true
-    self x b = grind (arith, common_steps)
-
-    either : (a b : Bool) → b ≡ true → (a || b) ≡ true
-    either a b h = grind (arith, common_steps)
+none_any p (Ran r ∷ is) none = λ i. none r.0 (or_left (r.0 == r.0) (list_any (is_ran r.0) is) (eq-eqb r.0 r.0 refl)) i || none_any p is (λ q h. none q (or_right (r.0 == q) (list_any (is_ran q) is) h)) i
 none_any p (Failed e k ∷ is) none = none_any p is none
 none_any p (Back e k ∷ is) none = none_any p is none
 
@@ -240,7 +235,7 @@ probe_died_doomed_kept w n g held after d m r cause read strong at lost still ke
     view = λ q e. put_keeps (λ o. (o.on e).view) n.run r _ refl q;
     late = λ q e. put_keeps (λ o. (o.on e).late) n.run r _ refl q;
     doomed = λ q h. sound_before w fell r cause q h;
-    none_spans = λ q stands sound. out_spans_none w n g held d r cut read kept device used (spanned _ _ (second (touches w.runs r d) (spans_up (usage w.kinds (run_state w n g r) d)) spans)) q stands (λ own'. doomed_now q own' sound);
+    none_spans = λ q stands sound. out_spans_none w n g held d r cut read kept device used (or_left _ _ (and_parts (touches w.runs r d) (spans_up (usage w.kinds (run_state w n g r) d)) spans).1) q stands (λ own'. doomed_now q own' sound);
   });
 }
   where
@@ -274,17 +269,8 @@ probe_died_doomed_kept w n g held after d m r cause read strong at lost still ke
     spans : at_device w.kinds (window_of w n g held).states d spans_up r ≡ true
     spans = spans_same w n g held d r read (line_stands w n read r (live_stands w n r read live)) ∙ sees
 
-    first : (a b : Bool) → (a && b) ≡ true → a ≡ true
-    first a b h = grind (arith, common_steps)
-
-    second : (a b : Bool) → (a && b) ≡ true → b ≡ true
-    second a b h = grind (arith, common_steps)
-
     used : touches w.runs r d ≡ true
-    used = first (touches w.runs r d) (spans_up (usage w.kinds (run_state w n g r) d)) spans
-
-    spanned : (a b : Bool) → a ≡ true → (a || b) ≡ true
-    spanned a b h = grind (arith, common_steps)
+    used = (and_parts (touches w.runs r d) (spans_up (usage w.kinds (run_state w n g r) d)) spans).0
 
     doomed_now : (q : ℕ) → q ≡ r → is_doomed next q ≡ false → ⊥
     doomed_now q same sound = clash (sym (ap (λ (o : OfRun). is_some o.doomed) own) ∙ ap (is_doomed next) (sym same) ∙ sound)

@@ -17,6 +17,7 @@ use Rattle.lock_leasing.specs.Configurations.{Grips, grips_command, grips_undo}
 use Rattle.lock_leasing.specs.Order.{covers, has_live_write, has_read_first, is_covered, is_touched, live_writes_are_covered, open_runs_are_last, opens}
 use Rattle.lock_leasing.specs.Words.{has_touched, is_undone}
 use Rattle.std.proofs.Common.{ap, ap₂, append_assoc, arith, refl, sym, ◌∙◌}
+use Rattle.std.proofs.lemmas.Bool.{both_ways, not-true, or_right}
 use Rattle.std.proofs.lemmas.Grind.{common_steps}
 use Rattle.std.proofs.lemmas.List.Folds.{list_any-append}
 use Rattle.std.specs.List.{list_any}
@@ -34,9 +35,6 @@ record Parts (x y z : Bool) : Type 0 where
 
 parts : (x y z : Bool) → (x && y && z) ≡ true → Parts x y z
 parts x y z h = record { first = grind (arith, common_steps); second = grind (arith, common_steps); third = grind (arith, common_steps) }
-
-clash : (x : Bool) → x ≡ true → x ≡ false → ⊥
-clash x e f = grind (arith, common_steps)
 
 -- Devices of the home
 
@@ -71,11 +69,7 @@ pending_rest w n g r d = ap (uses d) (remaining_from (commands_of w.runs r) (n.r
 any_dropped : (d k : ℕ) (cs : List Command) → list_any (is_on d) (drop k cs) ≡ true → list_any (is_on d) cs ≡ true
 any_dropped d zero cs h = h
 any_dropped d (suc k) [] h = h
-any_dropped d (suc k) (c ∷ cs) h = ap (λ b. is_on d c || b) (any_dropped d k cs h) ∙ either (is_on d c)
-  where
-    either : (b : Bool) → (b || true) ≡ true
-    either true = refl
-    either false = refl
+any_dropped d (suc k) (c ∷ cs) h = ap (λ b. is_on d c || b) (any_dropped d k cs h) ∙ or_right (is_on d c) true refl
 
 -- Touches
 
@@ -109,7 +103,7 @@ covered_part n d (i ∷ is) h = at_ (λ e. covered_part n d is e) (has_read_firs
     later f m rest j e x = sym (ap (λ b. b || list_any (covers n d) m) f) ∙ h (i ∷ m) rest j (ap (λ l. i ∷ l) e) x
 
     at_ : (((m rest : List Item) (j : Item) → is ≡ m ++ j ∷ rest → has_read_first n d j ≡ true → list_any (covers n d) m ≡ true) → is_covered n d is ≡ true) → (x y : Bool) → has_read_first n d i ≡ x → covers n d i ≡ y → (not x && (y || is_covered n d is)) ≡ true
-    at_ ih true y e f = absurd (clash false (first e) refl)
+    at_ ih true y e f = absurd (both_ways false refl (first e))
     at_ ih false true e f = refl
     at_ ih false false e f = ih (later f)
 
@@ -118,11 +112,7 @@ cover_found : (w : Setting) (n : Reading) (g : Grips) (d : ℕ) (part : List Ite
 cover_found w n g d part s c =
     ap (list_any (covers n d)) c.at ∙ list_any-append (covers n d) c.front (Ran (run_no c.run) ∷ c.back)
     ∙ ap (λ b. list_any (covers n d) c.front || (b || list_any (covers n d) c.back)) (ap₂ (λ x y. x && y) c.committed (ap is_some (sym ((s.summarized c.run).wrote d)) ∙ c.wrote))
-    ∙ either (list_any (covers n d) c.front)
-  where
-    either : (b : Bool) → (b || true) ≡ true
-    either true = refl
-    either false = refl
+    ∙ or_right (list_any (covers n d) c.front) true refl
 
 live_not_committed : (n : Reading) (r : ℕ) → is_live n r ≡ true → is_committed n r ≡ false
 live_not_committed n r h = grind (arith, common_steps)
@@ -176,11 +166,8 @@ open_last w n g held d front is (Ran r) s o at h = none_of (is_touched n g d) is
     whole : Parts (is_live n r.0) (not (is_doomed n r.0)) (pends w n r.0 d)
     whole = parts (is_live n r.0) (not (is_doomed n r.0)) (pends w n r.0 d) h
 
-    counts : (b : Bool) → not b ≡ true → b ≡ false
-    counts b e = grind (arith, common_steps)
-
     pending : IsPendingAt (window_of w n g held) d r.0
-    pending = record { live = live_not_committed n r.0 whole.first; counts = counts (is_doomed n r.0) whole.second; left = pending_rest w n g r.0 d ∙ whole.third }
+    pending = record { live = live_not_committed n r.0 whole.first; counts = not-true (is_doomed n r.0) whole.second; left = pending_rest w n g r.0 d ∙ whole.third }
 
     each : (m rest : List Item) (j : Item) → is ≡ m ++ j ∷ rest → is_touched n g d j ≡ false
     each m rest (Ran q) e = by (has_touched n g q.0 d) refl

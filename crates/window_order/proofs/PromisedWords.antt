@@ -1,6 +1,5 @@
 -- Words of the reading and of the grips that are out, as the window that they make has them.
-use Rattle.command_rules.specs.Items.{is_ran}
-use Rattle.command_rules.specs.Rosters.{run_no, touches}
+use Rattle.command_rules.specs.Rosters.{touches}
 use Rattle.device_order.specs.LineEntries.{entries, entry_if, usage, with_entry}
 use Rattle.device_order.specs.RunStates.{RunStates, uses}
 use Rattle.device_order.specs.Usages.{has_effect as usage_has_effect, is_command as holds_command, is_undo as holds_undo}
@@ -19,8 +18,7 @@ use Rattle.lock_leasing.specs.Configurations.{Commands, Grip, Grips, Probes, Pur
 use Rattle.lock_leasing.specs.Words.{is_undone}
 use Rattle.std.proofs.Common.{ap, ap₂, arith, refl, ◌∙◌}
 use Rattle.std.proofs.lemmas.Grind.{common_steps}
-use Rattle.std.specs.List.{list_any}
-use Rattle.std.specs.Prelude.{Bool, List, None, Option, Some, [], false, if◌then◌else◌, is_some, length, not, option_map, true, unwrap_or, ℕ, ◌&&◌, ◌++◌, ◌<◌, ◌==◌, ◌||◌, ◌∷◌, ◌≡◌}
+use Rattle.std.specs.Prelude.{Bool, List, None, Option, Some, [], false, if◌then◌else◌, is_some, length, not, option_map, true, unwrap_or, ℕ, ◌&&◌, ◌<◌, ◌==◌, ◌||◌, ◌∷◌, ◌≡◌}
 use Rattle.window_order.proofs.ReadFacts.{IsRead}
 use Rattle.window_order.specs.ReadWindows.{held_by, held_for, run_state}
 
@@ -76,31 +74,6 @@ pub effect_held : (w : Setting) (n : Reading) (g : Grips) (r d : ℕ) → IsRead
 effect_held w n g r d s = ap₂ (λ o x. is_some o && not (((n.run r).on d).undid || x)) ((s.summarized r).wrote d) (undo_held w g r d)
 
 -- Lines
-
--- a line in two parts, with the run between them
-pub record SplitsAt (r : ℕ) (line : List Item) : Type 0 where
-  pub front : List Item
-  pub back : List Item
-  pub at : line ≡ front ++ Ran (run_no r) ∷ back
-
-pub splits_at : (r : ℕ) (line : List Item) → list_any (is_ran r) line ≡ true → SplitsAt r line
-splits_at r [] h = absurd (cc)
-splits_at r (i ∷ is) h = at_ (λ e. splits_at r is e) (is_ran r i) refl h
-  where
-    later : SplitsAt r is → SplitsAt r (i ∷ is)
-    later s = record { front = i ∷ s.front; back = s.back; at = ap (λ l. i ∷ l) s.at }
-
-    here : (j : Item) → is_ran r j ≡ true → j ≡ Ran (run_no r)
-    here (Ran q) e = ap (λ z. Ran (run_no z)) (same q.0 e)
-      where
-        same : (q : ℕ) → (q == r) ≡ true → q ≡ r
-        same q e = grind (arith, common_steps)
-    here (Failed e k) x = absurd (cc)
-    here (Back e k) x = absurd (cc)
-
-    at_ : (list_any (is_ran r) is ≡ true → SplitsAt r is) → (b : Bool) → is_ran r i ≡ b → (b || list_any (is_ran r) is) ≡ true → SplitsAt r (i ∷ is)
-    at_ ih true e h = record { front = []; back = is; at = ap (λ x. x ∷ is) (here i e) }
-    at_ ih false e h = later (ih h)
 
 -- Entries
 

@@ -18,14 +18,12 @@ use Rattle.lock_leasing.specs.Places.{GripsFit}
 use Rattle.lock_leasing.specs.Tables.{EachTellsOfRun, Represents, TellsOfRun, may_be_passed, runs_with_access, some_in_use, status_by_answers, uses, view_when}
 use Rattle.lock_leasing.specs.Words.{has_touched}
 use Rattle.std.proofs.Common.{ap, arith, refl, subst, sym, ◌∙◌}
+use Rattle.std.proofs.lemmas.Bool.{both_ways, eqb-true}
 use Rattle.std.proofs.lemmas.Grind.{common_steps}
 use Rattle.std.specs.List.{AllByRecursion, list_any}
 use Rattle.std.specs.Prelude.{Bool, List, None, Option, Some, [], drop, false, if◌then◌else◌, map, not, option_map, slice_get, suc, true, unwrap_or, zero, ℕ, ◌&&◌, ◌==◌, ◌||◌, ◌∷◌, ◌≡◌}
 use Rattle.window_order.proofs.Runs.{both, three}
 use Rattle.window_order.specs.TableKept.{TableIsKept, access_read, accesses_read}
-
-same : (a b : ℕ) → (a == b) ≡ true → a ≡ b
-same a b h = grind (arith, common_steps)
 
 next_left : (d : ℕ) (cs : List Command) (k : ℕ) → unwrap_or (option_map (is_on d) (slice_get cs k)) false ≡ true → list_any (is_on d) (drop k cs) ≡ true
 next_left d [] zero h = h
@@ -35,7 +33,7 @@ next_left d (c ∷ cs) (suc k) h = next_left d cs k h
 
 -- the grip that a run holds, with its purpose
 pub held_as : (g : Grips) (r d : ℕ) (grip : Grip) (p : Purpose) → g d ≡ Some grip → (grip.maker == r) ≡ true → grip.purpose ≡ p → g d ≡ Some (record { maker = r; purpose = p })
-held_as g r d grip p at own purpose = at ∙ (λ i. Some (record { maker = same grip.maker r own i; purpose = purpose i }))
+held_as g r d grip p at own purpose = at ∙ (λ i. Some (record { maker = eqb-true grip.maker r own i; purpose = purpose i }))
 
 -- a run that holds the grip of a command has a command pending there
 pub gripped_pends : (w : Setting) (n : Reading) (g : Grips) (r d : ℕ) → GripsFit w n g → grips_command g r d ≡ true → pends w n r d ≡ true
@@ -81,11 +79,8 @@ tells w n g passed d r rest may turns = record {
   to = refl;
 }
   where
-    clash : (b : Bool) → b ≡ true → b ≡ false → ⊥
-    clash b h k = grind (arith, common_steps)
-
     at_ : may_be_passed n g r d ≡ false → (b : Bool) → passed r ≡ b → b ≡ false
-    at_ never true e = absurd (clash (may_be_passed n g r d) (may r e) never)
+    at_ never true e = absurd (both_ways (may_be_passed n g r d) never (may r e))
     at_ never false e = refl
 
     unpassed : may_be_passed n g r d ≡ false → passed r ≡ false

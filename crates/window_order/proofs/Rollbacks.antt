@@ -32,6 +32,7 @@ use Rattle.lock_leasing.specs.Places.{GripsFit}
 use Rattle.lock_leasing.specs.Waits.{grip_wait}
 use Rattle.lock_leasing.specs.Words.{effective_writer_of, has_effect, last_some, next_undo_of, value_without, write_of}
 use Rattle.std.proofs.Common.{ap, arith, cond, refl, subst, sym, ◌∙◌}
+use Rattle.std.proofs.lemmas.Bool.{eq-eqb, eqb-true, ne_eqb, or_parts}
 use Rattle.std.proofs.lemmas.Grind.{common_steps}
 use Rattle.std.specs.Prelude.{Bool, List, None, Option, Some, [], drop, false, filter, find, if◌then◌else◌, is_some, length, not, option_map, true, unwrap_or, ℕ, ◌&&◌, ◌++◌, ◌+◌, ◌<◌, ◌==◌, ◌||◌, ◌∷◌, ◌≡◌, ◌≢◌}
 use Rattle.window_order.proofs.Firsts.{did_history}
@@ -45,9 +46,6 @@ use Rattle.window_order.proofs.StandingValues.{standing_on_line, writer_on_line}
 use Rattle.window_order.proofs.Steps.{IsOut, gets_answer, home_fits, out_is, out_newest}
 use Rattle.window_order.specs.OrderKept.{OrderIsKept}
 use Rattle.window_order.specs.ReadWindows.{held_by, probe_of, run_state, window_of}
-
-equal : (x y : ℕ) → (x == y) ≡ true → x ≡ y
-equal x y h = grind (arith, common_steps)
 
 -- A run is doomed
 
@@ -69,7 +67,7 @@ fits_doomed w n g r cause f = fits_from w next g f.homed (λ d q p at. still d q
     surely a b c e h = grind (arith, common_steps)
 
     undoes : (d q v : ℕ) → may_undo d (n.run q) ≡ true → (b : Bool) → (q == r) ≡ b → may_undo d (if b then new else n.run q) ≡ true
-    undoes d q v may true e = let own : may_undo d (n.run r) ≡ true = subst (λ x. may_undo d (n.run x) ≡ true) (equal q r e) may in surely (is_live n r) (is_doomed n r) (has_written n r d) (not ((n.run r).on d).undid) own
+    undoes d q v may true e = let own : may_undo d (n.run r) ≡ true = subst (λ x. may_undo d (n.run x) ≡ true) (eqb-true q r e) may in surely (is_live n r) (is_doomed n r) (has_written n r d) (not ((n.run r).on d).undid) own
     undoes d q v may false e = may
 
     still : (d q : ℕ) (p : Purpose) → g d ≡ Some (record { maker = q; purpose = p }) → MayGrip w next d q p
@@ -202,25 +200,16 @@ refuted_kept w n g held d r k read at reading kept =
 lacking : (r : ℕ) (is : List Item) → Lacks r is → without r is ≡ is
 unfolding Lacks
 lacking r [] lacks = refl
-lacking r (Ran q ∷ is) lacks = ap (λ b. cond (not b) (Ran q ∷ without r is) (without r is)) (differ q.0 r lacks.0) ∙ ap (λ xs. Ran q ∷ xs) (lacking r is lacks.1)
-  where
-    differ : (x y : ℕ) → x ≢ y → (x == y) ≡ false
-    differ x y h = grind (arith, common_steps)
+lacking r (Ran q ∷ is) lacks = ap (λ b. cond (not b) (Ran q ∷ without r is) (without r is)) (ne_eqb q.0 r lacks.0) ∙ ap (λ xs. Ran q ∷ xs) (lacking r is lacks.1)
 lacking r (Failed e k ∷ is) lacks = ap (λ xs. Failed e k ∷ xs) (lacking r is lacks)
 lacking r (Back e k ∷ is) lacks = ap (λ xs. Back e k ∷ xs) (lacking r is lacks)
 
 -- a line that is cut at a run, without the run
 pub without_cut : (r : ℕ) (front back : List Item) → Lacks r front → Lacks r back → without r (front ++ Ran (run_no r) ∷ back) ≡ front ++ back
 unfolding Lacks
-without_cut r [] back before behind = ap (λ b. cond (not b) (Ran (run_no r) ∷ without r back) (without r back)) (self r) ∙ lacking r back behind
-  where
-    self : (x : ℕ) → (x == x) ≡ true
-    self x = grind (arith, common_steps)
+without_cut r [] back before behind = ap (λ b. cond (not b) (Ran (run_no r) ∷ without r back) (without r back)) (eq-eqb r r refl) ∙ lacking r back behind
 without_cut r (Ran q ∷ front) back before behind =
-    ap (λ b. cond (not b) (Ran q ∷ without r (front ++ Ran (run_no r) ∷ back)) (without r (front ++ Ran (run_no r) ∷ back))) (differ q.0 r before.0) ∙ ap (λ xs. Ran q ∷ xs) (without_cut r front back before.1 behind)
-  where
-    differ : (x y : ℕ) → x ≢ y → (x == y) ≡ false
-    differ x y h = grind (arith, common_steps)
+    ap (λ b. cond (not b) (Ran q ∷ without r (front ++ Ran (run_no r) ∷ back)) (without r (front ++ Ran (run_no r) ∷ back))) (ne_eqb q.0 r before.0) ∙ ap (λ xs. Ran q ∷ xs) (without_cut r front back before.1 behind)
 without_cut r (Failed e k ∷ front) back before behind = ap (λ xs. Failed e k ∷ xs) (without_cut r front back before behind)
 without_cut r (Back e k ∷ front) back before behind = ap (λ xs. Back e k ∷ xs) (without_cut r front back before behind)
 
@@ -232,17 +221,14 @@ record IsNextUndo (w : Setting) (n : Reading) (g : Grips) (r d : ℕ) : Type 0 w
   effective : effective_writer_of n g d ≡ Some r
 
 next_undo : (w : Setting) (n : Reading) (g : Grips) (r d : ℕ) → next_undo_of w n g r ≡ Some d → IsNextUndo w n g r d
-next_undo w n g r d at = record { device = found.0.0; wrote = (effect_is n g r d found.1).0; kept = neither ((n.run r).on d).undid _ (effect_is n g r d found.1).1; effective = of (effective_writer_of n g d) found.1 }
+next_undo w n g r d at = record { device = found.0.0; wrote = (effect_is n g r d found.1).0; kept = (or_parts ((n.run r).on d).undid _ (effect_is n g r d found.1).1).0; effective = of (effective_writer_of n g d) found.1 }
   where
     found : ((is_device w d ≡ true) × (touches w.runs r d ≡ true)) × (has_effect n g r d ≡ true)
     found = each_found (λ e. (is_device w e ≡ true) × (touches w.runs r e ≡ true)) (has_effect n g r) (devices_of w r) d (own_devices w r) at
 
-    neither : (a b : Bool) → (a || b) ≡ false → a ≡ false
-    neither a b h = grind (arith, common_steps)
-
     of : (o : Option ℕ) → unwrap_or (option_map (λ x. x == r) o) false ≡ true → o ≡ Some r
     of None h = absurd (cc)
-    of (Some x) h = ap (λ y. Some y) (equal x r h)
+    of (Some x) h = ap (λ y. Some y) (eqb-true x r h)
 
 -- the run may be undone on the device, which is home
 may_be_undone : (w : Setting) (n : Reading) (g : Grips) (held : ℕ → ℕ) (r d : ℕ) → IsRead w n → is_live n r ≡ true → is_doomed n r ≡ true → effective_writer_of n g d ≡ Some r → g d ≡ None → MayUndo w.kinds (window_of w n g held) r d
@@ -399,14 +385,11 @@ none_of_both p q (x ∷ xs) none = at_ (none_of_both p q xs) (q x) (p x) refl no
 no_effect : (w : Setting) (n : Reading) (g : Grips) (held : ℕ → ℕ) (r d : ℕ) → IsRead w n → OrderIsKept w n g held → next_undo_of w n g r ≡ None → touches w.runs r d ≡ true → effective_writer w.kinds (window_of w n g held).states d None n.line ≢ Some r
 no_effect w n g held r d read kept none used writer = clash (touches w.runs r d) (has_effect n g r d) used effect (none_in (λ e. touches w.runs r e && has_effect n g r e) 0 (length w.first) d (none_of_both (has_effect n g r) (touches w.runs r) (device_numbers w) none) (omega arith) (below (uses_homed (length w.first) d (commands_of w.runs r) (kept.window.runs r).homed used)))
   where
-    self : (x : ℕ) → (x == x) ≡ true
-    self x = grind (arith, common_steps)
-
     below : d < length w.first → d < 0 + length w.first
     below h = omega (arith, h)
 
     effect : has_effect n g r d ≡ true
-    effect = ap (λ o. unwrap_or (option_map (λ x. x == r) o) false) (sym (writer_on_line w n g d n.line read) ∙ writer) ∙ self r
+    effect = ap (λ o. unwrap_or (option_map (λ x. x == r) o) false) (sym (writer_on_line w n g d n.line read) ∙ writer) ∙ eq-eqb r r refl
 
     clash : (a b : Bool) → a ≡ true → b ≡ true → (a && b) ≡ false → ⊥
     clash a b h k e = grind (arith, common_steps)

@@ -16,6 +16,7 @@ use Rattle.home_types.specs.declared.items.Item.TheVariants.{Back, Failed, Ran}
 use Rattle.home_types.specs.declared.items.Item.{Item}
 use Rattle.lock_leasing.specs.Configurations.{Grips}
 use Rattle.std.proofs.Common.{ap, arith, refl, subst, ◌∙◌}
+use Rattle.std.proofs.lemmas.Bool.{eqb-true}
 use Rattle.std.proofs.lemmas.Grind.{common_steps}
 use Rattle.std.specs.List.{list_any}
 use Rattle.std.specs.Prelude.{Bool, List, None, Option, Some, [], count_by, false, is_none, is_some, not, option_map, suc, true, unwrap_or, zero, ℕ, ◌&&◌, ◌++◌, ◌+◌, ◌<◌, ◌==◌, ◌||◌, ◌∷◌, ◌≡◌}
@@ -88,9 +89,6 @@ unfolding AreHomed
 uses_homed k d [] homed used = absurd (cc)
 uses_homed k d (c ∷ cs) homed used = at_ (uses_homed k d cs homed.1) (c.device.0 == d) refl used
   where
-    equal : (x y : ℕ) → (x == y) ≡ true → x ≡ y
-    equal x y h = grind (arith, common_steps)
-
     at_ : (list_any (is_on d) cs ≡ true → d < k) → (b : Bool) → (c.device.0 == d) ≡ b → (b || list_any (is_on d) cs) ≡ true → d < k
-    at_ ih true e h = subst (λ x. x < k) (equal c.device.0 d e) homed.0
+    at_ ih true e h = subst (λ x. x < k) (eqb-true c.device.0 d e) homed.0
     at_ ih false e h = ih h

@@ -23,7 +23,7 @@ use Rattle.lock_leasing.specs.Configurations.{Grips}
 use Rattle.lock_leasing.specs.Order.{SettledAgree, committed_home, committed_value, is_settled, settled_items}
 use Rattle.lock_leasing.specs.Words.{committed_write}
 use Rattle.std.proofs.Common.{ap, arith, refl, sym, ◌∙◌}
-use Rattle.std.proofs.lemmas.Grind.{common_steps}
+use Rattle.std.proofs.lemmas.Bool.{both_ways}
 use Rattle.std.proofs.lemmas.List.FromFn.{get_or-map-range_with_len, length-map-range_with_len}
 use Rattle.std.proofs.lemmas.List.{ext_get_or}
 use Rattle.std.specs.Option.{option_or}
@@ -78,11 +78,8 @@ value_along w n g d first z b (Ran r ∷ is) s h = at_ (λ t c k. value_along w 
     u : Usage
     u = usage w.kinds (run_state w n g r.0) d
 
-    clash : (x : Bool) → x ≡ true → x ≡ false → ⊥
-    clash x e f = grind (arith, common_steps)
-
     unused : (y : Bool) → has_written n r.0 d ≡ y → touches w.runs r.0 d ≡ false → y ≡ false
-    unused true e f = absurd (clash (touches w.runs r.0 d) (written_touches w n r.0 d s e) f)
+    unused true e f = absurd (both_ways (touches w.runs r.0 d) f (written_touches w n r.0 d s e))
     unused false e f = refl
 
     no_write : (v : Option ℕ) (x : Bool) → is_some v ≡ false → option_or (if x then v else None) b ≡ b

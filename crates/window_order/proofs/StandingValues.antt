@@ -2,11 +2,9 @@
 use Rattle.command_rules.specs.Items.{is_ran}
 use Rattle.command_rules.specs.Rosters.{commands_of, is_on, touches}
 use Rattle.device_order.proofs.Claims.{effect}
-use Rattle.device_order.proofs.LineEntries.{used_at}
 use Rattle.device_order.proofs.LineWords.{stand_line}
 use Rattle.device_order.specs.LineWords.{at_device, effective_writer, standing_value_on}
 use Rattle.device_order.specs.Records.{walk_start}
-use Rattle.device_order.specs.declared.records.Grip.TheVariants.{Free, Undoes as HeldToUndo}
 use Rattle.device_order.proofs.Standing.{stands}
 use Rattle.device_order.specs.Claims.{StandsAt, standing_value as device_standing_value}
 use Rattle.device_order.specs.LineEntries.{entries, entry_if, usage, with_entry}
@@ -17,7 +15,7 @@ use Rattle.device_order.specs.declared.records.Event.TheVariants.{Failure, Resta
 use Rattle.device_order.specs.declared.records.OrderEntry.TheVariants.{Occurred, Used}
 use Rattle.device_order.specs.declared.records.Usage.{Usage}
 use Rattle.history_book.proofs.Standing.{stands_in}
-use Rattle.history_book.specs.Readings.{OfRun, Reading, has_written, is_doomed, is_live, is_next_on, next_of}
+use Rattle.history_book.specs.Readings.{OfRun, Reading, has_written, is_live, is_next_on, next_of}
 use Rattle.history_book.specs.Settings.{Setting, is_device, is_weak}
 use Rattle.home_types.specs.HomeStates.{stand_at}
 use Rattle.home_types.specs.declared.commands.Command.{Command}
@@ -26,11 +24,12 @@ use Rattle.home_types.specs.declared.items.Item.{Item}
 use Rattle.lock_leasing.specs.Configurations.{Commands, Grip, Grips, Probes, Purpose, Undoes, grips_command, is_command}
 use Rattle.lock_leasing.specs.Words.{Write, effective_write, is_undone, last_some, standing_value, write_of}
 use Rattle.std.proofs.Common.{ap, arith, refl, subst, sym, ◌∙◌}
+use Rattle.std.proofs.lemmas.Bool.{both_ways, or_right}
 use Rattle.std.proofs.lemmas.Grind.{common_steps}
 use Rattle.std.specs.List.{list_any}
 use Rattle.std.specs.Option.{option_or}
 use Rattle.std.specs.Prelude.{Bool, IsTrue, List, None, Option, Some, [], false, fold, if◌then◌else◌, is_none, is_some, not, option_map, slice_get, suc, true, unwrap_or, zero, ℕ, ◌&&◌, ◌==◌, ◌||◌, ◌∷◌, ◌≡◌}
-use Rattle.window_order.proofs.PromisedWords.{SplitsAt, command_held, device_below, effect_held, none_has, splits_at, written_touches}
+use Rattle.window_order.proofs.PromisedWords.{device_below, effect_held, none_has, written_touches}
 use Rattle.window_order.proofs.ReadFacts.{IsRead}
 use Rattle.window_order.specs.OrderKept.{OrderIsKept}
 use Rattle.window_order.specs.ReadWindows.{held_by, probe_of, run_state, window_of}
@@ -60,16 +59,13 @@ value_along w n g d first o b (Ran r ∷ is) s h = at_ (λ o c k. value_along w 
     later : Option Write
     later = option_or (write_of n g d (Ran r)) b
 
-    clash : (x : Bool) → x ≡ true → x ≡ false → ⊥
-    clash x e f = grind (arith, common_steps)
-
     no_write : (v : Option ℕ) (x : Bool) → is_some v ≡ false → option_or (if x then None else option_map (λ k. record { run = r.0; value = k }) v) b ≡ b
     no_write None true e = refl
     no_write None false e = refl
     no_write (Some k) x e = absurd (cc)
 
     unused : (y : Bool) → has_written n r.0 d ≡ y → touches w.runs r.0 d ≡ false → y ≡ false
-    unused true e f = absurd (clash (touches w.runs r.0 d) (written_touches w n r.0 d s e) f)
+    unused true e f = absurd (both_ways (touches w.runs r.0 d) f (written_touches w n r.0 d s e))
     unused false e f = refl
 
     at_ : ((p : Option Usage) (c : Option Write) → written_by p first ≡ value_of c first → written_by (effective p (entries w.kinds (λ q. run_state w n g q) d is)) first ≡ value_of (fold (λ best i. option_or (write_of n g d i) best) c is) first) → (x : Bool) → touches w.runs r.0 d ≡ x → written_by (effective o (with_entry (entry_if x (Used u)) (entries w.kinds (λ q. run_state w n g q) d is))) first ≡ value_of (fold (λ best i. option_or (write_of n g d i) best) later is) first
@@ -116,11 +112,7 @@ acts_on w n g held r d o h = by (g d) refl h
     used : (cs : List Command) (k : ℕ) → unwrap_or (option_map (is_on d) (slice_get cs k)) false ≡ true → list_any (is_on d) cs ≡ true
     used [] k e = absurd (cc)
     used (c ∷ cs) zero e = ap (λ b. b || list_any (is_on d) cs) e
-    used (c ∷ cs) (suc k) e = ap (λ b. is_on d c || b) (used cs k e) ∙ either (is_on d c)
-      where
-        either : (b : Bool) → (b || true) ≡ true
-        either true = refl
-        either false = refl
+    used (c ∷ cs) (suc k) e = ap (λ b. is_on d c || b) (used cs k e) ∙ or_right (is_on d c) true refl
 
     may : (k : ℕ) → IsTrue (is_live n r && is_next_on w n r d && (k == next_of n r)) → ActsOn w n r d
     may k e = record { live = grind (arith, common_steps); uses = used (commands_of w.runs r) (next_of n r) (grind (arith, common_steps)) }
@@ -142,53 +134,6 @@ acts_on w n g held r d o h = by (g d) refl h
     by : (x : Option Grip) → g d ≡ x → unwrap_or (option_map (λ p. (p.maker == r) && is_command p.purpose) x) false ≡ true → ActsOn w n r d
     by None e x = absurd (cc)
     by (Some p) e x = of p.maker p.purpose e x
-
--- a device of which the grip of a command is out stood at its standing value as it went out
-pub stands_out : (w : Setting) (n : Reading) (g : Grips) (held : ℕ → ℕ) (d r k : ℕ) → IsRead w n → OrderIsKept w n g held → is_weak w.mode ≡ false → is_device w d ≡ true → g d ≡ Some (record { maker = r; purpose = Commands k }) → held d ≡ standing_value w n g d
-stands_out w n g held d r k s o weak device out =
-    let at_value : StandsAt (device_of w.kinds (window_of w n g held) d) (device_standing_value (device_of w.kinds (window_of w n g held) d)) = stands (device_of w.kinds (window_of w n g held) d) (o.window.devices d (device_below w d device)) in
-    let held_out : grips_command g r d ≡ true = ap (λ x. unwrap_or (option_map (λ p. (p.maker == r) && is_command p.purpose) x) false) out ∙ own r in
-    let acts : ActsOn w n r d = acts_on w n g held r d o held_out in
-    let part : SplitsAt r n.line = splits_at r n.line (live_stands w n r s acts.live) in
-    at_value.called (entries w.kinds (λ q. run_state w n g q) d part.front) (entries w.kinds (λ q. run_state w n g q) d part.back) (usage w.kinds (run_state w n g r) d)
-    (ap (entries w.kinds (λ q. run_state w n g q) d) part.at ∙ used_at w.kinds (λ q. run_state w n g q) d r part.front part.back acts.uses) (command_held w g r d ∙ held_out)
-    ∙ standing_same w n g held d s weak
-  where
-    own : (r : ℕ) → ((r == r) && true) ≡ true
-    own r = grind (arith, common_steps)
-
--- a device of which the grip of an undo is out is driven to its standing value
-pub stands_undone : (w : Setting) (n : Reading) (g : Grips) (held : ℕ → ℕ) (d r v : ℕ) → IsRead w n → OrderIsKept w n g held → is_weak w.mode ≡ false → is_device w d ≡ true → g d ≡ Some (record { maker = r; purpose = Undoes v }) → v ≡ standing_value w n g d
-stands_undone w n g held d r v s o weak device out =
-    let at_value : StandsAt (device_of w.kinds (window_of w n g held) d) (device_standing_value (device_of w.kinds (window_of w n g held) d)) = stands (device_of w.kinds (window_of w n g held) d) (o.window.devices d (device_below w d device)) in
-    let may : IsTrue (is_live n r && is_doomed n r && has_written n r d && not ((n.run r).on d).undid) = o.grips.runs.undos d r v out in
-    let part : SplitsAt r n.line = splits_at r n.line (live_stands w n r s (live (is_live n r) (is_doomed n r) (has_written n r d) (not ((n.run r).on d).undid) may)) in
-    at_value.undone (entries w.kinds (λ q. run_state w n g q) d part.front) (entries w.kinds (λ q. run_state w n g q) d part.back) (usage w.kinds (run_state w n g r) d) v
-    (ap (entries w.kinds (λ q. run_state w n g q) d) part.at ∙ used_at w.kinds (λ q. run_state w n g q) d r part.front part.back (written_touches w n r d s (wrote (is_live n r) (is_doomed n r) (has_written n r d) (not ((n.run r).on d).undid) may)))
-    (ap (λ x. held_by w r x) out ∙ own (r == r) (same r))
-    ∙ standing_same w n g held d s weak
-  where
-    live : (a b c e : Bool) → IsTrue (a && b && c && e) → a ≡ true
-    live a b c e h = grind (arith, common_steps)
-
-    wrote : (a b c e : Bool) → IsTrue (a && b && c && e) → c ≡ true
-    wrote a b c e h = grind (arith, common_steps)
-
-    same : (k : ℕ) → (k == k) ≡ true
-    same k = grind (arith, common_steps)
-
-    own : (b : Bool) → b ≡ true → (if b then HeldToUndo v else Free) ≡ HeldToUndo v
-    own b e = ap (λ x. if x then HeldToUndo v else Free) e
-
--- a device that a probe asks stands at its standing value, ..
-pub stands_asked : (w : Setting) (n : Reading) (g : Grips) (held : ℕ → ℕ) (d m : ℕ) → IsRead w n → OrderIsKept w n g held → is_weak w.mode ≡ false → is_device w d ≡ true → g d ≡ Some (record { maker = m; purpose = Probes None }) → held d ≡ standing_value w n g d
-stands_asked w n g held d m s o weak device out =
-    (stands (device_of w.kinds (window_of w n g held) d) (o.window.devices d (device_below w d device))).asked (ap (λ x. probe_of x) out) ∙ standing_same w n g held d s weak
-
--- .. and one that a probe restores is restored to it
-pub stands_restored : (w : Setting) (n : Reading) (g : Grips) (held : ℕ → ℕ) (d m v : ℕ) → IsRead w n → OrderIsKept w n g held → is_weak w.mode ≡ false → is_device w d ≡ true → g d ≡ Some (record { maker = m; purpose = Probes (Some v) }) → v ≡ standing_value w n g d
-stands_restored w n g held d m v s o weak device out =
-    (stands (device_of w.kinds (window_of w n g held) d) (o.window.devices d (device_below w d device))).restored v (ap (λ x. probe_of x) out) ∙ standing_same w n g held d s weak
 
 -- the value at which a line has a device is that of the line's last write in effect, ..
 pub standing_on_line : (w : Setting) (n : Reading) (g : Grips) (d first : ℕ) (line : List Item) → IsRead w n → standing_value_on w.kinds (λ r. run_state w n g r) d first line ≡ value_of (last_some (write_of n g d) line) first

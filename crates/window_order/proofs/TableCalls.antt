@@ -25,6 +25,7 @@ use Rattle.lock_leasing.specs.Configurations.{Commands, Grips, grips_command}
 use Rattle.lock_leasing.specs.Order.{is_touched, open_runs_are_last, opens}
 use Rattle.lock_leasing.specs.Tables.{status_by_answers, uses}
 use Rattle.std.proofs.Common.{ap, arith, refl, subst, sym, ◌∙◌}
+use Rattle.std.proofs.lemmas.Bool.{eq-eqb, eqb-true, or_parts, or_right}
 use Rattle.std.proofs.lemmas.Grind.{common_steps}
 use Rattle.std.proofs.lemmas.List.Folds.{list_any-append}
 use Rattle.std.specs.List.{list_any}
@@ -43,9 +44,6 @@ use Rattle.window_order.specs.OrderKept.{OrderIsKept}
 use Rattle.window_order.specs.ReadWindows.{held_by, run_state, window_of}
 use Rattle.window_order.specs.TableChanges.{IsWaiting}
 use Rattle.window_order.specs.TableKept.{LineageIsKept, access_read, accesses_along, commits_write}
-
-self : (x : ℕ) → (x == x) ≡ true
-self x = grind (arith, common_steps)
 
 -- The order of the runs around a command that is out
 
@@ -66,11 +64,8 @@ closed_before w n g d (Ran q ∷ front) back i touched last x there = at_ (close
     shut : (a b : Bool) → b ≡ true → (not a || not b) ≡ true → a ≡ false
     shut a b h k = grind (arith, common_steps)
 
-    same : (a b : ℕ) → (a == b) ≡ true → a ≡ b
-    same a b h = grind (arith, common_steps)
-
     at_ : (list_any (is_ran x) front ≡ true → is_open w n x d ≡ false) → (b : Bool) → (q.0 == x) ≡ b → (b || list_any (is_ran x) front) ≡ true → is_open w n x d ≡ false
-    at_ ih true e h = sym (ap (λ y. is_open w n y d) (same q.0 x e)) ∙ shut (is_open w n q.0 d) (list_any (is_touched n g d) (front ++ i ∷ back)) any rest.0
+    at_ ih true e h = sym (ap (λ y. is_open w n y d) (eqb-true q.0 x e)) ∙ shut (is_open w n q.0 d) (list_any (is_touched n g d) (front ++ i ∷ back)) any rest.0
     at_ ih false e h = ih h
 closed_before w n g d (Failed e k ∷ front) back i touched last x there = closed_before w n g d front back i touched (both (not false || not (list_any (is_touched n g d) (front ++ i ∷ back))) (open_runs_are_last w n g d (front ++ i ∷ back)) last).1 x there
 closed_before w n g d (Back e k ∷ front) back i touched last x there = closed_before w n g d front back i touched (both (not false || not (list_any (is_touched n g d) (front ++ i ∷ back))) (open_runs_are_last w n g d (front ++ i ∷ back)) last).1 x there
@@ -90,7 +85,7 @@ pub touches_now : (w : Setting) (n : Reading) (g : Grips) (held : ℕ → ℕ) (
 touches_now w n g held d r k cut read order at = record {
   live = live;
   pending = pending;
-  acts = either (not (is_doomed n r)) (grips_command g r d) gripped;
+  acts = or_right (not (is_doomed n r)) (grips_command g r d) gripped;
   undoes_none = own_undo g d r (Commands k) at;
   alone = λ q ne. other_command g d r q (Commands k) at ne;
   kept = command_kept (usage w.kinds (run_state w n g r) d) command (use_cut (walk_start (stand_at w.first d).up (stand_at w.first d).value) (entries w.kinds (window_of w n g held).states d cut.front) (usage w.kinds (run_state w n g r) d) (entries w.kinds (window_of w n g held).states d cut.back)
@@ -120,11 +115,8 @@ touches_now w n g held d r k cut read order at = record {
     used : touches w.runs r d ≡ true
     used = pending_touches d (commands_of w.runs r) (next_of n r) pending
 
-    either : (a b : Bool) → b ≡ true → (a || b) ≡ true
-    either a b h = grind (arith, common_steps)
-
     touched : is_touched n g d (Ran (run_no r)) ≡ true
-    touched = either (did n r d) (grips_command g r d) gripped
+    touched = or_right (did n r d) (grips_command g r d) gripped
 
     no_more : (a b c : Bool) → a ≡ true → b ≡ false → (a && not b && c) ≡ false → c ≡ false
     no_more a b c h k e = grind (arith, common_steps)
@@ -135,7 +127,7 @@ touches_now w n g held d r k cut read order at = record {
 pub status_there : (w : Setting) (n : Reading) (g : Grips) (d r : ℕ) (cut : CutAt r n.line) (s : LineageState) → IsRead w n → TouchesNow w n g d r cut → LineageIsKept w n g d s → status_of r s.accesses ≡ Some (if did n r d then Acquired else Scheduled)
 status_there w n g d r cut s read now kept =
     ap (status_of r) (kept.accesses ∙ accesses_around w n g kept.passed d r cut read now)
-    ∙ status_at r (front_accesses (uses w n d) (commits_write n d) (access_read w n g kept.passed d) false cut.front) (access_read w n g kept.passed d r) (accesses_along (uses w n d) (commits_write n d) (access_read w n g kept.passed d) cut.back) (none_in_front w n g kept.passed d r cut) (self r)
+    ∙ status_at r (front_accesses (uses w n d) (commits_write n d) (access_read w n g kept.passed d) false cut.front) (access_read w n g kept.passed d r) (accesses_along (uses w n d) (commits_write n d) (access_read w n g kept.passed d) cut.back) (none_in_front w n g kept.passed d r cut) (eq-eqb r r refl)
     ∙ (λ i. Some (if never_passed n g d r kept.passed kept.may_pass now.acts i then Released else (if did n r d then (if works_now w n g d r cut now i then Acquired else Released) else Scheduled)))
 
 -- a run that stands among these has no answer where none of them has
@@ -143,18 +135,9 @@ pub found : (n : Reading) (d x : ℕ) (is : List Item) → list_any (of_run (λ 
 found n d x [] none there = absurd (cc)
 found n d x (Ran q ∷ is) none there = at_ (found n d x is) (q.0 == x) refl none there
   where
-    same : (a b : ℕ) → (a == b) ≡ true → a ≡ b
-    same a b h = grind (arith, common_steps)
-
-    neither : (a b : Bool) → (a || b) ≡ false → a ≡ false
-    neither a b h = grind (arith, common_steps)
-
-    later : (a b : Bool) → (a || b) ≡ false → b ≡ false
-    later a b h = grind (arith, common_steps)
-
     at_ : (list_any (of_run (λ y. did n y d)) is ≡ false → list_any (is_ran x) is ≡ true → did n x d ≡ false) → (b : Bool) → (q.0 == x) ≡ b → (did n q.0 d || list_any (of_run (λ y. did n y d)) is) ≡ false → (b || list_any (is_ran x) is) ≡ true → did n x d ≡ false
-    at_ ih true e h k = sym (ap (λ y. did n y d) (same q.0 x e)) ∙ neither (did n q.0 d) (list_any (of_run (λ y. did n y d)) is) h
-    at_ ih false e h k = ih (later (did n q.0 d) (list_any (of_run (λ y. did n y d)) is) h) k
+    at_ ih true e h k = sym (ap (λ y. did n y d) (eqb-true q.0 x e)) ∙ (or_parts (did n q.0 d) (list_any (of_run (λ y. did n y d)) is) h).0
+    at_ ih false e h k = ih (or_parts (did n q.0 d) (list_any (of_run (λ y. did n y d)) is) h).1 k
 found n d x (Failed e k ∷ is) none there = found n d x is none there
 found n d x (Back e k ∷ is) none there = found n d x is none there
 

@@ -16,6 +16,7 @@ use Rattle.lock_leasing.specs.Configurations.{Grip, Grips, grips_command, is_com
 use Rattle.lock_leasing.specs.Order.{open_runs_are_last}
 use Rattle.lock_leasing.specs.Words.{holds_device, live_runs}
 use Rattle.std.proofs.Common.{ap, arith, refl, sym, ◌∙◌}
+use Rattle.std.proofs.lemmas.Bool.{both_ways, eq-eqb, eqb-true, or_left, or_right}
 use Rattle.std.proofs.lemmas.Grind.{common_steps}
 use Rattle.std.proofs.lemmas.List.Folds.{list_any-append}
 use Rattle.std.specs.List.{list_any}
@@ -42,14 +43,8 @@ use Rattle.window_order.specs.TableKept.{TableIsKept}
 none_called : (w : Setting) (n : Reading) (g : Grips) (held : ℕ → ℕ) (d r q : ℕ) → IsRead w n → OrderIsKept w n g held → is_open w n r d ≡ true → did n r d ≡ true → q ≢ r → grips_command g q d ≡ false
 none_called w n g held d r q read kept opened has ne = by_grip (grips_command g q d) refl
   where
-    clash : (b : Bool) → b ≡ true → b ≡ false → ⊥
-    clash b h k = grind (arith, common_steps)
-
     lives : (l x p : Bool) → (l && not x && p) ≡ true → l ≡ true
     lives l x p h = grind (arith, common_steps)
-
-    either : (a b : Bool) → b ≡ true → (a || b) ≡ true
-    either a b h = grind (arith, common_steps)
 
     tail : (x y : ℕ) (b : Bool) → x ≢ y → ((x == y) || b) ≡ true → b ≡ true
     tail x y b h k = grind (arith, common_steps)
@@ -80,8 +75,8 @@ none_called w n g held d r q read kept opened has ne = by_grip (grips_command g 
         along = ap (open_runs_are_last w n g d) (sym cut.at) ∙ open_runs_last w n g held d read kept
 
         by_place : (b : Bool) → list_any (is_ran r) cut.front ≡ b → ⊥
-        by_place true there = clash (is_open w n r d) opened (closed_before w n g d cut.front cut.back (Ran (run_no q)) (either (did n q d) (grips_command g q d) out) along r there)
-        by_place false there = clash (did n r d) has (found n d r cut.back (unseen_behind w n g held d q cut read kept device acts.uses (command_held w g q d ∙ out)) (tail q r (list_any (is_ran r) cut.back) ne (later (list_any (is_ran r) cut.front) (list_any (is_ran r) (Ran (run_no q) ∷ cut.back)) there stands)))
+        by_place true there = both_ways (is_open w n r d) (closed_before w n g d cut.front cut.back (Ran (run_no q)) (or_right (did n q d) (grips_command g q d) out) along r there) opened
+        by_place false there = both_ways (did n r d) (found n d r cut.back (unseen_behind w n g held d q cut read kept device acts.uses (command_held w g q d ∙ out)) (tail q r (list_any (is_ran r) cut.back) ne (later (list_any (is_ran r) cut.front) (list_any (is_ran r) (Ran (run_no q) ∷ cut.back)) there stands))) has
 
     by_grip : (b : Bool) → grips_command g q d ≡ b → b ≡ false
     by_grip true out = absurd (called out)
@@ -103,20 +98,11 @@ told_touches_now w n g held r c cut s = record {
     d : ℕ
     d = c.device.0
 
-    self : (x : ℕ) (b : Bool) → ((x == x) || b) ≡ true
-    self x b = grind (arith, common_steps)
-
-    same : (x y : ℕ) → (x == y) ≡ true → x ≡ y
-    same x y h = grind (arith, common_steps)
-
-    clash : (b : Bool) → b ≡ true → b ≡ false → ⊥
-    clash b h k = grind (arith, common_steps)
-
     pending : pends w n r d ≡ true
-    pending = sym (ap (uses_device d) (rest_drop (commands_of w.runs r) (n.run r).answers)) ∙ ap (uses_device d) (told_left w n g held r c s) ∙ self d (uses_device d (drop (next_of n r + 1) (commands_of w.runs r)))
+    pending = sym (ap (uses_device d) (rest_drop (commands_of w.runs r) (n.run r).answers)) ∙ ap (uses_device d) (told_left w n g held r c s) ∙ or_left (d == d) (uses_device d (drop (next_of n r + 1) (commands_of w.runs r))) (eq-eqb d d refl)
 
     by_undid : (b : Bool) → ((n.run r).on d).undid ≡ b → b ≡ false
-    by_undid true e = absurd (clash (is_doomed n r) ((s.read.shaped r).undone d e) (ap is_some s.sound))
+    by_undid true e = absurd (both_ways (is_doomed n r) (ap is_some s.sound) ((s.read.shaped r).undone d e))
     by_undid false e = refl
 
     unheld : (o : Option Grip) → g d ≡ o → unwrap_or (option_map (λ p. (p.maker == r) && is_undo p.purpose) o) false ≡ false
@@ -124,7 +110,7 @@ told_touches_now w n g held r c cut s = record {
     unheld (Some grip) e = by_maker (grip.maker == r) refl
       where
         by_maker : (b : Bool) → (grip.maker == r) ≡ b → (b && is_undo grip.purpose) ≡ false
-        by_maker true own = absurd (told_holds w n g held r c s d grip.purpose (e ∙ (λ i. Some (record { maker = same grip.maker r own i; purpose = grip.purpose }))))
+        by_maker true own = absurd (told_holds w n g held r c s d grip.purpose (e ∙ (λ i. Some (record { maker = eqb-true grip.maker r own i; purpose = grip.purpose }))))
         by_maker false own = refl
 
     opened : is_open w n r d ≡ true
@@ -165,9 +151,6 @@ told_table w n g held r c old new s changes kept = changed_table w n (entry w n 
     d : ℕ
     d = (command_at w.runs r (next_of n r)).device.0
 
-    same : (x y : ℕ) → (x == y) ≡ true → x ≡ y
-    same x y h = grind (arith, common_steps)
-
     unheld : grips_command g r d ≡ false
     unheld = by (g d) refl
       where
@@ -176,5 +159,5 @@ told_table w n g held r c old new s changes kept = changed_table w n (entry w n 
         by (Some grip) e = by_maker (grip.maker == r) refl
           where
             by_maker : (b : Bool) → (grip.maker == r) ≡ b → (b && is_command grip.purpose) ≡ false
-            by_maker true mine = absurd (told_holds w n g held r c s d grip.purpose (e ∙ (λ i. Some (record { maker = same grip.maker r mine i; purpose = grip.purpose }))))
+            by_maker true mine = absurd (told_holds w n g held r c s d grip.purpose (e ∙ (λ i. Some (record { maker = eqb-true grip.maker r mine i; purpose = grip.purpose }))))
             by_maker false other = refl

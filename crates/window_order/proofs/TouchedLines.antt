@@ -26,6 +26,7 @@ use Rattle.serial_line.proofs.Ties.{line_empty, line_inserted, line_removed, lin
 use Rattle.serial_line.specs.Marks.{Mark, settling, stands, touching, with_item, without}
 use Rattle.serial_line.specs.Ties.{IsLineOf}
 use Rattle.std.proofs.Common.{ap, ap₂, arith, cond, refl, subst, sym, ◌∙◌}
+use Rattle.std.proofs.lemmas.Bool.{and_right, eq-eqb, eqb-false, eqb-true}
 use Rattle.std.proofs.lemmas.Grind.{common_steps}
 use Rattle.std.specs.List.{list_any}
 use Rattle.std.specs.Option.{option_or}
@@ -119,11 +120,8 @@ marks_placed w n g r at m marks read fit may kept = line_inserted at (Ran (run_n
     ungripped : (d : ℕ) → grips_command g r d ≡ false
     ungripped d = at_ (g d) refl
       where
-        equal : (a b : ℕ) → (a == b) ≡ true → a ≡ b
-        equal a b h = grind (arith, common_steps)
-
         by_maker : (grip : Grip) → g d ≡ Some grip → (b : Bool) → (grip.maker == r) ≡ b → (b && is_command grip.purpose) ≡ false
-        by_maker grip e true own = absurd (holds d grip.purpose (e ∙ (λ i. Some (record { maker = equal grip.maker r own i; purpose = grip.purpose }))))
+        by_maker grip e true own = absurd (holds d grip.purpose (e ∙ (λ i. Some (record { maker = eqb-true grip.maker r own i; purpose = grip.purpose }))))
         by_maker grip e false own = refl
 
         at_ : (o : Option Grip) → g d ≡ o → unwrap_or (option_map (λ p. (p.maker == r) && is_command p.purpose) o) false ≡ false
@@ -143,12 +141,6 @@ marks_out n g r d k marks home kept = line_touching r d kept also
     after : Grips
     after = put g d (Some (record { maker = r; purpose = Commands k }))
 
-    equal : (a b : ℕ) → (a == b) ≡ true → a ≡ b
-    equal a b h = grind (arith, common_steps)
-
-    differ : (a b : ℕ) → (a == b) ≡ false → a ≢ b
-    differ a b h = grind (arith, common_steps)
-
     here : (x q : ℕ) (b : Bool) → (b || ((x == q) && true)) ≡ (((q == x) && true) || (b || false))
     here x q b = grind (arith, common_steps)
 
@@ -156,7 +148,7 @@ marks_out n g r d k marks home kept = line_touching r d kept also
     there x y = grind (arith, common_steps)
 
     ran : (q e : ℕ) (b : Bool) → (e == d) ≡ b → (did n q e || unwrap_or (option_map (λ p. (p.maker == q) && is_command p.purpose) (if b then Some (record { maker = r; purpose = Commands k }) else g e)) false) ≡ (((q == r) && b) || has_touched n g q e)
-    ran q e true at = here r q (did n q e) ∙ (λ i. ((q == r) && true) || (did n q e || unwrap_or (option_map (λ p. (p.maker == q) && is_command p.purpose) (sym (ap g (equal e d at) ∙ home) i)) false))
+    ran q e true at = here r q (did n q e) ∙ (λ i. ((q == r) && true) || (did n q e || unwrap_or (option_map (λ p. (p.maker == q) && is_command p.purpose) (sym (ap g (eqb-true e d at) ∙ home) i)) false))
     ran q e false at = there (q == r) (has_touched n g q e)
 
     also : (i : Item) (e : ℕ) → item_has_touched n after i e ≡ ((is_ran r i && (e == d)) || item_has_touched n g i e)
@@ -170,12 +162,6 @@ marks_answered w n g d r k a marks out at kept = marks_same n (entry w n (Did (r
   where
     next : Reading
     next = entry w n (Did (run_no r) k a)
-
-    equal : (x y : ℕ) → (x == y) ≡ true → x ≡ y
-    equal x y h = grind (arith, common_steps)
-
-    differ : (x y : ℕ) → (x == y) ≡ false → x ≢ y
-    differ x y h = grind (arith, common_steps)
 
     swapped : (x y : ℕ) → (x == y) ≡ false → (y == x) ≡ false
     swapped x y h = grind (arith, common_steps)
@@ -211,15 +197,12 @@ marks_answered w n g d r k a marks out at kept = marks_same n (entry w n (Did (r
     off : (x y : Bool) → y ≡ false → (x || false) ≡ (x || (y && true))
     off x y h = grind (arith, common_steps)
 
-    self : (x : ℕ) → (x == x) ≡ true
-    self x = grind (arith, common_steps)
-
     -- what the grip says before and after
     gripped : (q e : ℕ) (b : Bool) → (e == d) ≡ b → grips_command (put g d None) q e ≡ unwrap_or (option_map (λ p. (p.maker == q) && is_command p.purpose) (if b then None else g e)) false
     gripped q e b h = ap (λ x. unwrap_or (option_map (λ p. (p.maker == q) && is_command p.purpose) (if x then None else g e)) false) h
 
     was : (q e : ℕ) → (e == d) ≡ true → grips_command g q e ≡ ((r == q) && true)
-    was q e h = ap (λ o. unwrap_or (option_map (λ p. (p.maker == q) && is_command p.purpose) o) false) (ap g (equal e d h) ∙ at)
+    was q e h = ap (λ o. unwrap_or (option_map (λ p. (p.maker == q) && is_command p.purpose) o) false) (ap g (eqb-true e d h) ∙ at)
 
     others : (q e : ℕ) → q ≢ r → did next q e ≡ did n q e
     others q e ne = ap (λ (o : OfRun). is_some (o.on e).view) (put_other n.run r new q ne)
@@ -229,12 +212,12 @@ marks_answered w n g d r k a marks out at kept = marks_same n (entry w n (Did (r
       where
         by_run : (x : Bool) → (q == r) ≡ x → (b : Bool) → (e == d) ≡ b → has_touched next (put g d None) q e ≡ has_touched n g q e
         by_run true mine true here =
-            (λ i. did next q e || gripped q e true here i) ∙ true_or (did next q e) (did n q e) (r == q) (ap₂ (did next) (equal q r mine) (equal e d here) ∙ has_answered) (ap (λ x. r == x) (equal q r mine) ∙ self r)
+            (λ i. did next q e || gripped q e true here i) ∙ true_or (did next q e) (did n q e) (r == q) (ap₂ (did next) (eqb-true q r mine) (eqb-true e d here) ∙ has_answered) (ap (λ x. r == x) (eqb-true q r mine) ∙ eq-eqb r r refl)
             ∙ (λ i. did n q e || sym (was q e here) i)
-        by_run true mine false there = (λ i. (ap (λ x. did next x e) (equal q r mine) ∙ elsewhere e (differ e d there) ∙ ap (λ x. did n x e) (sym (equal q r mine))) i || gripped q e false there i)
+        by_run true mine false there = (λ i. (ap (λ x. did next x e) (eqb-true q r mine) ∙ elsewhere e (eqb-false e d there) ∙ ap (λ x. did n x e) (sym (eqb-true q r mine))) i || gripped q e false there i)
         by_run false other true here =
-            (λ i. others q e (differ q r other) i || gripped q e true here i) ∙ off (did n q e) (r == q) (swapped q r other) ∙ (λ i. did n q e || sym (was q e here) i)
-        by_run false other false there = (λ i. others q e (differ q r other) i || gripped q e false there i)
+            (λ i. others q e (eqb-false q r other) i || gripped q e true here i) ∙ off (did n q e) (r == q) (swapped q r other) ∙ (λ i. did n q e || sym (was q e here) i)
+        by_run false other false there = (λ i. others q e (eqb-false q r other) i || gripped q e false there i)
 
 -- A doomed run
 
@@ -246,19 +229,11 @@ marks_doomed w n g r cause marks kept = marks_same n (entry w n (Doomed (run_no 
 pub marks_undo_out : (n : Reading) (g : Grips) (r d v : ℕ) (marks : List Mark) → g d ≡ None → MarksAreKept n g marks → MarksAreKept n (put g d (Some (record { maker = r; purpose = Undoes v }))) marks
 marks_undo_out n g r d v marks home kept = marks_same n n g (put g d (Some (record { maker = r; purpose = Undoes v }))) marks refl (λ q e. ap (λ b. did n q e || b) (put_keeps (λ o. unwrap_or (option_map (λ p. (p.maker == q) && is_command p.purpose) o) false) g d _ (none q ∙ sym (ap (λ o. unwrap_or (option_map (λ p. (p.maker == q) && is_command p.purpose) o) false) home)) e)) (λ q. refl) kept
   where
-    off : (b : Bool) → (b && false) ≡ false
-    off true = refl
-    off false = refl
-
     none : (q : ℕ) → ((r == q) && false) ≡ false
-    none q = off (r == q)
+    none q = and_right (r == q) false refl
 
 pub marks_undo_home : (n : Reading) (g : Grips) (r d v : ℕ) (marks : List Mark) → g d ≡ Some (record { maker = r; purpose = Undoes v }) → MarksAreKept n g marks → MarksAreKept n (put g d None) marks
-marks_undo_home n g r d v marks out kept = marks_same n n g (put g d None) marks refl (λ q e. ap (λ b. did n q e || b) (put_keeps (λ o. unwrap_or (option_map (λ p. (p.maker == q) && is_command p.purpose) o) false) g d None (sym (ap (λ o. unwrap_or (option_map (λ p. (p.maker == q) && is_command p.purpose) o) false) out ∙ off (r == q))) e)) (λ q. refl) kept
-  where
-    off : (b : Bool) → (b && false) ≡ false
-    off true = refl
-    off false = refl
+marks_undo_home n g r d v marks out kept = marks_same n n g (put g d None) marks refl (λ q e. ap (λ b. did n q e || b) (put_keeps (λ o. unwrap_or (option_map (λ p. (p.maker == q) && is_command p.purpose) o) false) g d None (sym (ap (λ o. unwrap_or (option_map (λ p. (p.maker == q) && is_command p.purpose) o) false) out ∙ and_right (r == q) false refl)) e)) (λ q. refl) kept
 
 -- a run is undone on a device
 pub marks_undone : (w : Setting) (n : Reading) (g : Grips) (r d : ℕ) (drove : Bool) (marks : List Mark) → MarksAreKept n g marks → MarksAreKept (entry w n (Undid (run_no r) (device_no d) drove)) g marks
@@ -293,10 +268,7 @@ marks_aborted w n g r cause marks kept = line_retold (line_removed r kept) (λ i
         one false e false f rest h = rest (sym (ap (λ x. x || list_any (is_ran q) (filter (λ j. not (is_ran r j)) is)) f) ∙ h)
 
     ends : (q : ℕ) → (q == r) ≡ false → has_ended next q ≡ has_ended n q
-    ends q other = ap (λ (o : OfRun). is_some o.ended) (put_other n.run r _ q (differ q r other))
-      where
-        differ : (a b : ℕ) → (a == b) ≡ false → a ≢ b
-        differ a b h = grind (arith, common_steps)
+    ends q other = ap (λ (o : OfRun). is_some o.ended) (put_other n.run r _ q (eqb-false q r other))
 
 -- What the line asks for
 

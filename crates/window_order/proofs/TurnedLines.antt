@@ -16,6 +16,7 @@ use Rattle.home_types.specs.declared.commands.Command.{Command}
 use Rattle.home_types.specs.declared.items.Item.TheVariants.{Back, Failed, Ran}
 use Rattle.home_types.specs.declared.items.Item.{Item}
 use Rattle.home_types.specs.declared.numbers.DeviceNo.{DeviceNo}
+use Rattle.lock_leasing.proofs.EventRuns.{before_first, before_none, put_at}
 use Rattle.lock_leasing.specs.Configurations.{Commands, Grips, Probes, grips_command}
 use Rattle.lock_leasing.specs.Places.{up_to_first}
 use Rattle.lock_leasing.specs.Standings.{has_ended, item_has_touched}
@@ -41,119 +42,25 @@ use Rattle.window_order.specs.MarksKept.{MarksAreKept}
 
 -- The place of an event
 
--- what stands before the first item of which the test holds stands at this place
-put_at : (t : Item → Bool) (x : Item) (line : List Item) → put_before t x line ≡ take (up_to_first t line) line ++ x ∷ drop (up_to_first t line) line
-put_at t x [] = refl
-put_at t x (i ∷ is) = by_test (t i) (put_at t x is)
-  where
-    next : (k : ℕ) → k + 1 ≡ suc k
-    next k = omega arith
-
-    by_test : (b : Bool) → put_before t x is ≡ take (up_to_first t is) is ++ x ∷ drop (up_to_first t is) is
-        → (if b then x ∷ i ∷ is else i ∷ put_before t x is) ≡ take (if b then 0 else up_to_first t is + 1) (i ∷ is) ++ x ∷ drop (if b then 0 else up_to_first t is + 1) (i ∷ is)
-    by_test true rest = refl
-    by_test false rest = ap (λ l. i ∷ l) rest ∙ ap (λ k. take k (i ∷ is) ++ x ∷ drop k (i ∷ is)) (sym (next (up_to_first t is)))
-
 -- the place of the device's event: before the first run that is open there and has done nothing there, else at the end
 abbrev pub event_place_of : Setting → Reading → ℕ → ℕ
 event_place_of w n d = up_to_first (of_run (awaits_there w n d)) n.line
 
 -- Where the event stands
 
--- before that run, ..
-pub event_before : (w : Setting) (n : Reading) (d r : ℕ) → find (awaits_there w n d) (live_runs n n.line) ≡ Some r → event_place_of w n d ≡ up_to_first (is_ran r) n.line
-event_before w n d r some = along n.line some
+live_awaits : (w : Setting) (n : Reading) (d q : ℕ) → awaits_there w n d q ≡ true → is_live n q ≡ true
+live_awaits w n d q awaiting = lives (is_weak w.mode) (is_live n q) (is_doomed n q) (pends w n q d) (did n q d) awaiting
   where
-    equal : (x y : ℕ) → (x == y) ≡ true → x ≡ y
-    equal x y h = grind (arith, common_steps)
-
-    self : (x y : ℕ) → x ≡ y → (x == y) ≡ true
-    self x y h = grind (arith, common_steps)
-
     lives : (a l x p v : Bool) → (not a && (l && not x && p) && not v) ≡ true → l ≡ true
     lives a l x p v h = grind (arith, common_steps)
 
-    clash : (b : Bool) → b ≡ true → b ≡ false → ⊥
-    clash b h k = grind (arith, common_steps)
-
-    -- the run that is found passes the test
-    passes : (xs : List ℕ) → find (awaits_there w n d) xs ≡ Some r → awaits_there w n d r ≡ true
-    passes [] h = absurd (cc)
-    passes (x ∷ xs) h = at_ (passes xs) (awaits_there w n d x) refl h
-      where
-        at_ : (find (awaits_there w n d) xs ≡ Some r → awaits_there w n d r ≡ true) → (b : Bool) → awaits_there w n d x ≡ b → cond b (Some x) (find (awaits_there w n d) xs) ≡ Some r → awaits_there w n d r ≡ true
-        at_ ih true e k = ap (awaits_there w n d) (sym (some_is x r k)) ∙ e
-        at_ ih false e k = ih k
-
-    along : (is : List Item) → find (awaits_there w n d) (live_runs n is) ≡ Some r → up_to_first (of_run (awaits_there w n d)) is ≡ up_to_first (is_ran r) is
-    along [] h = absurd (cc)
-    along (Failed e k ∷ is) h = ap (λ x. x + 1) (along is h)
-    along (Back e k ∷ is) h = ap (λ x. x + 1) (along is h)
-    along (Ran q ∷ is) h = at_ (along is) (awaits_there w n d q.0) refl (is_live n q.0) refl (q.0 == r) refl h
-      where
-        at_ : (find (awaits_there w n d) (live_runs n is) ≡ Some r → up_to_first (of_run (awaits_there w n d)) is ≡ up_to_first (is_ran r) is) → (b : Bool) → awaits_there w n d q.0 ≡ b → (l : Bool) → is_live n q.0 ≡ l → (c : Bool) → (q.0 == r) ≡ c
-            → find (awaits_there w n d) (cons_option (if l then Some q.0 else None) (live_runs n is)) ≡ Some r → (if b then 0 else up_to_first (of_run (awaits_there w n d)) is + 1) ≡ (if c then 0 else up_to_first (is_ran r) is + 1)
-        at_ ih true e true live true own h = refl
-        at_ ih true e true live false own h = absurd (clash (q.0 == r) (self q.0 r (some_is q.0 r (sym (ap (λ b. cond b (Some q.0) (find (awaits_there w n d) (live_runs n is))) e) ∙ h))) own)
-        at_ ih true e false dead c own h = absurd (clash (is_live n q.0) (lives (is_weak w.mode) (is_live n q.0) (is_doomed n q.0) (pends w n q.0 d) (did n q.0 d) e) dead)
-        at_ ih false e true live true own h = absurd (clash (awaits_there w n d q.0) (ap (awaits_there w n d) (equal q.0 r own) ∙ passes (q.0 ∷ live_runs n is) h) e)
-        at_ ih false e true live false own h = ap (λ x. x + 1) (ih (sym (ap (λ b. cond b (Some q.0) (find (awaits_there w n d) (live_runs n is))) e) ∙ h))
-        at_ ih false e false dead true own h = absurd (clash (awaits_there w n d q.0) (ap (awaits_there w n d) (equal q.0 r own) ∙ passes (live_runs n is) h) e)
-        at_ ih false e false dead false own h = ap (λ x. x + 1) (ih h)
-
--- whose place the line tells, ..
-pub run_place : (n : Reading) (g : Grips) (r : ℕ) (marks : List Mark) → list_any (is_ran r) n.line ≡ true → MarksAreKept n g marks → place_of (Ran (run_no r)) marks ≡ Some (up_to_first (is_ran r) n.line)
-run_place n g r marks there kept = ap (position (is_ran r)) kept.items ∙ (λ i. cond (nat_lt (sym counted i) (length n.line)) (Some (sym counted i)) None) ∙ ap (λ b. cond b (Some (up_to_first (is_ran r) n.line)) None) (within n.line there)
-  where
-    one_more : (b : Bool) (k : ℕ) → (if b then 0 else k + 1) ≡ cond b 0 (1 + k)
-    one_more true k = refl
-    one_more false k = omega arith
-
-    counted : up_to_first (is_ran r) n.line ≡ position_or_len (is_ran r) n.line
-    counted = is_position_or_len (up_to_first (is_ran r)) (is_ran r) refl (λ x xs. one_more (is_ran r x) (up_to_first (is_ran r) xs)) n.line
-
-    within : (is : List Item) → list_any (is_ran r) is ≡ true → nat_lt (up_to_first (is_ran r) is) (length is) ≡ true
-    within [] h = absurd (cc)
-    within (i ∷ is) h = at_ (is_ran r i) (within is) h
-      where
-        more : (k l : ℕ) → nat_lt k l ≡ true → nat_lt (k + 1) (suc l) ≡ true
-        more k l h = grind (arith, common_steps)
-
-        some : (l : ℕ) → nat_lt 0 (suc l) ≡ true
-        some l = grind (arith, common_steps)
-
-        at_ : (b : Bool) → (list_any (is_ran r) is ≡ true → nat_lt (up_to_first (is_ran r) is) (length is) ≡ true) → (b || list_any (is_ran r) is) ≡ true → nat_lt (if b then 0 else up_to_first (is_ran r) is + 1) (suc (length is)) ≡ true
-        at_ true ih k = some (length is)
-        at_ false ih k = more (up_to_first (is_ran r) is) (length is) (ih k)
+-- before that run, ..
+pub event_before : (w : Setting) (n : Reading) (d r : ℕ) → find (awaits_there w n d) (live_runs n n.line) ≡ Some r → event_place_of w n d ≡ up_to_first (is_ran r) n.line
+event_before w n d r some = before_first n (awaits_there w n d) (live_awaits w n d) r n.line some
 
 -- .. and at the end of the line where there is none
 pub event_last : (w : Setting) (n : Reading) (d : ℕ) → find (awaits_there w n d) (live_runs n n.line) ≡ None → event_place_of w n d ≡ length n.line
-event_last w n d none = along n.line none
-  where
-    lives : (a l x p v : Bool) → (not a && (l && not x && p) && not v) ≡ true → l ≡ true
-    lives a l x p v h = grind (arith, common_steps)
-
-    clash : (b : Bool) → b ≡ true → b ≡ false → ⊥
-    clash b h k = grind (arith, common_steps)
-
-    next : (x y : ℕ) → x ≡ y → x + 1 ≡ suc y
-    next x y h = omega (arith, h)
-
-    along : (is : List Item) → find (awaits_there w n d) (live_runs n is) ≡ None → up_to_first (of_run (awaits_there w n d)) is ≡ length is
-    along [] h = refl
-    along (Failed e k ∷ is) h = next _ _ (along is h)
-    along (Back e k ∷ is) h = next _ _ (along is h)
-    along (Ran q ∷ is) h = at_ (along is) (awaits_there w n d q.0) refl (is_live n q.0) refl h
-      where
-        at_ : (find (awaits_there w n d) (live_runs n is) ≡ None → up_to_first (of_run (awaits_there w n d)) is ≡ length is) → (b : Bool) → awaits_there w n d q.0 ≡ b → (l : Bool) → is_live n q.0 ≡ l
-            → find (awaits_there w n d) (cons_option (if l then Some q.0 else None) (live_runs n is)) ≡ None → (if b then 0 else up_to_first (of_run (awaits_there w n d)) is + 1) ≡ suc (length is)
-        at_ ih true e true live h = absurd (none_some (sym (ap (λ b. cond b (Some q.0) (find (awaits_there w n d) (live_runs n is))) e) ∙ h))
-          where
-            none_some : Some q.0 ≡ None → ⊥
-            none_some k = absurd (cc)
-        at_ ih true e false dead h = absurd (clash (is_live n q.0) (lives (is_weak w.mode) (is_live n q.0) (is_doomed n q.0) (pends w n q.0 d) (did n q.0 d) e) dead)
-        at_ ih false e true live h = next _ _ (ih (sym (ap (λ b. cond b (Some q.0) (find (awaits_there w n d) (live_runs n is))) e) ∙ h))
-        at_ ih false e false dead h = next _ _ (ih h)
+event_last w n d none = before_none n (awaits_there w n d) (live_awaits w n d) n.line none
 
 -- an event has touched its device as it comes
 event_touches : (touched : Item → ℕ → Bool) (x : Item) (e : DeviceNo) → (untouched x).touched ≡ set.insert set.empty e.0 → ((d : ℕ) → touched x d ≡ (e.0 == d)) → TouchesAs touched (untouched x)

@@ -4,7 +4,7 @@ use Rattle.command_rules.specs.Rosters.{commands_of, device_no, is_on, run_no, t
 use Rattle.device_order.proofs.InPlace.{two_places}
 use Rattle.device_order.proofs.LineWords.{has_entries}
 use Rattle.device_order.proofs.Losses.{one_spans, restart_loses_none, undo_loses_none}
-use Rattle.device_order.proofs.WindowTimes.{EventCut, event_cut}
+use Rattle.device_order.proofs.EventCuts.{EventCut, event_cut}
 use Rattle.device_order.specs.LineEntries.{entries, usage}
 use Rattle.device_order.specs.LineWords.{CutAt, any_run, at_device}
 use Rattle.device_order.specs.Usages.{is_command as holds_command, spans_up}
@@ -22,6 +22,7 @@ use Rattle.lock_leasing.specs.Order.{InHistoryOrder, is_in_line, is_late}
 use Rattle.lock_leasing.specs.Waits.{lost_by}
 use Rattle.lock_leasing.specs.Words.{live_runs}
 use Rattle.std.proofs.Common.{ap, arith, cond, refl, sym, ◌∙◌}
+use Rattle.std.proofs.lemmas.Bool.{eq-eqb, eqb-true, or_parts}
 use Rattle.std.proofs.lemmas.Grind.{common_steps}
 use Rattle.std.proofs.lemmas.List.Folds.{list_any-append}
 use Rattle.std.proofs.lemmas.List.{drop_all}
@@ -77,9 +78,6 @@ turned_history w n m g held d x read strong device kept turn e = two_places (λ 
       doomed = turn.doomed;
     }
 
-    self : (y : ℕ) → (y == y) ≡ true
-    self y = grind (arith, common_steps)
-
     unlike : (y z : ℕ) → y ≢ z → (z == y) ≡ false
     unlike y z h = grind (arith, common_steps)
 
@@ -88,7 +86,7 @@ turned_history w n m g held d x read strong device kept turn e = two_places (λ 
     seen (Some b) h = refl
 
     at_it : InHistoryOrder n d → InHistoryOrder m d
-    at_it h = event_history n m d x c.front c.back (comes d) (turn.of_device d ∙ self d) turn.here (event_calm w n g held d x c read kept device)
+    at_it h = event_history n m d x c.front c.back (comes d) (turn.of_device d ∙ eq-eqb d d refl) turn.here (event_calm w n g held d x c read kept device)
         (λ q stands sound up. read.closed q d (seen (view_of n q d) up) (none_left w n q d read stands (turn.doomed q sound) up (turn.none_spans q stands sound)) (Event x ∷ [])) h
 
     elsewhere : e ≢ d → InHistoryOrder n e → InHistoryOrder m e
@@ -102,18 +100,12 @@ unfolding any_run
 any_none p q [] none stands = absurd (cc)
 any_none p q (Ran r ∷ is) none stands = at_ (any_none p q is) (r.0 == q) refl
   where
-    equal : (y z : ℕ) → (y == z) ≡ true → y ≡ z
-    equal y z h = grind (arith, common_steps)
-
-    parts : (a b : Bool) → (a || b) ≡ false → (a ≡ false) × (b ≡ false)
-    parts a b h = (grind (arith, common_steps), grind (arith, common_steps))
-
     tail : (a b : Bool) → a ≡ false → (a || b) ≡ true → b ≡ true
     tail a b h k = grind (arith, common_steps)
 
     at_ : (any_run p is ≡ false → list_any (is_ran q) is ≡ true → p q ≡ false) → (b : Bool) → (r.0 == q) ≡ b → p q ≡ false
-    at_ ih true e = sym (ap p (equal r.0 q e)) ∙ (parts (p r.0) (any_run p is) none).0
-    at_ ih false e = ih (parts (p r.0) (any_run p is) none).1 (tail (r.0 == q) (list_any (is_ran q) is) e stands)
+    at_ ih true e = sym (ap p (eqb-true r.0 q e)) ∙ (or_parts (p r.0) (any_run p is) none).0
+    at_ ih false e = ih (or_parts (p r.0) (any_run p is) none).1 (tail (r.0 == q) (list_any (is_ran q) is) e stands)
 any_none p q (Failed e k ∷ is) none stands = any_none p q is none stands
 any_none p q (Back e k ∷ is) none stands = any_none p q is none stands
 

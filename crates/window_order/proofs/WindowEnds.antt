@@ -9,6 +9,7 @@ use Rattle.history_book.specs.Readings.{Event, First, Last, Mark, OfRun, PlacedA
 use Rattle.history_book.specs.Settings.{Setting, is_weak}
 use Rattle.history_book.specs.declared.entries.Entry.TheVariants.{Arrived, Did, Doomed, Ended, Fell, Placed, Rose, Undid}
 use Rattle.history_book.specs.declared.entries.Entry.{Entry}
+use Rattle.std.proofs.lemmas.Bool.{both_ways, eq-eqb, or_left, or_right}
 use Rattle.std.proofs.lemmas.List.Folds.{list_all-append}
 use Rattle.history_book.specs.declared.entries.End.TheVariants.{Aborted, Committed}
 use Rattle.history_book.specs.declared.entries.End.{End}
@@ -24,10 +25,9 @@ use Rattle.std.proofs.lemmas.Grind.{common_steps}
 use Rattle.std.proofs.lemmas.List.FromFn.{get_or-map-range_with_len, length-map-range_with_len}
 use Rattle.std.specs.List.{cons_option, list_all, list_any}
 use Rattle.std.specs.Option.{option_or}
-use Rattle.std.specs.Prelude.{◌+◌, ◌++◌, Bool, IsTrue, List, None, Option, Some, [], cond, count_by, false, filter, filter_map, fold, if◌then◌else◌, is_none, is_some, length, nat_lt, not, option_map, true, unwrap_or, ℕ, ◌&&◌, ◌<◌, ◌==◌, ◌||◌, ◌∷◌, ◌≡◌}
+use Rattle.std.specs.Prelude.{◌+◌, ◌++◌, Bool, IsTrue, List, None, Option, Some, [], cond, count_by, false, filter, filter_map, fold, if◌then◌else◌, is_none, is_some, length, not, option_map, true, unwrap_or, ℕ, ◌&&◌, ◌<◌, ◌==◌, ◌||◌, ◌∷◌, ◌≡◌}
 use Rattle.window_order.proofs.ReadFacts.{IsRead}
 use Rattle.window_order.proofs.SettledOrders.{same_home, settled_agree}
-use Rattle.window_order.proofs.StandingValues.{stands_home}
 use Rattle.window_order.specs.OrderKept.{OrderIsKept}
 
 abbrev pub NoneIsLive : Reading → Type 0
@@ -41,9 +41,6 @@ none_is_live w n s ended r = by (n.run r).placed (n.run r).ended (λ e. ended r 
     by None e h = refl
     by (Some p) None h = sym (h refl)
     by (Some p) (Some e) h = refl
-
-clash : (x : Bool) → x ≡ true → x ≡ false → ⊥
-clash x e f = grind (arith, common_steps)
 
 -- where no run is live, a run stands in the line exactly where it is committed
 stands_committed : (o : OfRun) → (is_some o.placed || is_none o.ended) ≡ true → (is_some o.placed && is_none o.ended) ≡ false → stands_in o ≡ unwrap_or (option_map is_committing o.ended) false
@@ -88,14 +85,8 @@ own_step w n (Did r c a) s =
     (events_more (command_at w.runs r.0 c).device.0 (not (touches_from w.runs r.0 (command_at w.runs r.0 c).device.0 (c + 1))) (Last r.0) _ refl
     (events_more (command_at w.runs r.0 c).device.0 (is_access a && is_none ((n.run r.0).on (command_at w.runs r.0 c).device.0).view) (First r.0) (n.log (command_at w.runs r.0 c).device.0) refl (s (command_at w.runs r.0 c).device.0)))
 own_step w n (Undid r d drove) s = s
-own_step w n (Fell d) s = put_all (λ e marks. list_all (is_mark_on e) marks ≡ true) n.log d.0 (n.log d.0 ++ Event (Failed d (n.fell d.0 + 1)) ∷ []) s (events_more d.0 true (Event (Failed d (n.fell d.0 + 1))) (n.log d.0) (same d.0) (s d.0))
-  where
-    same : (k : ℕ) → (k == k) ≡ true
-    same k = grind (arith, common_steps)
-own_step w n (Rose d) s = put_all (λ e marks. list_all (is_mark_on e) marks ≡ true) n.log d.0 (n.log d.0 ++ Event (Back d (n.rose d.0 + 1)) ∷ []) s (events_more d.0 true (Event (Back d (n.rose d.0 + 1))) (n.log d.0) (same d.0) (s d.0))
-  where
-    same : (k : ℕ) → (k == k) ≡ true
-    same k = grind (arith, common_steps)
+own_step w n (Fell d) s = put_all (λ e marks. list_all (is_mark_on e) marks ≡ true) n.log d.0 (n.log d.0 ++ Event (Failed d (n.fell d.0 + 1)) ∷ []) s (events_more d.0 true (Event (Failed d (n.fell d.0 + 1))) (n.log d.0) (eq-eqb d.0 d.0 refl) (s d.0))
+own_step w n (Rose d) s = put_all (λ e marks. list_all (is_mark_on e) marks ≡ true) n.log d.0 (n.log d.0 ++ Event (Back d (n.rose d.0 + 1)) ∷ []) s (events_more d.0 true (Event (Back d (n.rose d.0 + 1))) (n.log d.0) (eq-eqb d.0 d.0 refl) (s d.0))
 own_step w n (Doomed r cause) s = s
 own_step w n (Ended r e) s = s
 
@@ -147,13 +138,7 @@ order_events w n g held o own d =
 
 all_settled : (n : Reading) (line : List Item) → ((r : ℕ) → list_any (is_ran r) line ≡ true → is_committed n r ≡ true) → filter (is_settled n) line ≡ line
 all_settled n [] h = refl
-all_settled n (Ran r ∷ is) h = ap (λ b. cond b (Ran r ∷ filter (is_settled n) is) (filter (is_settled n) is)) (h r.0 (first r.0 (list_any (is_ran r.0) is))) ∙ ap (λ l. Ran r ∷ l) (all_settled n is (λ q e. h q (later (r.0 == q) (list_any (is_ran q) is) e)))
-  where
-    first : (k : ℕ) (b : Bool) → ((k == k) || b) ≡ true
-    first k b = grind (arith, common_steps)
-
-    later : (a b : Bool) → b ≡ true → (a || b) ≡ true
-    later a b e = grind (arith, common_steps)
+all_settled n (Ran r ∷ is) h = ap (λ b. cond b (Ran r ∷ filter (is_settled n) is) (filter (is_settled n) is)) (h r.0 (or_left (r.0 == r.0) (list_any (is_ran r.0) is) (eq-eqb r.0 r.0 refl))) ∙ ap (λ l. Ran r ∷ l) (all_settled n is (λ q e. h q (or_right (r.0 == q) (list_any (is_ran q) is) e)))
 all_settled n (Failed d k ∷ is) h = ap (λ l. Failed d k ∷ l) (all_settled n is h)
 all_settled n (Back d k ∷ is) h = ap (λ l. Back d k ∷ l) (all_settled n is h)
 
@@ -187,24 +172,18 @@ not_undone w n g held r d s o over c = by ((n.run r).on d).undid (grips_undo g r
     sound b e = sym e ∙ ap is_some ((s.shaped r).commits c)
 
     by : (x y : Bool) → ((n.run r).on d).undid ≡ x → grips_undo g r d ≡ y → (x || y) ≡ false
-    by true y e f = absurd (clash (is_some (n.run r).doomed) ((s.shaped r).undone d e) (sound (is_some (n.run r).doomed) refl))
-    by false true e f = absurd (clash (is_live n r) (undo_live w n g held r d o f) (over r))
+    by true y e f = absurd (both_ways (is_some (n.run r).doomed) (sound (is_some (n.run r).doomed) refl) ((s.shaped r).undone d e))
+    by false true e f = absurd (both_ways (is_live n r) (over r) (undo_live w n g held r d o f))
     by false false e f = refl
 
 -- the last committed write is the effective one
 last_writes : (n : Reading) (g : Grips) (d : ℕ) (b : Option Write) (c : Option ℕ) (line : List Item) → ((r : ℕ) → list_any (is_ran r) line ≡ true → is_committed n r ≡ true) → ((r : ℕ) → is_committed n r ≡ true → is_undone n g r d ≡ false)
     → option_map (λ e. e.value) b ≡ c → option_map (λ e. e.value) (fold (λ best x. option_or (write_of n g d x) best) b line) ≡ fold (λ best x. option_or (committed_write n d x) best) c line
 last_writes n g d b c [] h k e = e
-last_writes n g d b c (Ran r ∷ is) h k e = last_writes n g d (option_or (write_of n g d (Ran r)) b) (option_or (committed_write n d (Ran r)) c) is (λ q y. h q (later (r.0 == q) (list_any (is_ran q) is) y)) k (step (is_undone n g r.0 d) (is_committed n r.0) ((n.run r.0).on d).wrote (k r.0 here) here)
+last_writes n g d b c (Ran r ∷ is) h k e = last_writes n g d (option_or (write_of n g d (Ran r)) b) (option_or (committed_write n d (Ran r)) c) is (λ q y. h q (or_right (r.0 == q) (list_any (is_ran q) is) y)) k (step (is_undone n g r.0 d) (is_committed n r.0) ((n.run r.0).on d).wrote (k r.0 here) here)
   where
-    first : (k : ℕ) (b : Bool) → ((k == k) || b) ≡ true
-    first k b = grind (arith, common_steps)
-
-    later : (a b : Bool) → b ≡ true → (a || b) ≡ true
-    later a b e = grind (arith, common_steps)
-
     here : is_committed n r.0 ≡ true
-    here = h r.0 (first r.0 (list_any (is_ran r.0) is))
+    here = h r.0 (or_left (r.0 == r.0) (list_any (is_ran r.0) is) (eq-eqb r.0 r.0 refl))
 
     step : (x y : Bool) (v : Option ℕ) → x ≡ false → y ≡ true → option_map (λ e. e.value) (option_or (if x then None else option_map (λ v. record { run = r.0; value = v }) v) b) ≡ option_or (if y then v else None) c
     step false true None p q = e
@@ -254,12 +233,3 @@ agrees_at_end w n g held last s o weak over size each =
         get_or-map-range_with_len stand 0 (length w.first) d d nowhere lt (omega arith)
         ∙ ap (λ v. record { value = v; up = n.up d }) (sym (standing_committed w n g held d s o weak over))
         ∙ sym (each d lt)
-
--- and so where each device is home, up, and left where it stands
-pub agrees_where_home : (w : Setting) (n : Reading) (g : Grips) (held : ℕ → ℕ) (last : List Stand) → IsRead w n → OrderIsKept w n g held → is_weak w.mode ≡ false → NoneIsLive n → length last ≡ length w.first
-    → ((d : ℕ) → d < length w.first → g d ≡ None) → ((d : ℕ) → d < length w.first → n.up d ≡ true) → ((d : ℕ) → d < length w.first → stand_at last d ≡ record { value = held d; up = n.up d }) → AgreesAtEnd w n last
-agrees_where_home w n g held last s o weak over size home up each =
-    agrees_at_end w n g held last s o weak over size (λ d lt. each d lt ∙ ap (λ v. record { value = v; up = n.up d }) (stands_home w n g held d s o weak (device d (length w.first) lt) (home d lt) (up d lt)))
-  where
-    device : (d k : ℕ) → d < k → nat_lt d k ≡ true
-    device d k lt = grind (arith, common_steps)

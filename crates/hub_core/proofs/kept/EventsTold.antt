@@ -19,6 +19,7 @@ use Rattle.lineage_table.specs.Lineages.{LineageState}
 use Rattle.lineage_table.specs.declared.accesses.Access.{Access}
 use Rattle.lineage_table.specs.declared.accesses.Status.TheVariants.{Acquired, Released, Scheduled}
 use Rattle.lock_leasing.proofs.Effects.{live_runs_live}
+use Rattle.lock_leasing.proofs.EventRuns.{run_place}
 use Rattle.lock_leasing.specs.Configurations.{Grip, Grips, Probes, grips_command, is_command}
 use Rattle.lock_leasing.specs.Tables.{status_by_answers, uses}
 use Rattle.lock_leasing.specs.Waits.{lost_by}
@@ -35,7 +36,7 @@ use Rattle.window_order.proofs.LostReads.{lost_read, waiting_read}
 use Rattle.window_order.proofs.ReadFacts.{IsRead}
 use Rattle.window_order.proofs.Runs.{live_run}
 use Rattle.window_order.proofs.TouchedLines.{live_stands, run_stands}
-use Rattle.window_order.proofs.TurnedLines.{event_before, event_last, event_place_of, run_place}
+use Rattle.window_order.proofs.TurnedLines.{event_before, event_last, event_place_of}
 use Rattle.window_order.specs.LostRuns.{first_waiting, is_lost, waits}
 use Rattle.window_order.specs.MarksKept.{MarksAreKept}
 use Rattle.window_order.specs.OrderKept.{OrderIsKept}
@@ -89,7 +90,7 @@ event_told w n g held d h s marks read strong device order own lines sound = ap 
     by_found (Some x) e =
         let first : find (awaits_there w n d) (live_runs n n.line) ≡ Some x.run.0 = awaited ∙ ap (option_map (λ (y : Access). y.run.0)) e in
         let live : is_live n x.run.0 ≡ true = (each_found (λ r. is_live n r ≡ true) (awaits_there w n d) (live_runs n n.line) x.run.0 (live_runs_live n n.line) first).0 in
-        ap (λ o. unwrap_or o (length marks)) (run_place n g x.run.0 marks (sym (run_stands n g x.run.0 marks lines) ∙ live_stands w n g x.run.0 marks read live lines) lines) ∙ sym (event_before w n d x.run.0 first)
+        ap (λ o. unwrap_or o (length marks)) (run_place x.run.0 n.line marks (sym (run_stands n g x.run.0 marks lines) ∙ live_stands w n g x.run.0 marks read live lines) lines.items) ∙ sym (event_before w n d x.run.0 first)
 
 -- The run that is lost
 

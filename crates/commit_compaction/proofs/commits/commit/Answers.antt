@@ -3,7 +3,7 @@ use Rattle.commit_compaction.proofs.commits.commit.Goals as goal
 use Rattle.lineage_laws.proofs.Sweeps.{changed_all, changed_more, changed_none, commits_nothing}
 use Rattle.lineage_laws.specs.Laws.{stand_of}
 use Rattle.lineage_table.specs.Lineages.{committed_lineage, lineage_at}
-use Rattle.std.proofs.Common.{ap, arith, length, ◌-◌, ◌<◌, ◌∙◌, ◌≡◌}
+use Rattle.std.proofs.Common.{ap, ◌-◌, ◌∙◌}
 
 pub devices-init : goal.devices-init
 devices-init c = changed_none (λ d. committed_lineage c.args.r.0) c.args.table.now

@@ -1,11 +1,8 @@
 use Rattle.device_order.proofs.window_laws.runs_keep_window.Goals as goal
-use Rattle.device_order.proofs.WindowRuns.{line_parted, run_commits, run_doomed, run_leaves_line, run_placed}
+use Rattle.device_order.proofs.WindowRuns.{run_commits, run_doomed, run_leaves_line, run_placed}
 
 pub returns-clause-placed : goal.returns-clause-placed
 returns-clause-placed c = run_placed
-
-pub returns-clause-parted : goal.returns-clause-parted
-returns-clause-parted c = line_parted
 
 pub returns-clause-doomed : goal.returns-clause-doomed
 returns-clause-doomed c = run_doomed

@@ -1,9 +1,8 @@
-use Rattle.hub_core.specs.Openings.{MayOpen}
+use Rattle.hub_core.proofs.SoundWindows.{may_open}
 use Rattle.hub_core.specs.HubCalls.{IsOpened}
-use Rattle.hub_commands.proofs.Openings.{may_open, setting_as}
 use Rattle.hub_commands.proofs.plays.open_window.Goals as goal
 use Rattle.routine_reader.proofs.RosterLemmas.{window-there}
-use Rattle.std.proofs.Common.{subst, sym}
+use Rattle.std.proofs.Common.{subst}
 
 pub open_window-requires : goal.open_window-requires
 open_window-requires g c =
@@ -11,8 +10,8 @@ open_window-requires g c =
     let window = c.index-as_slice-number.result in
     let at = window-there c.args.script.now c.args.number c.as_slice.result.now window c.requires.there c.as_slice.ensures c.index-as_slice-number.is in
     record {
-      may = subst (λ w. MayOpen w window.probes c.args.home.opened) (sym (setting_as c.args.script.now c.args.number c.args.home c.in_ok-roster.roster c.args.mode c.in_ok-roster.ensures))
-          (may_open D.tag D.stands D.turns D.probes D.faults c.args.script.now c.args.mode c.args.number window c.args.home c.requires.sound c.requires.goes at c.kept.ensures c.requires.kinds c.requires.few);
+      may = may_open D.tag D.stands D.turns D.probes D.faults c.args.script.now c.args.mode c.args.number window c.args.home c.in_ok-roster.roster
+          (record { sound = c.requires.sound; goes = c.requires.goes; at = at; runs = c.in_ok-roster.ensures; kept = c.kept.ensures; kinds = c.requires.kinds; opened = c.requires.few });
     }
 
 pub returns-in-Ok : goal.returns-in-Ok
@@ -22,7 +21,7 @@ returns-in-Ok g c =
     record {
       window = window;
       at = window-there c.args.script.now c.args.number c.as_slice.result.now window c.requires.there c.as_slice.ensures c.index-as_slice-number.is;
-      opened = subst (λ w. IsOpened D.turns D.probes D.faults w window.probes c.args.home c.in-Ok.hub)
-          (setting_as c.args.script.now c.args.number c.args.home c.in_ok-roster.roster c.args.mode c.in_ok-roster.ensures) c.in-Ok.ensures.opened;
+      opened = subst (λ runs. IsOpened D.turns D.probes D.faults (record { runs = runs; mode = c.args.mode; kinds = c.args.home.kinds; first = c.args.home.world }) window.probes c.args.home c.in-Ok.hub)
+          c.in_ok-roster.ensures c.in-Ok.ensures.opened;
       numbered = c.kept.ensures.numbered;
     }

@@ -9,21 +9,21 @@ returns-in-Err-go_on-clause-status g c =
     let D = g.B.Dev.Device in
     let K = g.K.Sink in
     (c.in-Err-go_on.ensures (K.holds c.args.sink.now) (K.faults c.args.sink.now) c.windows.day.home c.windows.day.windows.items c.windows.invariant.going
-    (next_is (IsRunWithin (g.C.Clock.latest c.args.clock.now)) (shown_by D.tag D.plan D.stands D.turns D.probes D.faults) c.args.script.now c.args.options.mode c.windows.day.windows.items c.run_next-next.result c.run_next-next.ensures.played c.run_next-next.ensures.starved)).0
+    (next_is (IsRunWithin (g.C.Clock.earliest c.args.clock.now) (g.C.Clock.latest c.args.clock.now)) (shown_by D.tag D.plan D.stands D.turns D.probes D.faults) c.args.script.now c.args.options.mode c.windows.day.windows.items c.run_next-next.result c.run_next-next.ensures.played c.run_next-next.ensures.starved)).0
 
 pub returns-in-Err-go_on-clause-ends : goal.returns-in-Err-go_on-clause-ends
 returns-in-Err-go_on-clause-ends g c =
     let D = g.B.Dev.Device in
     let K = g.K.Sink in
     (c.in-Err-go_on.ensures (K.holds c.args.sink.now) (K.faults c.args.sink.now) c.windows.day.home c.windows.day.windows.items c.windows.invariant.going
-    (next_is (IsRunWithin (g.C.Clock.latest c.args.clock.now)) (shown_by D.tag D.plan D.stands D.turns D.probes D.faults) c.args.script.now c.args.options.mode c.windows.day.windows.items c.run_next-next.result c.run_next-next.ensures.played c.run_next-next.ensures.starved)).1
+    (next_is (IsRunWithin (g.C.Clock.earliest c.args.clock.now) (g.C.Clock.latest c.args.clock.now)) (shown_by D.tag D.plan D.stands D.turns D.probes D.faults) c.args.script.now c.args.options.mode c.windows.day.windows.items c.run_next-next.result c.run_next-next.ensures.played c.run_next-next.ensures.starved)).1
 
 pub windows-preserved : goal.windows-preserved
 windows-preserved g c =
     let D = g.B.Dev.Device in
     let K = g.K.Sink in
     let on = c.in-Ok-go_on.ensures (K.holds c.args.sink.now) (K.faults c.args.sink.now) c.windows.day.home c.windows.day.windows.items c.windows.invariant.going
-    (next_is (IsRunWithin (g.C.Clock.latest c.args.clock.now)) (shown_by D.tag D.plan D.stands D.turns D.probes D.faults) c.args.script.now c.args.options.mode c.windows.day.windows.items c.run_next-next.result c.run_next-next.ensures.played c.run_next-next.ensures.starved) in
+    (next_is (IsRunWithin (g.C.Clock.earliest c.args.clock.now) (g.C.Clock.latest c.args.clock.now)) (shown_by D.tag D.plan D.stands D.turns D.probes D.faults) c.args.script.now c.args.options.mode c.windows.day.windows.items c.run_next-next.result c.run_next-next.ensures.played c.run_next-next.ensures.starved) in
     let counted = c.windows.invariant.counted in
     let more = on.0 in
     record { counted = omega (arith, counted, more); going = on.1 }

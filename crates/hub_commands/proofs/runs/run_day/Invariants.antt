@@ -11,6 +11,6 @@ invariant-windows g l =
     let K = g.K.Sink in
     record {
       counted : length l.day.windows.items ≡ l.counter;
-      going : IsGoingOn (IsRunWithin (g.C.Clock.latest l.clock)) (shown_by D.tag D.plan D.stands D.turns D.probes D.faults) l.script l.options
+      going : IsGoingOn (IsRunWithin (g.C.Clock.earliest l.clock) (g.C.Clock.latest l.clock)) (shown_by D.tag D.plan D.stands D.turns D.probes D.faults) l.script l.options
           (written (K.holds l.fn.sink) (K.holds l.sink) (K.faults l.fn.sink) (K.faults l.sink)) l.day.home l.day.windows.items;
     }

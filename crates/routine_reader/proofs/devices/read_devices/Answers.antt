@@ -16,7 +16,7 @@ returns-in_err-device-clause-reading c =
     let earlier = map plain_device c.values.texts.items in
     let refused : is_memory fault ≡ false → next_device earlier (view c.value-item.result) ≡ Err fault =
     λ named. rw (length-map c.values.texts.items plain_device) (search rules) in
-    walk-refused _ c.from_residual.result fault _ c.from_residual.ensures.1
+    walk-refused _ c.from_residual-in_err-device.result fault _ c.from_residual-in_err-device.ensures.1
     (λ named. c.values.invariant.walk ∙ each-refused next_device earlier c.args.values.now c.values.value-index c.value-item.result (omega arith) c.value-item.is fault (refused named))
 
 pub values-preserved : goal.values-preserved
@@ -27,7 +27,7 @@ values-preserved c =
     let read : next_device earlier (view c.value-item.result) ≡ Ok (plain_device device) = rw (length-map texts plain_device) (search rules) in
     let pushed : c.push.new.self.items ≡ texts ++ device ∷ [] = c.in_ok-push.ensures.ok in
     let more : map plain_device c.push.new.self.items ≡ earlier ++ plain_device device ∷ [] = ap (map plain_device) pushed ∙ map-append plain_device texts (device ∷ []) in
-    let added : c.add.new.self ≡ c.values.names ++ device.name ∷ [] = search rules in
+    let added : c.read_device.new.names ≡ c.values.names ++ device.name ∷ [] = search rules in
     record {
       walk =
           c.values.invariant.walk

@@ -10,7 +10,7 @@ returns-in_err-down c =
     let fault = c.in_err-down.field-0.0 in
     let R = next_down c.args.device in
     let refused : R c.values.downs.items (view c.value-item.result) ≡ Err fault = search rules in
-    walk-refused _ c.from_residual.result fault _ c.from_residual.ensures.1
+    walk-refused _ c.from_residual-in_err-down.result fault _ c.from_residual-in_err-down.ensures.1
     (λ _. c.values.invariant.walk ∙ each-refused R c.values.downs.items c.args.values.now c.values.value-index c.value-item.result (omega arith) c.value-item.is fault refused)
 
 pub values-preserved : goal.values-preserved

@@ -11,7 +11,7 @@ returns-in_err-name-clause-reading c =
     let fault = c.in_err-name.field-0.0 in
     let R = state_name c.args.spot in
     let refused : is_memory fault ≡ false → R c.values.states.items (view c.value-item.result) ≡ Err fault = λ named. search rules in
-    walk-refused _ c.from_residual.result fault _ c.from_residual.ensures.1
+    walk-refused _ c.from_residual-in_err-name.result fault _ c.from_residual-in_err-name.ensures.1
     (λ named. c.values.invariant.walk ∙ each-refused R c.values.states.items c.args.values.now c.values.value-index c.value-item.result (omega arith) c.value-item.is fault (refused named))
 
 pub values-preserved : goal.values-preserved

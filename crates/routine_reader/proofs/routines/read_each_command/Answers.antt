@@ -11,7 +11,7 @@ returns-in_err-command c =
     let fault = c.in_err-command.field-0.0 in
     let R = next_command (map plain_device c.args.devices.now.texts.items) c.args.routine in
     let refused : R c.values.commands.items (view c.value-item.result) ≡ Err fault = search rules in
-    walk-refused _ c.from_residual.result fault _ c.from_residual.ensures.1
+    walk-refused _ c.from_residual-in_err-command.result fault _ c.from_residual-in_err-command.ensures.1
     (λ _. c.values.invariant.walk ∙ each-refused R c.values.commands.items c.args.values.now c.values.value-index c.value-item.result (omega arith) c.value-item.is fault refused)
 
 pub values-preserved : goal.values-preserved

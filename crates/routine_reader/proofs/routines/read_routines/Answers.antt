@@ -14,7 +14,7 @@ returns-in_err-routine-clause-reading c =
     let earlier = map plain_routine c.values.texts.items in
     let refused : is_memory fault ≡ false → (next_routine (map plain_device c.args.devices.now.texts.items)) earlier (view c.value-item.result) ≡ Err fault =
     λ named. rw (length-map c.values.texts.items plain_routine) (search rules) in
-    walk-refused _ c.from_residual.result fault _ c.from_residual.ensures.1
+    walk-refused _ c.from_residual-in_err-routine.result fault _ c.from_residual-in_err-routine.ensures.1
     (λ named. c.values.invariant.walk ∙ each-refused (next_routine (map plain_device c.args.devices.now.texts.items)) earlier c.args.values.now c.values.value-index c.value-item.result (omega arith) c.value-item.is fault (refused named))
 
 pub values-preserved : goal.values-preserved
@@ -25,7 +25,7 @@ values-preserved c =
     let read : (next_routine (map plain_device c.args.devices.now.texts.items)) earlier (view c.value-item.result) ≡ Ok (plain_routine routine) = rw (length-map texts plain_routine) (search rules) in
     let pushed : c.push.new.self.items ≡ texts ++ routine ∷ [] = c.in_ok-push.ensures.ok in
     let more : map plain_routine c.push.new.self.items ≡ earlier ++ plain_routine routine ∷ [] = ap (map plain_routine) pushed ∙ map-append plain_routine texts (routine ∷ []) in
-    let added : c.add.new.self ≡ c.values.names ++ routine.name ∷ [] = search rules in
+    let added : c.read_routine.new.names ≡ c.values.names ++ routine.name ∷ [] = search rules in
     record {
       walk =
           c.values.invariant.walk

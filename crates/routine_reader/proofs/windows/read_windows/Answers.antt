@@ -20,7 +20,7 @@ returns-in_err-window-clause-reading c =
     λ named. (let told : window_reading c.args.routines.now (length c.values.windows.items + 1) c.values.before (view c.value-item.result) ≡ Err fault = search rules in
     subst (λ n. window_reading c.args.routines.now (n + 1) (last_time earlier) (view c.value-item.result) ≡ Err fault) (sym (length-map c.values.windows.items plain_window))
     (subst (λ before. window_reading c.args.routines.now (length c.values.windows.items + 1) before (view c.value-item.result) ≡ Err fault) c.values.invariant.before told)) in
-    walk-refused _ c.from_residual.result fault _ c.from_residual.ensures.1
+    walk-refused _ c.from_residual-in_err-window.result fault _ c.from_residual-in_err-window.ensures.1
     (λ named. c.values.invariant.walk ∙ each-refused R earlier c.args.values.now c.values.value-index c.value-item.result (omega arith) c.value-item.is fault (refused named))
 
 pub values-preserved : goal.values-preserved

@@ -15,7 +15,7 @@ unwrap-self-inside-requires c = wrote_there _ c.args.self.now c.args.r.0 c.place
 
 pub invariant_of-self : goal.invariant_of-self
 invariant_of-self c =
-    let left : c.drop-drain.new.self.0.items ≡ drop (c.place-at.result + 1) c.self.inside.accesses.items = c.drop-drain.ensures.items ∙ c.drain.ensures.kept in
+    let left : c.leave_through.new.accesses.items ≡ drop (c.place-at.result + 1) c.self.inside.accesses.items = c.leave_through.ensures.items in
     record {
       turns = subst IsDisciplined (sym left) (drop_keeps c.self.inside.accesses.items (c.place-at.result + 1) c.self.invariant.turns);
       last = (
@@ -23,12 +23,12 @@ invariant_of-self c =
             | then-eq w ↦ w.self-is ∙ sym (ap (λ b. if b then None else c.self.inside.writer) (tests_writer c.args.r c.self.inside.writer true w.if-eq.ensures))
             | else-eq w ↦ w.self-is ∙ sym (ap (λ b. if b then None else c.self.inside.writer) (tests_writer c.args.r c.self.inside.writer false w.if-eq.ensures))
           ]
-          ) ∙ keeps_settled _ c.args.self.now c.self.inside.writer c.self.view_is c.self.invariant c.args.r c.place-at.result c.unwrap-self-inside.result c.index.result.now c.drop-drain.new.self.0.items c.place-at.ensures c.index.ensures c.unwrap-self-inside.ensures left;
+          ) ∙ keeps_settled _ c.args.self.now c.self.inside.writer c.self.view_is c.self.invariant c.args.r c.place-at.result c.unwrap-self-inside.result c.index.result.now c.leave_through.new.accesses.items c.place-at.ensures c.index.ensures c.unwrap-self-inside.ensures left;
     }
 
 pub returns : goal.returns
 returns c =
-    let left : c.drop-drain.new.self.0.items ≡ drop (c.place-at.result + 1) c.self.inside.accesses.items = c.drop-drain.ensures.items ∙ c.drain.ensures.kept in
-    settled_state _ c.args.self.now c.args.r.0 c.place-at.result _ c.unwrap-self-inside.result c.index.result.now c.drop-drain.new.self.0.items c.self.view_is c.place-at.ensures c.index.ensures c.unwrap-self-inside.ensures
+    let left : c.leave_through.new.accesses.items ≡ drop (c.place-at.result + 1) c.self.inside.accesses.items = c.leave_through.ensures.items in
+    settled_state _ c.args.self.now c.args.r.0 c.place-at.result _ c.unwrap-self-inside.result c.index.result.now c.leave_through.new.accesses.items c.self.view_is c.place-at.ensures c.index.ensures c.unwrap-self-inside.ensures
     left
-    (omega (arith, c.drop-drain.ensures.capacity, c.drain.ensures.capacity, c.self.inside.accesses.ok.0, c.self.inside.accesses.ok.1, c.drop-drain.new.self.0.ok.0, ap length left, length-drop (c.place-at.result + 1) c.self.inside.accesses.items))
+    (omega (arith, c.leave_through.ensures.capacity, c.self.inside.accesses.ok.0, c.self.inside.accesses.ok.1, c.leave_through.new.accesses.ok.0, ap length left, length-drop (c.place-at.result + 1) c.self.inside.accesses.items))

@@ -1,10 +1,10 @@
 use Rattle.routine_reader.proofs.NameLemmas.{any-map}
 use Rattle.routine_reader.proofs.names.Names.has.Goals as goal
-use Rattle.std.proofs.Common.{ap, string_bytes, sym, ◌∙◌}
+use Rattle.std.proofs.Common.{ap, sym, ◌∙◌}
 use Rattle.std.specs.List.{list_any}
 use Rattle.std.specs.Str.{bytes_eq}
 
 pub returns : goal.returns
 returns c =
     let same = bytes_eq c.args.name.now in
-    c.contains.ensures ∙ sym (any-map string_bytes same c.self.inside.names.keys) ∙ ap (list_any same) c.self.view_is
+    c.contains.ensures ∙ sym (any-map (λ name. name.now) same c.self.inside.names.keys) ∙ ap (list_any same) c.self.view_is

@@ -1,6 +1,6 @@
 use Rattle.lineage_table.specs.Accesses.{has_access}
 use Rattle.lineage_table.specs.Lineages.{accesses_at}
-use Rattle.std.proofs.Common.{ap, arith, is_some, length, rules, sym, ℕ, ◌<◌, ◌∙◌, ◌≡◌}
+use Rattle.std.proofs.Common.{ap, arith, length, rules, sym, ℕ, ◌<◌, ◌∙◌, ◌≡◌}
 use Rattle.std.proofs.lemmas.List.{length-set}
 use Rattle.std.specs.Prelude.{max}
 use Rattle.timeline_scheduler.proofs.DeviceWalks.{fold_done, fold_next}
@@ -20,10 +20,10 @@ devices-preserved c =
     record {
       size = length-set slots c.in-Some.d.0 c.behind.result ∙ size;
       slots =
-          fold_next (changed_on (slot_passed table c.is_some-doomed.result c.args.x.0)) (λ d. has_access c.args.x.0 (accesses_at table d))
-          (changed (slot_passed table c.is_some-doomed.result c.args.x.0) (devices_with table c.args.x.0) c.self.inside.slots.items)
+          fold_next (changed_on (slot_passed table c.is_doomed-doomed.result c.args.x.0)) (λ d. has_access c.args.x.0 (accesses_at table d))
+          (changed (slot_passed table c.is_doomed-doomed.result c.args.x.0) (devices_with table c.args.x.0) c.self.inside.slots.items)
           (length table) c.devices.from.0 c.in-Some.d.0 slots _ c.in-Some.ensures.next.0 there c.in-Some.ensures.next.1 c.in-Some.ensures.next.2
-          (changed_is (slot_passed table c.is_some-doomed.result c.args.x.0) slots c.in-Some.d.0 c.index-slot.result.now c.behind.result within c.index-slot.ensures (c.behind.ensures ∙ ap (λ o. slot_behind c.is_some-doomed.result o c.index-slot.result.now) next))
+          (changed_is (slot_passed table c.is_doomed-doomed.result c.args.x.0) slots c.in-Some.d.0 c.index-slot.result.now c.behind.result within c.index-slot.ensures (c.behind.ensures ∙ ap (λ o. slot_behind c.is_doomed-doomed.result o c.index-slot.result.now) next))
           c.devices.invariant.slots;
       whole =
           fold_next (λ (t d : ℕ). max t (end_of_access (next_access (accesses_at table d) (slot_at c.self.inside.slots.items d) c.args.x.0))) (λ d. has_access c.args.x.0 (accesses_at table d))
@@ -37,11 +37,11 @@ devices-preserved c =
 
 pub returns-clause-slots : goal.returns-clause-slots
 returns-clause-slots c =
-    fold_done (changed_on (slot_passed c.args.s.now.table.now c.is_some-doomed.result c.args.x.0)) (λ d. has_access c.args.x.0 (accesses_at c.args.s.now.table.now d))
-    (changed (slot_passed c.args.s.now.table.now c.is_some-doomed.result c.args.x.0) (devices_with c.args.s.now.table.now c.args.x.0) c.self.inside.slots.items)
+    fold_done (changed_on (slot_passed c.args.s.now.table.now c.is_doomed-doomed.result c.args.x.0)) (λ d. has_access c.args.x.0 (accesses_at c.args.s.now.table.now d))
+    (changed (slot_passed c.args.s.now.table.now c.is_doomed-doomed.result c.args.x.0) (devices_with c.args.s.now.table.now c.args.x.0) c.self.inside.slots.items)
     (length c.args.s.now.table.now) c.devices.from.0 c.devices.self-inside.slots.items c.in_default.ensures.next c.devices.invariant.slots
-    ∙ ap (changed (slot_passed c.args.s.now.table.now c.is_some-doomed.result c.args.x.0) (devices_with c.args.s.now.table.now c.args.x.0)) c.self.view_is
-    ∙ ap (λ b. changed (slot_passed c.args.s.now.table.now b c.args.x.0) (devices_with c.args.s.now.table.now c.args.x.0) c.args.self.now) (c.is_some-doomed.ensures ∙ ap is_some c.doom_of.ensures)
+    ∙ ap (changed (slot_passed c.args.s.now.table.now c.is_doomed-doomed.result c.args.x.0) (devices_with c.args.s.now.table.now c.args.x.0)) c.self.view_is
+    ∙ ap (λ b. changed (slot_passed c.args.s.now.table.now b c.args.x.0) (devices_with c.args.s.now.table.now c.args.x.0) c.args.self.now) c.is_doomed-doomed.ensures
 
 pub returns-clause-whole : goal.returns-clause-whole
 returns-clause-whole c =

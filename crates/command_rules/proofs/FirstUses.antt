@@ -1,0 +1,79 @@
+-- The devices that a run reads first, and writes, are told from its last command on.
+use Rattle.command_rules.specs.Footprints.{alone}
+use Rattle.command_rules.specs.Rosters.{Run, commands_of, is_on, reads_first, touches, writes_on}
+use Rattle.home_types.proofs.DeviceBits.{contains_insert, contains_remove}
+use Rattle.home_types.specs.Commands.{reads, writes}
+use Rattle.home_types.specs.DeviceSets.{Devices}
+use Rattle.home_types.specs.declared.commands.Command.{Command}
+use Rattle.std.proofs.Common.{ap, arith, refl, subst, sym, ◌∙◌}
+use Rattle.std.proofs.lemmas.Grind.{common_steps}
+use Rattle.std.proofs.lemmas.List.{drop_all, drop_more}
+use Rattle.std.specs.FinSet as set
+use Rattle.std.specs.List.{list_any}
+use Rattle.std.specs.Ordering.{nat_cmp}
+use Rattle.std.specs.Prelude.{Bool, List, [], drop, false, length, not, slice_index_or, true, ℕ, ◌&&◌, ◌+◌, ◌-◌, ◌<◌, ◌==◌, ◌||◌, ◌∷◌, ◌≡◌}
+
+-- What one command more in front makes of both
+
+read_more : (c : Command) (cs : List Command) (d : ℕ) → reads c.job ≡ true → reads_first (alone (c ∷ cs)) 1 d ≡ ((d == c.device.0) || reads_first (alone cs) 1 d)
+read_more c cs d read = grind (arith, common_steps)
+
+write_more : (c : Command) (cs : List Command) (d : ℕ) → reads c.job ≡ false → reads_first (alone (c ∷ cs)) 1 d ≡ (not (d == c.device.0) && reads_first (alone cs) 1 d)
+write_more c cs d driven = grind (arith, common_steps)
+
+written_more : (c : Command) (cs : List Command) (d : ℕ) → reads c.job ≡ false → writes_on (alone (c ∷ cs)) 1 d ≡ ((d == c.device.0) || writes_on (alone cs) 1 d)
+written_more c cs d driven = grind (arith, common_steps)
+
+written_same : (c : Command) (cs : List Command) (d : ℕ) → reads c.job ≡ true → writes_on (alone (c ∷ cs)) 1 d ≡ writes_on (alone cs) 1 d
+written_same c cs d read = grind (arith, common_steps)
+
+-- a device that no command is on is not read first
+unread : (cs : List Command) (d : ℕ) → list_any (is_on d) cs ≡ false → reads_first (alone cs) 1 d ≡ false
+unread [] d none = refl
+unread (c ∷ cs) d none = grind (arith, common_steps, unread cs d)
+
+-- a device that a run reads first is one of its footprint
+pub read_touched : (runs : List Run) (r d : ℕ) → reads_first runs r d ≡ true → touches runs r d ≡ true
+read_touched runs r d read = at (touches runs r d) refl
+  where
+    at : (b : Bool) → touches runs r d ≡ b → b ≡ true
+    at true e = refl
+    at false e = let none = unread (commands_of runs r) d e in sym none ∙ read
+
+-- the sets have the devices that the commands from this number on read first, and write
+pub record CoversUses (cs : List Command) (left : ℕ) (reading driven : Devices) : Type 0 where
+  pub first_reads : (d : ℕ) → set.contains reading d ≡ reads_first (alone (drop left cs)) 1 d
+  pub written : (d : ℕ) → set.contains driven d ≡ writes_on (alone (drop left cs)) 1 d
+
+-- no command is passed yet
+pub uses_none : (cs : List Command) → CoversUses cs (length cs - 0) set.empty set.empty
+uses_none cs = let all : length cs ≡ length cs - 0 = omega arith in let none = drop_all (length cs) cs (omega arith) in subst (λ n. CoversUses cs n set.empty set.empty) all (record {
+  first_reads = λ d. set.contains-empty nat_cmp d ∙ sym (ap (λ rest. reads_first (alone rest) 1 d) none);
+  written = λ d. set.contains-empty nat_cmp d ∙ sym (ap (λ rest. writes_on (alone rest) 1 d) none);
+})
+
+module _ (cs : List Command) (passed : ℕ) (e : Command) (within : passed < length cs) (first_reads written : Devices) (old : CoversUses cs (length cs - passed) first_reads written) where
+  abbrev pub passed_command : Command
+  passed_command = slice_index_or cs (length cs - 1 - passed) e
+
+  abbrev pub behind : List Command
+  behind = drop (length cs - passed) cs
+
+  one_more : drop (length cs - (passed + 1)) cs ≡ passed_command ∷ behind
+  one_more =
+      let here : length cs - 1 - passed ≡ length cs - (passed + 1) = omega arith in
+      let next : length cs - 1 - passed + 1 ≡ length cs - passed = omega (arith, within) in
+      ap (λ n. drop n cs) (sym here) ∙ drop_more cs (length cs - 1 - passed) e (omega (arith, within)) ∙ ap (λ n. passed_command ∷ drop n cs) next
+
+  -- one command more is passed, which reads, or writes
+  pub uses_read : reads passed_command.job ≡ true → CoversUses cs (length cs - (passed + 1)) (set.insert first_reads passed_command.device.0) written
+  uses_read read = record {
+    first_reads = λ d. contains_insert first_reads passed_command.device.0 d ∙ ap (λ b. (d == passed_command.device.0) || b) (old.first_reads d) ∙ sym (read_more passed_command behind d read) ∙ sym (ap (λ rest. reads_first (alone rest) 1 d) one_more);
+    written = λ d. old.written d ∙ sym (written_same passed_command behind d read) ∙ sym (ap (λ rest. writes_on (alone rest) 1 d) one_more);
+  }
+
+  pub uses_write : reads passed_command.job ≡ false → CoversUses cs (length cs - (passed + 1)) (set.remove first_reads passed_command.device.0) (set.insert written passed_command.device.0)
+  uses_write driven = record {
+    first_reads = λ d. contains_remove first_reads passed_command.device.0 d ∙ ap (λ b. not (d == passed_command.device.0) && b) (old.first_reads d) ∙ sym (write_more passed_command behind d driven) ∙ sym (ap (λ rest. reads_first (alone rest) 1 d) one_more);
+    written = λ d. contains_insert written passed_command.device.0 d ∙ ap (λ b. (d == passed_command.device.0) || b) (old.written d) ∙ sym (written_more passed_command behind d driven) ∙ sym (ap (λ rest. writes_on (alone rest) 1 d) one_more);
+  }

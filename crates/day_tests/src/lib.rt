@@ -1,0 +1,7 @@
+//! Tests of the crates above the hub, by their public calls alone: a file for each crate.
+#![tactic(auto)]
+
+#[cfg(test)]
+mod replays;
+#[cfg(test)]
+mod runs;

@@ -1,0 +1,397 @@
+//! Days that are run with threads: two runs that meet, a lease that is revoked while nobody else steps, a device that does
+//! not answer its probe, and a day whose record is stored.
+use day_clock::{BytesSink, BytesSource, Clock, SetClock, StdClock};
+use device_states::{Bench, Dead, Device, SimBench};
+use history_book::{Cause, End, Entry};
+use home_types::{Bytes, DeviceNo, List, NoMemory, RunNo, Value};
+use hub_commands::{Finish, run_command};
+use std::alloc::Global;
+use std::hint;
+use std::sync::Wait;
+use std::sync::atomic::{AtomicBool, Ordering};
+use std::thread::Threads;
+
+/// Two runs that share the lamp; each drives a device of its own after it.
+const MEETING: &str = r#"{"safehome": 1, "devices": [
+  {"name": "lamp", "states": ["off", "on"], "start": "off"},
+  {"name": "fan", "states": ["off", "on"], "start": "off"},
+  {"name": "oven", "states": ["off", "on"], "start": "off"},
+  {"name": "heat", "low": 10, "high": 30, "start": 18}],
+ "routines": [
+  {"name": "a", "commands": [{"on": "lamp", "do": "set", "to": "on"}, {"on": "fan", "do": "set", "to": "on"}]},
+  {"name": "b", "commands": [{"on": "lamp", "do": "set", "to": "off"}, {"on": "oven", "do": "set", "to": "on"}]}],
+ "windows": [{"at": "2021-04-26T07:00", "runs": [{"routine": "a"}, {"routine": "b"}]}]}"#;
+
+/// A run that bakes, and one that dries, which follows a look at the door. The look ends when the lamp is driven, so the
+/// drying is placed behind the baking in time, and before it in the line: it has the oven on lease, for 20 ms.
+const LENDING: &str = r#"{"safehome": 1, "devices": [
+  {"name": "door", "states": ["open", "shut"], "start": "open"},
+  {"name": "lamp", "states": ["off", "on"], "start": "off"},
+  {"name": "drum", "states": ["off", "on"], "start": "off"},
+  {"name": "oven", "states": ["off", "on"], "start": "off"}],
+ "routines": [
+  {"name": "look", "commands": [{"on": "door", "do": "check", "to": "shut"}]},
+  {"name": "dry", "commands": [{"on": "drum", "do": "set", "to": "on", "ms": 10}, {"on": "oven", "do": "set", "to": "on", "ms": 8}]},
+  {"name": "bake", "commands": [{"on": "lamp", "do": "set", "to": "on"}, {"on": "oven", "do": "set", "to": "off"}]}],
+ "windows": [{"at": "2021-04-26T07:00", "runs": [{"routine": "look"}, {"routine": "dry", "follows": 1}, {"routine": "bake"}]}]}"#;
+
+/// How long the drum's call takes in `LENDING`, in ms.
+const DRUM_MS: u64 = 300;
+
+/// How long after its deadline a lease is revoked at most, in ms.
+const MOST_DELAY: u64 = 50;
+
+/// How many windows are run for one in which the system let the threads run in time.
+const ATTEMPTS: u32 = 3;
+
+/// A window with one probe of each device, which the lamp does not answer.
+const PROBED: &str = r#"{"safehome": 1, "devices": [
+  {"name": "lamp", "states": ["off", "on"], "start": "off", "down": [[1, 2]]},
+  {"name": "fan", "states": ["off", "on"], "start": "off"},
+  {"name": "oven", "states": ["off", "on"], "start": "off"},
+  {"name": "heat", "low": 10, "high": 30, "start": 18}],
+ "routines": [{"name": "a", "commands": [{"on": "fan", "do": "set", "to": "on"}]}],
+ "windows": [{"at": "2021-04-26T07:00", "probes": 1, "runs": [{"routine": "a"}]}]}"#;
+
+/// A window of one run that drives the lamp.
+const LIGHT: &str =
+    r#"{"safehome":1,"devices":[{"name":"lamp","states":["off","on"],"start":"off"}],"routines":[{"name":"light","commands":[{"on":"lamp","do":"set","to":"on"}]}],"windows":[{"at":"2021-04-26T07:00:00","runs":[{"routine":"light"}]}]}"#;
+
+/// The record of the day of `LIGHT`.
+const LIGHT_RECORD: &str = "safehome day
+model ev fcfs
+window 1 2021-04-26T07:00:00
+run 1 light committed .
+order 1
+home lamp=on
+total windows 1 runs 1 committed 1 aborted 0
+";
+
+/// For how many turns a device looks at most whether its wait is over.
+const PATIENCE: u32 = 100_000_000;
+
+#[test]
+fn two_meet(rt: HostRuntime) {
+    let scene = Scene {
+        flags: [AtomicBool::new(false), AtomicBool::new(false)],
+        clock: StdClock::new(&rt),
+    };
+    let mut bench = PlayingBench {
+        parts: [
+            None,
+            Some(Part::meeting(0, 1)),
+            Some(Part::meeting(1, 0)),
+            None,
+        ],
+        scene: &scene,
+    };
+    let (finish, _) = run(&rt, rt.alloc(), &["run"], MEETING, &mut bench, &scene.clock).expect(
+        &rt, "memory",
+    );
+    assert_eq!(rt; finish.status, 0);
+    assert!(rt; commits(&finish, RunNo(1)));
+    assert!(rt; commits(&finish, RunNo(2)));
+}
+
+#[test]
+fn a_lease_is_revoked_while_nobody_else_steps(rt: HostRuntime) {
+    let mut least = u64::MAX;
+    for _ in 0..ATTEMPTS {
+        let scene = Scene {
+            flags: [AtomicBool::new(false), AtomicBool::new(false)],
+            clock: StdClock::new(&rt),
+        };
+        let mut bench = PlayingBench {
+            parts: [
+                Some(Part::waiting(0)),
+                Some(Part::meeting(0, 1)),
+                Some(Part::working(1, DRUM_MS)),
+                None,
+            ],
+            scene: &scene,
+        };
+        let words = ["run", "--scheduler", "jit"];
+        let (finish, _) = run(&rt, rt.alloc(), &words, LENDING, &mut bench, &scene.clock).expect(
+            &rt, "memory",
+        );
+        assert_eq!(rt; finish.status, 0);
+        assert!(rt; commits(&finish, RunNo(3)));
+        least = least.min(delay(&finish).unwrap_or(u64::MAX));
+    }
+    assert!(rt; least <= MOST_DELAY);
+}
+
+#[test]
+fn shows_a_device_that_died_in_its_probe(rt: HostRuntime) {
+    let clock = SetClock::new(7);
+    let (finish, sink) = run(&rt, rt.alloc(), &["run"], PROBED, &mut SimBench, &clock).expect(
+        &rt, "memory",
+    );
+    assert_eq!(rt; finish.status, 0);
+    assert!(rt; has_line(sink.held(), b"home lamp=off! fan=on oven=off heat=18"));
+}
+
+#[test]
+fn writes_the_stored_record(rt: HostRuntime) {
+    let clock = SetClock::new(7);
+    let (finish, sink) = run(&rt, rt.alloc(), &["run"], LIGHT, &mut SimBench, &clock).expect(
+        &rt, "memory",
+    );
+    assert_eq!(rt; finish.status, 0);
+    assert!(rt; sink.held() == LIGHT_RECORD.as_bytes());
+}
+
+/// Calls `run` with these words on the script, and gives how it ended and the sink.
+fn run<R: Threads + Wait + Sync, B: Bench, C: Clock + Sync>(
+    rt: &R,
+    alloc: Global,
+    words: &[&str],
+    script: &str,
+    bench: &mut B,
+    clock: &C,
+) -> Result<(Finish<B::Dev>, BytesSink), NoMemory>
+where
+    B::Dev: Send,
+{
+    let words = owned(alloc, words)?;
+    let input = Bytes::of(alloc, script.as_bytes())?;
+    let mut source = BytesSource::new(input, List::new(alloc), 4096);
+    let mut sink = BytesSink::new(alloc, 4096, List::new(alloc), 4096)?;
+    let finish = run_command(rt, alloc, &words, &mut source, &mut sink, bench, clock);
+    Ok((finish, sink))
+}
+
+fn owned(alloc: Global, words: &[&str]) -> Result<Vec<String>, NoMemory> {
+    let mut all = Vec::new(alloc);
+    for word in words {
+        let word = String::from_str(alloc, word).map_err(|_| NoMemory)?;
+        all.push(word).map_err(|_| NoMemory)?;
+    }
+    Ok(all)
+}
+
+/// Whether the run committed in the day's first window.
+fn commits<Dev: Device>(finish: &Finish<Dev>, r: RunNo) -> bool {
+    let Some(day) = &finish.day else {
+        return false;
+    };
+    let Some(window) = day.windows.get(0) else {
+        return false;
+    };
+    window
+        .history
+        .as_slice()
+        .iter()
+        .any(|kept| kept.entry == Entry::Ended(r, End::Committed))
+}
+
+/// Whether one of the text's lines is this one.
+fn has_line(text: &[u8], line: &[u8]) -> bool {
+    text.split(|byte| *byte == b'\n').any(|found| found == line)
+}
+
+/// How long after its deadline the first lease was revoked in the day's first window, in ms. None where none was.
+fn delay<Dev: Device>(finish: &Finish<Dev>) -> Option<u64> {
+    let window = finish.day.as_ref()?.windows.get(0)?;
+    for kept in window.history.as_slice() {
+        if let Entry::Doomed(
+            _,
+            Cause::Revoked {
+                deadline,
+                moment,
+                ..
+            },
+        ) = kept.entry
+        {
+            return moment.checked_sub(deadline);
+        }
+    }
+    None
+}
+
+/// What the devices of a home share: two flags, and a clock.
+#[derive(Drop)]
+struct Scene<C> {
+    flags: [AtomicBool; 2],
+    clock: C,
+}
+
+impl<C: Clock> Scene<C> {
+    /// Whether the flag that the part waits for was raised in time.
+    fn play(&self, part: Part) -> bool {
+        if let Some(own) = part.raises {
+            self.raise(own);
+        }
+        work_for(&self.clock, part.ms);
+        match part.awaits {
+            Some(other) => match self.flags.get(other) {
+                Some(flag) => is_raised(flag),
+                None => false,
+            },
+            None => true,
+        }
+    }
+
+    fn raise(&self, flag: usize) {
+        if let Some(flag) = self.flags.get(flag) {
+            flag.store(true, Ordering::SeqCst);
+        }
+    }
+}
+
+/// What a device does in its first call, before it answers: it raises its own flag, works for so many ms, and waits for
+/// another's flag. Flags count from 0.
+#[derive(Clone, Copy)]
+struct Part {
+    raises: Option<usize>,
+    awaits: Option<usize>,
+    ms: u64,
+}
+
+impl Part {
+    fn meeting(own: usize, other: usize) -> Part {
+        Part {
+            raises: Some(own),
+            awaits: Some(other),
+            ms: 0,
+        }
+    }
+
+    fn waiting(other: usize) -> Part {
+        Part {
+            raises: None,
+            awaits: Some(other),
+            ms: 0,
+        }
+    }
+
+    fn working(own: usize, ms: u64) -> Part {
+        Part {
+            raises: Some(own),
+            awaits: None,
+            ms,
+        }
+    }
+}
+
+/// A device that plays its part in its first call, where it has one. It dies where the flag that it waits for is not
+/// raised in time.
+#[derive(Drop)]
+struct Playing<'a, C> {
+    number: DeviceNo,
+    value: Value,
+    part: Option<Part>,
+    scene: &'a Scene<C>,
+    answered: u64,
+    probed: u64,
+    failed: u64,
+}
+
+impl<'a, C: Clock> Device for Playing<'a, C> {
+    ghost tag = { λ s. s.number.0 };
+
+    ghost stands = { λ s. s.value };
+
+    ghost turns = { λ s. s.answered };
+
+    ghost probes = { λ s. s.probed };
+
+    ghost faults = { λ s. s.failed };
+
+    fn drive(&mut self, v: Value) -> Result<(), Dead> {
+        if let Some(part) = self.part {
+            self.part = None;
+            if !self.scene.play(part) {
+                self.failed += 1;
+                return Err(Dead);
+            }
+        }
+        self.value = v;
+        self.answered += 1;
+        Ok(())
+    }
+
+    fn sense(&mut self) -> Result<Value, Dead> {
+        if let Some(part) = self.part {
+            self.part = None;
+            if !self.scene.play(part) {
+                self.failed += 1;
+                return Err(Dead);
+            }
+        }
+        self.answered += 1;
+        Ok(self.value)
+    }
+
+    fn probe(&mut self) -> Result<(), Dead> {
+        self.probed += 1;
+        Ok(())
+    }
+
+    fn turns(&self) -> u64 {
+        self.answered
+    }
+
+    fn probes(&self) -> u64 {
+        self.probed
+    }
+
+    fn faults(&self) -> u64 {
+        self.failed
+    }
+}
+
+/// Whether the flag is raised before all turns of the patience have passed.
+fn is_raised(flag: &AtomicBool) -> bool {
+    for _ in 0..PATIENCE {
+        if flag.load(Ordering::SeqCst) {
+            return true;
+        }
+        hint::spin_loop();
+    }
+    false
+}
+
+/// Works for so many ms of the clock, or for all turns of the patience.
+fn work_for<C: Clock>(clock: &C, ms: u64) {
+    let begun = clock.now();
+    for _ in 0..PATIENCE {
+        if clock.now().saturating_sub(begun) >= ms {
+            return;
+        }
+        hint::spin_loop();
+    }
+}
+
+/// The bench of a home of four devices with these parts.
+#[derive(Drop)]
+struct PlayingBench<'a, C> {
+    parts: [Option<Part>; 4],
+    scene: &'a Scene<C>,
+}
+
+impl<'a, C: Clock> Bench for PlayingBench<'a, C> {
+    type Dev = Playing<'a, C>;
+
+    fn build(
+        &mut self,
+        _alloc: Global,
+        d: DeviceNo,
+        start: Value,
+        _downs: &[(u32, u32)],
+    ) -> Result<Playing<'a, C>, NoMemory> {
+        let part = match self.parts.get(d.0 as usize) {
+            Some(part) => *part,
+            None => None,
+        };
+        Ok(Playing {
+            number: d,
+            value: start,
+            part,
+            scene: self.scene,
+            answered: 0,
+            probed: 0,
+            failed: 0,
+        })
+    }
+}

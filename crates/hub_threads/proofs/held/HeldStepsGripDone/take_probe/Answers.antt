@@ -1,0 +1,11 @@
+use Rattle.hub_core.specs.HubCalls.{IsProbed}
+use Rattle.hub_threads.proofs.Holding.{probed_held}
+use Rattle.hub_threads.proofs.held.HeldStepsGripDone.take_probe.Goals as goal
+use Rattle.std.proofs.Common.{subst}
+use Rattle.std.specs.Prelude.{Some}
+
+pub invariant_of-self-2 : goal.invariant_of-self-2
+invariant_of-self-2 g c = probed_held g.D.Device.plan g.N.Name.window c.self.inside.hub c.take_probe.new.self c.args.d.0 (Some c.in_ok-grip.grip) _ _ _ c.self.invariant c.in_ok-grip.ensures.probed c.in_ok-grip.ensures.window c.call.ensures.blocked
+
+pub returns-clause-probed : goal.returns-clause-probed
+returns-clause-probed g c = subst (λ s. IsProbed s c.args.d.0 (Some c.in_ok-grip.grip) c.take_probe.new.self) c.self.view_is c.in_ok-grip.ensures.probed

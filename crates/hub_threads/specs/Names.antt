@@ -1,0 +1,44 @@
+-- What the name of a window says.
+use Rattle.history_book.specs.Settings.{Setting}
+use Rattle.home_types.specs.declared.modes.Scheduler.TheVariants.{Fcfs}
+use Rattle.home_types.specs.declared.modes.Visibility.TheVariants.{Weak}
+use Rattle.hub_core.specs.OpenHubs.{no_counts}
+use Rattle.hub_core.specs.declared.known.Counts.{Counts}
+use Rattle.std.specs.Prelude.{List, None, Option, [], ℕ, ◌≡◌, ◌≤◌}
+
+-- a device's plan, where it tells one
+abbrev pub Plan : Type 0
+Plan = Option (List (ℕ × ℕ))
+
+-- what the hub of a window keeps from its opening on, and between which moments it is worked
+pub record NamedWindow : Type 0 where
+  -- the runs, the mode, the kinds of the devices, and the first state
+  pub setting : Setting
+  pub rounds : ℕ
+  -- how many windows were opened before
+  pub opened : ℕ
+  -- the counts of each device as the window was opened
+  pub opening : ℕ → Counts
+  pub plans : ℕ → Plan
+  pub earliest : ℕ
+  pub latest : ℕ
+
+-- a window with no run and no device
+abbrev pub no_window : NamedWindow
+no_window = record {
+  setting = record { runs = []; mode = record { model = Weak; scheduler = Fcfs }; kinds = []; first = [] };
+  rounds = 0;
+  opened = 0;
+  opening = λ d. no_counts;
+  plans = λ d. None;
+  earliest = 0;
+  latest = 0;
+}
+
+-- the moment is one of the window's
+abbrev pub IsWithin : NamedWindow → ℕ → Type 0
+IsWithin window moment = (window.earliest ≤ moment) × (moment ≤ window.latest)
+
+-- a clock with this least and this greatest moment is the window's
+abbrev pub IsTimedBy : NamedWindow → ℕ → ℕ → Type 0
+IsTimedBy window earliest latest = (earliest ≡ window.earliest) × (latest ≡ window.latest)

@@ -1,0 +1,15 @@
+use Rattle.failure_serialization.proofs.FirstAccesses.{first_of_all, some_found, some_run}
+use Rattle.rule_tests.proofs.failures.some_acquired.Goals as goal
+use Rattle.lineage_table.specs.Accesses.{first_before, is_acquired}
+use Rattle.lineage_table.specs.Lineages.{accesses_at}
+use Rattle.lineage_table.specs.declared.accesses.Access.{Access}
+use Rattle.std.proofs.Common.{ap, rules, ◌∙◌, ◌≡◌}
+use Rattle.std.specs.Prelude.{find, is_some}
+
+pub returns : goal.returns
+returns c =
+    let found : c.first_before.result ≡ first_before (λ (x : Access). is_acquired x.status) 0 (accesses_at c.args.table.now c.args.d.0) = search rules in
+    c.is_some.ensures
+    ∙ ap is_some (found ∙ first_of_all (λ (x : Access). is_acquired x.status) 0 (accesses_at c.args.table.now c.args.d.0) c.requires.runs)
+    ∙ some_run (find (λ (x : Access). is_acquired x.status) (accesses_at c.args.table.now c.args.d.0))
+    ∙ some_found (λ (x : Access). is_acquired x.status) (accesses_at c.args.table.now c.args.d.0)

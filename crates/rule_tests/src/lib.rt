@@ -1,0 +1,21 @@
+//! Tests of the crates below the hub, by their public calls alone: a file for each crate.
+#![tactic(auto)]
+
+#[cfg(test)]
+mod clocks;
+#[cfg(test)]
+mod devices;
+#[cfg(test)]
+mod failures;
+#[cfg(test)]
+mod lines;
+#[cfg(test)]
+mod records;
+#[cfg(test)]
+mod rosters;
+#[cfg(test)]
+mod tables;
+#[cfg(test)]
+mod trials;
+#[cfg(test)]
+mod whole_routines;

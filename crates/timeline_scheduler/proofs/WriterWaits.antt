@@ -1,0 +1,58 @@
+-- The devices on which a run waits for one that writes them.
+use Rattle.command_rules.proofs.FirstUses.{read_touched}
+use Rattle.command_rules.specs.Rosters.{Run, reads_first, touches, writes_on}
+use Rattle.home_types.specs.DeviceSets.{Devices, IsFirstFrom}
+use Rattle.std.proofs.Common.{ap, arith, refl, sym, ◌∙◌}
+use Rattle.std.proofs.lemmas.Grind.{common_steps}
+use Rattle.std.specs.FinSet as set
+use Rattle.std.specs.List.{range_with_len}
+use Rattle.std.specs.Prelude.{Bool, List, None, Some, false, filter, if◌then◌else◌, length, max, nat_lt, true, ℕ, ◌&&◌, ◌-◌, ◌<◌, ◌≡◌}
+use Rattle.timeline_scheduler.proofs.DeviceWalks.{rest}
+use Rattle.timeline_scheduler.proofs.SlotSets.{changed_fewer}
+use Rattle.timeline_scheduler.specs.Slots.{AreHomed, changed, devices_among, slot_waiting}
+use Rattle.timeline_scheduler.specs.declared.scratches.Slot.{Slot}
+
+-- r reads the device first, and x writes it
+abbrev pub waits_for : List Run → ℕ → ℕ → ℕ → Bool
+waits_for runs r x d = reads_first runs r d && writes_on runs x d
+
+module _ (runs : List Run) (r x : ℕ) where
+  -- .. is one of the run's footprint
+  pub waits_touched : (d : ℕ) → waits_for runs r x d ≡ true → touches runs r d ≡ true
+  waits_touched d waits = read_touched runs r d (first (reads_first runs r d) (writes_on runs x d) waits)
+    where
+      first : (a b : Bool) → (a && b) ≡ true → a ≡ true
+      first a b e = grind (arith, common_steps)
+
+  -- there it is free at the end of the whole run
+  pub waiting_slot : (whole d : ℕ) (s : Slot) → waits_for runs r x d ≡ true → record s { free = max s.free whole } ≡ slot_waiting runs r x whole d s
+  waiting_slot whole d s waits = at (nat_lt s.free whole) refl ∙ sym (ap (λ b. if nat_lt s.free whole && b then record s { free = whole } else s) waits)
+    where
+      at : (b : Bool) → nat_lt s.free whole ≡ b → record s { free = max s.free whole } ≡ (if b && true then record s { free = whole } else s)
+      at true e = let most : max s.free whole ≡ whole = grind (arith, common_steps) in ap (λ n. record s { free = n }) most
+      at false e = let most : max s.free whole ≡ s.free = grind (arith, common_steps) in ap (λ n. record s { free = n }) most
+
+  stays : (whole d : ℕ) (s : Slot) → touches runs r d ≡ true → waits_for runs r x d ≡ false → slot_waiting runs r x whole d s ≡ s
+  stays whole d s touched none = ap (λ b. if nat_lt s.free whole && b then record s { free = whole } else s) none ∙ at (nat_lt s.free whole)
+    where
+      at : (b : Bool) → (if b && false then record s { free = whole } else s) ≡ s
+      at true = refl
+      at false = refl
+
+  -- the slots of the others stay
+  pub waits_alone : (whole n : ℕ) (slots : List Slot) → length slots ≡ n → changed (slot_waiting runs r x whole) (rest (waits_for runs r x) n 0) slots ≡ changed (slot_waiting runs r x whole) (devices_among runs r n) slots
+  waits_alone whole n slots size =
+      let all : n - 0 ≡ n = omega arith in
+      ap (λ k. changed (slot_waiting runs r x whole) (filter (waits_for runs r x) (range_with_len 0 k)) slots) all ∙ changed_fewer (slot_waiting runs r x whole) (touches runs r) (waits_for runs r x) waits_touched (stays whole) n slots size
+
+  module _ (waiting : Devices) (are : (d : ℕ) → set.contains waiting d ≡ waits_for runs r x d) where
+    -- what a walk over the set finds
+    pub next_waiting : (from d : ℕ) → IsFirstFrom (λ e. set.contains waiting e) from (Some d) → IsFirstFrom (waits_for runs r x) from (Some d)
+    next_waiting from d next = (next.0, sym (are d) ∙ next.1, λ q low high. sym (are q) ∙ next.2 q low high)
+
+    pub none_waiting : (from : ℕ) → IsFirstFrom (λ e. set.contains waiting e) from None → IsFirstFrom (waits_for runs r x) from None
+    none_waiting from none q low = sym (are q) ∙ none q low
+
+    -- .. is a device of the home
+    pub waiting_below : (devices from d : ℕ) → AreHomed devices runs → IsFirstFrom (λ e. set.contains waiting e) from (Some d) → d < devices
+    waiting_below devices from d homed next = homed r d (waits_touched d (sym (are d) ∙ next.1))
