@@ -95,6 +95,20 @@ impl<T: Copy + Drop> List<T> {
             Err(_) => Err(NoMemory),
         }
     }
+
+    /// Puts these items at the end, in order. Takes no memory where there is room for all of them.
+    ///
+    /// Answers `NoMemory` where there is none to be had, and adds nothing then.
+    pub fn extend_from_slice(&mut self, items: &[T]) -> Result<(), NoMemory>
+        ensures ok { OnOk result (self.new.items ≡ self.old.items ++ items.now) }
+        ensures err { OnErr result (self.new.items ≡ self.old.items) }
+        ensures roomy { length items.now ≤ self.old.spare → IsOk result }
+    {
+        match self.items.extend_from_slice(items) {
+            Ok(()) => Ok(()),
+            Err(_) => Err(NoMemory),
+        }
+    }
 }
 
 impl<T: Drop> List<T> {

@@ -67,22 +67,20 @@ impl<D: Device> OpenWindow<D> {
             faults,
         } = closing;
         let devices = gate.close();
+        let last = stands_left(weak, last, &order.table, &known);
+        let world = copied(world, &last);
         let record = WindowRecord {
             mode,
             first,
             history: book.into_list(),
             order: order_of(weak, items, &order.line),
-            last: World {
-                devices: stands_left(weak, last, &order.table, &known),
-            },
+            last: World { devices: last },
             turns: turns_in(turns, &known, &devices),
             faults: faults_in(faults, &known, &devices),
         };
         let home = Home {
             kinds,
-            world: World {
-                devices: stands_left(weak, world, &order.table, &known),
-            },
+            world: World { devices: world },
             devices,
             opened: opened + 1,
         };
@@ -116,6 +114,17 @@ fn stands_left(
     } else {
         stands_in(empty, table)
     }
+}
+
+/// The same stands, in a list that has room for them.
+fn copied(empty: List<Stand>, stands: &List<Stand>) -> List<Stand>
+    requires room { IsEmptyFor empty (length stands.now.items) }
+    ensures { result.items ≡ stands.now.items }
+{
+    let mut copy = empty;
+    let extended = copy.extend_from_slice(stands.as_slice());
+    extended.unwrap();
+    copy
 }
 
 /// How the devices are known to stand, in a list that has room for them.

@@ -185,11 +185,6 @@ home_left {D = D} tag stands turns probes faults s devices kinds world c kinds_a
           (let few = c.kept.configuration.opens.few_rounds in let falls = few_calls stands turns probes faults s (is_fall_of d) c.kept in omega (arith, few, falls));
     }
 
--- two lists of how the devices are left are the same
-pub same_left : {A : Type 0} (weak : Bool) (xs ys one other : List A) → (weak ≡ false → xs ≡ one) → (weak ≡ true → xs ≡ other) → (weak ≡ false → ys ≡ one) → (weak ≡ true → ys ≡ other) → xs ≡ ys
-same_left true xs ys one other a b c d = b refl ∙ sym (d refl)
-same_left false xs ys one other a b c d = a refl ∙ sym (c refl)
-
 -- what the record tells
 pub record Tells {D : Type 0} (turns faults : D → ℕ) (s : OpenHub D) (devices : List D) (closed : WindowRecord) : Type 0 where
   pub mode : closed.mode ≡ s.setting.mode

@@ -1,14 +1,15 @@
 use Rattle.home_types.specs.Listed.{Listed}
 use Rattle.history_book.specs.declared.entries.Kept.{Kept}
 use Rattle.history_book.specs.declared.records.WindowRecord.{WindowRecord}
-use Rattle.hub_core.proofs.calls.HubCloses.{Closes, Tells, all_are_home, faults_fell, home_left, hub_leaves, items_fit, same_left, turns_fell, window_closed}
+use Rattle.hub_core.proofs.calls.HubCloses.{Closes, Tells, all_are_home, faults_fell, home_left, hub_leaves, items_fit, turns_fell, window_closed}
 use Rattle.hub_core.proofs.open_windows.OpenWindow.closed.Goals as goal
+use Rattle.hub_core.proofs.windows.Closings.{IsLastState}
 use Rattle.hub_core.specs.HubCalls.{IsClosed}
 use Rattle.hub_core.specs.HubsKept.{open_of}
 use Rattle.hub_core.specs.OpenHubs.{OpenHub, configuration_of}
 use Rattle.hub_core.specs.ReadHistories.{HistoryState}
 use Rattle.hub_core.specs.Steps.{not_quiet}
-use Rattle.std.proofs.Common.{None, ap, subst, sym, ◌+◌, ◌≡◌, ◌∙◌}
+use Rattle.std.proofs.Common.{None, ap, arith, subst, sym, ◌+◌, ◌≡◌, ◌∙◌}
 
 -- every device is home
 pub close-devices-requires : goal.close-devices-requires
@@ -32,28 +33,36 @@ faults_in-requires-clause-fell g c =
 pub order_of-requires : goal.order_of-requires
 order_of-requires g c = record { room = items_fit c.self.inside c.self.invariant }
 
+-- the home has room for the devices
+pub copied-world-requires : goal.copied-world-requires
+copied-world-requires g c =
+    let quiet = subst (λ (t : OpenHub g.row.D.Denot). not_quiet (configuration_of t) ≡ None) (sym c.self.view_is) c.requires.quiet in
+    let left = hub_leaves c.self.inside c.stands_left-last.result.items c.self.invariant quiet (λ e. c.stands_left-last.ensures.ordered (c.is_weak-weak.ensures ∙ e)) (λ e. c.stands_left-last.ensures.weakly (c.is_weak-weak.ensures ∙ e)) in
+    let room = c.self.invariant.room.world in
+    record { room = (room.0, omega (arith, left.size, room.1)) }
+
 -- the home that is left
 pub invariant_of-home : goal.invariant_of-home
 invariant_of-home g c =
     let quiet = subst (λ (t : OpenHub g.row.D.Denot). not_quiet (configuration_of t) ≡ None) (sym c.self.view_is) c.requires.quiet in
     let closes : Closes g.D.Device.tag g.D.Device.stands g.D.Device.turns g.D.Device.probes g.D.Device.faults (open_of c.self.inside) c.close-devices.result.items = record { kept = c.self.invariant.shown; quiet = quiet; places = c.close-devices.ensures.devices; numbered = c.close-devices.ensures.numbers } in
-    home_left _ _ _ _ _ _ _ c.history.inside.kinds.items c.stands_left-2.result.items closes (ap (λ (h : HistoryState). h.setting.kinds) c.history.view_is) (hub_leaves c.self.inside c.stands_left-2.result.items c.self.invariant quiet (λ e. c.stands_left-2.ensures.ordered (c.is_weak-weak.ensures ∙ e)) (λ e. c.stands_left-2.ensures.weakly (c.is_weak-weak.ensures ∙ e)))
+    home_left _ _ _ _ _ _ _ c.history.inside.kinds.items c.copied-world.result.items closes (ap (λ (h : HistoryState). h.setting.kinds) c.history.view_is) (subst (IsLastState (configuration_of (open_of c.self.inside))) (sym c.copied-world.ensures) (hub_leaves c.self.inside c.stands_left-last.result.items c.self.invariant quiet (λ e. c.stands_left-last.ensures.ordered (c.is_weak-weak.ensures ∙ e)) (λ e. c.stands_left-last.ensures.weakly (c.is_weak-weak.ensures ∙ e))))
 
 -- and the record
 pub returns : goal.returns
 returns g c =
     let quiet = subst (λ (t : OpenHub g.row.D.Denot). not_quiet (configuration_of t) ≡ None) (sym c.self.view_is) c.requires.quiet in
     let closes : Closes g.D.Device.tag g.D.Device.stands g.D.Device.turns g.D.Device.probes g.D.Device.faults (open_of c.self.inside) c.close-devices.result.items = record { kept = c.self.invariant.shown; quiet = quiet; places = c.close-devices.ensures.devices; numbered = c.close-devices.ensures.numbers } in
-    let closed : WindowRecord = record { mode = c.history.inside.mode; first = c.history.inside.first; history = c.into_list.result; order = c.order_of.result; last = record { devices = c.stands_left.result }; turns = c.turns_in.result; faults = c.faults_in.result } in
+    let closed : WindowRecord = record { mode = c.history.inside.mode; first = c.history.inside.first; history = c.into_list.result; order = c.order_of.result; last = record { devices = c.stands_left-last.result }; turns = c.turns_in.result; faults = c.faults_in.result } in
     let tells : Tells g.D.Device.turns g.D.Device.faults (open_of c.self.inside) c.close-devices.result.items closed = record {
       mode = ap (λ (h : HistoryState). h.setting.mode) c.history.view_is;
       first = ap (λ (h : HistoryState). h.setting.first) c.history.view_is;
       history = ap (λ (l : Listed Kept). l.items) c.into_list.ensures ∙ ap (λ (h : HistoryState). h.history) c.history.view_is;
       order = λ e. c.order_of.ensures.ordered (c.is_weak-weak.ensures ∙ e) ∙ c.self.invariant.order.line_is.items;
       unclaimed = λ e. c.order_of.ensures.weakly (c.is_weak-weak.ensures ∙ e);
-      last = hub_leaves c.self.inside c.stands_left.result.items c.self.invariant quiet (λ e. c.stands_left.ensures.ordered (c.is_weak-weak.ensures ∙ e)) (λ e. c.stands_left.ensures.weakly (c.is_weak-weak.ensures ∙ e));
+      last = hub_leaves c.self.inside c.stands_left-last.result.items c.self.invariant quiet (λ e. c.stands_left-last.ensures.ordered (c.is_weak-weak.ensures ∙ e)) (λ e. c.stands_left-last.ensures.weakly (c.is_weak-weak.ensures ∙ e));
       turns_rose = c.turns_in.ensures;
       faults_rose = c.faults_in.ensures;
     } in
-    subst (λ (t : OpenHub g.row.D.Denot). IsClosed g.D.Device.turns g.D.Device.probes g.D.Device.faults t (record { kinds = c.history.inside.kinds.items; world = c.stands_left-2.result.items; devices = c.close-devices.result.items; opened = c.self.inside.opened + 1 }) closed) c.self.view_is
-    (window_closed _ _ _ _ _ _ _ c.history.inside.kinds.items c.stands_left-2.result.items closed closes tells (ap (λ (h : HistoryState). h.setting.kinds) c.history.view_is) (same_left c.is_weak-weak.result _ _ _ _ c.stands_left-2.ensures.ordered c.stands_left-2.ensures.weakly c.stands_left.ensures.ordered c.stands_left.ensures.weakly))
+    subst (λ (t : OpenHub g.row.D.Denot). IsClosed g.D.Device.turns g.D.Device.probes g.D.Device.faults t (record { kinds = c.history.inside.kinds.items; world = c.copied-world.result.items; devices = c.close-devices.result.items; opened = c.self.inside.opened + 1 }) closed) c.self.view_is
+    (window_closed _ _ _ _ _ _ _ c.history.inside.kinds.items c.copied-world.result.items closed closes tells (ap (λ (h : HistoryState). h.setting.kinds) c.history.view_is) c.copied-world.ensures)
