@@ -1,5 +1,6 @@
 pub mod DeviceSound
 pub mod FormLemmas
+pub mod GivenLemmas
 pub mod NameLemmas
 pub mod PrefixLemmas
 pub mod ReadingLemmas

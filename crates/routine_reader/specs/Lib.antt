@@ -2,6 +2,7 @@ pub mod AreRead
 pub mod Commands
 pub mod Devices
 pub mod Forms
+pub mod GivenMembers
 pub mod Limits
 pub mod Names
 pub mod Readings

@@ -3,15 +3,18 @@ ghost use Rattle.home_types.specs.Limits.{most_states};
 ghost use Rattle.routine_reader.specs.AreRead.{AreDevices};
 ghost use Rattle.routine_reader.specs.Commands.{command_members, command_reading, job_of, kind_of, states_of, suits_verb, verb_of};
 ghost use Rattle.routine_reader.specs.Scripts.{plain_device};
-ghost use Rattle.serde_json.specs.View.{view};
-ghost use Rattle.std.specs.Prelude.{◌≡◌, ◌<◌, ◌≤◌, All, length, map, option_map};
+ghost use Rattle.routine_reader.specs.Forms.{knows, names_of};
+ghost use Rattle.routine_reader.specs.GivenMembers.{given_of, given_in, with_member};
+ghost use Rattle.serde_json.specs.View.{members_view, view};
+ghost use Rattle.std.specs.List.{list_all};
+ghost use Rattle.std.specs.Prelude.{◌≡◌, ◌<◌, ◌≤◌, All, IfSome, IsTrue, is_some, length, map, option_map};
 
 use crate::devices::{Devices, value_in};
 use crate::faults::{Count, Part, ReadFault, within_limit};
-use crate::forms::{Form, flag_or, has_form, number_or, state_if_there, text_at};
+use crate::forms::{Form, flag_given, number_given, state_given};
 use crate::scripts::DeviceText;
 use home_types::{Command, DeviceNo, Job, Kind, Text};
-use serde_json::Value as Json;
+use serde_json::{Map, Value as Json};
 
 /// The estimate of a command that gives none, in ms.
 const DEFAULT_MS: u32 = 100;
@@ -57,18 +60,67 @@ fn suits_verb(verb: Verb, to: Option<&Json>) -> bool
     }
 }
 
+/// The members of a command that are there, of any type.
+#[derive(Clone, Copy)]
+struct GivenMembers<'a> {
+    on: Option<&'a Json>,
+    verb: Option<&'a Json>,
+    to: Option<&'a Json>,
+    must: Option<&'a Json>,
+    ms: Option<&'a Json>,
+    takes: Option<&'a Json>,
+}
+
+impl<'a> GivenMembers<'a> {
+    /// Keeps a member whose name is one that `Form::Command` knows. Whether it is.
+    fn keep(&mut self, name: &str, value: &'a Json) -> bool
+        ensures known { result ≡ knows Form.Command name.now }
+        ensures kept { IsTrue result → given_of self.new ≡ with_member name.now (view value.now) (given_of self.old) }
+    {
+        match name {
+            "on" => self.on = Some(value),
+            "do" => self.verb = Some(value),
+            "to" => self.to = Some(value),
+            "must" => self.must = Some(value),
+            "ms" => self.ms = Some(value),
+            "takes" => self.takes = Some(value),
+            _ => return false,
+        }
+        true
+    }
+}
+
+/// The members of a command, by one walk over them. `None` where one of them is no member of a command.
+fn given_members(members: &Map<String, Json>) -> Option<GivenMembers<'_>>
+    ensures known { is_some result ≡ list_all (knows Form.Command) (names_of (members_view members.now.entries)) }
+    ensures given { IfSome result (λ given. given_of given ≡ given_in (members_view members.now.entries)) }
+{
+    let mut given = GivenMembers {
+        on: None,
+        verb: None,
+        to: None,
+        must: None,
+        ms: None,
+        takes: None,
+    };
+    'members: for (name, value) in members.iter() {
+        if !given.keep(name.as_str(), value) {
+            return None;
+        }
+    }
+    Some(given)
+}
+
 fn command_members(value: &Json) -> Option<CommandMembers<'_>>
     ensures { option_map (λ members. record { device = members.device.now; verb = members.verb; to = option_map (λ state. view state.now) members.to; must = members.must; ms = members.ms; takes = members.takes }) result ≡ command_members (view value.now) }
 {
-    if !has_form(Form::Command, value) {
-        return None;
-    }
-    let device = text_at(value, "on")?;
-    let verb = verb_of(text_at(value, "do")?)?;
-    let to = state_if_there(value, "to")?;
-    let must = flag_or(value, "must", true)?;
-    let ms = number_or(value, "ms", DEFAULT_MS)?;
-    let takes = number_or(value, "takes", ms)?;
+    let given = given_members(value.as_object()?)?;
+    let device = given.on?.as_str()?;
+    let verb = verb_of(given.verb?.as_str()?)?;
+    let to = state_given(given.to)?;
+    let must = flag_given(given.must, true)?;
+    let ms = number_given(given.ms, DEFAULT_MS)?;
+    let takes = number_given(given.takes, ms)?;
     if !suits_verb(verb, to) {
         return None;
     }

@@ -1,10 +1,11 @@
 //! The members that an object of a script may have, and the parts that are read of them.
-ghost use Rattle.routine_reader.specs.Forms.{has_form, if_there, is_state, items_in, knows, lacks, long_number_of, needed, number_of, or_default, state_of};
+ghost use Rattle.routine_reader.specs.Forms.{has_form, if_there, is_state, items_in, knows, lacks, long_number_of, needed, number_of, or_default, present, state_of};
 ghost use Rattle.serde_json.specs.Find.{as_bool, as_str};
 ghost use Rattle.serde_json.specs.View.{view};
 ghost use Rattle.std.specs.BTreeMap.{keys};
 ghost use Rattle.std.specs.List.{list_all};
-ghost use Rattle.std.specs.Prelude.{◌≡◌, [], map, option_map, string_bytes};
+ghost use Rattle.std.specs.Option.{option_map_or};
+ghost use Rattle.std.specs.Prelude.{◌≡◌, [], None, Some, map, option_map, string_bytes};
 
 use serde_json::{Map, Value};
 
@@ -152,10 +153,7 @@ pub fn long_number_or(value: &Value, name: &str, default: u64) -> Option<u64>
 pub fn number_or(value: &Value, name: &str, default: u32) -> Option<u32>
     ensures { result ≡ or_default number_of default name.now (view value.now) }
 {
-    match value.get(name) {
-        Some(member) => number_of(member),
-        None => Some(default),
-    }
+    number_given(value.get(name), default)
 }
 
 /// The whole number of 32 bits that a member is, if it is there.
@@ -168,16 +166,6 @@ pub fn number_if_there(value: &Value, name: &str) -> Option<Option<u32>>
     }
 }
 
-/// The flag that a member is, or this one where the member is missing.
-pub fn flag_or(value: &Value, name: &str, default: bool) -> Option<bool>
-    ensures { result ≡ or_default as_bool default name.now (view value.now) }
-{
-    match value.get(name) {
-        Some(member) => member.as_bool(),
-        None => Some(default),
-    }
-}
-
 /// The text or the whole number that a member is.
 pub fn state_at<'a>(value: &'a Value, name: &str) -> Option<&'a Value>
     ensures { option_map (λ state. view state.now) result ≡ needed state_of name.now (view value.now) }
@@ -185,11 +173,31 @@ pub fn state_at<'a>(value: &'a Value, name: &str) -> Option<&'a Value>
     state_of(value.get(name)?)
 }
 
-/// The text or the whole number that a member is, if it is there.
-pub fn state_if_there<'a>(value: &'a Value, name: &str) -> Option<Option<&'a Value>>
-    ensures { option_map (λ there. option_map (λ state. view state.now) there) result ≡ if_there state_of name.now (view value.now) }
+/// The whole number of 32 bits that the member is, or this one where it is missing.
+pub fn number_given(member: Option<&Value>, default: u32) -> Option<u32>
+    ensures { result ≡ option_map_or number_of (option_map (λ m. view m.now) member.entry) (Some default) }
 {
-    match value.get(name) {
+    match member {
+        Some(member) => number_of(member),
+        None => Some(default),
+    }
+}
+
+/// The flag that the member is, or this one where it is missing.
+pub fn flag_given(member: Option<&Value>, default: bool) -> Option<bool>
+    ensures { result ≡ option_map_or as_bool (option_map (λ m. view m.now) member.entry) (Some default) }
+{
+    match member {
+        Some(member) => member.as_bool(),
+        None => Some(default),
+    }
+}
+
+/// The text or the whole number that the member is, if it is there.
+pub fn state_given(member: Option<&Value>) -> Option<Option<&Value>>
+    ensures { option_map (λ there. option_map (λ state. view state.now) there) result ≡ option_map_or (present state_of) (option_map (λ m. view m.now) member.entry) (Some None) }
+{
+    match member {
         Some(member) => Some(Some(state_of(member)?)),
         None => Some(None),
     }
