@@ -1,11 +1,11 @@
 -- Lines behind each other.
 use Rattle.order_checker.specs.Lines.{has_no_line, is_note, line_at, lines_of, lines_of_pieces, pieces_of}
-use Rattle.order_checker.specs.Words.{Parts, cut_at}
-use Rattle.std.proofs.Common.{Bool, List, None, Option, Some, [], ap, arith, drop, false, length, nat_lt, option_map, refl, take, true, ℕ, ◌+◌, ◌++◌, ◌<◌, ◌≤◌, ◌∙◌, ◌≡◌, ◌∷◌, ◌==◌, ◌||◌, if◌then◌else◌}
+use Rattle.std.proofs.Common.{Bool, List, None, Some, [], ap, arith, drop, false, length, nat_lt, refl, sym, take, true, ℕ, ◌+◌, ◌-◌, ◌++◌, ◌<◌, ◌≤◌, ◌∙◌, ◌≡◌, ◌∷◌, ◌==◌, ◌||◌, if◌then◌else◌}
 use Rattle.std.proofs.lemmas.Grind.{common_steps}
+use Rattle.std.proofs.lemmas.List.{length-drop, take_all}
 use Rattle.std.proofs.lemmas.List.Splits.{length-slice_split, slice_split_first, slice_split_none}
 use Rattle.std.proofs.lemmas.List.Sums.{fails_before_first}
-use Rattle.std.specs.List.{position, position_or_len}
+use Rattle.std.specs.List.{position, position_or_len, slice_split}
 
 -- the first place at which a test passes
 position-first : (p : ℕ → Bool) (xs : List ℕ) (i : ℕ) → position p xs ≡ Some i → (position_or_len p xs < length xs) × (position_or_len p xs ≡ i)
@@ -22,31 +22,19 @@ no-position p xs none = which (nat_lt (position_or_len p xs) (length xs)) refl n
     which true within none = absurd (grind (arith, common_steps))
     which false within none = grind (arith, common_steps)
 
--- a text that is cut at its first line feed
-some-cut : (text : List ℕ) (place : Option ℕ) (front back : List ℕ) → position (λ b. b == 10) text ≡ place
-    → option_map {U = Parts} (λ i. record { front = take i text; back = drop (i + 1) text }) place ≡ Some (record { front = front; back = back }) → pieces_of text ≡ front ∷ pieces_of back
-some-cut text None front back at cut = absurd (grind (arith, common_steps))
-some-cut text (Some i) front back at cut =
-    let first = position-first (λ b. b == 10) text i at in
-    let parts : Parts = record { front = take i text; back = drop (i + 1) text } in
-    let same : parts ≡ record { front = front; back = back } = cc in
-    slice_split_first (λ b. b == 10) text 0 first.0
-    ∙ ap (λ k. take k text ∷ pieces_of (drop (k + 1) text)) first.1
-    ∙ ap (λ p. p.front ∷ pieces_of p.back) same
+-- a text that is split at each such byte: it has one, or none
+pub split-first : (byte : ℕ) (text : List ℕ) (i : ℕ) → position (λ b. b == byte) text ≡ Some i
+    → slice_split (λ b. b == byte) text ≡ take i text ∷ slice_split (λ b. b == byte) (take (length text - (i + 1)) (drop (i + 1) text))
+split-first byte text i at =
+    let first = position-first (λ b. b == byte) text i at in
+    slice_split_first (λ b. b == byte) text 0 first.0
+    ∙ ap (λ k. take k text ∷ slice_split (λ b. b == byte) (drop (k + 1) text)) first.1
+    ∙ ap (λ behind. take i text ∷ slice_split (λ b. b == byte) behind) (sym (take_all (length text - (i + 1)) (drop (i + 1) text) (omega (arith, length-drop (i + 1) text))))
 
-pub cut-pieces : (text front back : List ℕ) → cut_at 10 text ≡ Some (record { front = front; back = back }) → pieces_of text ≡ front ∷ pieces_of back
-cut-pieces text front back cut = some-cut text (position (λ b. b == 10) text) front back refl cut
-
-none-cut : (text : List ℕ) (place : Option ℕ) → position (λ b. b == 10) text ≡ place
-    → option_map {U = Parts} (λ i. record { front = take i text; back = drop (i + 1) text }) place ≡ None → pieces_of text ≡ text ∷ []
-none-cut text None at cut =
-    let far = no-position (λ b. b == 10) text at in
-    slice_split_none (λ b. b == 10) text (λ k e m. fails_before_first (λ b. b == 10) text k e (omega (arith, far)))
-none-cut text (Some i) at cut = absurd (grind (arith, common_steps))
-
--- a text without a line feed
-pub whole-piece : (text : List ℕ) → cut_at 10 text ≡ None → pieces_of text ≡ text ∷ []
-whole-piece text cut = none-cut text (position (λ b. b == 10) text) refl cut
+pub split-whole : (byte : ℕ) (text : List ℕ) → position (λ b. b == byte) text ≡ None → slice_split (λ b. b == byte) text ≡ text ∷ []
+split-whole byte text none =
+    let far = no-position (λ b. b == byte) text none in
+    slice_split_none (λ b. b == byte) text (λ k e m. fails_before_first (λ b. b == byte) text k e (omega (arith, far)))
 
 -- a piece that another one follows is a line, unless it is a note
 pub lines-cons : (line : List ℕ) (pieces : List (List ℕ)) → 0 < length pieces → lines_of_pieces (line ∷ pieces) ≡ (if is_note line then [] else Some line ∷ []) ++ lines_of_pieces pieces

@@ -52,6 +52,7 @@ fn read_each_stand(
     ensures { IsTold (λ stands. stands.items) result (walk (next_stand (texts words.now)) [] devices.now) }
 {
     let mut stands = List::new(alloc);
+    stands.reserve(devices.len() as u64)?;
     'devices: for (i, device) in devices.iter().enumerate() {
         let Some(stand) = stand_of(device, words[i]) else {
             return Err(Halt::At(Place::Home));

@@ -170,6 +170,7 @@ impl<'a> OrderReader<'a> {
         ensures of_roster { IfOk result (λ items. All (IsItemOf self.now.home.now.items self.now.roster.now) items.items) }
     {
         let mut items = List::new(alloc);
+        items.reserve(words.len() as u64)?;
         let mut home = List::of(alloc, self.home.as_slice())?;
         'words: for (i, word) in words.iter().enumerate() {
             let Some(item) = self.item_of(&home, &items, word) else {

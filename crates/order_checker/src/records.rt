@@ -21,6 +21,7 @@ fn start_home(alloc: Global, devices: &[DeviceText]) -> Result<List<Stand>, NoMe
     ensures { IfOk result (λ home. home.items ≡ map start_stand devices.now) }
 {
     let mut home = List::new(alloc);
+    home.reserve(devices.len() as u64)?;
     'devices: for device in devices {
         home.push(Stand {
             value: device.start,

@@ -163,6 +163,7 @@ fn read_each_answer(
     ensures { IsTold (λ answers. answers.items) result (walk (next_answer devices.now (texts words.now) place) [] commands.now) }
 {
     let mut answers = List::new(alloc);
+    answers.reserve(commands.len() as u64)?;
     'commands: for (i, command) in commands.iter().enumerate() {
         let Some(answer) = answer_of(devices, *command, words[i]) else {
             return Err(Halt::At(place));

@@ -92,6 +92,7 @@ fn read_runs<'a>(
     ensures count { IfOk result (λ told. length told.ends.items ≡ length runs.now) }
 {
     let mut ends = List::new(alloc);
+    ends.reserve(runs.len() as u64)?;
     let mut rest = text;
     'runs: for (i, run) in runs.iter().enumerate() {
         let told = read_run(alloc, script, runs.len(), RunNo(i as u32 + 1), run, rest)?;

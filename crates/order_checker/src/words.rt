@@ -9,10 +9,18 @@ use home_types::NoMemory;
 use std::alloc::{AllocError, Global};
 use std::str::from_utf8;
 
+/// The words of a line. Room is taken at first for as many as it has where each is of one byte, and more as it is needed.
 fn split_words<'a>(alloc: Global, line: &'a [u8]) -> Result<Vec<&'a [u8]>, AllocError>
     ensures { IfOk result (λ words. texts words.items ≡ words_of line.now) }
 {
-    line.split(|byte| *byte == b' ').collect(alloc)
+    let mut words = Vec::with_capacity(alloc, line.len() / 2 + 1)?;
+    let mut rest = line;
+    'words: while let Some(end) = place_of(rest, b' ') {
+        words.push(&rest[..end])?;
+        rest = &rest[end + 1..];
+    }
+    words.push(rest)?;
+    Ok(words)
 }
 
 /// The words of a line, in order: what stands between its spaces, be it empty.

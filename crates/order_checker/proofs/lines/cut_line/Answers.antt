@@ -1,8 +1,15 @@
-use Rattle.order_checker.proofs.Notes.{cut-pieces, whole-piece}
+use Rattle.order_checker.proofs.Notes.{split-first, split-whole}
 use Rattle.order_checker.proofs.lines.cut_line.Goals as goal
+use Rattle.std.proofs.Common.{None, Some, rules, ◌≡◌, ◌==◌}
+use Rattle.std.specs.List.{position}
 
-pub returns-in-Some-clause-pieces : goal.returns-in-Some-clause-pieces
-returns-in-Some-clause-pieces c = cut-pieces c.args.text.now c.in-Some.line.now c.in-Some.behind.now c.in-Some.ensures.parts
+pub returns-in_err-end-clause-last : goal.returns-in_err-end-clause-last
+returns-in_err-end-clause-last c =
+    let none : position (λ b. b == 10) c.args.text.now ≡ None = search rules in
+    let whole = split-whole 10 c.args.text.now none in
+    search rules
 
-pub returns-in-None-clause-last : goal.returns-in-None-clause-last
-returns-in-None-clause-last c = whole-piece c.args.text.now c.in-None.ensures.none
+pub returns-clause-pieces : goal.returns-clause-pieces
+returns-clause-pieces c =
+    let at : position (λ b. b == 10) c.args.text.now ≡ Some c.in_ok-end.end = search rules in
+    split-first 10 c.args.text.now c.in_ok-end.end at

@@ -11,7 +11,7 @@ use Rattle.std.proofs.Common.{arith, length, length-append, ◌∙◌}
 pub returns-in_err-told-clause-told : goal.returns-in_err-told-clause-told
 returns-in_err-told-clause-told c =
     let halt = c.in_err-told.field-0.0 in
-    told-answer runs_told c.from_residual.result halt _ c.from_residual.ensures.1
+    told-answer runs_told c.from_residual-in_err-told.result halt _ c.from_residual-in_err-told.ensures.1
     (told-refused {T = RunLine} (λ told. plain_end told.end) runs_told halt _ _ c.in_err-told.ensures.told
     (λ place refused. c.runs.invariant.walk ∙ run-refused c.args.script.now (length c.args.runs.now) c.runs.ends.items (lines_of c.runs.rest.now) c.args.runs.now c.runs.i _ c.runs-test.true c.runs.invariant.count place refused))
 
