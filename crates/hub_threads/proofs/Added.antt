@@ -6,7 +6,6 @@ use Rattle.device_gate.specs.declared.grips.Done.{Done}
 use Rattle.device_gate.specs.declared.grips.Ready.{Ready}
 use Rattle.device_gate.specs.declared.slips.Slip.{Slip}
 use Rattle.device_gate.specs.declared.slips.Told.{Told}
-use Rattle.device_gate.specs.declared.strangers.Stranger.{Stranger}
 use Rattle.history_book.specs.Histories.{entries_made, kept_by}
 use Rattle.history_book.specs.declared.entries.Entry.{Entry}
 use Rattle.history_book.specs.declared.entries.Kept.{Kept}
@@ -18,12 +17,12 @@ use Rattle.hub_core.specs.OpenHubs.{OpenHub, carried_in, configuration_of, devic
 use Rattle.hub_core.specs.Steps.{Absent as IsAbsent, Choice, HandsOut, Moves, Over as IsOver, Waits, after_choice, after_give, at_moment, give_entries, may_probe}
 use Rattle.hub_core.specs.declared.turns.Turn.TheVariants.{Absent, Go, Moved, Over, Wait}
 use Rattle.hub_core.specs.declared.turns.Turn.{Turn}
-use Rattle.hub_threads.specs.Named.{entries_given, entries_told}
+use Rattle.hub_threads.specs.Named.{entries_told}
 use Rattle.lock_leasing.specs.Configurations.{Configuration, Grip, read_of}
 use Rattle.std.proofs.Common.{ap, arith, refl, subst, sym, ◌∙◌}
 use Rattle.std.proofs.lemmas.Grind.{common_steps}
 use Rattle.std.proofs.lemmas.List.{append-nil, length-append, length-map}
-use Rattle.std.specs.Prelude.{Bool, Err, List, None, Ok, Option, Result, Some, [], false, if◌then◌else◌, length, max, nat_lt, option_map, slice_get, true, unwrap_or, ℕ, ◌&&◌, ◌++◌, ◌+◌, ◌==◌, ◌≡◌, ◌≤◌}
+use Rattle.std.specs.Prelude.{Bool, List, None, Ok, Option, Some, [], false, if◌then◌else◌, length, max, nat_lt, option_map, slice_get, true, unwrap_or, ℕ, ◌&&◌, ◌++◌, ◌+◌, ◌==◌, ◌≡◌, ◌≤◌}
 use Rattle.window_order.proofs.Runs.{both}
 
 -- the step has added these entries of this maker, and this is the last moment then
@@ -163,19 +162,16 @@ pub probe_given_entries_are : {D : Type 0} (s t : OpenHub D) (grip : Gripped D D
     → (out : Grip) × (entries_made made ≡ give_entries s.setting (read_of (configuration_of s)) grip.slip.device.0 out grip.stage.told)
 probe_given_entries_are s t grip made is = let back = gave_probe_entries s t (carried_by grip) grip.stage.told (entries_made made) is.0 in (back.0.grip, back.2)
 
--- a grip that is refused changes nothing
-pub given_adds : {D : Type 0} (s t : OpenHub D) (grip : Gripped D Done) (m : ℕ) (answer : Result Made (Gripped D Done × Stranger)) → IsGiven s grip m answer t → Adds s grip.slip.maker (entries_given answer) t.moment t
-given_adds s t grip m (Ok made) is = record { history = (gave_adds s t (carried_by grip) grip.stage.told m (entries_made made) is.0).history; moment_is = refl }
-given_adds s t grip m (Err refused) is = adds_nothing s t grip.slip.maker t.moment (ap (λ (x : OpenHub _). x.history) is.2) refl
+-- what a grip that comes back adds
+pub given_adds : {D : Type 0} (s t : OpenHub D) (grip : Gripped D Done) (m : ℕ) (made : Made) → IsGiven s grip m (Ok made) t → Adds s grip.slip.maker (entries_made made) t.moment t
+given_adds s t grip m made is = record { history = (gave_adds s t (carried_by grip) grip.stage.told m (entries_made made) is.0).history; moment_is = refl }
 
-pub probe_given_adds : {D : Type 0} (s t : OpenHub D) (grip : Gripped D Done) (answer : Result Made (Gripped D Done × Stranger)) → IsProbeGiven s grip answer t → Adds s 0 (entries_given answer) s.moment t
-probe_given_adds s t grip (Ok made) is = gave_probe_adds s t (carried_by grip) grip.stage.told (entries_made made) is.0
-probe_given_adds s t grip (Err refused) is = adds_nothing s t 0 s.moment (ap (λ (x : OpenHub _). x.history) is.2) (ap (λ (x : OpenHub _). x.moment) is.2)
+pub probe_given_adds : {D : Type 0} (s t : OpenHub D) (grip : Gripped D Done) (made : Made) → IsProbeGiven s grip (Ok made) t → Adds s 0 (entries_made made) s.moment t
+probe_given_adds s t grip made is = gave_probe_adds s t (carried_by grip) grip.stage.told (entries_made made) is.0
 
 -- the last moment after a grip came back at this one
-pub given_moment : {D : Type 0} (s t : OpenHub D) (grip : Gripped D Done) (m latest : ℕ) (answer : Result Made (Gripped D Done × Stranger)) → IsGiven s grip m answer t → s.moment ≤ latest → m ≤ latest → t.moment ≤ latest
-given_moment s t grip m latest (Ok made) is was now = let at = (gave_adds s t (carried_by grip) grip.stage.told m (entries_made made) is.0).moment_is in subst (λ k. k ≤ latest) (sym at) (omega (arith, was, now))
-given_moment s t grip m latest (Err refused) is was now = subst (λ (x : OpenHub _). x.moment ≤ latest) (sym is.2) was
+pub given_moment : {D : Type 0} (s t : OpenHub D) (grip : Gripped D Done) (m latest : ℕ) (made : Made) → IsGiven s grip m (Ok made) t → s.moment ≤ latest → m ≤ latest → t.moment ≤ latest
+given_moment s t grip m latest made is was now = let at = (gave_adds s t (carried_by grip) grip.stage.told m (entries_made made) is.0).moment_is in subst (λ k. k ≤ latest) (sym at) (omega (arith, was, now))
 
 -- Probes that go out
 

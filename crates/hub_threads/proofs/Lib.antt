@@ -3,5 +3,6 @@ pub mod Plans
 pub mod Moments
 pub mod Named
 pub mod RunWords
+pub mod Passes
 pub mod Holding
 mod Worked

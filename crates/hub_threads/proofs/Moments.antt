@@ -5,7 +5,6 @@ use Rattle.device_gate.specs.declared.grips.Done.{Done}
 use Rattle.device_gate.specs.declared.slips.Slip.{Slip}
 use Rattle.device_gate.specs.declared.slips.Told.TheVariants.{Died, Sensed, Worked}
 use Rattle.device_gate.specs.declared.slips.Told.{Told}
-use Rattle.device_gate.specs.declared.strangers.Stranger.{Stranger}
 use Rattle.history_book.specs.Histories.{entries_made, kept_by}
 use Rattle.history_book.specs.Readings.{Reading, did, is_doomed, next_of}
 use Rattle.history_book.specs.Settings.{Setting, is_weak}
@@ -27,13 +26,13 @@ use Rattle.hub_core.specs.declared.turns.Turn.TheVariants.{Absent, Go, Moved, Ov
 use Rattle.hub_core.specs.declared.turns.Turn.{Turn}
 use Rattle.hub_threads.proofs.Added.{chosen_entries, given_entries_are, probe_given_entries_are, some_slip}
 use Rattle.hub_threads.specs.Moments.{AreWithin, TellsWithin, moment_told}
-use Rattle.hub_threads.specs.Named.{entries_given, entries_told}
+use Rattle.hub_threads.specs.Named.{entries_told}
 use Rattle.lock_leasing.specs.Configurations.{Commands, Configuration, Grip, Probes, Purpose, Undoes, read_of}
 use Rattle.lock_leasing.specs.Waits.{lost_by}
 use Rattle.lock_leasing.specs.Words.{lease_deadline}
 use Rattle.std.proofs.Common.{arith, refl, subst, sym}
 use Rattle.std.proofs.lemmas.List.Elements.{All-append, All-cons, All-nil}
-use Rattle.std.specs.Prelude.{Bool, Err, IfSome, List, None, Ok, Option, Result, Some, [], false, if◌then◌else◌, length, max, option_map, option_to_list, not, true, ℕ, ◌&&◌, ◌++◌, ◌∷◌, ◌≡◌, ◌≤◌}
+use Rattle.std.specs.Prelude.{Bool, IfSome, List, None, Ok, Option, Some, [], false, if◌then◌else◌, length, max, option_map, option_to_list, not, true, ℕ, ◌&&◌, ◌++◌, ◌∷◌, ◌≡◌, ◌≤◌}
 
 -- an entry before others
 before : (earliest latest maker : ℕ) (entry : Entry) (entries : List Entry) → IfSome (moment_told entry) (λ m. (earliest ≤ m) × (m ≤ latest)) → AreWithin earliest latest (kept_by maker entries) → AreWithin earliest latest (kept_by maker (entry ∷ entries))
@@ -148,14 +147,12 @@ back_within earliest latest maker w n d grip told = by_purpose grip.purpose
     by_purpose (Undoes v) = undo_within earliest latest maker grip.maker d told
     by_purpose (Probes v) = probe_within earliest latest maker w n d told
 
-pub given_within : {D : Type 0} (earliest latest : ℕ) (s t : OpenHub D) (grip : Gripped D Done) (m : ℕ) (answer : Result Made (Gripped D Done × Stranger)) → IsGiven s grip m answer t → AreWithin earliest latest (kept_by grip.slip.maker (entries_given answer))
-given_within earliest latest s t grip m (Ok made) is =
+pub given_within : {D : Type 0} (earliest latest : ℕ) (s t : OpenHub D) (grip : Gripped D Done) (m : ℕ) (made : Made) → IsGiven s grip m (Ok made) t → AreWithin earliest latest (kept_by grip.slip.maker (entries_made made))
+given_within earliest latest s t grip m made is =
     let by = given_entries_are s t grip m made is in
     subst (λ es. AreWithin earliest latest (kept_by grip.slip.maker es)) (sym by.1) (back_within earliest latest grip.slip.maker s.setting (read_of (configuration_of s)) grip.slip.device.0 by.0 grip.stage.told)
-given_within earliest latest s t grip m (Err refused) is = none earliest latest grip.slip.maker
 
-pub probe_given_within : {D : Type 0} (earliest latest : ℕ) (s t : OpenHub D) (grip : Gripped D Done) (answer : Result Made (Gripped D Done × Stranger)) → IsProbeGiven s grip answer t → AreWithin earliest latest (kept_by 0 (entries_given answer))
-probe_given_within earliest latest s t grip (Ok made) is =
+pub probe_given_within : {D : Type 0} (earliest latest : ℕ) (s t : OpenHub D) (grip : Gripped D Done) (made : Made) → IsProbeGiven s grip (Ok made) t → AreWithin earliest latest (kept_by 0 (entries_made made))
+probe_given_within earliest latest s t grip made is =
     let by = probe_given_entries_are s t grip made is in
     subst (λ es. AreWithin earliest latest (kept_by 0 es)) (sym by.1) (back_within earliest latest 0 s.setting (read_of (configuration_of s)) grip.slip.device.0 by.0 grip.stage.told)
-probe_given_within earliest latest s t grip (Err refused) is = none earliest latest 0

@@ -3,7 +3,6 @@ use Rattle.device_gate.specs.Grips.{Gripped}
 use Rattle.device_gate.specs.declared.gates.Place.{Place}
 use Rattle.device_gate.specs.declared.grips.Done.{Done}
 use Rattle.device_gate.specs.declared.grips.Ready.{Ready}
-use Rattle.device_gate.specs.declared.strangers.Stranger.{Stranger}
 use Rattle.history_book.specs.declared.entries.Made.{Made}
 use Rattle.hub_core.proofs.steps.HubAnswers.{took_probe}
 use Rattle.hub_core.specs.HubCalls.{IsGiven, IsProbeGiven, IsProbed, IsTurn, SameWindow}
@@ -17,7 +16,7 @@ use Rattle.hub_threads.specs.Moments.{AreWithin}
 use Rattle.hub_threads.specs.Named.{HasPlan, HavePlans, IsNamed, TurnHasPlan}
 use Rattle.hub_threads.specs.Names.{IsWithin, NamedWindow, Plan}
 use Rattle.std.proofs.Common.{ap, arith, subst, sym, ◌∙◌}
-use Rattle.std.specs.Prelude.{Err, List, None, Ok, Option, Result, Some, max, ℕ, ◌≡◌, ◌≤◌}
+use Rattle.std.specs.Prelude.{List, None, Ok, Option, Some, max, ℕ, ◌≡◌, ◌≤◌}
 
 named_after : {D : Type 0} (plan : D → Plan) (window : NamedWindow) (s t : OpenHub D)
     → IsNamed plan window s → SameWindow s t → t.moment ≤ window.latest → AreWithin window.earliest window.latest t.history → HavePlans plan window.plans t.places → IsNamed plan window t
@@ -60,16 +59,15 @@ turn_plan plan plans s t r m (Wait why) have is = tt
 turn_plan plan plans s t r m (Over end made) have is = tt
 turn_plan plan plans s t r m Absent have is = tt
 
-given_plans : {D : Type 0} (plan : D → Plan) (plans : ℕ → Plan) (s t : OpenHub D) (grip : Gripped D Done) (m : ℕ) (answer : Result Made (Gripped D Done × Stranger)) → IsGiven s grip m answer t → HasPlan plan plans grip → HavePlans plan plans s.places → HavePlans plan plans t.places
-given_plans plan plans s t grip m (Ok made) is own have = plans_by plan plans _ t.places is.1 (plans_home plan plans s.places grip.slip.device.0 grip.device have own)
-given_plans plan plans s t grip m (Err refused) is own have = plans_by plan plans s.places t.places (ap (λ (x : OpenHub _). x.places) is.2) have
+given_plans : {D : Type 0} (plan : D → Plan) (plans : ℕ → Plan) (s t : OpenHub D) (grip : Gripped D Done) (m : ℕ) (made : Made) → IsGiven s grip m (Ok made) t → HasPlan plan plans grip → HavePlans plan plans s.places → HavePlans plan plans t.places
+given_plans plan plans s t grip m made is own have = plans_by plan plans _ t.places is.1 (plans_home plan plans s.places grip.slip.device.0 grip.device have own)
 
-pub given_named : {D : Type 0} (plan : D → Plan) (window : NamedWindow) (s t : OpenHub D) (grip : Gripped D Done) (m : ℕ) (answer : Result Made (Gripped D Done × Stranger))
-    → IsNamed plan window s → IsGiven s grip m answer t → SameWindow s t → HasPlan plan window.plans grip → IsWithin window m → IsNamed plan window t
-given_named plan window s t grip m answer named is same own early =
-    named_after plan window s t named same (given_moment s t grip m window.latest answer is named.moment early.1)
-    (within_more window.earliest window.latest s t grip.slip.maker _ (given_adds s t grip m answer is).history named.moments (given_within window.earliest window.latest s t grip m answer is))
-    (given_plans plan window.plans s t grip m answer is own named.have_plans)
+pub given_named : {D : Type 0} (plan : D → Plan) (window : NamedWindow) (s t : OpenHub D) (grip : Gripped D Done) (m : ℕ) (made : Made)
+    → IsNamed plan window s → IsGiven s grip m (Ok made) t → SameWindow s t → HasPlan plan window.plans grip → IsWithin window m → IsNamed plan window t
+given_named plan window s t grip m made named is same own early =
+    named_after plan window s t named same (given_moment s t grip m window.latest made is named.moment early.1)
+    (within_more window.earliest window.latest s t grip.slip.maker _ (given_adds s t grip m made is).history named.moments (given_within window.earliest window.latest s t grip m made is))
+    (given_plans plan window.plans s t grip m made is own named.have_plans)
 
 probed_plans : {D : Type 0} (plan : D → Plan) (plans : ℕ → Plan) (s t : OpenHub D) (d : ℕ) (probe : Option (Gripped D Ready)) → IsProbed s d probe t → HavePlans plan plans s.places → HavePlans plan plans t.places
 probed_plans plan plans s t d (Some grip) is have = plans_by plan plans _ t.places is.2 (plans_out plan plans s.places d grip.slip grip.task have)
@@ -87,14 +85,13 @@ probed_plan plan plans s t d grip have is =
     let slip = (took_probe (state_of s) (state_of t) d grip.slip grip.task is.0).2 in
     have d grip.device is.1 ∙ ap plans (sym slip.device)
 
-probe_given_plans : {D : Type 0} (plan : D → Plan) (plans : ℕ → Plan) (s t : OpenHub D) (grip : Gripped D Done) (answer : Result Made (Gripped D Done × Stranger)) → IsProbeGiven s grip answer t → HasPlan plan plans grip → HavePlans plan plans s.places → HavePlans plan plans t.places
-probe_given_plans plan plans s t grip (Ok made) is own have = plans_by plan plans _ t.places is.1 (plans_home plan plans s.places grip.slip.device.0 grip.device have own)
-probe_given_plans plan plans s t grip (Err refused) is own have = plans_by plan plans s.places t.places (ap (λ (x : OpenHub _). x.places) is.2) have
+probe_given_plans : {D : Type 0} (plan : D → Plan) (plans : ℕ → Plan) (s t : OpenHub D) (grip : Gripped D Done) (made : Made) → IsProbeGiven s grip (Ok made) t → HasPlan plan plans grip → HavePlans plan plans s.places → HavePlans plan plans t.places
+probe_given_plans plan plans s t grip made is own have = plans_by plan plans _ t.places is.1 (plans_home plan plans s.places grip.slip.device.0 grip.device have own)
 
-pub probe_given_named : {D : Type 0} (plan : D → Plan) (window : NamedWindow) (s t : OpenHub D) (grip : Gripped D Done) (answer : Result Made (Gripped D Done × Stranger))
-    → IsNamed plan window s → IsProbeGiven s grip answer t → SameWindow s t → HasPlan plan window.plans grip → IsNamed plan window t
-probe_given_named plan window s t grip answer named is same own =
-    let adds = probe_given_adds s t grip answer is in
+pub probe_given_named : {D : Type 0} (plan : D → Plan) (window : NamedWindow) (s t : OpenHub D) (grip : Gripped D Done) (made : Made)
+    → IsNamed plan window s → IsProbeGiven s grip (Ok made) t → SameWindow s t → HasPlan plan window.plans grip → IsNamed plan window t
+probe_given_named plan window s t grip made named is same own =
+    let adds = probe_given_adds s t grip made is in
     named_after plan window s t named same (subst (λ k. k ≤ window.latest) (sym adds.moment_is) named.moment)
-    (within_more window.earliest window.latest s t 0 _ adds.history named.moments (probe_given_within window.earliest window.latest s t grip answer is))
-    (probe_given_plans plan window.plans s t grip answer is own named.have_plans)
+    (within_more window.earliest window.latest s t 0 _ adds.history named.moments (probe_given_within window.earliest window.latest s t grip made is))
+    (probe_given_plans plan window.plans s t grip made is own named.have_plans)

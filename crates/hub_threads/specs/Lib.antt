@@ -2,5 +2,6 @@ pub mod Moments
 pub mod Names
 pub mod Named
 pub mod Sleepers
+pub mod Passes
 pub mod Holding
 pub mod WorkedWindows

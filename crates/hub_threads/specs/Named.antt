@@ -4,13 +4,12 @@ use Rattle.device_gate.specs.declared.gates.Place.TheVariants.{Home, Out}
 use Rattle.device_gate.specs.declared.gates.Place.{Place}
 use Rattle.history_book.specs.Histories.{entries_made}
 use Rattle.history_book.specs.declared.entries.Entry.{Entry}
-use Rattle.history_book.specs.declared.entries.Made.{Made}
 use Rattle.hub_core.specs.OpenHubs.{OpenHub, device_at}
 use Rattle.hub_core.specs.declared.turns.Turn.TheVariants.{Absent, Go, Moved, Over, Wait}
 use Rattle.hub_core.specs.declared.turns.Turn.{Turn}
 use Rattle.hub_threads.specs.Moments.{AreWithin}
 use Rattle.hub_threads.specs.Names.{NamedWindow, Plan}
-use Rattle.std.specs.Prelude.{Bool, Err, List, None, Ok, Option, Result, Some, [], false, length, slice_get, true, ℕ, ⊤, ◌≡◌, ◌≤◌}
+use Rattle.std.specs.Prelude.{Bool, List, None, Option, Some, [], false, length, slice_get, true, ℕ, ⊤, ◌≡◌, ◌≤◌}
 
 -- each device that is home has this plan
 abbrev pub HavePlans : {D : Type 0} → (D → Plan) → (ℕ → Plan) → List (Place D) → Type 0
@@ -60,14 +59,6 @@ entries_told (Wait why) = []
 entries_told (Over end made) = entries_made made
 entries_told Absent = []
 
--- .. and to a grip that comes back
-abbrev pub entries_given : {E : Type 0} → Result Made E → List Entry
-entries_given (Ok made) = entries_made made
-entries_given (Err e) = []
-
 -- how many they are
 abbrev pub turn_entries : {D : Type 0} → Turn D → ℕ
 turn_entries turn = length (entries_told turn)
-
-abbrev pub given_entries : {E : Type 0} → Result Made E → ℕ
-given_entries answer = length (entries_given answer)

@@ -1,16 +1,17 @@
 //! A fake of the steps under the lock, for the tests of a worker.
-ghost use Rattle.std.specs.Prelude.{◌≡◌, ◌+◌, ◌<◌, ◌≤◌, ℕ};
+ghost use Rattle.std.specs.Prelude.{◌≡◌, ◌+◌, ◌<◌, ◌≤◌, [], ℕ};
 ghost use Rattle.hub_threads.specs.Names.{IsTimedBy};
 
 use crate::bells::Bells;
-use crate::held::Steps;
+use crate::held::{Lent, Steps};
 use crate::names::Name;
 use crate::workers::{Door, Spent, Unstarted, work};
 use day_clock::Clock;
 use device_states::Device;
+use grip_seats::{Desk, Pass};
 use history_book::{Entry, Made};
 use home_types::{DeviceNo, RunNo};
-use hub_core::{Done, Grip, NotQuiet, Ready, Stranger, Turn, Why};
+use hub_core::{Done, Grip, NotQuiet, Ready, Turn, Why};
 use std::marker::Brand;
 use std::sync::ledger::{Blank, Book, Share};
 use std::sync::{Mutex, Wait};
@@ -18,53 +19,64 @@ use std::sync::{Mutex, Wait};
 /// How many moves of its run a fake answers at most.
 const MOST: u64 = 1000;
 
-/// A window of one run that moves so often and is then over. It has no device.
+/// A window of one run that moves so often and is then over. It has no device, so nothing can come home to it.
 #[derive(Drop)]
 pub(crate) struct Fake<N: Name> {
     left: u32,
     answered: u64,
     book: Book<N>,
+    desk: Desk<Lent>,
     ghost counted: { answered ≡ book.total },
+    ghost empty: { (desk.name ≡ N.desk) × (desk.out ≡ []) },
 }
 
 impl<D: Device, N: Name> Steps<D, N, Grip<D, Done>> for Fake<N> {
-    fn take(&mut self, share: &mut Share<N>, r: RunNo, moment: u64) -> Turn<D> {
+    fn take(
+        &mut self,
+        share: &mut Share<N>,
+        r: RunNo,
+        moment: u64,
+    ) -> (Turn<D>, Option<Pass<Lent>>) {
         if self.left == 0 || MOST < self.answered {
-            return Turn::Absent;
+            return (Turn::Absent, None);
         }
         self.left -= 1;
         self.count(share);
-        Turn::Moved(Made {
+        let made = Made {
             a: Some(Entry::Arrived(r, moment)),
             b: None,
             c: None,
-        })
+        };
+        (Turn::Moved(made), None)
     }
 
     fn give(
         &mut self,
         share: &mut Share<N>,
         grip: Grip<D, Done>,
+        pass: Pass<Lent>,
         _moment: u64,
-    ) -> Result<Made, (Grip<D, Done>, Stranger)> {
+    ) -> Made {
         let _ = &share;
-        let told = grip.slip();
-        Err((grip, Stranger { kept: None, told }))
+        let _ = &grip;
+        self.desk.come_home(pass);
+        unreachable!()
     }
 
-    fn take_probe(&mut self, share: &mut Share<N>, _d: DeviceNo) -> Option<Grip<D, Ready>> {
+    fn take_probe(
+        &mut self,
+        share: &mut Share<N>,
+        _d: DeviceNo,
+    ) -> Option<(Grip<D, Ready>, Pass<Lent>)> {
         let _ = &share;
         None
     }
 
-    fn give_probe(
-        &mut self,
-        share: &mut Share<N>,
-        grip: Grip<D, Done>,
-    ) -> Result<Made, (Grip<D, Done>, Stranger)> {
+    fn give_probe(&mut self, share: &mut Share<N>, grip: Grip<D, Done>, pass: Pass<Lent>) -> Made {
         let _ = &share;
-        let told = grip.slip();
-        Err((grip, Stranger { kept: None, told }))
+        let _ = &grip;
+        self.desk.come_home(pass);
+        unreachable!()
     }
 
     fn quiet(&self) -> Option<NotQuiet> {
@@ -81,13 +93,15 @@ impl<D: Device, N: Name> Steps<D, N, Grip<D, Done>> for Fake<N> {
 }
 
 impl<N: Name> Fake<N> {
-    fn new(left: u32, book: Book<N>) -> Fake<N>
-        requires { book.total ≡ 0 }
+    fn new(left: u32, book: Book<N>, desk: Desk<Lent>) -> Fake<N>
+        requires total { book.total ≡ 0 }
+        requires desk { (desk.name ≡ N.desk) × (desk.out ≡ []) }
     {
         Fake {
             left,
             answered: 0,
             book,
+            desk,
         }
     }
 
@@ -111,6 +125,7 @@ impl<N: Name> Fake<N> {
             left: _,
             answered,
             mut book,
+            desk: _,
         } = self;
         book.audit(all);
         answered
@@ -122,10 +137,13 @@ impl<N: Name> Fake<N> {
 pub(crate) fn work_fake<D: Device, R: Wait, C: Clock>(
     rt: &R,
     bells: Bells,
+    desk: Desk<Lent>,
     moves: u32,
     clock: &C,
-) -> u64 {
-    work_named::<D, R, C, Brand>(rt, Blank::new(1), bells, moves, clock)
+) -> u64
+    requires { desk.out ≡ [] }
+{
+    work_named::<D, R, C, Brand>(rt, Blank::new(1), bells, desk, moves, clock)
 }
 
 /// The same under a name.
@@ -133,16 +151,18 @@ fn work_named<D: Device, R: Wait, C: Clock, N: Name>(
     rt: &R,
     blank: Blank,
     bells: Bells,
+    desk: Desk<Lent>,
     moves: u32,
     clock: &C,
 ) -> u64
     requires name { blank.name ≡ N.name }
+    requires desk { (desk.name ≡ N.desk) × (desk.out ≡ []) }
     requires parts { (blank.parts ≡ N.parts) × (N.parts ≡ 1) }
     requires clock { IsTimedBy N.window (C.earliest clock.now) (C.latest clock.now) }
 {
     let (book, all) = blank.open::<N>();
     let door = Door {
-        held: Mutex::new(Fake::new(moves, book)),
+        held: Mutex::new(Fake::new(moves, book, desk)),
         bells,
         unstarted: Unstarted::new(),
     };

@@ -10,6 +10,7 @@ use crate::fakes::work_fake;
 use crate::windows::{Means, run_window_by};
 use day_clock::SetClock;
 use device_states::{CalmBench, CalmDevice, Device};
+use grip_seats::Desk;
 use history_book::{End, Entry, Kept, WindowRecord};
 use home_types::{Item, List, Mode, Scheduler, Visibility};
 use hub_core::{Home, Hub};
@@ -64,8 +65,9 @@ fn each_run_has_a_thread(rt: HostRuntime) {
 #[test]
 fn a_worker_tells_what_was_answered(rt: HostRuntime) {
     let bells = Bells::new(rt.alloc(), 1, LONG).expect(&rt, "memory");
+    let desk = Desk::open(rt.alloc(), 0).expect(&rt, "memory");
     assert!(rt;
-        work_fake::<CalmDevice, HostRuntime, SetClock>(&rt, bells, 7, &SetClock::new(5)) == 7
+        work_fake::<CalmDevice, HostRuntime, SetClock>(&rt, bells, desk, 7, &SetClock::new(5)) == 7
     );
 }
 

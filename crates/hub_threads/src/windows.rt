@@ -6,15 +6,17 @@ ghost use Rattle.hub_core.specs.OpenHubs.{configuration_of};
 ghost use Rattle.hub_core.specs.Steps.{opened};
 ghost use Rattle.hub_threads.specs.Named.{IsNamed};
 ghost use Rattle.hub_threads.specs.Names.{IsTimedBy};
+ghost use Rattle.hub_threads.specs.Passes.{what_is_out};
 ghost use Rattle.hub_threads.specs.WorkedWindows.{IsWorked, NoneIsLeft};
 
 use crate::bells::{Bells, Naps};
 use crate::detectors::{detect, probe_again, probe_left_over};
-use crate::held::Held;
+use crate::held::{Held, Lent};
 use crate::names::Name;
 use crate::workers::{Door, Spent, Unstarted, work};
 use day_clock::Clock;
 use device_states::Device;
+use grip_seats::Desk;
 use history_book::WindowRecord;
 use home_types::{DeviceNo, NoMemory, RunNo};
 use hub_core::{Home, Hub};
@@ -97,8 +99,11 @@ pub(crate) fn run_window_by<R: Threads + Wait + Sync, D: Device + Send, C: Clock
         clock,
         means,
     };
+    let Ok(desk) = Desk::open(alloc, hub.device_count()) else {
+        return Err((hub, NoMemory));
+    };
     let blank = Blank::new(u64::from(window.runs) + 1);
-    match run_named::<R, D, C, Brand>(rt, alloc, hub, blank, window) {
+    match run_named::<R, D, C, Brand>(rt, alloc, hub, desk, blank, window) {
         Ok(last) => Ok(closed(rt, last)),
         Err(refused) => Err(refused),
     }
@@ -115,6 +120,7 @@ fn run_named<
     rt: &R,
     alloc: Global,
     hub: Hub<D>,
+    desk: Desk<Lent>,
     blank: Blank,
     window: Window<'a, C>,
 ) -> Result<Hub<D>, (Hub<D>, NoMemory)>
@@ -123,10 +129,12 @@ fn run_named<
     requires clock { IsTimedBy N.window (C.earliest window.clock.now) (C.latest window.clock.now) }
     requires named { IsNamed D.plan N.window hub }
     requires fresh { hub.history ≡ [] }
+    requires desk { desk.name ≡ N.desk }
+    requires out { desk.out ≡ what_is_out hub.places }
     ensures named { IfOk result (λ last. IsNamed D.plan N.window last) }
     ensures refused { IfErr result (λ refused. refused.0 ≡ hub) }
 {
-    match run_counted::<R, D, C, N>(rt, alloc, hub, blank, window) {
+    match run_counted::<R, D, C, N>(rt, alloc, hub, desk, blank, window) {
         Ok((last, _)) => Ok(last),
         Err(refused) => Err(refused),
     }
@@ -143,6 +151,7 @@ fn run_counted<
     rt: &R,
     alloc: Global,
     hub: Hub<D>,
+    desk: Desk<Lent>,
     blank: Blank,
     window: Window<'a, C>,
 ) -> Result<(Hub<D>, Share<N>), (Hub<D>, NoMemory)>
@@ -151,21 +160,25 @@ fn run_counted<
     requires clock { IsTimedBy N.window (C.earliest window.clock.now) (C.latest window.clock.now) }
     requires named { IsNamed D.plan N.window hub }
     requires fresh { hub.history ≡ [] }
+    requires desk { desk.name ≡ N.desk }
+    requires out { desk.out ≡ what_is_out hub.places }
     ensures named { IfOk result (λ last. IsNamed D.plan N.window last.0) }
     ensures counted { IfOk result (λ last. length last.0.history ≡ last.1.amount) }
     ensures refused { IfErr result (λ refused. refused.0 ≡ hub) }
 {
     let Ok(bells) = Bells::new(alloc, window.runs, window.means.naps) else {
         let _ = blank.open::<N>();
+        drop(desk);
         return Err((hub, NoMemory));
     };
     let Ok(handles) = room_for(alloc, window.runs) else {
         let _ = blank.open::<N>();
+        drop(desk);
         return Err((hub, NoMemory));
     };
     let (book, all) = blank.open::<N>();
     let door = Door {
-        held: Mutex::new(Held::new(hub, book)),
+        held: Mutex::new(Held::new(hub, book, desk)),
         bells,
         unstarted: Unstarted::new(),
     };

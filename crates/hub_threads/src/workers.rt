@@ -1,20 +1,22 @@
 //! The thread of a run: steps under the lock, calls of devices outside it.
-ghost use Rattle.std.specs.Prelude.{◌≡◌, ◌<◌, ◌≤◌, IfErr, IfSome};
+ghost use Rattle.std.specs.Prelude.{◌≡◌, ◌<◌, ◌≤◌, IfSome};
+ghost use Rattle.hub_core.specs.HubCalls.{carried_by};
 ghost use Rattle.hub_threads.specs.Named.{HasPlan};
 ghost use Rattle.hub_threads.specs.Names.{IsTimedBy};
+ghost use Rattle.hub_threads.specs.Passes.{IsDetectorsPass, IsRunsPass};
 
 use crate::bells::Bells;
-use crate::held::Steps;
+use crate::held::{Lent, Steps};
 use crate::names::Name;
 use crate::sleepers::bit_of;
 use day_clock::Clock;
 use device_states::Device;
+use grip_seats::Pass;
 use home_types::{DeviceNo, RunNo};
 use hub_core::{Done, Grip, Ready, Turn};
 use std::sync::atomic::{AtomicU64, Ordering};
 use std::sync::ledger::Share;
 use std::sync::{Mutex, MutexGuard, Wait};
-use std::thread;
 
 /// The lock, and what stands beside it.
 #[derive(Drop)]
@@ -110,11 +112,11 @@ pub(crate) fn step<D: Device, N: Name, S: Steps<D, N, Grip<D, Done>>, R: Wait, C
     ensures { share.new.parts ≡ share.old.parts }
 {
     let mut guard = door.held.lock(rt);
-    let turn = guard.take(share, r, clock.now());
+    let (turn, pass) = guard.take(share, r, clock.now());
     match turn {
         Turn::Go(grip) => {
             unlock::<D, N, S>(&door.bells, guard);
-            give(rt, door, share, grip.act(), clock);
+            give(rt, door, share, grip.act(), pass.unwrap(), clock);
             Stepped::Moved
         }
         Turn::Moved(_) => {
@@ -144,54 +146,24 @@ fn unlock<D: Device, N: Name, S: Steps<D, N, Grip<D, Done>>>(bells: &Bells, guar
     bells.ring(woken);
 }
 
-/// Gives the grip of a run back until it is taken in.
+/// Gives the grip of a run back under the lock.
 fn give<D: Device, N: Name, S: Steps<D, N, Grip<D, Done>>, R: Wait, C: Clock>(
     rt: &R,
     door: &Door<S>,
     share: &mut Share<N>,
     grip: Grip<D, Done>,
+    pass: Pass<Lent>,
     clock: &C,
 )
     requires share { 0 < share.old.parts }
     requires clock { IsTimedBy N.window (C.earliest clock.now) (C.latest clock.now) }
     requires plan { HasPlan D.plan N.window.plans grip }
+    requires pass { IsRunsPass N.desk (carried_by grip) pass }
     ensures { share.new.parts ≡ share.old.parts }
 {
-    let mut grip = grip;
-    for _ in rt.forever() {
-        match give_once(rt, door, share, grip, clock) {
-            None => return,
-            Some(back) => {
-                grip = back;
-                thread::yield_now();
-            }
-        }
-    }
-    unreachable!()
-}
-
-/// Gives the grip of a run back once. Where it is refused as a stranger it comes back.
-fn give_once<D: Device, N: Name, S: Steps<D, N, Grip<D, Done>>, R: Wait, C: Clock>(
-    rt: &R,
-    door: &Door<S>,
-    share: &mut Share<N>,
-    grip: Grip<D, Done>,
-    clock: &C,
-) -> Option<Grip<D, Done>>
-    requires share { 0 < share.old.parts }
-    requires clock { IsTimedBy N.window (C.earliest clock.now) (C.latest clock.now) }
-    requires plan { HasPlan D.plan N.window.plans grip }
-    ensures parts { share.new.parts ≡ share.old.parts }
-    ensures same { IfSome result (λ back. back ≡ grip) }
-{
     let mut guard = door.held.lock(rt);
-    match guard.give(share, grip, clock.now()) {
-        Ok(_) => {
-            unlock::<D, N, S>(&door.bells, guard);
-            None
-        }
-        Err((back, _)) => Some(back),
-    }
+    guard.give(share, grip, pass, clock.now());
+    unlock::<D, N, S>(&door.bells, guard);
 }
 
 /// Takes a probe of the device, where one may be taken, and tells whether it did.
@@ -204,20 +176,13 @@ pub(crate) fn probe<D: Device, N: Name, S: Steps<D, N, Grip<D, Done>>, R: Wait>(
     requires share { 0 < share.old.parts }
     ensures { share.new.parts ≡ share.old.parts }
 {
-    let Some(grip) = take_probe(rt, door, share, d) else {
-        return false;
-    };
-    let mut grip = grip.act();
-    for _ in rt.forever() {
-        match give_probe_once(rt, door, share, grip) {
-            None => return true,
-            Some(back) => {
-                grip = back;
-                thread::yield_now();
-            }
+    match take_probe(rt, door, share, d) {
+        Some((grip, pass)) => {
+            give_probe(rt, door, share, grip.act(), pass);
+            true
         }
+        None => false,
     }
-    unreachable!()
 }
 
 /// Takes a probe of the device under the lock.
@@ -226,10 +191,11 @@ fn take_probe<D: Device, N: Name, S: Steps<D, N, Grip<D, Done>>, R: Wait>(
     door: &Door<S>,
     share: &mut Share<N>,
     d: DeviceNo,
-) -> Option<Grip<D, Ready>>
+) -> Option<(Grip<D, Ready>, Pass<Lent>)>
     requires share { 0 < share.old.parts }
     ensures parts { share.new.parts ≡ share.old.parts }
-    ensures plan { IfSome result (λ grip. HasPlan D.plan N.window.plans grip) }
+    ensures plan { IfSome result (λ probe. HasPlan D.plan N.window.plans probe.0) }
+    ensures pass { IfSome result (λ probe. IsDetectorsPass N.desk (carried_by probe.0) probe.1) }
 {
     let mut guard = door.held.lock(rt);
     let probe = guard.take_probe(share, d);
@@ -237,24 +203,20 @@ fn take_probe<D: Device, N: Name, S: Steps<D, N, Grip<D, Done>>, R: Wait>(
     probe
 }
 
-/// Gives the detector's grip back once. Where it is refused as a stranger it comes back.
-fn give_probe_once<D: Device, N: Name, S: Steps<D, N, Grip<D, Done>>, R: Wait>(
+/// Gives the detector's grip back under the lock.
+fn give_probe<D: Device, N: Name, S: Steps<D, N, Grip<D, Done>>, R: Wait>(
     rt: &R,
     door: &Door<S>,
     share: &mut Share<N>,
     grip: Grip<D, Done>,
-) -> Option<Grip<D, Done>>
+    pass: Pass<Lent>,
+)
     requires share { 0 < share.old.parts }
     requires plan { HasPlan D.plan N.window.plans grip }
-    ensures parts { share.new.parts ≡ share.old.parts }
-    ensures same { IfSome result (λ back. back ≡ grip) }
+    requires pass { IsDetectorsPass N.desk (carried_by grip) pass }
+    ensures { share.new.parts ≡ share.old.parts }
 {
     let mut guard = door.held.lock(rt);
-    match guard.give_probe(share, grip) {
-        Ok(_) => {
-            unlock::<D, N, S>(&door.bells, guard);
-            None
-        }
-        Err((back, _)) => Some(back),
-    }
+    guard.give_probe(share, grip, pass);
+    unlock::<D, N, S>(&door.bells, guard);
 }

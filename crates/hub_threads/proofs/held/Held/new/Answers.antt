@@ -9,4 +9,6 @@ invariant_of-result g c = record {
   counted = c.requires.counted;
   named = c.requires.named;
   sleepers = subst (SleepersAreBlocked (configuration_of c.args.hub)) (sym c.new.ensures.blocked) (none_blocked (configuration_of c.args.hub));
+  desk_is = c.requires.desk;
+  out = c.requires.out;
 }

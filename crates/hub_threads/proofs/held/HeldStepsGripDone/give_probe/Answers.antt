@@ -1,7 +1,15 @@
+use Rattle.hub_core.specs.HubCalls.{carried_by}
 use Rattle.hub_threads.proofs.Holding.{probe_given_held}
+use Rattle.hub_threads.proofs.Passes.{claimed, cleared, probe_taken_in}
 use Rattle.hub_threads.proofs.held.HeldStepsGripDone.give_probe.Goals as goal
-use Rattle.std.proofs.Common.{ap, ◌∙◌}
-use Rattle.std.specs.Prelude.{Ok, ◌+◌}
+use Rattle.std.proofs.Common.{ap, sym, ◌∙◌}
+use Rattle.std.specs.Prelude.{slice_get, ◌+◌}
 
-pub invariant_of-self-2 : goal.invariant_of-self-2
-invariant_of-self-2 g c = probe_given_held g.D.Device.plan g.N.Name.window c.self.inside.hub c.give_probe.new.self c.args.grip (Ok c.in_ok-found.found) _ _ _ _ c.self.invariant c.in_ok-found.ensures.given c.in_ok-found.ensures.window c.requires.plan (c.add.ensures.total ∙ ap (λ n. c.self.inside.book.total + n) c.count.ensures) c.call.ensures.blocked
+pub unreachable-requires : goal.unreachable-requires
+unreachable-requires g c =
+    let out = ap (λ o. slice_get o c.args.grip.slip.device.0) (sym c.self.invariant.out) ∙ claimed g.N.Name.desk (carried_by c.args.grip) c.args.pass c.self.inside.desk.out c.requires.pass.0 c.come_home.ensures.was in
+    probe_taken_in c.self.inside.hub c.give_probe.new.self c.args.grip c.in-Err.field-0 c.in-Err.ensures.given out c.requires.pass.1
+
+pub invariant_of-self : goal.invariant_of-self
+invariant_of-self g c = probe_given_held g.D.Device.plan g.N.Name.window g.N.Name.desk c.self.inside.hub c.give_probe.new.self c.args.grip c.in-Ok.found _ _ _ _ c.self.inside.desk c.come_home.new.self c.self.invariant c.in-Ok.ensures.given c.in-Ok.ensures.window c.requires.plan (c.add.ensures.total ∙ ap (λ n. c.self.inside.book.total + n) c.count.ensures) c.call.ensures.blocked
+    c.come_home.ensures.name (cleared g.N.Name.desk (carried_by c.args.grip) c.args.pass c.self.inside.desk.out c.come_home.new.self.out c.requires.pass.0 c.come_home.ensures.out)
