@@ -7,9 +7,11 @@ use Rattle.home_types.specs.declared.modes.Mode.{Mode}
 use Rattle.hub_core.specs.Homes.{AreNew, HomeIsKept, HomeState}
 use Rattle.hub_core.specs.LegalDays.{IsLegalCutDay, IsLegalDay, setting_of, state_after, total}
 use Rattle.hub_core.specs.LegalWindows.{IsLegalWindow}
-use Rattle.hub_commands.proofs.Snocs.{get_before, get_last, given, length_more, sum_more}
+use Rattle.hub_commands.proofs.Snocs.{length_more, sum_more}
 use Rattle.hub_commands.specs.Days.{HaveCommitted, IsUnderWay, NoneHasFailed, WindowsArePlayed}
 use Rattle.hub_commands.specs.Played.{HasGoneOn, IsPlayed, setting_on}
+use Rattle.hub_core.proofs.calls.HubCloses.{at_place}
+use Rattle.hub_core.proofs.calls.HubOpens.{get_front, get_last}
 use Rattle.routine_reader.specs.Rosters.{kinds_of, script_runs, start_home, start_stand}
 use Rattle.routine_reader.specs.declared.scripts.DeviceText.{DeviceText}
 use Rattle.routine_reader.specs.declared.scripts.Script.{Script}
@@ -23,7 +25,7 @@ use Rattle.std.specs.Prelude.{List, Option, Some, [], length, map, option_map, s
 -- a window more leaves the states before it
 state_before : (script : Script) (records : List WindowRecord) (closed : WindowRecord) (k : ℕ) → k ≤ length records → state_after script (records ++ closed ∷ []) k ≡ state_after script records k
 state_before script records closed zero within = refl
-state_before script records closed (suc k) within = ap (λ o. unwrap_or (option_map (λ c. c.last.devices.items) o) []) (get_before records closed k (omega (arith, within)))
+state_before script records closed (suc k) within = ap (λ o. unwrap_or (option_map (λ c. c.last.devices.items) o) []) (get_front records closed k (omega (arith, within)))
 
 -- the state after it is its last one
 state_last : (script : Script) (records : List WindowRecord) (closed : WindowRecord) → state_after script (records ++ closed ∷ []) (length (records ++ closed ∷ [])) ≡ closed.last.devices.items
@@ -92,7 +94,7 @@ windows_more works tag plan stands turns probes faults script mode before after 
         → works (setting_of script mode (records ++ closed ∷ []) k) window c taken
     each_worked k window c taken window_at at taken_at = elim (snoc_get records closed c k at) [
       | inl old ↦ (let within = slice_get_within records k c old in
-          let taken_old : slice_get day.takes k ≡ Some taken = sym (get_before day.takes is.taken k (omega (arith, within, day.played.worked.count))) ∙ taken_at in
+          let taken_old : slice_get day.takes k ≡ Some taken = sym (get_front day.takes is.taken k (omega (arith, within, day.played.worked.count))) ∙ taken_at in
           subst (λ w. works w window c taken) (sym (setting_before script mode records closed k (omega (arith, within)))) (day.played.worked.each k window c taken window_at old taken_old))
       | inr new ↦ (let taken_last : Some is.taken ≡ Some taken = sym (get_last day.takes is.taken) ∙ ap (λ n. slice_get (day.takes ++ is.taken ∷ []) n) (day.played.worked.count ∙ sym new.0) ∙ taken_at in
           let window_last : Some is.window ≡ Some window = sym is.at ∙ ap (λ n. slice_get script.windows.items n) (sym new.0) ∙ window_at in
@@ -129,7 +131,7 @@ goes_on {D = D} works tag plan stands turns probes faults script mode before aft
 }
   where
     device_before : (d : ℕ) (y : D) → slice_get after.devices d ≡ Some y → (x : D) × (slice_get before.devices d ≡ Some x)
-    device_before d y at = given before.devices d (let within = slice_get_within after.devices d y at in omega (arith, within, is.size))
+    device_before d y at = at_place before.devices d (let within = slice_get_within after.devices d y at in omega (arith, within, is.size))
 
 -- no window is played yet
 pub no_window : (works : Setting → WindowText → WindowRecord → (ℕ → ℕ) → Type 0) (script : Script) (mode : Mode) → WindowsArePlayed works script mode [] []
@@ -159,7 +161,7 @@ starts {D = D} works tag plan stands turns probes faults script mode home are ki
   kinds = kinds;
   world = world;
   size = sized;
-  up = λ none d inside. let t = given script.devices.items d (omega (arith, inside, sized)) in ap (λ w. (stand_at w d).up) world ∙ ap (λ s. s.up) (start_at script.devices.items d t.0 t.1);
+  up = λ none d inside. let t = at_place script.devices.items d (omega (arith, inside, sized)) in ap (λ w. (stand_at w d).up) world ∙ ap (λ s. s.up) (start_at script.devices.items d t.0 t.1);
   opened = opened;
 }
   where
@@ -167,7 +169,7 @@ starts {D = D} works tag plan stands turns probes faults script mode home are ki
     sized = ap (λ w. length w) world ∙ length-map script.devices.items start_stand
 
     text_of : (d : ℕ) (device : D) → slice_get home.devices d ≡ Some device → (text : DeviceText) × (slice_get script.devices.items d ≡ Some text)
-    text_of d device at = given script.devices.items d (let within = slice_get_within home.devices d device at in omega (arith, within, are.size))
+    text_of d device at = at_place script.devices.items d (let within = slice_get_within home.devices d device at in omega (arith, within, are.size))
 
 -- a day whose windows were all played is legal
 pub day_is_legal : {D : Type 0} (works : Setting → WindowText → WindowRecord → (ℕ → ℕ) → Type 0) (tag : D → ℕ) (plan : D → Option (List (ℕ × ℕ))) (stands turns probes faults : D → ℕ) (script : Script) (mode : Mode) (home : HomeState D) (records : List WindowRecord)

@@ -1,11 +1,11 @@
 -- A day that was run: its devices were probed as often as its windows say.
 use Rattle.command_words.specs.declared.command_lines.Options.{Options}
-use Rattle.hub_commands.proofs.Snocs.{given}
 use Rattle.hub_commands.specs.Calls.{IsProbedInAll}
 use Rattle.hub_commands.specs.Finishes.{DayEnds, IsRead, IsWhole, Reads, Shown, Writes}
 use Rattle.hub_commands.specs.Ways.{IsRunWithin}
 use Rattle.hub_commands.specs.declared.faults.Fault.{Fault}
 use Rattle.hub_commands.specs.declared.finishes.Day.{Day}
+use Rattle.hub_core.proofs.calls.HubCloses.{at_place}
 use Rattle.routine_reader.specs.declared.scripts.Script.{Script}
 use Rattle.routine_reader.specs.declared.scripts.WindowText.{WindowText}
 use Rattle.std.proofs.Common.{ap, arith, refl, ◌∙◌}
@@ -33,7 +33,7 @@ in_all earliest latest shown script options source sink day read whole = record 
   there = whole.there;
   probed = λ d device at. whole.probed d device at ∙ same_folds whole.takes script.windows.items d 0 (whole.played.worked.count ∙ whole.legal.count)
       (λ k window taken window_at taken_at.
-      let closed = given whole.day.windows.items k (let within = slice_get_within whole.takes k taken taken_at in let count = whole.played.worked.count in omega (arith, within, count)) in
+      let closed = at_place whole.day.windows.items k (let within = slice_get_within whole.takes k taken taken_at in let count = whole.played.worked.count in omega (arith, within, count)) in
       (whole.played.worked.each k window closed.0 taken window_at closed.1 taken_at).probes d);
 }
 

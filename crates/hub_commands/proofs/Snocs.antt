@@ -1,15 +1,6 @@
 -- Lists with one item more.
-use Rattle.std.proofs.Common.{ap, arith, refl}
-use Rattle.std.specs.Prelude.{List, Some, [], fold, length, slice_get, suc, sum_by, zero, ℕ, ◌+◌, ◌++◌, ◌<◌, ◌∷◌, ◌≡◌}
-
-pub get_before : {X : Type 0} (xs : List X) (x : X) (k : ℕ) → k < length xs → slice_get (xs ++ x ∷ []) k ≡ slice_get xs k
-get_before [] x k within = absurd (omega (arith, within))
-get_before (y ∷ xs) x zero within = refl
-get_before (y ∷ xs) x (suc k) within = get_before xs x k (omega (arith, within))
-
-pub get_last : {X : Type 0} (xs : List X) (x : X) → slice_get (xs ++ x ∷ []) (length xs) ≡ Some x
-get_last [] x = refl
-get_last (y ∷ xs) x = get_last xs x
+use Rattle.std.proofs.Common.{ap, refl}
+use Rattle.std.specs.Prelude.{List, [], fold, length, suc, sum_by, ℕ, ◌+◌, ◌++◌, ◌∷◌, ◌≡◌}
 
 -- lists with one item more each are the same before it
 pub snoc_front : {X : Type 0} (xs ys : List X) (x y : X) → xs ++ x ∷ [] ≡ ys ++ y ∷ [] → xs ≡ ys
@@ -39,9 +30,3 @@ sum_more f xs x = fold_more (λ a y. a + f y) 0 xs x
 pub length_more : {X : Type 0} (xs : List X) (x : X) → length (xs ++ x ∷ []) ≡ suc (length xs)
 length_more [] x = refl
 length_more (y ∷ xs) x = ap (λ n. suc n) (length_more xs x)
-
--- within a list there is an item
-pub given : {X : Type 0} (xs : List X) (k : ℕ) → k < length xs → (x : X) × (slice_get xs k ≡ Some x)
-given [] k within = absurd (omega (arith, within))
-given (x ∷ xs) zero within = (x, refl)
-given (x ∷ xs) (suc k) within = given xs k (omega (arith, within))

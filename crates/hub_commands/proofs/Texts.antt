@@ -8,15 +8,12 @@ use Rattle.hub_commands.specs.Days.{text_due, text_so_far}
 use Rattle.hub_commands.specs.Finishes.{AppendsFirst}
 use Rattle.routine_reader.specs.declared.scripts.Script.{Script}
 use Rattle.std.proofs.Common.{ap, append-nil, append_assoc, arith, refl, subst, sym, ◌∙◌}
+use Rattle.std.proofs.Math.Seq.{take-append_seam}
 use Rattle.std.proofs.lemmas.Grind.{common_steps}
 use Rattle.std.proofs.lemmas.List.{flat_map_more, length-append}
 use Rattle.std.specs.Io.KnownBytes.{Appends, Keeps}
 use Rattle.std.specs.List.{enumerate_from, flat_map}
 use Rattle.std.specs.Prelude.{Bool, List, None, Option, Some, [], if◌then◌else◌, length, suc, take, true, zero, ℕ, ◌+◌, ◌++◌, ◌<◌, ◌==◌, ◌∷◌, ◌≡◌}
-
-take_first : {X : Type 0} (xs ys : List X) → take (length xs) (xs ++ ys) ≡ xs
-take_first [] ys = refl
-take_first (x ∷ xs) ys = ap (λ zs. x ∷ zs) (take_first xs ys)
 
 take_behind : {X : Type 0} (xs ys : List X) (n : ℕ) → take (length xs + n) (xs ++ ys) ≡ xs ++ take n ys
 take_behind [] ys n = let none : 0 + n ≡ n = omega (arith) in ap (λ k. take k ys) none
@@ -61,7 +58,7 @@ part_wider a b xs ys part =
     (part.0, omega (arith, n, part.1), subst (λ zs. Appends a b zs) (sym (take_within xs ys part.0 part.1)) part.2)
 
 pub whole_first : (a b : Option (List ℕ)) (xs ys : List ℕ) → Appends a b xs → AppendsFirst a b (xs ++ ys)
-whole_first a b xs ys all = (length xs, subst (λ zs. Appends a b zs) (sym (take_first xs ys)) all)
+whole_first a b xs ys all = (length xs, subst (λ zs. Appends a b zs) (sym (take-append_seam xs ys)) all)
 
 -- the text with one window more
 pub text_more : (script : Script) (mode : Mode) (trace : Bool) (records : List WindowRecord) (closed : WindowRecord)

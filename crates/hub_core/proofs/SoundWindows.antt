@@ -20,11 +20,11 @@ use Rattle.routine_reader.specs.declared.scripts.RunText.{RunText}
 use Rattle.routine_reader.specs.declared.scripts.Script.{Script}
 use Rattle.routine_reader.specs.declared.scripts.WindowText.{WindowText}
 use Rattle.std.proofs.Common.{ap, arith, length, map, refl, subst, sym, ◌∙◌}
-use Rattle.std.proofs.lemmas.Grind.{common_steps}
+use Rattle.std.proofs.lemmas.Bool.{and_from, lt-ltb}
 use Rattle.std.proofs.lemmas.List.Elements.{All-get_or}
 use Rattle.std.proofs.lemmas.List.{length-map}
 use Rattle.std.proofs.lemmas.Option.{get_or_from_slice_get, slice_get-map, slice_get_within}
-use Rattle.std.specs.Prelude.{All, Bool, IfSome, IsTrue, List, None, Option, Some, [], false, nat_lt, option_and_then, option_map, slice_get, suc, true, unwrap_or, zero, ℕ, ◌&&◌, ◌<◌, ◌∷◌, ◌≡◌, ◌≤◌}
+use Rattle.std.specs.Prelude.{All, IfSome, IsTrue, List, None, Option, Some, [], nat_lt, option_and_then, option_map, slice_get, suc, true, unwrap_or, zero, ℕ, ◌<◌, ◌∷◌, ◌≡◌, ◌≤◌}
 
 -- what holds of all items holds of the one at a place
 at_place : {X : Type 0} (P : X → Type 0) (xs : List X) (k : ℕ) (x : X) → All P xs → slice_get xs k ≡ Some x → P x
@@ -101,13 +101,6 @@ names_as kind (Check v) is = is
 names_as kind Load is = is
 names_as kind Store is = is
 
-both : (a b : Bool) → a ≡ true → b ≡ true → (a && b) ≡ true
-both true b left right = right
-both false b left right = absurd (cc)
-
-below : (m n : ℕ) → m < n → nat_lt m n ≡ true
-below m n is = grind (arith, common_steps)
-
 -- a window of the script, its roster, and the home on which it is opened in this mode
 pub record IsOpening {D : Type 0} (tag : D → ℕ) (stands turns probes faults : D → ℕ) (script : Script) (mode : Mode) (k : ℕ) (window : WindowText) (home : HomeState D) (roster : Roster) : Type 0 where
   pub sound : IsSound (plain_script script)
@@ -130,8 +123,8 @@ may_open tag stands turns probes faults script mode k window home roster is =
       few_runs = let n = length-map window.runs.items (run_of_text script) in omega (arith, n, window_sound.few_runs);
       few_commands = λ r. (run_is_sound script window r is.sound).few;
       homed = λ r k c there. let command = (run_is_sound script window r is.sound).each k c there in
-          both (nat_lt c.device.0 (length home.world)) _ (within c.device.0 command.device) (names_as (kind_at home.kinds c.device.0) c.job (ap (λ ks. suits (kind_at ks c.device.0) c.job) (is.kinds ∙ sym (same_kinds script.devices.items)) ∙ command.value));
-      follows = λ r f there. let earlier = follows_earlier script window r f window_sound.runs there in both (nat_lt 0 f.0) (nat_lt f.0 r) (below 0 f.0 earlier.0) (below f.0 r earlier.1);
+          and_from (nat_lt c.device.0 (length home.world)) _ (within c.device.0 command.device) (names_as (kind_at home.kinds c.device.0) c.job (ap (λ ks. suits (kind_at ks c.device.0) c.job) (is.kinds ∙ sym (same_kinds script.devices.items)) ∙ command.value));
+      follows = λ r f there. let earlier = follows_earlier script window r f window_sound.runs there in and_from (nat_lt 0 f.0) (nat_lt f.0 r) (lt-ltb 0 f.0 earlier.0) (lt-ltb f.0 r earlier.1);
       mode = is.goes;
       few_rounds = window_sound.probes;
       few_windows = omega (arith, is.opened);
@@ -145,4 +138,4 @@ may_open tag stands turns probes faults script mode k window home roster is =
         let a = length-map script.devices.items plain_device in
         let b = ap (λ ks. length ks) is.kinds in
         let e = length-map script.devices.items (λ d. d.kind) in
-        below d (length home.world) (omega (arith, inside, a, b, e, is.kept.kinds))
+        lt-ltb d (length home.world) (omega (arith, inside, a, b, e, is.kept.kinds))

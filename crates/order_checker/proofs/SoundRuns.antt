@@ -18,7 +18,7 @@ use Rattle.std.proofs.lemmas.List.Elements.{All-get_or}
 use Rattle.std.proofs.lemmas.List.{length-map}
 use Rattle.std.proofs.lemmas.Option.{get_or_from_slice_get, slice_get-map, slice_get_within}
 
-seen_at : {X Y : Type 0} (view : X → Y) (P : Y → Type 0) (xs : List X) (k : ℕ) (x : X) → All P (map view xs) → slice_get xs k ≡ Some x → P (view x)
+pub seen_at : {X Y : Type 0} (view : X → Y) (P : Y → Type 0) (xs : List X) (k : ℕ) (x : X) → All P (map view xs) → slice_get xs k ≡ Some x → P (view x)
 seen_at view P xs k x all at =
     let there = slice_get-map view xs k ∙ ap (option_map view) at in
     subst P (get_or_from_slice_get (map view xs) k (view x) (view x) there) (All-get_or P (map view xs) k (view x) (slice_get_within (map view xs) k (view x) there) all)

@@ -121,7 +121,7 @@ AllNameWell w n = (r : ℕ) → CausesNameWell w r (n.run r)
 some-same : {X : Type 0} (x y : X) → ◌≡◌ {A = Option X} (Some x) (Some y) → x ≡ y
 some-same x y same = cc
 
-aborted-same : (a b : Cause) → ◌≡◌ {A = Option End} (Some (Aborted a)) (Some (Aborted b)) → a ≡ b
+pub aborted-same : (a b : Cause) → ◌≡◌ {A = Option End} (Some (Aborted a)) (Some (Aborted b)) → a ≡ b
 aborted-same a b same = cc
 
 committed-not : (b : Cause) → ◌≡◌ {A = Option End} (Some Committed) (Some (Aborted b)) → ⊥

@@ -6,6 +6,7 @@ use Rattle.home_types.specs.declared.modes.Scheduler.{Scheduler}
 use Rattle.home_types.specs.declared.modes.Visibility.TheVariants.{Eventual, Global, Partitioned, Weak}
 use Rattle.home_types.specs.declared.modes.Visibility.{Visibility}
 use Rattle.home_types.specs.declared.worlds.Stand.{Stand}
+use Rattle.order_checker.proofs.SoundRuns.{window_sound}
 use Rattle.order_checker.specs.Heads.{is_head}
 use Rattle.order_checker.specs.Lines.{line_at, lines_of}
 use Rattle.order_checker.specs.Records.{first_progress, in_window, next_window, record_told, verdict, verdict_of}
@@ -15,7 +16,6 @@ use Rattle.order_checker.specs.Windows.{window_told}
 use Rattle.order_checker.specs.declared.verdicts.Place.TheVariants.{Head, Total}
 use Rattle.order_checker.specs.declared.verdicts.Verdict.TheVariants.{Agrees, Differs}
 use Rattle.printed_records.proofs.Heads.{head-printed}
-use Rattle.printed_records.proofs.Names.{sound-window}
 use Rattle.printed_records.proofs.Totals.{total-printed}
 use Rattle.printed_records.proofs.WindowTexts.{window-printed}
 use Rattle.printed_records.specs.Ends.{ends_of}
@@ -72,7 +72,7 @@ module _ (script : Script) (mode : Mode) (trace : Bool) (records : List WindowRe
       ap (λ o. option_map_or (λ w. window_lines script k w closed mode trace) o []) at in
       let text : (window_text script k closed mode trace ++ more) ++ rest ≡ window_lines script k window closed mode trace ++ (more ++ rest) =
       ap (λ t. (t ++ more) ++ rest) own ∙ append_assoc (window_lines script k window closed mode trace) more rest in
-      let printed = window-printed script k window closed mode trace home runs committed (more ++ rest) sound (sound-window script k window sound at) (not-weak mode.model mode.scheduler has) (omega (arith, few)) fit in
+      let printed = window-printed script k window closed mode trace home runs committed (more ++ rest) sound (window_sound script k window sound at) (not-weak mode.model mode.scheduler has) (omega (arith, few)) fit in
       let n = length window.runs.items in
       let m = count_by is_some (ends_of window closed.history.items) in
       let next : home_before script records (k + 1) ≡ closed.last.devices.items =
@@ -108,7 +108,7 @@ module _ (script : Script) (mode : Mode) (trace : Bool) (records : List WindowRe
   unfolding commit_count abort_count
   day-few same =
       counts-few script.windows.items records (λ k window closed at record_at.
-      omega (arith, (fits k window closed at record_at).ended, (sound-window script k window sound at).few_runs)) (sym same)
+      omega (arith, (fits k window closed at record_at).ended, (window_sound script k window sound at).few_runs)) (sym same)
 
   -- the text of a day whose windows fit agrees with the script
   pub day-agrees : length records ≡ length script.windows.items → verdict_of script (day_text script records mode trace) ≡ Agrees

@@ -1,6 +1,7 @@
 -- How many runs of a window committed, and how many were aborted: by the history, by the reading, by the ends that are told.
 use Rattle.command_rules.specs.Rosters.{is_run}
 use Rattle.day_report.specs.Days.{is_abort, is_commit}
+use Rattle.history_book.proofs.Searches.{none_is}
 use Rattle.history_book.proofs.Snoc.{put_keeps}
 use Rattle.history_book.proofs.Told.{end_is}
 use Rattle.history_book.specs.Books.{end_of}
@@ -13,18 +14,15 @@ use Rattle.history_book.specs.declared.entries.End.{End}
 use Rattle.history_book.specs.declared.entries.Entry.TheVariants.{Arrived, Did, Doomed, Ended, Fell, Placed, Rose, Undid}
 use Rattle.history_book.specs.declared.entries.Entry.{Entry}
 use Rattle.history_book.specs.declared.entries.Kept.{Kept}
+use Rattle.hub_core.proofs.kept.Sizes.{count_cons}
 use Rattle.printed_records.proofs.CausesKept.{run-among}
 use Rattle.printed_records.specs.Ends.{ends_of, told_end}
 use Rattle.routine_reader.specs.declared.scripts.RunText.{RunText}
 use Rattle.routine_reader.specs.declared.scripts.WindowText.{WindowText}
 use Rattle.std.proofs.Common.{Bool, List, None, Option, Some, [], ap, ap₂, arith, cond, false, fold, length, map, refl, suc, sym, true, true≢false, zero, ℕ, ◌+◌, ◌<◌, ◌==◌, ◌≤◌, ◌∙◌, ◌≡◌, ◌∷◌}
 use Rattle.std.proofs.lemmas.Grind.{common_steps}
-use Rattle.std.proofs.lemmas.List.Sums.{sum_by-cons}
 use Rattle.std.specs.List.{count_by, enumerate_from, list_all, range_with_len}
-use Rattle.std.specs.Prelude.{IsTrue, is_none, is_some}
-
-count-cons : {X : Type 0} (p : X → Bool) (x : X) (xs : List X) → count_by p (x ∷ xs) ≡ cond (p x) 1 0 + count_by p xs
-count-cons p x xs = sum_by-cons (λ y. cond (p y) 1 0) x xs
+use Rattle.std.specs.Prelude.{IsTrue, is_some}
 
 -- the end is a commit
 abbrev pub commits : Option End → Bool
@@ -41,14 +39,14 @@ aborts (Some (Aborted cause)) = true
 count-same : (p q : ℕ → Bool) (xs : List ℕ) → ((r : ℕ) → p r ≡ q r) → count_by p xs ≡ count_by q xs
 count-same p q [] same = refl
 count-same p q (x ∷ xs) same =
-    count-cons p x xs ∙ ap₂ (λ b k. cond b 1 0 + k) (same x) (count-same p q xs same) ∙ sym (count-cons q x xs)
+    count_cons p x xs ∙ ap₂ (λ b k. cond b 1 0 + k) (same x) (count-same p q xs same) ∙ sym (count_cons q x xs)
 
 -- two tests that differ at one number alone count the same behind it
 count-past : (p q : ℕ → Bool) (k a m : ℕ) → ((r : ℕ) → (r == k) ≡ false → p r ≡ q r) → k < a → count_by p (range_with_len a m) ≡ count_by q (range_with_len a m)
 count-past p q k a zero same past = refl
 count-past p q k a (suc m) same past =
     let other : (a == k) ≡ false = grind (arith, common_steps) in
-    count-cons p a (range_with_len (a + 1) m) ∙ ap₂ (λ b n. cond b 1 0 + n) (same a other) (count-past p q k (a + 1) m same (omega arith)) ∙ sym (count-cons q a (range_with_len (a + 1) m))
+    count_cons p a (range_with_len (a + 1) m) ∙ ap₂ (λ b n. cond b 1 0 + n) (same a other) (count-past p q k (a + 1) m same (omega arith)) ∙ sym (count_cons q a (range_with_len (a + 1) m))
 
 -- .. and one more where it is among the numbers
 count-one : (p q : ℕ → Bool) (k a m : ℕ) → p k ≡ true → q k ≡ false → ((r : ℕ) → (r == k) ≡ false → p r ≡ q r) → a ≤ k → k < a + m
@@ -62,12 +60,12 @@ count-one p q k a (suc m) is not_yet same low high = by (λ later. count-one p q
         let first : ◌≡◌ {A = ℕ} (cond (p a) 1 0) 1 = ap (λ n. cond (p n) 1 0) equal ∙ ap (λ b. cond b 1 0) is in
         let before : ◌≡◌ {A = ℕ} (cond (q a) 1 0) 0 = ap (λ n. cond (q n) 1 0) equal ∙ ap (λ b. cond b 1 0) not_yet in
         let rest = count-past p q k (a + 1) m same (omega (arith, equal)) in
-        omega (arith, count-cons p a (range_with_len (a + 1) m), count-cons q a (range_with_len (a + 1) m), first, before, rest)
+        omega (arith, count_cons p a (range_with_len (a + 1) m), count_cons q a (range_with_len (a + 1) m), first, before, rest)
     by behind false other =
         let first : ◌≡◌ {A = ℕ} (cond (p a) 1 0) (cond (q a) 1 0) = ap (λ b. cond b 1 0) (same a other) in
         let later : a + 1 ≤ k = grind (arith, common_steps) in
         let rest = behind later in
-        omega (arith, count-cons p a (range_with_len (a + 1) m), count-cons q a (range_with_len (a + 1) m), first, rest)
+        omega (arith, count_cons p a (range_with_len (a + 1) m), count_cons q a (range_with_len (a + 1) m), first, rest)
 
 -- how many runs have ended so
 abbrev tally : (Option End → Bool) → Setting → Reading → ℕ
@@ -125,10 +123,6 @@ ended-tally t w n k end nothing is live = by (t (Some end)) refl
 no-more : (k : ℕ) → k ≡ k + 0
 no-more k = omega arith
 
-is-none : {X : Type 0} (o : Option X) → is_none o ≡ true → o ≡ None
-is-none None is = refl
-is-none (Some x) is = absurd (true≢false (sym is))
-
 tally-step : (t : Option End → Bool) (w : Setting) (n : Reading) (e : Entry) → t None ≡ false → IsTrue (may_follow w n e)
     → tally t w (entry w n e) ≡ tally t w n + cond (ends_so t e) 1 0
 tally-step t w n (Arrived r m) nothing ok = kept-tally t w n r.0 _ refl
@@ -139,9 +133,9 @@ tally-step t w n (Fell d) nothing ok = no-more (tally t w n)
 tally-step t w n (Rose d) nothing ok = no-more (tally t w n)
 tally-step t w n (Doomed r cause) nothing ok = kept-tally t w n r.0 _ refl
 tally-step t w n (Ended r Committed) nothing ok =
-    ended-tally t w n r.0 Committed nothing (grind (arith, common_steps)) (is-none (n.run r.0).ended (grind (arith, common_steps)))
+    ended-tally t w n r.0 Committed nothing (grind (arith, common_steps)) (none_is (n.run r.0).ended (grind (arith, common_steps)))
 tally-step t w n (Ended r (Aborted cause)) nothing ok =
-    ended-tally t w n r.0 (Aborted cause) nothing (grind (arith, common_steps)) (is-none (n.run r.0).ended (grind (arith, common_steps)))
+    ended-tally t w n r.0 (Aborted cause) nothing (grind (arith, common_steps)) (none_is (n.run r.0).ended (grind (arith, common_steps)))
 
 tally-from : (t : Option End → Bool) (w : Setting) (n : Reading) (h : List Kept) → t None ≡ false → IsTrue (along w (may_follow w) n (entries_of h))
     → tally t w (fold (entry w) n (entries_of h)) ≡ tally t w n + count_by (λ kept. ends_so t kept.entry) h
@@ -149,13 +143,13 @@ tally-from t w n [] nothing ok = no-more (tally t w n)
 tally-from t w n (kept ∷ h) nothing ok =
     let rest = tally-from t w (entry w n kept.entry) h nothing (grind (arith, common_steps)) in
     let step = tally-step t w n kept.entry nothing (grind (arith, common_steps)) in
-    omega (arith, rest, step, count-cons (λ (k : Kept). ends_so t k.entry) kept h)
+    omega (arith, rest, step, count_cons (λ (k : Kept). ends_so t k.entry) kept h)
 
 none-so : (t : Option End → Bool) (xs : List ℕ) → t None ≡ false → count_by (λ r. t None) xs ≡ 0
 none-so t [] nothing = refl
 none-so t (x ∷ xs) nothing =
     let first : ◌≡◌ {A = ℕ} (cond (t None) 1 0) 0 = ap (λ b. cond b 1 0) nothing in
-    omega (arith, count-cons (λ (r : ℕ). t None) x xs, first, none-so t xs nothing)
+    omega (arith, count_cons (λ (r : ℕ). t None) x xs, first, none-so t xs nothing)
 
 -- as many runs have ended so as entries end one so
 tally-history : (t : Option End → Bool) (w : Setting) (h : List Kept) → t None ≡ false → IsWellFormed w (entries_of h)
@@ -189,7 +183,7 @@ same-abort (Doomed r cause) = refl
 count-entries : (p q : Entry → Bool) (h : List Kept) → ((e : Entry) → p e ≡ q e) → count_by (λ kept. p kept.entry) h ≡ count_by (λ kept. q kept.entry) h
 count-entries p q [] same = refl
 count-entries p q (kept ∷ h) same =
-    count-cons (λ (k : Kept). p k.entry) kept h ∙ ap₂ (λ b k. cond b 1 0 + k) (same kept.entry) (count-entries p q h same) ∙ sym (count-cons (λ (k : Kept). q k.entry) kept h)
+    count_cons (λ (k : Kept). p k.entry) kept h ∙ ap₂ (λ b k. cond b 1 0 + k) (same kept.entry) (count-entries p q h same) ∙ sym (count_cons (λ (k : Kept). q k.entry) kept h)
 
 told-some : (r : ℕ) (h : List Kept) (e : Option End) → is_some (told_end r h e) ≡ commits e
 told-some r h None = refl
@@ -201,9 +195,9 @@ told-from : (w : Setting) (h : List Kept) (k : ℕ) (runs : List RunText) → Is
 told-from w h k [] ok = refl
 told-from w h k (run ∷ runs) ok =
     let first : is_some (told_end k h (end_of h k)) ≡ commits ((reading w (entries_of h)).run k).ended = told-some k h (end_of h k) ∙ ap commits (end_is w h k ok) in
-    count-cons is_some (told_end k h (end_of h k)) (map (λ (r, run). told_end r h (end_of h r)) (enumerate_from (k + 1) runs))
+    count_cons is_some (told_end k h (end_of h k)) (map (λ (r, run). told_end r h (end_of h r)) (enumerate_from (k + 1) runs))
     ∙ ap₂ (λ b n. cond b 1 0 + n) first (told-from w h (k + 1) runs ok)
-    ∙ sym (count-cons (λ r. commits ((reading w (entries_of h)).run r).ended) k (range_with_len (k + 1) (length runs)))
+    ∙ sym (count_cons (λ r. commits ((reading w (entries_of h)).run r).ended) k (range_with_len (k + 1) (length runs)))
 
 -- the ends that are told are as many as the commits of the history
 pub ends-committed : (w : Setting) (window : WindowText) (h : List Kept) → IsWellFormed w (entries_of h) → length w.runs ≡ length window.runs.items
@@ -225,7 +219,7 @@ ended-from f a zero all = refl
 ended-from f a (suc m) all =
     let first : cond (commits (f a).ended) 1 0 + cond (aborts (f a).ended) 1 0 ≡ 1 = either-end (f a).ended (grind (arith, common_steps)) in
     let rest = ended-from f (a + 1) m (grind (arith, common_steps)) in
-    omega (arith, first, rest, count-cons (λ r. commits (f r).ended) a (range_with_len (a + 1) m), count-cons (λ r. aborts (f r).ended) a (range_with_len (a + 1) m))
+    omega (arith, first, rest, count_cons (λ r. commits (f r).ended) a (range_with_len (a + 1) m), count_cons (λ r. aborts (f r).ended) a (range_with_len (a + 1) m))
 
 -- where each run has ended, the runs are as many as the commits and the aborts of the history
 pub all-ended : (w : Setting) (h : List Kept) → IsWellFormed w (entries_of h) → list_all (λ r. is_some ((reading w (entries_of h)).run r).ended) (run_numbers w) ≡ true

@@ -2,6 +2,7 @@
 use Rattle.order_checker.specs.Words.{Parts, cut_at}
 use Rattle.printed_records.proofs.Plain.{Lacks}
 use Rattle.std.proofs.Common.{Bool, List, None, Some, [], ap, arith, cond, drop, false, length, length-append, lt-ltb, nat_lt, not, option_map, refl, suc, take, true, zero, ℕ, ◌+◌, ◌++◌, ◌<◌, ◌==◌, ◌∙◌, ◌≡◌, ◌∷◌}
+use Rattle.std.proofs.Math.Seq.{take-append_seam}
 use Rattle.std.proofs.lemmas.Grind.{common_steps}
 use Rattle.std.proofs.lemmas.List.Elements.{All-head, All-tail}
 use Rattle.std.proofs.lemmas.Option.{slice_get_within}
@@ -42,10 +43,6 @@ lacks-before b (x ∷ front) back lacks =
     let rest = lacks-before b front back (All-tail (λ y. (y == b) ≡ false) x front lacks) in
     ap (λ t. cond (not t) (1 + position_or_len (λ y. y == b) (front ++ b ∷ back)) 0) other ∙ omega (arith, rest)
 
-take-front : {X : Type 0} (front back : List X) → take (length front) (front ++ back) ≡ front
-take-front [] back = refl
-take-front (x ∷ front) back = ap (λ xs. x ∷ xs) (take-front front back)
-
 drop-front : {X : Type 0} (front : List X) (x : X) (back : List X) → drop (length front + 1) (front ++ x ∷ back) ≡ back
 drop-front [] x back = refl
 drop-front (y ∷ front) x back =
@@ -65,7 +62,7 @@ cut-at b front back lacks =
     ap (λ n. cond (nat_lt n (length text)) (Some n) None) place
     ∙ ap (λ t. cond t (Some (length front)) None) (lt-ltb (length front) (length text) within) in
     ap (option_map (λ i. parts_at i text)) found
-    ∙ ap (λ f. Some (record { front = f; back = drop (length front + 1) text })) (take-front front (b ∷ back))
+    ∙ ap (λ f. Some (record { front = f; back = drop (length front + 1) text })) (take-append_seam front (b ∷ back))
     ∙ ap (λ r. Some (record { front = front; back = r })) (drop-front front b back)
 
 lacks-all : (b : ℕ) (text : List ℕ) → Lacks b text → position_or_len (λ x. x == b) text ≡ length text

@@ -15,6 +15,7 @@ use Rattle.history_book.specs.declared.entries.Entry.TheVariants.{Arrived, Did, 
 use Rattle.history_book.specs.declared.entries.Entry.{Entry}
 use Rattle.history_book.specs.declared.entries.Kept.{Kept}
 use Rattle.home_types.specs.declared.commands.Answer.{Answer}
+use Rattle.hub_core.proofs.calls.HubCloses.{at_place}
 use Rattle.order_checker.specs.RunLines.{told_of}
 use Rattle.order_checker.specs.RunLines as checked
 use Rattle.printed_records.proofs.ToldEnds.{told_at}
@@ -125,15 +126,10 @@ end_told window h i =
     let same : 1 + i ≡ suc i = omega arith in
     get_numbered (λ r. told_end r h (end_of h r)) 1 window.runs.items i ∙ ap (λ k. option_map (λ x. told_end k h (end_of h k)) (slice_get window.runs.items i)) same
 
-there : {X : Type 0} (xs : List X) (i : ℕ) → i < length xs → (x : X) × (slice_get xs i ≡ Some x)
-there [] i within = absurd (omega (arith, within))
-there (x ∷ xs) zero within = (x, refl)
-there (x ∷ xs) (suc i) within = there xs i (omega (arith, within))
-
 -- .. where it is one of the window
 end_there : (window : WindowText) (h : List Kept) (i : ℕ) → i < length window.runs.items → told_of (ends_of window h) (suc i) ≡ told_end (suc i) h (end_of h (suc i))
 end_there window h i within =
-    let run = there window.runs.items i within in
+    let run = at_place window.runs.items i within in
     told_at (ends_of window h) i ∙ ap (λ o. option_and_then (λ told. told) o) (end_told window h i ∙ ap (λ o. option_map (λ x. told_end (suc i) h (end_of h (suc i))) o) run.1)
 
 -- ---- committed runs

@@ -8,14 +8,15 @@ use Rattle.home_types.specs.declared.modes.Scheduler.{Scheduler}
 use Rattle.home_types.specs.declared.modes.Visibility.TheVariants.{Eventual, Global, Partitioned, Weak}
 use Rattle.home_types.specs.declared.modes.Visibility.{Visibility}
 use Rattle.home_types.specs.declared.worlds.Stand.{Stand}
+use Rattle.hub_core.proofs.calls.HubCloses.{at_place}
 use Rattle.hub_core.specs.LegalDays.{RecordsAreLegal, state_after}
 use Rattle.hub_core.specs.LegalWindows.{IsLegalWindow, IsSeriallyLegal}
+use Rattle.order_checker.proofs.SoundRuns.{window_sound}
 use Rattle.order_checker.specs.Records.{verdict_of}
 use Rattle.order_checker.specs.declared.verdicts.Verdict.TheVariants.{Agrees}
 use Rattle.printed_records.proofs.DayTexts.{day-agrees}
 use Rattle.printed_records.proofs.EndCounts.{all-ended, ends-committed}
 use Rattle.printed_records.proofs.LegalFits.{all_fit, items_fit, run_fits, serial_fits, values_fit, window_setting}
-use Rattle.printed_records.proofs.Names.{sound-window}
 use Rattle.printed_records.proofs.ValuesKept.{start-values}
 use Rattle.printed_records.specs.FitWindows.{DayFits, HaveValues, WindowFits, home_before}
 use Rattle.printed_records.specs.Modes.{has_order, prints_order}
@@ -28,7 +29,7 @@ use Rattle.routine_reader.specs.declared.scripts.WindowText.{WindowText}
 use Rattle.std.proofs.Common.{ap, arith, refl, subst, subst₂, sym, ◌∙◌}
 use Rattle.std.proofs.lemmas.List.{length-map}
 use Rattle.std.proofs.lemmas.Option.{slice_get_within}
-use Rattle.std.specs.Prelude.{Bool, List, Some, [], length, map, option_map, slice_get, suc, true, unwrap_or, zero, ℕ, ◌<◌, ◌∷◌, ◌≡◌, ◌≤◌}
+use Rattle.std.specs.Prelude.{Bool, List, Some, [], length, map, option_map, slice_get, suc, true, unwrap_or, zero, ℕ, ◌≡◌, ◌≤◌}
 
 -- a window that fits, out of a legal one
 pub window_fits : (script : Script) (mode : Mode) (home : List Stand) (window : WindowText) (closed : WindowRecord)
@@ -56,11 +57,6 @@ serial_of runs Global scheduler kinds first closed has legal = legal
 serial_of runs Partitioned scheduler kinds first closed has legal = legal
 serial_of runs Eventual scheduler kinds first closed has legal = legal
 
-there : {X : Type 0} (xs : List X) (i : ℕ) → i < length xs → (x : X) × (slice_get xs i ≡ Some x)
-there [] i within = absurd (omega (arith, within))
-there (x ∷ xs) zero within = (x, refl)
-there (x ∷ xs) (suc i) within = there xs i (omega (arith, within))
-
 same_home : (script : Script) (records : List WindowRecord) (k : ℕ) → state_after script records k ≡ home_before script records k
 same_home script records zero = refl
 same_home script records (suc k) = refl
@@ -79,16 +75,16 @@ module _ (script : Script) (mode : Mode) (records : List WindowRecord) (sound : 
   values_before : (k : ℕ) → k ≤ length records → HaveValues (kinds_of script) (home_before script records k)
   values_before zero within = start-values script sound
   values_before (suc k) within =
-      let closed = there records k (omega (arith, within)) in
-      let window = there script.windows.items k (omega (arith, within, all)) in
+      let closed = at_place records k (omega (arith, within)) in
+      let window = at_place script.windows.items k (omega (arith, within, all)) in
       let here = values_before k (omega (arith, within)) in
-      let left = values_fit script mode (home_before script records k) window.0 closed.0 (serial k window.0 closed.0 window.1 closed.1) here sound (sound-window script k window.0 sound window.1) in
+      let left = values_fit script mode (home_before script records k) window.0 closed.0 (serial k window.0 closed.0 window.1 closed.1) here sound (window_sound script k window.0 sound window.1) in
       subst (HaveValues (kinds_of script)) (ap (λ o. unwrap_or (option_map (λ (c : WindowRecord). c.last.devices.items) o) []) (sym closed.1)) left
 
   -- the windows of a legal day fit
   pub day_fits : TimesAreSmall records → DayFits script records
   day_fits small k window closed at record_at =
-      window_fits script mode (home_before script records k) window closed sound (sound-window script k window sound at) (serial k window closed at record_at)
+      window_fits script mode (home_before script records k) window closed sound (window_sound script k window sound at) (serial k window closed at record_at)
       (values_before k (let within = slice_get_within records k closed record_at in omega (arith, within))) (small k closed record_at)
 
   -- the record of a legal day agrees

@@ -17,21 +17,19 @@ use Rattle.history_book.specs.declared.records.WindowRecord.{WindowRecord}
 use Rattle.home_types.specs.declared.commands.Answer.{Answer}
 use Rattle.home_types.specs.declared.items.Item.TheVariants.{Back, Failed, Ran}
 use Rattle.home_types.specs.declared.items.Item.{Item}
-use Rattle.home_types.specs.declared.kinds.Kind.{Kind}
 use Rattle.home_types.specs.declared.modes.Mode.{Mode}
 use Rattle.home_types.specs.declared.worlds.Stand.{Stand}
 use Rattle.hub_core.specs.JustifiedAborts.{abort_is_justified}
 use Rattle.hub_core.specs.LegalWindows.{IsSeriallyLegal}
 use Rattle.order_checker.specs.Answers.{home_behind}
 use Rattle.order_checker.specs.RunLines as checked
-use Rattle.order_checker.specs.RunLines.{told_of}
 use Rattle.printed_records.proofs.CausesKept.{NamesWell, all_name_well, found_shown}
 use Rattle.printed_records.proofs.HistoryEnds.{committed_typed, in_turn, same_committed, told_whole}
 use Rattle.printed_records.proofs.HomedEvents.{events_homed}
 use Rattle.printed_records.proofs.SerialAnswers.{AreTold, behind_is}
 use Rattle.printed_records.proofs.StandingItems.{IsHomed, IsOrderOf, all_stand, items_stand, ran_committed}
 use Rattle.printed_records.proofs.ToldEnds.{told_at}
-use Rattle.printed_records.proofs.ValuesKept.{items-values, script-filled, window-suits}
+use Rattle.printed_records.proofs.ValuesKept.{items-values, script-filled, values-length, window-suits}
 use Rattle.printed_records.specs.Ends.{ends_of}
 use Rattle.printed_records.specs.FitWindows.{HaveValues, order_setting}
 use Rattle.printed_records.specs.Fits.{AllStand, ItemsMayStand, RunFits, plain_item}
@@ -52,12 +50,6 @@ use Rattle.std.specs.Prelude.{Bool, IsTrue, List, None, Ok, Option, Some, [], fa
 -- what is fixed in a window of the script
 abbrev pub window_setting : Script → Mode → List Stand → WindowText → Setting
 window_setting script mode home window = record { runs = map (run_of_text script) window.runs.items; mode = mode; kinds = kinds_of script; first = home }
-
-value_count : (kinds : List Kind) (home : List Stand) → HaveValues kinds home → length home ≡ length kinds
-value_count [] [] values = refl
-value_count [] (s ∷ home) values = absurd values
-value_count (k ∷ kinds) [] values = absurd values
-value_count (k ∷ kinds) (s ∷ home) values = ap suc (value_count kinds home values.1)
 
 at_range : (p : ℕ → Bool) (a n r : ℕ) → list_all p (range_with_len a n) ≡ true → a ≤ r → r < a + n → p r ≡ true
 at_range p a zero r all from to = absurd (omega (arith, from, to))
@@ -104,7 +96,7 @@ module _ (script : Script) (mode : Mode) (home : List Stand) (window : WindowTex
   same r = same_committed w window (run_of_text script) history r legal.well_formed refl
 
   kind_count : length home ≡ length (kinds_of script)
-  kind_count = value_count (kinds_of script) home before
+  kind_count = values-length (kinds_of script) home before
 
   device_count : length home ≡ length script.devices.items
   device_count = kind_count ∙ length-map script.devices.items (λ (d : DeviceText). d.kind)

@@ -1,8 +1,9 @@
 -- Lines of words, each with a space before it but the first, behind each other.
+use Rattle.order_checker.proofs.Notes.{lines-cons}
 use Rattle.order_checker.specs.Lines.{is_note, lines_of, lines_of_pieces, pieces_of}
 use Rattle.order_checker.specs.Words.{words_of}
 use Rattle.printed_records.proofs.Plain.{AreWords, IsWord, Lacks}
-use Rattle.std.proofs.Common.{List, Some, [], ap, append-nil, append_assoc, arith, false, length, refl, sym, true, ℕ, ◌++◌, ◌<◌, ◌==◌, ◌∙◌, ◌≡◌, ◌∷◌}
+use Rattle.std.proofs.Common.{List, Some, [], ap, append-nil, append_assoc, arith, false, refl, sym, true, ℕ, ◌++◌, ◌==◌, ◌∙◌, ◌≡◌, ◌∷◌}
 use Rattle.std.proofs.lemmas.List.Elements.{All-append, All-cons}
 use Rattle.std.proofs.lemmas.List.Splits.{length-slice_split, slice_split_at, slice_split_none}
 use Rattle.std.specs.Prelude.{if◌then◌else◌}
@@ -16,11 +17,6 @@ pub spaced-append : (words : List (List ℕ)) (tail rest : List ℕ) → spaced 
 spaced-append [] tail rest = refl
 spaced-append (word ∷ words) tail rest =
     ap (λ t. 32 ∷ t) (append_assoc word (spaced words tail) rest ∙ ap (λ t. word ++ t) (spaced-append words tail rest))
-
--- more words behind these
-pub spaced-more : (a b : List (List ℕ)) (tail : List ℕ) → spaced (a ++ b) tail ≡ spaced a (spaced b tail)
-spaced-more [] b tail = refl
-spaced-more (word ∷ a) b tail = ap (λ t. 32 ∷ (word ++ t)) (spaced-more a b tail)
 
 -- the line of a word and those behind it
 abbrev pub line_with : List ℕ → List (List ℕ) → List ℕ
@@ -37,13 +33,6 @@ lacks-spaced : (words : List (List ℕ)) → AreWords words → Lacks 10 (spaced
 lacks-spaced [] are = λ k d within. absurd (omega arith)
 lacks-spaced (word ∷ words) are =
     All-cons (λ x. (x == 10) ≡ false) 32 (word ++ spaced words []) refl (All-append (λ x. (x == 10) ≡ false) word (spaced words []) are.0.no_feed (lacks-spaced words are.1))
-
--- a piece that another one follows
-lines-cons : (line : List ℕ) (pieces : List (List ℕ)) → 0 < length pieces
-    → lines_of_pieces (line ∷ pieces) ≡ (if is_note line then [] else Some line ∷ []) ++ lines_of_pieces pieces
-unfolding lines_of_pieces
-lines-cons line [] some = absurd (omega arith)
-lines-cons line (next ∷ pieces) some = refl
 
 -- a text that ends with a line feed, in front of another
 lines-text : (line rest : List ℕ) → Lacks 10 line

@@ -1,21 +1,20 @@
 -- Names of a sound script: each is a word, and names its own device.
+use Rattle.order_checker.proofs.SoundRuns.{seen_at}
 use Rattle.order_checker.specs.Values.{device_named}
 use Rattle.printed_records.proofs.Firsts.{bytes_eq-self, position-at}
 use Rattle.printed_records.proofs.Plain.{IsPlain, IsWord, is_plain, word-plain}
 use Rattle.routine_reader.proofs.NameLemmas.{position-map}
 use Rattle.routine_reader.specs.Names.{is_name_byte, starts_with_letter}
-use Rattle.routine_reader.specs.Scripts.{PlainDevice, plain_device, plain_routine, plain_script, plain_window}
-use Rattle.routine_reader.specs.Sound.{IsName, IsSound, IsSoundDevice, IsSoundRoutine, IsSoundWindow}
+use Rattle.routine_reader.specs.Scripts.{PlainDevice, plain_device, plain_routine, plain_script}
+use Rattle.routine_reader.specs.Sound.{IsName, IsSound, IsSoundDevice, IsSoundRoutine}
 use Rattle.routine_reader.specs.declared.scripts.DeviceText.{DeviceText}
 use Rattle.routine_reader.specs.declared.scripts.RoutineText.{RoutineText}
 use Rattle.routine_reader.specs.declared.scripts.Script.{Script}
-use Rattle.routine_reader.specs.declared.scripts.WindowText.{WindowText}
-use Rattle.std.proofs.Common.{List, Some, [], ap, arith, length, map, option_map, refl, subst, sym, true, ℕ, ◌∙◌, ◌≡◌, ◌∷◌}
+use Rattle.std.proofs.Common.{List, Some, [], ap, arith, map, option_map, refl, sym, true, ℕ, ◌∙◌, ◌≡◌, ◌∷◌}
 use Rattle.std.proofs.lemmas.Grind.{common_steps}
-use Rattle.std.proofs.lemmas.List.Elements.{All-get_or}
-use Rattle.std.proofs.lemmas.Option.{get_or_from_slice_get, slice_get-map, slice_get_within}
+use Rattle.std.proofs.lemmas.Option.{slice_get-map}
 use Rattle.std.specs.List.{list_all, position}
-use Rattle.std.specs.Prelude.{All, slice_get}
+use Rattle.std.specs.Prelude.{slice_get}
 use Rattle.std.specs.Str.{bytes_eq}
 
 name-byte : (b : ℕ) → is_name_byte b ≡ true → is_plain b ≡ true
@@ -38,22 +37,12 @@ name-word name is = word-plain name (name-plain name is)
 pub name-letter : (name : List ℕ) → IsName name → starts_with_letter name ≡ true
 name-letter name is = grind (arith, common_steps)
 
--- what holds of each item of a list, as it is seen, holds of the one at a place
-seen_at : {X Y : Type 0} (view : X → Y) (P : Y → Type 0) (xs : List X) (k : ℕ) (x : X) → All P (map view xs) → slice_get xs k ≡ Some x → P (view x)
-seen_at view P xs k x all at =
-    let there = slice_get-map view xs k ∙ ap (option_map view) at in
-    subst P (get_or_from_slice_get (map view xs) k (view x) (view x) there) (All-get_or P (map view xs) k (view x) (slice_get_within (map view xs) k (view x) there) all)
-
 pub sound-device : (script : Script) (d : ℕ) (device : DeviceText) → IsSound (plain_script script) → slice_get script.devices.items d ≡ Some device → IsSoundDevice (plain_device device)
 sound-device script d device sound at = seen_at plain_device IsSoundDevice script.devices.items d device sound.devices at
 
 pub sound-routine : (script : Script) (i : ℕ) (routine : RoutineText) → IsSound (plain_script script) → slice_get script.routines.items i ≡ Some routine
     → IsSoundRoutine (map plain_device script.devices.items) (plain_routine routine)
 sound-routine script i routine sound at = seen_at plain_routine (IsSoundRoutine (map plain_device script.devices.items)) script.routines.items i routine sound.routines at
-
-pub sound-window : (script : Script) (k : ℕ) (window : WindowText) → IsSound (plain_script script) → slice_get script.windows.items k ≡ Some window
-    → IsSoundWindow (length (map plain_routine script.routines.items)) (plain_window window)
-sound-window script k window sound at = seen_at plain_window (IsSoundWindow (length (map plain_routine script.routines.items))) script.windows.items k window sound.windows at
 
 abbrev plain_name : PlainDevice → List ℕ
 plain_name device = device.name

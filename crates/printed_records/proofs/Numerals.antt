@@ -1,22 +1,16 @@
 -- Numbers as they are printed, read again.
+use Rattle.order_checker.proofs.Numbers.{own}
 use Rattle.order_checker.specs.Words.{is_number, is_numeral, number_of}
 use Rattle.printed_records.proofs.Plain.{IsPlain, IsWord, word-plain}
-use Rattle.std.proofs.Common.{List, Some, [], ap, arith, false, length, nat_lt, not, refl, rules, suc, true, zero, ℕ, ◌<◌, ◌==◌, ◌^◌, ◌||◌, ◌≡◌, ◌∙◌, ◌∷◌}
+use Rattle.std.proofs.Common.{List, Some, [], ap, arith, false, length, nat_lt, not, refl, suc, true, zero, ℕ, ◌<◌, ◌==◌, ◌^◌, ◌||◌, ◌≡◌, ◌∙◌, ◌∷◌}
 use Rattle.std.proofs.lemmas.Fmt.{decimal_digit, decimal_nonempty, digits_decimal, digits_value-decimal, first_decimal}
 use Rattle.std.proofs.lemmas.Grind.{common_steps}
-use Rattle.std.proofs.lemmas.Str.Parse.{IsDigitsTest, IsNumeralModel, numerals_by_value}
 use Rattle.std.specs.Char.{is_ascii_digit}
 use Rattle.std.specs.Fmt.{decimal}
 use Rattle.std.specs.List.{list_all}
 use Rattle.std.specs.Option.{option_map_or}
 use Rattle.std.specs.Prelude.{slice_index}
 use Rattle.std.specs.Str.Parse.{digits_value}
-
-tells : IsDigitsTest (λ ds. list_all is_ascii_digit ds ≡ true)
-tells = search rules
-
-own : IsNumeralModel (λ ds. list_all is_ascii_digit ds ≡ true) (digits_value 10)
-own = numerals_by_value _ tells
 
 pub decimal-digits : (n : ℕ) → n < 2 ^ 64 → list_all is_ascii_digit (decimal n) ≡ true
 decimal-digits n small = digits_decimal own n small

@@ -58,7 +58,3 @@ word-append a b word_a word_b =
 abbrev pub AreWords : List (List ℕ) → Type 0
 AreWords [] = ⊤
 AreWords (word ∷ words) = IsWord word × AreWords words
-
-pub words-append : (a b : List (List ℕ)) → AreWords a → AreWords b → AreWords (a ++ b)
-words-append [] b words_a words_b = words_b
-words-append (word ∷ a) b words_a words_b = (words_a.0, words-append a b words_a.1 words_b)

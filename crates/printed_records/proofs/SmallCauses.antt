@@ -9,6 +9,7 @@ use Rattle.history_book.specs.declared.entries.Entry.{Entry}
 use Rattle.history_book.specs.declared.entries.Kept.{Kept}
 use Rattle.history_book.specs.declared.records.WindowRecord.{WindowRecord}
 use Rattle.home_types.specs.declared.numbers.RunNo.{RunNo}
+use Rattle.printed_records.proofs.CausesKept.{aborted-same}
 use Rattle.printed_records.specs.SmallTimes.{CausesAreSmall, IsSmall, TimesAreSmall, are_small, is_small}
 use Rattle.std.proofs.Common.{arith, refl, subst, ◌∙◌}
 use Rattle.std.proofs.lemmas.Grind.{common_steps}
@@ -23,16 +24,13 @@ cause_small r (Lost d) small = tt
 cause_small r (Revoked l d t m) small = (grind (arith, common_steps), grind (arith, common_steps))
 cause_small r (DownAtEnd d) small = tt
 
-aborted_same : (a b : Cause) → ◌≡◌ {A = Option End} (Some (Aborted a)) (Some (Aborted b)) → a ≡ b
-aborted_same a b same = cc
-
 end_small : (q : RunNo) (r : ℕ) (end : End) (cause : Cause) → is_small (Ended q end) ≡ true → (if q.0 == r then Some end else None) ≡ Some (Aborted cause) → IsSmall cause
 end_small q r end cause small told = of_bool end (q.0 == r) small told
   where
     of_bool : (e : End) (b : Bool) → is_small (Ended q e) ≡ true → (if b then Some e else None) ≡ Some (Aborted cause) → IsSmall cause
     of_bool e false s t = absurd (cc)
     of_bool Committed true s t = absurd (cc)
-    of_bool (Aborted k) true s t = subst IsSmall (aborted_same k cause t) (cause_small q k s)
+    of_bool (Aborted k) true s t = subst IsSmall (aborted-same k cause t) (cause_small q k s)
 
 entry_small : (r : ℕ) (e : Entry) (cause : Cause) → is_small e ≡ true → end_in r e ≡ Some (Aborted cause) → IsSmall cause
 entry_small r (Arrived q m) cause small told = absurd (cc)

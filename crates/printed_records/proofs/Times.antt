@@ -11,23 +11,18 @@ use Rattle.printed_records.proofs.LineTexts.{line_with, lines-words, spaced, wor
 use Rattle.printed_records.proofs.Numerals.{decimal-word, is_number-decimal}
 use Rattle.printed_records.proofs.Plain.{AreWords, IsPlain, IsWord, is_plain, plain-append, word-plain, word-seen}
 use Rattle.std.proofs.Common.{Bool, List, Some, [], ap, ap₂, append_assoc, arith, false, inl, inr, nat_lt, refl, subst, sym, true, ℕ, ◌%◌, ◌&&◌, ◌+◌, ◌++◌, ◌/◌, ◌<◌, ◌≤◌, ◌∙◌, ◌^◌, ◌≡◌, ◌∷◌}
+use Rattle.std.proofs.lemmas.Bool.{le-ltb, lt-ltb}
 use Rattle.std.proofs.lemmas.Fmt.{decimal_digit, decimal_step}
 use Rattle.std.proofs.lemmas.Grind.{common_steps}
 use Rattle.std.specs.Fmt.{decimal}
 use Rattle.std.specs.Prelude.{codes, if◌then◌else◌, ◌⊎◌}
 use Rattle.std.specs.Str.{bytes_eq}
 
-test-below : (n power : ℕ) → n < power → nat_lt n power ≡ true
-test-below n power below = grind (arith, common_steps)
-
-test-above : (n power : ℕ) → power ≤ n → nat_lt n power ≡ false
-test-above n power above = grind (arith, common_steps)
-
 no-zero : (power n : ℕ) → power ≤ n → zero_below power n ≡ []
-no-zero power n above = ap (λ b. if b then codes "0" else []) (test-above n power above)
+no-zero power n above = ap (λ b. if b then codes "0" else []) (le-ltb n power above)
 
 one-zero : (power n : ℕ) → n < power → zero_below power n ≡ 48 ∷ []
-one-zero power n below = ap (λ b. if b then codes "0" else []) (test-below n power below)
+one-zero power n below = ap (λ b. if b then codes "0" else []) (lt-ltb n power below)
 
 -- a number from 10 to 99 has these two digits
 two-decimal : (n : ℕ) → 10 ≤ n → n < 100 → decimal n ≡ digit (n / 10) ∷ digit (n % 10) ∷ []

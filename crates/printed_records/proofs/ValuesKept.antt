@@ -12,6 +12,7 @@ use Rattle.home_types.specs.declared.items.Item.{Item}
 use Rattle.home_types.specs.declared.kinds.Kind.TheVariants.{Range, States}
 use Rattle.home_types.specs.declared.kinds.Kind.{Kind}
 use Rattle.home_types.specs.declared.worlds.Stand.{Stand}
+use Rattle.hub_core.proofs.calls.HubCloses.{at_place}
 use Rattle.printed_records.proofs.Names.{sound-device, sound-routine}
 use Rattle.printed_records.proofs.Runs.{IsRunOf, device-kind, device-there, run-commands}
 use Rattle.printed_records.specs.FitWindows.{HaveValues}
@@ -19,7 +20,6 @@ use Rattle.routine_reader.specs.Rosters.{kinds_of, run_of_text, start_home, star
 use Rattle.routine_reader.specs.Scripts.{plain_device, plain_routine, plain_script, plain_window}
 use Rattle.routine_reader.specs.Sound.{IsSound, IsSoundCommand, IsSoundDevice, IsSoundKind, IsSoundWindow, device_kinds, suits}
 use Rattle.routine_reader.specs.declared.scripts.DeviceText.{DeviceText}
-use Rattle.routine_reader.specs.declared.scripts.RoutineText.{RoutineText}
 use Rattle.routine_reader.specs.declared.scripts.RunText.{RunText}
 use Rattle.routine_reader.specs.declared.scripts.Script.{Script}
 use Rattle.routine_reader.specs.declared.scripts.WindowText.{WindowText}
@@ -51,7 +51,7 @@ effect-value kind Store register value true fills suit has = fills register
 abbrev pub AreFilled : List Kind → Type 0
 AreFilled kinds = (d : ℕ) → d < length kinds → Fills (kind_at kinds d)
 
-values-length : (kinds : List Kind) (home : List Stand) → HaveValues kinds home → length home ≡ length kinds
+pub values-length : (kinds : List Kind) (home : List Stand) → HaveValues kinds home → length home ≡ length kinds
 values-length [] [] values = refl
 values-length [] (stand ∷ home) values = absurd values
 values-length (kind ∷ kinds) [] values = absurd values
@@ -130,18 +130,13 @@ pub window-suits : (script : Script) (window : WindowText) → IsSound (plain_sc
 window-suits script window sound well zero k c at = absurd (none-some c at)
 window-suits script window sound well (suc i) k c at = by (slice_get window.runs.items i) refl
   where
-    routine-there : (routines : List RoutineText) (j : ℕ) → j < length routines → (routine : RoutineText) × (slice_get routines j ≡ Some routine)
-    routine-there [] j within = absurd (omega arith)
-    routine-there (routine ∷ routines) zero within = (routine, refl)
-    routine-there (routine ∷ routines) (suc j) within = routine-there routines j (omega arith)
-
     by : (o : Option RunText) → slice_get window.runs.items i ≡ o → suits (kind_at (kinds_of script) c.device.0) c.job ≡ true
     by None there =
         let nothing : commands_of (map (run_of_text script) window.runs.items) (suc i) ≡ [] =
         ap (λ o. unwrap_or (option_map (λ (x : Run). x.commands) o) []) (slice_get-map (run_of_text script) window.runs.items i ∙ ap (option_map (run_of_text script)) there) in
         absurd (none-some c (ap (λ cs. slice_get cs k) (sym nothing) ∙ at))
     by (Some run) there =
-        let routine = routine-there script.routines.items run.routine (omega (arith, (well.runs i run there).routine, length-map script.routines.items plain_routine)) in
+        let routine = at_place script.routines.items run.routine (omega (arith, (well.runs i run there).routine, length-map script.routines.items plain_routine)) in
         let is : IsRunOf script window (suc i) run routine.0 = record { at = there; routine_is = routine.1 } in
         let commands = routine.0.routine.commands.items in
         let here : slice_get commands k ≡ Some c = ap (λ cs. slice_get cs k) (sym (run-commands script window (suc i) run routine.0 is)) ∙ at in

@@ -9,6 +9,7 @@ use Rattle.home_types.specs.declared.commands.Answer.{Answer}
 use Rattle.home_types.specs.declared.modes.Mode.{Mode}
 use Rattle.home_types.specs.declared.modes.Visibility.TheVariants.{Weak}
 use Rattle.home_types.specs.declared.worlds.Stand.{Stand}
+use Rattle.hub_core.proofs.calls.HubCloses.{at_place}
 use Rattle.order_checker.specs.Answers.{home_behind}
 use Rattle.order_checker.specs.HomeLines.{home_agrees, home_told, next_device, stands_so}
 use Rattle.order_checker.specs.Lines.{line_at, lines_of}
@@ -32,12 +33,11 @@ use Rattle.routine_reader.specs.Rosters.{kinds_of, routine_at, run_of_text}
 use Rattle.routine_reader.specs.Scripts.{plain_device, plain_routine, plain_script, plain_window}
 use Rattle.routine_reader.specs.Sound.{IsSound, IsSoundDevice, IsSoundWindow}
 use Rattle.routine_reader.specs.declared.scripts.DeviceText.{DeviceText}
-use Rattle.routine_reader.specs.declared.scripts.RoutineText.{RoutineText}
 use Rattle.routine_reader.specs.declared.scripts.RunText.{RunText}
 use Rattle.routine_reader.specs.declared.scripts.Script.{Script}
 use Rattle.routine_reader.specs.declared.scripts.WindowText.{WindowText}
-use Rattle.std.proofs.Common.{Bool, List, Ok, Option, Result, Some, [], ap, ap₂, append-nil, append_assoc, arith, drop, false, length, length-append, map, not, refl, suc, sym, true, zero, ℕ, ◌&&◌, ◌+◌, ◌++◌, ◌<◌, ◌==◌, ◌≤◌, ◌^◌, ◌∙◌, ◌≡◌, ◌≢◌, ◌∷◌}
-use Rattle.std.proofs.lemmas.Grind.{common_steps}
+use Rattle.std.proofs.Common.{Bool, List, Ok, Option, Result, Some, [], ap, ap₂, append-nil, append_assoc, arith, drop, false, length, length-append, map, not, refl, suc, sym, true, ℕ, ◌&&◌, ◌+◌, ◌++◌, ◌<◌, ◌≤◌, ◌^◌, ◌∙◌, ◌≡◌, ◌≢◌, ◌∷◌}
+use Rattle.std.proofs.lemmas.Bool.{eq-eqb}
 use Rattle.std.proofs.lemmas.List.{length-map}
 use Rattle.std.proofs.lemmas.Option.{slice_get_within}
 use Rattle.std.specs.List.{count_by, enumerate_from, flat_map}
@@ -47,11 +47,8 @@ use Rattle.std.specs.Prelude.{if◌then◌else◌, is_some, slice_get}
 -- ---- the home
 
 stand-self : (stand : Stand) → stands_so stand stand ≡ true
-stand-self stand = ap₂ (λ a b. a && b) (same stand.value) (ups stand.up)
+stand-self stand = ap₂ (λ a b. a && b) (eq-eqb stand.value _ refl) (ups stand.up)
   where
-    same : (v : ℕ) → (v == v) ≡ true
-    same v = grind (arith, common_steps)
-
     ups : (up : Bool) → (if up then up else not up) ≡ true
     ups true = refl
     ups false = refl
@@ -92,11 +89,6 @@ get-run : (front : List RunText) (run : RunText) (rest : List RunText) → slice
 get-run [] run rest = refl
 get-run (f ∷ front) run rest = get-run front run rest
 
-routine-there : (routines : List RoutineText) (i : ℕ) → i < length routines → (routine : RoutineText) × (slice_get routines i ≡ Some routine)
-routine-there [] i within = absurd (omega arith)
-routine-there (routine ∷ routines) zero within = (routine, refl)
-routine-there (routine ∷ routines) (suc i) within = routine-there routines i (omega arith)
-
 module _ (script : Script) (window : WindowText) (history : List Kept) (sound : IsSound (plain_script script)) (well : IsSoundWindow (length (map plain_routine script.routines.items)) (plain_window window))
     (fits : (r : ℕ) → 1 ≤ r → r ≤ length window.runs.items → RunFits (kinds_of script) (map (run_of_text script) window.runs.items) r history) where
   runs-from : (front runs : List RunText) (k : ℕ) (ends : List (Option (List Answer))) (rest : List ℕ) → front ++ runs ≡ window.runs.items → k ≡ length front + 1 → length ends ≡ length front
@@ -110,7 +102,7 @@ module _ (script : Script) (window : WindowText) (history : List Kept) (sound : 
       let next : k ≡ suc (length front) = omega (arith, number) in
       let at : slice_get window.runs.items (length front) ≡ Some run = ap (λ rs. slice_get rs (length front)) (sym all) ∙ get-run front run runs in
       let within : length front < n = slice_get_within window.runs.items (length front) run at in
-      let routine = routine-there script.routines.items run.routine (omega (arith, (well.runs (length front) run at).routine, length-map script.routines.items plain_routine)) in
+      let routine = at_place script.routines.items run.routine (omega (arith, (well.runs (length front) run at).routine, length-map script.routines.items plain_routine)) in
       let is : IsRunOf script window k run routine.0 = record { at = ap (run_at window) next ∙ at; routine_is = routine.1 } in
       let few : n < 2 ^ 64 = omega (arith, well.few_runs) in
       let small : k < 2 ^ 64 = omega (arith, number, few, within) in

@@ -6,6 +6,7 @@ use Rattle.device_gate.specs.declared.grips.Ready.{Ready}
 use Rattle.device_gate.specs.declared.slips.Slip.{Slip}
 use Rattle.device_gate.specs.declared.strangers.Stranger.{Stranger}
 use Rattle.history_book.specs.declared.entries.Entry.{Entry}
+use Rattle.hub_core.proofs.calls.HubChanges.{length_with}
 use Rattle.hub_core.specs.HubCalls.{SameWindow, carried_by, grip_takes}
 use Rattle.hub_core.specs.HubSteps.{Gave, Give, HubStep, Refused, Returned}
 use Rattle.hub_core.specs.OpenHubs.{OpenHub, carried_in, configuration_of, device_at, grip_in, purpose_of, state_of}
@@ -17,7 +18,7 @@ use Rattle.hub_core.proofs.steps.HubAnswers.{gave_back, never_refused}
 use Rattle.run_replay.proofs.Making.{give_makes}
 use Rattle.run_replay.proofs.Picking.{acted_is_stepped, full_is, met}
 use Rattle.run_replay.proofs.Stepping.{gave_fewer}
-use Rattle.run_replay.proofs.Taking.{grown, stays_by}
+use Rattle.run_replay.proofs.Taking.{stays_by}
 use Rattle.run_replay.specs.Players.{HavePlans, PlayerIsKept, PlayerState, is_ended, is_full, most_made, play_of, steps_left}
 use Rattle.run_replay.specs.Playing.{IsStepped}
 use Rattle.run_replay.specs.Replays.{Made, takes_of}
@@ -117,7 +118,7 @@ grows : {D : Type 0} (s t : PlayerState D) (a : ℕ) (grip : Gripped D Ready) (d
 grows {D = D} s t a grip done entries by =
     let two = entries_are s t a grip done entries by in
     let some = give_makes s.hub.setting (read_of (configuration_of s.hub)) grip.slip.device.0 a (purpose_at s grip) done.stage.told (runs_purpose s a grip.slip.device.0 (purpose_at s grip) by.is.run by.is.fit (out_of_hand s a grip by.is.kept by.is.hand)) in
-    let longer = grown s.hub.history a (give_entries s.hub.setting (read_of (configuration_of s.hub)) grip.slip.device.0 (record { maker = a; purpose = purpose_at s grip }) done.stage.told) in
+    let longer = length_with s.hub.history a (give_entries s.hub.setting (read_of (configuration_of s.hub)) grip.slip.device.0 (record { maker = a; purpose = purpose_at s grip }) done.stage.told) in
     let whole = ap (λ (c : Configuration). length c.history) two.1 in
     omega (arith, some, longer, whole)
 

@@ -1,11 +1,9 @@
 -- Where each device is home no hand holds a grip.
+use Rattle.device_gate.proofs.Places.{none_out}
 use Rattle.device_gate.specs.Places.{all_home}
-use Rattle.device_gate.specs.declared.gates.Place.TheVariants.{Out}
-use Rattle.device_gate.specs.declared.slips.Slip.{Slip}
-use Rattle.device_gate.specs.declared.slips.Task.{Task}
 use Rattle.run_replay.specs.Players.{HoldNothing, PlayerIsKept, PlayerState}
 use Rattle.std.proofs.Common.{ap, refl, sym, ◌∙◌}
-use Rattle.std.specs.Prelude.{List, None, Option, Some, [], slice_get, suc, zero, ℕ, ◌++◌, ◌∷◌, ◌≡◌}
+use Rattle.std.specs.Prelude.{List, None, Option, Some, [], slice_get, suc, zero, ◌++◌, ◌∷◌, ◌≡◌}
 
 no_hands : {A : Type 0} → HoldNothing {A = A} []
 no_hands a x at = absurd (cc)
@@ -28,11 +26,6 @@ pub last_hand : {A : Type 0} (hands : List (Option A)) (x : A) → HoldNothing (
 last_hand [] x none = none 0 x refl
 last_hand (h ∷ hands) x none = last_hand hands x (λ b y there. none (suc b) y there)
 
-pub none_is_out : {D : Type 0} (devices : List D) (d : ℕ) (slip : Slip) (task : Task) → slice_get (all_home devices) d ≡ Some (Out slip task) → ⊥
-none_is_out [] d slip task at = absurd (cc)
-none_is_out (x ∷ devices) zero slip task at = absurd (cc)
-none_is_out (x ∷ devices) (suc d) slip task at = none_is_out devices d slip task at
-
 -- where each device is home
 pub hands_at_close : {D : Type 0} (s : PlayerState D) (devices : List D) → PlayerIsKept s → s.hub.places ≡ all_home devices → HoldNothing s.grips
-hands_at_close s devices kept home a grip at = none_is_out devices grip.slip.device.0 grip.slip grip.task (ap (λ l. slice_get l grip.slip.device.0) (sym home) ∙ kept.held a grip at)
+hands_at_close s devices kept home a grip at = none_out devices grip.slip.device.0 grip.slip grip.task (ap (λ l. slice_get l grip.slip.device.0) (sym home) ∙ kept.held a grip at)

@@ -1,46 +1,31 @@
 -- Where every actor has ended the hub is quiet, and no hand holds a grip.
-use Rattle.command_rules.specs.Rosters.{Run, is_run}
+use Rattle.command_rules.specs.Rosters.{is_run}
 use Rattle.device_gate.specs.Grips.{Gripped}
 use Rattle.device_gate.specs.declared.gates.Place.TheVariants.{Home, Out}
 use Rattle.device_gate.specs.declared.gates.Place.{Place}
 use Rattle.device_gate.specs.declared.grips.Ready.{Ready}
 use Rattle.history_book.proofs.Searches.{Each}
 use Rattle.history_book.specs.Readings.{is_live}
+use Rattle.hub_core.proofs.kept.Finds.{find_none, not_none}
+use Rattle.hub_core.proofs.kept.Sizes.{run_there}
 use Rattle.hub_core.specs.OpenHubs.{configuration_of, device_at, grip_in, purpose_of}
 use Rattle.hub_core.specs.Steps.{not_quiet}
 use Rattle.lock_leasing.specs.Configurations.{Commands, Configuration, Probes, Purpose, Undoes, is_out, read_of}
 use Rattle.lock_leasing.specs.Places.{GripsFit}
 use Rattle.run_replay.proofs.Progress.{each_at}
+use Rattle.run_replay.proofs.Settings.{within}
 use Rattle.run_replay.specs.Players.{PlayerIsKept, PlayerState, are_live, is_ended, is_full}
 use Rattle.std.proofs.Common.{ap, arith, refl, subst, sym, ◌∙◌}
 use Rattle.std.proofs.lemmas.Grind.{common_steps}
 use Rattle.std.proofs.lemmas.Option.{slice_get_within}
 use Rattle.std.specs.List.{range_with_len}
-use Rattle.std.specs.Prelude.{Bool, IsTrue, List, None, Option, Some, [], false, filter, find, is_none, is_some, length, not, option_map, slice_get, suc, true, unwrap_or, zero, ℕ, ◌&&◌, ◌+◌, ◌<◌, ◌||◌, ◌∷◌, ◌≡◌, ◌≤◌}
-
--- no number of the range passes
-no_number : (p : ℕ → Bool) (a n : ℕ) → ((x : ℕ) → a ≤ x → x < a + n → p x ≡ false) → find p (range_with_len a n) ≡ None
-no_number p a zero none = refl
-no_number p a (suc n) none = rw (none a (omega arith) (omega arith)) (no_number p (a + 1) n (λ x low high. none x (omega (arith, low)) (omega (arith, high))))
-
-run_there : (runs : List Run) (r : ℕ) → 1 ≤ r → r < 1 + length runs → is_run runs r ≡ true
-run_there runs zero low high = absurd (omega (arith, low))
-run_there runs (suc r) low high = there runs r (omega (arith, high))
-  where
-    there : {A : Type 0} (xs : List A) (i : ℕ) → i < length xs → is_some (slice_get xs i) ≡ true
-    there [] i less = absurd (omega (arith, less))
-    there (x ∷ xs) zero less = refl
-    there (x ∷ xs) (suc i) less = there xs i (omega (arith, less))
-
-not_none : {A : Type 0} (o : Option A) → is_some o ≡ true → is_none o ≡ false
-not_none None e = absurd (cc)
-not_none (Some x) e = refl
+use Rattle.std.specs.Prelude.{Bool, IsTrue, None, Option, Some, [], false, filter, find, is_none, is_some, length, not, option_map, slice_get, suc, true, unwrap_or, zero, ℕ, ◌&&◌, ◌<◌, ◌||◌, ◌≡◌}
 
 -- each run has ended and no device is out
 pub quiet_where : (s : Configuration) → ((r : ℕ) → is_run s.setting.runs r ≡ true → is_some ((read_of s).run r).ended ≡ true) → ((d : ℕ) → s.grips d ≡ None) → not_quiet s ≡ None
 quiet_where s ended home =
-    let live : find (λ r. is_none ((read_of s).run r).ended) (range_with_len 1 (length s.setting.runs)) ≡ None = no_number (λ r. is_none ((read_of s).run r).ended) 1 (length s.setting.runs) (λ r low high. not_none ((read_of s).run r).ended (ended r (run_there s.setting.runs r low high))) in
-    let out : find (is_out s.grips) (range_with_len 0 (length s.setting.first)) ≡ None = no_number (is_out s.grips) 0 (length s.setting.first) (λ d low high. ap is_some (home d)) in
+    let live : find (λ r. is_none ((read_of s).run r).ended) (range_with_len 1 (length s.setting.runs)) ≡ None = find_none (λ r. is_none ((read_of s).run r).ended) 1 (length s.setting.runs) (λ r low high. not_none ((read_of s).run r).ended (ended r (run_there s.setting.runs r (omega (arith, low)) (omega (arith, high))))) in
+    let out : find (is_out s.grips) (range_with_len 0 (length s.setting.first)) ≡ None = find_none (is_out s.grips) 0 (length s.setting.first) (λ d low high. ap is_some (home d)) in
     rw (live, out) refl
 
 -- where none is left that has not ended each actor has ended
@@ -64,11 +49,6 @@ runs_ended s kept none (suc r) run =
     by_or : (a b : Bool) → a ≡ true → (not a || b) ≡ true → b ≡ true
     by_or true b is e = e
     by_or false b is e = absurd (cc)
-
-    within : {A : Type 0} (xs : List A) (i : ℕ) → is_some (slice_get xs i) ≡ true → i < length xs
-    within [] i e = absurd (cc)
-    within (x ∷ xs) zero e = omega arith
-    within (x ∷ xs) (suc i) e = let h = within xs i e in omega (arith, h)
 
 -- no actor holds a grip
 pub hands_are_empty : {D : Type 0} (s : PlayerState D) → PlayerIsKept s → GripsFit s.hub.setting (read_of (configuration_of s.hub)) (configuration_of s.hub).grips → are_live s ≡ [] → (a : ℕ) (grip : Gripped D Ready) → slice_get s.grips a ≡ Some (Some grip) → ⊥

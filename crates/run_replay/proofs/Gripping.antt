@@ -4,10 +4,11 @@ use Rattle.device_gate.specs.declared.gates.Place.TheVariants.{Home, Out}
 use Rattle.device_gate.specs.declared.gates.Place.{Place}
 use Rattle.device_gate.specs.declared.grips.Ready.{Ready}
 use Rattle.device_gate.specs.declared.slips.Slip.{Slip}
+use Rattle.hub_core.proofs.kept.Finds.{none_found}
 use Rattle.hub_core.specs.OpenHubs.{configuration_of, device_at, grip_in}
 use Rattle.hub_core.specs.declared.purposes.Purpose.{Purpose}
 use Rattle.lock_leasing.specs.Configurations.{has_grip}
-use Rattle.run_replay.proofs.Settings.{find_no, find_only}
+use Rattle.run_replay.proofs.Settings.{find_only}
 use Rattle.run_replay.specs.Players.{PlayerIsKept, PlayerState, play_of}
 use Rattle.run_replay.specs.Replays.{gripped}
 use Rattle.std.proofs.Common.{ap, arith, refl, sym, ◌∙◌}
@@ -27,7 +28,7 @@ is_or_not false no' = refl
 
 -- an actor with nothing in its hand holds no grip
 pub empty_hand : {D : Type 0} (s : PlayerState D) (a acts : ℕ) → PlayerIsKept s → slice_get s.grips a ≡ Some None → gripped (play_of s acts) a ≡ None
-empty_hand {D = D} s a acts kept free = find_no (has_grip (configuration_of s.hub).grips a) _ (λ d. is_or_not (has_grip (configuration_of s.hub).grips a d) (λ e.
+empty_hand {D = D} s a acts kept free = none_found (has_grip (configuration_of s.hub).grips a) _ (λ d. is_or_not (has_grip (configuration_of s.hub).grips a d) (λ e.
     let out = in_place (slice_get s.hub.places d) (device_at s.hub.devices d).purpose a e in
     let hand = kept.out d out.0 out.1 out.2 in
     absurd (let both : ◌≡◌ {A = Option (Option (Gripped D Ready))} (Some None) (Some (Some hand.grip)) = sym free ∙ ap (slice_get s.grips) (sym out.3) ∙ hand.there in cc)))

@@ -5,7 +5,8 @@ use Rattle.device_gate.specs.declared.gates.Place.{Place}
 use Rattle.device_gate.specs.declared.grips.Ready.{Ready}
 use Rattle.device_gate.specs.declared.slips.Slip.{Slip}
 use Rattle.device_gate.specs.declared.slips.Task.{Task}
-use Rattle.run_replay.proofs.Settings.{get_put, put_length, put_other_place, put_same_place}
+use Rattle.hub_core.proofs.kept.HubReads.{get_set}
+use Rattle.run_replay.proofs.Settings.{put_length, put_other_place, put_same_place}
 use Rattle.run_replay.specs.Players.{HavePlans, IsInHand, PlayerIsKept, PlayerState}
 use Rattle.std.proofs.Common.{ap, inl, inr, refl, subst, sym, ◌∙◌}
 use Rattle.std.proofs.lemmas.Option.{slice_get_within}
@@ -33,14 +34,14 @@ pub record Takes {D : Type 0} (s t : PlayerState D) (r : ℕ) (grip : Gripped D 
 taken_grip : {D : Type 0} (s t : PlayerState D) (r a : ℕ) (grip x : Gripped D Ready) → Takes s t r grip → slice_get t.grips a ≡ Some (Some x) → ((a ≡ r) × (x ≡ grip)) ⊎ ((a ≢ r) × (slice_get s.grips a ≡ Some (Some x)))
 taken_grip {D = D} s t r a grip x by at =
     let there : slice_get (slice_set s.grips r (Some grip)) a ≡ Some (Some x) = ap (λ l. slice_get l a) (sym by.grips) ∙ at in
-    elim (get_put s.grips r a (Some grip) (slice_get_within s.grips r None by.free)) [
+    elim (get_set s.grips r a (Some grip) (slice_get_within s.grips r None by.free)) [
       | inl p ↦ inl (p.0, (let both : ◌≡◌ {A = Option (Option (Gripped D Ready))} (Some (Some x)) (Some (Some grip)) = sym there ∙ p.1 in cc))
       | inr q ↦ inr (q.0, sym q.1 ∙ there)
     ]
 
 taken_place : {D : Type 0} (s t : PlayerState D) (r d : ℕ) (grip : Gripped D Ready) → Takes s t r grip → ((d ≡ grip.slip.device.0) × (slice_get t.hub.places d ≡ Some (Out grip.slip grip.task))) ⊎ ((d ≢ grip.slip.device.0) × (slice_get t.hub.places d ≡ slice_get s.hub.places d))
 taken_place s t r d grip by =
-    elim (get_put s.hub.places grip.slip.device.0 d (Out grip.slip grip.task) (slice_get_within s.hub.places grip.slip.device.0 (Home grip.device) by.home)) [
+    elim (get_set s.hub.places grip.slip.device.0 d (Out grip.slip grip.task) (slice_get_within s.hub.places grip.slip.device.0 (Home grip.device) by.home)) [
       | inl p ↦ inl (p.0, ap (λ l. slice_get l d) by.places ∙ p.1)
       | inr q ↦ inr (q.0, ap (λ l. slice_get l d) by.places ∙ q.1)
     ]
@@ -119,7 +120,7 @@ pub record Gives {D : Type 0} (s t : PlayerState D) (a : ℕ) (grip : Gripped D 
 given_grip : {D : Type 0} (s t : PlayerState D) (a b : ℕ) (grip x : Gripped D Ready) (device : D) → Gives s t a grip device → slice_get t.grips b ≡ Some (Some x) → (b ≢ a) × (slice_get s.grips b ≡ Some (Some x))
 given_grip {D = D} s t a b grip x device by at =
     let there : slice_get (slice_set s.grips a None) b ≡ Some (Some x) = ap (λ l. slice_get l b) (sym by.grips) ∙ at in
-    elim (get_put s.grips a b None (slice_get_within s.grips a (Some grip) by.hand)) [
+    elim (get_set s.grips a b None (slice_get_within s.grips a (Some grip) by.hand)) [
       | inl p ↦ absurd (let both : ◌≡◌ {A = Option (Option (Gripped D Ready))} (Some (Some x)) (Some None) = sym there ∙ p.1 in cc)
       | inr q ↦ (q.0, sym q.1 ∙ there)
     ]
@@ -127,7 +128,7 @@ given_grip {D = D} s t a b grip x device by at =
 given_place : {D : Type 0} (s t : PlayerState D) (a d : ℕ) (grip : Gripped D Ready) (device : D) → Gives s t a grip device → PlayerIsKept s
     → ((d ≡ grip.slip.device.0) × (slice_get t.hub.places d ≡ Some (Home device))) ⊎ ((d ≢ grip.slip.device.0) × (slice_get t.hub.places d ≡ slice_get s.hub.places d))
 given_place s t a d grip device by kept =
-    elim (get_put s.hub.places grip.slip.device.0 d (Home device) (slice_get_within s.hub.places grip.slip.device.0 (Out grip.slip grip.task) (kept.held a grip by.hand))) [
+    elim (get_set s.hub.places grip.slip.device.0 d (Home device) (slice_get_within s.hub.places grip.slip.device.0 (Out grip.slip grip.task) (kept.held a grip by.hand))) [
       | inl p ↦ inl (p.0, ap (λ l. slice_get l d) by.places ∙ p.1)
       | inr q ↦ inr (q.0, ap (λ l. slice_get l d) by.places ∙ q.1)
     ]

@@ -29,6 +29,7 @@ use Rattle.run_replay.specs.Players.{HavePlans, PlayerState, are_live, is_ended,
 use Rattle.run_replay.specs.Playing.{IsPicked}
 use Rattle.run_replay.specs.Replays.{Picked}
 use Rattle.std.proofs.Common.{ap, arith, refl, subst, sym, ◌∙◌}
+use Rattle.std.proofs.lemmas.Bool.{eqb-false}
 use Rattle.std.proofs.lemmas.Grind.{common_steps}
 use Rattle.std.specs.List.{range_with_len}
 use Rattle.std.specs.Prelude.{Bool, List, None, Option, Some, [], false, filter, fold, if◌then◌else◌, is_some, length, nat_le, not, option_map, option_to_list, slice_get, slice_set, suc, true, unwrap_or, zero, ℕ, ⊤, ◌&&◌, ◌*◌, ◌++◌, ◌<◌, ◌==◌, ◌∷◌, ◌≡◌, ◌≢◌, ◌||◌}
@@ -182,9 +183,6 @@ given_ends {D = D} now s t a grip done entries same by q =
 
 -- The list of those that have not ended
 
-apart : (x a : ℕ) → (x == a) ≡ false → x ≢ a
-apart x a is same = let no : (x == a) ≡ true = grind (arith, common_steps) in let both : true ≡ false = sym no ∙ is in cc
-
 -- the actor that has ended is taken out, and no other
 pub actors_left : {D : Type 0} (s t : PlayerState D) (a : ℕ) → length t.grips ≡ length s.grips → ((q : ℕ) → q ≢ a → is_ended t q ≡ is_ended s q) → is_ended t a ≡ true → filter (λ q. not (q == a)) (are_live s) ≡ are_live t
 actors_left s t a size others over = left (range_with_len 0 (length s.grips)) ∙ ap (λ n. filter (λ q. not (is_ended t q)) (range_with_len 0 n)) (sym size)
@@ -193,8 +191,8 @@ actors_left s t a size others over = left (range_with_len 0 (length s.grips)) �
         → filter (λ q. not (q == a)) (filter (λ q. not (is_ended s q)) (x ∷ xs)) ≡ filter (λ q. not (is_ended t q)) (x ∷ xs)
     step x xs rest true is true was = let same : x ≡ a = grind (arith, common_steps) in let gone : is_ended t x ≡ true = ap (is_ended t) same ∙ over in rw (was, gone) rest
     step x xs rest true is false was = let same : x ≡ a = grind (arith, common_steps) in let gone : is_ended t x ≡ true = ap (is_ended t) same ∙ over in rw (was, gone, is) rest
-    step x xs rest false is true was = let stays : is_ended t x ≡ true = others x (apart x a is) ∙ was in rw (was, stays) rest
-    step x xs rest false is false was = let stays : is_ended t x ≡ false = others x (apart x a is) ∙ was in rw (was, stays, is) (ap (λ ys. x ∷ ys) rest)
+    step x xs rest false is true was = let stays : is_ended t x ≡ true = others x (eqb-false x a is) ∙ was in rw (was, stays) rest
+    step x xs rest false is false was = let stays : is_ended t x ≡ false = others x (eqb-false x a is) ∙ was in rw (was, stays, is) (ap (λ ys. x ∷ ys) rest)
 
     left : (xs : List ℕ) → filter (λ q. not (q == a)) (filter (λ q. not (is_ended s q)) xs) ≡ filter (λ q. not (is_ended t q)) xs
     left [] = refl
@@ -209,7 +207,7 @@ actors_stay s t a size others own = same_filter (range_with_len 0 (length s.grip
       where
         by_actor : (b : Bool) → (q == a) ≡ b → is_ended t q ≡ is_ended s q
         by_actor true is = let same : q ≡ a = grind (arith, common_steps) in ap (is_ended t) same ∙ own ∙ ap (is_ended s) (sym same)
-        by_actor false is = others q (apart q a is)
+        by_actor false is = others q (eqb-false q a is)
 
     same_filter : (xs : List ℕ) → filter (λ q. not (is_ended s q)) xs ≡ filter (λ q. not (is_ended t q)) xs
     same_filter [] = refl

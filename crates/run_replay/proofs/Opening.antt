@@ -4,15 +4,14 @@ use Rattle.device_gate.specs.declared.gates.Place.TheVariants.{Out}
 use Rattle.device_gate.specs.declared.grips.Ready.{Ready}
 use Rattle.device_gate.specs.declared.slips.Slip.{Slip}
 use Rattle.device_gate.specs.declared.slips.Task.{Task}
-use Rattle.history_book.specs.Settings.{Setting, is_device}
+use Rattle.history_book.specs.Settings.{Setting}
 use Rattle.hub_core.specs.Homes.{HomeState}
 use Rattle.hub_core.specs.HubCalls.{IsOpened as IsOpenedOn}
 use Rattle.hub_core.specs.OpenHubs.{OpenHub, configuration_of, device_at, grip_in}
 use Rattle.hub_core.specs.Steps.{opened}
 use Rattle.run_replay.specs.Players.{HoldNothing, IsOpened, PlayerIsKept, PlayerState}
 use Rattle.std.proofs.Common.{ap, arith, refl, subst, sym, ◌∙◌}
-use Rattle.std.proofs.lemmas.Grind.{common_steps}
-use Rattle.std.specs.Prelude.{List, Option, Some, if◌then◌else◌, length, slice_get, true, ℕ, ◌*◌, ◌+◌, ◌<◌, ◌^◌, ◌≡◌, ◌≤◌}
+use Rattle.std.specs.Prelude.{List, Option, Some, length, slice_get, ℕ, ◌*◌, ◌+◌, ◌<◌, ◌^◌, ◌≡◌, ◌≤◌}
 
 -- the player of the hub, with these hands
 abbrev pub player_of : {D : Type 0} → OpenHub D → List (Option (Gripped D Ready)) → ℕ → PlayerState D
@@ -50,11 +49,3 @@ is_opened hub grips rounds fresh none = record {
 
 pub fresh_where : {D : Type 0} (turns probes faults : D → ℕ) (w : Setting) (rounds : ℕ) (home : HomeState D) (hub : OpenHub D) → IsOpenedOn turns probes faults w rounds home hub → configuration_of hub ≡ opened hub.setting hub.rounds
 fresh_where turns probes faults w rounds home hub is = is.configuration ∙ sym (ap (λ v. opened v rounds) (ap (λ c. c.setting) is.configuration)) ∙ ap (λ n. opened hub.setting n) (sym is.rounds_are)
-
--- .. in as many rounds as it was opened with
-pub rounds_where : {D : Type 0} (turns probes faults : D → ℕ) (w : Setting) (rounds : ℕ) (home : HomeState D) (hub : OpenHub D) → IsOpenedOn turns probes faults w rounds home hub → (d : ℕ) → d < length hub.setting.first → rounds ≤ (configuration_of hub).probes d
-rounds_where turns probes faults w rounds home hub is d low =
-    let inside : d < length w.first = subst (λ v. d < length v.first) (ap (λ c. c.setting) is.configuration) low in
-    let there : is_device w d ≡ true = grind (arith, common_steps, inside) in
-    let all : (configuration_of hub).probes d ≡ rounds = ap (λ c. c.probes d) is.configuration ∙ ap (λ b. if b then rounds else 0) there in
-    omega (arith, all)

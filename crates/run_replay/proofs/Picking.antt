@@ -9,6 +9,7 @@ use Rattle.hub_core.specs.OpenHubs.{configuration_of}
 use Rattle.hub_core.specs.Steps.{Absent, Choice, HandsOut, Moves, Over, Waits, after_choice, after_give, after_take, after_take_probe, at_moment, choice_of, give_entries, may_probe, probe_grip}
 use Rattle.lock_leasing.specs.Configurations.{Configuration, Grip, Purpose, read_of}
 use Rattle.run_replay.proofs.Gripping.{empty_hand, full_hand}
+use Rattle.run_replay.proofs.Settings.{there}
 use Rattle.run_replay.specs.Players.{PlayerIsKept, PlayerState, is_ended, is_full, play_of}
 use Rattle.run_replay.specs.Playing.{IsPicked, IsStepped, Tells}
 use Rattle.run_replay.specs.Replays.{Course, Made, Passed, Picked, Play, Took, act_on, counted, detector_takes, gripped, has_ended, passes, pick, pick_live, picked_by, run_takes, takes_of}
@@ -26,11 +27,6 @@ no_hand : {A : Type 0} (o : Option (Option A)) → unwrap_or (option_map is_some
 no_hand None e some = absurd (cc)
 no_hand (Some None) e some = refl
 no_hand (Some (Some x)) e some = absurd (cc)
-
-there : {A : Type 0} (xs : List A) (r : ℕ) → r < length xs → is_some (slice_get xs r) ≡ true
-there [] r low = absurd (omega (arith, low))
-there (x ∷ xs) zero low = refl
-there (x ∷ xs) (suc r) low = there xs r (omega (arith, low))
 
 -- the grip in the hand of an actor
 pub full_is : {D : Type 0} (s : PlayerState D) (a : ℕ) → is_full s a ≡ true → (grip : Gripped D Ready) × (slice_get s.grips a ≡ Some (Some grip))

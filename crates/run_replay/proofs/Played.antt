@@ -1,6 +1,4 @@
 -- Picks played one after another.
-use Rattle.hub_core.specs.HubCalls.{SameWindow}
-use Rattle.hub_core.specs.OpenHubs.{OpenHub}
 use Rattle.run_replay.proofs.Tellings.{played_more}
 use Rattle.run_replay.specs.Players.{PlayerState, play_of}
 use Rattle.run_replay.specs.Playing.{IsPicked, IsPlayed}
@@ -33,9 +31,3 @@ take_whole (y ∷ xs) (suc i) low = ap (λ zs. y ∷ zs) (take_whole xs i (omega
 -- the list is played
 pub played_whole : {D : Type 0} (start s : PlayerState D) (rounds i : ℕ) (picks : List ℕ) → length picks ≤ i → ((acts : ℕ) → (later : ℕ) × IsPlayed rounds (take i picks) (play_of start acts) (play_of s later)) → (acts : ℕ) → (later : ℕ) × IsPlayed rounds picks (play_of start acts) (play_of s later)
 played_whole start s rounds i picks low before acts = let first = before acts in (first.0, subst (λ xs. IsPlayed rounds xs (play_of start acts) (play_of s first.0)) (take_whole picks i low) first.1)
-
-pub same_player : {D : Type 0} (s : OpenHub D) → SameWindow s s
-same_player s = record { setting = refl; rounds = refl; opened = refl; at_opening = λ d. refl }
-
-pub later_window : {D : Type 0} (s t u : OpenHub D) → SameWindow s t → SameWindow t u → SameWindow s u
-later_window s t u one two = record { setting = two.setting ∙ one.setting; rounds = two.rounds ∙ one.rounds; opened = two.opened ∙ one.opened; at_opening = λ d. two.at_opening d ∙ one.at_opening d }

@@ -11,6 +11,7 @@ use Rattle.hub_core.specs.HubSteps.{Gave, GiveProbe, HubStep, IsSlipOf, Refused,
 use Rattle.hub_core.specs.OpenHubs.{OpenHub, carried_in, configuration_of, state_of}
 use Rattle.hub_core.specs.Steps.{after_give, after_take_probe, give_entries, may_probe, probe_grip}
 use Rattle.history_book.specs.Readings.{put}
+use Rattle.hub_core.proofs.calls.HubChanges.{length_with}
 use Rattle.lock_leasing.specs.Configurations.{Commands, Configuration, Probes, Purpose, Undoes, read_of}
 use Rattle.run_replay.proofs.Acting.{hand_by, out_of_hand, purpose_at}
 use Rattle.run_replay.proofs.Holding.{Gives, Moves, Takes, gives_keeps, gives_plans, moves_keeps, moves_plans, takes_keeps, takes_plans}
@@ -18,7 +19,7 @@ use Rattle.hub_core.proofs.steps.HubAnswers.{gave_probe_back, probe_never_refuse
 use Rattle.run_replay.proofs.Leaving.{give_ended, same_ends}
 use Rattle.run_replay.proofs.Picking.{acted_is_stepped, detector_passed, detector_took, empty_is, next_device}
 use Rattle.run_replay.proofs.Stepping.{passed_fewer, probed_fewer, returned_fewer}
-use Rattle.run_replay.proofs.Taking.{grown, some_slip, stays_by}
+use Rattle.run_replay.proofs.Taking.{some_slip, stays_by}
 use Rattle.run_replay.specs.Players.{HavePlans, PlayerIsKept, PlayerState, is_ended, is_full, play_of, steps_left}
 use Rattle.run_replay.specs.Playing.{IsStepped}
 use Rattle.run_replay.specs.Replays.{Made, Passed, Took, takes_of}
@@ -211,7 +212,7 @@ back_stepped s t acts grip done entries is =
 longer : {D : Type 0} (s t : PlayerState D) (grip : Gripped D Ready) (done : Gripped D Done) (entries : List Entry) → ProbeIsBack s t grip done entries → length s.hub.history ≤ length t.hub.history
 longer s t grip done entries is =
     let whole = ap (λ (c : Configuration). length c.history) (came_back s t grip done entries is).1 in
-    let more = grown s.hub.history 0 (give_entries s.hub.setting (read_of (configuration_of s.hub)) grip.slip.device.0 (record { maker = 0; purpose = purpose_at s grip }) done.stage.told) in
+    let more = length_with s.hub.history 0 (give_entries s.hub.setting (read_of (configuration_of s.hub)) grip.slip.device.0 (record { maker = 0; purpose = purpose_at s grip }) done.stage.told) in
     omega (arith, whole, more)
 
 gives_it : {D : Type 0} (s t : PlayerState D) (grip : Gripped D Ready) (done : Gripped D Done) (entries : List Entry) → ProbeIsBack s t grip done entries → Gives s t 0 grip done.device

@@ -2,8 +2,9 @@
 use Rattle.command_rules.specs.Rosters.{is_run}
 use Rattle.device_gate.specs.declared.gates.Place.TheVariants.{Home, Out}
 use Rattle.device_gate.specs.declared.gates.Place.{Place}
-use Rattle.history_book.proofs.Searches.{Each}
+use Rattle.history_book.proofs.Searches.{Each, none_is}
 use Rattle.history_book.specs.Readings.{is_live}
+use Rattle.hub_core.proofs.kept.Finds.{none_there}
 use Rattle.hub_core.specs.OpenHubs.{configuration_of, device_at, grip_in, purpose_of}
 use Rattle.hub_core.specs.Steps.{Absent, Choice, HandsOut, Moves, Over, Waits, choice_of}
 use Rattle.hub_core.specs.declared.waits.Why.{Why}
@@ -12,7 +13,7 @@ use Rattle.lock_leasing.specs.Places.{GripsFit}
 use Rattle.run_replay.proofs.Gripping.{full_hand}
 use Rattle.run_replay.proofs.Picking.{IsGoing, going_not_ended, take_pick}
 use Rattle.run_replay.proofs.Waiting.{act_never_waits, detector_never_waits}
-use Rattle.run_replay.proofs.Settings.{at_or_past}
+use Rattle.run_replay.proofs.Settings.{at_or_past, both_are, there, within}
 use Rattle.run_replay.specs.Players.{PlayerIsKept, PlayerState, play_of}
 use Rattle.run_replay.specs.Replays.{Course, Pick, Play, actors, from_place, gripped, has_ended, pick, picked_by, waits}
 use Rattle.std.proofs.Common.{ap, arith, inl, inr, refl, subst, sym, ◌∙◌}
@@ -20,7 +21,7 @@ use Rattle.std.proofs.lemmas.Grind.{common_steps}
 use Rattle.std.proofs.lemmas.List.{take-append-drop}
 use Rattle.std.proofs.lemmas.Option.{slice_get_within}
 use Rattle.std.specs.List.{range_with_len}
-use Rattle.std.specs.Prelude.{Bool, IsTrue, List, None, Option, Some, [], drop, false, filter, find, if◌then◌else◌, is_none, is_some, length, not, slice_get, suc, take, true, zero, ℕ, ◌&&◌, ◌++◌, ◌+◌, ◌<◌, ◌||◌, ◌∷◌, ◌≡◌, ◌≢◌, ◌≤◌}
+use Rattle.std.specs.Prelude.{Bool, IsTrue, List, None, Option, Some, [], drop, false, filter, find, if◌then◌else◌, is_some, length, not, slice_get, suc, take, true, zero, ℕ, ◌&&◌, ◌++◌, ◌+◌, ◌<◌, ◌∷◌, ◌≡◌, ◌≢◌, ◌≤◌}
 
 -- what holds of each number of a range that passes a test holds of the one
 pub each_at : (Q : ℕ → Type 0) (p : ℕ → Bool) (from n a : ℕ) → Each Q (filter p (range_with_len from n)) → from ≤ a → a < from + n → p a ≡ true → Q a
@@ -70,28 +71,12 @@ wait_of course p a all low going = each_at (λ b. waits (pick course p b).picked
 -- a run that goes on is one of the window
 run_within : (s : Configuration) (r : ℕ) → IsGoing s r → r < length s.setting.runs + 1
 run_within s zero going = absurd (let no : false ≡ true = going.0 in cc)
-run_within s (suc r) going = let low = within s.setting.runs going.0 in omega (arith, low)
-  where
-    within : {A : Type 0} (xs : List A) → is_some (slice_get xs r) ≡ true → r < length xs
-    within xs some = by_option xs (slice_get xs r) refl some
-      where
-        by_option : {A : Type 0} (xs : List A) (o : Option A) → slice_get xs r ≡ o → is_some o ≡ true → r < length xs
-        by_option xs None at some = absurd (cc)
-        by_option xs (Some x) at some = slice_get_within xs r x at
-
-both_are : (a b : Bool) → (not a || b) ≡ false → (a ≡ true) × (b ≡ false)
-both_are true false e = (refl, refl)
-both_are true true e = absurd (cc)
-both_are false b e = absurd (cc)
-
-none_of : {A : Type 0} (o : Option A) → is_some o ≡ false → o ≡ None
-none_of None e = refl
-none_of (Some x) e = absurd (cc)
+run_within s (suc r) going = let low = within s.setting.runs r going.0 in omega (arith, low)
 
 -- a run that has not ended goes on
 pub is_going : (course : Course) (p : Play) (r : ℕ) → has_ended course p r ≡ false → 0 < r → IsGoing p.configuration r
 is_going course p zero on some = absurd (omega (arith, some))
-is_going course p (suc r) on some = let two = both_are (is_run p.configuration.setting.runs (suc r)) (is_some ((read_of p.configuration).run (suc r)).ended) on in (two.0, none_of ((read_of p.configuration).run (suc r)).ended two.1)
+is_going course p (suc r) on some = let two = both_are (is_run p.configuration.setting.runs (suc r)) (is_some ((read_of p.configuration).run (suc r)).ended) on in (two.0, none_there ((read_of p.configuration).run (suc r)).ended two.1)
 
 -- an actor with a grip acts
 acts_on : (course : Course) (p : Play) (a d : ℕ) → has_ended course p a ≡ false → gripped p a ≡ Some d → waits (pick course p a).picked ≡ false
@@ -113,22 +98,13 @@ none_out {D = D} course s acts d kept size fit all (Some (Out slip task)) at = a
     let both : true ≡ false = sym waited ∙ moved in cc)
   where
     live_going : (r : ℕ) → is_live (read_of (configuration_of s.hub)) r ≡ true → ((read_of (configuration_of s.hub)).run r).ended ≡ None
-    live_going r live = by_end ((read_of (configuration_of s.hub)).run r).ended (grind (arith, common_steps))
-      where
-        by_end : {A : Type 0} (o : Option A) → is_none o ≡ true → o ≡ None
-        by_end None e = refl
-        by_end (Some x) e = absurd (cc)
+    live_going r live = none_is ((read_of (configuration_of s.hub)).run r).ended (grind (arith, common_steps))
 
     live_of : (r : ℕ) (b c : Bool) → IsTrue (is_live (read_of (configuration_of s.hub)) r && b && c) → is_live (read_of (configuration_of s.hub)) r ≡ true
     live_of r b c e = grind (arith, common_steps)
 
-    is_there : {A : Type 0} (xs : List A) (r : ℕ) → r < length xs → is_some (slice_get xs r) ≡ true
-    is_there [] r low = absurd (omega (arith, low))
-    is_there (x ∷ xs) zero low = refl
-    is_there (x ∷ xs) (suc r) low = is_there xs r (omega (arith, low))
-
     going_on : (r : ℕ) → suc r < length s.hub.setting.runs + 1 → is_live (read_of (configuration_of s.hub)) (suc r) ≡ true → has_ended course (play_of s acts) (suc r) ≡ false
-    going_on r low live = going_not_ended course (play_of s acts) (suc r) (is_there s.hub.setting.runs r (omega (arith, low)), live_going (suc r) live)
+    going_on r low live = going_not_ended course (play_of s acts) (suc r) (there s.hub.setting.runs r (omega (arith, low)), live_going (suc r) live)
 
     by_purpose : (a : ℕ) (purpose : Purpose) → a < length s.hub.setting.runs + 1 → (configuration_of s.hub).grips d ≡ Some (record { maker = a; purpose = purpose }) → (e : ℕ) → gripped (play_of s acts) a ≡ Some e → has_ended course (play_of s acts) a ≡ false
     by_purpose zero purpose low out e holds = rw holds refl

@@ -12,6 +12,7 @@ use Rattle.hub_core.specs.Steps.{not_quiet}
 use Rattle.run_replay.proofs.Ending.{quiet_at_end}
 use Rattle.run_replay.proofs.Living.{actors_are}
 use Rattle.run_replay.proofs.Tellings.{replays}
+use Rattle.run_replay.proofs.Trying.{same_window}
 use Rattle.run_replay.specs.Players.{HavePlans, IsOpened, PlayerIsKept, PlayerState, play_of}
 use Rattle.run_replay.specs.Playing.{IsFinished, IsPlayed}
 use Rattle.run_replay.specs.ReplayedWindows.{IsReplayed}
@@ -31,19 +32,8 @@ pub record Went {D : Type 0} (hub : OpenHub D) (picks : List ℕ) (seed rounds :
   pub rounds_played : played.rounds ≡ first.rounds
   pub rounds_last : last.rounds ≡ played.rounds
 
-pub same_window : {D : Type 0} (s t u : OpenHub D) → SameWindow s t → SameWindow t u → SameWindow s u
-same_window s t u a b = record {
-  setting = b.setting ∙ a.setting;
-  rounds = b.rounds ∙ a.rounds;
-  opened = b.opened ∙ a.opened;
-  at_opening = λ d. b.at_opening d ∙ a.at_opening d;
-}
-
 window_of : {D : Type 0} (hub : OpenHub D) (picks : List ℕ) (seed rounds : ℕ) (first played last : PlayerState D) → Went hub picks seed rounds first played last → SameWindow hub last.hub
 window_of hub picks seed rounds first played last went = subst (λ h. SameWindow h last.hub) went.opens.own (same_window first.hub played.hub last.hub went.window went.still)
-
-last_rounds : {D : Type 0} (hub : OpenHub D) (picks : List ℕ) (seed rounds : ℕ) (first played last : PlayerState D) → Went hub picks seed rounds first played last → last.rounds ≡ rounds
-last_rounds hub picks seed rounds first played last went = went.rounds_last ∙ went.rounds_played ∙ went.opens.detector
 
 -- how many acts were told when every actor had ended
 abbrev acts_of : {D : Type 0} (hub : OpenHub D) (picks : List ℕ) (seed rounds : ℕ) (first played last : PlayerState D) → Went hub picks seed rounds first played last → ℕ

@@ -2,17 +2,7 @@
 use Rattle.run_replay.specs.Players.{empty_places}
 use Rattle.std.proofs.Common.{ap, inl, inr, arith, refl, sym, ◌∙◌}
 use Rattle.std.specs.List.{range_with_len}
-use Rattle.std.specs.Prelude.{Bool, List, None, Option, Some, [], false, find, length, slice_get, slice_set, suc, true, zero, ℕ, ◌+◌, ◌<◌, ◌∷◌, ◌≡◌, ◌≢◌, ◌≤◌, ◌⊎◌}
-
--- the item that was put, or another
-pub get_put : {A : Type 0} (xs : List A) (i j : ℕ) (y : A) → i < length xs
-    → ((j ≡ i) × (slice_get (slice_set xs i y) j ≡ Some y)) ⊎ ((j ≢ i) × (slice_get (slice_set xs i y) j ≡ slice_get xs j))
-get_put [] i j y h = absurd (omega (arith, h))
-get_put (x ∷ xs) zero zero y h = inl (refl, refl)
-get_put (x ∷ xs) zero (suc j) y h = inr ((λ e. absurd (omega (arith, e))), refl)
-get_put (x ∷ xs) (suc i) zero y h = inr ((λ e. absurd (omega (arith, e))), refl)
-get_put (x ∷ xs) (suc i) (suc j) y h =
-    elim (get_put xs i j y (omega (arith, h))) [ inl p ↦ inl (ap (λ n. suc n) p.0, p.1) | inr e ↦ inr ((λ z. e.0 (omega (arith, z))), e.1) ]
+use Rattle.std.specs.Prelude.{Bool, List, None, Option, Some, [], false, find, is_some, length, not, slice_get, slice_set, suc, true, zero, ℕ, ◌+◌, ◌<◌, ◌∷◌, ◌≡◌, ◌≢◌, ◌≤◌, ◌||◌, ◌⊎◌}
 
 pub put_same_place : {A : Type 0} (xs : List A) (i : ℕ) (y : A) → i < length xs → slice_get (slice_set xs i y) i ≡ Some y
 put_same_place [] i y h = absurd (omega (arith, h))
@@ -65,7 +55,20 @@ find_only p a (suc n) d low high is only = find_step p a n d (p a) refl (λ yes'
     past : p a ≡ false → a + 1 ≤ d
     past e = elim (at_or_past a d low) [ inl same ↦ absurd (let both : true ≡ false = sym is ∙ ap p same ∙ e in cc) | inr more ↦ more ]
 
--- .. and where none does
-pub find_no : (p : ℕ → Bool) (xs : List ℕ) → ((e : ℕ) → p e ≡ false) → find p xs ≡ None
-find_no p [] none = refl
-find_no p (x ∷ xs) none = rw (none x) (find_no p xs none)
+-- within a list there is an item
+pub there : {A : Type 0} (xs : List A) (i : ℕ) → i < length xs → is_some (slice_get xs i) ≡ true
+there [] i less = absurd (omega (arith, less))
+there (x ∷ xs) zero less = refl
+there (x ∷ xs) (suc i) less = there xs i (omega (arith, less))
+
+-- .. and beyond it none
+pub within : {A : Type 0} (xs : List A) (i : ℕ) → is_some (slice_get xs i) ≡ true → i < length xs
+within [] i some = absurd (cc)
+within (x ∷ xs) zero some = omega arith
+within (x ∷ xs) (suc i) some = let h = within xs i some in omega (arith, h)
+
+-- what is neither excused nor so
+pub both_are : (a b : Bool) → (not a || b) ≡ false → (a ≡ true) × (b ≡ false)
+both_are true false e = (refl, refl)
+both_are true true e = absurd (cc)
+both_are false b e = absurd (cc)

@@ -97,11 +97,6 @@ first_full [] x at = absurd (cc)
 first_full (None ∷ xs) x at = absurd (cc)
 first_full (Some y ∷ xs) x at = refl
 
-first_empty : {A : Type 0} (xs : List (Option A)) → slice_get xs 0 ≡ Some None → first_is_full xs ≡ 0
-first_empty [] at = refl
-first_empty (None ∷ xs) at = refl
-first_empty (Some y ∷ xs) at = absurd (cc)
-
 behind_first : {A : Type 0} (xs : List A) (y : A) → drop 1 (slice_set xs 0 y) ≡ drop 1 xs
 behind_first [] y = refl
 behind_first (x ∷ xs) y = refl

@@ -3,9 +3,8 @@ use Rattle.command_rules.specs.Rosters.{is_run}
 use Rattle.device_gate.specs.Grips.{Gripped}
 use Rattle.device_gate.specs.declared.grips.Ready.{Ready}
 use Rattle.device_gate.specs.declared.slips.Slip.{Slip}
-use Rattle.history_book.specs.Histories.{kept_by}
-use Rattle.history_book.specs.declared.entries.Entry.{Entry}
-use Rattle.history_book.specs.declared.entries.Kept.{Kept}
+use Rattle.hub_core.proofs.calls.HubChanges.{length_with}
+use Rattle.hub_core.proofs.kept.Finds.{none_there}
 use Rattle.hub_core.proofs.steps.Choices.{decide_is}
 use Rattle.hub_core.specs.HubCalls.{Answers, GoesOut, SameWindow}
 use Rattle.hub_core.specs.HubSteps.{IsSlipOf, SlipFits}
@@ -18,13 +17,13 @@ use Rattle.hub_core.proofs.steps.HubAnswers.{took_after, took_choice}
 use Rattle.run_replay.proofs.Making.{Makes, choice_makes}
 use Rattle.run_replay.proofs.Gripping.{empty_hand}
 use Rattle.run_replay.proofs.Picking.{IsGoing, empty_is, passed_is_picked, same_moment, taken_is_stepped}
+use Rattle.run_replay.proofs.Settings.{both_are, within}
 use Rattle.run_replay.proofs.Stepping.{StaysBy, made_fewer, still_left, took_fewer}
 use Rattle.run_replay.specs.Players.{HavePlans, PlayerIsKept, PlayerStands, PlayerState, is_ended, is_full, most_made, play_of, steps_left}
 use Rattle.run_replay.specs.Playing.{IsPicked, IsStepped}
 use Rattle.run_replay.specs.Replays.{Passed, Took, picked_by}
-use Rattle.std.proofs.Common.{ap, arith, refl, subst, sym, ◌∙◌}
-use Rattle.std.proofs.lemmas.List.{length-append}
-use Rattle.std.specs.Prelude.{Bool, List, None, Option, Some, [], false, is_some, length, not, slice_get, slice_set, suc, true, zero, ℕ, ◌*◌, ◌++◌, ◌+◌, ◌<◌, ◌^◌, ◌||◌, ◌∷◌, ◌≡◌, ◌≢◌, ◌≤◌}
+use Rattle.std.proofs.Common.{ap, arith, subst, sym, ◌∙◌}
+use Rattle.std.specs.Prelude.{Bool, None, Some, false, is_some, length, slice_get, slice_set, suc, true, zero, ℕ, ◌*◌, ◌<◌, ◌^◌, ◌≡◌, ◌≢◌, ◌≤◌}
 
 -- What is known before
 
@@ -35,54 +34,27 @@ pub record IsFree {D : Type 0} (s : PlayerState D) (r : ℕ) : Type 0 where
   pub going : is_ended s r ≡ false
   pub empty : is_full s r ≡ false
 
-both_are : (a b : Bool) → (not a || b) ≡ false → (a ≡ true) × (b ≡ false)
-both_are true false e = (refl, refl)
-both_are true true e = absurd (cc)
-both_are false b e = absurd (cc)
-
-none_of : {A : Type 0} (o : Option A) → is_some o ≡ false → o ≡ None
-none_of None e = refl
-none_of (Some x) e = absurd (cc)
-
 goes : {D : Type 0} (s : PlayerState D) (r : ℕ) → 0 < r → is_ended s r ≡ false → IsGoing (configuration_of s.hub) r
 goes s zero some on = absurd (omega (arith, some))
-goes s (suc r) some on = let two = both_are (is_run s.hub.setting.runs (suc r)) (is_some ((read_of (configuration_of s.hub)).run (suc r)).ended) on in (two.0, none_of ((read_of (configuration_of s.hub)).run (suc r)).ended two.1)
-
-within : {A : Type 0} (xs : List A) (i : ℕ) → is_some (slice_get xs i) ≡ true → i < length xs
-within [] i e = absurd (cc)
-within (x ∷ xs) zero e = omega arith
-within (x ∷ xs) (suc i) e = let h = within xs i e in omega (arith, h)
+goes s (suc r) some on = let two = both_are (is_run s.hub.setting.runs (suc r)) (is_some ((read_of (configuration_of s.hub)).run (suc r)).ended) on in (two.0, none_there ((read_of (configuration_of s.hub)).run (suc r)).ended two.1)
 
 run_low : {D : Type 0} (s : PlayerState D) (r : ℕ) → PlayerIsKept s → IsGoing (configuration_of s.hub) r → r < length s.grips
 run_low s zero kept going = absurd (let no : false ≡ true = going.0 in cc)
 run_low s (suc r) kept going = let low = within s.hub.setting.runs r going.0 in let actors = kept.actors in omega (arith, low, actors)
 
-free_hand : {D : Type 0} (s : PlayerState D) (r : ℕ) → IsFree s r → slice_get s.grips r ≡ Some None
-free_hand s r free = empty_is s r free.empty (run_low s r free.kept (goes s r free.run free.going))
+-- the hand of a free run is empty
+pub hand_is_empty : {D : Type 0} (s : PlayerState D) (r : ℕ) → IsFree s r → slice_get s.grips r ≡ Some None
+hand_is_empty s r free = empty_is s r free.empty (run_low s r free.kept (goes s r free.run free.going))
 
 pub going_of : {D : Type 0} (s : PlayerState D) (r : ℕ) → IsFree s r → IsGoing (configuration_of s.hub) r
 going_of s r free = goes s r free.run free.going
 
-pub hand_is_there : {D : Type 0} (s : PlayerState D) (r : ℕ) → IsFree s r → r < length s.grips
-hand_is_there s r free = run_low s r free.kept (going_of s r free)
-
--- the hand of a free run is empty
-pub hand_is_empty : {D : Type 0} (s : PlayerState D) (r : ℕ) → IsFree s r → slice_get s.grips r ≡ Some None
-hand_is_empty s r free = free_hand s r free
-
 -- Histories grow
-
-kept_length : (maker : ℕ) (entries : List Entry) → length (kept_by maker entries) ≡ length entries
-kept_length maker [] = refl
-kept_length maker (e ∷ entries) = ap (λ n. suc n) (kept_length maker entries)
-
-pub grown : (h : List Kept) (maker : ℕ) (entries : List Entry) → length (h ++ kept_by maker entries) ≡ length h + length entries
-grown h maker entries = length-append h (kept_by maker entries) ∙ ap (λ n. length h + n) (kept_length maker entries)
 
 history_by : (s : Configuration) (r : ℕ) (c : Choice) → length s.history ≤ length (after_choice s r c).history
 history_by s r Absent = omega arith
-history_by s r (Over e entries) = let h = grown s.history r entries in omega (arith, h)
-history_by s r (Moves entries) = let h = grown s.history r entries in omega (arith, h)
+history_by s r (Over e entries) = let h = length_with s.history r entries in omega (arith, h)
+history_by s r (Moves entries) = let h = length_with s.history r entries in omega (arith, h)
 history_by s r (Waits why) = omega arith
 history_by s r (HandsOut d purpose) = omega arith
 
@@ -96,8 +68,8 @@ makes (HandsOut d purpose) = false
 
 more_by : (s : Configuration) (r : ℕ) (c : Choice) → makes c ≡ true → Makes c → length s.history < length (after_choice s r c).history
 more_by s r Absent yes' some = absurd (cc)
-more_by s r (Over e entries) yes' some = let h = grown s.history r entries in omega (arith, h, some)
-more_by s r (Moves entries) yes' some = let h = grown s.history r entries in omega (arith, h, some)
+more_by s r (Over e entries) yes' some = let h = length_with s.history r entries in omega (arith, h, some)
+more_by s r (Moves entries) yes' some = let h = length_with s.history r entries in omega (arith, h, some)
 more_by s r (Waits why) yes' some = absurd (cc)
 more_by s r (HandsOut d purpose) yes' some = absurd (cc)
 

@@ -63,7 +63,7 @@ draw_more course (suc k) s = draw_more course k (draw_once course s)
 abbrev course_of : ℕ → List Told → Course
 course_of rounds told = record { rounds = rounds; told = λ k. slice_index_or told k Worked }
 
-index_or_get : {A : Type 0} (xs : List A) (k : ℕ) (x other : A) → slice_get xs k ≡ Some x → slice_index_or xs k other ≡ x
+pub index_or_get : {A : Type 0} (xs : List A) (k : ℕ) (x other : A) → slice_get xs k ≡ Some x → slice_index_or xs k other ≡ x
 index_or_get [] k x other e = absurd (cc)
 index_or_get (y ∷ xs) zero x other e = cc
 index_or_get (y ∷ xs) (suc k) x other e = index_or_get xs k x other e

@@ -13,26 +13,23 @@ use Rattle.run_replay.proofs.Progress.{each_from_place, not_all_wait}
 use Rattle.run_replay.proofs.Settings.{at_or_past}
 use Rattle.run_replay.proofs.Waiting.{wait_keeps, waited}
 use Rattle.run_replay.proofs.Stepping.{same_most}
+use Rattle.run_replay.proofs.Tellings.{index_or_get}
 use Rattle.run_replay.specs.Players.{PlayerIsKept, PlayerStands, PlayerState, are_live, empty_places, first_is_full, is_ended, is_full, most_made, play_of, steps_left}
 use Rattle.run_replay.specs.Playing.{GoesOn, IsPicked, IsTried, Tells}
 use Rattle.run_replay.specs.Replays.{Course, Pick, Picked, Play, actors, from_place, gripped, pick, pick_first, waits}
 use Rattle.std.proofs.Common.{ap, arith, inl, inr, refl, subst, sym, ◌∙◌}
+use Rattle.std.proofs.lemmas.Bool.{not-true}
 use Rattle.std.proofs.lemmas.List.{length-append, take-append-drop}
 use Rattle.std.proofs.lemmas.Option.{slice_get_within}
 use Rattle.std.specs.Prelude.{Bool, List, None, Option, Some, [], drop, false, is_some, length, not, option_map, slice_get, slice_index_or, suc, take, true, unwrap_or, zero, ℕ, ◌*◌, ◌++◌, ◌+◌, ◌-◌, ◌<◌, ◌∷◌, ◌≡◌, ◌≤◌}
 
 -- A pick that waits
 
-index_or_at : {A : Type 0} (xs : List A) (k : ℕ) (x other : A) → slice_get xs k ≡ Some x → slice_index_or xs k other ≡ x
-index_or_at [] k x other e = absurd (cc)
-index_or_at (y ∷ xs) zero x other e = cc
-index_or_at (y ∷ xs) (suc k) x other e = index_or_at xs k x other e
-
 abbrev teller : ℕ → ℕ → List Told → Course
 teller rounds from told = record { rounds = rounds; told = λ k. slice_index_or told (k - from) Worked }
 
 teller_tells : (rounds from : ℕ) (told : List Told) → Tells (teller rounds from told) from told
-teller_tells rounds from told k t e = let same : from + k - from ≡ k = omega arith in ap (λ n. slice_index_or told n Worked) same ∙ index_or_at told k t Worked e
+teller_tells rounds from told k t e = let same : from + k - from ≡ k = omega arith in ap (λ n. slice_index_or told n Worked) same ∙ index_or_get told k t Worked e
 
 tells_none : (course : Course) (from : ℕ) (told : List Told) → length told ≡ 0 → Tells course from told
 tells_none course from [] none k t at = absurd (cc)
@@ -189,13 +186,9 @@ one_moves old now next all step a picked before at picks moved acts =
     let was = subst (λ n. IsPicked n a (play_of now tried.0) picked (play_of next pick.0)) before.rounds pick.1 in
     (pick.0, tried_moves old.rounds a all (drop (suc step) all) (play_of old acts) (play_of now tried.0) (play_of next pick.0) picked here was moved)
 
-not_true : (b : Bool) → not b ≡ true → b ≡ false
-not_true true e = absurd (cc)
-not_true false e = refl
-
 -- an actor of the list has not ended
 pub goes_on_at : {D : Type 0} (s : PlayerState D) (i a : ℕ) → slice_get (are_live s) i ≡ Some a → (a < length s.grips) × (is_ended s a ≡ false)
-goes_on_at s i a at = let two = of_filter (λ b. not (is_ended s b)) 0 (length s.grips) i a at in let low = two.0 in (omega (arith, low), not_true (is_ended s a) two.1)
+goes_on_at s i a at = let two = of_filter (λ b. not (is_ended s b)) 0 (length s.grips) i a at in let low = two.0 in (omega (arith, low), not-true (is_ended s a) two.1)
 
 pub one_moves_fewer : {D : Type 0} (old now next : PlayerState D) (all : List ℕ) (step a i : ℕ) → HaveWaited old now all step → slice_get (are_live now) i ≡ Some a → (is_ended now a ≡ false → steps_left next < steps_left now) → steps_left next < steps_left old
 one_moves_fewer old now next all step a i before at fewer = subst (λ n. steps_left next < n) before.left (fewer (goes_on_at now i a at).1)

@@ -49,6 +49,7 @@ use Rattle.lock_leasing.specs.Configurations.{Commands, Grips, grips_command}
 use Rattle.lock_leasing.specs.Places.{GripsFit}
 use Rattle.serial_line.specs.Marks.{Marked}
 use Rattle.std.proofs.Common.{ap, append_assoc, ap₂, arith, refl, subst, sym, ◌∙◌}
+use Rattle.std.proofs.Math.Bool.{or-true}
 use Rattle.std.proofs.lemmas.Option.{slice_get_within}
 use Rattle.std.specs.Prelude.{Bool, IsSome, List, None, Option, Some, [], false, fold, if◌then◌else◌, is_some, length, max, not, option_map, option_to_list, slice_get, suc, true, ℕ, ◌+◌, ◌-◌, ◌<◌, ◌∷◌, ◌≡◌, ◌≤◌, ◌&&◌, ◌||◌}
 use Rattle.window_order.proofs.Steps.{home_fits}
@@ -115,15 +116,11 @@ dead_turn h k tag grip returned strong whole =
 dooms_are : (w : Setting) (n : Reading) (r k : ℕ) (d : DeviceNo) (doomed had weak must first : Bool) → (weak ≡ false → first ≡ not had)
     → (if doomed then [] else (if had && not weak then Doomed (run_no r) (Lost d) ∷ [] else (if must then Doomed (run_no r) (MustDown k) ∷ [] else []))) ≡ option_to_list (option_map (λ c. Doomed (run_no r) c) (if doomed then None else (if first || weak then (if must then Some (MustDown k) else None) else Some (Lost d))))
 dooms_are w n r k d true had weak must first told = refl
-dooms_are w n r k d false had true must first told = ap (λ b. if b then Doomed (run_no r) (Lost d) ∷ [] else (if must then Doomed (run_no r) (MustDown k) ∷ [] else [])) (never had) ∙ by_must must ∙ ap (λ b. option_to_list (option_map (λ c. Doomed (run_no r) c) (if b then (if must then Some (MustDown k) else None) else Some (Lost d)))) (sym (always first))
+dooms_are w n r k d false had true must first told = ap (λ b. if b then Doomed (run_no r) (Lost d) ∷ [] else (if must then Doomed (run_no r) (MustDown k) ∷ [] else [])) (never had) ∙ by_must must ∙ ap (λ b. option_to_list (option_map (λ c. Doomed (run_no r) c) (if b then (if must then Some (MustDown k) else None) else Some (Lost d)))) (sym (or-true first))
   where
     never : (b : Bool) → (b && not true) ≡ false
     never true = refl
     never false = refl
-
-    always : (b : Bool) → (b || true) ≡ true
-    always true = refl
-    always false = refl
 
     by_must : (b : Bool) → (if b then Doomed (run_no r) (MustDown k) ∷ [] else []) ≡ option_to_list (option_map (λ c. Doomed (run_no r) c) (if b then Some (MustDown k) else None))
     by_must true = refl

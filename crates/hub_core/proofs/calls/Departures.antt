@@ -12,7 +12,7 @@ use Rattle.device_states.specs.Devices.{HasRoom}
 use Rattle.std.specs.Borrow.{Bor}
 use Rattle.history_book.specs.Histories.{entries_of, is_fall_of}
 use Rattle.history_book.specs.Readings.{put}
-use Rattle.history_book.specs.Settings.{Setting, is_device}
+use Rattle.history_book.specs.Settings.{Setting}
 use Rattle.history_book.specs.declared.entries.Kept.{Kept}
 use Rattle.hub_core.proofs.calls.HubChanges.{few_entries, task_same}
 use Rattle.hub_core.proofs.kept.HubReads.{get_set}
@@ -31,11 +31,10 @@ use Rattle.hub_core.specs.declared.known.DeviceProgress.{DeviceProgress}
 use Rattle.hub_core.specs.declared.purposes.Purpose.{Purpose as KeptPurpose}
 use Rattle.lock_leasing.specs.Configurations.{Grip, is_out, read_of}
 use Rattle.std.proofs.Common.{ap, ap₂, arith, cond, inl, inr, refl, subst, sym, ◌∙◌}
-use Rattle.std.proofs.lemmas.Grind.{common_steps}
 use Rattle.std.proofs.lemmas.List.{length-set}
 use Rattle.std.proofs.lemmas.List.Sums.{count_by-le-length, sum_by-le, sum_by-set}
 use Rattle.std.proofs.lemmas.Nat.{mul-le}
-use Rattle.std.proofs.lemmas.Option.{slice_get_within}
+use Rattle.std.proofs.lemmas.Option.{same_Some, slice_get_within}
 use Rattle.std.specs.Prelude.{Bool, IsTrue, List, None, Option, Some, [], count_by, false, is_some, length, nat_lt, slice_get, slice_set, suc, sum_by, true, zero, ℕ, ⊤, ◌*◌, ◌+◌, ◌-◌, ◌<◌, ◌∷◌, ◌≡◌, ◌≤◌}
 
 -- one where it is so, else none
@@ -46,9 +45,6 @@ pub gone_past : {A : Type 0} (xs : List A) (i : ℕ) → slice_get xs i ≡ None
 gone_past [] i none = omega arith
 gone_past (x ∷ xs) zero none = absurd (cc)
 gone_past (x ∷ xs) (suc i) none = omega (arith, gone_past xs i none)
-
-pub device_within : (w : Setting) (d : ℕ) → is_device w d ≡ true → d < length w.first
-device_within w d home = grind (arith, common_steps)
 
 -- a device that is not out is home
 pub home_place : {D : Type 0} (s : OpenHub D) (d : ℕ) → d < length s.places → is_out (configuration_of s).grips d ≡ false → IsHome s.places d
@@ -202,7 +198,7 @@ gone_kept {D = D} stands turns probes faults s r d left t purpose device slip ta
         | inr q ↦ other_home stands turns probes faults s s.history t _ _ _ e other (device_there s.devices d e known_now q.0) refl refl refl (k.home e other (sym q.1 ∙ there))
       ];
       out = λ e other does there. elim (get_set s.places d e (Out slip task) within) [
-        | inl p ↦ subst (λ (x : Place D). IsFitting e x) (same_place (Out slip task) (Out other does) (sym p.1 ∙ there)) (subst (λ x. IsFitting x (Out slip task)) (sym p.0) goes)
+        | inl p ↦ subst (λ (x : Place D). IsFitting e x) (same_Some (Out slip task) (Out other does) (sym p.1 ∙ there)) (subst (λ x. IsFitting x (Out slip task)) (sym p.0) goes)
         | inr q ↦ other_out s s.history t _ _ _ e other does (device_there s.devices d e known_now q.0) refl refl refl (k.out e other does (sym q.1 ∙ there))
       ];
       low = λ e. subst (λ (c : _). CountsAreLow s.opened c.turns c.probes c.faults) (sym (known_same (λ (p : DeviceProgress). p.at_opening) s.devices d known_now known refl e)) (k.low e);
@@ -232,9 +228,6 @@ gone_kept {D = D} stands turns probes faults s r d left t purpose device slip ta
 
     few_left : (device_at s.devices d).probes_left ≤ s.rounds
     few_left = let most : probes_of (configuration_of s) d ≤ s.rounds = k.configuration.probes d in omega (arith, most)
-
-    same_place : (x y : Place D) → Some x ≡ Some y → x ≡ y
-    same_place x y e = cc
 
     IsFitting : ℕ → Place D → Type 0
     IsFitting e (Home x) = ⊤

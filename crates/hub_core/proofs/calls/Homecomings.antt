@@ -36,7 +36,7 @@ use Rattle.hub_core.specs.declared.known.Events.{Events}
 use Rattle.lock_leasing.specs.Configurations.{Configuration, Grip, Grips, read_of}
 use Rattle.std.proofs.Common.{ap, arith, inl, inr, refl, subst, sym, ◌∙◌}
 use Rattle.std.proofs.lemmas.List.{length-set}
-use Rattle.std.proofs.lemmas.Option.{slice_get_within}
+use Rattle.std.proofs.lemmas.Option.{same_Some, slice_get_within}
 use Rattle.std.specs.Prelude.{Bool, IsTrue, List, None, Option, Some, [], count_by, false, length, nat_lt, option_map, slice_get, slice_set, suc, true, unwrap_or, zero, ℕ, ⊤, ◌++◌, ◌+◌, ◌-◌, ◌<◌, ◌∷◌, ◌≡◌, ◌≢◌, ◌≤◌}
 
 -- The device is home again
@@ -115,7 +115,7 @@ back_kept {D = D} stands turns probes faults s slip task entries device v events
       devices_size = length-set s.devices d known_now ∙ kept.devices_size;
       places_size = length-set s.places d (Home device) ∙ kept.places_size;
       home = λ e other there. elim (get_set s.places d e (Home device) within) [
-        | inl p ↦ subst (λ (x : Place D). IsFitting e x) (same_place (Home device) (Home other) (sym p.1 ∙ there)) (subst (λ x. IsFitting x (Home device)) (sym p.0) comes)
+        | inl p ↦ subst (λ (x : Place D). IsFitting e x) (same_Some (Home device) (Home other) (sym p.1 ∙ there)) (subst (λ x. IsFitting x (Home device)) (sym p.0) comes)
         | inr q ↦ other_home stands turns probes faults s after.history t _ _ _ e other (device_there s.devices d e known_now q.0) (back'.calls_other e q.0) (back'.falls_other e q.0) (back'.up_other e q.0) (kept.home e other (sym q.1 ∙ there))
       ];
       out = λ e other does there. elim (get_set s.places d e (Home device) within) [
@@ -153,9 +153,6 @@ back_kept {D = D} stands turns probes faults s slip task entries device v events
 
     here : device_at (slice_set s.devices d known_now) d ≡ known_now
     here = device_here s.devices d known_now known
-
-    same_place : (x y : Place D) → Some x ≡ Some y → x ≡ y
-    same_place x y e = cc
 
     IsFitting : ℕ → Place D → Type 0
     IsFitting e (Home x) = FitsAtHome stands turns probes faults after e x

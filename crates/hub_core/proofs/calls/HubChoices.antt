@@ -25,12 +25,13 @@ use Rattle.home_types.specs.declared.modes.Visibility.{Visibility}
 use Rattle.home_types.specs.declared.numbers.DeviceNo.{DeviceNo}
 use Rattle.home_types.specs.declared.numbers.RunNo.{RunNo}
 use Rattle.hub_core.proofs.calls.NextUndos.{undo_of}
+use Rattle.hub_core.proofs.kept.Finds.{not_none}
 use Rattle.hub_core.proofs.windows.StrongChoices.{command_current, command_is, doomed_is}
 use Rattle.hub_core.specs.Decisions.{current_command, strong_command, strong_doomed, unbarred_command}
 use Rattle.hub_core.specs.KeptByModel.{IsKeptByModel}
 use Rattle.hub_core.specs.HubsKept.{HubIsKept}
 use Rattle.hub_core.specs.OpenHubs.{OpenHub, configuration_of, grip_in, progress_of}
-use Rattle.hub_core.specs.Steps.{Absent, Choice, HandsOut, Moves, Over, Waits, aborts, choice_of, decide, decide_answered, decide_arrived, decide_command, decide_doomed, down_entries}
+use Rattle.hub_core.specs.Steps.{Absent, Choice, HandsOut, Moves, Over, Waits, aborts, choice_of, decide, decide_answered, decide_command, decide_doomed, down_entries}
 use Rattle.hub_core.specs.declared.known.RunProgress.{RunProgress}
 use Rattle.hub_core.specs.declared.purposes.Purpose.{Purpose as KeptPurpose}
 use Rattle.hub_core.specs.declared.waits.Why.TheVariants.{Behind, Busy, Dirty, Strict}
@@ -46,19 +47,13 @@ use Rattle.lock_leasing.specs.declared.touches.Touch.{Touch}
 use Rattle.serial_line.specs.Marks.{Mark}
 use Rattle.std.proofs.Common.{ap, arith, refl, subst, sym, ◌∙◌}
 use Rattle.std.proofs.lemmas.Grind.{common_steps}
-use Rattle.std.specs.Prelude.{Bool, IsTrue, List, None, Option, Some, [], false, if◌then◌else◌, is_none, is_some, length, max, not, option_map, true, unwrap_or, ℕ, ◌&&◌, ◌<◌, ◌==◌, ◌||◌, ◌∷◌, ◌≡◌}
+use Rattle.std.specs.Prelude.{Bool, IsTrue, List, None, Option, Some, [], false, if◌then◌else◌, is_none, is_some, length, max, not, option_map, true, unwrap_or, ℕ, ◌&&◌, ◌<◌, ◌||◌, ◌∷◌, ◌≡◌}
 use Rattle.visibility_models.specs.Models.{IsDownAtEndOf, IsStrictWaitOf, IsUnderWay, under}
 use Rattle.window_order.proofs.AnsweredDowns.{IsToldDown}
 use Rattle.window_order.proofs.ReadFacts.{read_facts}
 use Rattle.window_order.proofs.Steps.{next_is}
 
 -- The grip and the slip of a place
-
-pub maker_by_slip : {D : Type 0} (o : Option (Place D)) (purpose : KeptPurpose) (r : ℕ) (x : Option Slip) → x ≡ slip_of o
-    → unwrap_or (option_map (λ s. s.maker == r) x) false ≡ unwrap_or (option_map (λ p. p.maker == r) (grip_in o purpose)) false
-maker_by_slip None purpose r x is = rw is refl
-maker_by_slip (Some (Home device)) purpose r x is = rw is refl
-maker_by_slip (Some (Out slip task)) purpose r x is = rw is refl
 
 pub out_by_slip : {D : Type 0} (o : Option (Place D)) (purpose : KeptPurpose) (x : Option Slip) → x ≡ slip_of o → is_some x ≡ is_some (grip_in o purpose)
 out_by_slip None purpose x is = rw is refl
@@ -269,10 +264,6 @@ doomed_ends w n g r cause told = sym (rw (none (next_undo_of w n g r) told) refl
 
 -- The cases of a run
 
-pub case_arrived : (w : Setting) (n : Reading) (g : Grips) (r m : ℕ) (x : Choice) → is_run w.runs r ≡ true → (n.run r).ended ≡ None → None ≡ grip_wait w g r → is_none (n.run r).arrived ≡ false → is_none (n.run r).placed ≡ true
-    → x ≡ decide_arrived w n g r m → x ≡ decide w n g r m
-case_arrived w n g r m x run going free there outside is = is ∙ sym (rw (run, going, ← free, there, outside) refl)
-
 pub case_answered : (w : Setting) (n : Reading) (g : Grips) (r m : ℕ) (x : Choice) → is_run w.runs r ≡ true → (n.run r).ended ≡ None → None ≡ grip_wait w g r → is_none (n.run r).arrived ≡ false → is_none (n.run r).placed ≡ false
     → (n.run r).doomed ≡ None → None ≡ next_command w n r → x ≡ decide_answered w n g r → x ≡ decide w n g r m
 case_answered w n g r m x run going free there placed sound none is = is ∙ sym (rw (run, going, ← free, there, placed, sound, ← none) refl)
@@ -301,16 +292,12 @@ hub_answers {D = D} s t r m p x same strong run known going free there placed so
     case_answered s.setting (read_of (configuration_of s)) (configuration_of s).grips r (max s.moment m) x (sym run)
     (ap (λ (y : RunProgress). y.ended) (sym known) ∙ going)
     (free ∙ ap (λ (y : OpenHub D). grip_wait y.setting (configuration_of y).grips r) (sym same))
-    (absent ((read_of (configuration_of s)).run r).arrived (ap (λ (y : RunProgress). is_some y.arrived) (sym known) ∙ there))
-    (absent ((read_of (configuration_of s)).run r).placed (was_placed ((read_of (configuration_of s)).run r).placed (ap (λ (y : RunProgress). is_some y.placed) (sym known) ∙ placed)))
+    (not_none ((read_of (configuration_of s)).run r).arrived (ap (λ (y : RunProgress). is_some y.arrived) (sym known) ∙ there))
+    (not_none ((read_of (configuration_of s)).run r).placed (was_placed ((read_of (configuration_of s)).run r).placed (ap (λ (y : RunProgress). is_some y.placed) (sym known) ∙ placed)))
     (ap (λ (y : RunProgress). y.doomed) (sym known) ∙ sound)
     none
     (is ∙ ap (λ (y : OpenHub D). decide_answered y.setting (read_of (configuration_of y)) (configuration_of y).grips r) (sym same))
     ∙ ap (λ (y : OpenHub D). choice_of (configuration_of y) r m) same
-  where
-    absent : {A : Type 0} (o : Option A) → is_some o ≡ true → is_none o ≡ false
-    absent None e = absurd (cc)
-    absent (Some x) e = refl
 
 pub hub_commands : {D : Type 0} (s t : OpenHub D) (r m : ℕ) (p : RunProgress) (c : Command) (x : Choice) → s ≡ t → is_weak s.setting.mode ≡ false
     → true ≡ is_run s.setting.runs r → p ≡ progress_of ((read_of (configuration_of s)).run r) → p.ended ≡ None → None ≡ grip_wait t.setting (configuration_of t).grips r
@@ -321,17 +308,13 @@ hub_commands {D = D} s t r m p c x same strong run known going free there placed
     case_command s.setting (read_of (configuration_of s)) (configuration_of s).grips r (max s.moment m) c x (sym run)
     (ap (λ (y : RunProgress). y.ended) (sym known) ∙ going)
     (free ∙ ap (λ (y : OpenHub D). grip_wait y.setting (configuration_of y).grips r) (sym same))
-    (absent ((read_of (configuration_of s)).run r).arrived (ap (λ (y : RunProgress). is_some y.arrived) (sym known) ∙ there))
-    (absent ((read_of (configuration_of s)).run r).placed (was_placed ((read_of (configuration_of s)).run r).placed (ap (λ (y : RunProgress). is_some y.placed) (sym known) ∙ placed)))
+    (not_none ((read_of (configuration_of s)).run r).arrived (ap (λ (y : RunProgress). is_some y.arrived) (sym known) ∙ there))
+    (not_none ((read_of (configuration_of s)).run r).placed (was_placed ((read_of (configuration_of s)).run r).placed (ap (λ (y : RunProgress). is_some y.placed) (sym known) ∙ placed)))
     (ap (λ (y : RunProgress). y.doomed) (sym known) ∙ sound)
     next
     (is ∙ ap (λ (y : OpenHub D). strong_command y.setting (read_of (configuration_of y)) (configuration_of y).grips r (max y.moment m) p.answered c) (sym same) ∙ ap (λ (y : RunProgress). strong_command s.setting (read_of (configuration_of s)) (configuration_of s).grips r (max s.moment m) y.answered c) known
     ∙ sym (command_is s.setting (read_of (configuration_of s)) (configuration_of s).grips r (max s.moment m) (next_of (read_of (configuration_of s)) r) c strong))
     ∙ ap (λ (y : OpenHub D). choice_of (configuration_of y) r m) same
-  where
-    absent : {A : Type 0} (o : Option A) → is_some o ≡ true → is_none o ≡ false
-    absent None e = absurd (cc)
-    absent (Some y) e = refl
 
 pub hub_dooms : {D : Type 0} (s t : OpenHub D) (r m : ℕ) (p : RunProgress) (cause : Cause) (x : Choice) → s ≡ t → is_weak s.setting.mode ≡ false
     → true ≡ is_run s.setting.runs r → p ≡ progress_of ((read_of (configuration_of s)).run r) → p.ended ≡ None → None ≡ grip_wait t.setting (configuration_of t).grips r
@@ -342,15 +325,11 @@ hub_dooms {D = D} s t r m p cause x same strong run known going free there place
     case_doomed s.setting (read_of (configuration_of s)) (configuration_of s).grips r (max s.moment m) cause x (sym run)
     (ap (λ (y : RunProgress). y.ended) (sym known) ∙ going)
     (free ∙ ap (λ (y : OpenHub D). grip_wait y.setting (configuration_of y).grips r) (sym same))
-    (absent ((read_of (configuration_of s)).run r).arrived (ap (λ (y : RunProgress). is_some y.arrived) (sym known) ∙ there))
-    (absent ((read_of (configuration_of s)).run r).placed (was_placed ((read_of (configuration_of s)).run r).placed (ap (λ (y : RunProgress). is_some y.placed) (sym known) ∙ placed)))
+    (not_none ((read_of (configuration_of s)).run r).arrived (ap (λ (y : RunProgress). is_some y.arrived) (sym known) ∙ there))
+    (not_none ((read_of (configuration_of s)).run r).placed (was_placed ((read_of (configuration_of s)).run r).placed (ap (λ (y : RunProgress). is_some y.placed) (sym known) ∙ placed)))
     (ap (λ (y : RunProgress). y.doomed) (sym known) ∙ doomed)
     (is ∙ ap (λ (y : OpenHub D). strong_doomed y.setting (read_of (configuration_of y)) (configuration_of y).grips r cause) (sym same) ∙ sym (doomed_is s.setting (read_of (configuration_of s)) (configuration_of s).grips r cause strong))
     ∙ ap (λ (y : OpenHub D). choice_of (configuration_of y) r m) same
-  where
-    absent : {A : Type 0} (o : Option A) → is_some o ≡ true → is_none o ≡ false
-    absent None e = absurd (cc)
-    absent (Some y) e = refl
 
 -- .. under the weak model
 case_rest : (w : Setting) (n : Reading) (g : Grips) (r m : ℕ) (x : Choice) → is_run w.runs r ≡ true → (n.run r).ended ≡ None → None ≡ grip_wait w g r → is_none (n.run r).arrived ≡ false → is_none (n.run r).placed ≡ false → is_weak w.mode ≡ true → x ≡ weak_rest w n g r → x ≡ decide w n g r m
@@ -364,27 +343,10 @@ hub_weakly {D = D} s t r m p x same weak run known going free there placed is =
     case_rest s.setting (read_of (configuration_of s)) (configuration_of s).grips r (max s.moment m) x (sym run)
     (ap (λ (y : RunProgress). y.ended) (sym known) ∙ going)
     (free ∙ ap (λ (y : OpenHub D). grip_wait y.setting (configuration_of y).grips r) (sym same))
-    (absent ((read_of (configuration_of s)).run r).arrived (ap (λ (y : RunProgress). is_some y.arrived) (sym known) ∙ there))
-    (absent ((read_of (configuration_of s)).run r).placed (was_placed ((read_of (configuration_of s)).run r).placed (ap (λ (y : RunProgress). is_some y.placed) (sym known) ∙ placed)))
+    (not_none ((read_of (configuration_of s)).run r).arrived (ap (λ (y : RunProgress). is_some y.arrived) (sym known) ∙ there))
+    (not_none ((read_of (configuration_of s)).run r).placed (was_placed ((read_of (configuration_of s)).run r).placed (ap (λ (y : RunProgress). is_some y.placed) (sym known) ∙ placed)))
     weak (is ∙ ap (λ (y : OpenHub D). weak_rest y.setting (read_of (configuration_of y)) (configuration_of y).grips r) (sym same))
     ∙ ap (λ (y : OpenHub D). choice_of (configuration_of y) r m) same
-  where
-    absent : {A : Type 0} (o : Option A) → is_some o ≡ true → is_none o ≡ false
-    absent None e = absurd (cc)
-    absent (Some y) e = refl
-
--- what is left to do, by its cases
-pub rest_aborts : (w : Setting) (n : Reading) (g : Grips) (r : ℕ) (cause : Cause) → (n.run r).doomed ≡ Some cause → aborts r cause ≡ weak_rest w n g r
-rest_aborts w n g r cause doomed = sym (rw doomed refl)
-
-pub rest_commits : (w : Setting) (n : Reading) (g : Grips) (r : ℕ) → (n.run r).doomed ≡ None → next_command w n r ≡ None → Over Committed (Ended (run_no r) Committed ∷ []) ≡ weak_rest w n g r
-rest_commits w n g r sound none = sym (rw (sound, none) refl)
-
-pub rest_waits : (w : Setting) (n : Reading) (g : Grips) (r : ℕ) (c : Command) → (n.run r).doomed ≡ None → next_command w n r ≡ Some c → is_out g c.device.0 ≡ true → Waits (Busy c.device) ≡ weak_rest w n g r
-rest_waits w n g r c sound next out = sym (rw (sound, next, out) refl)
-
-pub rest_goes : (w : Setting) (n : Reading) (g : Grips) (r : ℕ) (c : Command) → (n.run r).doomed ≡ None → next_command w n r ≡ Some c → is_out g c.device.0 ≡ false → n.up c.device.0 ≡ true → HandsOut c.device.0 (Commands (next_of n r)) ≡ weak_rest w n g r
-rest_goes w n g r c sound next home up = sym (rw (sound, next, home, up) refl)
 
 pub rest_downs : (w : Setting) (n : Reading) (g : Grips) (r : ℕ) (c : Command) → (n.run r).doomed ≡ None → next_command w n r ≡ Some c → is_out g c.device.0 ≡ false → n.up c.device.0 ≡ false → Moves (down_entries r (next_of n r) c) ≡ weak_rest w n g r
 rest_downs w n g r c sound next home down = sym (rw (sound, next, home, down) refl)

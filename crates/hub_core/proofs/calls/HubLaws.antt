@@ -12,7 +12,6 @@ use Rattle.history_book.specs.Histories.{entries_of}
 use Rattle.history_book.specs.Readings.{next_of}
 use Rattle.history_book.specs.Settings.{device_numbers, is_device, run_numbers}
 use Rattle.home_types.specs.declared.numbers.DeviceNo.{DeviceNo}
-use Rattle.home_types.specs.declared.numbers.RunNo.{RunNo}
 use Rattle.hub_core.proofs.calls.HubChanges.{few_entries}
 use Rattle.hub_core.proofs.kept.Finds.{find_first, find_none}
 use Rattle.hub_core.proofs.kept.ReturnsKept.{out_is}
@@ -22,7 +21,7 @@ use Rattle.hub_core.proofs.kept.EndedOnce.{dooms_fit, ends_fit}
 use Rattle.hub_core.proofs.kept.Sizes.{history_fits, line_fits}
 use Rattle.hub_core.proofs.steps.Takes.{live_run}
 use Rattle.hub_core.specs.Bounds.{IsBounded}
-use Rattle.hub_core.specs.HubCalls.{HubStands, SomeRunMoves, grip_takes}
+use Rattle.hub_core.specs.HubCalls.{HubStands, SomeRunMoves}
 use Rattle.hub_core.specs.HubsKept.{HubIsKept}
 use Rattle.hub_core.specs.OpenHubs.{OpenHub, configuration_of, device_at, grip_in, held_in, purpose_of}
 use Rattle.hub_core.specs.Steps.{Waits, not_quiet, opened}
@@ -33,7 +32,7 @@ use Rattle.hub_core.specs.declared.refusals.NotQuiet.TheVariants.{StillLive, Sti
 use Rattle.lock_leasing.specs.Configurations.{Commands, Configuration, is_out, read_of}
 use Rattle.std.proofs.Common.{ap, arith, refl, subst, sym, ◌∙◌}
 use Rattle.std.proofs.lemmas.Grind.{common_steps}
-use Rattle.std.proofs.lemmas.Option.{slice_get_within}
+use Rattle.std.proofs.lemmas.Option.{same_Some, slice_get_within}
 use Rattle.std.specs.Option.{option_or}
 use Rattle.std.specs.Prelude.{Bool, IfNone, IfSome, IsTrue, List, None, Option, Some, [], false, find, if◌then◌else◌, is_none, is_some, length, nat_lt, option_map, slice_get, suc, true, zero, ℕ, ◌+◌, ◌<◌, ◌↔◌, ◌∷◌, ◌≡◌, ◌≤◌}
 use Rattle.window_order.proofs.Promises.{order_stands}
@@ -57,9 +56,6 @@ moves_hub stands turns probes faults s k = by_model (SomeRunMoves (configuration
     let moves = some_run_moves (configuration_of s) s.rounds s.opened (held_in s) r c home run going in
     (moves.0, moves.1, moves.2, λ m why waits. absurd (let wait : is_wait (Waits why) ≡ false = ap is_wait (sym waits) ∙ moves.3 m in cc)))
     (λ c. weak_moves (configuration_of s) s.rounds s.opened (held_in s) c)
-
-some_is : {A : Type 0} (x y : A) → Some x ≡ Some y → x ≡ y
-some_is x y e = cc
 
 -- a device that has a place is one of the home
 device_has : {D : Type 0} (s : OpenHub D) (d : ℕ) (place : Place D) → length s.places ≡ length s.setting.first → slice_get s.places d ≡ Some place → is_device s.setting d ≡ true
@@ -93,9 +89,6 @@ stands_hub {D = D} tag stands turns probes faults s numbered k =
     }
 
 -- Quiet hubs
-
-pub quiet_live : (s : Configuration) (r : RunNo) → Some r.0 ≡ find (λ q. is_none ((read_of s).run q).ended) (run_numbers s.setting) → Some (StillLive r) ≡ not_quiet s
-quiet_live s r live = ap (λ o. option_or (option_map (λ q. StillLive (run_no q)) o) (option_map (λ d. StillOut (device_no d)) (find (is_out s.grips) (device_numbers s.setting)))) live
 
 pub quiet_out : (s : Configuration) (o : Option DeviceNo) → None ≡ find (λ q. is_none ((read_of s).run q).ended) (run_numbers s.setting) → option_map (λ d. d.0) o ≡ find (is_out s.grips) (device_numbers s.setting)
     → option_map (λ d. StillOut d) o ≡ not_quiet s
@@ -201,14 +194,6 @@ fresh_hub {D = D} stands turns probes faults s t o b same k none start home away
 
 -- What a hub tells
 
-pub takes_none : {D : Type 0} (s : OpenHub D) (d : ℕ) → None ≡ slip_of (slice_get s.places d) → 0 ≡ grip_takes s.setting ((configuration_of s).grips d)
-takes_none {D = D} s d none = by_place (slice_get s.places d) none
-  where
-    by_place : (o : Option (Place D)) → None ≡ slip_of o → 0 ≡ grip_takes s.setting (grip_in o (device_at s.devices d).purpose)
-    by_place None e = refl
-    by_place (Some (Home device)) e = refl
-    by_place (Some (Out slip task)) e = absurd (cc)
-
 -- the grip of a device that is out
 pub grip_by_slip : {D : Type 0} (s : OpenHub D) (d : ℕ) (slip : Slip) → Some slip ≡ slip_of (slice_get s.places d) → (configuration_of s).grips d ≡ Some (record { maker = slip.maker; purpose = purpose_of (device_at s.devices d).purpose })
 grip_by_slip {D = D} s d slip some = by_place (slice_get s.places d) some
@@ -216,11 +201,7 @@ grip_by_slip {D = D} s d slip some = by_place (slice_get s.places d) some
     by_place : (o : Option (Place D)) → Some slip ≡ slip_of o → grip_in o (device_at s.devices d).purpose ≡ Some (record { maker = slip.maker; purpose = purpose_of (device_at s.devices d).purpose })
     by_place None e = absurd (cc)
     by_place (Some (Home device)) e = absurd (cc)
-    by_place (Some (Out other task)) e = ap (λ (x : Slip). Some (record { maker = x.maker; purpose = purpose_of (device_at s.devices d).purpose })) (sym (some_is slip other e))
-
-pub takes_some : {D : Type 0} (s : OpenHub D) (d : ℕ) (slip : Slip) (p : KeptPurpose) (n : ℕ) → Some slip ≡ slip_of (slice_get s.places d) → (device_at s.devices d).purpose ≡ p
-    → n ≡ grip_takes s.setting (Some (record { maker = slip.maker; purpose = purpose_of p })) → n ≡ grip_takes s.setting ((configuration_of s).grips d)
-takes_some s d slip p n some purpose is = is ∙ ap (λ (q : KeptPurpose). grip_takes s.setting (Some (record { maker = slip.maker; purpose = purpose_of q }))) (sym purpose) ∙ ap (grip_takes s.setting) (sym (grip_by_slip s d slip some))
+    by_place (Some (Out other task)) e = ap (λ (x : Slip). Some (record { maker = x.maker; purpose = purpose_of (device_at s.devices d).purpose })) (sym (same_Some slip other e))
 
 -- the run of a command that is out, and its number
 pub command_out : {D : Type 0} (stands turns probes faults : D → ℕ) (s : OpenHub D) (d : ℕ) (slip : Slip) (k : ℕ) → HubIsKept stands turns probes faults s → Some slip ≡ slip_of (slice_get s.places d)

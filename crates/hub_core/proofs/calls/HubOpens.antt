@@ -1,11 +1,10 @@
 -- A window that opens: what the hub knows, and that it is as every hub is kept.
 use Rattle.command_rules.specs.Rosters.{plain_run, runs_of}
 use Rattle.command_rules.specs.declared.rosters.Roster.{Roster}
+use Rattle.device_gate.proofs.Places.{device_at as home_there, none_out as not_out}
 use Rattle.device_gate.specs.Places.{all_home}
-use Rattle.device_gate.specs.declared.gates.Place.TheVariants.{Home, Out}
+use Rattle.device_gate.specs.declared.gates.Place.TheVariants.{Home}
 use Rattle.device_gate.specs.declared.gates.Place.{Place}
-use Rattle.device_gate.specs.declared.slips.Slip.{Slip}
-use Rattle.device_gate.specs.declared.slips.Task.{Task}
 use Rattle.history_book.specs.Settings.{Setting}
 use Rattle.home_types.specs.Kinds.{has_value, kind_at}
 use Rattle.home_types.specs.declared.kinds.Kind.{Kind}
@@ -34,6 +33,7 @@ use Rattle.lineage_table.specs.Lineages.{LineageState}
 use Rattle.lock_leasing.specs.Configurations.{Configuration, Grips}
 use Rattle.serial_line.specs.Marks.{Marked}
 use Rattle.std.proofs.Common.{ap, arith, inl, inr, refl, subst, sym, ◌∙◌}
+use Rattle.std.proofs.lemmas.Bool.{le-ltb, lt-ltb}
 use Rattle.std.proofs.lemmas.Grind.{common_steps}
 use Rattle.std.proofs.lemmas.List.{length-append, length-map, replicate-append-replicate}
 use Rattle.std.proofs.lemmas.Option.{get_or_from_slice_get, slice_get_cases, slice_get_within}
@@ -43,17 +43,14 @@ pub replicate_more : {A : Type 0} (n : ℕ) (x : A) → replicate n x ++ x ∷ [
 replicate_more n x = replicate-append-replicate n 1 x
 
 -- the places of a list with one item more
-get_front : {A : Type 0} (xs : List A) (x : A) (i : ℕ) → i < length xs → slice_get (xs ++ x ∷ []) i ≡ slice_get xs i
+pub get_front : {A : Type 0} (xs : List A) (x : A) (i : ℕ) → i < length xs → slice_get (xs ++ x ∷ []) i ≡ slice_get xs i
 get_front [] x i lt = absurd (omega arith)
 get_front (y ∷ ys) x zero lt = refl
 get_front (y ∷ ys) x (suc i) lt = get_front ys x i (omega arith)
 
-get_last : {A : Type 0} (xs : List A) (x : A) → slice_get (xs ++ x ∷ []) (length xs) ≡ Some x
+pub get_last : {A : Type 0} (xs : List A) (x : A) → slice_get (xs ++ x ∷ []) (length xs) ≡ Some x
 get_last [] x = refl
 get_last (y ∷ ys) x = get_last ys x
-
-some_is : {A : Type 0} (x y : A) → Some x ≡ Some y → x ≡ y
-some_is x y e = cc
 
 -- one device more is known
 pub known_more : {D : Type 0} (turns probes faults : D → ℕ) (home : HomeState D) (rounds n : ℕ) (known after : List DeviceProgress) (progress : DeviceProgress)
@@ -132,16 +129,6 @@ none_out [] d purpose = refl
 none_out (x ∷ xs) zero purpose = refl
 none_out (x ∷ xs) (suc d) purpose = none_out xs d purpose
 
-home_there : {D : Type 0} (devices : List D) (d : ℕ) (device : D) → slice_get (all_home devices) d ≡ Some (Home device) → slice_get devices d ≡ Some device
-home_there [] d device at = absurd (cc)
-home_there (x ∷ xs) zero device at = (let same : x ≡ device = cc in ap Some same)
-home_there (x ∷ xs) (suc d) device at = home_there xs d device at
-
-not_out : {D : Type 0} (devices : List D) (d : ℕ) (slip : Slip) (task : Task) → slice_get (all_home devices) d ≡ Some (Out slip task) → ⊥
-not_out [] d slip task at = absurd (cc)
-not_out (x ∷ xs) zero slip task at = absurd (cc)
-not_out (x ∷ xs) (suc d) slip task at = not_out xs d slip task at
-
 -- the configuration of a window that opens
 pub first_configuration : {D : Type 0} (tag stands turns probes faults : D → ℕ) (home : HomeState D) (roster : Roster) (mode : Mode) (rounds : ℕ) (known : List DeviceProgress)
     → Opens tag stands turns probes faults home roster mode rounds known → configuration_of (first_hub home roster mode rounds known) ≡ opened (setting_for home roster mode) rounds
@@ -161,15 +148,9 @@ first_configuration tag stands turns probes faults home roster mode rounds known
     out_home false lt e = refl
     out_home true lt e = absurd (cc)
 
-    within : (a b : ℕ) → a < b → nat_lt a b ≡ true
-    within a b lt = grind (arith, common_steps)
-
-    beyond : (a b : ℕ) → b ≤ a → nat_lt a b ≡ false
-    beyond a b le = grind (arith, common_steps)
-
     left_by : (d : ℕ) → There turns probes faults home rounds known d → (device_at known d).probes_left ≡ (if nat_lt d (length home.world) then rounds else 0)
-    left_by d (known_as device at lt is) = ap (λ (k : DeviceProgress). k.probes_left) is ∙ sym (in_home (nat_lt d (length home.world)) rounds (within d (length home.world) lt))
-    left_by d (unknown le is) = ap (λ (k : DeviceProgress). k.probes_left) is ∙ sym (out_home (nat_lt d (length home.world)) rounds (beyond d (length home.world) le))
+    left_by d (known_as device at lt is) = ap (λ (k : DeviceProgress). k.probes_left) is ∙ sym (in_home (nat_lt d (length home.world)) rounds (lt-ltb d (length home.world) lt))
+    left_by d (unknown le is) = ap (λ (k : DeviceProgress). k.probes_left) is ∙ sym (out_home (nat_lt d (length home.world)) rounds (le-ltb d (length home.world) le))
 
     left : (d : ℕ) → (device_at known d).probes_left ≡ (if nat_lt d (length home.world) then rounds else 0)
     left d = left_by d (there turns probes faults home rounds known d opens.kept.size opens.knows)

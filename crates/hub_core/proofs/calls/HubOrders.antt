@@ -34,7 +34,6 @@ use Rattle.home_types.specs.declared.numbers.DeviceNo.{DeviceNo}
 use Rattle.hub_core.proofs.kept.Hands.{hand_goes}
 use Rattle.hub_core.proofs.calls.HubChanges.{Ending, Going, IsEntered, answer_entries, answered_more, entered_whole, entries_kept, has_places}
 use Rattle.hub_core.proofs.calls.HubChoices.{IsAborting, IsAnsweringDown, IsFailing, answering, dropping, failing, finished_is, rest_downs}
-use Rattle.hub_core.proofs.calls.Departures.{device_within}
 use Rattle.hub_core.proofs.calls.PlannedUses.{planned_devices}
 use Rattle.hub_core.proofs.calls.Scheduling.{scheduled_as_planned}
 use Rattle.hub_core.proofs.calls.HubOuts.{GoesFor, IsHanded, IsHandedOut, handed_out, went_out}
@@ -62,7 +61,7 @@ use Rattle.hub_core.specs.ReadHistories.{HistoryState, read_in, with_doom, with_
 use Rattle.home_types.specs.Kinds.{kind_at}
 use Rattle.lineage_table.specs.Accesses.{IsDisciplined, effective_writer}
 use Rattle.lineage_table.specs.Lineages.{LineageState, accesses_at, committed_lineage, lineage_at, removed, undone, with_lineage}
-use Rattle.lock_leasing.specs.Configurations.{Commands, Configuration, Grip, Grips, Probes, Purpose, Undoes, is_command, is_out, is_undo, read_of}
+use Rattle.lock_leasing.specs.Configurations.{Commands, Configuration, Grips, Probes, Purpose, Undoes, is_command, is_out, is_undo, read_of}
 use Rattle.lock_leasing.specs.Standings.{IsRosterFor, IsStandingOf}
 use Rattle.serial_line.specs.Marks.{Mark, Marked, items_of, settling, stands, touching, with_item, without}
 use Rattle.std.proofs.Common.{ap, ap₂, arith, length-append, refl, subst, sym, ◌∙◌}
@@ -70,7 +69,7 @@ use Rattle.std.proofs.lemmas.Grind.{common_steps}
 use Rattle.std.proofs.lemmas.List.{length-map, take-append-drop}
 use Rattle.std.proofs.lemmas.Option.{slice_get-get_or, slice_get_within}
 use Rattle.std.specs.List.{All, range_with_len}
-use Rattle.std.specs.Prelude.{Bool, IsSome, IsTrue, List, None, Option, Some, [], drop, false, find, get_or, if◌then◌else◌, is_none, is_some, length, max, nat_lt, not, option_map, slice_get, suc, take, true, unwrap_or, zero, ℕ, ◌&&◌, ◌++◌, ◌+◌, ◌-◌, ◌<◌, ◌==◌, ◌||◌, ◌∷◌, ◌≡◌, ◌≤◌}
+use Rattle.std.specs.Prelude.{Bool, IsSome, IsTrue, List, None, Option, Some, [], drop, false, get_or, if◌then◌else◌, is_none, length, max, nat_lt, not, option_map, slice_get, suc, take, true, unwrap_or, zero, ℕ, ◌&&◌, ◌++◌, ◌+◌, ◌-◌, ◌<◌, ◌==◌, ◌||◌, ◌∷◌, ◌≡◌, ◌≤◌}
 use Rattle.timeline_scheduler.specs.Scratches.{HoldsTimes}
 use Rattle.timeline_scheduler.specs.declared.scratches.Slot.{Slot}
 use Rattle.window_order.proofs.FewAccesses.{few_accesses}
@@ -84,8 +83,11 @@ use Rattle.window_order.proofs.TouchedLines.{live_stands, unplaced_absent}
 use Rattle.window_order.specs.TableChanges.{ChangesEach, IsNewOn, doomed_lineage, is_done_there, scheduled_on}
 use Rattle.window_order.specs.TableKept.{TableIsKept}
 use Rattle.history_book.proofs.Snoc.{put_other}
+use Rattle.hub_core.proofs.kept.Finds.{none_found, none_there}
 use Rattle.lock_leasing.proofs.Facts.{next_is_left}
 use Rattle.lock_leasing.specs.Places.{GripsFit, IsClear}
+use Rattle.std.proofs.lemmas.Bool.{and_parts, eq-eqb}
+use Rattle.window_order.proofs.Firsts.{below_home}
 
 -- What is kept of the hub's history
 
@@ -308,11 +310,8 @@ hub_absent h r at m is k =
 pub next_home : {D : Type 0} {stands turns probes faults : D → ℕ} (h : Inside D) (r : ℕ) (c : Command) → Some c ≡ next_command h.history.setting (read_in h.history) r → IsWhole stands turns probes faults h → c.device.0 < length h.order.table
 next_home h r c next k =
     let home : IsTrue (is_device h.history.setting c.device.0 && names_values_of (kind_at h.history.setting.kinds c.device.0) c.job) = k.shown.configuration.opens.homed r (next_of (read_in h.history) r) c (sym next) in
-    let within = device_within h.history.setting c.device.0 (first (is_device h.history.setting c.device.0) (names_values_of (kind_at h.history.setting.kinds c.device.0) c.job) home) in
+    let within = below_home h.history.setting c.device.0 (and_parts (is_device h.history.setting c.device.0) (names_values_of (kind_at h.history.setting.kinds c.device.0) c.job) home).0 in
     omega (arith, within, k.order.table_is.devices)
-  where
-    first : (a b : Bool) → (a && b) ≡ true → a ≡ true
-    first a b e = grind (arith, common_steps)
 
 -- the run is told Down where its device, which is home, is counted down
 pub hub_downs : {D : Type 0} {stands turns probes faults : D → ℕ} (h : Inside D) (s : OpenHub D) (r : ℕ) (p : RunProgress) (c : Command) → open_of h ≡ s → p ≡ progress_of ((read_of (configuration_of s)).run r) → p.doomed ≡ None → Some c ≡ next_command h.history.setting (read_in h.history) r
@@ -345,10 +344,6 @@ aborts_whole h t r m cause enters left k = entered_whole h t r m _ (Ending (Abor
     order_aborted h.history _ _ r cause h.order.line t.order.line h.order.table t.order.table (read_whole h k) refl formed left.marks left.spare left.table k.order) k
 
 -- its undos are finished, as the table tells
-all_false : {A : Type 0} (p : A → Bool) (xs : List A) → ((x : A) → p x ≡ false) → find p xs ≡ None
-all_false p [] none = refl
-all_false p (x ∷ xs) none = rw (none x) (all_false p xs none)
-
 bare_beyond : (table : List LineageState) (k d : ℕ) → length table ≡ k → ((e : ℕ) → e < k → accesses_at table e ≡ []) → accesses_at table d ≡ []
 bare_beyond table k d size bare = by_place (nat_lt d k) refl
   where
@@ -363,7 +358,7 @@ bare_beyond table k d size bare = by_place (nat_lt d k) refl
 
 pub hub_finished : {D : Type 0} {stands turns probes faults : D → ℕ} (h : Inside D) (r m : ℕ) (cause : Cause) → ((d : ℕ) → IsDisciplined (accesses_at h.order.table d)) → IsAborting (configuration_of (open_of h)) r cause → IsWhole stands turns probes faults h → next_undo h.order.table r ≡ Finished
 hub_finished h r m cause disciplined ends k = either_model (next_undo h.order.table r ≡ Finished) h.history.setting
-    (λ weak. ap (λ o. unwrap_or (option_map (undo_on h.order.table r) o) Finished) (all_false (has_effective_write h.order.table r) (range_with_len 0 (length h.order.table))
+    (λ weak. ap (λ o. unwrap_or (option_map (undo_on h.order.table r) o) Finished) (none_found (has_effective_write h.order.table r) (range_with_len 0 (length h.order.table))
     (λ d. ap (λ xs. unwrap_or (option_map (λ q. q.0 == r) (effective_writer xs)) false) (bare_beyond h.order.table (length h.history.setting.first) d k.order.table_is.devices (λ e below. (k.order.table_is.weakly weak e below).accesses)))))
     (λ strong. next_undo_is _ _ _ _ _ r (standing_whole h disciplined strong k) ends.live ∙ finished_is _ r cause strong ends)
 
@@ -372,7 +367,7 @@ hub_finished h r m cause disciplined ends k = either_model (next_undo h.order.ta
 -- the device is one of those that the table has
 pub dropped_there : {D : Type 0} {stands turns probes faults : D → ℕ} (h : Inside D) (r m d : ℕ) → choice_of (configuration_of (open_of h)) r m ≡ Moves (Undid (run_no r) (device_no d) false ∷ []) → IsWhole stands turns probes faults h → d < length h.order.table
 dropped_there h r m d is k =
-    let within = device_within h.history.setting d (dropping (configuration_of (open_of h)) h.rounds h.opened (held_in (open_of h)) r m d k.shown.configuration is).device in
+    let within = below_home h.history.setting d (dropping (configuration_of (open_of h)) h.rounds h.opened (held_in (open_of h)) r m d k.shown.configuration is).device in
     omega (arith, within, k.order.table_is.devices)
 
 pub drops_whole : {D : Type 0} {stands turns probes faults : D → ℕ} (h t : Inside D) (r m d : ℕ) → IsEntered h t r m (Undid (run_no r) (device_no d) false ∷ []) Going → t.order.line ≡ h.order.line → t.order.table ≡ with_lineage h.order.table d (undone r) → IsWhole stands turns probes faults h → IsWhole stands turns probes faults t
@@ -432,7 +427,7 @@ may_tell_down h r m k must is whole = record {
     down = answering (configuration_of (open_of h)) h.rounds h.opened (held_in (open_of h)) r m k must whole.shown.configuration is
 
     below : (command_at w.runs r k).device.0 < length w.first
-    below = device_within w (command_at w.runs r k).device.0 down.device
+    below = below_home w (command_at w.runs r k).device.0 down.device
 
 -- what the code wrote of it: the answer, which line and table note, and the doom of the run where it is a must
 pub record IsToldSo {D : Type 0} (h t : Inside D) (r k : ℕ) (must : Bool) (c : Command) (cause : Option Cause) (mid : HistoryState) (last : Bool) (between : KeptOrder) : Type 0 where
@@ -516,7 +511,7 @@ told_whole {D = D} h t r m k must c cause mid last between is new told whole = e
     down = answering (configuration_of (open_of h)) h.rounds h.opened (held_in (open_of h)) r m k must whole.shown.configuration is
 
     below : (command_at w.runs r k).device.0 < length w.first
-    below = device_within w (command_at w.runs r k).device.0 down.device
+    below = below_home w (command_at w.runs r k).device.0 down.device
 
     none : HoldsNone g r
     none = holds_none w g r whole.shown.configuration.grips.homed down.free
@@ -559,16 +554,13 @@ may_mark s rounds opened held r m d purpose marks table k chose line_is size = r
     out = handed_out s rounds opened held r m d purpose k chose
 
     within : d < length s.setting.first
-    within = device_within s.setting d out.device
+    within = below_home s.setting d out.device
 
 -- line and table when a device has gone out for this purpose
 went_for : {rounds : ℕ} (h : HistoryState) (s : Configuration) (g f : Grips) (r d : ℕ) (purpose : Purpose) (line after : Marked) (table later : List LineageState) → s.setting ≡ h.setting → read_of s ≡ read_in h → IsRead h.setting (read_in h) → g d ≡ None → d < length table → GoesFor s r d purpose → f ≡ put g d (Some (record { maker = r; purpose = purpose }))
     → after.marks ≡ (if is_command purpose then touching r d line.marks else line.marks) → after.spare ≡ line.spare → later ≡ (if is_undo purpose then with_lineage table d (undone r) else table) → OrderIsBeside rounds h g line table → OrderIsBeside rounds h f after later
 went_for h s g f r d (Commands k) line after table later setting same read home below for out marks spare changed order =
-    order_out h g f r d k line after table later home (ap (λ n. is_doomed n r) (sym same) ∙ for.sound) (ap₂ (λ w n. pends w n r d) (sym setting) (sym same) ∙ next_is_left d (commands_of s.setting.runs r) (next_of (read_of s) r) (ap (λ o. unwrap_or (option_map (is_on d) o) false) for.next ∙ equal for.command.device.0 d for.on)) out marks spare changed order
-  where
-    equal : (x y : ℕ) → x ≡ y → (x == y) ≡ true
-    equal x y e = grind (arith, common_steps)
+    order_out h g f r d k line after table later home (ap (λ n. is_doomed n r) (sym same) ∙ for.sound) (ap₂ (λ w n. pends w n r d) (sym setting) (sym same) ∙ next_is_left d (commands_of s.setting.runs r) (next_of (read_of s) r) (ap (λ o. unwrap_or (option_map (is_on d) o) false) for.next ∙ eq-eqb for.command.device.0 d for.on)) out marks spare changed order
 went_for h s g f r d (Undoes v) line after table later setting same read home below for out marks spare changed order = order_undo_out h g f r d v line after table later read home below out marks spare changed order
 went_for h s g f r d (Probes v) line after table later setting same read home below for out marks spare changed order = absurd for
 
@@ -577,10 +569,6 @@ pub record IsTouched {D : Type 0} (h t : Inside D) (r d : ℕ) (purpose : Purpos
   pub marks : t.order.line.marks ≡ (if is_command purpose then touching r d h.order.line.marks else h.order.line.marks)
   pub spare : t.order.line.spare ≡ h.order.line.spare
   pub table : t.order.table ≡ (if is_undo purpose then with_lineage h.order.table d (undone r) else h.order.table)
-
-unheld : (o : Option Grip) → is_some o ≡ false → o ≡ None
-unheld None e = refl
-unheld (Some x) e = absurd (cc)
 
 gone_grips : {D : Type 0} {turns probes faults : D → ℕ} (h t : Inside D) (r m d : ℕ) (purpose : KeptPurpose) (known : DeviceProgress) (task : Task) (grip : Gripped D Ready) → IsHanded turns probes faults h t r m d purpose known task grip
     → ◌≡◌ {A = Grips} (configuration_of (open_of t)).grips (put (configuration_of (open_of h)).grips d (Some (record { maker = r; purpose = purpose_of purpose })))
@@ -592,8 +580,8 @@ gone_grips h t r m d purpose known task grip handed =
 order_went : {D : Type 0} {stands turns probes faults : D → ℕ} (h t : Inside D) (r m d : ℕ) (purpose : KeptPurpose) (known : DeviceProgress) (task : Task) (grip : Gripped D Ready) → IsHanded turns probes faults h t r m d purpose known task grip → IsTouched h t r d (purpose_of purpose)
     → IsWhole stands turns probes faults h → OrderIsBeside h.rounds h.history (configuration_of (open_of t)).grips t.order.line t.order.table
 order_went {D = D} h t r m d purpose known task grip handed touched k =
-    went_for h.history s g (configuration_of (open_of t)).grips r d (purpose_of purpose) h.order.line t.order.line h.order.table t.order.table refl refl (read_whole h k) (unheld (g d) out.home)
-    (let first : d < length h.history.setting.first = device_within h.history.setting d out.device in let size : length h.order.table ≡ length h.history.setting.first = k.order.table_is.devices in omega (arith, first, size)) out.for gone touched.marks touched.spare touched.table k.order
+    went_for h.history s g (configuration_of (open_of t)).grips r d (purpose_of purpose) h.order.line t.order.line h.order.table t.order.table refl refl (read_whole h k) (none_there (g d) out.home)
+    (let first : d < length h.history.setting.first = below_home h.history.setting d out.device in let size : length h.order.table ≡ length h.history.setting.first = k.order.table_is.devices in omega (arith, first, size)) out.for gone touched.marks touched.spare touched.table k.order
   where
     s : Configuration
     s = configuration_of (open_of h)
@@ -617,7 +605,7 @@ hands_went : {D : Type 0} {stands turns probes faults : D → ℕ} (h t : Inside
     → IsWhole stands turns probes faults h → HandsAre h.history.setting (configuration_of (open_of t)).grips t.hands.items
 hands_went h t r m d purpose known task grip handed k =
     let out = handed_out (configuration_of (open_of h)) h.rounds h.opened (held_in (open_of h)) r m d (purpose_of purpose) k.shown.configuration handed.chosen in
-    hand_goes h.history.setting (configuration_of (open_of h)).grips (configuration_of (open_of t)).grips r (device_no d) (purpose_of purpose) h.hands.items t.hands.items out.run (device_within h.history.setting d out.device) out.free (unheld _ out.home) (gone_grips h t r m d purpose known task grip handed) handed.hands_are k.hands
+    hand_goes h.history.setting (configuration_of (open_of h)).grips (configuration_of (open_of t)).grips r (device_no d) (purpose_of purpose) h.hands.items t.hands.items out.run (below_home h.history.setting d out.device) out.free (none_there _ out.home) (gone_grips h t r m d purpose known task grip handed) handed.hands_are k.hands
 
 -- the device is handed out, and touched by its run
 pub handed_whole : {D : Type 0} {stands turns probes faults : D → ℕ} (h t : Inside D) (r m d : ℕ) (purpose : KeptPurpose) (known : DeviceProgress) (task : Task) (grip : Gripped D Ready) → IsHanded turns probes faults h t r m d purpose known task grip → IsTouched h t r d (purpose_of purpose)

@@ -16,7 +16,7 @@ use Rattle.history_book.specs.Readings.{is_doomed, is_live, next_command, next_o
 use Rattle.history_book.specs.Settings.{is_device, is_weak}
 use Rattle.home_types.specs.declared.commands.Command.{Command}
 use Rattle.hub_core.proofs.calls.HubChanges.{step_is}
-use Rattle.hub_core.proofs.calls.Departures.{IsLeaving, IsSent, next_grip, at_index, device_within, gone, gone_carries, gone_configuration, gone_kept, home_place, is_there, one_for}
+use Rattle.hub_core.proofs.calls.Departures.{IsLeaving, IsSent, next_grip, at_index, gone, gone_carries, gone_configuration, gone_kept, home_place, is_there, one_for}
 use Rattle.hub_core.proofs.kept.HubReads.{run_place}
 use Rattle.hub_core.proofs.calls.HubStates.{known_same, put_at}
 use Rattle.hub_core.proofs.kept.KeptByModel.{taken_kept}
@@ -39,6 +39,7 @@ use Rattle.std.proofs.Common.{ap, ap₂, arith, refl, subst, sym, ◌∙◌}
 use Rattle.std.proofs.lemmas.Grind.{common_steps}
 use Rattle.std.proofs.lemmas.Option.{slice_get_within}
 use Rattle.std.specs.Prelude.{Bool, IsTrue, None, Option, Some, false, if◌then◌else◌, is_some, length, max, nat_lt, not, slice_get, slice_set, suc, true, ℕ, ◌&&◌, ◌-◌, ◌<◌, ◌||◌, ◌≡◌}
+use Rattle.window_order.proofs.Firsts.{below_home}
 
 -- Why it goes
 
@@ -151,7 +152,7 @@ command_there s rounds opened held r m d k purpose kept is for =
 pub out_home : {D : Type 0} (stands turns probes faults : D → ℕ) (s : OpenHub D) (r m d : ℕ) (purpose : Purpose) → HubIsKept stands turns probes faults s → choice_of (configuration_of s) r m ≡ HandsOut d purpose → (d < length s.setting.first) × IsHome s.places d
 out_home stands turns probes faults s r m d purpose k is =
     let out = handed_out (configuration_of s) s.rounds s.opened (held_in s) r m d purpose k.configuration is in
-    let within : d < length s.setting.first = device_within s.setting d out.device in
+    let within : d < length s.setting.first = below_home s.setting d out.device in
     (within, home_place s d (omega (arith, within, k.places_size)) out.home)
 
 -- what a run does with a device makes no probe

@@ -8,8 +8,9 @@ use Rattle.hub_core.specs.HubCalls.{IsGiven, IsProbeGiven, carried_by}
 use Rattle.hub_core.specs.HubSteps.{Given, Refused, Returned, give, give_if, give_probe, is_kept, stranger}
 use Rattle.hub_core.specs.OpenHubs.{OpenHub, configuration_of, state_of}
 use Rattle.hub_core.specs.Steps.{at_moment}
-use Rattle.std.proofs.Common.{ap, arith, refl, subst, sym, ◌∙◌}
-use Rattle.std.proofs.lemmas.Grind.{common_steps}
+use Rattle.std.proofs.Common.{ap, refl, subst, sym, ◌∙◌}
+use Rattle.std.proofs.Math.Bool.{and-false}
+use Rattle.std.proofs.lemmas.Bool.{ne_eqb}
 use Rattle.std.specs.Prelude.{Bool, Err, false, nat_lt, slice_get, true, ℕ, ◌&&◌, ◌==◌, ◌≡◌, ◌≢◌}
 
 -- the stranger is the hub's
@@ -29,11 +30,7 @@ refused_given {D = D} s s₀ grip m x same kept told not_kept =
     gives = ap (λ b. give_if b (state_of s) (at_moment (configuration_of s) m) (carried_by grip) grip.stage.told) not_kept
 
 pub not_a_run : {D : Type 0} (s : OpenHub D) (grip : Gripped D Done) → grip.slip.maker ≡ 0 → (is_kept (state_of s) (carried_by grip) && nat_lt 0 grip.slip.maker) ≡ false
-not_a_run s grip zero' = ap (λ n. is_kept (state_of s) (carried_by grip) && nat_lt 0 n) zero' ∙ and_false (is_kept (state_of s) (carried_by grip))
-  where
-    and_false : (b : Bool) → (b && false) ≡ false
-    and_false true = refl
-    and_false false = refl
+not_a_run s grip zero' = ap (λ n. is_kept (state_of s) (carried_by grip) && nat_lt 0 n) zero' ∙ and-false (is_kept (state_of s) (carried_by grip))
 
 -- the hub's test is the gate's
 pub not_there : {D : Type 0} (s : OpenHub D) (grip : Gripped D Done) → (IsKept s.places grip.slip grip.task → ⊥) → is_kept (state_of s) (carried_by grip) ≡ false
@@ -57,14 +54,7 @@ refused_probe {D = D} s s₀ grip x same kept told not_kept =
     gives = ap (λ b. give_if b (state_of s) (configuration_of s) (carried_by grip) grip.stage.told) not_kept
 
 pub not_a_probe : {D : Type 0} (s : OpenHub D) (grip : Gripped D Done) → grip.slip.maker ≢ 0 → (is_kept (state_of s) (carried_by grip) && (grip.slip.maker == 0)) ≡ false
-not_a_probe s grip run = ap (λ b. is_kept (state_of s) (carried_by grip) && b) (not_none grip.slip.maker run) ∙ and_false (is_kept (state_of s) (carried_by grip))
-  where
-    not_none : (n : ℕ) → n ≢ 0 → (n == 0) ≡ false
-    not_none n some = grind (arith, common_steps)
-
-    and_false : (b : Bool) → (b && false) ≡ false
-    and_false true = refl
-    and_false false = refl
+not_a_probe s grip run = ap (λ b. is_kept (state_of s) (carried_by grip) && b) (ne_eqb grip.slip.maker 0 run) ∙ and-false (is_kept (state_of s) (carried_by grip))
 
 pub not_probed : {D : Type 0} (s : OpenHub D) (grip : Gripped D Done) → (IsKept s.places grip.slip grip.task → ⊥) → (is_kept (state_of s) (carried_by grip) && (grip.slip.maker == 0)) ≡ false
 not_probed s grip away = ap (λ b. b && (grip.slip.maker == 0)) (not_there s grip away)

@@ -33,7 +33,7 @@ use Rattle.hub_core.proofs.steps.Calls.{IsOutFor, calls_told, give_calls, give_f
 use Rattle.hub_core.proofs.steps.Gives.{command_is}
 use Rattle.hub_core.proofs.kept.Hands.{hand_comes}
 use Rattle.hub_core.proofs.calls.HubChanges.{answer_entries, answered_more, events_same}
-use Rattle.hub_core.proofs.calls.Departures.{device_within, one_for}
+use Rattle.hub_core.proofs.calls.Departures.{one_for}
 use Rattle.hub_core.proofs.calls.Homecomings.{ComesBack, IsBack, StepsBack, after_back, back_grips, back_places, back_steps, back_whole, taken_in}
 use Rattle.hub_core.proofs.kept.HubReads.{run_place}
 use Rattle.hub_core.proofs.calls.HubStates.{kept_is}
@@ -58,9 +58,11 @@ use Rattle.hub_core.specs.declared.purposes.Purpose.TheVariants.{Command as ForC
 use Rattle.hub_core.specs.declared.purposes.Purpose.{Purpose as KeptPurpose}
 use Rattle.lock_leasing.specs.Configurations.{Commands, Configuration, Grip, Probes, Purpose, Undoes, is_undo, read_of}
 use Rattle.std.proofs.Common.{ap, ap₂, arith, refl, subst, sym, ◌∙◌}
+use Rattle.std.proofs.lemmas.Bool.{eq-eqb, eqb-true, lt-ltb, ne_eqb}
 use Rattle.std.proofs.lemmas.Grind.{common_steps}
 use Rattle.std.proofs.lemmas.Option.{slice_get_within}
 use Rattle.std.specs.Prelude.{Bool, IfSome, IsSome, IsTrue, List, None, Ok, Option, Some, [], false, if◌then◌else◌, length, max, nat_lt, not, option_map, slice_get, slice_set, suc, true, ℕ, ◌&&◌, ◌+◌, ◌-◌, ◌<◌, ◌==◌, ◌∷◌, ◌≡◌, ◌≢◌, ◌≤◌}
+use Rattle.window_order.proofs.Firsts.{below_home}
 use Rattle.window_order.proofs.ReadFacts.{IsRead, read_facts}
 
 -- Why it was out
@@ -124,7 +126,7 @@ for_command stands turns probes faults s slip task k kept there purpose =
       does = does;
       stood = fits.stand (subst (λ x. IsTrue (is_counted_up x)) (sym does) (task_up (kind_at w.kinds (command_at w.runs r k).device.0) (command_at w.runs r k).job (n.run r).register));
       value = subst (λ x. IsTrue (has_value (kind_at w.kinds slip.device.0) (value_after x (held_in s slip.device.0)))) (sym (does ∙ ap (λ d. if reads (command_at w.runs r k).job then Sense else Drive (driven (kind_at w.kinds d) (command_at w.runs r k).job (n.run r).register)) on))
-          (task_value (kind_at w.kinds slip.device.0) (command_at w.runs r k).job (n.run r).register (held_in s slip.device.0) (subst (λ (c : Command). IsTrue (names_values_of (kind_at w.kinds slip.device.0) c.job)) (sym same) named) (kept.values slip.device.0 (device_within w slip.device.0 (subst (λ d. is_device w d ≡ true) out.1.on (homed)))));
+          (task_value (kind_at w.kinds slip.device.0) (command_at w.runs r k).job (n.run r).register (held_in s slip.device.0) (subst (λ (c : Command). IsTrue (names_values_of (kind_at w.kinds slip.device.0) c.job)) (sym same) named) (kept.values slip.device.0 (below_home w slip.device.0 (subst (λ d. is_device w d ≡ true) out.1.on (homed)))));
     }
   where
     w : Setting
@@ -269,14 +271,11 @@ found_brings s held r k d x stood task does fits at = by_reading (reads job) ref
     value : ℕ
     value = driven (kind_at s.setting.kinds (command_at s.setting.runs r k).device.0) job ((read_of s).run r).register
 
-    same : (x y : ℕ) → (x == y) ≡ true → x ≡ y
-    same x y e = grind (arith, common_steps)
-
     by_reading : (b : Bool) → reads job ≡ b → task ≡ (if reads job then Sense else Drive value) → IsTrue (may_tell task stood (Sensed x)) → (reads job ≡ true) × (x ≡ value_after task (held d)) × (value_after task (held d) ≡ held d)
     by_reading true e is tells =
         let sense : task ≡ Sense = is ∙ ap (λ b. if b then Sense else Drive value) e in
         let stays : value_after task (held d) ≡ held d = ap (λ y. value_after y (held d)) sense in
-        let found : x ≡ stood = same x stood (subst (λ y. IsTrue (may_tell y stood (Sensed x))) sense tells) in
+        let found : x ≡ stood = eqb-true x stood (subst (λ y. IsTrue (may_tell y stood (Sensed x))) sense tells) in
         (e, found ∙ at ∙ sym stays, stays)
     by_reading false e is tells = absurd (let none : false ≡ true = subst (λ y. IsTrue (may_tell y stood (Sensed x))) (is ∙ ap (λ b. if b then Sense else Drive value) e) tells in cc)
 
@@ -408,19 +407,13 @@ run_back {D = D} stands turns probes faults s slip task purpose told device m ta
 
     -- what is more of this device alone
     more_other : (x k e : ℕ) → e ≢ d → x + (if d == e then k else 0) ≡ x
-    more_other x k e other = ap (λ b. x + (if b then k else 0)) (apart d e (λ p. other (sym p))) ∙ plus_none x
+    more_other x k e other = ap (λ b. x + (if b then k else 0)) (ne_eqb d e (λ p. other (sym p))) ∙ plus_none x
       where
-        apart : (a b : ℕ) → a ≢ b → (a == b) ≡ false
-        apart a b e = grind (arith, common_steps)
-
         plus_none : (n : ℕ) → n + 0 ≡ n
         plus_none n = omega arith
 
     more_here : (x k : ℕ) → x + (if d == d then k else 0) ≡ x + k
-    more_here x k = ap (λ b. x + (if b then k else 0)) (itself d)
-      where
-        itself : (a : ℕ) → (a == a) ≡ true
-        itself a = grind (arith, common_steps)
+    more_here x k = ap (λ b. x + (if b then k else 0)) (eq-eqb d d refl)
 
     told_here : told_calls s.setting.runs (entries_of after.history) d ≡ told_calls s.setting.runs (entries_of s.history) d + calls_told told
     told_here = calls d ∙ more_here (told_calls s.setting.runs (entries_of s.history) d) (calls_told told)
@@ -595,11 +588,8 @@ back_given {D = D} h t s₀ m value events why tag grip entries made seen came m
     gives : give (state_of s) (carried_by grip) grip.stage.told m ≡ record { answer = Gave (returned_entries s grip why); next = record { configuration = after_back s grip.slip (returned_entries s grip why) (max s.moment m); carried = put (state_of s).carried grip.slip.device.0 None } }
     gives =
         ap (λ b. give_if (b && nat_lt 0 grip.slip.maker) (state_of s) (at_moment (configuration_of s) m) (carried_by grip) grip.stage.told) (kept_is s grip.slip grip.task came.returned.there)
-        ∙ ap (λ b. give_if (true && b) (state_of s) (at_moment (configuration_of s) m) (carried_by grip) grip.stage.told) (positive grip.slip.maker came.returned.maker)
+        ∙ ap (λ b. give_if (true && b) (state_of s) (at_moment (configuration_of s) m) (carried_by grip) grip.stage.told) (lt-ltb 0 grip.slip.maker came.returned.maker)
         ∙ taken_in (state_of s) (at_moment (configuration_of s) m) (carried_by grip) (record { maker = grip.slip.maker; purpose = purpose_of why }) grip.stage.told (returned_for h why tag grip came.returned k).grip
-      where
-        positive : (n : ℕ) → 0 < n → nat_lt 0 n ≡ true
-        positive n some = grind (arith, common_steps, some)
 
 -- A command came back
 

@@ -7,17 +7,16 @@ use Rattle.device_gate.specs.declared.slips.Task.TheVariants.{Drive, Probe, Sens
 use Rattle.device_gate.specs.declared.slips.Task.{Task}
 use Rattle.history_book.specs.Readings.{put}
 use Rattle.hub_core.proofs.kept.HubReads.{get_set}
+use Rattle.hub_core.proofs.steps.HubAnswers.{same_self}
 use Rattle.hub_core.specs.HubSteps.{Carried, is_kept, same_carried, same_optional, same_slip, same_task}
 use Rattle.hub_core.specs.OpenHubs.{OpenHub, carried_in, device_at, grip_in, no_device, state_of}
 use Rattle.hub_core.specs.declared.known.DeviceProgress.{DeviceProgress}
 use Rattle.lock_leasing.specs.Configurations.{Grip}
 use Rattle.std.proofs.Common.{ap, arith, inl, inr, refl, sym, ◌∙◌}
+use Rattle.std.proofs.lemmas.Bool.{eq-eqb, eqb-true}
 use Rattle.std.proofs.lemmas.Grind.{common_steps}
 use Rattle.std.proofs.lemmas.List.{get_or-set_other, get_or-set_same}
 use Rattle.std.specs.Prelude.{List, None, Option, Some, false, if◌then◌else◌, length, option_map, slice_get, slice_set, true, unwrap_or, ℕ, ◌<◌, ◌==◌, ◌≡◌, ◌≢◌}
-
-eq_true : (a b : ℕ) → a ≡ b → (a == b) ≡ true
-eq_true a b e = grind (arith, common_steps)
 
 -- a put function, place by place
 pub put_at : {A : Type 0} (f h : ℕ → A) (d : ℕ) (v : A) → h d ≡ v → ((e : ℕ) → e ≢ d → h e ≡ f e) → h ≡ put f d v
@@ -26,7 +25,7 @@ put_at f h d v same others = λ i e. by_place e i
     by_place : (e : ℕ) → h e ≡ put f d v e
     by_place e = elim (e == d) as (λ b. (e == d) ≡ b → h e ≡ (if b then v else f e)) [
       | true ↦ (λ q. ap h (grind (arith, common_steps)) ∙ same)
-      | false ↦ (λ q. others e (λ p. absurd (cc (sym q ∙ eq_true e d p))))
+      | false ↦ (λ q. others e (λ p. absurd (cc (sym q ∙ eq-eqb e d p))))
     ] refl
 
 -- what is known of a device when one was set
@@ -68,26 +67,19 @@ pub known_same : {A : Type 0} (f : DeviceProgress → A) (devices : List DeviceP
     → (e : ℕ) → f (device_at (slice_set devices d y) e) ≡ f (device_at devices e)
 known_same f devices d y known same e = elim (e == d) as (λ b. (e == d) ≡ b → f (device_at (slice_set devices d y) e) ≡ f (device_at devices e)) [
   | true ↦ (λ q. let here : e ≡ d = grind (arith, common_steps) in ap (λ k. f (device_at (slice_set devices d y) k)) here ∙ ap f (device_here devices d y known) ∙ same ∙ ap (λ k. f (device_at devices k)) (sym here))
-  | false ↦ (λ q. ap f (device_there devices d e y (λ p. absurd (cc (sym q ∙ eq_true e d p)))))
+  | false ↦ (λ q. ap f (device_there devices d e y (λ p. absurd (cc (sym q ∙ eq-eqb e d p)))))
 ] refl
 
 -- A grip is the one with which its device is out where slip and task are the same
 
-same_number : (a b : ℕ) → (a == b) ≡ true → a ≡ b
-same_number a b e = grind (arith, common_steps)
-
 optional_is : (a b : Option ℕ) → same_optional a b ≡ true → a ≡ b
 optional_is None None e = refl
-optional_is (Some a) (Some b) e = ap (λ x. Some x) (same_number a b e)
+optional_is (Some a) (Some b) e = ap (λ x. Some x) (eqb-true a b e)
 optional_is None (Some b) e = absurd (cc)
 optional_is (Some a) None e = absurd (cc)
 
-optional_self : (a : Option ℕ) → same_optional a a ≡ true
-optional_self None = refl
-optional_self (Some a) = eq_true a a refl
-
 task_is : (a b : Task) → same_task a b ≡ true → a ≡ b
-task_is (Drive v) (Drive u) e = ap (λ x. Drive x) (same_number v u e)
+task_is (Drive v) (Drive u) e = ap (λ x. Drive x) (eqb-true v u e)
 task_is Sense Sense e = refl
 task_is (Probe v) (Probe u) e = ap (λ x. Probe x) (optional_is v u e)
 task_is (Drive v) Sense e = absurd (cc)
@@ -96,11 +88,6 @@ task_is Sense (Drive u) e = absurd (cc)
 task_is Sense (Probe u) e = absurd (cc)
 task_is (Probe v) (Drive u) e = absurd (cc)
 task_is (Probe v) Sense e = absurd (cc)
-
-task_self : (a : Task) → same_task a a ≡ true
-task_self (Drive v) = eq_true v v refl
-task_self Sense = refl
-task_self (Probe v) = optional_self v
 
 slip_is : (a b : Slip) → same_slip a b ≡ true → a ≡ b
 slip_is a b e =
@@ -128,12 +115,9 @@ slip_is a b e =
     faults : a.faults ≡ b.faults
     faults = grind (arith, common_steps)
 
-slip_self : (a : Slip) → same_slip a a ≡ true
-slip_self a = grind (arith, common_steps)
-
 -- the gate's test is the hub's
 pub kept_is : {D : Type 0} (s : OpenHub D) (slip : Slip) (task : Task) → IsKept s.places slip task → is_kept (state_of s) (record { slip = slip; task = task }) ≡ true
-kept_is s slip task kept = rw kept (rw (slip_self slip, task_self task) refl)
+kept_is s slip task kept = rw kept (same_self (record { slip = slip; task = task }))
 
 pub is_kept_there : {D : Type 0} (s : OpenHub D) (slip : Slip) (task : Task) → is_kept (state_of s) (record { slip = slip; task = task }) ≡ true → IsKept s.places slip task
 is_kept_there {D = D} s slip task kept = by_place (slice_get s.places slip.device.0) refl kept

@@ -1,20 +1,11 @@
 -- The devices that were built, and one more.
+use Rattle.home_types.proofs.Snocs.{snoc_get}
 use Rattle.hub_core.specs.Homes.{AreNew, IsNew}
 use Rattle.routine_reader.specs.declared.scripts.DeviceText.{DeviceText}
-use Rattle.std.proofs.Common.{ap, arith, get_or, inl, inr, refl, subst, sym, ◌∙◌}
+use Rattle.std.proofs.Common.{ap, arith, get_or, inl, inr, subst, sym, ◌∙◌}
 use Rattle.std.proofs.lemmas.List.{length-append, length-take-le, take_more}
 use Rattle.std.proofs.lemmas.Option.{slice_get_within}
-use Rattle.std.specs.Prelude.{List, Option, Some, [], length, slice_get, suc, take, zero, ℕ, ◌+◌, ◌++◌, ◌<◌, ◌∷◌, ◌≡◌, ◌⊎◌}
-
--- a place of a list with one item more is a place of the list, or the new one
-pub snoc_get : {X : Type 0} (xs : List X) (x y : X) (k : ℕ) → slice_get (xs ++ x ∷ []) k ≡ Some y → (slice_get xs k ≡ Some y) ⊎ ((k ≡ length xs) × (x ≡ y))
-snoc_get [] x y zero h = inr (refl, cc)
-snoc_get [] x y (suc k) h = absurd (cc)
-snoc_get (z ∷ xs) x y zero h = inl h
-snoc_get (z ∷ xs) x y (suc k) h = elim (snoc_get xs x y k h) [
-  | inl e ↦ inl e
-  | inr p ↦ inr (ap (λ n. suc n) p.0, p.1)
-]
+use Rattle.std.specs.Prelude.{List, Option, [], length, take, ℕ, ◌+◌, ◌++◌, ◌<◌, ◌∷◌, ◌≡◌}
 
 pub new_more : {D : Type 0} (tag : D → ℕ) (plan : D → Option (List (ℕ × ℕ))) (stands turns probes faults : D → ℕ) (texts : List DeviceText) (devices : List D) (text : DeviceText) (device : D)
     → AreNew tag plan stands turns probes faults texts devices → IsNew tag plan stands turns probes faults text (length devices) device

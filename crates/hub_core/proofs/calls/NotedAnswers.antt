@@ -1,6 +1,5 @@
 -- How the calls of a lineage table that note an answer are one change.
 use Rattle.home_types.specs.declared.commands.View.{View}
-use Rattle.home_types.specs.declared.numbers.RunNo.{RunNo}
 use Rattle.hub_core.specs.KeptOrders.{MayNote, is_first, noted_first}
 use Rattle.lineage_table.proofs.Pairs.{Pairs, pairs_from_all}
 use Rattle.lineage_table.specs.Accesses.{AreInTurn, IsDisciplined, access_of, before, is_of, is_released, is_scheduled, some_scheduled, status_of, with_change}
@@ -10,10 +9,13 @@ use Rattle.lineage_table.specs.declared.accesses.Access.{Access}
 use Rattle.lineage_table.specs.declared.accesses.Status.TheVariants.{Acquired, Released, Scheduled}
 use Rattle.lineage_table.specs.declared.accesses.Status.{Status}
 use Rattle.std.proofs.Common.{IsTrue, ap, arith, refl, subst, sym, ◌∙◌}
+use Rattle.std.proofs.lemmas.Bool.{both_ways, or_from}
 use Rattle.std.proofs.lemmas.Grind.{common_steps}
 use Rattle.std.proofs.lemmas.List.{get_or-set_same, length-set, set-get_or}
+use Rattle.std.proofs.lemmas.Option.{same_Some}
 use Rattle.std.specs.List.{AllByRecursion}
-use Rattle.std.specs.Prelude.{Bool, List, None, Option, Some, [], false, find, if◌then◌else◌, length, not, option_map, slice_set, true, ℕ, ◌<◌, ◌==◌, ◌||◌, ◌∷◌, ◌≡◌}
+use Rattle.std.specs.Prelude.{Bool, List, None, Option, Some, [], false, find, if◌then◌else◌, length, not, option_map, slice_set, true, ℕ, ◌<◌, ◌||◌, ◌∷◌, ◌≡◌}
+use Rattle.window_order.proofs.AnsweredTables.{acquire_access, release_access, with_none, with_twice, write_access}
 use Rattle.window_order.proofs.PassedAccesses.{pass_none, passed_first, waits}
 use Rattle.window_order.proofs.TableSteps.{with_both}
 use Rattle.window_order.specs.TableChanges.{IsFirst, IsWaiting, acquired_if, noted, passed, released_if, written_if}
@@ -38,22 +40,6 @@ acquired_now r view s h = status_changed r (λ (x : Access). record x { status =
 
 -- The steps of an answer are one change of the run's access
 
-change_none : (r : ℕ) (xs : List Access) → with_change r (λ x. x) xs ≡ xs
-change_none r [] = refl
-change_none r (x ∷ xs) = at (is_of r x) (change_none r xs)
-  where
-    at : (b : Bool) → with_change r (λ y. y) xs ≡ xs → (if b then (x ∷ xs) else (x ∷ with_change r (λ y. y) xs)) ≡ x ∷ xs
-    at true h = refl
-    at false h = ap (λ l. x ∷ l) h
-
-change_twice : (r : ℕ) (f g : Access → Access) → ((x : Access) → (f x).run ≡ x.run) → (xs : List Access) → with_change r g (with_change r f xs) ≡ with_change r (λ x. g (f x)) xs
-change_twice r f g own [] = refl
-change_twice r f g own (x ∷ xs) = at (is_of r x) refl (change_twice r f g own xs)
-  where
-    at : (b : Bool) → is_of r x ≡ b → with_change r g (with_change r f xs) ≡ with_change r (λ y. g (f y)) xs → with_change r g (if b then (f x ∷ xs) else (x ∷ with_change r f xs)) ≡ (if b then (g (f x) ∷ xs) else (x ∷ with_change r (λ y. g (f y)) xs))
-    at true e h = ap (λ b. if b then (g (f x) ∷ xs) else (f x ∷ with_change r g xs)) (ap (λ (q : RunNo). q.0 == r) (own x) ∙ e)
-    at false e h = ap (λ b. if b then (g x ∷ with_change r f xs) else (x ∷ with_change r g (with_change r f xs))) e ∙ ap (λ l. x ∷ l) h
-
 -- a change goes by the run's access alone
 change_as : (r : ℕ) (f g : Access → Access) (xs : List Access) → ((x : Access) → access_of r xs ≡ Some x → f x ≡ g x) → with_change r f xs ≡ with_change r g xs
 change_as r f g [] same = refl
@@ -64,62 +50,50 @@ change_as r f g (x ∷ xs) same = at (is_of r x) same (λ s. change_as r f g xs 
     at true same h = ap (λ y. y ∷ xs) (same x refl)
     at false same h = ap (λ l. x ∷ l) (h same)
 
-acquires : Bool → View → Access → Access
-acquires true view x = record x { status = Acquired; view = Some view }
-acquires false view x = x
-
-writes : Option ℕ → Access → Access
-writes None x = x
-writes (Some v) x = record x { wrote = Some v }
-
-releases : Bool → Access → Access
-releases true x = record x { status = Released }
-releases false x = x
-
 with_accesses : LineageState → List Access → LineageState
 with_accesses s l = record s { accesses = l }
 
 module _ (r : ℕ) (first : Bool) (view : View) (wrote : Option ℕ) (last : Bool) where
   all_steps : Access → Access
-  all_steps x = releases last (writes wrote (acquires first view x))
+  all_steps x = release_access last (write_access wrote (acquire_access first view x))
 
   noted_steps : (s : LineageState) → noted r first view wrote last s ≡ with_accesses s (with_change r all_steps s.accesses)
-  unfolding all_steps acquires writes releases with_accesses
+  unfolding all_steps with_accesses
   noted_steps s =
       ap (λ t. released_if last r (written_if wrote r t)) (at_first first)
-      ∙ ap (released_if last r) (at_wrote wrote (with_change r (acquires first view) s.accesses))
-      ∙ at_last last (with_change r (writes wrote) (with_change r (acquires first view) s.accesses))
-      ∙ ap (λ l. with_accesses s (with_change r (releases last) l)) (change_twice r (acquires first view) (writes wrote) (own_first first) s.accesses)
-      ∙ ap (with_accesses s) (change_twice r (λ x. writes wrote (acquires first view x)) (releases last) (λ x. own_wrote wrote (acquires first view x) ∙ own_first first x) s.accesses)
+      ∙ ap (released_if last r) (at_wrote wrote (with_change r (acquire_access first view) s.accesses))
+      ∙ at_last last (with_change r (write_access wrote) (with_change r (acquire_access first view) s.accesses))
+      ∙ ap (λ l. with_accesses s (with_change r (release_access last) l)) (with_twice r (acquire_access first view) (write_access wrote) s.accesses (own_first first))
+      ∙ ap (with_accesses s) (with_twice r (λ x. write_access wrote (acquire_access first view x)) (release_access last) s.accesses (λ x. own_wrote wrote (acquire_access first view x) ∙ own_first first x))
     where
-      own_first : (b : Bool) (x : Access) → (acquires b view x).run ≡ x.run
+      own_first : (b : Bool) (x : Access) → (acquire_access b view x).run ≡ x.run
       own_first true x = refl
       own_first false x = refl
 
-      own_wrote : (o : Option ℕ) (x : Access) → (writes o x).run ≡ x.run
+      own_wrote : (o : Option ℕ) (x : Access) → (write_access o x).run ≡ x.run
       own_wrote None x = refl
       own_wrote (Some v) x = refl
 
-      at_first : (b : Bool) → acquired_if b r view s ≡ with_accesses s (with_change r (acquires b view) s.accesses)
+      at_first : (b : Bool) → acquired_if b r view s ≡ with_accesses s (with_change r (acquire_access b view) s.accesses)
       at_first true = refl
-      at_first false = ap (with_accesses s) (sym (change_none r s.accesses))
+      at_first false = ap (with_accesses s) (sym (with_none r s.accesses))
 
-      at_wrote : (o : Option ℕ) (l : List Access) → written_if o r (with_accesses s l) ≡ with_accesses s (with_change r (writes o) l)
-      at_wrote None l = ap (with_accesses s) (sym (change_none r l))
+      at_wrote : (o : Option ℕ) (l : List Access) → written_if o r (with_accesses s l) ≡ with_accesses s (with_change r (write_access o) l)
+      at_wrote None l = ap (with_accesses s) (sym (with_none r l))
       at_wrote (Some v) l = refl
 
-      at_last : (b : Bool) (l : List Access) → released_if b r (with_accesses s l) ≡ with_accesses s (with_change r (releases b) l)
+      at_last : (b : Bool) (l : List Access) → released_if b r (with_accesses s l) ≡ with_accesses s (with_change r (release_access b) l)
       at_last true l = refl
-      at_last false l = ap (with_accesses s) (sym (change_none r l))
+      at_last false l = ap (with_accesses s) (sym (with_none r l))
 
   one_step : (x : Access) → x.status ≡ (if first then Scheduled else Acquired) → answered_access view wrote last x ≡ all_steps x
-  unfolding all_steps acquires writes releases
+  unfolding all_steps
   one_step x e = at first wrote last e
     where
       seen : (s t : Status) (o : Option ℕ) → x.status ≡ t → record x { status = s; view = if is_scheduled x.status then Some view else x.view; wrote = o } ≡ record x { status = s; view = if is_scheduled t then Some view else x.view; wrote = o }
       seen s t o e = ap (λ u. record x { status = s; view = if is_scheduled u then Some view else x.view; wrote = o }) e
 
-      at : (b : Bool) (o : Option ℕ) (l : Bool) → x.status ≡ (if b then Scheduled else Acquired) → answered_access view o l x ≡ releases l (writes o (acquires b view x))
+      at : (b : Bool) (o : Option ℕ) (l : Bool) → x.status ≡ (if b then Scheduled else Acquired) → answered_access view o l x ≡ release_access l (write_access o (acquire_access b view x))
       at true None true e = seen Released Scheduled x.wrote e
       at true (Some v) true e = seen Released Scheduled (Some v) e
       at true None false e = seen Acquired Scheduled x.wrote e
@@ -131,10 +105,7 @@ module _ (r : ℕ) (first : Bool) (view : View) (wrote : Option ℕ) (last : Boo
 
   answered_noted : (s : LineageState) → status_of r s.accesses ≡ Some (if first then Scheduled else Acquired) → answered r view wrote last s ≡ noted r first view wrote last s
   unfolding with_accesses
-  answered_noted s e = ap (with_accesses s) (change_as r (answered_access view wrote last) all_steps s.accesses (λ x found. one_step x (the x.status (sym (ap (option_map (λ (y : Access). y.status)) found) ∙ e)))) ∙ sym (noted_steps s)
-    where
-      the : (a : Status) {b : Status} → Some a ≡ Some b → a ≡ b
-      the a h = cc
+  answered_noted s e = ap (with_accesses s) (change_as r (answered_access view wrote last) all_steps s.accesses (λ x found. one_step x (same_Some x.status _ (sym (ap (option_map (λ (y : Access). y.status)) found) ∙ e)))) ∙ sym (noted_steps s)
 
 -- The run that notes an answer
 
@@ -144,9 +115,6 @@ unfolding Pairs
 none_before r [] turns h = absurd (cc)
 none_before r (x ∷ xs) turns h = at (is_of r x) h (λ e. (in_turn xs turns.0 e, none_before r xs turns.1 e))
   where
-    two : (a b : Bool) → a ≡ false → b ≡ false → (a || b) ≡ false
-    two a b e f = grind (arith, common_steps)
-
     in_turn : (ys : List Access) → AllByRecursion (AreInTurn x) ys → status_of r ys ≡ Some Acquired → is_scheduled x.status ≡ false
     in_turn [] turn h = absurd (cc)
     in_turn (y ∷ ys) turn h = split (is_of r y) (λ e. in_turn ys turn.1 e) h
@@ -156,27 +124,21 @@ none_before r (x ∷ xs) turns h = at (is_of r x) h (λ e. (in_turn xs turns.0 e
         own Acquired e f = refl
         own Scheduled e f = let t : IsTrue (is_released x.status || is_scheduled y.status) = turn.0 in absurd (grind (arith, common_steps))
 
-        the : (a b : Status) → Some a ≡ Some b → a ≡ b
-        the a b h = cc
-
         split : (b : Bool) → (status_of r ys ≡ Some Acquired → is_scheduled x.status ≡ false) → option_map (λ (z : Access). z.status) (if b then Some y else access_of r ys) ≡ Some Acquired → is_scheduled x.status ≡ false
-        split true f e = own x.status refl (the y.status Acquired e)
+        split true f e = own x.status refl (same_Some y.status Acquired e)
         split false f e = f e
 
     at : (b : Bool) → option_map (λ (z : Access). z.status) (if b then Some x else access_of r xs) ≡ Some Acquired → (status_of r xs ≡ Some Acquired → (is_scheduled x.status ≡ false) × (some_scheduled (before r xs) ≡ false)) → some_scheduled (if b then [] else (x ∷ before r xs)) ≡ false
     at true e f = refl
-    at false e f = let p = f e in two (is_scheduled x.status) (some_scheduled (before r xs)) p.0 p.1
+    at false e f = let p = f e in or_from (is_scheduled x.status) (some_scheduled (before r xs)) p.0 p.1
 
 -- so it has its first answer there, where one is
 waits_first : (r : ℕ) (s : LineageState) → IsDisciplined s.accesses → MayNote r s → some_scheduled (before r s.accesses) ≡ true → is_first r s ≡ true
 waits_first r s disciplined may waits = at (is_first r s) refl
   where
-    two : (b : Bool) → b ≡ true → b ≡ false → ⊥
-    two b e f = cc
-
     at : (b : Bool) → is_first r s ≡ b → is_first r s ≡ true
     at true e = e
-    at false e = absurd (two (some_scheduled (before r s.accesses)) waits (none_before r s.accesses (pairs_from_all AreInTurn s.accesses disciplined.in_turn) (may.status ∙ ap (λ b. Some (if b then Scheduled else Acquired)) e)))
+    at false e = absurd (both_ways (some_scheduled (before r s.accesses)) (none_before r s.accesses (pairs_from_all AreInTurn s.accesses disciplined.in_turn) (may.status ∙ ap (λ b. Some (if b then Scheduled else Acquired)) e)) waits)
 
 none_found : (xs : List Access) → some_scheduled xs ≡ false → find waits xs ≡ None
 none_found [] h = refl

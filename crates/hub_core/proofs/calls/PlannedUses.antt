@@ -7,7 +7,8 @@ use Rattle.home_types.specs.declared.items.Item.{Item}
 use Rattle.home_types.specs.declared.commands.Command.{Command}
 use Rattle.hub_core.specs.PlansInTurn.{planned_use, used_again}
 use Rattle.hub_core.specs.declared.plans.PlannedUse.{PlannedUse}
-use Rattle.std.proofs.Common.{ap, refl, ◌∙◌}
+use Rattle.std.proofs.Common.{ap, refl, sym, ◌∙◌}
+use Rattle.std.proofs.Math.Bool.{or-false}
 use Rattle.std.proofs.lemmas.List.Folds.{list_any-append}
 use Rattle.std.specs.List.{list_any}
 use Rattle.std.specs.Prelude.{Bool, List, None, Option, Some, [], false, find, fold, if◌then◌else◌, max, min, option_map, true, unwrap_or, ℕ, ◌++◌, ◌+◌, ◌==◌, ◌||◌, ◌∷◌, ◌≡◌}
@@ -42,11 +43,7 @@ use_is d (p ∷ ps) = by_device (p.device == d) (use_is d ps)
 
 -- planning commands adds times on their devices
 timed_devices : (free : ℕ → ℕ) (d clock : ℕ) (planned : List Planned) (cs : List Command) → list_any (λ p. p.device == d) (fold (plan_more free) (record { clock = clock; planned = planned }) cs).planned ≡ (list_any (λ p. p.device == d) planned || list_any (is_on d) cs)
-timed_devices free d clock planned [] = with_false (list_any (λ p. p.device == d) planned)
-  where
-    with_false : (x : Bool) → x ≡ (x || false)
-    with_false true = refl
-    with_false false = refl
+timed_devices free d clock planned [] = sym (or-false (list_any (λ p. p.device == d) planned))
 timed_devices free d clock planned (c ∷ cs) =
     timed_devices free d (min (max clock (free c.device.0) + c.ms) greatest) (planned ++ record { device = c.device.0; from = max clock (free c.device.0); to = min (max clock (free c.device.0) + c.ms) greatest } ∷ []) cs
     ∙ ap (λ b. b || list_any (is_on d) cs) (list_any-append (λ p. p.device == d) planned (record { device = c.device.0; from = max clock (free c.device.0); to = min (max clock (free c.device.0) + c.ms) greatest } ∷ []))

@@ -21,12 +21,13 @@ use Rattle.home_types.specs.declared.items.Item.TheVariants.{Back, Failed}
 use Rattle.home_types.specs.declared.numbers.DeviceNo.{DeviceNo}
 use Rattle.home_types.specs.declared.numbers.RunNo.{RunNo}
 use Rattle.hub_core.proofs.calls.Deaths.{more_after}
+use Rattle.hub_core.proofs.calls.Departures.{gone_past}
 use Rattle.hub_core.proofs.calls.HubOrders.{read_whole}
 use Rattle.hub_core.proofs.calls.ProbesHome.{ProbeBack, ProbeCame, ProbeHere, ProbeKnown, ProbeTells, back_tells, counted_here, dead_entries, dead_tells, probe_back, probe_given, probe_here, probe_whole}
 use Rattle.hub_core.proofs.calls.Homecomings.{ComesBack, back_places}
 use Rattle.hub_core.proofs.calls.Turning.{TellsTurn, few_turns, first_may, may_fall, may_rise}
 use Rattle.hub_core.proofs.kept.EventsTold.{event_told, lost_told, probe_commands, sound_is}
-use Rattle.hub_core.proofs.kept.HubReads.{run_place, some_is}
+use Rattle.hub_core.proofs.kept.HubReads.{run_place}
 use Rattle.hub_core.proofs.kept.Finds.{none_does}
 use Rattle.hub_core.proofs.kept.OrderSteps.{read_more}
 use Rattle.hub_core.proofs.kept.ProbeSteps.{order_fell, order_lost, order_probe_home, order_rose}
@@ -46,8 +47,11 @@ use Rattle.lock_leasing.specs.Waits.{grip_wait, lost_by}
 use Rattle.lock_leasing.specs.Words.{live_runs}
 use Rattle.serial_line.specs.Marks.{Marked}
 use Rattle.std.proofs.Common.{ap, arith, cond, refl, subst, sym, ◌∙◌}
+use Rattle.std.proofs.Math.Bool.{and-true}
+use Rattle.std.proofs.lemmas.Bool.{eq-eqb, eqb-true, lt-ltb}
 use Rattle.std.proofs.lemmas.Grind.{common_steps}
-use Rattle.std.specs.Prelude.{Bool, IfSome, IsSome, IsTrue, List, None, Option, Some, [], false, find, fold, if◌then◌else◌, length, nat_lt, not, option_map, option_to_list, slice_get, slice_index_or, suc, true, unwrap_or, zero, ℕ, ◌&&◌, ◌+◌, ◌-◌, ◌<◌, ◌==◌, ◌∷◌, ◌≡◌, ◌≤◌}
+use Rattle.std.proofs.lemmas.Option.{same_Some}
+use Rattle.std.specs.Prelude.{Bool, IfSome, IsSome, IsTrue, List, None, Option, Some, [], false, find, fold, if◌then◌else◌, length, not, option_map, option_to_list, slice_get, slice_index_or, suc, true, unwrap_or, zero, ℕ, ◌&&◌, ◌+◌, ◌-◌, ◌<◌, ◌==◌, ◌∷◌, ◌≡◌, ◌≤◌}
 use Rattle.window_order.proofs.Grips.{fits_same}
 use Rattle.window_order.proofs.ReadFacts.{IsRead, read_facts}
 use Rattle.window_order.proofs.Runs.{live_run}
@@ -82,10 +86,7 @@ pub record IsRisen {D : Type 0} (h t : Inside D) (sl : Slip) (events : Events) :
 place_told : {D : Type 0} {stands turns probes faults : D → ℕ} (h : Inside D) (d : DeviceNo) → d.0 < length h.history.setting.first → IsWhole stands turns probes faults h → event_place h.history.history None (accesses_at h.order.table d.0) h.order.line.marks ≡ event_place_of h.history.setting (read_in h.history) d.0
 place_told h d below k = either_model (event_place h.history.history None (accesses_at h.order.table d.0) h.order.line.marks ≡ event_place_of h.history.setting (read_in h.history) d.0) h.history.setting
     (λ weak. weak_place h.history.setting (read_in h.history) (configuration_of (open_of h)).grips d.0 h.history.history (accesses_at h.order.table d.0) h.order.line.marks weak (k.order.table_is.weakly weak d.0 below).accesses k.order.line_is)
-    (λ strong. event_told h.history.setting (read_in h.history) (configuration_of (open_of h)).grips (held_in (open_of h)) d.0 h.history.history (lineage_at h.order.table d.0) h.order.line.marks (read_whole h k) strong (within d.0 (length h.history.setting.first) below) (k.shown.configuration.ordered strong).order ((k.order.table_is.ordered strong).each d.0 below) k.order.line_is (λ q. sound_is h.history.setting h.history.history q k.shown.configuration.history.well_formed))
-  where
-    within : (a b : ℕ) → a < b → nat_lt a b ≡ true
-    within a b lt = grind (arith, common_steps, lt)
+    (λ strong. event_told h.history.setting (read_in h.history) (configuration_of (open_of h)).grips (held_in (open_of h)) d.0 h.history.history (lineage_at h.order.table d.0) h.order.line.marks (read_whole h k) strong (lt-ltb d.0 (length h.history.setting.first) below) (k.shown.configuration.ordered strong).order ((k.order.table_is.ordered strong).each d.0 below) k.order.line_is (λ q. sound_is h.history.setting h.history.history q k.shown.configuration.history.well_formed))
 
 table_place : {D : Type 0} {stands turns probes faults : D → ℕ} (h : Inside D) (d : ℕ) → d < length h.history.setting.first → IsWhole stands turns probes faults h → d < length h.order.table
 table_place h d below k = let size : length h.order.table ≡ length h.history.setting.first = k.order.table_is.devices in omega (arith, below, size)
@@ -126,10 +127,7 @@ few_events_here {D = D} h s slip sl before seen below same before_is k =
 pub lost_is : {D : Type 0} {stands turns probes faults : D → ℕ} (h : Inside D) (d : ℕ) (v : Option ℕ) → (configuration_of (open_of h)).grips d ≡ Some (record { maker = 0; purpose = Probes v }) → d < length h.history.setting.first → IsWhole stands turns probes faults h → option_map (λ (r : RunNo). r.0) (lost_run h.history.history (accesses_at h.order.table d)) ≡ lost_by h.history.setting (read_in h.history) d
 lost_is h d v at below k = either_model (option_map (λ (r : RunNo). r.0) (lost_run h.history.history (accesses_at h.order.table d)) ≡ lost_by h.history.setting (read_in h.history) d) h.history.setting
     (λ weak. ap (λ xs. option_map (λ (r : RunNo). r.0) (lost_run h.history.history xs)) (k.order.table_is.weakly weak d below).accesses ∙ sym (ap (λ b. if b then None else find (λ x. is_open h.history.setting (read_in h.history) x d && sees_up (read_in h.history) x d) (live_runs (read_in h.history) (read_in h.history).line)) weak))
-    (λ strong. lost_told h.history.setting (read_in h.history) (configuration_of (open_of h)).grips (held_in (open_of h)) d h.history.history (lineage_at h.order.table d) (read_whole h k) strong (within d (length h.history.setting.first) below) (probe_commands (configuration_of (open_of h)).grips d 0 v at) (k.shown.configuration.ordered strong).order ((k.order.table_is.ordered strong).each d below) (λ q. sound_is h.history.setting h.history.history q k.shown.configuration.history.well_formed))
-  where
-    within : (a b : ℕ) → a < b → nat_lt a b ≡ true
-    within a b lt = grind (arith, common_steps, lt)
+    (λ strong. lost_told h.history.setting (read_in h.history) (configuration_of (open_of h)).grips (held_in (open_of h)) d h.history.history (lineage_at h.order.table d) (read_whole h k) strong (lt-ltb d (length h.history.setting.first) below) (probe_commands (configuration_of (open_of h)).grips d 0 v at) (k.shown.configuration.ordered strong).order ((k.order.table_is.ordered strong).each d below) (λ q. sound_is h.history.setting h.history.history q k.shown.configuration.history.well_formed))
 
 -- it is a live run that is not doomed
 pub record IsLostRun (w : Setting) (n : Reading) (r : ℕ) : Type 0 where
@@ -151,7 +149,7 @@ lost_runs w n d r read lost = either_model (IsLostRun w n r) w
 found_does : {A : Type 0} (p : A → Bool) (xs : List A) (x : A) → find p xs ≡ Some x → p x ≡ true
 found_does p [] x e = absurd (cc)
 found_does p (y ∷ ys) x e = elim (p y) as (λ b. p y ≡ b → cond b (Some y) (find p ys) ≡ Some x → p x ≡ true) [
-  | true ↦ (λ t f. subst (λ z. p z ≡ true) (some_is y x f) t)
+  | true ↦ (λ t f. subst (λ z. p z ≡ true) (same_Some y x f) t)
   | false ↦ (λ t f. found_does p ys x f)
 ] refl e
 
@@ -159,26 +157,19 @@ found_does p (y ∷ ys) x e = elim (p y) as (λ b. p y ≡ b → cond b (Some y)
 for_commands : (w : Setting) (n : Reading) (g : Grips) (r e : ℕ) → GripsFit w n g → is_run w.runs r ≡ true → is_doomed n r ≡ false → grips_command g r e ≡ has_grip g r e
 for_commands w n g r e fit run sound = by_grip (g e) refl
   where
-    equal : (a b : ℕ) → (a == b) ≡ true → a ≡ b
-    equal a b h = grind (arith, common_steps)
-
     differs : (m : ℕ) (b c : Bool) → (m == r) ≡ false → ((m == r) && b) ≡ (m == r)
     differs m b c h = grind (arith, common_steps)
 
     doomed_then : (a b c f : Bool) → (a && b && c && f) ≡ true → b ≡ true
     doomed_then a b c f h = grind (arith, common_steps)
 
-    same_test : (b : Bool) → (b && true) ≡ b
-    same_test true = refl
-    same_test false = refl
-
     by_purpose : (m : ℕ) (p : Purpose) → g e ≡ Some (record { maker = m; purpose = p }) → (b : Bool) → (m == r) ≡ b → ((m == r) && is_command p) ≡ (m == r)
-    by_purpose m (Commands k) at b is = same_test (m == r)
+    by_purpose m (Commands k) at b is = and-true (m == r)
     by_purpose m (Undoes v) at true is =
-        absurd (let both : false ≡ true = sym sound ∙ ap (is_doomed n) (sym (equal m r is)) ∙ doomed_then (is_live n m) (is_doomed n m) (has_written n m e) (not ((n.run m).on e).undid) (fit.runs.undos e m v at) in cc)
+        absurd (let both : false ≡ true = sym sound ∙ ap (is_doomed n) (sym (eqb-true m r is)) ∙ doomed_then (is_live n m) (is_doomed n m) (has_written n m e) (not ((n.run m).on e).undid) (fit.runs.undos e m v at) in cc)
     by_purpose m (Undoes v) at false is = differs m false false is
     by_purpose m (Probes v) at true is =
-        absurd (let none : r ≡ 0 = sym (equal m r is) ∙ fit.probes e m v at in let no : is_run w.runs 0 ≡ true = subst (λ x. is_run w.runs x ≡ true) none run in cc)
+        absurd (let none : r ≡ 0 = sym (eqb-true m r is) ∙ fit.probes e m v at in let no : is_run w.runs 0 ≡ true = subst (λ x. is_run w.runs x ≡ true) none run in cc)
     by_purpose m (Probes v) at false is = differs m false false is
 
     by_grip : (o : Option Grip) → g e ≡ o → unwrap_or (option_map (λ p. (p.maker == r) && is_command p.purpose) o) false ≡ unwrap_or (option_map (λ p. p.maker == r) o) false
@@ -191,12 +182,6 @@ out_commands w n g r out fit run sound held e = for_commands w n g r e fit run s
   where
     place : (r ≡ suc (r - 1)) × (r - 1 < length w.runs)
     place = run_place w.runs r run
-
-    equal : (a b : ℕ) → (a == b) ≡ true → a ≡ b
-    equal a b h = grind (arith, common_steps)
-
-    itself : (a : ℕ) → (a == a) ≡ true
-    itself a = grind (arith, common_steps)
 
     outside : (x : ℕ) → is_device w x ≡ false → has_grip g r x ≡ false
     outside x none = by_grip (g x) refl
@@ -219,7 +204,7 @@ out_commands w n g r out fit run sound held e = for_commands w n g r e fit run s
 
     maker_of : (x : ℕ) (o : Option Grip) → g x ≡ o → unwrap_or (option_map (λ p. p.maker == r) o) false ≡ true → (p : Purpose) × (g x ≡ Some (record { maker = suc (r - 1); purpose = p }))
     maker_of x None at h = absurd (cc)
-    maker_of x (Some p) at h = (p.purpose, at ∙ ap (λ m. Some (record { maker = m; purpose = p.purpose })) (equal p.maker r h ∙ place.0))
+    maker_of x (Some p) at h = (p.purpose, at ∙ ap (λ m. Some (record { maker = m; purpose = p.purpose })) (eqb-true p.maker r h ∙ place.0))
 
     -- it holds this one alone
     alone : (x : DeviceNo) → grip_wait w g r ≡ Some x.0 → has_grip g r e ≡ (x.0 == e)
@@ -230,12 +215,12 @@ out_commands w n g r out fit run sound held e = for_commands w n g r e fit run s
 
         by_test : (b : Bool) → (x.0 == e) ≡ b → (c : Bool) → has_grip g r e ≡ c → c ≡ b
         by_test true same true has = refl
-        by_test true same false has = sym has ∙ ap (has_grip g r) (sym (equal x.0 e same)) ∙ here
+        by_test true same false has = sym has ∙ ap (has_grip g r) (sym (eqb-true x.0 e same)) ∙ here
         by_test false other false has = refl
         by_test false other true has =
             let one = maker_of x.0 (g x.0) refl here in
             let two = maker_of e (g e) refl has in
-            absurd (let same : x.0 ≡ e = fit.runs.one x.0 e (r - 1) one.0 two.0 one.1 two.1 in let both : false ≡ true = sym other ∙ ap (λ z. x.0 == z) (sym same) ∙ itself x.0 in cc)
+            absurd (let same : x.0 ≡ e = fit.runs.one x.0 e (r - 1) one.0 two.0 one.1 two.1 in let both : false ≡ true = sym other ∙ ap (λ z. x.0 == z) (sym same) ∙ eq-eqb x.0 _ refl in cc)
 
     by_out : (o : Option DeviceNo) → option_map (λ d. d.0) o ≡ grip_wait w g r → has_grip g r e ≡ is_that_device o e
     by_out None is = empty (sym is)
@@ -253,17 +238,12 @@ hand_commands w n g r hands fit are run sound = out_commands w n g r (hand_of ha
     holds hand at = are.each (r - 1) hand at ∙ ap (grip_wait w g) (sym place.0)
 
     by_hand : (o : Option (Option DeviceNo)) → slice_get hands (r - 1) ≡ o → option_map (λ d. d.0) (hand_of hands r) ≡ grip_wait w g r
-    by_hand None at = absurd (let size = are.size in let past = past_list hands (r - 1) at in omega (arith, size, past, place.1))
-      where
-        past_list : {A : Type 0} (xs : List A) (i : ℕ) → slice_get xs i ≡ None → length xs ≤ i
-        past_list [] i none = omega arith
-        past_list (y ∷ ys) zero none = absurd (cc)
-        past_list (y ∷ ys) (suc i) none = omega (arith, past_list ys i none)
+    by_hand None at = absurd (let size = are.size in let past = gone_past hands (r - 1) at in omega (arith, size, past, place.1))
     by_hand (Some hand) at = ap (option_map (λ d. d.0)) (hand_is hands (r - 1) hand at) ∙ holds hand at
       where
         hand_is : (xs : List (Option DeviceNo)) (i : ℕ) (x : Option DeviceNo) → slice_get xs i ≡ Some x → slice_index_or xs i None ≡ x
         hand_is [] i x at' = absurd (cc)
-        hand_is (y ∷ ys) zero x at' = some_is y x at'
+        hand_is (y ∷ ys) zero x at' = same_Some y x at'
         hand_is (y ∷ ys) (suc i) x at' = hand_is ys i x at'
 
 -- The device has failed, and a run is lost with it, or none

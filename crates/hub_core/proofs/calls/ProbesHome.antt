@@ -45,11 +45,12 @@ use Rattle.hub_core.specs.declared.purposes.Purpose.{Purpose as KeptPurpose}
 use Rattle.lock_leasing.specs.Configurations.{Configuration, Probes, read_of}
 use Rattle.lock_leasing.specs.Waits.{lost_by}
 use Rattle.std.proofs.Common.{ap, arith, refl, subst, sym, ◌∙◌}
+use Rattle.std.proofs.lemmas.Bool.{eq-eqb, not-true}
 use Rattle.std.proofs.lemmas.Grind.{common_steps}
 use Rattle.std.proofs.lemmas.Option.{slice_get_within}
 use Rattle.std.specs.Prelude.{Bool, IfSome, IsTrue, List, None, Ok, Option, Some, [], false, fold, if◌then◌else◌, is_none, length, nat_lt, not, option_map, option_to_list, slice_get, slice_set, true, ℕ, ◌&&◌, ◌++◌, ◌+◌, ◌-◌, ◌<◌, ◌==◌, ◌∷◌, ◌≡◌, ◌≢◌, ◌≤◌}
 use Rattle.window_order.proofs.ReadFacts.{read_facts}
-use Rattle.window_order.proofs.Runs.{live_run}
+use Rattle.window_order.proofs.Runs.{four, live_run, three}
 
 -- Why it was out
 
@@ -74,12 +75,6 @@ for_probe stands turns probes faults s slip task kept there none = by_purpose (d
     out : (p : KeptPurpose) → (device_at s.devices slip.device.0).purpose ≡ p → (configuration_of s).grips slip.device.0 ≡ Some (record { maker = slip.maker; purpose = purpose_of p })
     out p is = ap (λ o. grip_in o (device_at s.devices slip.device.0).purpose) there ∙ ap (λ (q : KeptPurpose). Some (record { maker = slip.maker; purpose = purpose_of q })) is
 
-    of_three : (a b c : Bool) → (a && b && c) ≡ true → a ≡ true
-    of_three a b c h = grind (arith, common_steps)
-
-    of_four : (a b c e : Bool) → (a && b && c && e) ≡ true → a ≡ true
-    of_four a b c e h = grind (arith, common_steps)
-
     within : slip.device.0 < length s.setting.first
     within = let lt : slip.device.0 < length s.places = slice_get_within s.places slip.device.0 (Out slip task) there in let size : length s.places ≡ length s.setting.first = kept.places_size in omega (arith, lt, size)
 
@@ -91,8 +86,8 @@ for_probe stands turns probes faults s slip task kept there none = by_purpose (d
     valued (Some u) at = restored_fits (configuration_of s) s.rounds s.opened (held_in s) slip.device.0 0 u at within (kept.values slip.device.0 within) kept.configuration
 
     by_purpose : (p : KeptPurpose) → (device_at s.devices slip.device.0).purpose ≡ p → (v : Option ℕ) × IsForProbe s slip task v
-    by_purpose (ForCommand k) is = absurd (no_run (of_three (is_live n slip.maker) (is_next_on s.setting n slip.maker slip.device.0) (k == next_of n slip.maker) (kept.configuration.grips.runs.commands slip.device.0 slip.maker k (out (ForCommand k) is))))
-    by_purpose (ForUndo u) is = absurd (no_run (of_four (is_live n slip.maker) (is_doomed n slip.maker) (has_written n slip.maker slip.device.0) (not ((n.run slip.maker).on slip.device.0).undid) (kept.configuration.grips.runs.undos slip.device.0 slip.maker u (out (ForUndo u) is))))
+    by_purpose (ForCommand k) is = absurd (no_run (three (is_live n slip.maker) (is_next_on s.setting n slip.maker slip.device.0) (k == next_of n slip.maker) (kept.configuration.grips.runs.commands slip.device.0 slip.maker k (out (ForCommand k) is))).0)
+    by_purpose (ForUndo u) is = absurd (no_run (four (is_live n slip.maker) (is_doomed n slip.maker) (has_written n slip.maker slip.device.0) (not ((n.run slip.maker).on slip.device.0).undid) (kept.configuration.grips.runs.undos slip.device.0 slip.maker u (out (ForUndo u) is))))
     by_purpose (ForProbe v) is =
         let grip : (configuration_of s).grips slip.device.0 ≡ Some (record { maker = 0; purpose = Probes v }) = out (ForProbe v) is ∙ ap (λ m. Some (record { maker = m; purpose = Probes v })) none in
         let does : task ≡ Probe v = (kept.out slip.device.0 slip task there).does ∙ ap (λ (q : KeptPurpose). task_of (configuration_of s) slip.maker (purpose_of q)) is in (
@@ -201,7 +196,7 @@ same_tells w n d v told events counted same events_are = record {
   calls_other = λ e other. refl;
   falls_here = omega arith;
   falls_other = λ e other. refl;
-  up_here = λ up. lives (has_died told) (sym same ∙ up);
+  up_here = λ up. not-true (has_died told) (sym same ∙ up);
   up_other = λ e other. refl;
   events_other = λ e other. refl;
   register = λ q. refl;
@@ -219,10 +214,6 @@ same_tells w n d v told events counted same events_are = record {
     no_call (Some u) Worked e = absurd (cc)
     no_call (Some u) (Sensed x) e = absurd (cc)
     no_call o Died e = refl
-
-    lives : (b : Bool) → not b ≡ true → b ≡ false
-    lives true e = absurd (cc)
-    lives false e = refl
 
 -- it is back
 pub back_tells : (w : Setting) (n : Reading) (d : ℕ) (v : Option ℕ) (told : Told) (events : Events) → n.up d ≡ is_none v → n.up d ≡ false → has_died told ≡ false → events ≡ record (events_in n d) { rose = n.rose d + 1 } → ProbeTells w n d v told (Rose (device_no d) ∷ []) events
@@ -400,11 +391,8 @@ probe_given {D = D} h t s₀ value events v tag grip entries made seen returned 
     gives : give_probe (state_of s) (carried_by grip) grip.stage.told ≡ record { answer = Gave (probe_entries s.setting (read_of (configuration_of s)) grip.slip.device.0 grip.stage.told); next = record { configuration = with_grip (with_entries (configuration_of s) 0 (probe_entries s.setting (read_of (configuration_of s)) grip.slip.device.0 grip.stage.told)) grip.slip.device.0 None; carried = put (state_of s).carried grip.slip.device.0 None } }
     gives =
         ap (λ b. give_if (b && (grip.slip.maker == 0)) (state_of s) (configuration_of s) (carried_by grip) grip.stage.told) (kept_is s grip.slip grip.task returned.there)
-        ∙ ap (λ b. give_if (true && b) (state_of s) (configuration_of s) (carried_by grip) grip.stage.told) (zero_is grip.slip.maker returned.maker)
+        ∙ ap (λ b. give_if (true && b) (state_of s) (configuration_of s) (carried_by grip) grip.stage.told) (eq-eqb grip.slip.maker 0 returned.maker)
         ∙ taken_in (state_of s) (configuration_of s) (carried_by grip) (record { maker = 0; purpose = Probes v }) grip.stage.told for.grip
-      where
-        zero_is : (n : ℕ) → n ≡ 0 → (n == 0) ≡ true
-        zero_is n none = grind (arith, common_steps, none)
 
 -- what the code knows of a probe that came home: for what it was out, and how often its device had failed and come back
 pub record ProbeKnown {D : Type 0} (stands turns probes faults : D → ℕ) (h : Inside D) (s : OpenHub D) (tag : ℕ) (grip : Gripped D Done) (sl : Slip) (before : Events) : Type 0 where

@@ -8,7 +8,7 @@ use Rattle.device_gate.specs.declared.grips.Ready.{Ready}
 use Rattle.device_gate.specs.declared.slips.Task.TheVariants.{Probe}
 use Rattle.history_book.specs.Readings.{put}
 use Rattle.history_book.specs.Settings.{is_device, is_weak}
-use Rattle.hub_core.proofs.calls.Departures.{next_grip, IsLeaving, IsSent, at_index, device_within, gone, gone_carries, gone_configuration, gone_kept}
+use Rattle.hub_core.proofs.calls.Departures.{next_grip, IsLeaving, IsSent, at_index, gone, gone_carries, gone_configuration, gone_kept}
 use Rattle.hub_core.proofs.calls.HubStates.{known_same}
 use Rattle.hub_core.proofs.kept.Hands.{probe_goes}
 use Rattle.hub_core.proofs.kept.ProbeSteps.{order_probe_out}
@@ -29,12 +29,14 @@ use Rattle.hub_core.specs.declared.purposes.Purpose.TheVariants.{Probe as ForPro
 use Rattle.lineage_table.specs.Accesses.{IsDisciplined, standing_value as accesses_standing}
 use Rattle.lineage_table.specs.Lineages.{accesses_at, lineage_at}
 use Rattle.lock_leasing.proofs.Facts.{facts_of}
-use Rattle.lock_leasing.specs.Configurations.{Configuration, Grip, Grips, Probes, is_out, read_of}
+use Rattle.lock_leasing.specs.Configurations.{Configuration, Grips, Probes, is_out, read_of}
 use Rattle.lock_leasing.specs.Words.{standing_value}
 use Rattle.std.proofs.Common.{ap, arith, refl, subst, sym, ◌∙◌}
 use Rattle.std.proofs.lemmas.Grind.{common_steps}
 use Rattle.std.proofs.lemmas.Option.{slice_get_within}
-use Rattle.std.specs.Prelude.{Bool, IsTrue, None, Option, Some, false, if◌then◌else◌, is_some, length, nat_lt, not, slice_get, slice_set, true, ℕ, ◌&&◌, ◌+◌, ◌-◌, ◌<◌, ◌≡◌}
+use Rattle.std.specs.Prelude.{Bool, IsTrue, None, Option, Some, false, if◌then◌else◌, length, nat_lt, not, slice_get, slice_set, true, ℕ, ◌&&◌, ◌+◌, ◌-◌, ◌<◌, ◌≡◌}
+use Rattle.window_order.proofs.Firsts.{below_home}
+use Rattle.window_order.proofs.Rollbacks.{none_out}
 use Rattle.window_order.specs.TableKept.{LineageIsKept}
 
 -- Whether one may go out
@@ -60,7 +62,7 @@ may_parts s d may = by_parts (is_device s.setting d) (is_out s.grips d) (nat_lt 
 pub restores : {D : Type 0} {stands turns probes faults : D → ℕ} (h : Inside D) (s : OpenHub D) (d value : ℕ) (up : Bool) → open_of h ≡ s → ((e : ℕ) → IsDisciplined (accesses_at h.order.table e)) → is_device s.setting d ≡ true → up ≡ (lineage_at h.order.table d).up → up ≡ false → value ≡ accesses_standing (lineage_at h.order.table d).committed (accesses_at h.order.table d)
     → is_weak h.history.setting.mode ≡ false → IsWhole stands turns probes faults h → Some value ≡ restored (configuration_of s) d
 restores {D = D} h s d value up seen disciplined device up_is down value_is strong k =
-    subst (λ (x : OpenHub D). is_device x.setting d ≡ true → Some value ≡ restored (configuration_of x) d) seen (λ there. as_told ((k.order.table_is.ordered strong).each d (device_within h.history.setting d there))) device
+    subst (λ (x : OpenHub D). is_device x.setting d ≡ true → Some value ≡ restored (configuration_of x) d) seen (λ there. as_told ((k.order.table_is.ordered strong).each d (below_home h.history.setting d there))) device
   where
     as_told : LineageIsKept h.history.setting (read_in h.history) (configuration_of (open_of h)).grips d (lineage_at h.order.table d) → Some value ≡ restored (configuration_of (open_of h)) d
     as_told own =
@@ -71,7 +73,7 @@ restores {D = D} h s d value up seen disciplined device up_is down value_is stro
 pub restores_weakly : {D : Type 0} {stands turns probes faults : D → ℕ} (h : Inside D) (s : OpenHub D) (d value : ℕ) (up : Bool) → open_of h ≡ s → is_device s.setting d ≡ true → up ≡ (lineage_at h.order.table d).up → up ≡ false → value ≡ (device_at s.devices d).held
     → is_weak h.history.setting.mode ≡ true → IsWhole stands turns probes faults h → Some value ≡ restored (configuration_of s) d
 restores_weakly {D = D} h s d value up seen device up_is down value_is weak k =
-    subst (λ (x : OpenHub D). is_device x.setting d ≡ true → value ≡ (device_at x.devices d).held → Some value ≡ restored (configuration_of x) d) seen (λ there is. as_told (device_within h.history.setting d there) is) device value_is
+    subst (λ (x : OpenHub D). is_device x.setting d ≡ true → value ≡ (device_at x.devices d).held → Some value ≡ restored (configuration_of x) d) seen (λ there is. as_told (below_home h.history.setting d there) is) device value_is
   where
     as_told : d < length h.history.setting.first → value ≡ held_in (open_of h) d → Some value ≡ restored (configuration_of (open_of h)) d
     as_told below is =
@@ -132,13 +134,6 @@ probe_leaves h t d value known grip out =
     one_less : (x : ℕ) → nat_lt 0 x ≡ true → x - 1 + 1 ≡ x
     one_less x some = grind (arith, common_steps)
 
-home_is : (g : Grips) (d : ℕ) → is_out g d ≡ false → g d ≡ None
-home_is g d home = by_grip (g d) home
-  where
-    by_grip : (o : Option Grip) → is_some o ≡ false → o ≡ None
-    by_grip None e = refl
-    by_grip (Some x) e = absurd (cc)
-
 -- what is kept is kept then
 pub sent_whole : {D : Type 0} {stands turns probes faults : D → ℕ} (h t : Inside D) (d : ℕ) (value : Option ℕ) (known : DeviceProgress) (grip : Gripped D Ready) → IsProbedOut turns probes faults h t d value known grip → IsWhole stands turns probes faults h → IsWhole stands turns probes faults t
 sent_whole {D = D} {stands = stands} {turns = turns} {probes = probes} {faults = faults} h t d value known grip out k =
@@ -156,7 +151,7 @@ sent_whole {D = D} {stands = stands} {turns = turns} {probes = probes} {faults =
     configuration = subst (λ (c : Configuration). IsKeptByModel c h.rounds h.opened (held_in (open_of h))) (sym (probe_configuration h t d value known grip out)) (probe_taken_kept (configuration_of (open_of h)) h.rounds h.opened (held_in (open_of h)) d k.shown.configuration)
 
     home : (configuration_of (open_of h)).grips d ≡ None
-    home = home_is (configuration_of (open_of h)).grips d (may_parts (configuration_of (open_of h)) d out.may).home
+    home = none_out (configuration_of (open_of h)).grips d (may_parts (configuration_of (open_of h)) d out.may).home
 
     gone_grips : (configuration_of (open_of t)).grips ≡ put (configuration_of (open_of h)).grips d (Some (record { maker = 0; purpose = Probes value }))
     gone_grips = ap (λ (x : OpenHub D). (configuration_of x).grips) (probe_shows h t d value known grip out)

@@ -6,7 +6,6 @@ use Rattle.home_types.specs.declared.commands.Command.{Command}
 use Rattle.home_types.specs.declared.items.Item.TheVariants.{Back, Failed, Ran}
 use Rattle.home_types.specs.declared.items.Item.{Item}
 use Rattle.home_types.specs.declared.numbers.RunNo.{RunNo}
-use Rattle.hub_core.proofs.kept.HubReads.{some_is}
 use Rattle.hub_core.proofs.calls.NotedAnswers.{lineage_set}
 use Rattle.hub_core.specs.KeptOrders.{scheduled_so, scheduled_with}
 use Rattle.hub_core.specs.PlannedPlaces.{AreUsesOf, held_use, use_between}
@@ -17,10 +16,12 @@ use Rattle.lineage_table.specs.Lineages.{LineageState, accesses_at, lineage_at, 
 use Rattle.lineage_table.specs.declared.accesses.Access.{Access}
 use Rattle.lineage_table.specs.declared.accesses.Status.TheVariants.{Scheduled}
 use Rattle.std.proofs.Common.{ap, arith, refl, set, subst, sym, ◌∙◌}
+use Rattle.std.proofs.Math.Bool.{or-false, or-true}
+use Rattle.std.proofs.lemmas.Bool.{eqb-true, or_left}
 use Rattle.std.proofs.lemmas.Grind.{common_steps}
 use Rattle.std.proofs.lemmas.List.Folds.{list_any-append}
 use Rattle.std.proofs.lemmas.List.{drop_all, drop_more, get_or-set_other, get_or-set_same, length-set, take-append-drop, take_all, take_more}
-use Rattle.std.proofs.lemmas.Option.{get_or_from_slice_get, slice_get-get_or, slice_get_within}
+use Rattle.std.proofs.lemmas.Option.{get_or_from_slice_get, same_Some, slice_get-get_or, slice_get_within}
 use Rattle.std.specs.List.{list_any}
 use Rattle.std.specs.Option.{ForSome, option_or}
 use Rattle.std.specs.Prelude.{Bool, List, None, Option, Some, [], drop, false, get_or, if◌then◌else◌, is_some, length, nat_lt, option_map, option_to_list, slice_get, suc, take, true, zero, ℕ, ◌+◌, ◌<◌, ◌==◌, ◌||◌, ◌∷◌, ◌≡◌, ◌≢◌, ◌≤◌}
@@ -40,9 +41,6 @@ pub record IsScheduledTo (k : ℕ) (commands : List Command) (given : List (Opti
   pub left : (d : ℕ) → d < 256 → get_or uses d None ≡ (if is_among d k commands then None else get_or given d None)
   pub each : (d : ℕ) → lineage_at new d ≡ (if is_among d k commands then scheduled_so r back (get_or given d None) (lineage_at old d) else lineage_at old d)
 
-same : (a b : ℕ) → (a == b) ≡ true → a ≡ b
-same a b h = grind (arith, common_steps)
-
 differ : (a b : ℕ) → (a == b) ≡ false → b ≢ a
 differ a b h e = grind (arith, common_steps)
 
@@ -60,13 +58,10 @@ among_more d k commands e within =
 pub on_command : (k : ℕ) (commands : List Command) (e : Command) → k < length commands → list_any (is_on (get_or commands k e).device.0) commands ≡ true
 on_command k commands e within =
     sym (ap (list_any (is_on d)) (take-append-drop (k + 1) commands)) ∙ list_any-append (is_on d) (take (k + 1) commands) (drop (k + 1) commands)
-    ∙ first (is_among d (k + 1) commands) (list_any (is_on d) (drop (k + 1) commands)) (among_more d k commands e within ∙ self (is_among d k commands) d)
+    ∙ or_left (is_among d (k + 1) commands) (list_any (is_on d) (drop (k + 1) commands)) (among_more d k commands e within ∙ self (is_among d k commands) d)
   where
     d : ℕ
     d = (get_or commands k e).device.0
-
-    first : (x y : Bool) → x ≡ true → (x || y) ≡ true
-    first x y h = grind (arith, common_steps)
 
     self : (x : Bool) (y : ℕ) → (x || (y == y)) ≡ true
     self x y = grind (arith, common_steps)
@@ -157,39 +152,31 @@ schedules k commands given r back uses old new e used so within homed few has = 
     among : (d : ℕ) (b : Bool) → (c.device.0 == d) ≡ b → is_among d (k + 1) commands ≡ (is_among d k commands || b)
     among d b h = among_more d k commands e within ∙ ap (λ x. is_among d k commands || x) h
 
-    with_true : (x : Bool) → (x || true) ≡ true
-    with_true true = refl
-    with_true false = refl
-
-    with_false : (x : Bool) → (x || false) ≡ x
-    with_false true = refl
-    with_false false = refl
-
     left_at : (d : ℕ) → d < 256 → (b : Bool) → (c.device.0 == d) ≡ b → get_or (set uses c.device.0 None) d None ≡ (if is_among d (k + 1) commands then None else get_or given d None)
     left_at d lt true h =
-        ap (λ x. get_or (set uses c.device.0 None) x None) (sym (same c.device.0 d h))
+        ap (λ x. get_or (set uses c.device.0 None) x None) (sym (eqb-true c.device.0 d h))
         ∙ taken_use uses c.device.0
-        ∙ (λ i. if sym (among d true h ∙ with_true (is_among d k commands)) i then None else get_or given d None)
+        ∙ (λ i. if sym (among d true h ∙ or-true (is_among d k commands)) i then None else get_or given d None)
     left_at d lt false h =
         get_or-set_other uses c.device.0 d None None (differ c.device.0 d h)
         ∙ so.left d lt
-        ∙ (λ i. if sym (among d false h ∙ with_false (is_among d k commands)) i then None else get_or given d None)
+        ∙ (λ i. if sym (among d false h ∙ or-false (is_among d k commands)) i then None else get_or given d None)
 
     first_is : lineage_at new c.device.0 ≡ lineage_at old c.device.0
     first_is = unused_same k c.device.0 commands given r back uses old new so is.among
 
     each_at : (d : ℕ) (b : Bool) → (c.device.0 == d) ≡ b → lineage_at (with_lineage new c.device.0 change) d ≡ (if is_among d (k + 1) commands then scheduled_so r back (get_or given d None) (lineage_at old d) else lineage_at old d)
     each_at d true h =
-        ap (lineage_at (with_lineage new c.device.0 change)) (sym (same c.device.0 d h))
+        ap (lineage_at (with_lineage new c.device.0 change)) (sym (eqb-true c.device.0 d h))
         ∙ get_or-set_same new c.device.0 (change (lineage_at new c.device.0)) no_lineage (omega (arith, there, so.devices))
         ∙ ap (scheduled_so r back (Some used)) first_is
         ∙ ap (λ o. scheduled_so r back o (lineage_at old c.device.0)) (sym is.use_is)
-        ∙ ap (λ x. scheduled_so r back (get_or given x None) (lineage_at old x)) (same c.device.0 d h)
-        ∙ (λ i. if sym (among d true h ∙ with_true (is_among d k commands)) i then scheduled_so r back (get_or given d None) (lineage_at old d) else lineage_at old d)
+        ∙ ap (λ x. scheduled_so r back (get_or given x None) (lineage_at old x)) (eqb-true c.device.0 d h)
+        ∙ (λ i. if sym (among d true h ∙ or-true (is_among d k commands)) i then scheduled_so r back (get_or given d None) (lineage_at old d) else lineage_at old d)
     each_at d false h =
         get_or-set_other new c.device.0 d (change (lineage_at new c.device.0)) no_lineage (differ c.device.0 d h)
         ∙ so.each d
-        ∙ (λ i. if sym (among d false h ∙ with_false (is_among d k commands)) i then scheduled_so r back (get_or given d None) (lineage_at old d) else lineage_at old d)
+        ∙ (λ i. if sym (among d false h ∙ or-false (is_among d k commands)) i then scheduled_so r back (get_or given d None) (lineage_at old d) else lineage_at old d)
 
 -- .. or has it already, or no use of it is planned
 pub schedules_no_more : (k : ℕ) (commands : List Command) (given : List (Option PlannedUse)) (r : ℕ) (back : List Item) (uses : List (Option PlannedUse)) (old new : List LineageState) (e : Command)
@@ -206,31 +193,23 @@ schedules_no_more k commands given r back uses old new e so within homed none = 
     among : (d : ℕ) (b : Bool) → (c.device.0 == d) ≡ b → is_among d (k + 1) commands ≡ (is_among d k commands || b)
     among d b h = among_more d k commands e within ∙ ap (λ x. is_among d k commands || x) h
 
-    with_true : (x : Bool) → (x || true) ≡ true
-    with_true true = refl
-    with_true false = refl
-
-    with_false : (x : Bool) → (x || false) ≡ x
-    with_false true = refl
-    with_false false = refl
-
     none_at : (d : ℕ) → (c.device.0 == d) ≡ true → get_or uses d None ≡ None
-    none_at d h = ap (λ x. get_or uses x None) (sym (same c.device.0 d h)) ∙ none
+    none_at d h = ap (λ x. get_or uses x None) (sym (eqb-true c.device.0 d h)) ∙ none
 
     none_given : (d : ℕ) → (c.device.0 == d) ≡ true → is_among d k commands ≡ false → get_or given d None ≡ None
-    none_given d h off = sym (so.left d (subst (λ x. x < 256) (same c.device.0 d h) (homed e)) ∙ (λ i. if off i then None else get_or given d None)) ∙ none_at d h
+    none_given d h off = sym (so.left d (subst (λ x. x < 256) (eqb-true c.device.0 d h) (homed e)) ∙ (λ i. if off i then None else get_or given d None)) ∙ none_at d h
 
     left_at : (d : ℕ) → d < 256 → (b : Bool) → (c.device.0 == d) ≡ b → get_or uses d None ≡ (if is_among d (k + 1) commands then None else get_or given d None)
-    left_at d lt true h = none_at d h ∙ (λ i. if sym (among d true h ∙ with_true (is_among d k commands)) i then None else get_or given d None)
-    left_at d lt false h = so.left d lt ∙ (λ i. if sym (among d false h ∙ with_false (is_among d k commands)) i then None else get_or given d None)
+    left_at d lt true h = none_at d h ∙ (λ i. if sym (among d true h ∙ or-true (is_among d k commands)) i then None else get_or given d None)
+    left_at d lt false h = so.left d lt ∙ (λ i. if sym (among d false h ∙ or-false (is_among d k commands)) i then None else get_or given d None)
 
     as_given : (d : ℕ) → (c.device.0 == d) ≡ true → (b : Bool) → is_among d k commands ≡ b → (if b then scheduled_so r back (get_or given d None) (lineage_at old d) else lineage_at old d) ≡ scheduled_so r back (get_or given d None) (lineage_at old d)
     as_given d h true e = refl
     as_given d h false e = ap (λ o. scheduled_so r back o (lineage_at old d)) (sym (none_given d h e))
 
     each_at : (d : ℕ) (b : Bool) → (c.device.0 == d) ≡ b → lineage_at new d ≡ (if is_among d (k + 1) commands then scheduled_so r back (get_or given d None) (lineage_at old d) else lineage_at old d)
-    each_at d true h = so.each d ∙ as_given d h (is_among d k commands) refl ∙ (λ i. if sym (among d true h ∙ with_true (is_among d k commands)) i then scheduled_so r back (get_or given d None) (lineage_at old d) else lineage_at old d)
-    each_at d false h = so.each d ∙ (λ i. if sym (among d false h ∙ with_false (is_among d k commands)) i then scheduled_so r back (get_or given d None) (lineage_at old d) else lineage_at old d)
+    each_at d true h = so.each d ∙ as_given d h (is_among d k commands) refl ∙ (λ i. if sym (among d true h ∙ or-true (is_among d k commands)) i then scheduled_so r back (get_or given d None) (lineage_at old d) else lineage_at old d)
+    each_at d false h = so.each d ∙ (λ i. if sym (among d false h ∙ or-false (is_among d k commands)) i then scheduled_so r back (get_or given d None) (lineage_at old d) else lineage_at old d)
 
 -- Uses that a scratch holds
 
@@ -253,24 +232,16 @@ holds_next k commands slots uses e held within there = record { size = length-se
     among : (d : ℕ) (b : Bool) → (c.device.0 == d) ≡ b → is_among d (k + 1) commands ≡ (is_among d k commands || b)
     among d b h = among_more d k commands e within ∙ ap (λ x. is_among d k commands || x) h
 
-    with_true : (x : Bool) → (x || true) ≡ true
-    with_true true = refl
-    with_true false = refl
-
-    with_false : (x : Bool) → (x || false) ≡ x
-    with_false true = refl
-    with_false false = refl
-
     each_at : (d : ℕ) → d < 256 → (b : Bool) → (c.device.0 == d) ≡ b → get_or (set uses c.device.0 value) d None ≡ (if is_among d (k + 1) commands then option_map use_between (planned_in slots d) else None)
     each_at d lt true h =
-        ap (λ x. get_or (set uses c.device.0 value) x None) (sym (same c.device.0 d h))
+        ap (λ x. get_or (set uses c.device.0 value) x None) (sym (eqb-true c.device.0 d h))
         ∙ get_or-set_same uses c.device.0 value None (omega (arith, there, held.size))
-        ∙ ap (λ x. option_map use_between (planned_in slots x)) (same c.device.0 d h)
-        ∙ (λ i. if sym (among d true h ∙ with_true (is_among d k commands)) i then option_map use_between (planned_in slots d) else None)
+        ∙ ap (λ x. option_map use_between (planned_in slots x)) (eqb-true c.device.0 d h)
+        ∙ (λ i. if sym (among d true h ∙ or-true (is_among d k commands)) i then option_map use_between (planned_in slots d) else None)
     each_at d lt false h =
         get_or-set_other uses c.device.0 d value None (differ c.device.0 d h)
         ∙ held.each d lt
-        ∙ (λ i. if sym (among d false h ∙ with_false (is_among d k commands)) i then option_map use_between (planned_in slots d) else None)
+        ∙ (λ i. if sym (among d false h ∙ or-false (is_among d k commands)) i then option_map use_between (planned_in slots d) else None)
 
 -- after all of them
 pub holds_all : (k : ℕ) (commands : List Command) (slots : List Slot) (uses : List (Option PlannedUse)) → AreHeldTo k commands slots uses → length commands ≤ k → (d : ℕ) → d < 256 → slice_get uses d ≡ Some (held_use slots commands d)
@@ -334,7 +305,7 @@ first_next accesses items k = by_item (slice_get items k) refl
     by_item None h = ap (first_with_access accesses) (drop_all k items (beyond items k h) ∙ sym (drop_all (k + 1) items (let over = beyond items k h in omega (arith, over))))
     by_item (Some x) h =
         let within : k < length items = slice_get_within items k x h in
-        let here : get_or items k x ≡ x = some_is (get_or items k x) x (sym (slice_get-get_or items k x within) ∙ h) in
+        let here : get_or items k x ≡ x = same_Some (get_or items k x) x (sym (slice_get-get_or items k x within) ∙ h) in
         ap (first_with_access accesses) (drop_more items k x within ∙ ap (λ y. y ∷ drop (k + 1) items) here) ∙ one x (drop (k + 1) items)
 
 -- the run that was found there is the first, and where none was the search goes on

@@ -14,7 +14,8 @@ use Rattle.hub_core.specs.HubsKept.{IsWhole, open_of}
 use Rattle.hub_core.specs.OpenHubs.{OpenHub, configuration_of, held_in}
 use Rattle.hub_core.specs.ReadHistories.{read_in}
 use Rattle.hub_core.specs.declared.open_windows.OpenWindow.TheInside.{Inside}
-use Rattle.lineage_table.specs.Accesses.{access_of, has_access, is_of}
+use Rattle.lineage_table.proofs.Splits.{access_at}
+use Rattle.lineage_table.specs.Accesses.{access_of}
 use Rattle.lineage_table.specs.Lineages.{LineageState, accesses_at, lineage_at}
 use Rattle.lineage_table.specs.declared.accesses.Access.{Access}
 use Rattle.lock_leasing.proofs.Facts.{next_is_left}
@@ -24,9 +25,10 @@ use Rattle.lock_leasing.specs.Holders.{is_down_view, sees_it_down}
 use Rattle.lock_leasing.specs.Standings.{IsAtCommand}
 use Rattle.lock_leasing.specs.Tables.{uses, view_when}
 use Rattle.std.proofs.Common.{ap, arith, refl, subst, ◌∙◌}
+use Rattle.std.proofs.lemmas.Bool.{eq-eqb}
 use Rattle.std.proofs.lemmas.Grind.{common_steps}
 use Rattle.std.specs.List.{list_any}
-use Rattle.std.specs.Prelude.{Bool, List, None, Option, Some, [], false, if◌then◌else◌, is_some, length, not, option_map, slice_get, true, unwrap_or, ℕ, ◌&&◌, ◌++◌, ◌<◌, ◌==◌, ◌||◌, ◌∷◌, ◌≡◌}
+use Rattle.std.specs.Prelude.{Bool, List, None, Option, Some, false, if◌then◌else◌, is_some, length, not, option_map, slice_get, true, unwrap_or, ℕ, ◌&&◌, ◌++◌, ◌<◌, ◌||◌, ◌∷◌, ◌≡◌}
 use Rattle.window_order.proofs.AccessLists.{along_there, front_accesses}
 use Rattle.window_order.proofs.AnsweredTables.{never_passed, none_commits, none_in_front, pending_touches, uses_now}
 use Rattle.window_order.proofs.Goes.{open_behind}
@@ -36,16 +38,11 @@ use Rattle.window_order.specs.OrderKept.{OrderIsKept}
 use Rattle.window_order.specs.ReadWindows.{run_state}
 use Rattle.window_order.specs.TableKept.{LineageIsKept, access_read, accesses_along, accesses_read, commits_write}
 
--- the run's access, behind accesses of other runs
-found_behind : (r : ℕ) (a : List Access) (x : Access) (b : List Access) → has_access r a ≡ false → is_of r x ≡ true → access_of r (a ++ x ∷ b) ≡ Some x
-found_behind r [] x b none own = rw own refl
-found_behind r (y ∷ a) x b none own = grind (arith, common_steps, own, found_behind r a x b)
-
 -- the access of a run that is open on the device tells whether it sees it down
 pub sees_read : (w : Setting) (n : Reading) (g : Grips) (held : ℕ → ℕ) (d r : ℕ) (s : LineageState) → IsRead w n → is_device w d ≡ true → OrderIsKept w n g held → is_live n r ≡ true → is_doomed n r ≡ false → pends w n r d ≡ true → LineageIsKept w n g d s
     → unwrap_or (option_map sees_it_down (access_of r s.accesses)) false ≡ sees_down n r d
 sees_read w n g held d r s read device order live sound pending kept =
-    ap (λ o. unwrap_or (option_map sees_it_down o) false) (ap (access_of r) around ∙ found_behind r front own back (none_in_front w n g kept.passed d r cut) (self r))
+    ap (λ o. unwrap_or (option_map sees_it_down o) false) (ap (access_of r) around ∙ access_at r front own back (none_in_front w n g kept.passed d r cut) (eq-eqb r r refl))
     ∙ ap (λ b. unwrap_or (option_map is_down_view (if b then Some Down else option_map view_when (view_of n r d))) false) (never_passed n g d r kept.passed kept.may_pass (ap (λ b. not b || grips_command g r d) sound))
     ∙ seen (view_of n r d)
   where
@@ -60,9 +57,6 @@ sees_read w n g held d r s read device order live sound pending kept =
 
     back : List Access
     back = accesses_along (uses w n d) (commits_write n d) (access_read w n g kept.passed d) cut.back
-
-    self : (x : ℕ) → (x == x) ≡ true
-    self x = grind (arith, common_steps)
 
     opened : stage_is_open (usage w.kinds (run_state w n g r) d).stage ≡ true
     opened = λ i. stage_is_open (stage_of (live_uncommitted n r live i) (sound i) ((ap (uses_device d) (rest_drop (commands_of w.runs r) (n.run r).answers) ∙ pending) i))
@@ -109,12 +103,9 @@ seen_there h r k turn strong whole = record {
     device : is_device w d ≡ true
     device = grind (arith, common_steps, below)
 
-    self : (x : ℕ) → (x == x) ≡ true
-    self x = grind (arith, common_steps)
-
     pending : pends w n r d ≡ true
     pending = next_is_left d (commands_of w.runs r) (next_of n r)
-        (ap (λ j. unwrap_or (option_map (is_on d) (slice_get (commands_of w.runs r) j)) false) turn.next ∙ ap (λ o. unwrap_or (option_map (is_on d) o) false) (item_there (commands_of w.runs r) k no_command turn.command) ∙ self d)
+        (ap (λ j. unwrap_or (option_map (is_on d) (slice_get (commands_of w.runs r) j)) false) turn.next ∙ ap (λ o. unwrap_or (option_map (is_on d) o) false) (item_there (commands_of w.runs r) k no_command turn.command) ∙ eq-eqb d d refl)
 
 -- .. as the hub is seen
 pub seen_at : {D : Type 0} {stands turns probes faults : D → ℕ} (h : Inside D) (s : OpenHub D) (r k : ℕ) (c : Command) → open_of h ≡ s → IsAtCommand (configuration_of s) r k → command_at s.setting.runs r k ≡ c → is_weak h.history.setting.mode ≡ false → IsWhole stands turns probes faults h → IsSeenThere s.setting (read_of (configuration_of s)) h.order.table r c.device.0

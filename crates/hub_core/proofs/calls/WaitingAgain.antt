@@ -24,9 +24,6 @@ tests_released Scheduled b h = sym h
 leaves : (table : List LineageState) (d : ℕ) (first : Option RunNo) → with_again first (accesses_at table d) ≡ accesses_at table d → table ≡ with_lineage table d (rescheduled first)
 leaves table d first same = sym (ap (λ xs. slice_set table d (record (lineage_at table d) { accesses = xs })) same ∙ with_same table d)
 
-pub leaves_unnamed : (table : List LineageState) (d : ℕ) (first : Option RunNo) → first ≡ None → table ≡ with_lineage table d (rescheduled first)
-leaves_unnamed table d first is = leaves table d first (ap (λ o. with_again o (accesses_at table d)) is)
-
 pub leaves_absent : (table : List LineageState) (d : ℕ) (first : Option RunNo) (q : RunNo) → first ≡ Some q → None ≡ access_of q.0 (accesses_at table d) → table ≡ with_lineage table d (rescheduled first)
 leaves_absent table d first q is none = leaves table d first (ap (λ o. with_again o (accesses_at table d)) is ∙ none_again q.0 (accesses_at table d) (sym none))
 

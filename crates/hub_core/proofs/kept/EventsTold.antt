@@ -26,6 +26,8 @@ use Rattle.lock_leasing.specs.Waits.{lost_by}
 use Rattle.lock_leasing.specs.Words.{live_runs}
 use Rattle.serial_line.specs.Marks.{Mark}
 use Rattle.std.proofs.Common.{ap, arith, refl, sym, ◌∙◌}
+use Rattle.std.proofs.Math.Bool.{and-false}
+use Rattle.std.proofs.lemmas.Bool.{eqb-true}
 use Rattle.std.proofs.lemmas.Grind.{common_steps}
 use Rattle.std.proofs.lemmas.List.{length-map}
 use Rattle.std.specs.List.{list_any}
@@ -34,7 +36,7 @@ use Rattle.window_order.proofs.AccessLists.{along_none}
 use Rattle.window_order.proofs.EventPlaces.{awaits_there}
 use Rattle.window_order.proofs.LostReads.{lost_read, waiting_read}
 use Rattle.window_order.proofs.ReadFacts.{IsRead}
-use Rattle.window_order.proofs.Runs.{live_run}
+use Rattle.window_order.proofs.Runs.{live_run, three}
 use Rattle.window_order.proofs.TouchedLines.{live_stands, run_stands}
 use Rattle.window_order.proofs.TurnedLines.{event_before, event_last, event_place_of}
 use Rattle.window_order.specs.LostRuns.{first_waiting, is_lost, waits}
@@ -46,15 +48,9 @@ use Rattle.window_order.specs.TableKept.{LineageIsKept, access_read, commits_wri
 pub none_of_detector : (w : Setting) (n : Reading) (g : Grips) (d : ℕ) (s : LineageState) → IsRead w n → LineageIsKept w n g d s → has_access 0 s.accesses ≡ false
 none_of_detector w n g d s read own = ap (has_access 0) own.accesses ∙ along_none (uses w n d) (commits_write n d) (access_read w n g own.passed d) (is_of 0) n.line (λ x there used. by_number x (x == 0) refl used)
   where
-    lives : (l t x : Bool) → (l && t && x) ≡ true → l ≡ true
-    lives l t x h = grind (arith, common_steps)
-
     by_number : (x : ℕ) (b : Bool) → (x == 0) ≡ b → uses w n d x ≡ true → (x == 0) ≡ false
-    by_number x true e used = absurd (no_run (ap (is_live n) (sym (equal x e)) ∙ lives (is_live n x) _ _ used))
+    by_number x true e used = absurd (no_run (ap (is_live n) (sym (eqb-true x 0 e)) ∙ (three (is_live n x) _ _ used).0))
       where
-        equal : (y : ℕ) → (y == 0) ≡ true → y ≡ 0
-        equal y h = grind (arith, common_steps)
-
         no_run : is_live n 0 ≡ true → ⊥
         no_run live = let run = live_run w n 0 read live in absurd (cc)
     by_number x false e used = e
@@ -123,11 +119,7 @@ lost_told w n g held d h s read strong device free order own sound =
 
     sound_one : (x : ℕ) (b : Bool) → is_doomed n x ≡ b → (is_acquired (if own.passed x then Released else status_by_answers w n g x d) && not (is_none (doom_of h x))) ≡ false
     sound_one x true e = ap (λ a. a && not (is_none (doom_of h x))) (unacquired w n g own.passed d x (free x) e)
-    sound_one x false e = ap (λ b. is_acquired (if own.passed x then Released else status_by_answers w n g x d) && not b) (sound x ∙ ap not e) ∙ and_false (is_acquired (if own.passed x then Released else status_by_answers w n g x d))
-      where
-        and_false : (b : Bool) → (b && false) ≡ false
-        and_false true = refl
-        and_false false = refl
+    sound_one x false e = ap (λ b. is_acquired (if own.passed x then Released else status_by_answers w n g x d) && not b) (sound x ∙ ap not e) ∙ and-false (is_acquired (if own.passed x then Released else status_by_answers w n g x d))
 
     none : list_any (λ x. is_acquired x.status && not (is_sound h x)) s.accesses ≡ false
     none = ap (list_any (λ (x : Access). is_acquired x.status && not (is_sound h x))) own.accesses
@@ -135,8 +127,4 @@ lost_told w n g held d h s read strong device free order own sound =
 
 -- the detector's grip is for no command
 pub probe_commands : (g : Grips) (d m : ℕ) (v : Option ℕ) → g d ≡ Some (record { maker = m; purpose = Probes v }) → (q : ℕ) → grips_command g q d ≡ false
-probe_commands g d m v at q = ap (λ o. unwrap_or (option_map (λ (p : Grip). (p.maker == q) && is_command p.purpose) o) false) at ∙ and_false (m == q)
-  where
-    and_false : (b : Bool) → (b && false) ≡ false
-    and_false true = refl
-    and_false false = refl
+probe_commands g d m v at q = ap (λ o. unwrap_or (option_map (λ (p : Grip). (p.maker == q) && is_command p.purpose) o) false) at ∙ and-false (m == q)

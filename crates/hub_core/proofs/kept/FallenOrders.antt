@@ -20,6 +20,7 @@ use Rattle.home_types.specs.declared.commands.View.TheVariants.{Down as ViewedDo
 use Rattle.home_types.specs.declared.items.Item.TheVariants.{Failed}
 use Rattle.home_types.specs.declared.numbers.DeviceNo.{DeviceNo}
 use Rattle.hub_core.proofs.kept.EventsTold.{event_told, line_size, sound_is}
+use Rattle.hub_core.proofs.kept.Finds.{none_found}
 use Rattle.hub_core.proofs.kept.OrderSteps.{entry_kept, length_with, may_note, order_answered_weakly, read_more}
 use Rattle.hub_core.specs.KeptOrders.{HasFallen, IsOrderOf, MayNote, OrderIsBeside, is_first, noted_first}
 use Rattle.hub_core.specs.ReadHistories.{HistoryState, read_in, with_entry}
@@ -28,13 +29,13 @@ use Rattle.lineage_table.specs.declared.accesses.Status.TheVariants.{Acquired, S
 use Rattle.lock_leasing.specs.Configurations.{Commands, Grips, Undoes}
 use Rattle.serial_line.specs.Marks.{Mark, Marked, with_item}
 use Rattle.std.proofs.Common.{ap, arith, refl, subst, sym, ◌∙◌}
-use Rattle.std.proofs.lemmas.Grind.{common_steps}
-use Rattle.std.specs.Prelude.{Bool, List, None, Some, [], false, find, if◌then◌else◌, length, not, option_map, true, unwrap_or, ℕ, ◌&&◌, ◌+◌, ◌<◌, ◌==◌, ◌∷◌, ◌≡◌}
+use Rattle.std.specs.Prelude.{Bool, List, None, Some, [], false, if◌then◌else◌, length, not, option_map, true, unwrap_or, ℕ, ◌&&◌, ◌+◌, ◌<◌, ◌==◌, ◌≡◌}
 use Rattle.window_order.proofs.ReadFacts.{IsRead}
 use Rattle.window_order.proofs.Steps.{IsOut, out_is}
 use Rattle.window_order.proofs.TableSteps.{changes_one}
 use Rattle.window_order.proofs.TouchedLines.{marks_undo_home, marks_undone}
 use Rattle.hub_core.proofs.kept.TableFits.{fits_ordered}
+use Rattle.std.proofs.lemmas.Bool.{eq-eqb}
 use Rattle.window_order.proofs.TurnedLines.{event_last, event_place_of, marks_died, marks_fell}
 use Rattle.window_order.proofs.TurnedTables.{died_table, undo_died_table}
 use Rattle.window_order.specs.MarksKept.{MarksAreKept}
@@ -107,12 +108,9 @@ order_died {rounds = rounds} h h₁ h₂ g f held d r k number first last line f
     single : ChangesEach (λ e s. if e == d.0 then one_note s else s) between later
     single = subst (ChangesEach (λ e s. if e == d.0 then one_note s else s) between) (sym noted) (changes_one between d.0 one_note (subst (λ x. d.0 < x) (sym (counted.devices ∙ kept.table_is.devices)) below))
 
-    itself : (x : ℕ) → (x == x) ≡ true
-    itself x = grind (arith, common_steps)
-
     -- it is its first answer there as before
     first_between : is_first r (lineage_at between d.0) ≡ not (did n r (command_at w.runs r k).device.0)
-    first_between = ap (is_first r) (counted.each d.0 (subst (λ x. d.0 < x) (sym kept.table_is.devices) below) ∙ ap (λ b. if b then counted_up false (lineage_at table d.0) else lineage_at table d.0) (itself d.0)) ∙ turn.0 ∙ ap (λ x. not (did n r x)) out.device
+    first_between = ap (is_first r) (counted.each d.0 (subst (λ x. d.0 < x) (sym kept.table_is.devices) below) ∙ ap (λ b. if b then counted_up false (lineage_at table d.0) else lineage_at table d.0) (eq-eqb d.0 _ refl)) ∙ turn.0 ∙ ap (λ x. not (did n r x)) out.device
 
     is_answered : (s : LineageState) → one_note (counted_up false s) ≡ counted_up false (answered_lineage w n r k Down s)
     is_answered s = (λ i. noted_first r (first_between i) ViewedDown None (last_is i) (counted_up false s)) ∙ counted_noted r (not (did n r (command_at w.runs r k).device.0)) (is_done_there w n r k) s
@@ -131,15 +129,11 @@ order_died {rounds = rounds} h h₁ h₂ g f held d r k number first last line f
 
 -- Under the weak model
 
-all_false : {A : Type 0} (p : A → Bool) (xs : List A) → ((x : A) → p x ≡ false) → find p xs ≡ None
-all_false p [] none = refl
-all_false p (x ∷ xs) none = rw (none x) (all_false p xs none)
-
 -- an event comes last, as the table tells that has no access
 pub weak_place : (w : Setting) (n : Reading) (g : Grips) (d : ℕ) (h : List Kept) (accesses : List Access) (marks : List Mark) → is_weak w.mode ≡ true → accesses ≡ [] → MarksAreKept n g marks → event_place h None accesses marks ≡ event_place_of w n d
 weak_place w n g d h accesses marks weak none lines =
     ap (λ xs. event_place h None xs marks) none ∙ line_size n g marks lines
-    ∙ sym (event_last w n d (all_false (awaits_there w n d) (live_runs n n.line) (λ r. ap (λ b. not b && is_open w n r d && not (did n r d)) weak)))
+    ∙ sym (event_last w n d (none_found (awaits_there w n d) (live_runs n n.line) (λ r. ap (λ b. not b && is_open w n r d && not (did n r d)) weak)))
 
 -- a command is answered Down whose device died
 pub order_died_weakly : {rounds : ℕ} (h h₁ h₂ : HistoryState) (g f : Grips) (d : DeviceNo) (r k number : ℕ) (first : Bool) (line fallen after : Marked) (table between later : List LineageState)

@@ -1,13 +1,28 @@
 -- The first number or element that does.
-use Rattle.history_book.proofs.Searches.{some_is}
 use Rattle.std.proofs.Common.{ap, arith, inl, inr, refl, subst, sym, ◌∙◌}
+use Rattle.std.proofs.lemmas.Option.{same_Some}
 use Rattle.std.specs.List.{range_with_len}
-use Rattle.std.specs.Prelude.{Bool, List, None, Some, [], cond, false, find, suc, true, zero, ℕ, ◌+◌, ◌<◌, ◌∷◌, ◌≡◌, ◌≤◌, ◌⊎◌}
+use Rattle.std.specs.Prelude.{Bool, List, None, Option, Some, [], cond, false, find, is_none, is_some, suc, true, zero, ℕ, ◌+◌, ◌<◌, ◌∷◌, ◌≡◌, ◌≤◌, ◌⊎◌}
 
 -- where the same do, it is the same
 pub find_same : {A : Type 0} (p q : A → Bool) (xs : List A) → ((x : A) → p x ≡ q x) → find p xs ≡ find q xs
 find_same p q [] same = refl
 find_same p q (x ∷ xs) same = rw (same x, find_same p q xs same) refl
+
+-- where none does, none is found
+pub none_found : {A : Type 0} (p : A → Bool) (xs : List A) → ((x : A) → p x ≡ false) → find p xs ≡ None
+none_found p [] none = refl
+none_found p (x ∷ xs) none = rw (none x) (none_found p xs none)
+
+-- what is there is not absent
+pub not_none : {A : Type 0} (o : Option A) → is_some o ≡ true → is_none o ≡ false
+not_none None some = absurd (cc)
+not_none (Some x) some = refl
+
+-- .. and what is not there is absent
+pub none_there : {A : Type 0} (o : Option A) → is_some o ≡ false → o ≡ None
+none_there None none = refl
+none_there (Some x) none = absurd (cc)
 
 a_or_more : (a x : ℕ) → a ≤ x → (a ≡ x) ⊎ (a < x)
 a_or_more zero zero h = inl refl
@@ -49,7 +64,7 @@ pub record IsLeast (p : ℕ → Bool) (a n x : ℕ) : Type 0 where
 pub find_least : (p : ℕ → Bool) (a n x : ℕ) → find p (range_with_len a n) ≡ Some x → IsLeast p a n x
 find_least p a zero x at = absurd (cc)
 find_least p a (suc n) x at = elim (p a) as (λ b. p a ≡ b → cond b (Some a) (find p (range_with_len (a + 1) n)) ≡ Some x → IsLeast p a (suc n) x) [
-  | true ↦ (λ here found. subst (IsLeast p a (suc n)) (some_is a x found) (record { low = omega arith; high = omega arith; does = here; none_before = λ y low less. absurd (omega (arith, low, less)) }))
+  | true ↦ (λ here found. subst (IsLeast p a (suc n)) (same_Some a x found) (record { low = omega arith; high = omega arith; does = here; none_before = λ y low less. absurd (omega (arith, low, less)) }))
   | false ↦ (λ none rest. more none (find_least p (a + 1) n x rest))
 ] refl at
   where

@@ -24,6 +24,8 @@ use Rattle.lock_leasing.specs.Order.{is_in_line}
 use Rattle.lock_leasing.specs.Places.{binds}
 use Rattle.lock_leasing.specs.Waits.{follow_wait}
 use Rattle.std.proofs.Common.{ap, arith, cond, refl, subst, sym, ◌∙◌}
+use Rattle.std.proofs.Math.Bool.{or-true}
+use Rattle.std.proofs.lemmas.Bool.{and_parts, eq-eqb}
 use Rattle.std.proofs.lemmas.Grind.{common_steps}
 use Rattle.std.proofs.lemmas.List.{take-append-drop}
 use Rattle.std.proofs.lemmas.List.Folds.{list_any-append}
@@ -31,10 +33,6 @@ use Rattle.std.specs.List.{list_any}
 use Rattle.std.specs.Prelude.{Bool, IsTrue, List, None, Option, Some, [], drop, false, if◌then◌else◌, is_none, is_some, not, option_map, take, true, unwrap_or, ℕ, ◌&&◌, ◌++◌, ◌==◌, ◌||◌, ◌∷◌, ◌≡◌, ◌≢◌}
 
 -- What stands behind a run
-
-either : (b : Bool) → (b || true) ≡ true
-either true = refl
-either false = refl
 
 -- where an event comes into the line
 behind_event : (p : Item → Bool) (f : ℕ) (t : Item → Bool) (x : Item) (line : List Item) → is_ran f x ≡ false → p x ≡ false → list_any p (behind f (put_before t x line)) ≡ list_any p (behind f line)
@@ -55,7 +53,7 @@ behind_insert p f x [] back apart there = ap (λ b. list_any p (cond b back (beh
 behind_insert p f x (i ∷ is) back apart there = further (is_ran f i) (λ e. behind_insert p f x is back apart e) there
   where
     further : (b : Bool) → (list_any p (behind f (is ++ back)) ≡ true → list_any p (behind f (is ++ x ∷ back)) ≡ true) → list_any p (cond b (is ++ back) (behind f (is ++ back))) ≡ true → list_any p (cond b (is ++ x ∷ back) (behind f (is ++ x ∷ back))) ≡ true
-    further true rest e = any_insert p is back x ∙ ap (λ b. p x || b) e ∙ either (p x)
+    further true rest e = any_insert p is back x ∙ ap (λ b. p x || b) e ∙ or-true (p x)
     further false rest e = rest e
 
 -- .. where it stands in the front
@@ -64,7 +62,7 @@ behind_front p f [] back there some = absurd (cc)
 behind_front p f (i ∷ is) back there some = further (is_ran f i) there (λ e. behind_front p f is back e some)
   where
     further : (b : Bool) → (b || list_any (is_ran f) is) ≡ true → (list_any (is_ran f) is ≡ true → list_any p (behind f (is ++ back)) ≡ true) → list_any p (cond b (is ++ back) (behind f (is ++ back))) ≡ true
-    further true e rest = list_any-append p is back ∙ ap (λ b. list_any p is || b) some ∙ either (list_any p is)
+    further true e rest = list_any-append p is back ∙ ap (λ b. list_any p is || b) some ∙ or-true (list_any p is)
     further false e rest = rest e
 
 -- .. where another run leaves the line
@@ -240,16 +238,10 @@ followed_placed w n g r at m stands unplaced place all = record { ended = ends; 
     apart_in q other here = let one : ((r == q) || is_in_line n q) ≡ true = sym (there_is q) ∙ here in grind (arith, common_steps)
 
     placed_in : (q : ℕ) → is_in_line n q ≡ true → is_some (n.run q).placed ≡ true
-    placed_in q here = first (is_some (n.run q).placed) (not (unwrap_or (option_map is_abort (n.run q).ended) false)) (sym (stands.line q) ∙ here)
-      where
-        first : (a b : Bool) → (a && b) ≡ true → a ≡ true
-        first a b e = grind (arith, common_steps)
+    placed_in q here = (and_parts (is_some (n.run q).placed) (not (unwrap_or (option_map is_abort (n.run q).ended) false)) (sym (stands.line q) ∙ here)).0
 
     leads_is : (f : RunNo) → followed_by w.runs r ≡ Some f → follows w.runs r f.0 ≡ true
-    leads_is f leads = ap (λ o. unwrap_or (option_map (λ q. q.0 == f.0) o) false) leads ∙ itself f.0
-      where
-        itself : (k : ℕ) → (k == k) ≡ true
-        itself k = grind (arith, common_steps)
+    leads_is f leads = ap (λ o. unwrap_or (option_map (λ q. q.0 == f.0) o) false) leads ∙ eq-eqb f.0 _ refl
 
     stands_behind : (q : ℕ) (f : RunNo) → followed_by w.runs q ≡ Some f → is_in_line next q ≡ true → is_in_line next f.0 ≡ true → list_any (is_ran q) (behind f.0 next.line) ≡ true
     stands_behind q f leads here there = elim (r == f.0) as (λ b. (r == f.0) ≡ b → list_any (is_ran q) (behind f.0 next.line) ≡ true) [

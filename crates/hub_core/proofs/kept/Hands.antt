@@ -10,11 +10,12 @@ use Rattle.hub_core.specs.HubsKept.{HandsAre}
 use Rattle.lock_leasing.specs.Configurations.{Grip, Grips, Purpose, has_grip}
 use Rattle.lock_leasing.specs.Waits.{grip_wait}
 use Rattle.std.proofs.Common.{ap, arith, inl, inr, refl, subst, sym, ◌∙◌}
-use Rattle.std.proofs.lemmas.Grind.{common_steps}
 use Rattle.std.proofs.lemmas.List.{length-replicate, length-set}
 use Rattle.std.specs.Prelude.{List, None, Option, Some, false, if◌then◌else◌, length, option_map, replicate, slice_get, slice_set, suc, true, unwrap_or, zero, ℕ, ⊤, ◌-◌, ◌<◌, ◌==◌, ◌≡◌, ◌≢◌}
 use Rattle.window_order.proofs.Grips.{HoldsNone, none_left}
 use Rattle.lock_leasing.specs.Places.{GripsFit}
+use Rattle.std.proofs.lemmas.Bool.{eq-eqb, eqb-true}
+use Rattle.std.proofs.lemmas.Option.{same_Some}
 
 -- none is out
 pub no_hands : (w : Setting) (g : Grips) → ((d : ℕ) → g d ≡ None) → HandsAre w g (replicate (length w.runs) None)
@@ -39,22 +40,16 @@ not_of (Some grip) q r own other = differ grip.maker own
   where
     differ : (x : ℕ) → x ≡ r → (x == q) ≡ false
     differ x same = elim (x == q) as (λ b. (x == q) ≡ b → b ≡ false) [
-      | true ↦ (λ h. absurd (other (sym (equal x q h) ∙ same)))
+      | true ↦ (λ h. absurd (other (sym (eqb-true x q h) ∙ same)))
       | false ↦ (λ h. refl)
     ] refl
-      where
-        equal : (a b : ℕ) → (a == b) ≡ true → a ≡ b
-        equal a b h = grind (arith, common_steps)
 
 -- another run holds what it held, where a grip of the run goes out or comes back
 pub others_hold : (g : Grips) (r d : ℕ) (o : Option Grip) → IsOf r o → IsOf r (g d) → (q e : ℕ) → q ≢ r → has_grip (put g d o) q e ≡ has_grip g q e
 others_hold g r d o own was q e other = elim (e == d) as (λ b. (e == d) ≡ b → unwrap_or (option_map (λ p. p.maker == q) (if b then o else g e)) false ≡ unwrap_or (option_map (λ p. p.maker == q) (g e)) false) [
-  | true ↦ (λ h. not_of o q r own other ∙ sym (ap (λ x. unwrap_or (option_map (λ p. p.maker == q) (g x)) false) (equal e d h) ∙ not_of (g d) q r was other))
+  | true ↦ (λ h. not_of o q r own other ∙ sym (ap (λ x. unwrap_or (option_map (λ p. p.maker == q) (g x)) false) (eqb-true e d h) ∙ not_of (g d) q r was other))
   | false ↦ (λ h. refl)
 ] refl
-  where
-    equal : (a b : ℕ) → (a == b) ≡ true → a ≡ b
-    equal a b h = grind (arith, common_steps)
 
 -- the run's hand is set, and no other run's changes
 hand_set : (w : Setting) (g f : Grips) (r : ℕ) (hands : List (Option DeviceNo)) (hand : Option DeviceNo) → is_run w.runs r ≡ true → option_map (λ d. d.0) hand ≡ grip_wait w f r → ((q e : ℕ) → q ≢ r → has_grip f q e ≡ has_grip g q e)
@@ -64,13 +59,10 @@ hand_set w g f r hands hand run is others k =
     record {
       size = length-set hands (r - 1) hand ∙ k.size;
       each = λ i x at. elim (get_set hands (r - 1) i hand (omega (arith, place.1, k.size))) [
-        | inl p ↦ ap (λ o. option_map (λ (d : DeviceNo). d.0) o) (same x hand (sym at ∙ p.1)) ∙ is ∙ ap (grip_wait w f) (place.0 ∙ ap (λ n. suc n) (sym p.0))
+        | inl p ↦ ap (λ o. option_map (λ (d : DeviceNo). d.0) o) (same_Some x hand (sym at ∙ p.1)) ∙ is ∙ ap (grip_wait w f) (place.0 ∙ ap (λ n. suc n) (sym p.0))
         | inr p ↦ k.each i x (sym p.1 ∙ at) ∙ sym (find_same (has_grip f (suc i)) (has_grip g (suc i)) _ (λ e. others (suc i) e (λ is'. p.0 (omega (arith, is', place.0)))))
       ];
     }
-  where
-    same : (x y : Option DeviceNo) → Some x ≡ Some y → x ≡ y
-    same x y e = cc
 
 -- a device goes out to a run that holds none
 pub hand_goes : (w : Setting) (g f : Grips) (r : ℕ) (d : DeviceNo) (purpose : Purpose) (hands after : List (Option DeviceNo)) → is_run w.runs r ≡ true → d.0 < length w.first → grip_wait w g r ≡ None → g d.0 ≡ None → f ≡ put g d.0 (Some (record { maker = r; purpose = purpose })) → after ≡ slice_set hands (r - 1) (Some d)
@@ -84,11 +76,8 @@ hand_goes w g f r d purpose hands after run within free home gone set k =
     new : Grips
     new = put g d.0 (Some grip)
 
-    itself : (a : ℕ) → (a == a) ≡ true
-    itself a = grind (arith, common_steps)
-
     found : grip_wait w new r ≡ Some d.0
-    found = find_first (has_grip new r) 0 (length w.first) d.0 (omega arith) (omega (arith, within)) (ap (λ o. unwrap_or (option_map (λ p. p.maker == r) o) false) (put_same g d.0 (Some grip)) ∙ itself r)
+    found = find_first (has_grip new r) 0 (length w.first) d.0 (omega arith) (omega (arith, within)) (ap (λ o. unwrap_or (option_map (λ p. p.maker == r) o) false) (put_same g d.0 (Some grip)) ∙ eq-eqb r r refl)
         (λ y before. ap (λ o. unwrap_or (option_map (λ p. p.maker == r) o) false) (put_other g d.0 (Some grip) y (λ same. absurd (omega (arith, same, before)))) ∙ none_does (has_grip g r) 0 (length w.first) free y (omega arith) (omega (arith, before, within)))
 
 -- .. and comes back to one that holds no other
@@ -103,13 +92,10 @@ hand_comes w n g f r d purpose hands after run out fit home set k =
     none : HoldsNone new r
     none = let place = run_place w.runs r run in subst (HoldsNone new) (sym place.0) (none_left w n g d (r - 1) purpose (out ∙ ap (λ x. Some (record { maker = x; purpose = purpose })) place.0) fit)
 
-    equal : (a b : ℕ) → (a == b) ≡ true → a ≡ b
-    equal a b h = grind (arith, common_steps)
-
     unheld : (y : ℕ) (o : Option Grip) → new y ≡ o → unwrap_or (option_map (λ p. p.maker == r) o) false ≡ false
     unheld y None at = refl
     unheld y (Some x) at = elim (x.maker == r) as (λ b. (x.maker == r) ≡ b → b ≡ false) [
-      | true ↦ (λ own. absurd (none y x.purpose (at ∙ ap (λ m. Some (record { maker = m; purpose = x.purpose })) (equal x.maker r own))))
+      | true ↦ (λ own. absurd (none y x.purpose (at ∙ ap (λ m. Some (record { maker = m; purpose = x.purpose })) (eqb-true x.maker r own))))
       | false ↦ (λ own. refl)
     ] refl
 

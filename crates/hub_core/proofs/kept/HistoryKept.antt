@@ -36,6 +36,8 @@ use Rattle.lock_leasing.specs.Places.{IsScheduled, PlacesAreScheduled}
 use Rattle.lock_leasing.specs.Waits.{down_at_end, strict_wait}
 use Rattle.lock_leasing.specs.Words.{has_touched, live_before, live_runs, stamp_of}
 use Rattle.std.proofs.Common.{ap, arith, cond, refl, subst, sym, ◌∙◌}
+use Rattle.std.proofs.Math.Bool.{and-false}
+use Rattle.std.proofs.lemmas.Bool.{and_parts}
 use Rattle.std.proofs.lemmas.Grind.{common_steps}
 use Rattle.std.proofs.lemmas.List.Folds.{list_all-append}
 use Rattle.std.specs.List.{list_all, list_any}
@@ -86,10 +88,7 @@ history_added s maker m g e may kept =
 
 -- where a run acts it waits for none, also when fewer runs are live and no other one stands before it
 turn_by : (w : Setting) (n m : Reading) (h : Grips) → ((q : ℕ) → is_live m q ≡ true → live_before m q ≡ live_runs m (before q n.line)) → ((q : ℕ) → is_live m q ≡ true → is_live n q ≡ true) → ((q d : ℕ) → IsTrue (is_live m q && (has_touched m h q d || has_grip h q d)) → strict_wait w n q ≡ None) → ActsInTurn w m h
-turn_by w n m h line fewer waitless q d acts = strict_fewer_by w.runs w.kinds w.first w.mode.model w.mode.scheduler n m q (line q (acting (is_live m q) (has_touched m h q d || has_grip h q d) acts)) (λ x there now. fewer x now) (waitless q d acts)
-  where
-    acting : (l a : Bool) → (l && a) ≡ true → l ≡ true
-    acting l a e = grind (arith, common_steps)
+turn_by w n m h line fewer waitless q d acts = strict_fewer_by w.runs w.kinds w.first w.mode.model w.mode.scheduler n m q (line q (and_parts (is_live m q) (has_touched m h q d || has_grip h q d) acts).0) (λ x there now. fewer x now) (waitless q d acts)
 
 -- a run that acts with less acts with more
 acts_more : (l t c h l' t' c' h' : Bool) → (l ≡ true → l' ≡ true) → (t ≡ true → t' ≡ true) → (c ≡ true → c' ≡ true) → (h ≡ true → h' ≡ true) → (l && ((t || c) || h)) ≡ true → (l' && ((t' || c') || h')) ≡ true
@@ -251,12 +250,8 @@ aborted_turn w n g r cause turn = turn_less w n m g g (λ q now. live_before_wit
     fewer : (q : ℕ) → is_live m q ≡ true → is_live n q ≡ true
     fewer = ends_live n r new refl
 
-    over : (o : Bool) → (o && false) ≡ false
-    over true = refl
-    over false = refl
-
     gone : is_live m r ≡ false
-    gone = ap (λ o. is_some o.placed && is_none o.ended) (put_same n.run r new) ∙ over (is_some (n.run r).placed)
+    gone = ap (λ o. is_some o.placed && is_none o.ended) (put_same n.run r new) ∙ and-false (is_some (n.run r).placed)
 
     stays : (q : ℕ) → is_live m q ≡ true → q ≢ r
     stays q now same = let both : true ≡ false = sym now ∙ ap (is_live m) same ∙ gone in absurd (cc)
@@ -270,15 +265,12 @@ undo_turn w n g h r d drove less turn = turn_less w n (entry w n (Undid (run_no 
 -- one device more is out: its maker waits for none, where it is a live run
 pub grip_turn : (w : Setting) (n : Reading) (g : Grips) (r d : ℕ) (p : Purpose) → (is_live n r ≡ true → strict_wait w n r ≡ None) → ActsInTurn w n g → ActsInTurn w n (put g d (Some (record { maker = r; purpose = p })))
 grip_turn w n g r d p alone turn q e acts = elim (q == r) as (λ b. (q == r) ≡ b → strict_wait w n q ≡ None) [
-  | true ↦ (λ at. let same : q ≡ r = grind (arith, common_steps) in subst (λ x. strict_wait w n x ≡ None) (sym same) (alone (subst (λ x. is_live n x ≡ true) same (acting (is_live n q) (has_touched n (put g d (Some new)) q e || has_grip (put g d (Some new)) q e) acts))))
+  | true ↦ (λ at. let same : q ≡ r = grind (arith, common_steps) in subst (λ x. strict_wait w n x ≡ None) (sym same) (alone (subst (λ x. is_live n x ≡ true) same (and_parts (is_live n q) (has_touched n (put g d (Some new)) q e || has_grip (put g d (Some new)) q e) acts).0)))
   | false ↦ (λ at. turn q e (acts_more _ _ _ _ _ _ _ _ (λ x. x) (λ x. x) (other_command (grind (arith, common_steps))) (other_grip (grind (arith, common_steps))) acts))
 ] refl
   where
     new : Grip
     new = record { maker = r; purpose = p }
-
-    acting : (l a : Bool) → (l && a) ≡ true → l ≡ true
-    acting l a e = grind (arith, common_steps)
 
     other_grip : (r == q) ≡ false → has_grip (put g d (Some new)) q e ≡ true → has_grip g q e ≡ true
     other_grip other = elim (e == d) as (λ b. unwrap_or (option_map (λ x. x.maker == q) (if b then Some new else g e)) false ≡ true → has_grip g q e ≡ true) [ true ↦ (λ f. absurd (let both : true ≡ false = sym f ∙ other in cc)) | false ↦ (λ f. f) ]

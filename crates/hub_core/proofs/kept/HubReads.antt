@@ -21,8 +21,8 @@ use Rattle.hub_core.specs.ReadHistories.{HistoryState, IsReadBeside, read_in}
 use Rattle.hub_core.specs.declared.known.RunProgress.{RunProgress}
 use Rattle.std.proofs.Common.{ap, arith, inl, inr, refl, sym, ◌∙◌, ◌⊎◌}
 use Rattle.std.proofs.lemmas.List.{length-append, length-map, length-set}
-use Rattle.std.proofs.lemmas.Option.{slice_get_within}
-use Rattle.std.specs.Prelude.{Bool, IsTrue, List, None, Option, Some, [], is_none, is_some, length, not, slice_get, slice_set, suc, true, zero, ℕ, ◌++◌, ◌+◌, ◌-◌, ◌<◌, ◌∷◌, ◌≡◌, ◌≢◌, ◌≤◌, ◌||◌}
+use Rattle.std.proofs.lemmas.Option.{same_Some, slice_get_within}
+use Rattle.std.specs.Prelude.{Bool, IsTrue, List, None, Option, Some, [], is_none, is_some, length, not, slice_get, slice_set, suc, true, zero, ℕ, ◌++◌, ◌+◌, ◌-◌, ◌<◌, ◌∷◌, ◌≡◌, ◌≢◌, ◌||◌}
 
 -- the place that was written, or another
 pub get_set : {A : Type 0} (xs : List A) (i j : ℕ) (y : A) → i < length xs
@@ -33,9 +33,6 @@ get_set (x ∷ xs) zero (suc j) y h = inr ((λ e. absurd (omega arith)), refl)
 get_set (x ∷ xs) (suc i) zero y h = inr ((λ e. absurd (omega arith)), refl)
 get_set (x ∷ xs) (suc i) (suc j) y h =
     elim (get_set xs i j y (omega arith)) [ inl p ↦ inl (ap (λ n. suc n) p.0, p.1) | inr e ↦ inr ((λ z. e.0 (omega arith)), e.1) ]
-
-pub some_is : {A : Type 0} (x y : A) → Some x ≡ Some y → x ≡ y
-some_is x y e = cc
 
 -- a run has a number from 1 on, and a place in the roster
 pub run_place : (runs : List Run) (r : ℕ) → IsTrue (is_run runs r) → (r ≡ suc (r - 1)) × (r - 1 < length runs)
@@ -48,25 +45,19 @@ run_place runs (suc i) is =
     within None at is = absurd (cc)
     within (Some run) at is = slice_get_within runs i run at
 
-pub run_of_place : (runs : List Run) (r : ℕ) → 1 ≤ r → r ≤ length runs → IsTrue (is_run runs r)
-run_of_place runs zero some few = absurd (omega arith)
-run_of_place [] (suc i) some few = absurd (omega arith)
-run_of_place (x ∷ xs) (suc zero) some few = refl
-run_of_place (x ∷ xs) (suc (suc i)) some few = run_of_place xs (suc i) (omega arith) (omega arith)
-
 -- what is kept of a run is what the history says of it
 pub progress_is : (s : HistoryState) (progress : List RunProgress) (r : ℕ) (p : RunProgress)
     → IsReadBeside s progress → IsTrue (is_run s.setting.runs r) → slice_get progress (r - 1) ≡ Some p → p ≡ progress_of ((read_in s).run r)
 progress_is s progress r p k run at =
     let place = run_place s.setting.runs r run in
-    some_is p (progress_of ((read_in s).run r)) (sym at ∙ k.progress_is (r - 1) place.1 ∙ ap (λ q. Some (progress_of ((read_in s).run q))) (sym place.0))
+    same_Some p (progress_of ((read_in s).run r)) (sym at ∙ k.progress_is (r - 1) place.1 ∙ ap (λ q. Some (progress_of ((read_in s).run q))) (sym place.0))
 
 -- .. at the place of a run
 pub known_at : (s : HistoryState) (progress : List RunProgress) (i : ℕ) (p : RunProgress)
     → IsReadBeside s progress → i < length progress → slice_get progress i ≡ Some p → p ≡ progress_of ((read_in s).run (1 + i))
 known_at s progress i p k within at =
     let next : suc i ≡ 1 + i = omega arith in
-    some_is p (progress_of ((read_in s).run (1 + i))) (sym at ∙ k.progress_is i (omega (arith, within, k.size)) ∙ ap (λ q. Some (progress_of ((read_in s).run q))) next)
+    same_Some p (progress_of ((read_in s).run (1 + i))) (sym at ∙ k.progress_is i (omega (arith, within, k.size)) ∙ ap (λ q. Some (progress_of ((read_in s).run q))) next)
 
 -- .. whether it has ended
 pub ended_at : (s : HistoryState) (progress : List RunProgress) (i : ℕ) (p : RunProgress) (b : Bool)

@@ -23,8 +23,9 @@ use Rattle.hub_core.specs.Steps.{after_give, after_take, after_take_probe, at_mo
 use Rattle.hub_core.specs.WeakKept.{WeakIsKept}
 use Rattle.lock_leasing.specs.Configurations.{Configuration, Grip, Probes, Undoes, read_of}
 use Rattle.std.proofs.Common.{arith, refl, subst, sym, ◌∙◌}
+use Rattle.std.proofs.lemmas.Bool.{ltb-true}
 use Rattle.std.proofs.lemmas.Grind.{common_steps}
-use Rattle.std.specs.Prelude.{Bool, IsTrue, None, Option, Some, false, is_none, length, max, nat_lt, not, true, ℕ, ◌&&◌, ◌<◌, ◌==◌, ◌≡◌, ◌≤◌}
+use Rattle.std.specs.Prelude.{Bool, IsTrue, None, Option, Some, false, is_none, length, max, not, true, ℕ, ◌&&◌, ◌<◌, ◌==◌, ◌≡◌, ◌≤◌}
 use Rattle.window_order.proofs.OutDevices.{asked_up, restored_down}
 use Rattle.window_order.proofs.ReadFacts.{IsRead, read_facts}
 
@@ -108,10 +109,7 @@ probe_given_kept s rounds opened held d v grip told out brings died value kept =
 pub stands_at_home : (s : Configuration) (rounds opened : ℕ) (held : ℕ → ℕ) (d : ℕ) → IsKeptByModel s rounds opened held → is_device s.setting d ≡ true → s.grips d ≡ None → (read_of s).up d ≡ true → held d ≡ standing_value s.setting (read_of s) s.grips d
 stands_at_home s rounds opened held d kept device home up = by_model (held d ≡ standing_value s.setting (read_of s) s.grips d) s rounds opened held kept
     (λ c. stands_home s.setting (read_of s) s.grips held d (read_kept s rounds opened held kept) c.order c.strong device home up)
-    (λ c. c.held_is d (below d (length s.setting.first) device) ∙ sym (weak_standing s rounds opened held d c))
-  where
-    below : (a b : ℕ) → nat_lt a b ≡ true → a < b
-    below a b h = grind (arith, common_steps)
+    (λ c. c.held_is d (ltb-true d (length s.setting.first) device) ∙ sym (weak_standing s rounds opened held d c))
 
 -- What is out
 

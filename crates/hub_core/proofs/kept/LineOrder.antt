@@ -136,28 +136,29 @@ stands_before n a r (Back d k ∷ is) ordered there stands less = subst (λ l. l
 
 -- Runs that act alone
 
+-- where none passes, the first does not, and none behind it does
+head : (p : ℕ → Bool) (x : ℕ) (b : Bool) (xs : List ℕ) → cond b (Some x) (find p xs) ≡ None → b ≡ false
+head p x true xs e = absurd (cc)
+head p x false xs e = refl
+
+tail : (p : ℕ → Bool) (x : ℕ) (b : Bool) (xs : List ℕ) → cond b (Some x) (find p xs) ≡ None → find p xs ≡ None
+tail p x true xs e = absurd (cc)
+tail p x false xs e = e
+
+rest : (p : ℕ → Bool) (x : ℕ) (xs : List ℕ) (b : Bool) → find p (cons_option (if b then Some x else None) xs) ≡ None → find p xs ≡ None
+rest p x xs true e = tail p x (p x) xs e
+rest p x xs false e = e
+
 -- where no live run of the items passes, a run among them that does has ended
 none_live : (n : Reading) (p : ℕ → Bool) (a : ℕ) (items : List Item) → find p (live_runs n items) ≡ None → list_any (is_ran a) items ≡ true → is_live n a ≡ true → p a ≡ false
 none_live n p a [] none there live = absurd (cc)
 none_live n p a (Ran x ∷ is) none there live = elim (x.0 == a) as (λ b. (x.0 == a) ≡ b → p a ≡ false) [
   | true ↦ (λ e. let same : x.0 ≡ a = grind (arith, common_steps) in subst (λ q. p q ≡ false) same (here (subst (λ q. is_live n q ≡ true) (sym same) live) none))
-  | false ↦ (λ e. none_live n p a is (rest (is_live n x.0) none) (grind (arith, common_steps)) live)
+  | false ↦ (λ e. none_live n p a is (rest p x.0 (live_runs n is) (is_live n x.0) none) (grind (arith, common_steps)) live)
 ] refl
   where
-    head : (b : Bool) (xs : List ℕ) → cond b (Some x.0) (find p xs) ≡ None → b ≡ false
-    head true xs e = absurd (cc)
-    head false xs e = refl
-
-    tail : (b : Bool) (xs : List ℕ) → cond b (Some x.0) (find p xs) ≡ None → find p xs ≡ None
-    tail true xs e = absurd (cc)
-    tail false xs e = e
-
     here : is_live n x.0 ≡ true → find p (cons_option (if is_live n x.0 then Some x.0 else None) (live_runs n is)) ≡ None → p x.0 ≡ false
-    here now e = head (p x.0) (live_runs n is) (subst (λ b. find p (cons_option (if b then Some x.0 else None) (live_runs n is)) ≡ None) now e)
-
-    rest : (b : Bool) → find p (cons_option (if b then Some x.0 else None) (live_runs n is)) ≡ None → find p (live_runs n is) ≡ None
-    rest true e = tail (p x.0) (live_runs n is) e
-    rest false e = e
+    here now e = head p x.0 (p x.0) (live_runs n is) (subst (λ b. find p (cons_option (if b then Some x.0 else None) (live_runs n is)) ≡ None) now e)
 none_live n p a (Failed d k ∷ is) none there live = none_live n p a is none there live
 none_live n p a (Back d k ∷ is) none there live = none_live n p a is none there live
 
@@ -200,24 +201,12 @@ fewer_live n m p [] fewer none = refl
 fewer_live n m p (Ran x ∷ is) fewer none = elim (is_live m x.0) as (λ b. is_live m x.0 ≡ b → find p (cons_option (if b then Some x.0 else None) (live_runs m is)) ≡ None) [
   | true ↦ (λ now. let before' : is_live n x.0 ≡ true = fewer x.0 (grind (arith, common_steps)) now in
       let all : find p (x.0 ∷ live_runs n is) ≡ None = subst (λ b. find p (cons_option (if b then Some x.0 else None) (live_runs n is)) ≡ None) before' none in
-      let passes : p x.0 ≡ false = head (p x.0) (live_runs n is) all in rw passes (fewer_live n m p is less (tail (p x.0) (live_runs n is) all)))
-  | false ↦ (λ gone. fewer_live n m p is less (rest (is_live n x.0) none))
+      let passes : p x.0 ≡ false = head p x.0 (p x.0) (live_runs n is) all in rw passes (fewer_live n m p is less (tail p x.0 (p x.0) (live_runs n is) all)))
+  | false ↦ (λ gone. fewer_live n m p is less (rest p x.0 (live_runs n is) (is_live n x.0) none))
 ] refl
   where
     less : (q : ℕ) → list_any (is_ran q) is ≡ true → is_live m q ≡ true → is_live n q ≡ true
     less q there now = fewer q (rw there (grind (arith, common_steps))) now
-
-    head : (b : Bool) (xs : List ℕ) → cond b (Some x.0) (find p xs) ≡ None → b ≡ false
-    head true xs e = absurd (cc)
-    head false xs e = refl
-
-    tail : (b : Bool) (xs : List ℕ) → cond b (Some x.0) (find p xs) ≡ None → find p xs ≡ None
-    tail true xs e = absurd (cc)
-    tail false xs e = e
-
-    rest : (b : Bool) → find p (cons_option (if b then Some x.0 else None) (live_runs n is)) ≡ None → find p (live_runs n is) ≡ None
-    rest true e = tail (p x.0) (live_runs n is) e
-    rest false e = e
 fewer_live n m p (Failed d k ∷ is) fewer none = fewer_live n m p is fewer none
 fewer_live n m p (Back d k ∷ is) fewer none = fewer_live n m p is fewer none
 

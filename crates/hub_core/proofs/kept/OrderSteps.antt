@@ -53,6 +53,7 @@ use Rattle.lock_leasing.specs.Tables.{view_when}
 use Rattle.history_book.specs.Readings.{is_told}
 use Rattle.history_book.specs.declared.entries.Cause.{Cause}
 use Rattle.lock_leasing.specs.Places.{GripsFit, IsClear}
+use Rattle.std.proofs.lemmas.Bool.{and_parts, eqb-true, not-true}
 use Rattle.std.proofs.lemmas.Grind.{common_steps}
 use Rattle.window_order.proofs.Grips.{HoldsNone, held_none, none_left}
 use Rattle.window_order.proofs.TurnedLines.{marks_told}
@@ -205,7 +206,7 @@ order_undo_out {rounds = rounds} h g f r d v line after table later read home be
 
 -- what the table asks for where it is the run's turn on the device
 note_there : (w : Setting) (n : Reading) (g : Grips) (d r : ℕ) (cut : CutAt r n.line) (s : LineageState) → IsRead w n → TouchesNow w n g d r cut → LineageIsKept w n g d s → (is_first r s ≡ not (did n r d)) × MayNote r s
-note_there w n g d r cut s read turn kept = (first, record { status = status; first = λ h. waits_there w n g d r cut s read turn (unseen (did n r d) (sym first ∙ h)) kept })
+note_there w n g d r cut s read turn kept = (first, record { status = status; first = λ h. waits_there w n g d r cut s read turn (not-true (did n r d) (sym first ∙ h)) kept })
   where
     stands : status_of r s.accesses ≡ Some (if did n r d then Acquired else Scheduled)
     stands = status_there w n g d r cut s read turn kept
@@ -223,10 +224,6 @@ note_there w n g d r cut s read turn kept = (first, record { status = status; fi
 
     status : status_of r s.accesses ≡ Some (if is_first r s then Scheduled else Acquired)
     status = stands ∙ ap (λ x. Some x) (turned (did n r d)) ∙ (λ i. Some (if sym first i then Scheduled else Acquired))
-
-    unseen : (b : Bool) → not b ≡ true → b ≡ false
-    unseen true h = absurd (cc)
-    unseen false h = refl
 
 -- the run's turn on the device of its command
 pub may_note : (w : Setting) (n : Reading) (g : Grips) (held : ℕ → ℕ) (d r k : ℕ) (table : List LineageState) → IsRead w n → OrderIsKept w n g held → g d ≡ Some (record { maker = r; purpose = Commands k }) → d < length w.first → TableIsKept w n g table
@@ -408,11 +405,7 @@ order_doomed_if h h₂ g r (Some cause) line after table later fit none new form
   where
     -- the history without the doom is well formed too
     before' : IsWellFormed h.setting (entries_of h.history)
-    before' = front (is_well_formed h.setting (entries_of h.history)) (along h.setting (may_follow h.setting) (read_in h) (Doomed (run_no r) cause ∷ []))
-        (sym (along_on h.setting (may_follow h.setting) (nothing_read h.setting) (entries_of h.history) (Doomed (run_no r) cause ∷ [])) ∙ subst (IsWellFormed h.setting) (entries_on h.history r (Doomed (run_no r) cause ∷ [])) (subst (λ (x : HistoryState). IsWellFormed x.setting (entries_of x.history)) new formed))
-      where
-        front : (x y : Bool) → (x && y) ≡ true → x ≡ true
-        front x y e = grind (arith, common_steps)
+    before' = (and_parts (is_well_formed h.setting (entries_of h.history)) (along h.setting (may_follow h.setting) (read_in h) (Doomed (run_no r) cause ∷ [])) (sym (along_on h.setting (may_follow h.setting) (nothing_read h.setting) (entries_of h.history) (Doomed (run_no r) cause ∷ [])) ∙ subst (IsWellFormed h.setting) (entries_on h.history r (Doomed (run_no r) cause ∷ [])) (subst (λ (x : HistoryState). IsWellFormed x.setting (entries_of x.history)) new formed))).0
 
 -- a run that holds no grip has out no command
 pub none_commands : (w : Setting) (g : Grips) (r : ℕ) → HoldsNone g r → (d : ℕ) → grips_command g r d ≡ false
@@ -422,14 +415,11 @@ none_commands w g r none d = sym (command_held w g r d) ∙ ap holds_command (he
 pub none_out : (w : Setting) (n : Reading) (g : Grips) (d r : ℕ) (p : Purpose) → is_run w.runs r ≡ true → g d ≡ Some (record { maker = r; purpose = p }) → GripsFit w n g → (e : ℕ) → grips_command (put g d None) r e ≡ false
 none_out w n g d r p run at fit e = at_ (put g d None e) refl
   where
-    same : (x y : ℕ) → (x == y) ≡ true → x ≡ y
-    same x y h = grind (arith, common_steps)
-
     none : HoldsNone (put g d None) r
     none = let is = run_positive w r run in subst (HoldsNone (put g d None)) (sym is.1) (none_left w n g d is.0 p (at ∙ ap (λ x. Some (record { maker = x; purpose = p })) is.1) fit)
 
     one : (x : Grip) → put g d None e ≡ Some x → (b : Bool) → (x.maker == r) ≡ b → (b && is_command x.purpose) ≡ false
-    one x h true own = absurd (none e x.purpose (h ∙ ap (λ y. Some (record { maker = y; purpose = x.purpose })) (same x.maker r own)))
+    one x h true own = absurd (none e x.purpose (h ∙ ap (λ y. Some (record { maker = y; purpose = x.purpose })) (eqb-true x.maker r own)))
     one x h false own = refl
 
     at_ : (o : Option Grip) → put g d None e ≡ o → unwrap_or (option_map (λ p. (p.maker == r) && is_command p.purpose) o) false ≡ false

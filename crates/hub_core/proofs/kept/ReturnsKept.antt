@@ -33,6 +33,7 @@ use Rattle.lock_leasing.specs.Places.{MayBeOut}
 use Rattle.lock_leasing.specs.Waits.{lost_by}
 use Rattle.lock_leasing.specs.Words.{has_effect, live_before}
 use Rattle.std.proofs.Common.{ap, append-nil, append_assoc, ap₂, arith, refl, subst, sym, ◌∙◌}
+use Rattle.std.proofs.lemmas.Bool.{and_parts, both_ways, not-true}
 use Rattle.std.proofs.lemmas.Grind.{common_steps}
 use Rattle.std.specs.List.{list_any}
 use Rattle.std.specs.Prelude.{Bool, IsTrue, List, None, Option, Some, [], false, fold, if◌then◌else◌, is_some, max, not, option_map, option_to_list, suc, true, unwrap_or, ℕ, ⊤, ◌&&◌, ◌++◌, ◌+◌, ◌==◌, ◌||◌, ◌∷◌, ◌≡◌, ◌≢◌, ◌≤◌}
@@ -132,7 +133,7 @@ returns s rounds opened held r k d out kept =
         known = known.1;
         same = ap (command_at w.runs r) known.1.number ∙ command_is w n r known.0 known.1.next;
         run = run;
-        first = turned (n.run r).answered_doomed (kept.history.first d (record { maker = r; purpose = Commands k }) out);
+        first = not-true (n.run r).answered_doomed (kept.history.first d (record { maker = r; purpose = Commands k }) out);
         alone = alone (run_positive w r run);
         read = read_facts w (entries_of s.history) kept.history.well_formed;
       },
@@ -143,10 +144,6 @@ returns s rounds opened held r k d out kept =
 
     n : Reading
     n = read_of s
-
-    turned : (b : Bool) → not b ≡ true → b ≡ false
-    turned true e = absurd (cc)
-    turned false e = refl
 
     alone : (q : ℕ) × (r ≡ suc q) → (e : ℕ) (p : Purpose) → s.grips e ≡ Some (record { maker = r; purpose = p }) → e ≡ d
     alone (q, is) e p at = kept.order.grips.runs.one e d q p (Commands k) (at ∙ ap (λ x. Some (record { maker = x; purpose = p })) is) (out ∙ ap (λ x. Some (record { maker = x; purpose = Commands k })) is)
@@ -378,12 +375,9 @@ died_home s rounds opened held r k d now v out value later kept = by_doomed (is_
     not_lost : (a b : Bool) → (a && not b) ≡ false → b ≡ false → a ≡ true → ⊥
     not_lost a b h strong e = grind (arith, common_steps)
 
-    not_must : (a b : Bool) → a ≡ false → (a && b) ≡ true → ⊥
-    not_must a b h e = grind (arith, common_steps)
-
     by_must : lost ≡ false → (b : Bool) → c.must ≡ b → IsMade (doom false false b) → KeptWith (doom false false b)
     by_must unlost true e is_made = dooms (MustDown k) (λ x. refl) refl is_made
-    by_must unlost false e is_made = goes_on (λ h. absurd (not_lost (did n r c.device.0) (is_weak w.mode) unlost kept.strong (ap (did n r) on ∙ h))) (λ h. absurd (not_must c.must (refutes c.job Down) e h))
+    by_must unlost false e is_made = goes_on (λ h. absurd (not_lost (did n r c.device.0) (is_weak w.mode) unlost kept.strong (ap (did n r) on ∙ h))) (λ h. absurd (both_ways c.must e (and_parts c.must (refutes c.job Down) h).0))
 
     by_lost : (b : Bool) → lost ≡ b → IsMade (doom false b c.must) → KeptWith (doom false b c.must)
     by_lost true e is_made = dooms (Lost c.device) (λ x. refl) refl is_made

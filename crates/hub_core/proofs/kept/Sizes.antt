@@ -30,12 +30,13 @@ use Rattle.hub_core.specs.HubKept.{probes_of}
 use Rattle.hub_core.specs.KeptByModel.{IsKeptByModel}
 use Rattle.lock_leasing.specs.Configurations.{Configuration, read_of}
 use Rattle.std.proofs.Common.{ap, arith, cond, length-append, refl, subst, sym, ◌∙◌}
+use Rattle.std.proofs.lemmas.Bool.{eq-eqb, ltb-true, or_right}
 use Rattle.std.proofs.lemmas.Grind.{common_steps}
 use Rattle.std.proofs.lemmas.List.Sums.{sum_by-cons}
 use Rattle.std.proofs.lemmas.Option.{slice_get_within}
 use Rattle.window_order.proofs.ReadFacts.{IsRead, read_facts}
 use Rattle.std.specs.List.{list_any}
-use Rattle.std.specs.Prelude.{Bool, IsTrue, List, None, Option, Some, [], count_by, false, fold, if◌then◌else◌, is_none, is_some, length, map, nat_lt, not, slice_get, suc, take, true, zero, ℕ, ◌*◌, ◌+◌, ◌<◌, ◌==◌, ◌||◌, ◌∷◌, ◌≡◌, ◌≢◌, ◌≤◌}
+use Rattle.std.specs.Prelude.{Bool, IsTrue, List, None, Option, Some, [], count_by, false, fold, if◌then◌else◌, is_none, is_some, length, map, not, slice_get, suc, take, true, zero, ℕ, ◌*◌, ◌+◌, ◌<◌, ◌==◌, ◌||◌, ◌∷◌, ◌≡◌, ◌≢◌, ◌≤◌}
 
 pub count_cons : {A : Type 0} (p : A → Bool) (x : A) (xs : List A) → count_by p (x ∷ xs) ≡ cond (p x) 1 0 + count_by p xs
 count_cons p x xs = sum_by-cons (λ y. cond (p y) 1 0) x xs
@@ -57,7 +58,7 @@ unfolding sum_below
 sum_more f h i zero same more less = absurd (omega (arith, less))
 sum_more f h i (suc k) same more less = elim (i == k) as (λ b. (i == k) ≡ b → sum_below h k + h k ≡ sum_below f k + f k + 1) [
   | true ↦ (λ e. let at : i ≡ k = grind (arith, common_steps) in
-      let rest : sum_below h k ≡ sum_below f k = sum_same f h k (λ j below. same j (λ is. (absurd (omega (arith, below, is, at))))) in
+      let rest : sum_below h k ≡ sum_below f k = sum_same f h k (λ j ltb-true. same j (λ is. (absurd (omega (arith, ltb-true, is, at))))) in
       let here : h k ≡ f k + 1 = subst (λ x. h x ≡ f x + 1) at more in
       omega (arith, rest, here))
   | false ↦ (λ e. let other : k ≢ i = grind (arith, common_steps) in
@@ -173,17 +174,14 @@ undo_more : (on : ℕ → OnDevice) (d devices : ℕ) → not (on d).undid ≡ t
 unfolding undone_of one_if
 undo_more on d devices first less = sum_more (λ e. one_if (on e).undid) _ d devices (λ e other. ap (λ x. one_if x.undid) (put_other on d _ e other)) (ap (λ x. one_if x.undid) (put_same on d _) ∙ sym (ap (λ k. k + 1) (not_yet (on d).undid first))) less
 
-below : (a b : ℕ) → nat_lt a b ≡ true → a < b
-below a b e = grind (arith, common_steps)
-
 told_step : (w : Setting) (n : Reading) (e : Entry) → IsTrue (may_follow w n e) → IsTold w n → IsTold w (entry w n e)
 unfolding told_of one_if
 told_step w n (Arrived r m) ok told = told_put w n (entry w n (Arrived r m)) r.0 _ refl refl refl refl (grind (arith, common_steps)) (let none : one_if (is_some (n.run r.0).arrived) ≡ 0 = none_of (n.run r.0).arrived (grind (arith, common_steps)) in omega (arith, none)) told
 told_step w n (Placed r at m) ok told = told_put w n (entry w n (Placed r at m)) r.0 _ refl refl refl refl (grind (arith, common_steps)) (let none : one_if (is_some (n.run r.0).placed) ≡ 0 = none_of (n.run r.0).placed (grind (arith, common_steps)) in omega (arith, none)) told
 told_step w n (Did r c a) ok told = told_put w n (entry w n (Did r c a)) r.0 _ refl refl refl refl (grind (arith, common_steps)) (omega (arith, length-append (n.run r.0).answers (a ∷ []), answer_undoes_none w n r.0 c a (length w.first))) told
-told_step w n (Undid r d drove) ok told = told_put w n (entry w n (Undid r d drove)) r.0 _ refl refl refl refl (grind (arith, common_steps)) (omega (arith, undo_more (n.run r.0).on d.0 (length w.first) (grind (arith, common_steps)) (below d.0 (length w.first) (grind (arith, common_steps))))) told
-told_step w n (Fell d) ok told = told_turn w n (entry w n (Fell d)) refl refl (fell_more w n d (length w.first) (below d.0 (length w.first) (grind (arith, common_steps)))) told
-told_step w n (Rose d) ok told = told_turn w n (entry w n (Rose d)) refl refl (rose_more w n d (length w.first) (below d.0 (length w.first) (grind (arith, common_steps)))) told
+told_step w n (Undid r d drove) ok told = told_put w n (entry w n (Undid r d drove)) r.0 _ refl refl refl refl (grind (arith, common_steps)) (omega (arith, undo_more (n.run r.0).on d.0 (length w.first) (grind (arith, common_steps)) (ltb-true d.0 (length w.first) (grind (arith, common_steps))))) told
+told_step w n (Fell d) ok told = told_turn w n (entry w n (Fell d)) refl refl (fell_more w n d (length w.first) (ltb-true d.0 (length w.first) (grind (arith, common_steps)))) told
+told_step w n (Rose d) ok told = told_turn w n (entry w n (Rose d)) refl refl (rose_more w n d (length w.first) (ltb-true d.0 (length w.first) (grind (arith, common_steps)))) told
 told_step w n (Doomed r cause) ok told = told_put w n (entry w n (Doomed r cause)) r.0 _ refl refl refl refl (grind (arith, common_steps)) (let none : one_if (is_some (n.run r.0).doomed) ≡ 0 = not_yet (is_some (n.run r.0).doomed) (grind (arith, common_steps)) in omega (arith, none)) told
 told_step w n (Ended r Committed) ok told = told_put w n (entry w n (Ended r Committed)) r.0 _ refl refl refl refl (grind (arith, common_steps)) (let none : one_if (is_some (n.run r.0).ended) ≡ 0 = none_of (n.run r.0).ended (grind (arith, common_steps)) in omega (arith, none)) told
 told_step w n (Ended r (Aborted cause)) ok told = told_put w n (entry w n (Ended r (Aborted cause))) r.0 _ refl refl refl refl (grind (arith, common_steps)) (let none : one_if (is_some (n.run r.0).ended) ≡ 0 = none_of (n.run r.0).ended (grind (arith, common_steps)) in omega (arith, none)) told
@@ -401,13 +399,13 @@ events_step w n (Placed r at m) ok all = count_insert is_event_item (split_of w 
 events_step w n (Did r c a) ok all = all
 events_step w n (Undid r d drove) ok all = all
 events_step w n (Fell d) ok all =
-    let more = fell_more w n d (length w.first) (below d.0 (length w.first) (grind (arith, common_steps))) in
+    let more = fell_more w n d (length w.first) (ltb-true d.0 (length w.first) (grind (arith, common_steps))) in
     count_put_before is_event_item _ (Failed d (n.fell d.0 + 1)) n.line ∙ ap (λ k. 1 + k) all ∙ one_first (events_told n (length w.first)) ∙ sym more
   where
     one_first : (k : ℕ) → 1 + k ≡ k + 1
     one_first k = omega arith
 events_step w n (Rose d) ok all =
-    let more = rose_more w n d (length w.first) (below d.0 (length w.first) (grind (arith, common_steps))) in
+    let more = rose_more w n d (length w.first) (ltb-true d.0 (length w.first) (grind (arith, common_steps))) in
     count_put_before is_event_item _ (Back d (n.rose d.0 + 1)) n.line ∙ ap (λ k. 1 + k) all ∙ one_first (events_told n (length w.first)) ∙ sym more
   where
     one_first : (k : ℕ) → 1 + k ≡ k + 1
@@ -440,11 +438,8 @@ items_counted : (k : ℕ) (line : List Item) → ((r : ℕ) → list_any (is_ran
 items_counted k [] each = omega arith
 items_counted k (Failed d j ∷ is) each = event_counted k (Failed d j) is refl (λ r. refl) (items_counted k is each)
 items_counted k (Back d j ∷ is) each = event_counted k (Back d j) is refl (λ r. refl) (items_counted k is each)
-items_counted k (Ran q ∷ is) each = at_run (items_counted k is (λ r there. each r (behind (q.0 == r) (list_any (is_ran r) is) there))) q.0 refl
+items_counted k (Ran q ∷ is) each = at_run (items_counted k is (λ r there. each r (or_right (q.0 == r) (list_any (is_ran r) is) there))) q.0 refl
   where
-    behind : (a b : Bool) → b ≡ true → (a || b) ≡ true
-    behind a b there = grind (arith, common_steps)
-
     own : (r : ℕ) → q.0 ≡ r → (0 < r) × (r ≤ k)
     own r same = each r (itself q.0 r (list_any (is_ran r) is) same)
       where
@@ -453,9 +448,6 @@ items_counted k (Ran q ∷ is) each = at_run (items_counted k is (λ r there. ea
 
     counted : (r : ℕ) (b : Bool) → (q.0 == r) ≡ b → count_by (is_ran r) (Ran q ∷ is) ≡ cond b 1 0 + count_by (is_ran r) is
     counted r b e = count_cons (is_ran r) (Ran q) is ∙ ap (λ x. cond x 1 0 + count_by (is_ran r) is) e
-
-    equal : (a b : ℕ) → a ≡ b → (a == b) ≡ true
-    equal a b e = grind (arith, common_steps)
 
     differ : (a b c : ℕ) → a ≡ suc b → c ≢ b → (a == suc c) ≡ false
     differ a b c e other = grind (arith, common_steps)
@@ -466,7 +458,7 @@ items_counted k (Ran q ∷ is) each = at_run (items_counted k is (λ r there. ea
         let first = own (suc i) same in
         let more = sum_more (λ j. count_by (is_ran (suc j)) is) (λ j. count_by (is_ran (suc j)) (Ran q ∷ is)) i k
         (λ j other. let none = counted (suc j) false (differ q.0 i j same other) in omega (arith, none))
-        (let one = counted (suc i) true (equal q.0 (suc i) same) in omega (arith, one))
+        (let one = counted (suc i) true (eq-eqb q.0 (suc i) same) in omega (arith, one))
         (omega (arith, first.1)) in
         let events : count_by is_event_item (Ran q ∷ is) ≡ 0 + count_by is_event_item is = count_cons is_event_item (Ran q) is in
         omega (arith, rest, more, events)

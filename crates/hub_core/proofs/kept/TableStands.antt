@@ -16,11 +16,12 @@ use Rattle.lock_leasing.proofs.Writers.{Stays, all_stay, no_write}
 use Rattle.lock_leasing.specs.Configurations.{Grips}
 use Rattle.lock_leasing.specs.Tables.{uses}
 use Rattle.lock_leasing.specs.Words.{Write, committed_write, effective_write, is_undone, standing_value, write_of}
-use Rattle.std.proofs.Common.{ap, arith, refl, sym, ◌∙◌}
-use Rattle.std.proofs.lemmas.Grind.{common_steps}
+use Rattle.std.proofs.Common.{ap, refl, sym, ◌∙◌}
+use Rattle.std.proofs.lemmas.Bool.{and_parts, both_ways, eq-eqb, or_from, or_left, or_parts, or_right}
 use Rattle.std.specs.List.{list_any}
 use Rattle.std.specs.Option.{option_or}
-use Rattle.std.specs.Prelude.{Bool, List, None, Option, Some, [], false, fold, if◌then◌else◌, is_some, not, option_map, true, unwrap_or, ℕ, ◌&&◌, ◌==◌, ◌||◌, ◌∷◌, ◌≡◌}
+use Rattle.std.specs.Prelude.{Bool, List, None, Option, Some, [], false, fold, if◌then◌else◌, is_some, not, option_map, true, unwrap_or, ℕ, ◌&&◌, ◌||◌, ◌∷◌, ◌≡◌}
+use Rattle.window_order.proofs.Runs.{three}
 use Rattle.window_order.specs.TableKept.{LineageIsKept, access_read, accesses_along, commits_write}
 
 module _ (w : Setting) (n : Reading) (g : Grips) (f : Facts w n g) (d : ℕ) (passed : ℕ → Bool) where
@@ -33,9 +34,6 @@ module _ (w : Setting) (n : Reading) (g : Grips) (f : Facts w n g) (d : ℕ) (pa
 
   abbrev accesses_of : List Item → List Access
   accesses_of is = accesses_along (uses w n d) (commits_write n d) (access_read w n g passed d) is
-
-  neither : (a b : Bool) → (a || b) ≡ false → (a ≡ false) × (b ≡ false)
-  neither a b h = (grind (arith, common_steps), grind (arith, common_steps))
 
   -- a run that is not a committed one which wrote
   unwritten : (q : ℕ) → commits_write n d q ≡ false → committed_write n d (Ran (run_no q)) ≡ None
@@ -51,7 +49,7 @@ module _ (w : Setting) (n : Reading) (g : Grips) (f : Facts w n g) (d : ℕ) (pa
   none_committed (Failed e k ∷ is) best none = none_committed is best none
   none_committed (Back e k ∷ is) best none = none_committed is best none
   none_committed (Ran q ∷ is) best none =
-      let parts = neither (commits_write n d q.0) (list_any (of_run (commits_write n d)) is) none in
+      let parts = or_parts (commits_write n d q.0) (list_any (of_run (commits_write n d)) is) none in
       ap (λ o. committed_from (option_or o best) is) (unwritten q.0 parts.0) ∙ none_committed is best parts.1
 
   -- a committed run that wrote: its write is the effective one, and the committed one
@@ -88,48 +86,27 @@ module _ (w : Setting) (n : Reading) (g : Grips) (f : Facts w n g) (d : ℕ) (pa
       later : Option ℕ
       later = option_or (committed_write n d (Ran q)) known
 
-      clash : (b : Bool) → b ≡ true → b ≡ false → ⊥
-      clash b h k = grind (arith, common_steps)
-
-      or_left : (a b : Bool) → a ≡ true → (a || b) ≡ true
-      or_left a b h = grind (arith, common_steps)
-
-      or_right : (a b : Bool) → b ≡ true → (a || b) ≡ true
-      or_right a b h = grind (arith, common_steps)
-
-      or_none : (a b : Bool) → a ≡ false → b ≡ false → (a || b) ≡ false
-      or_none a b h k = grind (arith, common_steps)
-
-      first : (a b : Bool) → (a && b) ≡ true → a ≡ true
-      first a b h = grind (arith, common_steps)
-
-      lives : (l t x : Bool) → (l && t && x) ≡ true → l ≡ true
-      lives l t x h = grind (arith, common_steps)
-
       -- behind it a committed run has written
       covered : list_any (of_run (commits_write n d)) is ≡ true → accesses_standing value (accesses_of is) ≡ value_in (fold (λ o x. option_or (write_of n g d x) o) next is)
-      covered ea = behind next later value committed (λ e. own (or_right (commits_write n d q.0) (list_any (of_run (commits_write n d)) is) ea)) (λ e. absurd (clash (list_any (of_run (commits_write n d)) is) ea e))
+      covered ea = behind next later value committed (λ e. own (or_right (commits_write n d q.0) (list_any (of_run (commits_write n d)) is) ea)) (λ e. absurd (both_ways (list_any (of_run (commits_write n d)) is) e ea))
 
       by_tests : (a : Bool) → list_any (of_run (commits_write n d)) is ≡ a → (b : Bool) → commits_write n d q.0 ≡ b → (u : Bool) → uses w n d q.0 ≡ u
           → accesses_standing value (if u && not a then (access_read w n g passed d q.0 ∷ accesses_of is) else accesses_of is) ≡ value_in (fold (λ o x. option_or (write_of n g d x) o) next is)
       by_tests true ea b eb true eu = covered ea
       by_tests true ea b eb false eu = covered ea
-      by_tests false ea true eb true eu = absurd (clash (is_committed n q.0) (first (is_committed n q.0) (is_some ((n.run q.0).on d).wrote) eb) (live_uncommitted n q.0 (lives (is_live n q.0) _ _ eu)))
-      by_tests false ea true eb false eu = behind next later value committed (λ e. absurd (clash (list_any (of_run (commits_write n d)) is) e ea))
+      by_tests false ea true eb true eu = absurd (both_ways (is_committed n q.0) (live_uncommitted n q.0 (three (is_live n q.0) _ _ eu).0) (and_parts (is_committed n q.0) (is_some ((n.run q.0).on d).wrote) eb).0)
+      by_tests false ea true eb false eu = behind next later value committed (λ e. absurd (both_ways (list_any (of_run (commits_write n d)) is) ea e))
           (λ e. own (or_left (commits_write n d q.0) (list_any (of_run (commits_write n d)) is) eb) ∙ sym committed ∙ ap (λ o. unwrap_or o (stand_at w.first d).value) (none_committed is later ea) ∙ covering q.0 eb best known)
-      by_tests false ea false eb true eu = behind next later (unwrap_or (access_read w n g passed d q.0).wrote value) committed (λ e. absurd (clash (list_any (of_run (commits_write n d)) is) e ea))
-          (λ e. shown q.0 best value (none (or_none (commits_write n d q.0) (list_any (of_run (commits_write n d)) is) eb ea)))
-      by_tests false ea false eb false eu = behind next later value committed (λ e. absurd (clash (list_any (of_run (commits_write n d)) is) e ea))
-          (λ e. none (or_none (commits_write n d q.0) (list_any (of_run (commits_write n d)) is) eb ea) ∙ sym (ap (λ o. value_in (option_or o best)) (no_write w n g f d q stays eb eu)))
+      by_tests false ea false eb true eu = behind next later (unwrap_or (access_read w n g passed d q.0).wrote value) committed (λ e. absurd (both_ways (list_any (of_run (commits_write n d)) is) ea e))
+          (λ e. shown q.0 best value (none (or_from (commits_write n d q.0) (list_any (of_run (commits_write n d)) is) eb ea)))
+      by_tests false ea false eb false eu = behind next later value committed (λ e. absurd (both_ways (list_any (of_run (commits_write n d)) is) ea e))
+          (λ e. none (or_from (commits_write n d q.0) (list_any (of_run (commits_write n d)) is) eb ea) ∙ sym (ap (λ o. value_in (option_or o best)) (no_write w n g f d q stays eb eu)))
 
   along : (c : ℕ) (is : List Item) (best : Option Write) (known : Option ℕ) (value : ℕ) → EachTail (Stays w n g f d) is → Follows c is best known value
   along c [] best known value stays committed own none = none refl
   along c (Failed e k ∷ is) best known value stays committed own none = along c is best known value stays.1 committed own none
   along c (Back e k ∷ is) best known value stays committed own none = along c is best known value stays.1 committed own none
-  along c (Ran q ∷ is) best known value stays committed own none = run_follows c q is best known value (stays.0 q.0 (self q.0)) (λ o k v. along c is o k v stays.1) committed own none
-    where
-      self : (x : ℕ) → (x == x) ≡ true
-      self x = grind (arith, common_steps)
+  along c (Ran q ∷ is) best known value stays committed own none = run_follows c q is best known value (stays.0 q.0 (eq-eqb q.0 _ refl)) (λ o k v. along c is o k v stays.1) committed own none
 
 -- the table tells the standing value
 pub stand_told : (w : Setting) (n : Reading) (g : Grips) (d : ℕ) (s : LineageState) → Facts w n g → is_weak w.mode ≡ false → LineageIsKept w n g d s → accesses_standing s.committed s.accesses ≡ standing_value w n g d

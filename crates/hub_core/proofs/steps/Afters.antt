@@ -1,16 +1,14 @@
 -- The reading after a step.
-use Rattle.history_book.proofs.Shapes.{shapes}
 use Rattle.history_book.proofs.Snoc.{each_on, entries_on, reading_on}
 use Rattle.history_book.specs.Histories.{entries_of, entry, reading}
 use Rattle.history_book.specs.Readings.{Reading}
-use Rattle.history_book.specs.WellFormed.{IsWellFormed, along, each_entry, may_follow}
+use Rattle.history_book.specs.WellFormed.{along, each_entry}
 use Rattle.history_book.specs.declared.entries.Entry.{Entry}
-use Rattle.hub_core.proofs.steps.Takes.{IsHomed, made_by, take_follows}
-use Rattle.hub_core.specs.Steps.{Absent, Choice, HandsOut, Moves, Over, Waits, after_choice, after_take, at_moment, choice_of, with_entries}
+use Rattle.hub_core.proofs.steps.Takes.{made_by}
+use Rattle.hub_core.specs.Steps.{Absent, Choice, HandsOut, Moves, Over, Waits, after_choice, at_moment, with_entries}
 use Rattle.lock_leasing.specs.Configurations.{Configuration, read_of}
-use Rattle.std.proofs.Common.{ap, append-nil, arith, refl, subst, sym, ◌∙◌}
-use Rattle.std.proofs.lemmas.Grind.{common_steps}
-use Rattle.std.specs.Prelude.{Bool, IsTrue, List, fold, max, nat_le, true, ℕ, ◌≡◌, ◌≤◌}
+use Rattle.std.proofs.Common.{ap, append-nil, refl, sym, ◌∙◌}
+use Rattle.std.specs.Prelude.{Bool, IsTrue, List, fold, ℕ, ◌≡◌}
 
 -- the entries of a step are read after what was read before
 pub read_with : (s : Configuration) (maker : ℕ) (entries : List Entry) → read_of (with_entries s maker entries) ≡ fold (entry s.setting) (read_of s) entries
@@ -28,16 +26,3 @@ take_history s r m (Over e entries) = refl
 take_history s r m (Moves entries) = refl
 take_history s r m (Waits why) = sym (append-nil s.history)
 take_history s r m (HandsOut d purpose) = sym (append-nil s.history)
-
--- what holds along the history, and along the entries of a run's step, holds along the history after it
-pub take_each : (s : Configuration) (test : Reading → Entry → Bool) (r m : ℕ) → IsTrue (each_entry s.setting test (entries_of s.history)) → IsTrue (along s.setting test (read_of s) (made_by (choice_of s r m)))
-    → IsTrue (each_entry s.setting test (entries_of (after_take s r m).history))
-take_each s test r m old new = subst (λ h. IsTrue (each_entry s.setting test (entries_of h))) (sym (take_history s r m (choice_of s r m))) (each_with s test r (made_by (choice_of s r m)) old new)
-
--- a run's step keeps a history well formed
-pub take_well_formed : (s : Configuration) (r m : ℕ) → IsHomed s.setting → (read_of s).moment ≤ s.moment → IsWellFormed s.setting (entries_of s.history) → IsWellFormed s.setting (entries_of (after_take s r m).history)
-take_well_formed s r m homed moments old =
-    take_each s (may_follow s.setting) r m old (take_follows s.setting (read_of s) s.grips r (max s.moment m) (record { shaped = shapes s.setting (entries_of s.history) old; homed = homed; moment = later }))
-  where
-    later : nat_le (read_of s).moment (max s.moment m) ≡ true
-    later = let most : (read_of s).moment ≤ max s.moment m = omega (arith, moments) in grind (arith, common_steps, most)

@@ -19,6 +19,7 @@ use Rattle.lock_leasing.specs.Places.{At, DeniedBy, Placing, scheduled_place}
 use Rattle.lock_leasing.specs.Waits.{behind_wait, busy_wait, dirty_wait, down_at_end, follow_wait, grip_wait, strict_wait, undo_wait}
 use Rattle.lock_leasing.specs.Words.{has_effect, lease_deadline, next_undo_of, overdue_for, value_without}
 use Rattle.std.proofs.Common.{refl, subst, sym, ◌∙◌}
+use Rattle.std.proofs.lemmas.Bool.{not-true}
 use Rattle.std.specs.Prelude.{Bool, None, Option, Some, [], false, if◌then◌else◌, is_none, is_some, length, not, option_map, true, unwrap_or, ℕ, ◌&&◌, ◌∷◌, ◌≡◌}
 
 -- A choice by cases
@@ -155,7 +156,7 @@ command_is_next P w n g r m each c run = elim (is_weak w.mode) as (λ b. is_weak
 -- what holds of each thing that the step may do holds of the step
 pub decide_is : (P : Choice → Type 0) (w : Setting) (n : Reading) (g : Grips) (r m : ℕ) → HoldsOfEach P w n g r m → P (decide w n g r m)
 decide_is P w n g r m each =
-    by_test P (not (is_run w.runs r)) Absent _ (λ e. each.absent (single (is_run w.runs r) e))
+    by_test P (not (is_run w.runs r)) Absent _ (λ e. each.absent (not-true (is_run w.runs r) e))
     (λ run. by_map P (λ e. Over e []) (n.run r).ended _ (λ e at. each.over e at)
     (λ going. by_map P (λ d. Waits (Busy (device_no d))) (grip_wait w g r) _ (λ d at. each.waits (Busy (device_no d)))
     (λ free. by_test P (is_none (n.run r).arrived) (Moves (Arrived (run_no r) m ∷ [])) _ (λ none. each.arrives (double (is_run w.runs r) run) none)
@@ -166,7 +167,3 @@ decide_is P w n g r m each =
     (λ sound. by_map P (decide_command w n g r m (next_of n r)) (next_command w n r) (decide_answered w n g r) (λ c at. command_is_next P w n g r m each c (record { act = act; sound = sound; next = at }))
     (λ none. by_map P (λ d. Moves (Doomed (run_no r) (DownAtEnd (device_no d)) ∷ [])) (down_at_end w n g r) _ (λ d at. each.fails_at_end d (record { act = act; sound = sound; none = none }) at)
     (λ up. each.commits (record { act = act; sound = sound; none = none }) up))))))))
-  where
-    single : (b : Bool) → not b ≡ true → b ≡ false
-    single true e = absurd (cc)
-    single false e = refl

@@ -17,17 +17,18 @@ use Rattle.home_types.specs.declared.items.Item.TheVariants.{Failed}
 use Rattle.hub_core.proofs.steps.Causes.{and_is, answered_last}
 use Rattle.hub_core.proofs.steps.Gives.{command_is, lost_is}
 use Rattle.hub_core.specs.JustifiedAborts.{abort_is_justified, shows}
-use Rattle.hub_core.specs.Steps.{command_entries, probe_entries, undo_entries}
+use Rattle.hub_core.specs.Steps.{command_entries, probe_entries}
 use Rattle.device_gate.specs.declared.slips.Told.{Told}
 use Rattle.device_gate.specs.declared.slips.Told.TheVariants.{Died, Sensed, Worked}
 use Rattle.lock_leasing.specs.Waits.{lost_by}
 use Rattle.std.proofs.Common.{ap, append-nil, append_assoc, arith, refl, sym, ◌∙◌}
+use Rattle.std.proofs.Math.Bool.{or-true}
 use Rattle.std.proofs.lemmas.Grind.{common_steps}
 use Rattle.std.proofs.lemmas.List.Folds.{list_any-append}
 use Rattle.std.proofs.lemmas.List.Sums.{take_while-cons}
 use Rattle.std.specs.List.{list_any}
 use Rattle.std.specs.Option.{option_or}
-use Rattle.std.specs.Prelude.{Bool, IsTrue, List, None, Option, Some, [], drop, false, if◌then◌else◌, is_none, is_some, not, option_map, option_to_list, slice_get, suc, take_while, true, unwrap_or, zero, ℕ, ◌&&◌, ◌++◌, ◌+◌, ◌||◌, ◌∷◌, ◌≡◌}
+use Rattle.std.specs.Prelude.{Bool, IsTrue, List, None, Option, Some, [], drop, false, if◌then◌else◌, is_none, is_some, not, option_map, option_to_list, slice_get, suc, take_while, true, unwrap_or, zero, ℕ, ◌&&◌, ◌++◌, ◌+◌, ◌∷◌, ◌≡◌}
 
 abbrev pub ShowsAll : Setting → Reading → List Entry → Type 0
 ShowsAll w n entries = IsTrue (along w (abort_is_justified w) n entries)
@@ -36,11 +37,7 @@ ShowsAll w n entries = IsTrue (along w (abort_is_justified w) n entries)
 fall_in_span : (r d k : ℕ) (marks more : List Mark) → list_any (is_first r) marks ≡ true → list_any (is_last r) marks ≡ false → list_any is_fall (span_of r (marks ++ Event (Failed (device_no d) k) ∷ more)) ≡ true
 fall_in_span r d k marks more first last =
     ap (list_any is_fall) (span_more r marks (Event (Failed (device_no d) k) ∷ more) first last ∙ ap (λ l. span_of r marks ++ l) (take_while-cons (λ x. not (is_last r x)) (Event (Failed (device_no d) k)) more))
-    ∙ list_any-append is_fall (span_of r marks) (Event (Failed (device_no d) k) ∷ take_while (λ x. not (is_last r x)) more) ∙ or_true (list_any is_fall (span_of r marks))
-  where
-    or_true : (b : Bool) → (b || true) ≡ true
-    or_true true = refl
-    or_true false = refl
+    ∙ list_any-append is_fall (span_of r marks) (Event (Failed (device_no d) k) ∷ take_while (λ x. not (is_last r x)) more) ∙ or-true (list_any is_fall (span_of r marks))
 
 sees_is : (v : Option Bool) → unwrap_or v false ≡ true → is_some v ≡ true
 sees_is None e = absurd (cc)
@@ -84,11 +81,6 @@ probe_shows w n d told log = elim (n.up d) as (λ b. IsTrue (along w (abort_is_j
     down_shows' Worked = refl
     down_shows' (Sensed x) = refl
     down_shows' Died = refl
-
-pub undo_shows : (w : Setting) (n : Reading) (r d : ℕ) (told : Told) → ShowsAll w n (undo_entries r d told)
-undo_shows w n r d Worked = refl
-undo_shows w n r d (Sensed x) = refl
-undo_shows w n r d Died = refl
 
 pub sensed_shows : (w : Setting) (n : Reading) (r x : ℕ) → ShowsAll w n (command_entries w n r (next_of n r) (Sensed x))
 sensed_shows w n r x = elim (fails (command_at w.runs r (next_of n r)) (Found x)) as (λ b. fails (command_at w.runs r (next_of n r)) (Found x) ≡ b → IsTrue (along w (abort_is_justified w) later (if b && not (is_doomed n r) then doom else []))) [

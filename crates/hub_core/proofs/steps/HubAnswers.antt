@@ -44,7 +44,7 @@ same_task_self (Probe v) = same_optional_self v
 same_slip_self : (slip : Slip) → same_slip slip slip ≡ true
 same_slip_self slip = grind (arith, common_steps)
 
-same_self : (c : Carried) → same_carried c c ≡ true
+pub same_self : (c : Carried) → same_carried c c ≡ true
 same_self c = rw (same_slip_self c.slip, same_task_self c.task) refl
 
 refused_if : (b : Bool) (s : HubState) (c : Configuration) (told : Carried) (result : Told) (x : Stranger) → b ≡ true → Returned (Refused x) ≡ Returned (give_if b s c told result).answer → ⊥

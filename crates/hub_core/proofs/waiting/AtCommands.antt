@@ -6,6 +6,7 @@ use Rattle.history_book.specs.Readings.{OfRun, PlacedAt, Reading, is_live, is_op
 use Rattle.history_book.specs.Settings.{Setting}
 use Rattle.history_book.specs.WellFormed.{IsWellFormed}
 use Rattle.home_types.specs.declared.commands.Command.{Command}
+use Rattle.hub_core.proofs.kept.Finds.{not_none}
 use Rattle.hub_core.proofs.steps.Choices.{Commanding}
 use Rattle.hub_core.proofs.steps.GiveCauses.{next_pends}
 use Rattle.hub_core.proofs.steps.Takes.{live_run}
@@ -31,10 +32,6 @@ live_parts o live = at o.placed refl
     at None e = absurd (let none : (false && is_none o.ended) ≡ true = sym (ap (λ x. is_some x && is_none o.ended) e) ∙ live in cc)
     at (Some x) e = (ap is_some e, ap is_none e, none_is o.ended (sym (ap (λ y. is_some y && is_none o.ended) e) ∙ live))
 
-is_there : {A : Type 0} (o : Option A) → is_some o ≡ true → is_none o ≡ false
-is_there None e = absurd (cc)
-is_there (Some x) e = refl
-
 -- a device that is told is that of the run's next command
 pub device_told : (b : Bool) (o : Option ℕ) (d : ℕ) → (if b then o else None) ≡ Some d → (b ≡ true) × (o ≡ Some d)
 device_told true o d e = (refl, e)
@@ -53,7 +50,7 @@ at_command s r d formed next =
       command = found.0;
       device = found.2;
       run = record { act = record { run = live_run w n r shaped live; free = none_is (grip_wait w s.grips r) free; live = live }; sound = none_of (n.run r).doomed sound; next = found.1 };
-      came = is_there (n.run r).arrived ((shaped r).arrived (live_parts (n.run r) live).0);
+      came = not_none (n.run r).arrived ((shaped r).arrived (live_parts (n.run r) live).0);
     }
   where
     w : Setting

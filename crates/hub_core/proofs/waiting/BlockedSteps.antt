@@ -33,6 +33,7 @@ use Rattle.lock_leasing.specs.Configurations.{Commands, Configuration, Grip, Gri
 use Rattle.lock_leasing.specs.Leases.{NeverOverdue}
 use Rattle.lock_leasing.specs.Waits.{grip_wait, lost_by}
 use Rattle.std.proofs.Common.{ap, arith, inl, inr, refl, subst, sym, ◌∙◌}
+use Rattle.std.proofs.lemmas.Bool.{both_ways, eqb-false, eqb-true}
 use Rattle.std.proofs.lemmas.Grind.{common_steps}
 use Rattle.std.proofs.lemmas.List.{append-nil}
 use Rattle.std.specs.List.{list_all}
@@ -168,20 +169,11 @@ goes_for w n g r m = decide_is (Goes w n r) w n g r m (record {
 
 -- a blocked run is not the one that makes the step
 not_mover : (s : Configuration) (r m d : ℕ) (purpose : Purpose) (q : ℕ) → choice_of s r m ≡ HandsOut d purpose → IsBlocked s q → q ≢ r
-not_mover s r m d purpose q out blocked same = clash (ap (λ x. is_wait (choice_of s x m)) same ∙ ap is_wait out) (blocked.waits m)
-  where
-    clash : {b : Bool} → b ≡ false → b ≡ true → ⊥
-    clash e f = absurd (let both : true ≡ false = sym f ∙ e in cc)
+not_mover s r m d purpose q out blocked same = both_ways _ (ap (λ x. is_wait (choice_of s x m)) same ∙ ap is_wait out) (blocked.waits m)
 
 -- another run holds no grip still, where the run's grip goes out or comes back
 still_free : (s : Configuration) (maker d : ℕ) (o : Option Grip) (q : ℕ) → IsOf maker o → IsOf maker (s.grips d) → q ≢ maker → grip_wait s.setting s.grips q ≡ None → grip_wait s.setting (put s.grips d o) q ≡ None
 still_free s maker d o q new old other free = find_same (has_grip (put s.grips d o) q) (has_grip s.grips q) _ (λ e. others_hold s.grips maker d o new old q e other) ∙ free
-
-same_number : (a b : ℕ) → (a == b) ≡ true → a ≡ b
-same_number a b h = grind (arith, common_steps)
-
-apart : (a b : ℕ) → (a == b) ≡ false → a ≢ b
-apart a b h same = absurd (let one : (a == b) ≡ true = grind (arith, common_steps) in cc)
 
 -- the device of a run's step goes out: for an undo, and those that are blocked there are free; or for a command, and they wait behind its run
 pub goes : (s : Configuration) (r m d : ℕ) (purpose : Purpose) (b after : BlockedState) → s.grips d ≡ None → IsKept s → IsKept (with_grip (at_moment s m) d (Some (record { maker = r; purpose = purpose }))) → choice_of s r m ≡ HandsOut d purpose → AreBlocked s b
@@ -219,9 +211,9 @@ goes s r m d purpose b after home was now out are left = left_stay s t b after (
 
     each : (q e : ℕ) → IsBlocked s q → next_device s q ≡ Some e → (is_out_for_command t d ≡ false → e ≢ d) → Lasts t q e
     each q e blocked next left' = elim (e == d) as (λ x. (e == d) ≡ x → Lasts t q e) [
-      | true ↦ (λ h. let same = same_number e d h in
+      | true ↦ (λ h. let same = eqb-true e d h in
           subst (λ x. Lasts t q x) (sym same) (here purpose refl (subst (λ c. Goes s.setting (read_of s) r c) out (goes_for s.setting (read_of s) s.grips r (max s.moment m))) q blocked (next ∙ ap (λ x. Some x) same) (λ no. subst (λ x. x ≢ d) same (left' no))))
-      | false ↦ (λ h. away q e blocked next (apart e d h))
+      | false ↦ (λ h. away q e blocked next (eqb-false e d h))
     ] refl
 
 -- a run is not the detector
@@ -292,8 +284,8 @@ back s m d grip told b after later out was now are left = left_stay s t b after 
 
     here : (q e : ℕ) → IsBlocked s q → next_device s q ≡ Some e → IsAnsweredStill t d entries → Lasts t q e
     here q e blocked next still = elim (e == d) as (λ x. (e == d) ≡ x → Lasts t q e) [
-      | true ↦ (λ h. subst (λ x. Lasts t q x) (sym (same_number e d h)) (behind (next ∙ ap (λ x. Some x) (same_number e d h))))
-      | false ↦ (λ h. away q e blocked next (apart e d h) (ap (list_all (is_quiet s.setting e)) still.only ∙ quiet h))
+      | true ↦ (λ h. subst (λ x. Lasts t q x) (sym (eqb-true e d h)) (behind (next ∙ ap (λ x. Some x) (eqb-true e d h))))
+      | false ↦ (λ h. away q e blocked next (eqb-false e d h) (ap (list_all (is_quiet s.setting e)) still.only ∙ quiet h))
     ] refl
       where
         quiet : (e == d) ≡ false → list_all (is_quiet s.setting e) (Did still.run still.command still.answer ∷ []) ≡ true

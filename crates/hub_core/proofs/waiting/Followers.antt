@@ -11,7 +11,6 @@ use Rattle.history_book.specs.declared.entries.Entry.{Entry}
 use Rattle.history_book.specs.declared.entries.Entry.TheVariants.{Arrived, Did, Doomed, Ended, Fell, Placed, Rose, Undid}
 use Rattle.history_book.specs.declared.entries.Kept.{Kept}
 use Rattle.home_types.specs.declared.numbers.RunNo.{RunNo}
-use Rattle.hub_core.specs.BlockedRuns.{IsBlocked, is_wait}
 use Rattle.hub_core.specs.Steps.{Waits, decide}
 use Rattle.hub_core.specs.declared.waits.Why.TheVariants.{Follow}
 use Rattle.lock_leasing.specs.Configurations.{Configuration, Grips, read_of}
@@ -20,7 +19,7 @@ use Rattle.std.proofs.Common.{ap, arith, refl, subst, sym, ◌∙◌}
 use Rattle.std.proofs.lemmas.Grind.{common_steps}
 use Rattle.std.proofs.lemmas.List.{map-append}
 use Rattle.std.specs.List.{list_all}
-use Rattle.std.specs.Prelude.{Bool, IsTrue, List, None, Option, Some, [], false, fold, if◌then◌else◌, is_none, is_some, max, not, true, ℕ, ◌&&◌, ◌++◌, ◌==◌, ◌∷◌, ◌≡◌}
+use Rattle.std.specs.Prelude.{Bool, IsTrue, List, None, Option, Some, [], false, fold, if◌then◌else◌, is_none, is_some, not, true, ℕ, ◌&&◌, ◌++◌, ◌==◌, ◌∷◌, ◌≡◌}
 use Rattle.window_order.proofs.Runs.{both}
 
 -- the run has arrived, and is not placed
@@ -38,9 +37,6 @@ pub record IsFollower (w : Setting) (n : Reading) (r : ℕ) (f : RunNo) : Type 0
 
 pub follower_waits : (w : Setting) (n : Reading) (g : Grips) (r m : ℕ) (f : RunNo) → IsFollower w n r f → grip_wait w g r ≡ None → decide w n g r m ≡ Waits (Follow f)
 follower_waits w n g r m f at free = rw (at.run, at.own.0, free, at.own.1, at.own.2, at.leader, at.ahead) refl
-
-pub follower_blocked : (s : Configuration) (r : ℕ) (f : RunNo) → IsFollower s.setting (read_of s) r f → grip_wait s.setting s.grips r ≡ None → IsBlocked s r
-follower_blocked s r f at free = record { run = at.run; free = free; waits = λ m. ap is_wait (follower_waits s.setting (read_of s) s.grips r (max s.moment m) f at free) }
 
 -- What ends it
 

@@ -19,6 +19,7 @@ use Rattle.home_types.specs.declared.modes.Scheduler.{Scheduler}
 use Rattle.home_types.specs.declared.modes.Visibility.TheVariants.{Eventual, Global, Partitioned, Weak}
 use Rattle.home_types.specs.declared.modes.Visibility.{Visibility}
 use Rattle.home_types.specs.declared.worlds.Stand.{Stand}
+use Rattle.hub_core.proofs.kept.Finds.{none_there}
 use Rattle.hub_core.proofs.waiting.QuietEntries.{SameFor, quiet_along, write_same}
 use Rattle.hub_core.specs.BlockedRuns.{IsBlocked, IsElsewhere, is_wait, next_device}
 use Rattle.hub_core.specs.Steps.{Absent, HandsOut, Moves, Over, Waits, behind_case, busy_case, command_cases, decide, decide_answered, decide_arrived, decide_command, decide_doomed, dirty_case, down_case, down_entries, first_case, only_if, overdue_case, strict_case}
@@ -140,10 +141,6 @@ device_by w n g r = if is_live n r && not (is_doomed n r) && is_none (grip_wait 
 at_on : (w : Setting) (n : Reading) (g : Grips) (r d : ℕ) → IsShaped w r (n.run r) → device_by w n g r ≡ Some d → IsAtOn w n g r d
 at_on w n g r d shape at = by_test (is_live n r && not (is_doomed n r) && is_none (grip_wait w g r)) refl at
   where
-    none_of : {A : Type 0} (o : Option A) → is_some o ≡ false → o ≡ None
-    none_of None e = refl
-    none_of (Some x) e = absurd (cc)
-
     found : (is_live n r && not (is_doomed n r) && is_none (grip_wait w g r)) ≡ true → option_map (λ c. c.device.0) (next_command w n r) ≡ Some d → IsAtOn w n g r d
     found is next =
         let placed : is_some (n.run r).placed ≡ true = grind (arith, common_steps) in
@@ -156,7 +153,7 @@ at_on w n g r d shape at = by_test (is_live n r && not (is_doomed n r) && is_non
             ended = none_is (n.run r).ended (grind (arith, common_steps));
             came = grind (arith, common_steps);
             placed = grind (arith, common_steps);
-            doomed = none_of (n.run r).doomed (grind (arith, common_steps));
+            doomed = none_there (n.run r).doomed (grind (arith, common_steps));
             next = command.1;
           };
           there = command.2;

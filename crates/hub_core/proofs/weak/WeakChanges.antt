@@ -18,8 +18,9 @@ use Rattle.hub_core.specs.WeakKept.{NoneHasFailed, WeakIsKept, goes_weakly}
 use Rattle.lock_leasing.specs.Configurations.{Commands, Configuration, Grip, Grips, Probes, Purpose, Undoes, read_of}
 use Rattle.lock_leasing.specs.Places.{GripsFit}
 use Rattle.std.proofs.Common.{ap, arith, refl, subst, sym, ◌∙◌}
+use Rattle.std.proofs.lemmas.Bool.{and_parts}
 use Rattle.std.proofs.lemmas.Grind.{common_steps}
-use Rattle.std.specs.Prelude.{Bool, IsTrue, List, None, Some, [], false, fold, is_some, length, not, slice_get, true, ℕ, ◌&&◌, ◌++◌, ◌<◌, ◌==◌, ◌∷◌, ◌≡◌, ◌≢◌, ◌≤◌}
+use Rattle.std.specs.Prelude.{IsTrue, List, None, Some, [], false, fold, is_some, length, not, slice_get, true, ℕ, ◌&&◌, ◌++◌, ◌<◌, ◌==◌, ◌∷◌, ◌≡◌, ◌≢◌, ◌≤◌}
 use Rattle.window_order.proofs.Grips.{HoldsNone}
 
 -- another moment, other grips, and other probes left, with the same history
@@ -133,13 +134,7 @@ passes_more (x ∷ cs) [] c a at ok old = rw (ap (λ (y : Command). fails y a) (
     none : (ds : List Command) → none_fails ds [] ≡ true
     none [] = refl
     none (d ∷ ds) = refl
-passes_more (x ∷ cs) (y ∷ xs) c a at ok old = rw (both (not (fails x y)) (none_fails cs xs) old) (passes_more cs xs c a at ok (rest (not (fails x y)) (none_fails cs xs) old))
-  where
-    both : (b e : Bool) → (b && e) ≡ true → b ≡ true
-    both b e f = grind (arith, common_steps)
-
-    rest : (b e : Bool) → (b && e) ≡ true → e ≡ true
-    rest b e f = grind (arith, common_steps)
+passes_more (x ∷ cs) (y ∷ xs) c a at ok old = rw (and_parts (not (fails x y)) (none_fails cs xs) old).0 (passes_more cs xs c a at ok (and_parts (not (fails x y)) (none_fails cs xs) old).1)
 
 pub passes_did : (w : Setting) (n : Reading) (r k : ℕ) (a : Answer) (c : Command) → next_command w n r ≡ Some c → fails c a ≡ false → (n.run r).doomed ≡ None → NoneHasFailed w n → NoneHasFailed w (entry w n (Did (run_no r) k a))
 passes_did w n r k a c next ok sound old =

@@ -1,22 +1,16 @@
 -- What a run of the weak model does: the cases that are left. Where no device is out some run that has not ended goes on.
-use Rattle.command_rules.specs.Items.{of_run}
 use Rattle.command_rules.specs.Rosters.{device_no, run_no}
-use Rattle.history_book.specs.Histories.{with_event}
-use Rattle.history_book.specs.Lines.{put_before}
-use Rattle.history_book.specs.Readings.{Reading, did, is_open, next_command, next_of, sees_down}
+use Rattle.history_book.specs.Readings.{Reading, next_command, next_of, sees_down}
 use Rattle.history_book.specs.Settings.{Setting, is_weak, scheduler_of}
 use Rattle.history_book.specs.declared.entries.Cause.TheVariants.{DownAtEnd}
 use Rattle.history_book.specs.declared.entries.Cause.{Cause}
 use Rattle.history_book.specs.declared.entries.End.TheVariants.{Committed}
 use Rattle.history_book.specs.declared.entries.Entry.TheVariants.{Doomed, Ended}
 use Rattle.home_types.specs.declared.commands.Command.{Command}
-use Rattle.home_types.specs.declared.items.Item.TheVariants.{Back, Failed, Ran}
-use Rattle.home_types.specs.declared.items.Item.{Item}
 use Rattle.home_types.specs.declared.modes.Scheduler.TheVariants.{Fcfs}
 use Rattle.home_types.specs.declared.modes.Scheduler.{Scheduler}
 use Rattle.home_types.specs.declared.modes.Visibility.TheVariants.{Eventual, Global, Partitioned, Weak}
 use Rattle.home_types.specs.declared.modes.Visibility.{Visibility}
-use Rattle.home_types.specs.declared.numbers.DeviceNo.{DeviceNo}
 use Rattle.hub_core.proofs.windows.Progress.{IsLeastUnended, least_leads, least_unended, run_goes}
 use Rattle.hub_core.specs.BlockedRuns.{is_wait}
 use Rattle.hub_core.proofs.windows.StrongChoices.{same_map}
@@ -28,7 +22,7 @@ use Rattle.hub_core.specs.WeakSteps.{weak_command, weak_rest}
 use Rattle.hub_core.specs.declared.waits.Why.TheVariants.{Busy}
 use Rattle.lock_leasing.specs.Configurations.{Commands, Configuration, Grips, is_out, read_of}
 use Rattle.std.proofs.Common.{ap, refl, sym, ◌∙◌}
-use Rattle.std.specs.Prelude.{List, [], false, if◌then◌else◌, max, not, option_map, true, unwrap_or, ℕ, ◌&&◌, ◌++◌, ◌||◌, ◌∷◌, ◌≡◌}
+use Rattle.std.specs.Prelude.{[], false, if◌then◌else◌, max, not, option_map, true, unwrap_or, ℕ, ◌&&◌, ◌||◌, ◌∷◌, ◌≡◌}
 
 -- The cases that are left
 
@@ -69,15 +63,3 @@ weak_moves s rounds opened held kept r run going home =
     goes q least m = run_goes s.setting (read_of s) s.grips q m home
         (λ unplaced. (least_leads s.setting (read_of s) q kept.opens.follows least, rw (served s.setting.mode.model s.setting.mode.scheduler kept.weak) refl))
         (λ placed strong. absurd (let both : true ≡ false = sym kept.weak ∙ strong in cc))
-
--- The line
-
--- an event of a device comes last
-pub weak_event_last : (w : Setting) (n : Reading) (d : DeviceNo) (x : Item) → is_weak w.mode ≡ true → with_event w n d x ≡ n.line ++ x ∷ []
-weak_event_last w n d x weak = ap (λ b. put_before (of_run (λ r. not b && is_open w n r d.0 && not (did n r d.0))) x n.line) weak ∙ at_end n.line
-  where
-    at_end : (line : List Item) → put_before (of_run (λ r. false)) x line ≡ line ++ x ∷ []
-    at_end [] = refl
-    at_end (Ran r ∷ is) = ap (λ l. Ran r ∷ l) (at_end is)
-    at_end (Failed e k ∷ is) = ap (λ l. Failed e k ∷ l) (at_end is)
-    at_end (Back e k ∷ is) = ap (λ l. Back e k ∷ l) (at_end is)

@@ -9,49 +9,23 @@ use Rattle.history_book.specs.declared.entries.Entry.TheVariants.{Arrived, Did, 
 use Rattle.history_book.specs.declared.entries.Entry.{Entry}
 use Rattle.history_book.specs.declared.records.WindowRecord.{WindowRecord}
 use Rattle.home_types.specs.HomeStates.{stand_at}
-use Rattle.home_types.specs.Kinds.{has_value, kind_at}
 use Rattle.home_types.specs.declared.commands.Answer.TheVariants.{Down, Fine, Found}
 use Rattle.home_types.specs.declared.worlds.Stand.{Stand}
-use Rattle.hub_core.proofs.kept.EndedOnce.{dooms_fit, ends_fit}
-use Rattle.hub_core.proofs.kept.Sizes.{IsSized, sized_events, sized_history, sized_line, steady_up}
+use Rattle.hub_core.proofs.kept.Sizes.{steady_up}
 use Rattle.hub_core.proofs.windows.CalmHistories.{IsPlain, NoneFailed, all_homed, along_less, downs_told}
 use Rattle.hub_core.proofs.windows.Closings.{IsQuiet, all_have_ended, homed_in, plain_committed}
 use Rattle.hub_core.specs.AccountedCalls.{CallsAreAccounted}
-use Rattle.hub_core.specs.Bounds.{is_doom, is_end, most_entries, most_items}
-use Rattle.hub_core.specs.HubKept.{UndosFit, keeps_leases, undo_fits}
+use Rattle.hub_core.specs.HubKept.{keeps_leases}
 use Rattle.hub_core.specs.JustifiedAborts.{IsJustified, abort_is_justified}
 use Rattle.hub_core.specs.LegalWindows.{IsLegalWindow, IsSeriallyLegal, IsWeaklyLegal, all_ended, history_of, weakly_allowed}
 use Rattle.hub_core.specs.MustChecks.{has_must_check}
 use Rattle.hub_core.specs.WeakKept.{WeakIsKept}
-use Rattle.lock_leasing.specs.Configurations.{Commands, Configuration, Probes, Purpose, Undoes, read_of}
+use Rattle.lock_leasing.specs.Configurations.{Configuration, read_of}
 use Rattle.command_rules.specs.Rosters.{command_at, is_run}
-use Rattle.std.proofs.Common.{ap, arith, refl, subst, sym, ◌∙◌}
-use Rattle.std.proofs.lemmas.Grind.{common_steps}
+use Rattle.std.proofs.Common.{ap, refl, subst, sym, ◌∙◌}
+use Rattle.std.proofs.lemmas.Bool.{and_parts}
 use Rattle.std.specs.List.{list_all}
-use Rattle.std.specs.Prelude.{Bool, IsTrue, List, None, Some, [], count_by, false, is_some, length, nat_lt, not, true, ℕ, ◌&&◌, ◌*◌, ◌+◌, ◌<◌, ◌==◌, ◌||◌, ◌∷◌, ◌≡◌, ◌≤◌}
-
--- Sizes
-
-pub record SizesFit (s : Configuration) (rounds : ℕ) : Type 0 where
-  pub history : length s.history ≤ most_entries (length s.setting.runs) (length s.setting.first) rounds
-  pub line : length (read_of s).line ≤ most_items (length s.setting.runs) (length s.setting.first) rounds
-  pub ends : count_by is_end (entries_of s.history) ≤ length s.setting.runs
-  pub dooms : count_by is_doom (entries_of s.history) ≤ length s.setting.runs
-  pub events : (d : ℕ) → (read_of s).fell d + (read_of s).rose d ≤ 2 * rounds + 1
-
-pub weak_sized : (s : Configuration) (rounds opened : ℕ) (held : ℕ → ℕ) → WeakIsKept s rounds opened held → IsSized s rounds
-weak_sized s rounds opened held kept = record { well_formed = kept.well_formed; probes = kept.probes; few_commands = kept.opens.few_commands }
-
-pub weak_sizes : (s : Configuration) (rounds opened : ℕ) (held : ℕ → ℕ) → WeakIsKept s rounds opened held → SizesFit s rounds
-weak_sizes s rounds opened held kept =
-    let sized : IsSized s rounds = weak_sized s rounds opened held kept in
-    record {
-      history = sized_history s rounds sized;
-      line = sized_line s rounds sized;
-      ends = ends_fit s.setting (entries_of s.history) kept.well_formed;
-      dooms = dooms_fit s.setting (entries_of s.history) kept.well_formed;
-      events = λ d. sized_events s rounds d sized;
-    }
+use Rattle.std.specs.Prelude.{Bool, IsTrue, List, None, Some, [], false, length, true, ℕ, ◌<◌, ◌||◌, ◌∷◌, ◌≡◌}
 
 -- What is allowed under the weak model
 
@@ -104,13 +78,7 @@ allowed_leases w n (Ended r e) ok = refl
 -- a test of the entries alone
 all_along : (w : Setting) (test : Entry → Bool) (n : Reading) (h : List Entry) → IsTrue (along w (λ m e. test e) n h) → IsTrue (list_all test h)
 all_along w test n [] all = refl
-all_along w test n (e ∷ h) all = let rest : IsTrue (list_all test h) = all_along w test (entry w n e) h (tail (test e) (along w (λ m x. test x) (entry w n e) h) all) in rw (head (test e) (along w (λ m x. test x) (entry w n e) h) all, rest) refl
-  where
-    head : (a b : Bool) → (a && b) ≡ true → a ≡ true
-    head a b e = grind (arith, common_steps)
-
-    tail : (a b : Bool) → (a && b) ≡ true → b ≡ true
-    tail a b e = grind (arith, common_steps)
+all_along w test n (e ∷ h) all = let rest : IsTrue (list_all test h) = all_along w test (entry w n e) h (and_parts (test e) (along w (λ m x. test x) (entry w n e) h) all).1 in rw ((and_parts (test e) (along w (λ m x. test x) (entry w n e) h) all).0, rest) refl
 
 weak_plain : (s : Configuration) (rounds opened : ℕ) (held : ℕ → ℕ) → WeakIsKept s rounds opened held → IsPlain s.setting (entries_of s.history)
 weak_plain s rounds opened held kept =
@@ -126,25 +94,6 @@ weak_plain s rounds opened held kept =
     w = s.setting
 
 -- What is out
-
--- a probe restores a value of its device's kind, where the hub holds such values
-pub weak_undos : (s : Configuration) (rounds opened : ℕ) (held : ℕ → ℕ) → ((d : ℕ) → d < length s.setting.first → IsTrue (has_value (kind_at s.setting.kinds d) (held d))) → WeakIsKept s rounds opened held → UndosFit s.setting s.grips
-weak_undos s rounds opened held values kept d grip at = by_purpose grip.purpose at
-  where
-    within : d < length s.setting.first
-    within = below d (length s.setting.first) (kept.grips.homed d (ap is_some at))
-      where
-        below : (a b : ℕ) → nat_lt a b ≡ true → a < b
-        below a b e = grind (arith, common_steps)
-
-    last_of : (b : Bool) (v last : ℕ) → (not b && (v == last)) ≡ true → v ≡ last
-    last_of b v last e = grind (arith, common_steps)
-
-    by_purpose : (p : Purpose) → s.grips d ≡ Some (record { maker = grip.maker; purpose = p }) → undo_fits (kind_at s.setting.kinds d) p ≡ true
-    by_purpose (Commands k) out = refl
-    by_purpose (Undoes v) out = absurd (let undoes : false ≡ true = kept.out d (record { maker = grip.maker; purpose = Undoes v }) out in cc)
-    by_purpose (Probes None) out = refl
-    by_purpose (Probes (Some v)) out = ap (has_value (kind_at s.setting.kinds d)) (last_of ((read_of s).up d) v ((read_of s).last d) (kept.out d (record { maker = grip.maker; purpose = Probes (Some v) }) out) ∙ sym (kept.held_is d within)) ∙ values d within
 
 -- A quiet window
 

@@ -34,30 +34,24 @@ use Rattle.lock_leasing.specs.Configurations.{Commands, Configuration, Grip, Gri
 use Rattle.lock_leasing.specs.Places.{GripsFit}
 use Rattle.lock_leasing.specs.Words.{live_runs}
 use Rattle.std.proofs.Common.{ap, ap₂, arith, refl, subst, sym, ◌∙◌}
+use Rattle.std.proofs.Math.Bool.{and-false, and-true}
+use Rattle.std.proofs.lemmas.Bool.{eq-eqb, ltb-true}
 use Rattle.std.proofs.lemmas.Grind.{common_steps}
-use Rattle.std.specs.Prelude.{Bool, IsTrue, List, None, Option, Some, [], false, find, fold, if◌then◌else◌, is_some, length, max, nat_lt, not, option_map, option_to_list, suc, true, ℕ, ◌&&◌, ◌<◌, ◌==◌, ◌∷◌, ◌≡◌, ◌≢◌, ◌≤◌}
+use Rattle.std.specs.Prelude.{Bool, IsTrue, List, None, Option, Some, [], false, find, fold, if◌then◌else◌, is_some, length, max, not, option_map, option_to_list, suc, true, ℕ, ◌&&◌, ◌<◌, ◌==◌, ◌∷◌, ◌≡◌, ◌≢◌, ◌≤◌}
 use Rattle.window_order.proofs.Grips.{HoldsNone, fits_other, fits_same, fits_without, none_left}
 use Rattle.window_order.proofs.Runs.{both, run_positive}
 
 -- The entries of a device that comes home
 
-either_false : (b : Bool) → (b && false) ≡ false
-either_false true = refl
-either_false false = refl
-
-either_true : (b : Bool) → (b && true) ≡ b
-either_true true = refl
-either_true false = refl
-
 -- a value that was found dooms its run, which was not doomed, where it must not find it
 pub weak_sensed : (w : Setting) (n : Reading) (r k x : ℕ) → is_doomed n r ≡ false → command_entries w n r k (Sensed x) ≡ Did (run_no r) k (Found x) ∷ (if fails (command_at w.runs r k) (Found x) then Doomed (run_no r) (Refuted k x) ∷ [] else [])
-weak_sensed w n r k x sound = ap (λ b. Did (run_no r) k (Found x) ∷ (if b then Doomed (run_no r) (Refuted k x) ∷ [] else [])) (ap (λ b. fails (command_at w.runs r k) (Found x) && not b) sound ∙ either_true (fails (command_at w.runs r k) (Found x)))
+weak_sensed w n r k x sound = ap (λ b. Did (run_no r) k (Found x) ∷ (if b then Doomed (run_no r) (Refuted k x) ∷ [] else [])) (ap (λ b. fails (command_at w.runs r k) (Found x) && not b) sound ∙ and-true (fails (command_at w.runs r k) (Found x)))
 
 -- a call that died dooms its run, which was not doomed, where its command is must; no access is lost
 pub weak_died : (w : Setting) (n : Reading) (r k : ℕ) → is_weak w.mode ≡ true → is_doomed n r ≡ false → command_entries w n r k Died ≡ Fell (command_at w.runs r k).device ∷ Did (run_no r) k Down ∷ (if (command_at w.runs r k).must then Doomed (run_no r) (MustDown k) ∷ [] else [])
 weak_died w n r k weak sound =
     (λ i. Fell c.device ∷ Did (run_no r) k Down ∷ (if sound i then [] else (if did n r c.device.0 && not (weak i) then Doomed (run_no r) (Lost c.device) ∷ [] else (if c.must then Doomed (run_no r) (MustDown k) ∷ [] else []))))
-    ∙ ap (λ b. Fell c.device ∷ Did (run_no r) k Down ∷ (if b then Doomed (run_no r) (Lost c.device) ∷ [] else (if c.must then Doomed (run_no r) (MustDown k) ∷ [] else []))) (either_false (did n r c.device.0))
+    ∙ ap (λ b. Fell c.device ∷ Did (run_no r) k Down ∷ (if b then Doomed (run_no r) (Lost c.device) ∷ [] else (if c.must then Doomed (run_no r) (MustDown k) ∷ [] else []))) (and-false (did n r c.device.0))
   where
     c : Command
     c = command_at w.runs r k
@@ -108,10 +102,7 @@ comes_home s rounds opened maker d now v held entries home fewer kept =
 
 -- the hub holds what is read as last written
 pub held_last : (s : Configuration) (rounds opened : ℕ) (held : ℕ → ℕ) (d : ℕ) (grip : Grip) → s.grips d ≡ Some grip → WeakIsKept s rounds opened held → held d ≡ (read_of s).last d
-held_last s rounds opened held d grip out kept = kept.held_is d (below d (length s.setting.first) (kept.grips.homed d (ap is_some out)))
-  where
-    below : (a b : ℕ) → nat_lt a b ≡ true → a < b
-    below a b e = grind (arith, common_steps)
+held_last s rounds opened held d grip out kept = kept.held_is d (ltb-true d (length s.setting.first) (kept.grips.homed d (ap is_some out)))
 
 -- A command comes back
 
@@ -235,7 +226,7 @@ command_home s rounds opened held r k d now v told out brings stays value later 
 
     -- a write has worked
     wrote : BringsFor s held r d v (Commands k) Worked → KeptWith (Did (run_no r) k Fine ∷ [])
-    wrote b = makes (Did (run_no r) k Fine ∷ []) (follows Worked b) refl later (λ q other. put_other n.run r _ q other) (passes_did w n r k Fine c next (either_false c.must) back.1.sound kept.passes) (λ e other. refl)
+    wrote b = makes (Did (run_no r) k Fine ∷ []) (follows Worked b) refl later (λ q other. put_other n.run r _ q other) (passes_did w n r k Fine c next (and-false c.must) back.1.sound kept.passes) (λ e other. refl)
         (λ e other. put_other n.last c.device.0 _ e (λ is. other (is ∙ on)))
         (subst (λ e. v ≡ put n.last e (driven (kind_at w.kinds e) c.job (n.run r).register) d) (sym on) (b.1 ∙ sym (put_same n.last d _))) refl
 
@@ -251,10 +242,7 @@ command_home s rounds opened held r k d now v told out brings stays value later 
         doom = Doomed (run_no r) (Refuted k x)
 
         reads_last : (x == n.last c.device.0) ≡ true
-        reads_last = equal x (n.last c.device.0) (brings.1 ∙ brings.2 ∙ own ∙ ap n.last (sym on))
-          where
-            equal : (a b : ℕ) → a ≡ b → (a == b) ≡ true
-            equal a b e = grind (arith, common_steps)
+        reads_last = eq-eqb x (n.last c.device.0) (brings.1 ∙ brings.2 ∙ own ∙ ap n.last (sym on))
 
         by_failure : (b : Bool) → fails c (Found x) ≡ b → IsTrue (along w (may_follow w) n (answer ∷ (if b then doom ∷ [] else []))) → KeptWith (answer ∷ (if b then doom ∷ [] else []))
         by_failure true e ok =

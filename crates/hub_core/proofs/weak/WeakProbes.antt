@@ -8,18 +8,14 @@ use Rattle.hub_core.specs.Steps.{after_take_probe, may_probe, probe_grip, restor
 use Rattle.hub_core.specs.WeakKept.{WeakIsKept, goes_weakly}
 use Rattle.lock_leasing.specs.Configurations.{Configuration, Probes, read_of}
 use Rattle.lock_leasing.specs.Words.{effective_write, standing_value}
-use Rattle.std.proofs.Common.{ap, arith, refl, sym, ◌∙◌}
-use Rattle.std.proofs.lemmas.Grind.{common_steps}
-use Rattle.std.specs.Prelude.{Bool, None, Some, false, if◌then◌else◌, length, option_map, suc, true, unwrap_or, ℕ, ◌-◌, ◌<◌, ◌==◌, ◌≡◌}
+use Rattle.std.proofs.Common.{ap, arith, refl}
+use Rattle.std.proofs.lemmas.Bool.{eq-eqb}
+use Rattle.std.specs.Prelude.{Bool, None, Some, false, if◌then◌else◌, option_map, suc, true, unwrap_or, ℕ, ◌-◌, ◌≡◌}
 use Rattle.window_order.proofs.Grips.{HoldsNone, fits_with}
 
 -- where a device stands is what was written last
 pub weak_standing : (s : Configuration) (rounds opened : ℕ) (held : ℕ → ℕ) (d : ℕ) → WeakIsKept s rounds opened held → standing_value s.setting (read_of s) s.grips d ≡ (read_of s).last d
 weak_standing s rounds opened held d kept = ap (λ b. if b then (read_of s).last d else unwrap_or (option_map (λ e. e.value) (effective_write (read_of s) s.grips d)) (stand_at s.setting.first d).value) kept.weak
-
--- a probe restores what the hub holds, where the device is counted down
-pub weak_restored : (s : Configuration) (rounds opened : ℕ) (held : ℕ → ℕ) (d : ℕ) → d < length s.setting.first → WeakIsKept s rounds opened held → restored s d ≡ (if (read_of s).up d then None else Some (held d))
-weak_restored s rounds opened held d within kept = ap (λ v. if (read_of s).up d then None else Some v) (weak_standing s rounds opened held d kept ∙ sym (kept.held_is d within))
 
 pub weak_take_probe : (s : Configuration) (rounds opened : ℕ) (held : ℕ → ℕ) (d : ℕ) → WeakIsKept s rounds opened held → WeakIsKept (after_take_probe s d) rounds opened held
 weak_take_probe s rounds opened held d kept = elim (may_probe s d) as (λ b. may_probe s d ≡ b → WeakIsKept (if b then record s { probes = put s.probes d (s.probes d - 1); grips = put s.grips d (Some (probe_grip s d)) } else s) rounds opened held) [
@@ -31,9 +27,6 @@ weak_take_probe s rounds opened held d kept = elim (may_probe s d) as (λ b. may
     no_run : (q : ℕ) → ◌≡◌ {A = ℕ} 0 (suc q) → HoldsNone s.grips 0
     no_run q e = absurd (cc)
 
-    self : (v last : ℕ) → v ≡ last → (v == last) ≡ true
-    self v last e = grind (arith, common_steps)
-
     by_up : (b : Bool) → (read_of s).up d ≡ b → goes_weakly (read_of s) d (record { maker = 0; purpose = Probes (if b then None else Some (standing_value s.setting (read_of s) s.grips d)) }) ≡ true
     by_up true up = up
-    by_up false down = rw (down, self (standing_value s.setting (read_of s) s.grips d) ((read_of s).last d) (weak_standing s rounds opened held d kept)) refl
+    by_up false down = rw (down, eq-eqb (standing_value s.setting (read_of s) s.grips d) ((read_of s).last d) (weak_standing s rounds opened held d kept)) refl

@@ -30,6 +30,7 @@ use Rattle.lock_leasing.specs.Configurations.{Configuration, no_grips}
 use Rattle.lock_leasing.specs.Waits.{down_at_end}
 use Rattle.lock_leasing.specs.Words.{has_touched}
 use Rattle.std.proofs.Common.{ap, append-nil, arith, cond, refl, sym, ◌∙◌}
+use Rattle.std.proofs.lemmas.Bool.{and_parts, both_ways, eq-eqb, ltb-true}
 use Rattle.std.proofs.lemmas.Grind.{common_steps}
 use Rattle.std.proofs.lemmas.List.Elements.{filter_map-append}
 use Rattle.std.proofs.lemmas.List.Folds.{list_all-append}
@@ -37,7 +38,7 @@ use Rattle.std.proofs.lemmas.List.Sums.{take_while-cons}
 use Rattle.std.proofs.lemmas.Option.{slice_get-get_or}
 use Rattle.std.specs.List.{list_all, list_any}
 use Rattle.std.specs.Option.{option_or}
-use Rattle.std.specs.Prelude.{Bool, IsTrue, List, None, Option, Some, [], count_by, false, find, fold, if◌then◌else◌, is_none, is_some, length, nat_lt, not, option_map, slice_get, suc, take_while, true, unwrap_or, zero, ℕ, ◌&&◌, ◌++◌, ◌+◌, ◌<◌, ◌==◌, ◌||◌, ◌∷◌, ◌≡◌}
+use Rattle.std.specs.Prelude.{Bool, IsTrue, List, None, Option, Some, [], count_by, false, find, fold, if◌then◌else◌, is_none, is_some, length, not, option_map, slice_get, suc, take_while, true, unwrap_or, zero, ℕ, ◌&&◌, ◌++◌, ◌+◌, ◌<◌, ◌==◌, ◌||◌, ◌∷◌, ◌≡◌}
 
 -- an entry of such a window: no event, no answer Down, and no doom but for a value that a must `check` found
 abbrev pub calm_entry : Entry → Bool
@@ -133,10 +134,6 @@ calm_step w n (Doomed r cause) ok p = calm_put w n (entry w n (Doomed r cause)) 
 calm_step w n (Ended r Committed) ok p = calm_put w n (entry w n (Ended r Committed)) r.0 _ refl (λ d. refl) refl (p.views r.0) (p.told r.0) p
 calm_step w n (Ended r (Aborted cause)) ok p = calm_put w n (entry w n (Ended r (Aborted cause))) r.0 _ refl (λ d. refl) refl (p.views r.0) (p.told r.0) p
 
-calm_from : (w : Setting) (n : Reading) (h : List Entry) → CalmReads w n → IsTrue (list_all calm_entry h) → CalmReads w (fold (entry w) n h)
-calm_from w n [] p ok = p
-calm_from w n (e ∷ h) p ok = calm_from w (entry w n e) h (calm_step w n e (grind (arith, common_steps)) p) (grind (arith, common_steps))
-
 -- Each entry is calm
 
 -- each device is up as the window opens
@@ -147,17 +144,8 @@ AllUp w = (d : ℕ) → d < length w.first → (stand_at w.first d).up ≡ true
 abbrev pub AllHomed : Setting → Type 0
 AllHomed w = (r k : ℕ) (c : Command) → slice_get (commands_of w.runs r) k ≡ Some c → is_device w c.device.0 ≡ true
 
-clash : (b : Bool) → b ≡ true → b ≡ false → ⊥
-clash b e f = grind (arith, common_steps)
-
-both_of : (a b : Bool) → (a && b) ≡ true → (a ≡ true) × (b ≡ true)
-both_of a b e = (grind (arith, common_steps), grind (arith, common_steps))
-
 counted_up : (w : Setting) (n : Reading) (d : ℕ) → AllUp w → CalmReads w n → is_device w d ≡ true → n.up d ≡ true
-counted_up w n d up p device = p.up d ∙ up d (below d (length w.first) device)
-  where
-    below : (a b : ℕ) → nat_lt a b ≡ true → a < b
-    below a b e = grind (arith, common_steps)
+counted_up w n d up p device = p.up d ∙ up d (ltb-true d (length w.first) device)
 
 no_sight : (v : Option Bool) → unwrap_or v true ≡ true → unwrap_or (option_map not v) false ≡ false
 no_sight None e = refl
@@ -213,8 +201,8 @@ none_at_end w n r up p = by_model (is_strict w.mode) (find (λ d. has_touched n 
     found d at =
         let which = each_found (λ d. (is_device w d ≡ true) × (touches w.runs r d ≡ true)) (λ d. has_touched n no_grips r d && not (n.up d)) (devices_of w r) d (own_devices w r) at in
         let here : n.up d ≡ true = counted_up w n d up p which.0.0 in
-        let down : not (n.up d) ≡ true = (both_of (has_touched n no_grips r d) (not (n.up d)) which.1).1 in
-        clash (not (n.up d)) down (ap not here)
+        let down : not (n.up d) ≡ true = (and_parts (has_touched n no_grips r d) (not (n.up d)) which.1).1 in
+        both_ways (not (n.up d)) (ap not here) down
 
     by_model : (b : Bool) (o : Option ℕ) → find (λ d. has_touched n no_grips r d && not (n.up d)) (devices_of w r) ≡ o → (if b then o else None) ≡ None
     by_model true None e = refl
@@ -232,18 +220,15 @@ entry_calm w n (Arrived r m) up homed p ok clean shown kept none = refl
 entry_calm w n (Placed r at m) up homed p ok clean shown kept none = refl
 entry_calm w n (Did r c Fine) up homed p ok clean shown kept none = refl
 entry_calm w n (Did r c (Found x)) up homed p ok clean shown kept none = refl
-entry_calm w n (Did r c Down) up homed p ok clean shown kept none = absurd (clash _ clean (answers_calm w n r.0 c up homed p (grind (arith, common_steps))))
+entry_calm w n (Did r c Down) up homed p ok clean shown kept none = absurd (both_ways _ (answers_calm w n r.0 c up homed p (grind (arith, common_steps))) clean)
 entry_calm w n (Undid r d drove) up homed p ok clean shown kept none = refl
-entry_calm w n (Fell d) up homed p ok clean shown kept none = absurd (clash (d.0 == d.0) (own d.0) (none d.0 (grind (arith, common_steps))))
-  where
-    own : (k : ℕ) → (k == k) ≡ true
-    own k = grind (arith, common_steps)
-entry_calm w n (Rose d) up homed p ok clean shown kept none = absurd (clash (not (n.up d.0)) (grind (arith, common_steps)) (ap not (counted_up w n d.0 up p (grind (arith, common_steps)))))
-entry_calm w n (Doomed r (MustDown c)) up homed p ok clean shown kept none = absurd (clash (has_answer n r.0 c Down) (both_of (command_at w.runs r.0 c).must (has_answer n r.0 c Down) shown).1 (not_down (n.run r.0).answers c (p.told r.0)))
+entry_calm w n (Fell d) up homed p ok clean shown kept none = absurd (both_ways (d.0 == d.0) (none d.0 (grind (arith, common_steps))) (eq-eqb d.0 _ refl))
+entry_calm w n (Rose d) up homed p ok clean shown kept none = absurd (both_ways (not (n.up d.0)) (ap not (counted_up w n d.0 up p (grind (arith, common_steps)))) (grind (arith, common_steps)))
+entry_calm w n (Doomed r (MustDown c)) up homed p ok clean shown kept none = absurd (both_ways (has_answer n r.0 c Down) (not_down (n.run r.0).answers c (p.told r.0)) (and_parts (command_at w.runs r.0 c).must (has_answer n r.0 c Down) shown).1)
 entry_calm w n (Doomed r (Refuted c x)) up homed p ok clean shown kept none = refl
-entry_calm w n (Doomed r (Lost d)) up homed p ok clean shown kept none = absurd (clash (list_any is_fall (span_of r.0 (n.log d.0))) (both_of (sees_up n r.0 d.0) (list_any is_fall (span_of r.0 (n.log d.0))) shown).1 (none_in_span r.0 (n.log d.0) (p.log d.0)))
+entry_calm w n (Doomed r (Lost d)) up homed p ok clean shown kept none = absurd (both_ways (list_any is_fall (span_of r.0 (n.log d.0))) (none_in_span r.0 (n.log d.0) (p.log d.0)) (and_parts (sees_up n r.0 d.0) (list_any is_fall (span_of r.0 (n.log d.0))) shown).1)
 entry_calm w n (Doomed r (Revoked lender d deadline m)) up homed p ok clean shown kept none = absurd (cc)
-entry_calm w n (Doomed r (DownAtEnd d)) up homed p ok clean shown kept none = absurd (clash (equals_some (down_at_end w n no_grips r.0) d.0) (both_of (is_none (next_command w n r.0)) (equals_some (down_at_end w n no_grips r.0) d.0) shown).1 (ap (λ o. equals_some o d.0) (none_at_end w n r.0 up p)))
+entry_calm w n (Doomed r (DownAtEnd d)) up homed p ok clean shown kept none = absurd (both_ways (equals_some (down_at_end w n no_grips r.0) d.0) (ap (λ o. equals_some o d.0) (none_at_end w n r.0 up p)) (and_parts (is_none (next_command w n r.0)) (equals_some (down_at_end w n no_grips r.0) d.0) shown).1)
 entry_calm w n (Ended r e) up homed p ok clean shown kept none = refl
 
 -- no failure of these devices is told
@@ -286,7 +271,7 @@ pub record IsPlain (w : Setting) (h : List Entry) : Type 0 where
 pub along_less : (w : Setting) (test less : Reading → Entry → Bool) (n : Reading) (h : List Entry) → ((m : Reading) (e : Entry) → test m e ≡ true → less m e ≡ true) → IsTrue (along w test n h) → IsTrue (along w less n h)
 along_less w test less n [] step all = refl
 along_less w test less n (e ∷ h) step all =
-    let parts = both_of (test n e) (along w test (entry w n e) h) all in
+    let parts = and_parts (test n e) (along w test (entry w n e) h) all in
     let here = step n e parts.0 in
     let rest : IsTrue (along w less (entry w n e) h) = along_less w test less (entry w n e) h step parts.1 in
     rw (here, rest) refl
@@ -346,10 +331,7 @@ refuted_step w n (Undid r d drove) calm shown all = refuted_put w n (entry w n (
 refuted_step w n (Fell d) calm shown all = all
 refuted_step w n (Rose d) calm shown all = all
 refuted_step w n (Doomed r (MustDown c)) calm shown all = absurd (cc)
-refuted_step w n (Doomed r (Refuted c x)) calm shown all = refuted_put w n (entry w n (Doomed r (Refuted c x))) r.0 _ refl (first_of (fails (command_at w.runs r.0 c) (Found x)) (has_answer n r.0 c (Found x)) shown) all
-  where
-    first_of : (a b : Bool) → (a && b) ≡ true → a ≡ true
-    first_of a b e = grind (arith, common_steps)
+refuted_step w n (Doomed r (Refuted c x)) calm shown all = refuted_put w n (entry w n (Doomed r (Refuted c x))) r.0 _ refl (and_parts (fails (command_at w.runs r.0 c) (Found x)) (has_answer n r.0 c (Found x)) shown).0 all
 refuted_step w n (Doomed r (Lost d)) calm shown all = absurd (cc)
 refuted_step w n (Doomed r (Revoked lender d deadline m)) calm shown all = absurd (cc)
 refuted_step w n (Doomed r (DownAtEnd d)) calm shown all = absurd (cc)

@@ -47,6 +47,7 @@ use Rattle.lock_leasing.specs.Places.{GripsFit, PlacesAreScheduled}
 use Rattle.lock_leasing.specs.Tables.{uses}
 use Rattle.lock_leasing.specs.Words.{standing_value}
 use Rattle.std.proofs.Common.{ap, arith, refl, subst, sym, ◌∙◌}
+use Rattle.std.proofs.Math.Bool.{or-true}
 use Rattle.std.proofs.lemmas.Grind.{common_steps}
 use Rattle.std.proofs.lemmas.List.{get_or-map, length-map}
 use Rattle.std.specs.List.{list_all, list_any, range_with_len}
@@ -105,11 +106,7 @@ fails_is c x e = by_job c.must c.job e
 check_is : (cs : List Command) (k : ℕ) → is_must_check (slice_index_or cs k no_command) ≡ true → list_any is_must_check cs ≡ true
 check_is [] k e = absurd (cc)
 check_is (c ∷ cs) zero e = ap (λ b. b || list_any is_must_check cs) e
-check_is (c ∷ cs) (suc k) e = ap (λ b. is_must_check c || b) (check_is cs k e) ∙ either (is_must_check c)
-  where
-    either : (b : Bool) → (b || true) ≡ true
-    either true = refl
-    either false = refl
+check_is (c ∷ cs) (suc k) e = ap (λ b. is_must_check c || b) (check_is cs k e) ∙ or-true (is_must_check c)
 
 -- so a run that has none is not doomed
 sound_without : (w : Setting) (r : ℕ) (doom : Option Cause) → is_refuted w r doom ≡ true → has_must_check w.runs r ≡ false → is_some doom ≡ false

@@ -18,7 +18,7 @@ use Rattle.home_types.specs.declared.items.Item.TheVariants.{Back, Failed, Ran}
 use Rattle.home_types.specs.declared.modes.Scheduler.TheVariants.{Fcfs, JustInTime, Timeline}
 use Rattle.home_types.specs.declared.modes.Scheduler.{Scheduler}
 use Rattle.home_types.specs.declared.numbers.RunNo.{RunNo}
-use Rattle.hub_core.proofs.kept.Finds.{find_least, none_does}
+use Rattle.hub_core.proofs.kept.Finds.{find_least, none_does, none_found, not_none}
 use Rattle.hub_core.proofs.kept.Sizes.{run_there, run_within}
 use Rattle.hub_core.proofs.windows.StrongChoices.{command_current, live_stands}
 use Rattle.hub_core.proofs.steps.Choices.{by_map, by_test}
@@ -35,6 +35,8 @@ use Rattle.lock_leasing.specs.Places.{At, Denial, DeniedBy, Placing, at_end, den
 use Rattle.lock_leasing.specs.Waits.{behind_wait, busy_wait, dirty_wait, down_at_end, follow_wait, grip_wait, strict_wait}
 use Rattle.lock_leasing.specs.Words.{effective_writer_of, holds_device, is_overdue, live_before, live_runs, next_undo_of, value_without}
 use Rattle.std.proofs.Common.{ap, arith, cond, refl, sym, ◌∙◌}
+use Rattle.std.proofs.Math.Bool.{and-false}
+use Rattle.std.proofs.lemmas.Bool.{both_ways}
 use Rattle.std.proofs.lemmas.Grind.{common_steps}
 use Rattle.std.specs.List.{cons_option, range_with_len}
 use Rattle.std.specs.Option.{option_or}
@@ -130,21 +132,13 @@ least_leads w n q earlier least = by_leader (followed_by w.runs q) refl
     unended None = None
     unended (Some f) = if is_none (n.run f.0).ended then Some f else None
 
-    over : (o : Option End) → is_some o ≡ true → is_none o ≡ false
-    over None e = absurd (cc)
-    over (Some x) e = refl
-
     by_leader : (o : Option RunNo) → followed_by w.runs q ≡ o → unended o ≡ None
     by_leader None e = refl
     by_leader (Some f) e =
         let before' : (nat_lt 0 f.0 && nat_lt f.0 q) ≡ true = earlier q f e in
-        ap (λ b. cond b (Some f) None) (over (n.run f.0).ended (least.earlier f.0 (grind (arith, common_steps)) (grind (arith, common_steps))))
+        ap (λ b. cond b (Some f) None) (not_none (n.run f.0).ended (least.earlier f.0 (grind (arith, common_steps)) (grind (arith, common_steps))))
 
 -- The runs that go on
-
-none_found : {A : Type 0} (p : A → Bool) (xs : List A) → ((x : A) → p x ≡ false) → find p xs ≡ None
-none_found p [] none = refl
-none_found p (x ∷ xs) none = ap (λ b. cond b (Some x) (find p xs)) (none x) ∙ none_found p xs none
 
 home_free : (w : Setting) (g : Grips) (r : ℕ) → ((d : ℕ) → g d ≡ None) → grip_wait w g r ≡ None
 home_free w g r home = none_found (has_grip g r) (device_numbers w) (λ d. ap (λ o. unwrap_or (option_map (λ p. p.maker == r) o) false) (home d))
@@ -176,17 +170,13 @@ command_goes w n g r m k c first home = elim (is_weak w.mode) as (λ b. is_weak 
   | false ↦ (λ strong. in_front (first strong))
 ] refl
   where
-    never : (b : Bool) → (b && false) ≡ false
-    never true = refl
-    never false = refl
-
     answers : (b : Bool) → is_wait (unwrap_or (only_if b (Moves (down_entries r k c))) (HandsOut c.device.0 (Commands k))) ≡ false
     answers true = refl
     answers false = refl
 
     unbarred : is_wait (unbarred_command w n g r k c) ≡ false
     unbarred =
-        let at_home : busy_wait w n g r c.device.0 ≡ false = ap (λ o. (is_weak w.mode || not (sees_down n r c.device.0)) && is_some o) (home c.device.0) ∙ never (is_weak w.mode || not (sees_down n r c.device.0)) in
+        let at_home : busy_wait w n g r c.device.0 ≡ false = ap (λ o. (is_weak w.mode || not (sees_down n r c.device.0)) && is_some o) (home c.device.0) ∙ and-false (is_weak w.mode || not (sees_down n r c.device.0)) in
         ap (λ b. is_wait (first_case (only_if b (Waits (Busy c.device)) ∷ down_case w n r k c ∷ []) (HandsOut c.device.0 (Commands k)))) at_home ∙ answers (answers_down w n r c.device.0)
 
     in_front : live_before n r ≡ [] → is_wait (strong_command w n g r m k c) ≡ false
@@ -234,9 +224,6 @@ some_run_moves s rounds opened held r kept home run going = by_live (find (is_li
     shaped : Shaped w n
     shaped = shapes w (entries_of s.history) kept.history.well_formed
 
-    clash : (b : Bool) → b ≡ true → b ≡ false → ⊥
-    clash b e f = grind (arith, common_steps)
-
     some_of : (o : Option PlacedAt) → is_none o ≡ false → (is_some o && true) ≡ true
     some_of None e = absurd (cc)
     some_of (Some x) e = refl
@@ -261,7 +248,7 @@ some_run_moves s rounds opened held r kept home run going = by_live (find (is_li
     -- the least run that has not ended
     from_least : NoneIsLive n → (q : ℕ) × IsLeastUnended w n q → (q : ℕ) × (is_run w.runs q ≡ true) × ((n.run q).ended ≡ None) × ((m : ℕ) → is_wait (choice_of s q m) ≡ false)
     from_least over (q, least) =
-        (q, least.run, least.going, λ m. run_goes w n s.grips q (max s.moment m) home (λ unplaced. (least_leads w n q kept.opens.follows least, placed_at_once w n s.grips q (max s.moment m) over)) (λ placed. absurd (clash (is_live n q) (ap (λ o. is_some (n.run q).placed && is_none o) least.going ∙ some_of (n.run q).placed placed) (over q))))
+        (q, least.run, least.going, λ m. run_goes w n s.grips q (max s.moment m) home (λ unplaced. (least_leads w n q kept.opens.follows least, placed_at_once w n s.grips q (max s.moment m) over)) (λ placed. absurd (both_ways (is_live n q) (over q) (ap (λ o. is_some (n.run q).placed && is_none o) least.going ∙ some_of (n.run q).placed placed))))
 
     by_live : (o : Option ℕ) → find (is_live n) (run_numbers w) ≡ o → (q : ℕ) × (is_run w.runs q ≡ true) × ((n.run q).ended ≡ None) × ((m : ℕ) → is_wait (choice_of s q m) ≡ false)
     by_live (Some x) e = let live : is_live n x ≡ true = (find_least (is_live n) 1 (length w.runs) x e).does in from_line (first_live n x n.line (live_stands n x (standing w (entries_of s.history) kept.history.well_formed) live) live)

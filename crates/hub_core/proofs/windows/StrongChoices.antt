@@ -20,7 +20,7 @@ use Rattle.hub_core.proofs.steps.Causes.{each_is}
 use Rattle.hub_core.specs.HubKept.{ConfigurationIsKept, is_later, placed_in_order}
 use Rattle.hub_core.specs.Openings.{names_values_of}
 use Rattle.hub_core.specs.Decisions.{current_command, strong_command, strong_doomed}
-use Rattle.hub_core.specs.Steps.{HandsOut, Moves, aborts, command_cases, decide_command, decide_doomed, first_case, only_if, undo_cases}
+use Rattle.hub_core.specs.Steps.{HandsOut, Moves, aborts, command_cases, decide_command, decide_doomed, first_case, undo_cases}
 use Rattle.lock_leasing.specs.Configurations.{Commands, Configuration, Grips, read_of}
 use Rattle.lock_leasing.specs.Leases.{NeverOverdue}
 use Rattle.lock_leasing.specs.Places.{IsClear}
@@ -33,10 +33,6 @@ use Rattle.std.specs.List.{cons_option, list_all, list_any}
 use Rattle.std.specs.Prelude.{Bool, IsTrue, List, None, Option, Some, [], false, find, if◌then◌else◌, is_none, is_some, length, nat_lt, not, option_map, slice_get, suc, take, true, unwrap_or, ℕ, ◌&&◌, ◌==◌, ◌∷◌, ◌≡◌, ◌≤◌}
 
 -- Two choices by cases that differ behind a case are the same where they are so when the case is past
-
-pub same_test : {A : Type 0} (b : Bool) (x s t : A) → (b ≡ false → s ≡ t) → unwrap_or (only_if b x) s ≡ unwrap_or (only_if b x) t
-same_test true x s t rest = refl
-same_test false x s t rest = rest refl
 
 pub same_map : {A : Type 0} {B : Type 0} (f h : B → A) (o : Option B) (s t : A) → ((y : B) → o ≡ Some y → f y ≡ h y) → (o ≡ None → s ≡ t) → unwrap_or (option_map f o) s ≡ unwrap_or (option_map h o) t
 same_map f h None s t some none = none refl

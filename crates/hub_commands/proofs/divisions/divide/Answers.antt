@@ -4,23 +4,17 @@ use Rattle.hub_commands.specs.Divisions.{is_divider, lines_of}
 use Rattle.std.proofs.lemmas.List.{drop_all}
 use Rattle.std.proofs.Common.{ap, append-nil, arith, drop, length, subst, sym, take, ◌-◌, ◌∙◌, ◌≡◌, ◌≤◌, ◌∷◌}
 
-pub returns-then-is_divider-clause-script : goal.returns-then-is_divider-clause-script
-returns-then-is_divider-clause-script c =
+pub returns-then-is_divider : goal.returns-then-is_divider
+returns-then-is_divider c =
     let text = c.args.text.now in
     let all = rest_all c.lines.at text in
     let end = c.line_length-end.result in
     let first = subst (λ r. lines_of r ≡ take end r ∷ lines_of (drop end r)) all c.line_length-end.ensures.first in
     let here = divides_here text c.lines.at end c.lines.invariant.so_far first (ap (λ r. is_divider (take end r)) (sym all) ∙ sym c.if-is_divider.ensures) in
-    sym (ap (λ d. d.script) here ∙ append-nil (take c.lines.at text))
-
-pub returns-then-is_divider-clause-record_text : goal.returns-then-is_divider-clause-record_text
-returns-then-is_divider-clause-record_text c =
-    let text = c.args.text.now in
-    let all = rest_all c.lines.at text in
-    let end = c.line_length-end.result in
-    let first = subst (λ r. lines_of r ≡ take end r ∷ lines_of (drop end r)) all c.line_length-end.ensures.first in
-    let here = divides_here text c.lines.at end c.lines.invariant.so_far first (ap (λ r. is_divider (take end r)) (sym all) ∙ sym c.if-is_divider.ensures) in
-    rest_all end (take (length text - c.lines.at) (drop c.lines.at text)) ∙ ap (λ r. drop end r) all ∙ sym (ap (λ d. d.record_text) here)
+    record {
+      script = sym (ap (λ d. d.script) here ∙ append-nil (take c.lines.at text));
+      record_text = rest_all end (take (length text - c.lines.at) (drop c.lines.at text)) ∙ ap (λ r. drop end r) all ∙ sym (ap (λ d. d.record_text) here);
+    }
 
 pub lines-preserved : goal.lines-preserved
 lines-preserved c =

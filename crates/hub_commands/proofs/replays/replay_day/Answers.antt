@@ -4,19 +4,13 @@ use Rattle.hub_commands.specs.Finishes.{shown_by}
 use Rattle.hub_commands.specs.Ways.{IsReplayOf}
 use Rattle.std.proofs.Common.{arith, length, ◌≡◌}
 
-pub returns-in-Err-go_on-clause-status : goal.returns-in-Err-go_on-clause-status
-returns-in-Err-go_on-clause-status g c =
+pub returns-in-Err-go_on : goal.returns-in-Err-go_on
+returns-in-Err-go_on g c =
     let D = g.B.Dev.Device in
     let K = g.K.Sink in
-    (c.in-Err-go_on.ensures (K.holds c.args.sink.now) (K.faults c.args.sink.now) c.windows.day.home c.windows.day.windows.items c.windows.invariant.going
-    (next_is IsReplayOf (shown_by D.tag D.plan D.stands D.turns D.probes D.faults) c.args.script.now c.args.options.mode c.windows.day.windows.items c.replay_next-next.result c.replay_next-next.ensures.played c.replay_next-next.ensures.starved)).0
-
-pub returns-in-Err-go_on-clause-ends : goal.returns-in-Err-go_on-clause-ends
-returns-in-Err-go_on-clause-ends g c =
-    let D = g.B.Dev.Device in
-    let K = g.K.Sink in
-    (c.in-Err-go_on.ensures (K.holds c.args.sink.now) (K.faults c.args.sink.now) c.windows.day.home c.windows.day.windows.items c.windows.invariant.going
-    (next_is IsReplayOf (shown_by D.tag D.plan D.stands D.turns D.probes D.faults) c.args.script.now c.args.options.mode c.windows.day.windows.items c.replay_next-next.result c.replay_next-next.ensures.played c.replay_next-next.ensures.starved)).1
+    let end = c.in-Err-go_on.ensures (K.holds c.args.sink.now) (K.faults c.args.sink.now) c.windows.day.home c.windows.day.windows.items c.windows.invariant.going
+    (next_is IsReplayOf (shown_by D.tag D.plan D.stands D.turns D.probes D.faults) c.args.script.now c.args.options.mode c.windows.day.windows.items c.replay_next-next.result c.replay_next-next.ensures.played c.replay_next-next.ensures.starved) in
+    record { status = end.0; ends = end.1 }
 
 pub windows-preserved : goal.windows-preserved
 windows-preserved g c =

@@ -18,26 +18,16 @@ fallen-events-requires g c = fallen_few c.self.inside c.args.self.now c.args.gri
 pub take_home-held-requires-clause-run : goal.take_home-held-requires-clause-run
 take_home-held-requires-clause-run g c = hand_back c.self.inside c.args.self.now c.args.grip.slip c.args.grip.task c.self.view_is c.requires.kept c.requires.maker c.self.invariant
 
-pub died_by-cause-requires-clause-run : goal.died_by-cause-requires-clause-run
-died_by-cause-requires-clause-run g c = rw c.slip-slip.ensures ((command_back c.self.inside c.args.self.now c.args.grip.slip c.args.grip.task c.args.k c.self.view_is c.requires.kept c.requires.purpose c.self.invariant).run)
-
-pub died_by-cause-requires-clause-there : goal.died_by-cause-requires-clause-there
-died_by-cause-requires-clause-there g c = rw c.slip-slip.ensures ((command_back c.self.inside c.args.self.now c.args.grip.slip c.args.grip.task c.args.k c.self.view_is c.requires.kept c.requires.purpose c.self.invariant).within)
+pub died_by-cause-requires : goal.died_by-cause-requires
+died_by-cause-requires g c = let command = command_back c.self.inside c.args.self.now c.args.grip.slip c.args.grip.task c.args.k c.self.view_is c.requires.kept c.requires.purpose c.self.invariant in record { run = rw c.slip-slip.ensures command.run; there = rw c.slip-slip.ensures command.within }
 
 pub note_fall-fell-requires : goal.note_fall-fell-requires
 note_fall-fell-requires g c = record { may = death_may c.self.inside c.args.k _ _ c.args.grip c.slip-slip.result (grip_back c.self.inside c.args.self.now (ForCommand c.args.k) _ c.args.grip c.self.view_is c.requires.kept c.requires.maker c.requires.purpose c.take_home-held.ensures.called) c.slip-slip.ensures c.requires.died (death_number c.self.inside c.args.self.now c.slip-slip.result c.events.result c.fallen-events.result c.self.view_is c.events.ensures c.fallen-events.ensures) c.self.invariant }
 
-pub answer-entry-requires-clause-run : goal.answer-entry-requires-clause-run
-answer-entry-requires-clause-run g c = (after_death c.self.inside c.args.k _ c.args.grip c.slip-slip.result c.is_first-first.result c.died_by-cause.result c.note_fall-fell.new.history c.note_fall-fell.new.order.table (grip_back c.self.inside c.args.self.now (ForCommand c.args.k) _ c.args.grip c.self.view_is c.requires.kept c.requires.maker c.requires.purpose c.take_home-held.ensures.called) c.slip-slip.ensures c.requires.died c.is_first-first.ensures c.died_by-cause.ensures c.note_fall-fell.ensures.history c.note_fall-fell.ensures.order.counted c.self.invariant).run
-
-pub answer-entry-requires-clause-there : goal.answer-entry-requires-clause-there
-answer-entry-requires-clause-there g c = (after_death c.self.inside c.args.k _ c.args.grip c.slip-slip.result c.is_first-first.result c.died_by-cause.result c.note_fall-fell.new.history c.note_fall-fell.new.order.table (grip_back c.self.inside c.args.self.now (ForCommand c.args.k) _ c.args.grip c.self.view_is c.requires.kept c.requires.maker c.requires.purpose c.take_home-held.ensures.called) c.slip-slip.ensures c.requires.died c.is_first-first.ensures c.died_by-cause.ensures c.note_fall-fell.ensures.history c.note_fall-fell.ensures.order.counted c.self.invariant).there
-
-pub answer-entry-requires-clause-room : goal.answer-entry-requires-clause-room
-answer-entry-requires-clause-room g c = (after_death c.self.inside c.args.k _ c.args.grip c.slip-slip.result c.is_first-first.result c.died_by-cause.result c.note_fall-fell.new.history c.note_fall-fell.new.order.table (grip_back c.self.inside c.args.self.now (ForCommand c.args.k) _ c.args.grip c.self.view_is c.requires.kept c.requires.maker c.requires.purpose c.take_home-held.ensures.called) c.slip-slip.ensures c.requires.died c.is_first-first.ensures c.died_by-cause.ensures c.note_fall-fell.ensures.history c.note_fall-fell.ensures.order.counted c.self.invariant).room
-
-pub answer-entry-requires-clause-few : goal.answer-entry-requires-clause-few
-answer-entry-requires-clause-few g c = (after_death c.self.inside c.args.k _ c.args.grip c.slip-slip.result c.is_first-first.result c.died_by-cause.result c.note_fall-fell.new.history c.note_fall-fell.new.order.table (grip_back c.self.inside c.args.self.now (ForCommand c.args.k) _ c.args.grip c.self.view_is c.requires.kept c.requires.maker c.requires.purpose c.take_home-held.ensures.called) c.slip-slip.ensures c.requires.died c.is_first-first.ensures c.died_by-cause.ensures c.note_fall-fell.ensures.history c.note_fall-fell.ensures.order.counted c.self.invariant).few
+pub answer-entry-requires : goal.answer-entry-requires
+answer-entry-requires g c =
+    let after = after_death c.self.inside c.args.k _ c.args.grip c.slip-slip.result c.is_first-first.result c.died_by-cause.result c.note_fall-fell.new.history c.note_fall-fell.new.order.table (grip_back c.self.inside c.args.self.now (ForCommand c.args.k) _ c.args.grip c.self.view_is c.requires.kept c.requires.maker c.requires.purpose c.take_home-held.ensures.called) c.slip-slip.ensures c.requires.died c.is_first-first.ensures c.died_by-cause.ensures c.note_fall-fell.ensures.history c.note_fall-fell.ensures.order.counted c.self.invariant in
+    record { run = after.run; there = after.there; room = after.room; few = after.few }
 
 pub note_answer-requires : goal.note_answer-requires
 note_answer-requires g c =
@@ -85,8 +75,8 @@ invariant_of-self g c =
       changed = c.doom_for-doomed.ensures.doomed;
     }) c.self.invariant
 
-pub returns-clause-given : goal.returns-clause-given
-returns-clause-given g c =
+pub returns : goal.returns
+returns g c =
     let t : Inside g.row.D.Denot = record c.self.inside { history = c.doom_for-doomed.new.history; moment = c.max-self-inside.result; devices = c.take_home-held.new.devices; gate = c.take_home-held.new.gate; hands = c.take_home-held.new.hands; order = c.doom_for-doomed.new.order } in
     let back : CameHome g.D.Device.stands g.D.Device.turns g.D.Device.probes g.D.Device.faults c.self.inside t c.args.moment c.take_home-held.result.held c.fallen-events.result (ForCommand c.args.k) _ c.args.grip (death_entries c.slip-slip.result c.args.k c.died_by-cause.result) =
     died_back c.self.inside t c.args.moment c.take_home-held.result.held c.args.k _ c.fallen-events.result c.args.grip c.slip-slip.result c.is_first-first.result c.died_by-cause.result c.note_fall-fell.new.history c.answer-entry.new.self (grip_back c.self.inside c.args.self.now (ForCommand c.args.k) _ c.args.grip c.self.view_is c.requires.kept c.requires.maker c.requires.purpose c.take_home-held.ensures.called) (record { moment_is = c.max-self-inside.ensures; value_is = c.take_home-held.ensures.held; events_are = death_known c.self.inside c.args.self.now c.args.grip.slip c.slip-slip.result c.args.grip.stage.told c.events.result c.fallen-events.result c.self.view_is c.events.ensures c.fallen-events.ensures c.slip-slip.ensures c.requires.died; devices_are = c.take_home-held.ensures.devices; places_are = c.take_home-held.ensures.places; tickets_are = c.take_home-held.ensures.tickets; hands_are = c.take_home-held.ensures.hands; new = refl }) (record {
@@ -98,19 +88,5 @@ returns-clause-given g c =
       answered = c.answer-entry.ensures.new ∙ ap (with_entry c.note_fall-fell.new.history c.slip-slip.result.maker) c.answer-entry.ensures.entry;
       doomed = c.doom_for-doomed.ensures.history;
     }) c.self.invariant in
-    (back_given c.self.inside t c.args.self.now c.args.moment c.take_home-held.result.held c.fallen-events.result (ForCommand c.args.k) _ c.args.grip _ (record { a = Some c.note_fall-fell.result.entry; b = Some c.answer-entry.result; c = c.doom_for-doomed.result }) c.self.view_is back (death_made c.slip-slip.result c.args.k c.died_by-cause.result _ _ _ c.note_fall-fell.ensures.entry c.answer-entry.ensures.entry c.doom_for-doomed.ensures.entry) (three_packed _ _ _) c.self.invariant).given
-
-pub returns-clause-window : goal.returns-clause-window
-returns-clause-window g c =
-    let t : Inside g.row.D.Denot = record c.self.inside { history = c.doom_for-doomed.new.history; moment = c.max-self-inside.result; devices = c.take_home-held.new.devices; gate = c.take_home-held.new.gate; hands = c.take_home-held.new.hands; order = c.doom_for-doomed.new.order } in
-    let back : CameHome g.D.Device.stands g.D.Device.turns g.D.Device.probes g.D.Device.faults c.self.inside t c.args.moment c.take_home-held.result.held c.fallen-events.result (ForCommand c.args.k) _ c.args.grip (death_entries c.slip-slip.result c.args.k c.died_by-cause.result) =
-    died_back c.self.inside t c.args.moment c.take_home-held.result.held c.args.k _ c.fallen-events.result c.args.grip c.slip-slip.result c.is_first-first.result c.died_by-cause.result c.note_fall-fell.new.history c.answer-entry.new.self (grip_back c.self.inside c.args.self.now (ForCommand c.args.k) _ c.args.grip c.self.view_is c.requires.kept c.requires.maker c.requires.purpose c.take_home-held.ensures.called) (record { moment_is = c.max-self-inside.ensures; value_is = c.take_home-held.ensures.held; events_are = death_known c.self.inside c.args.self.now c.args.grip.slip c.slip-slip.result c.args.grip.stage.told c.events.result c.fallen-events.result c.self.view_is c.events.ensures c.fallen-events.ensures c.slip-slip.ensures c.requires.died; devices_are = c.take_home-held.ensures.devices; places_are = c.take_home-held.ensures.places; tickets_are = c.take_home-held.ensures.tickets; hands_are = c.take_home-held.ensures.hands; new = refl }) (record {
-      same = c.slip-slip.ensures;
-      died = c.requires.died;
-      first_is = c.is_first-first.ensures;
-      because = c.died_by-cause.ensures;
-      told = c.note_fall-fell.ensures.history;
-      answered = c.answer-entry.ensures.new ∙ ap (with_entry c.note_fall-fell.new.history c.slip-slip.result.maker) c.answer-entry.ensures.entry;
-      doomed = c.doom_for-doomed.ensures.history;
-    }) c.self.invariant in
-    (back_given c.self.inside t c.args.self.now c.args.moment c.take_home-held.result.held c.fallen-events.result (ForCommand c.args.k) _ c.args.grip _ (record { a = Some c.note_fall-fell.result.entry; b = Some c.answer-entry.result; c = c.doom_for-doomed.result }) c.self.view_is back (death_made c.slip-slip.result c.args.k c.died_by-cause.result _ _ _ c.note_fall-fell.ensures.entry c.answer-entry.ensures.entry c.doom_for-doomed.ensures.entry) (three_packed _ _ _) c.self.invariant).window
+    let made = back_given c.self.inside t c.args.self.now c.args.moment c.take_home-held.result.held c.fallen-events.result (ForCommand c.args.k) _ c.args.grip _ (record { a = Some c.note_fall-fell.result.entry; b = Some c.answer-entry.result; c = c.doom_for-doomed.result }) c.self.view_is back (death_made c.slip-slip.result c.args.k c.died_by-cause.result _ _ _ c.note_fall-fell.ensures.entry c.answer-entry.ensures.entry c.doom_for-doomed.ensures.entry) (three_packed _ _ _) c.self.invariant in
+    record { given = made.given; window = made.window }

@@ -16,17 +16,15 @@ use Rattle.std.specs.Prelude.{None, Some}
 pub command-requires : goal.command-requires
 command-requires g c = let may = may_tell_down c.self.inside c.args.r.0 c.args.moment c.args.k c.args.must (chosen_here c.self.inside c.args.self.now c.args.r.0 c.args.moment (AnswersDown c.args.k c.args.must) c.self.view_is c.requires) c.self.invariant in record { run = may.run; there = may.within }
 
-pub answer-entry-requires-clause-run : goal.answer-entry-requires-clause-run
-answer-entry-requires-clause-run g c = let may = may_tell_down c.self.inside c.args.r.0 c.args.moment c.args.k c.args.must (chosen_here c.self.inside c.args.self.now c.args.r.0 c.args.moment (AnswersDown c.args.k c.args.must) c.self.view_is c.requires) c.self.invariant in may.run
-
-pub answer-entry-requires-clause-there : goal.answer-entry-requires-clause-there
-answer-entry-requires-clause-there g c = let may = may_tell_down c.self.inside c.args.r.0 c.args.moment c.args.k c.args.must (chosen_here c.self.inside c.args.self.now c.args.r.0 c.args.moment (AnswersDown c.args.k c.args.must) c.self.view_is c.requires) c.self.invariant in may.within
-
-pub answer-entry-requires-clause-few : goal.answer-entry-requires-clause-few
-answer-entry-requires-clause-few g c = let may = may_tell_down c.self.inside c.args.r.0 c.args.moment c.args.k c.args.must (chosen_here c.self.inside c.args.self.now c.args.r.0 c.args.moment (AnswersDown c.args.k c.args.must) c.self.view_is c.requires) c.self.invariant in omega (arith, may.few, may.number)
-
-pub answer-entry-requires-clause-room : goal.answer-entry-requires-clause-room
-answer-entry-requires-clause-room g c = down_place c.self.inside c.args.r.0 c.args.moment c.args.k c.args.must (chosen_here c.self.inside c.args.self.now c.args.r.0 c.args.moment (AnswersDown c.args.k c.args.must) c.self.view_is c.requires) c.self.invariant
+pub answer-entry-requires : goal.answer-entry-requires
+answer-entry-requires g c =
+    let may = may_tell_down c.self.inside c.args.r.0 c.args.moment c.args.k c.args.must (chosen_here c.self.inside c.args.self.now c.args.r.0 c.args.moment (AnswersDown c.args.k c.args.must) c.self.view_is c.requires) c.self.invariant in
+    record {
+      run = may.run;
+      there = may.within;
+      room = down_place c.self.inside c.args.r.0 c.args.moment c.args.k c.args.must (chosen_here c.self.inside c.args.self.now c.args.r.0 c.args.moment (AnswersDown c.args.k c.args.must) c.self.view_is c.requires) c.self.invariant;
+      few = omega (arith, may.few, may.number);
+    }
 
 pub mark-requires-clause-run : goal.mark-requires-clause-run
 mark-requires-clause-run g c = let may = may_tell_down c.self.inside c.args.r.0 c.args.moment c.args.k c.args.must (chosen_here c.self.inside c.args.self.now c.args.r.0 c.args.moment (AnswersDown c.args.k c.args.must) c.self.view_is c.requires) c.self.invariant in may.stands

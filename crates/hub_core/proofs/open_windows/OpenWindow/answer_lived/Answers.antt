@@ -19,26 +19,19 @@ use Rattle.std.specs.Prelude.{None, Some, ◌≡◌}
 pub take_home-told-requires-clause-run : goal.take_home-told-requires-clause-run
 take_home-told-requires-clause-run g c = hand_back c.self.inside c.args.self.now c.args.grip.slip c.args.grip.task c.self.view_is c.requires.kept c.requires.maker c.self.invariant
 
-pub refuted-cause-requires-clause-run : goal.refuted-cause-requires-clause-run
-refuted-cause-requires-clause-run g c = rw c.slip-slip.ensures ((command_back c.self.inside c.args.self.now c.args.grip.slip c.args.grip.task c.args.k c.self.view_is c.requires.kept c.requires.purpose c.self.invariant).run)
+pub refuted-cause-requires : goal.refuted-cause-requires
+refuted-cause-requires g c = let command = command_back c.self.inside c.args.self.now c.args.grip.slip c.args.grip.task c.args.k c.self.view_is c.requires.kept c.requires.purpose c.self.invariant in record { run = rw c.slip-slip.ensures command.run; there = rw c.slip-slip.ensures command.within }
 
-pub refuted-cause-requires-clause-there : goal.refuted-cause-requires-clause-there
-refuted-cause-requires-clause-there g c = rw c.slip-slip.ensures ((command_back c.self.inside c.args.self.now c.args.grip.slip c.args.grip.task c.args.k c.self.view_is c.requires.kept c.requires.purpose c.self.invariant).within)
-
-pub answer-entry-requires-clause-run : goal.answer-entry-requires-clause-run
-answer-entry-requires-clause-run g c = rw c.slip-slip.ensures ((command_back c.self.inside c.args.self.now c.args.grip.slip c.args.grip.task c.args.k c.self.view_is c.requires.kept c.requires.purpose c.self.invariant).run)
-
-pub answer-entry-requires-clause-there : goal.answer-entry-requires-clause-there
-answer-entry-requires-clause-there g c = rw c.slip-slip.ensures ((command_back c.self.inside c.args.self.now c.args.grip.slip c.args.grip.task c.args.k c.self.view_is c.requires.kept c.requires.purpose c.self.invariant).within)
-
-pub answer-entry-requires-clause-room : goal.answer-entry-requires-clause-room
-answer-entry-requires-clause-room g c = back_place c.self.inside (ForCommand c.args.k) _ c.args.grip (grip_back c.self.inside c.args.self.now (ForCommand c.args.k) _ c.args.grip c.self.view_is c.requires.kept c.requires.maker c.requires.purpose c.take_home-told.ensures.called) c.self.invariant
-
-pub answer-entry-requires-clause-few : goal.answer-entry-requires-clause-few
-answer-entry-requires-clause-few g c =
+pub answer-entry-requires : goal.answer-entry-requires
+answer-entry-requires g c =
     let command = command_back c.self.inside c.args.self.now c.args.grip.slip c.args.grip.task c.args.k c.self.view_is c.requires.kept c.requires.purpose c.self.invariant in
     let number : next_of (read_in c.self.inside.history) c.slip-slip.result.maker ≡ c.args.k = ap (λ s. next_of (read_in c.self.inside.history) s.maker) c.slip-slip.ensures ∙ sym command.next in
-    omega (arith, number, command.few)
+    record {
+      run = rw c.slip-slip.ensures command.run;
+      there = rw c.slip-slip.ensures command.within;
+      room = back_place c.self.inside (ForCommand c.args.k) _ c.args.grip (grip_back c.self.inside c.args.self.now (ForCommand c.args.k) _ c.args.grip c.self.view_is c.requires.kept c.requires.maker c.requires.purpose c.take_home-told.ensures.called) c.self.invariant;
+      few = omega (arith, number, command.few);
+    }
 
 pub note_answer-requires : goal.note_answer-requires
 note_answer-requires g c =
@@ -90,8 +83,8 @@ invariant_of-self g c =
       changed = c.doom_for-doomed.ensures.doomed;
     }) c.self.invariant
 
-pub returns-clause-given : goal.returns-clause-given
-returns-clause-given g c =
+pub returns : goal.returns
+returns g c =
     let t : Inside g.row.D.Denot = record c.self.inside { history = c.doom_for-doomed.new.history; moment = c.max-self-inside.result; devices = c.take_home-told.new.devices; gate = c.take_home-told.new.gate; hands = c.take_home-told.new.hands; order = c.doom_for-doomed.new.order } in
     let back : CameHome g.D.Device.stands g.D.Device.turns g.D.Device.probes g.D.Device.faults c.self.inside t c.args.moment c.take_home-told.result.held c.events-events.result (ForCommand c.args.k) _ c.args.grip (answer_entries c.slip-slip.result.maker c.args.k c.answer_told-answer.result c.refuted-cause.result) =
     answered_back c.self.inside t c.args.moment c.take_home-told.result.held c.args.k _ c.events-events.result c.args.grip c.slip-slip.result c.answer_told-answer.result c.refuted-cause.result c.answer-entry.new.self (grip_back c.self.inside c.args.self.now (ForCommand c.args.k) _ c.args.grip c.self.view_is c.requires.kept c.requires.maker c.requires.purpose c.take_home-told.ensures.called) (record { moment_is = c.max-self-inside.ensures; value_is = c.take_home-told.ensures.held; events_are = c.events-events.ensures ∙ ap (λ (x : Slip). (device_at c.args.self.now.devices x.device.0).events) c.slip-slip.ensures ∙ ap (λ (x : OpenHub g.row.D.Denot). (device_at x.devices c.args.grip.slip.device.0).events) (sym c.self.view_is) ∙ lived_events c.args.grip.stage.told _ c.requires.lives; devices_are = c.take_home-told.ensures.devices; places_are = c.take_home-told.ensures.places; tickets_are = c.take_home-told.ensures.tickets; hands_are = c.take_home-told.ensures.hands; new = refl }) (record {
@@ -102,18 +95,5 @@ returns-clause-given g c =
       answered = c.answer-entry.ensures.new ∙ ap (with_entry c.self.inside.history c.slip-slip.result.maker) c.answer-entry.ensures.entry;
       doomed = c.doom_for-doomed.ensures.history;
     }) in
-    (back_given c.self.inside t c.args.self.now c.args.moment c.take_home-told.result.held c.events-events.result (ForCommand c.args.k) _ c.args.grip _ (record { a = Some c.answer-entry.result; b = c.doom_for-doomed.result; c = None }) c.self.view_is back (answer_made c.slip-slip.result c.args.k c.answer_told-answer.result c.refuted-cause.result _ _ c.answer-entry.ensures.entry c.doom_for-doomed.ensures.entry) (two_packed _ _) c.self.invariant).given
-
-pub returns-clause-window : goal.returns-clause-window
-returns-clause-window g c =
-    let t : Inside g.row.D.Denot = record c.self.inside { history = c.doom_for-doomed.new.history; moment = c.max-self-inside.result; devices = c.take_home-told.new.devices; gate = c.take_home-told.new.gate; hands = c.take_home-told.new.hands; order = c.doom_for-doomed.new.order } in
-    let back : CameHome g.D.Device.stands g.D.Device.turns g.D.Device.probes g.D.Device.faults c.self.inside t c.args.moment c.take_home-told.result.held c.events-events.result (ForCommand c.args.k) _ c.args.grip (answer_entries c.slip-slip.result.maker c.args.k c.answer_told-answer.result c.refuted-cause.result) =
-    answered_back c.self.inside t c.args.moment c.take_home-told.result.held c.args.k _ c.events-events.result c.args.grip c.slip-slip.result c.answer_told-answer.result c.refuted-cause.result c.answer-entry.new.self (grip_back c.self.inside c.args.self.now (ForCommand c.args.k) _ c.args.grip c.self.view_is c.requires.kept c.requires.maker c.requires.purpose c.take_home-told.ensures.called) (record { moment_is = c.max-self-inside.ensures; value_is = c.take_home-told.ensures.held; events_are = c.events-events.ensures ∙ ap (λ (x : Slip). (device_at c.args.self.now.devices x.device.0).events) c.slip-slip.ensures ∙ ap (λ (x : OpenHub g.row.D.Denot). (device_at x.devices c.args.grip.slip.device.0).events) (sym c.self.view_is) ∙ lived_events c.args.grip.stage.told _ c.requires.lives; devices_are = c.take_home-told.ensures.devices; places_are = c.take_home-told.ensures.places; tickets_are = c.take_home-told.ensures.tickets; hands_are = c.take_home-told.ensures.hands; new = refl }) (record {
-      same = c.slip-slip.ensures;
-      lives = c.requires.lives;
-      told = c.answer_told-answer.ensures ∙ ap answer_told c.take_home-told.ensures.told;
-      refuted = c.refuted-cause.ensures;
-      answered = c.answer-entry.ensures.new ∙ ap (with_entry c.self.inside.history c.slip-slip.result.maker) c.answer-entry.ensures.entry;
-      doomed = c.doom_for-doomed.ensures.history;
-    }) in
-    (back_given c.self.inside t c.args.self.now c.args.moment c.take_home-told.result.held c.events-events.result (ForCommand c.args.k) _ c.args.grip _ (record { a = Some c.answer-entry.result; b = c.doom_for-doomed.result; c = None }) c.self.view_is back (answer_made c.slip-slip.result c.args.k c.answer_told-answer.result c.refuted-cause.result _ _ c.answer-entry.ensures.entry c.doom_for-doomed.ensures.entry) (two_packed _ _) c.self.invariant).window
+    let made = back_given c.self.inside t c.args.self.now c.args.moment c.take_home-told.result.held c.events-events.result (ForCommand c.args.k) _ c.args.grip _ (record { a = Some c.answer-entry.result; b = c.doom_for-doomed.result; c = None }) c.self.view_is back (answer_made c.slip-slip.result c.args.k c.answer_told-answer.result c.refuted-cause.result _ _ c.answer-entry.ensures.entry c.doom_for-doomed.ensures.entry) (two_packed _ _) c.self.invariant in
+    record { given = made.given; window = made.window }

@@ -19,12 +19,8 @@ invariant_of-self g c =
     risen_whole c.self.inside _ c.args.self.now c.bring_home.result.held _ c.args.grip c.slip.result c.events.result c.risen-events.result (record { seen = c.self.view_is; there = c.requires.kept; maker = c.requires.maker; called = c.bring_home.ensures.called; same = c.slip.ensures; before_is = c.events.ensures }) c.requires.down c.requires.lives c.risen-events.ensures (record { value_is = c.bring_home.ensures.held; devices_are = c.bring_home.ensures.devices; places_are = c.bring_home.ensures.places; tickets_are = c.bring_home.ensures.tickets; history_is = c.note_rise.ensures.history ∙ ap (λ (x : Slip). with_entry c.self.inside.history 0 (Rose x.device)) c.slip.ensures; new = refl })
     (record { history = c.note_rise.ensures.history; rises = c.note_rise.ensures.order }) c.self.invariant
 
-pub returns-clause-given : goal.returns-clause-given
-returns-clause-given g c =
+pub returns : goal.returns
+returns g c =
     let t : Inside g.row.D.Denot = record c.self.inside { history = c.note_rise.new.history; devices = c.bring_home.new.devices; gate = c.bring_home.new.gate; order = c.note_rise.new.order } in
-    (risen_given c.self.inside t c.args.self.now c.bring_home.result.held _ c.args.grip c.slip.result c.events.result c.risen-events.result c.one_made.result (record { seen = c.self.view_is; there = c.requires.kept; maker = c.requires.maker; called = c.bring_home.ensures.called; same = c.slip.ensures; before_is = c.events.ensures }) c.requires.down c.requires.lives c.risen-events.ensures (record { value_is = c.bring_home.ensures.held; devices_are = c.bring_home.ensures.devices; places_are = c.bring_home.ensures.places; tickets_are = c.bring_home.ensures.tickets; history_is = c.note_rise.ensures.history ∙ ap (λ (x : Slip). with_entry c.self.inside.history 0 (Rose x.device)) c.slip.ensures; new = refl }) (c.one_made.ensures.entries ∙ ap (λ e. e ∷ []) c.note_rise.ensures.entry) c.one_made.ensures.packed c.self.invariant).given
-
-pub returns-clause-window : goal.returns-clause-window
-returns-clause-window g c =
-    let t : Inside g.row.D.Denot = record c.self.inside { history = c.note_rise.new.history; devices = c.bring_home.new.devices; gate = c.bring_home.new.gate; order = c.note_rise.new.order } in
-    (risen_given c.self.inside t c.args.self.now c.bring_home.result.held _ c.args.grip c.slip.result c.events.result c.risen-events.result c.one_made.result (record { seen = c.self.view_is; there = c.requires.kept; maker = c.requires.maker; called = c.bring_home.ensures.called; same = c.slip.ensures; before_is = c.events.ensures }) c.requires.down c.requires.lives c.risen-events.ensures (record { value_is = c.bring_home.ensures.held; devices_are = c.bring_home.ensures.devices; places_are = c.bring_home.ensures.places; tickets_are = c.bring_home.ensures.tickets; history_is = c.note_rise.ensures.history ∙ ap (λ (x : Slip). with_entry c.self.inside.history 0 (Rose x.device)) c.slip.ensures; new = refl }) (c.one_made.ensures.entries ∙ ap (λ e. e ∷ []) c.note_rise.ensures.entry) c.one_made.ensures.packed c.self.invariant).window
+    let made = risen_given c.self.inside t c.args.self.now c.bring_home.result.held _ c.args.grip c.slip.result c.events.result c.risen-events.result c.one_made.result (record { seen = c.self.view_is; there = c.requires.kept; maker = c.requires.maker; called = c.bring_home.ensures.called; same = c.slip.ensures; before_is = c.events.ensures }) c.requires.down c.requires.lives c.risen-events.ensures (record { value_is = c.bring_home.ensures.held; devices_are = c.bring_home.ensures.devices; places_are = c.bring_home.ensures.places; tickets_are = c.bring_home.ensures.tickets; history_is = c.note_rise.ensures.history ∙ ap (λ (x : Slip). with_entry c.self.inside.history 0 (Rose x.device)) c.slip.ensures; new = refl }) (c.one_made.ensures.entries ∙ ap (λ e. e ∷ []) c.note_rise.ensures.entry) c.one_made.ensures.packed c.self.invariant in
+    record { given = made.given; window = made.window }

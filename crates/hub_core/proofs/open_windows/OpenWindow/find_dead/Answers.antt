@@ -24,14 +24,9 @@ invariant_of-self g c =
     let history = dead_history c.self.inside t c.args.self.now _ c.args.grip c.slip.result c.events.result c.fallen-events.result c.note_fall-fell.result.lost c.note_fall-fell.new.history c.note_fall-fell.new.order (record { seen = c.self.view_is; there = c.requires.kept; maker = c.requires.maker; called = c.bring_home.ensures.called; same = c.slip.ensures; before_is = c.events.ensures }) (record { told = c.note_fall-fell.ensures.history; falls = c.note_fall-fell.ensures.order; found = c.note_fall-fell.ensures.lost; doomed = c.doom_lost-doomed.ensures.history; line = c.doom_lost-doomed.ensures.line; table = c.doom_lost-doomed.ensures.table }) c.self.invariant in
     fallen_whole c.self.inside t c.args.self.now c.bring_home.result.held _ c.args.grip c.slip.result c.events.result c.fallen-events.result c.note_fall-fell.result.lost c.note_fall-fell.new.history c.note_fall-fell.new.order (record { seen = c.self.view_is; there = c.requires.kept; maker = c.requires.maker; called = c.bring_home.ensures.called; same = c.slip.ensures; before_is = c.events.ensures }) c.requires.up c.requires.died c.fallen-events.ensures (record { value_is = c.bring_home.ensures.held; devices_are = c.bring_home.ensures.devices; places_are = c.bring_home.ensures.places; tickets_are = c.bring_home.ensures.tickets; history_is = history; new = refl }) (record { told = c.note_fall-fell.ensures.history; falls = c.note_fall-fell.ensures.order; found = c.note_fall-fell.ensures.lost; doomed = c.doom_lost-doomed.ensures.history; line = c.doom_lost-doomed.ensures.line; table = c.doom_lost-doomed.ensures.table }) c.self.invariant
 
-pub returns-clause-given : goal.returns-clause-given
-returns-clause-given g c =
+pub returns : goal.returns
+returns g c =
     let t : Inside g.row.D.Denot = record c.self.inside { history = c.doom_lost-doomed.new.history; devices = c.bring_home.new.devices; gate = c.bring_home.new.gate; order = c.doom_lost-doomed.new.order } in
     let history = dead_history c.self.inside t c.args.self.now _ c.args.grip c.slip.result c.events.result c.fallen-events.result c.note_fall-fell.result.lost c.note_fall-fell.new.history c.note_fall-fell.new.order (record { seen = c.self.view_is; there = c.requires.kept; maker = c.requires.maker; called = c.bring_home.ensures.called; same = c.slip.ensures; before_is = c.events.ensures }) (record { told = c.note_fall-fell.ensures.history; falls = c.note_fall-fell.ensures.order; found = c.note_fall-fell.ensures.lost; doomed = c.doom_lost-doomed.ensures.history; line = c.doom_lost-doomed.ensures.line; table = c.doom_lost-doomed.ensures.table }) c.self.invariant in
-    (fallen_given c.self.inside t c.args.self.now c.bring_home.result.held _ c.args.grip c.slip.result c.events.result c.fallen-events.result c.note_fall-fell.result.lost c.note_fall-fell.new.history c.note_fall-fell.new.order (record { a = Some c.note_fall-fell.result.entry; b = c.doom_lost-doomed.result; c = None }) (record { seen = c.self.view_is; there = c.requires.kept; maker = c.requires.maker; called = c.bring_home.ensures.called; same = c.slip.ensures; before_is = c.events.ensures }) c.requires.up c.requires.died c.fallen-events.ensures (record { value_is = c.bring_home.ensures.held; devices_are = c.bring_home.ensures.devices; places_are = c.bring_home.ensures.places; tickets_are = c.bring_home.ensures.tickets; history_is = history; new = refl }) (record { told = c.note_fall-fell.ensures.history; falls = c.note_fall-fell.ensures.order; found = c.note_fall-fell.ensures.lost; doomed = c.doom_lost-doomed.ensures.history; line = c.doom_lost-doomed.ensures.line; table = c.doom_lost-doomed.ensures.table }) (fallen_made c.slip.result.device c.note_fall-fell.result.lost c.note_fall-fell.result.entry c.doom_lost-doomed.result c.note_fall-fell.ensures.entry c.doom_lost-doomed.ensures.entry) (two_packed _ _) c.self.invariant).given
-
-pub returns-clause-window : goal.returns-clause-window
-returns-clause-window g c =
-    let t : Inside g.row.D.Denot = record c.self.inside { history = c.doom_lost-doomed.new.history; devices = c.bring_home.new.devices; gate = c.bring_home.new.gate; order = c.doom_lost-doomed.new.order } in
-    let history = dead_history c.self.inside t c.args.self.now _ c.args.grip c.slip.result c.events.result c.fallen-events.result c.note_fall-fell.result.lost c.note_fall-fell.new.history c.note_fall-fell.new.order (record { seen = c.self.view_is; there = c.requires.kept; maker = c.requires.maker; called = c.bring_home.ensures.called; same = c.slip.ensures; before_is = c.events.ensures }) (record { told = c.note_fall-fell.ensures.history; falls = c.note_fall-fell.ensures.order; found = c.note_fall-fell.ensures.lost; doomed = c.doom_lost-doomed.ensures.history; line = c.doom_lost-doomed.ensures.line; table = c.doom_lost-doomed.ensures.table }) c.self.invariant in
-    (fallen_given c.self.inside t c.args.self.now c.bring_home.result.held _ c.args.grip c.slip.result c.events.result c.fallen-events.result c.note_fall-fell.result.lost c.note_fall-fell.new.history c.note_fall-fell.new.order (record { a = Some c.note_fall-fell.result.entry; b = c.doom_lost-doomed.result; c = None }) (record { seen = c.self.view_is; there = c.requires.kept; maker = c.requires.maker; called = c.bring_home.ensures.called; same = c.slip.ensures; before_is = c.events.ensures }) c.requires.up c.requires.died c.fallen-events.ensures (record { value_is = c.bring_home.ensures.held; devices_are = c.bring_home.ensures.devices; places_are = c.bring_home.ensures.places; tickets_are = c.bring_home.ensures.tickets; history_is = history; new = refl }) (record { told = c.note_fall-fell.ensures.history; falls = c.note_fall-fell.ensures.order; found = c.note_fall-fell.ensures.lost; doomed = c.doom_lost-doomed.ensures.history; line = c.doom_lost-doomed.ensures.line; table = c.doom_lost-doomed.ensures.table }) (fallen_made c.slip.result.device c.note_fall-fell.result.lost c.note_fall-fell.result.entry c.doom_lost-doomed.result c.note_fall-fell.ensures.entry c.doom_lost-doomed.ensures.entry) (two_packed _ _) c.self.invariant).window
+    let made = fallen_given c.self.inside t c.args.self.now c.bring_home.result.held _ c.args.grip c.slip.result c.events.result c.fallen-events.result c.note_fall-fell.result.lost c.note_fall-fell.new.history c.note_fall-fell.new.order (record { a = Some c.note_fall-fell.result.entry; b = c.doom_lost-doomed.result; c = None }) (record { seen = c.self.view_is; there = c.requires.kept; maker = c.requires.maker; called = c.bring_home.ensures.called; same = c.slip.ensures; before_is = c.events.ensures }) c.requires.up c.requires.died c.fallen-events.ensures (record { value_is = c.bring_home.ensures.held; devices_are = c.bring_home.ensures.devices; places_are = c.bring_home.ensures.places; tickets_are = c.bring_home.ensures.tickets; history_is = history; new = refl }) (record { told = c.note_fall-fell.ensures.history; falls = c.note_fall-fell.ensures.order; found = c.note_fall-fell.ensures.lost; doomed = c.doom_lost-doomed.ensures.history; line = c.doom_lost-doomed.ensures.line; table = c.doom_lost-doomed.ensures.table }) (fallen_made c.slip.result.device c.note_fall-fell.result.lost c.note_fall-fell.result.entry c.doom_lost-doomed.result c.note_fall-fell.ensures.entry c.doom_lost-doomed.ensures.entry) (two_packed _ _) c.self.invariant in
+    record { given = made.given; window = made.window }

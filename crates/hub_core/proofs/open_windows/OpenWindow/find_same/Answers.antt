@@ -8,12 +8,8 @@ use Rattle.std.specs.Prelude.{None}
 pub invariant_of-self : goal.invariant_of-self
 invariant_of-self g c = same_whole c.self.inside _ c.args.self.now c.bring_home.result.held _ c.args.grip c.slip.result c.events-events.result (record { seen = c.self.view_is; there = c.requires.kept; maker = c.requires.maker; called = c.bring_home.ensures.called; same = c.slip.ensures; before_is = c.events-events.ensures }) c.requires.same (record { value_is = c.bring_home.ensures.held; devices_are = c.bring_home.ensures.devices; places_are = c.bring_home.ensures.places; tickets_are = c.bring_home.ensures.tickets; history_is = none_more c.self.inside.history; new = refl }) refl refl c.self.invariant
 
-pub returns-clause-given : goal.returns-clause-given
-returns-clause-given g c =
+pub returns : goal.returns
+returns g c =
     let t : Inside g.row.D.Denot = record c.self.inside { devices = c.bring_home.new.devices; gate = c.bring_home.new.gate } in
-    (same_given c.self.inside t c.args.self.now c.bring_home.result.held _ c.args.grip c.slip.result c.events-events.result (record { a = None; b = None; c = None }) (record { seen = c.self.view_is; there = c.requires.kept; maker = c.requires.maker; called = c.bring_home.ensures.called; same = c.slip.ensures; before_is = c.events-events.ensures }) c.requires.same (record { value_is = c.bring_home.ensures.held; devices_are = c.bring_home.ensures.devices; places_are = c.bring_home.ensures.places; tickets_are = c.bring_home.ensures.tickets; history_is = none_more c.self.inside.history; new = refl }) refl none_packed c.self.invariant).given
-
-pub returns-clause-window : goal.returns-clause-window
-returns-clause-window g c =
-    let t : Inside g.row.D.Denot = record c.self.inside { devices = c.bring_home.new.devices; gate = c.bring_home.new.gate } in
-    (same_given c.self.inside t c.args.self.now c.bring_home.result.held _ c.args.grip c.slip.result c.events-events.result (record { a = None; b = None; c = None }) (record { seen = c.self.view_is; there = c.requires.kept; maker = c.requires.maker; called = c.bring_home.ensures.called; same = c.slip.ensures; before_is = c.events-events.ensures }) c.requires.same (record { value_is = c.bring_home.ensures.held; devices_are = c.bring_home.ensures.devices; places_are = c.bring_home.ensures.places; tickets_are = c.bring_home.ensures.tickets; history_is = none_more c.self.inside.history; new = refl }) refl none_packed c.self.invariant).window
+    let made = same_given c.self.inside t c.args.self.now c.bring_home.result.held _ c.args.grip c.slip.result c.events-events.result (record { a = None; b = None; c = None }) (record { seen = c.self.view_is; there = c.requires.kept; maker = c.requires.maker; called = c.bring_home.ensures.called; same = c.slip.ensures; before_is = c.events-events.ensures }) c.requires.same (record { value_is = c.bring_home.ensures.held; devices_are = c.bring_home.ensures.devices; places_are = c.bring_home.ensures.places; tickets_are = c.bring_home.ensures.tickets; history_is = none_more c.self.inside.history; new = refl }) refl none_packed c.self.invariant in
+    record { given = made.given; window = made.window }

@@ -26,26 +26,18 @@ set-requires g c =
 pub set-requires-2 : goal.set-requires-2
 set-requires-2 g c = hand_place c.self.inside c.args.r.0 c.args.moment c.args.d.0 _ (chosen_here c.self.inside c.args.self.now c.args.r.0 c.args.moment (HandsOut c.args.d c.args.purpose) c.self.view_is c.requires) c.self.invariant
 
-pub hand_out-requires-clause-home : goal.hand_out-requires-clause-home
-hand_out-requires-clause-home g c = (out_home _ _ _ _ _ c.args.r.0 c.args.moment c.args.d.0 _ c.self.invariant.shown (chosen_here c.self.inside c.args.self.now c.args.r.0 c.args.moment (HandsOut c.args.d c.args.purpose) c.self.view_is c.requires)).1
+pub hand_out-requires : goal.hand_out-requires
+hand_out-requires g c = record {
+  home = (out_home _ _ _ _ _ c.args.r.0 c.args.moment c.args.d.0 _ c.self.invariant.shown (chosen_here c.self.inside c.args.self.now c.args.r.0 c.args.moment (HandsOut c.args.d c.args.purpose) c.self.view_is c.requires)).1;
+  room = λ device at. has_room _ _ _ _ _ c.args.d.0 device c.self.invariant.shown at;
+  stood = λ device at up. stands_home _ _ _ _ _ c.args.r.0 c.args.moment c.args.d.0 _ device _ c.self.invariant.shown (chosen_here c.self.inside c.args.self.now c.args.r.0 c.args.moment (HandsOut c.args.d c.args.purpose) c.self.view_is c.requires) at (sym c.get.ensures ∙ ap option_copied c.unwrap-known.ensures);
+  tickets = few_tickets _ _ _ _ _ c.self.invariant.shown;
+}
 
-pub hand_out-requires-clause-room : goal.hand_out-requires-clause-room
-hand_out-requires-clause-room g c = λ device at. has_room _ _ _ _ _ c.args.d.0 device c.self.invariant.shown at
-
-pub hand_out-requires-clause-stood : goal.hand_out-requires-clause-stood
-hand_out-requires-clause-stood g c = λ device at up. stands_home _ _ _ _ _ c.args.r.0 c.args.moment c.args.d.0 _ device _ c.self.invariant.shown (chosen_here c.self.inside c.args.self.now c.args.r.0 c.args.moment (HandsOut c.args.d c.args.purpose) c.self.view_is c.requires) at (sym c.get.ensures ∙ ap option_copied c.unwrap-known.ensures)
-
-pub hand_out-requires-clause-tickets : goal.hand_out-requires-clause-tickets
-hand_out-requires-clause-tickets g c = few_tickets _ _ _ _ _ c.self.invariant.shown
-
-pub touch-requires-clause-run : goal.touch-requires-clause-run
-touch-requires-clause-run g c = (may_mark _ _ _ _ c.args.r.0 c.args.moment c.args.d.0 _ _ _ c.self.invariant.shown.configuration (chosen_here c.self.inside c.args.self.now c.args.r.0 c.args.moment (HandsOut c.args.d c.args.purpose) c.self.view_is c.requires) c.self.invariant.order.line_is c.self.invariant.order.table_is.devices).stands
-
-pub touch-requires-clause-device : goal.touch-requires-clause-device
-touch-requires-clause-device g c = (may_mark _ _ _ _ c.args.r.0 c.args.moment c.args.d.0 _ _ _ c.self.invariant.shown.configuration (chosen_here c.self.inside c.args.self.now c.args.r.0 c.args.moment (HandsOut c.args.d c.args.purpose) c.self.view_is c.requires) c.self.invariant.order.line_is c.self.invariant.order.table_is.devices).device
-
-pub touch-requires-clause-homed : goal.touch-requires-clause-homed
-touch-requires-clause-homed g c = (may_mark _ _ _ _ c.args.r.0 c.args.moment c.args.d.0 _ _ _ c.self.invariant.shown.configuration (chosen_here c.self.inside c.args.self.now c.args.r.0 c.args.moment (HandsOut c.args.d c.args.purpose) c.self.view_is c.requires) c.self.invariant.order.line_is c.self.invariant.order.table_is.devices).homed
+pub touch-requires : goal.touch-requires
+touch-requires g c =
+    let may = may_mark _ _ _ _ c.args.r.0 c.args.moment c.args.d.0 _ _ _ c.self.invariant.shown.configuration (chosen_here c.self.inside c.args.self.now c.args.r.0 c.args.moment (HandsOut c.args.d c.args.purpose) c.self.view_is c.requires) c.self.invariant.order.line_is c.self.invariant.order.table_is.devices in
+    record { run = may.stands; device = may.device; homed = may.homed }
 
 pub invariant_of-self : goal.invariant_of-self
 invariant_of-self g c =
@@ -63,8 +55,8 @@ invariant_of-self g c =
     } in
     handed_whole c.self.inside t c.args.r.0 c.args.moment c.args.d.0 c.args.purpose _ _ _ handed (record { marks = c.touch.ensures.marks; spare = c.touch.ensures.spare; table = c.touch.ensures.table }) c.self.invariant
 
-pub returns-clause-out : goal.returns-clause-out
-returns-clause-out g c =
+pub returns : goal.returns
+returns g c =
     let e = c.hand_out.ensures in
     let t : Inside g.row.D.Denot = record c.self.inside { moment = c.max-self-inside.result; devices = c.set.new.self; gate = c.hand_out.new.self; order = c.touch.new.self; hands = c.set-2.new.self } in
     let handed : IsHanded g.D.Device.turns g.D.Device.probes g.D.Device.faults c.self.inside t c.args.r.0 c.args.moment c.args.d.0 c.args.purpose c.unwrap-known.result.now c.task-task.result c.hand_out.result = record {
@@ -77,20 +69,5 @@ returns-clause-out g c =
       hands_are = c.set-2.ensures.items;
       new = refl;
     } in
-    (went_out_at c.self.inside t c.args.self.now c.args.r.0 c.args.moment c.args.d.0 c.args.purpose _ _ _ c.self.view_is handed c.self.invariant).out
-
-pub returns-clause-window : goal.returns-clause-window
-returns-clause-window g c =
-    let e = c.hand_out.ensures in
-    let t : Inside g.row.D.Denot = record c.self.inside { moment = c.max-self-inside.result; devices = c.set.new.self; gate = c.hand_out.new.self; order = c.touch.new.self; hands = c.set-2.new.self } in
-    let handed : IsHanded g.D.Device.turns g.D.Device.probes g.D.Device.faults c.self.inside t c.args.r.0 c.args.moment c.args.d.0 c.args.purpose c.unwrap-known.result.now c.task-task.result c.hand_out.result = record {
-      chosen = (chosen_here c.self.inside c.args.self.now c.args.r.0 c.args.moment (HandsOut c.args.d c.args.purpose) c.self.view_is c.requires);
-      does = c.task-task.ensures ∙ ap (λ s. task_of (configuration_of s) c.args.r.0 (purpose_of c.args.purpose)) (sym c.self.view_is);
-      known_is = sym c.get.ensures ∙ ap option_copied c.unwrap-known.ensures;
-      sent = record { at = e.device; after_is = e.places; number_is = e.tickets; ticket = e.ticket; does = e.task; device = ap (λ x. x.0) e.number; maker = e.maker; stood = e.stood; had_turns = e.turns; had_probes = e.probes; had_faults = e.faults };
-      moment_is = c.max-self-inside.ensures;
-      devices_are = c.set.ensures.items;
-      hands_are = c.set-2.ensures.items;
-      new = refl;
-    } in
-    (went_out_at c.self.inside t c.args.self.now c.args.r.0 c.args.moment c.args.d.0 c.args.purpose _ _ _ c.self.view_is handed c.self.invariant).window
+    let made = went_out_at c.self.inside t c.args.self.now c.args.r.0 c.args.moment c.args.d.0 c.args.purpose _ _ _ c.self.view_is handed c.self.invariant in
+    record { out = made.out; window = made.window }

@@ -32,28 +32,16 @@ invariant_of-self g c =
       new = refl;
     }) c.self.invariant
 
-pub returns-clause-probed : goal.returns-clause-probed
-returns-clause-probed g c =
+pub returns : goal.returns
+returns g c =
     let e = c.hand_out.ensures in
     let t : Inside g.row.D.Denot = record c.self.inside { devices = c.set.new.self; gate = c.hand_out.new.self } in
-    (probe_sent c.self.inside t c.args.self.now c.args.d.0 c.restored-value.result c.unwrap-known.result.now c.hand_out.result c.self.view_is (record {
+    let made = probe_sent c.self.inside t c.args.self.now c.args.d.0 c.restored-value.result c.unwrap-known.result.now c.hand_out.result c.self.view_is (record {
       may = ap (λ s. may_probe (configuration_of s) c.args.d.0) c.self.view_is ∙ c.requires;
       value_is = c.restored-value.ensures ∙ ap (λ s. restored (configuration_of s) c.args.d.0) (sym c.self.view_is);
       known_is = sym c.get.ensures ∙ ap option_copied c.unwrap-known.ensures;
       sent = record { at = e.device; after_is = e.places; number_is = e.tickets; ticket = e.ticket; does = e.task; device = ap (λ x. x.0) e.number; maker = e.maker; stood = e.stood; had_turns = e.turns; had_probes = e.probes; had_faults = e.faults };
       devices_are = c.set.ensures.items;
       new = refl;
-    }) c.self.invariant).probed
-
-pub returns-clause-window : goal.returns-clause-window
-returns-clause-window g c =
-    let e = c.hand_out.ensures in
-    let t : Inside g.row.D.Denot = record c.self.inside { devices = c.set.new.self; gate = c.hand_out.new.self } in
-    (probe_sent c.self.inside t c.args.self.now c.args.d.0 c.restored-value.result c.unwrap-known.result.now c.hand_out.result c.self.view_is (record {
-      may = ap (λ s. may_probe (configuration_of s) c.args.d.0) c.self.view_is ∙ c.requires;
-      value_is = c.restored-value.ensures ∙ ap (λ s. restored (configuration_of s) c.args.d.0) (sym c.self.view_is);
-      known_is = sym c.get.ensures ∙ ap option_copied c.unwrap-known.ensures;
-      sent = record { at = e.device; after_is = e.places; number_is = e.tickets; ticket = e.ticket; does = e.task; device = ap (λ x. x.0) e.number; maker = e.maker; stood = e.stood; had_turns = e.turns; had_probes = e.probes; had_faults = e.faults };
-      devices_are = c.set.ensures.items;
-      new = refl;
-    }) c.self.invariant).window
+    }) c.self.invariant in
+    record { probed = made.probed; window = made.window }

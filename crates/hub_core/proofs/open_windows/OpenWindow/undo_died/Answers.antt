@@ -41,8 +41,8 @@ invariant_of-self g c =
       number_is = (death_number c.self.inside c.args.self.now c.slip-slip.result c.events.result c.fallen-events.result c.self.view_is c.events.ensures c.fallen-events.ensures);
     }) c.self.invariant
 
-pub returns-clause-given : goal.returns-clause-given
-returns-clause-given g c =
+pub returns : goal.returns
+returns g c =
     let value = undone_value (device_at c.args.self.now.devices c.args.grip.slip.device.0).purpose c.requires.purpose in
     let t : Inside g.row.D.Denot = record c.self.inside { history = c.undo-entry.new.self; moment = c.max-self-inside.result; devices = c.take_home.new.devices; gate = c.take_home.new.gate; hands = c.take_home.new.hands; order = c.note_fall-fell.new.order } in
     let back : CameHome g.D.Device.stands g.D.Device.turns g.D.Device.probes g.D.Device.faults c.self.inside t c.args.moment c.take_home.result.held c.fallen-events.result (ForUndo value.0) _ c.args.grip (dropped_entries c.slip-slip.result) =
@@ -54,19 +54,5 @@ returns-clause-given g c =
       falls = c.note_fall-fell.ensures.order;
       number_is = (death_number c.self.inside c.args.self.now c.slip-slip.result c.events.result c.fallen-events.result c.self.view_is c.events.ensures c.fallen-events.ensures);
     }) in
-    (back_given c.self.inside t c.args.self.now c.args.moment c.take_home.result.held c.fallen-events.result (ForUndo value.0) _ c.args.grip _ (record { a = Some c.note_fall-fell.result.entry; b = Some c.undo-entry.result; c = None }) c.self.view_is back (λ i. c.note_fall-fell.ensures.entry i ∷ c.undo-entry.ensures.entry i ∷ []) (two_packed _ _) c.self.invariant).given
-
-pub returns-clause-window : goal.returns-clause-window
-returns-clause-window g c =
-    let value = undone_value (device_at c.args.self.now.devices c.args.grip.slip.device.0).purpose c.requires.purpose in
-    let t : Inside g.row.D.Denot = record c.self.inside { history = c.undo-entry.new.self; moment = c.max-self-inside.result; devices = c.take_home.new.devices; gate = c.take_home.new.gate; hands = c.take_home.new.hands; order = c.note_fall-fell.new.order } in
-    let back : CameHome g.D.Device.stands g.D.Device.turns g.D.Device.probes g.D.Device.faults c.self.inside t c.args.moment c.take_home.result.held c.fallen-events.result (ForUndo value.0) _ c.args.grip (dropped_entries c.slip-slip.result) =
-    dropped_back c.self.inside t c.args.moment c.take_home.result.held value.0 _ c.fallen-events.result.fell c.fallen-events.result c.args.grip c.slip-slip.result c.note_fall-fell.new.history (grip_back c.self.inside c.args.self.now (ForUndo value.0) _ c.args.grip c.self.view_is c.requires.kept c.requires.maker value.1 c.take_home.ensures.called) (record { moment_is = c.max-self-inside.ensures; value_is = c.take_home.ensures.held; events_are = death_known c.self.inside c.args.self.now c.args.grip.slip c.slip-slip.result c.args.grip.stage.told c.events.result c.fallen-events.result c.self.view_is c.events.ensures c.fallen-events.ensures c.slip-slip.ensures c.requires.died; devices_are = c.take_home.ensures.devices; places_are = c.take_home.ensures.places; tickets_are = c.take_home.ensures.tickets; hands_are = c.take_home.ensures.hands; new = refl }) (record {
-      same = c.slip-slip.ensures;
-      died = c.requires.died;
-      told = c.note_fall-fell.ensures.history;
-      undone = c.undo-entry.ensures.new ∙ ap (with_entry c.note_fall-fell.new.history c.slip-slip.result.maker) c.undo-entry.ensures.entry;
-      falls = c.note_fall-fell.ensures.order;
-      number_is = (death_number c.self.inside c.args.self.now c.slip-slip.result c.events.result c.fallen-events.result c.self.view_is c.events.ensures c.fallen-events.ensures);
-    }) in
-    (back_given c.self.inside t c.args.self.now c.args.moment c.take_home.result.held c.fallen-events.result (ForUndo value.0) _ c.args.grip _ (record { a = Some c.note_fall-fell.result.entry; b = Some c.undo-entry.result; c = None }) c.self.view_is back (λ i. c.note_fall-fell.ensures.entry i ∷ c.undo-entry.ensures.entry i ∷ []) (two_packed _ _) c.self.invariant).window
+    let made = back_given c.self.inside t c.args.self.now c.args.moment c.take_home.result.held c.fallen-events.result (ForUndo value.0) _ c.args.grip _ (record { a = Some c.note_fall-fell.result.entry; b = Some c.undo-entry.result; c = None }) c.self.view_is back (λ i. c.note_fall-fell.ensures.entry i ∷ c.undo-entry.ensures.entry i ∷ []) (two_packed _ _) c.self.invariant in
+    record { given = made.given; window = made.window }
