@@ -1,8 +1,11 @@
 //! The place of a device's event in the line.
+ghost use Rattle.std.specs.List.{list_any};
 ghost use Rattle.std.specs.Prelude.{◌≡◌, ◌<◌, ◌≤◌, false, length};
 ghost use Rattle.failure_serialization.specs.Events.{event_place, first_waiting, waits};
+ghost use Rattle.home_types.specs.declared.items.Item.TheVariants.{Ran};
 ghost use Rattle.lineage_table.specs.Accesses.{has_access};
 ghost use Rattle.lineage_table.specs.Lineages.{accesses_at};
+ghost use Rattle.serial_line.specs.Labels.{is_sealed};
 
 use history_book::Book;
 use home_types::{DeviceNo, Item, RunNo};
@@ -20,8 +23,10 @@ pub(crate) fn event_place(
 ) -> u32
     requires device { d.0 < length table.now }
     requires runs { has_access 0 (accesses_at table.now d.0) ≡ false }
+    requires unsealed { list_any (λ x. is_sealed (Ran x.run) line.now) (accesses_at table.now d.0) ≡ false }
     ensures place { result ≡ event_place book.now.items first (accesses_at table.now d.0) line.now.marks }
     ensures within { result ≤ length line.now.marks }
+    ensures unsealed { line.now.sealed ≤ result }
 {
     match first_waiting(table, book, d, first) {
         Some(r) => line.place_of(Item::Ran(r)).unwrap_or(line.len()),

@@ -12,3 +12,4 @@ pub mod Logs
 pub mod FirstTold
 pub mod FirstPlaces
 pub mod Told
+pub mod Sealed

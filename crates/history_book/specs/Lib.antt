@@ -6,3 +6,4 @@ pub mod Histories
 pub mod WellFormed
 pub mod Books
 pub mod BookParts
+pub mod Sealed

@@ -4,7 +4,7 @@ use Rattle.command_rules.specs.Rosters.{Run, touches}
 use Rattle.home_types.specs.declared.items.Item.{Item}
 use Rattle.home_types.specs.declared.items.Item.TheVariants.{Back, Failed, Ran}
 use Rattle.home_types.specs.declared.numbers.RunNo.{RunNo}
-use Rattle.std.specs.Prelude.{Bool, List, [], drop, false, filter, if◌then◌else◌, not, take, take_while, ℕ, ◌++◌, ◌==◌, ◌∷◌}
+use Rattle.std.specs.Prelude.{Bool, List, [], drop, false, filter, if◌then◌else◌, not, take, take_while, ℕ, ◌+◌, ◌++◌, ◌==◌, ◌∷◌}
 
 -- the item is a failure or a restart of the device
 abbrev pub is_event_on : ℕ → Item → Bool
@@ -35,6 +35,11 @@ without r line = filter (λ i. not (is_ran r i)) line
 abbrev pub put_before : (Item → Bool) → Item → List Item → List Item
 put_before test x [] = x ∷ []
 put_before test x (i ∷ is) = if test i then x ∷ i ∷ is else i ∷ put_before test x is
+
+-- the number of items before the first one of which the test holds
+abbrev pub up_to_first : (Item → Bool) → List Item → ℕ
+up_to_first test [] = 0
+up_to_first test (i ∷ is) = if test i then 0 else up_to_first test is + 1
 
 -- a line in two parts: what stands before a new run, and what stands behind it
 pub record Split : Type 0 where

@@ -32,4 +32,5 @@ pub mod ProbesHome
 pub mod ProbesFound
 pub mod HubMarks
 pub mod Placings
+pub mod FinalItems
 pub mod Revocations

@@ -14,6 +14,7 @@ pub mod Sizes
 pub mod EndedOnce
 pub mod TableFits
 pub mod KeptByModel
+pub mod SealedOrders
 pub mod OrderSteps
 pub mod FallenOrders
 pub mod Finds

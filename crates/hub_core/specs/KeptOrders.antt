@@ -7,7 +7,7 @@ use Rattle.hub_core.specs.ReadHistories.{HistoryState, read_in}
 use Rattle.hub_core.specs.declared.plans.PlannedUse.{PlannedUse}
 use Rattle.failure_serialization.specs.Events.{event_place}
 use Rattle.home_types.specs.declared.commands.View.{View}
-use Rattle.home_types.specs.declared.items.Item.TheVariants.{Back, Failed}
+use Rattle.home_types.specs.declared.items.Item.TheVariants.{Back, Failed, Ran}
 use Rattle.home_types.specs.declared.items.Item.{Item}
 use Rattle.home_types.specs.declared.numbers.DeviceNo.{DeviceNo}
 use Rattle.home_types.specs.declared.numbers.RunNo.{RunNo}
@@ -15,11 +15,17 @@ use Rattle.lineage_table.specs.Accesses.{has_access, is_scheduled, status_of}
 use Rattle.lineage_table.specs.Lineages.{LineageState, accesses_at, counted_up, lineage_at, scheduled, with_lineage}
 use Rattle.lineage_table.specs.declared.accesses.Status.TheVariants.{Acquired, Scheduled}
 use Rattle.lock_leasing.specs.Configurations.{Grips}
-use Rattle.serial_line.specs.Marks.{Marked, stands, with_item}
+use Rattle.serial_line.specs.Labels.{is_sealed}
+use Rattle.serial_line.specs.Marks.{Marked, front_of, stands, with_item}
+use Rattle.std.specs.List.{list_any}
 use Rattle.std.specs.Prelude.{Bool, List, None, Option, Some, [], false, get_or, if◌then◌else◌, length, option_map, slice_index_or, true, unwrap_or, ℕ, ◌+◌, ◌-◌, ◌<◌, ◌≡◌, ◌≤◌}
 use Rattle.window_order.specs.MarksKept.{MarksAreKept}
 use Rattle.window_order.specs.TableChanges.{ChangesEach, IsWaiting, doomed_unless, first_with_access, noted, passed_if, rescheduled}
 use Rattle.window_order.specs.TableKept.{TableIsKept}
+
+-- sealed are the items before the first run that has not ended
+abbrev pub IsSealed : Marked → Type 0
+IsSealed line = line.sealed ≡ front_of line.marks
 
 -- the run has not touched the device: its access is scheduled
 abbrev pub is_first : ℕ → LineageState → Bool
@@ -62,12 +68,15 @@ pub record MayTurn (up : Bool) (event : Item) (room : ℕ) (d : DeviceNo) (line 
   pub counted : (lineage_at table d.0).up ≡ up
   pub place : 0 < line.spare
   pub absent : stands event line.marks ≡ false
+  pub sealed : IsSealed line
+  pub unsealed : list_any (λ x. is_sealed (Ran x.run) line) (accesses_at table d.0) ≡ false
   pub entry : 0 < room
 
--- the event came into the line, where the accesses and the history's dooms say, and the device is counted so; first is the run whose first access has just died, where one has
+-- the event came into the line, where the accesses and the history's dooms say, what stands before the first live run is sealed, and the device is counted so; first is the run whose first access has just died, where one has
 pub record HasTurned (up : Bool) (event : Item) (h : HistoryState) (d : DeviceNo) (first : Option RunNo) (line after : Marked) (table later : List LineageState) : Type 0 where
   pub marks : after.marks ≡ with_item (event_place h.history first (accesses_at table d.0) line.marks) event line.marks
   pub spare : after.spare + 1 ≡ line.spare
+  pub sealed : IsSealed after
   pub counted : later ≡ with_lineage table d.0 (counted_up up)
 
 -- the failure of this number ..
@@ -98,10 +107,11 @@ pub record TableFits (w : Setting) (n : Reading) (g : Grips) (table : List Linea
   pub ordered : is_weak w.mode ≡ false → TableIsKept w n g table
   pub weakly : is_weak w.mode ≡ true → (d : ℕ) → d < length w.first → LineageIsBare n d (lineage_at table d)
 
--- .. and the line is theirs too, each item with what it has touched; and it has room for all its items, where there are so many rounds of probes
+-- .. and the line is theirs too, each item with what it has touched, sealed up to the first live run; and it has room for all its items, where there are so many rounds of probes
 pub record IsOrderOf (rounds : ℕ) (w : Setting) (n : Reading) (g : Grips) (line : Marked) (table : List LineageState) : Type 0 where
   pub table_is : TableFits w n g table
   pub line_is : MarksAreKept n g line.marks
+  pub sealed : IsSealed line
   pub room : most_items (length w.runs) (length w.first) rounds ≤ line.spare + length line.marks
 
 -- the line and the table of a history

@@ -31,6 +31,7 @@ pub record IsHistoryRoom (entries runs : ℕ) (book : Listed Kept) (progress : L
 -- an empty line with room for so many items, and the table of a window that opens
 pub record IsOrderRoom (items : ℕ) (runs : List Run) (first : List Stand) (line : Marked) (table : List LineageState) : Type 0 where
   pub no_item : line.marks ≡ []
+  pub none_sealed : line.sealed ≡ 0
   pub room : line.spare ≡ items
   pub opened : IsOpened runs first table
 

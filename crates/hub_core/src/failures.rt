@@ -7,7 +7,7 @@ ghost use Rattle.hub_core.specs.KeptOrders.{HasFallen, HasRisen, IsLostTo, MayTu
 ghost use Rattle.hub_core.specs.ReadHistories.{with_entry, with_lost};
 ghost use Rattle.lineage_table.specs.Lineages.{accesses_at};
 
-use crate::kept_orders::KeptOrder;
+use crate::kept_orders::{KeptOrder, seal};
 use crate::known::Events;
 use crate::read_histories::ReadHistory;
 use failure_serialization::{fell, rose};
@@ -52,7 +52,7 @@ pub(crate) fn first_death(r: RunNo, first: bool) -> Option<RunNo>
 }
 
 /// The device, which was counted up, has failed for the time of this number, counted from 1: the failure comes into the
-/// line, the device is counted down, and the history tells it.
+/// line, in which all before the first live run is sealed then, the device is counted down, and the history tells it.
 pub(crate) fn note_fall(
     history: &mut ReadHistory,
     order: &mut KeptOrder,
@@ -75,6 +75,7 @@ pub(crate) fn note_fall(
         number,
         first,
     );
+    seal(&mut order.line);
     Failure {
         entry: history.fall(maker, d),
         lost,
@@ -82,7 +83,7 @@ pub(crate) fn note_fall(
 }
 
 /// The device, which was counted down, is back for the time of this number, counted from 1: the restart comes into the
-/// line, the device is counted up, and the history tells it.
+/// line, in which all before the first live run is sealed then, the device is counted up, and the history tells it.
 pub(crate) fn note_rise(
     history: &mut ReadHistory,
     order: &mut KeptOrder,
@@ -96,6 +97,7 @@ pub(crate) fn note_rise(
     ensures order { HasRisen history.old d number order.old.line order.new.line order.old.table order.new.table }
 {
     rose(&mut order.line, &mut order.table, history.book(), d, number);
+    seal(&mut order.line);
     history.rise(maker, d)
 }
 

@@ -1,9 +1,12 @@
 //! A hub: an open window with the marks of its blocked runs, and what is asked of it.
-ghost use Rattle.std.specs.Prelude.{◌≡◌, ◌≤◌, ◌↔◌, IfErr, IfOk, IsTrue, None, Some, [], false, length, true, ℕ};
+ghost use Rattle.std.specs.Prelude.{◌≡◌, ◌≤◌, ◌↔◌, IfErr, IfOk, IsTrue, None, Some, [], false, length, slice_get, take, true, ℕ};
+ghost use Rattle.history_book.specs.Histories.{entries_of, line_of};
+ghost use Rattle.history_book.specs.Sealed.{BeginsWithSealed, sealed_of};
 ghost use Rattle.history_book.specs.Settings.{is_weak};
 ghost use Rattle.hub_core.specs.BlockedRuns.{IsBlocked};
 ghost use Rattle.hub_core.specs.Bounds.{IsBounded};
 ghost use Rattle.hub_core.specs.HubCalls.{HubStands, IsClosed, SomeRunMoves, grip_takes, is_past};
+ghost use Rattle.hub_core.specs.LegalWindows.{history_of};
 ghost use Rattle.hub_core.specs.OpenHubs.{configuration_of};
 ghost use Rattle.hub_core.specs.Steps.{not_quiet, opened};
 ghost use Rattle.lineage_table.specs.Accesses.{IsDisciplined};
@@ -17,7 +20,7 @@ use crate::open_windows::OpenWindow;
 use crate::refusals::NotQuiet;
 use device_states::Device;
 use history_book::WindowRecord;
-use home_types::{DeviceNo, RunNo};
+use home_types::{DeviceNo, Item, RunNo};
 use lineage_table::Table;
 use std::marker::Model;
 use timeline_scheduler::Scratch;
@@ -87,6 +90,21 @@ impl<D: Device> Hub<D> {
         self.blocked.is_marked(r)
     }
 
+    /// How many items of the line are final: those before the first live run, all where none is live. They stay in their
+    /// order, whatever comes, and outside the weak model the order of the window's record begins with them.
+    pub fn sealed(&self) -> u32
+        ensures { result ≡ sealed_of self.now.setting (entries_of self.now.history) }
+    {
+        self.window.sealed()
+    }
+
+    /// The item at this place of the line, counted from 0, where it is final. `None` from `sealed` on.
+    pub fn final_item(&self, at: u32) -> Option<Item>
+        ensures { result ≡ slice_get (take (sealed_of self.now.setting (entries_of self.now.history)) (line_of self.now.setting (entries_of self.now.history))) at }
+    {
+        self.window.final_item(at)
+    }
+
     /// The last moment of the window, in ms.
     pub fn moment(&self) -> u64
         ensures { result ≡ self.now.moment }
@@ -146,9 +164,11 @@ impl<D: Device> Hub<D> {
 
     /// Closes the window, and gives the home and the window's record.
     ///
-    /// Refused where `quiet` tells why: the hub comes back as it is. Takes no memory.
+    /// Refused where `quiet` tells why: the hub comes back as it is. Takes no memory. Outside the weak model the order of the
+    /// record begins with the items that were final at each point of the window.
     pub fn close_window(self) -> Result<(Home<D>, WindowRecord), (Hub<D>, NotQuiet)>
         ensures closed { IfOk result (λ closed. IsClosed D.turns D.probes D.faults self closed.0 closed.1) }
+        ensures sealed { IfOk result (λ closed. is_weak self.setting.mode ≡ false → BeginsWithSealed self.setting (history_of closed.1) closed.1.order.items) }
         ensures quiet { IfOk result (λ closed. not_quiet (configuration_of self) ≡ None) }
         ensures same { IfErr result (λ refused. refused.0 ≡ self) }
         ensures refused { IfErr result (λ refused. not_quiet (configuration_of self) ≡ Some refused.1) }

@@ -6,12 +6,13 @@ ghost use Rattle.command_rules.specs.Rosters.{commands_of, is_run, runs_of, touc
 ghost use Rattle.history_book.specs.Readings.{is_fine, is_told};
 ghost use Rattle.home_types.specs.Limits.{most_devices};
 ghost use Rattle.home_types.specs.declared.items.Item.TheVariants.{Ran};
-ghost use Rattle.hub_core.specs.KeptOrders.{MayNote, is_first, noted_first, scheduled_with};
+ghost use Rattle.hub_core.specs.KeptOrders.{IsSealed, MayNote, is_first, noted_first, scheduled_with};
 ghost use Rattle.hub_core.specs.OpenHubs.{purpose_of};
 ghost use Rattle.lineage_table.specs.Lineages.{IsOpened, accesses_at, committed_lineage, lineage_at, removed, undone, with_lineage};
 ghost use Rattle.lock_leasing.specs.Configurations.{is_command, is_undo};
 ghost use Rattle.lock_leasing.specs.Tables.{view_when};
-ghost use Rattle.serial_line.specs.Marks.{items_of, settling, stands, touching, with_item, without};
+ghost use Rattle.serial_line.specs.Labels.{is_sealed};
+ghost use Rattle.serial_line.specs.Marks.{front_of, items_of, settling, stands, touching, with_item, without};
 ghost use Rattle.window_order.specs.TableChanges.{ChangesEach, IsNewOn, first_with_access, doomed_unless};
 
 use crate::plans::PlannedUse;
@@ -59,6 +60,7 @@ impl KeptOrder {
         requires items { items < 2 ^ 32 }
         ensures marks { IfOk result (λ order. order.line.marks ≡ []) }
         ensures room { IfOk result (λ order. order.line.spare ≡ items) }
+        ensures none_sealed { IfOk result (λ order. order.line.sealed ≡ 0) }
         ensures table { IfOk result (λ order. IsOpened (runs_of roster.now) world.now.devices.items order.table) }
     {
         let mut line = Line::new(alloc);
@@ -82,10 +84,12 @@ impl KeptOrder {
         requires homed { All (λ c. c.device.0 < length self.old.table) (commands_of (runs_of roster.now) r.0) }
         requires room { 0 < self.old.line.spare }
         requires place { at ≤ length self.old.line.marks }
+        requires behind { self.old.line.sealed ≤ at }
         requires absent { stands (Ran r) self.old.line.marks ≡ false }
         requires new { (d : ℕ) → d < length self.old.table → touches (runs_of roster.now) r.0 d ≡ true → IsNewOn r.0 (drop at (items_of self.old.line.marks)) (lineage_at self.old.table d) }
         ensures marks { self.new.line.marks ≡ with_item at (Ran r) self.old.line.marks }
         ensures spare { self.new.line.spare + 1 ≡ self.old.line.spare }
+        ensures sealed { self.new.line.sealed ≡ self.old.line.sealed }
         ensures table { ChangesEach (scheduled_with (runs_of roster.now) r.0 uses (drop at (items_of self.old.line.marks))) self.old.table self.new.table }
     {
         schedule(&mut self.table, &self.line, at, roster, r, uses);
@@ -100,6 +104,7 @@ impl KeptOrder {
         requires homed { d.0 < length self.old.table }
         ensures marks { self.new.line.marks ≡ (if is_command (purpose_of purpose) then touching r.0 d.0 self.old.line.marks else self.old.line.marks) }
         ensures spare { self.new.line.spare ≡ self.old.line.spare }
+        ensures sealed { self.new.line.sealed ≡ self.old.line.sealed }
         ensures table { self.new.table ≡ (if is_undo (purpose_of purpose) then with_lineage self.old.table d.0 (undone r.0) else self.old.table) }
     {
         match purpose {
@@ -153,27 +158,45 @@ impl KeptOrder {
         release_all(&mut self.table, r, out);
     }
 
-    /// The run, which has nothing left to undo, is aborted: it has no access any more, and leaves the line.
+    /// The run, which has nothing left to undo, is aborted: it has no access any more, and leaves the line. What stands
+    /// before the first live run is sealed then.
     pub(crate) fn withdraw(&mut self, r: RunNo)
         requires run { stands (Ran r) self.old.line.marks ≡ true }
+        requires sealed { IsSealed self.old.line }
+        requires live { is_sealed (Ran r) self.old.line ≡ false }
         requires finished { next_undo self.old.table r.0 ≡ Undo.Finished }
         ensures marks { self.new.line.marks ≡ without r.0 self.old.line.marks }
         ensures spare { self.new.line.spare ≡ self.old.line.spare + 1 }
+        ensures sealed { IsSealed self.new.line }
         ensures table { ChangesEach (λ d. removed r.0) self.old.table self.new.table }
     {
         withdraw(&mut self.table, r);
         self.line.remove(r);
+        seal(&mut self.line);
     }
 
-    /// The run commits. It stays in the line, which notes that it has ended.
+    /// The run commits. It stays in the line, which notes that it has ended. What stands before the first live run is
+    /// sealed then.
     pub(crate) fn settle(&mut self, r: RunNo)
+        requires sealed { IsSealed self.old.line }
         ensures marks { self.new.line.marks ≡ settling r.0 self.old.line.marks }
         ensures spare { self.new.line.spare ≡ self.old.line.spare }
+        ensures sealed { IsSealed self.new.line }
         ensures table { ChangesEach (λ d. committed_lineage r.0) self.old.table self.new.table }
     {
         commit(&mut self.table, r);
         self.line.settle(r);
+        seal(&mut self.line);
     }
+}
+
+/// The items before the first run that has not ended are sealed.
+pub(crate) fn seal(line: &mut Line)
+    requires { line.old.sealed ≤ front_of line.old.marks }
+    ensures { line.new ≡ record line.old { sealed = front_of line.old.marks } }
+{
+    let front = line.front();
+    line.seal(front);
 }
 
 /// The run, which is placed in the line at this place, has an access on each of its devices, with these uses of them.

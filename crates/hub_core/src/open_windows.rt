@@ -1,6 +1,8 @@
 //! An open window: its parts, and what is asked of them.
-ghost use Rattle.std.specs.Prelude.{◌≡◌, ◌+◌, ◌-◌, ◌<◌, ◌≤◌, ◌↔◌, IfSome, IsTrue, None, [], false, length, option_map, true, ℕ};
+ghost use Rattle.std.specs.Prelude.{◌≡◌, ◌+◌, ◌-◌, ◌<◌, ◌≤◌, ◌↔◌, IfSome, IsTrue, None, [], false, length, option_map, slice_get, take, true, ℕ};
 ghost use Rattle.command_rules.specs.Rosters.{command_at, runs_of};
+ghost use Rattle.history_book.specs.Histories.{entries_of, line_of};
+ghost use Rattle.history_book.specs.Sealed.{sealed_of};
 ghost use Rattle.history_book.specs.Settings.{is_weak};
 ghost use Rattle.hub_core.specs.BlockedRuns.{next_device};
 ghost use Rattle.hub_core.specs.Bounds.{IsBounded};
@@ -121,6 +123,24 @@ impl<D: Device> OpenWindow<D> {
     {
         self.order.table.kept();
         &self.order.table
+    }
+
+    /// How many items of the line are sealed: those before the first live run.
+    pub(crate) fn sealed(&self) -> u32
+        ensures { result ≡ sealed_of self.now.setting (entries_of self.now.history) }
+    {
+        self.order.line.sealed()
+    }
+
+    /// The item at this place of the line, where it is sealed.
+    pub(crate) fn final_item(&self, at: u32) -> Option<Item>
+        ensures { result ≡ slice_get (take (sealed_of self.now.setting (entries_of self.now.history)) (line_of self.now.setting (entries_of self.now.history))) at }
+    {
+        if at < self.order.line.sealed() {
+            self.order.line.get(at)
+        } else {
+            None
+        }
     }
 
     /// Table, line, history and roster of the window, outside the weak model.

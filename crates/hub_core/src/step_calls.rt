@@ -1,7 +1,10 @@
-//! The four calls that make a step of a hub: the window's step, and then the marks.
+//! The four calls that make a step of a hub: the window's step, and then the marks. After each of them the items of the
+//! line that were final before stand first, in their order, and no fewer are final.
 ghost use Rattle.std.specs.Prelude.{◌≡◌, ℕ};
+ghost use Rattle.history_book.specs.Sealed.{StaysSealed};
 ghost use Rattle.hub_core.specs.HubCalls.{IsGiven, IsProbeGiven, IsProbed, IsTurn, PlansEarliest, SameWindow};
 ghost use Rattle.hub_core.specs.OpenHubs.{configuration_of};
+ghost use Rattle.lock_leasing.specs.Configurations.{read_of};
 
 use crate::freed_runs::{free_back, free_going, free_made, free_weakly, mark_waiting};
 use crate::hubs::Hub;
@@ -16,9 +19,11 @@ impl<D: Device> Hub<D> {
     ///
     /// Answers what the run does: hands out a device, makes entries, waits, or is over. `Wait` and `Absent` change
     /// nothing but the last moment. Takes no memory.
+
     pub fn take(&mut self, r: RunNo, moment: u64) -> Turn<D>
         ensures turn { IsTurn self.old r.0 moment result self.new }
         ensures earliest { PlansEarliest (configuration_of self.old) r.0 result }
+        ensures sealed { StaysSealed (read_of (configuration_of self.old)) (read_of (configuration_of self.new)) }
         ensures window { SameWindow self.old self.new }
     {
         self.window.whole();
@@ -46,12 +51,14 @@ impl<D: Device> Hub<D> {
     /// Answers the entries that it makes: the command's answer, for a read with the value found, and the doom of a run whose
     /// must `check` found another value; or that the run's write is undone. A grip that is not the one with which its device
     /// is out, or that is the detector's, comes back with a `Stranger`, and nothing changes. Takes no memory.
+    #[tactic(auto, using(crate::proofs::calls::FinalItems::given_sealed))]
     pub fn give(
         &mut self,
         grip: Grip<D, Done>,
         moment: u64,
     ) -> Result<Made, (Grip<D, Done>, Stranger)>
         ensures given { IsGiven self.old grip moment result self.new }
+        ensures sealed { StaysSealed (read_of (configuration_of self.old)) (read_of (configuration_of self.new)) }
         ensures window { SameWindow self.old self.new }
     {
         self.window.whole();
@@ -74,8 +81,10 @@ impl<D: Device> Hub<D> {
     ///
     /// Where the device is counted down, and answers the probe, the grip drives it to the value at which it should stand.
     /// Takes no memory.
+    #[tactic(auto, using(crate::proofs::calls::FinalItems::probed_sealed))]
     pub fn take_probe(&mut self, d: DeviceNo) -> Option<Grip<D, Ready>>
         ensures probed { IsProbed self.old d.0 result self.new }
+        ensures sealed { StaysSealed (read_of (configuration_of self.old)) (read_of (configuration_of self.new)) }
         ensures window { SameWindow self.old self.new }
     {
         self.window.whole();
@@ -95,8 +104,10 @@ impl<D: Device> Hub<D> {
     /// doomed that sees it up and is not done with it; one that was counted down, and answered, is back. A grip that is not
     /// the one with which its device is out, or that is a run's, comes back with a `Stranger`, and nothing changes. Takes no
     /// memory.
+    #[tactic(auto, using(crate::proofs::calls::FinalItems::probe_given_sealed))]
     pub fn give_probe(&mut self, grip: Grip<D, Done>) -> Result<Made, (Grip<D, Done>, Stranger)>
         ensures given { IsProbeGiven self.old grip result self.new }
+        ensures sealed { StaysSealed (read_of (configuration_of self.old)) (read_of (configuration_of self.new)) }
         ensures window { SameWindow self.old self.new }
     {
         self.window.whole();

@@ -10,8 +10,9 @@ use Rattle.lineage_table.specs.declared.accesses.Status.TheVariants.{Acquired, R
 use Rattle.lineage_table.specs.declared.accesses.Status.{Status}
 use Rattle.home_types.specs.declared.numbers.RunNo.{RunNo}
 use Rattle.lineage_table.specs.Lineages.{LineageState, removed, scheduled, settled}
-use Rattle.std.proofs.lemmas.Bool.{or_from, or_parts, or_right}
+use Rattle.std.proofs.lemmas.Bool.{both_ways, or_from, or_parts, or_right}
 use Rattle.std.specs.Option.{ForSome}
+use Rattle.std.proofs.lemmas.List.Kept.{AllPairs-filter}
 use Rattle.std.proofs.lemmas.List.Quantifiers.{position-Some}
 use Rattle.std.proofs.Common.{rules, ◌-◌, Bool, IsSome, IsTrue, List, None, Option, Some, [], add-one, ap, ap₂, arith, drop, false, get_or, inl, inr, length, refl, set, subst, suc, sym, take, true, zero, ℕ, ◌++◌, ◌+◌, ◌<◌, ◌∙◌, ◌≤◌, ◌∷◌, ◌≡◌}
 use Rattle.std.proofs.lemmas.Grind.{common_steps}
@@ -20,7 +21,7 @@ use Rattle.std.proofs.lemmas.List.Folds.{list_any-append}
 use Rattle.std.proofs.lemmas.Option.{slice_get-get_or, slice_get_past}
 use Rattle.std.proofs.lemmas.List.{append-nil, drop_at, get_or_at, set_at, take-append-drop, take_at, take_more}
 use Rattle.std.specs.List.{position_or_len, AllByRecursion, AllPairs, insert, remove}
-use Rattle.std.specs.Prelude.{nat_lt, if◌then◌else◌, is_some, option_and_then, option_map, position, slice_get, unwrap_or, slice_set, ◌||◌}
+use Rattle.std.specs.Prelude.{not, nat_lt, if◌then◌else◌, is_some, option_and_then, option_map, position, slice_get, unwrap_or, slice_set, ◌||◌}
 
 -- Places
 
@@ -60,7 +61,7 @@ access_there r i xs d h =
 pub status_there : (r : ℕ) (x : Access) {s : Status} → Some x.status ≡ Some s → x.status ≡ s
 status_there r x h = cc
 
-insert_parts : (a b : List Access) (y : Access) (i : ℕ) → length a ≡ i → insert (a ++ b) i y ≡ a ++ y ∷ b
+pub insert_parts : (a b : List Access) (y : Access) (i : ℕ) → length a ≡ i → insert (a ++ b) i y ≡ a ++ y ∷ b
 insert_parts a b y i e = rw (take_at a b i e, drop_at a b i e) refl
 
 same_place : (i k : ℕ) → Some i ≡ Some k → i ≡ k
@@ -121,18 +122,18 @@ pub rest : (R : Access → Access → Type 0) (a : List Access) (x : Access) (b 
 unfolding Pairs
 rest R a x b h = (pairs_back R a (x ∷ b) h).0
 
+pub remove_parts : (a : List Access) (x : Access) (b : List Access) (i : ℕ) → length a ≡ i → remove (a ++ x ∷ b) i ≡ a ++ b
+remove_parts a x b i e = ap₂ (λ p q. p ++ q) (take_at a (x ∷ b) i e) (drop_next a x b i e)
+
 -- the access of the run is taken out
 pub without_remove : (r i : ℕ) (xs : List Access) (d : Access) → IsDisciplined xs → position (is_of r) xs ≡ Some i → remove xs i ≡ without r xs
 without_remove r i xs d k h =
     let c = cut_at r i xs d h in
     let behind : AllByRecursion (AreOfTwoRuns c.access) c.rest = rest AreOfTwoRuns c.front c.access c.rest (pairs_from_all AreOfTwoRuns (c.front ++ c.access ∷ c.rest) (subst (AllPairs AreOfTwoRuns) c.list k.one_each)) in
     ap (λ l. remove l i) c.list
-    ∙ parts c.front c.access c.rest i c.size
+    ∙ remove_parts c.front c.access c.rest i c.size
     ∙ sym (without_at r c.front c.access c.rest c.none (none_behind r c.access c.rest c.own behind) c.own)
     ∙ sym (ap (without r) c.list)
-  where
-    parts : (a : List Access) (x : Access) (b : List Access) (i : ℕ) → length a ≡ i → remove (a ++ x ∷ b) i ≡ a ++ b
-    parts a x b i e = ap₂ (λ p q. p ++ q) (take_at a (x ∷ b) i e) (drop_next a x b i e)
 
 -- the run has a place exactly where it has an access
 placed : (r : ℕ) (xs : List Access) → nat_lt (position_or_len (is_of r) xs) (length xs) ≡ has_access r xs
@@ -367,13 +368,36 @@ schedule_keeps xs q i y d k h s t n =
     all_scheduled x (v ∷ b) e h = (one x v e h.0, all_scheduled x b e h.1)
 
 -- .. or last
-pub schedule_last_keeps : (xs : List Access) (y : Access) → IsDisciplined xs → y.status ≡ Scheduled → has_access y.run.0 xs ≡ false → IsDisciplined (insert xs (length xs) y)
-schedule_last_keeps xs y k t n = subst IsDisciplined (sym (insert_end xs y)) (put_keeps xs y [] t n refl tt (subst IsDisciplined (sym (append-nil xs)) k))
+schedule_last_keeps : (xs : List Access) (y : Access) → IsDisciplined xs → y.status ≡ Scheduled → has_access y.run.0 xs ≡ false → IsDisciplined (xs ++ y ∷ [])
+schedule_last_keeps xs y k t n = (put_keeps xs y [] t n refl tt (subst IsDisciplined (sym (append-nil xs)) k))
 
-pub schedule_place_keeps : (xs : List Access) (before : Option RunNo) (i : ℕ) (y : Access) → IsDisciplined xs → place_before before xs ≡ Some i → ForSome before (λ r. status_of r.0 xs ≡ Some Scheduled)
-    → y.status ≡ Scheduled → has_access y.run.0 xs ≡ false → IsDisciplined (insert xs i y)
-schedule_place_keeps xs None i y k h s t n = subst (λ p. IsDisciplined (insert xs p y)) (same_place (length xs) i h) (schedule_last_keeps xs y k t n)
-schedule_place_keeps xs (Some r) i y k h s t n = schedule_keeps xs r.0 i y y k h (s r refl) t n
+pub schedule_put_keeps : (xs : List Access) (before : Option RunNo) (y : Access) → IsDisciplined xs → ForSome before (λ r. status_of r.0 xs ≡ Some Scheduled)
+    → y.status ≡ Scheduled → has_access y.run.0 xs ≡ false → IsDisciplined (put_before before y xs)
+schedule_put_keeps xs None y k s t n = schedule_last_keeps xs y k t n
+schedule_put_keeps xs (Some r) y k s t n = at (position (is_of r.0) xs) refl
+  where
+    at : (o : Option ℕ) → position (is_of r.0) xs ≡ o → IsDisciplined (put_before_run r.0 y xs)
+    at None e = absurd (both_ways (has_access r.0 xs) (has_place r.0 xs ∙ ap is_some e) (found_by_status r.0 xs Scheduled (s r refl)))
+    at (Some i) e = subst IsDisciplined (put_insert r.0 i xs y y e) (schedule_keeps xs r.0 i y y k e (s r refl) t n)
+
+-- what a run wrote is written over, or undone
+pub write_keeps : (xs : List Access) (r i : ℕ) (x : Access) (o : Option ℕ) → IsDisciplined xs → position (is_of r) xs ≡ Some i → x ≡ get_or xs i x → IsDisciplined (slice_set xs i (record x { wrote = o }))
+write_keeps xs r i x o k h is =
+    let c = cut_at r i xs x h in
+    let here : x ≡ c.access = is ∙ ap (λ l. get_or l i x) c.list ∙ get_or_at c.front c.access c.rest x i c.size in
+    let y : Access = record c.access { wrote = o } in
+    subst IsDisciplined
+    (sym (ap (λ z. set xs i (record z { wrote = o })) here ∙ ap (λ l. set l i y) c.list ∙ set_at c.front c.access c.rest y i c.size))
+    (
+    kept_at c.front c.access y c.rest refl
+    (every_so (λ u. AreInTurn u c.access → AreInTurn u y) c.front (λ u h. h))
+    (every_so (λ v. AreInTurn c.access v → AreInTurn y v) c.rest (λ v h. h))
+    (subst IsDisciplined c.list k)
+    )
+
+-- the access of a run leaves
+pub without_keeps : (xs : List Access) (r : ℕ) → IsDisciplined xs → IsDisciplined (without r xs)
+without_keeps xs r k = record { in_turn = AllPairs-filter AreInTurn (λ x. not (is_of r x)) xs k.in_turn; one_each = AllPairs-filter AreOfTwoRuns (λ x. not (is_of r x)) xs k.one_each }
 
 -- the first ones leave
 pub drop_keeps : (xs : List Access) (n : ℕ) → IsDisciplined xs → IsDisciplined (drop n xs)
@@ -413,12 +437,10 @@ nothing_changed s r f h = ap (λ (l : List Access). with_accesses s l s.room) (s
 left_state : (s : LineageState) (items l : List Access) (m n : ℕ) → items ≡ l → m ≡ n → with_accesses s items m ≡ with_accesses s l n
 left_state s items l m n e left = ap₂ (with_accesses s) e left
 
-pub scheduled_state : (s now : LineageState) (before : Option RunNo) (i m : ℕ) (y : Access) (items : List Access) → s ≡ now → place_before before now.accesses ≡ Some i
-    → items ≡ insert s.accesses i y → m ≡ s.room - 1 → record s { accesses = items; room = m } ≡ scheduled before y now
+pub scheduled_state : (s now : LineageState) (before : Option RunNo) (m : ℕ) (y : Access) (items : List Access) → s ≡ now → items ≡ put_before before y s.accesses → m ≡ s.room - 1
+    → record s { accesses = items; room = m } ≡ scheduled before y now
 unfolding with_accesses
-scheduled_state s now before i m y items e h is left =
-    left_state s items (put_before before y s.accesses) m (s.room - 1) (is ∙ put_place before i s.accesses y (ap (λ (t : LineageState). place_before before t.accesses) e ∙ h)) left
-    ∙ ap (scheduled before y) e
+scheduled_state s now before m y items e is left = left_state s items (put_before before y s.accesses) m (s.room - 1) is left ∙ ap (scheduled before y) e
 
 pub nothing_removed : (s : LineageState) (r : ℕ) → position (is_of r) s.accesses ≡ None → s ≡ removed r s
 unfolding with_accesses
@@ -521,10 +543,13 @@ pub releases : (s now : LineageState) (r i : ℕ) (x : Access) → s ≡ now →
     → status_of r now.accesses ≡ Some Acquired → IsDisciplined (slice_set s.accesses i (record x { status = Released }))
 releases s now r i x e k h is st = release_keeps s.accesses r i x k (ap (λ (t : LineageState). position (is_of r) t.accesses) e ∙ h) is (ap (λ (t : LineageState). status_of r t.accesses) e ∙ st)
 
-pub schedules : (s now : LineageState) (before : Option RunNo) (i : ℕ) (y : Access) (items : List Access) → s ≡ now → IsDisciplined s.accesses → place_before before now.accesses ≡ Some i
-    → ForSome before (λ r. status_of r.0 now.accesses ≡ Some Scheduled) → y.status ≡ Scheduled → has_access y.run.0 now.accesses ≡ false → items ≡ insert s.accesses i y → IsDisciplined items
-schedules s now before i y items e k h st t n is =
-    subst IsDisciplined (sym is) (schedule_place_keeps s.accesses before i y k (ap (λ (u : LineageState). place_before before u.accesses) e ∙ h) (λ r q. ap (λ (u : LineageState). status_of r.0 u.accesses) e ∙ st r q) t (ap (λ (u : LineageState). has_access y.run.0 u.accesses) e ∙ n))
+pub schedules : (s now : LineageState) (before : Option RunNo) (y : Access) (items : List Access) → s ≡ now → IsDisciplined s.accesses
+    → ForSome before (λ r. status_of r.0 now.accesses ≡ Some Scheduled) → y.status ≡ Scheduled → has_access y.run.0 now.accesses ≡ false → items ≡ put_before before y s.accesses → IsDisciplined items
+schedules s now before y items e k st t n is =
+    subst IsDisciplined (sym is) (schedule_put_keeps s.accesses before y k (λ r q. ap (λ (u : LineageState). status_of r.0 u.accesses) e ∙ st r q) t (ap (λ (u : LineageState). has_access y.run.0 u.accesses) e ∙ n))
+
+pub writes : (s now : LineageState) (r i : ℕ) (x : Access) (o : Option ℕ) → s ≡ now → IsDisciplined s.accesses → position (is_of r) now.accesses ≡ Some i → x ≡ get_or s.accesses i x → IsDisciplined (slice_set s.accesses i (record x { wrote = o }))
+writes s now r i x o e k h is = write_keeps s.accesses r i x o k (ap (λ (t : LineageState). position (is_of r) t.accesses) e ∙ h) is
 
 pub answers : (s now : LineageState) (r i : ℕ) (x y : Access) → s ≡ now → IsDisciplined s.accesses → position (is_of r) now.accesses ≡ Some i → x ≡ get_or s.accesses i x → MayAnswer r now.accesses → some_scheduled (before r now.accesses) ≡ false → y.run.0 ≡ x.run.0
     → IsDisciplined (slice_set s.accesses i y)

@@ -1,6 +1,8 @@
 pub mod Pairs
 pub mod Splits
 pub mod Keeping
+pub mod Knots
+pub mod Leaving
 pub mod Standing
 pub mod Steps
 pub mod Undoing

@@ -11,7 +11,7 @@ use Rattle.std.proofs.lemmas.Grind.{common_steps}
 use Rattle.std.proofs.lemmas.List.{get_or-set_other, get_or-set_same, length-set}
 use Rattle.std.specs.FinSet as set
 use Rattle.std.specs.Ordering.{nat_cmp}
-use Rattle.std.specs.Prelude.{Bool, false, if◌then◌else◌, not, true, ◌&&◌, ◌==◌, ◌||◌, ◌≤◌}
+use Rattle.std.specs.Prelude.{nat_lt, Bool, false, if◌then◌else◌, not, true, ◌&&◌, ◌==◌, ◌||◌, ◌≤◌}
 
 pub equal : (x y : ℕ) → (x == y) ≡ true → x ≡ y
 equal x y h = grind (arith, common_steps)
@@ -26,6 +26,22 @@ none_next test from d none here e above within = at_ (e == d) refl
     at_ : (b : Bool) → (e == d) ≡ b → test e ≡ false
     at_ true h = ap test (equal e d h) ∙ here
     at_ false h = let other : e ≢ d = differ e d h in none e above (omega (arith, within, other))
+
+-- those up to here that are chosen, with this one
+pub one_chosen : (test : ℕ → Bool) (d e : ℕ) → test d ≡ true → ((e == d) || (nat_lt e d && test e)) ≡ (nat_lt e (d + 1) && test e)
+one_chosen test d e on = at_ (e == d) refl
+  where
+    at_ : (b : Bool) → (e == d) ≡ b → (b || (nat_lt e d && test e)) ≡ (nat_lt e (d + 1) && test e)
+    at_ true same = let own : test e ≡ true = ap test (equal e d same) ∙ on in grind (arith, common_steps)
+    at_ false other = let more : nat_lt e d ≡ nat_lt e (d + 1) = grind (arith, common_steps) in ap (λ b. b && test e) more
+
+-- .. and without it
+pub none_chosen : (test : ℕ → Bool) (d e : ℕ) → test d ≡ false → (nat_lt e d && test e) ≡ (nat_lt e (d + 1) && test e)
+none_chosen test d e off = at_ (e == d) refl
+  where
+    at_ : (b : Bool) → (e == d) ≡ b → (nat_lt e d && test e) ≡ (nat_lt e (d + 1) && test e)
+    at_ true same = let own : test e ≡ false = ap test (equal e d same) ∙ off in grind (arith, common_steps)
+    at_ false other = let more : nat_lt e d ≡ nat_lt e (d + 1) = grind (arith, common_steps) in ap (λ b. b && test e) more
 
 -- a device with an access is one of the table
 pub has_homed : (table : List LineageState) (d r : ℕ) → has_access r (accesses_at table d) ≡ true → d < length table

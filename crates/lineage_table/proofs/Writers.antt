@@ -133,9 +133,8 @@ only_own r (Some p) b e t q h = ap run_no (grind (arith, common_steps))
 
 module _ (s now : LineageState) (w : Option RunNo) (e : s ≡ now) (sound : IsSoundLineage s.accesses w) where
   -- a scheduled access that has written nothing is put in
-  pub keeps_scheduled : (before : Option RunNo) (i : ℕ) (y : Access) (items : List Access) → place_before before now.accesses ≡ Some i → items ≡ insert s.accesses i y → y.wrote ≡ None → w ≡ effective_writer items
-  keeps_scheduled before i y items h is none =
-      sound.last ∙ sym (ap effective_writer (is ∙ put_place before i s.accesses y (ap (λ (t : LineageState). place_before before t.accesses) e ∙ h)) ∙ put_writer before y s.accesses none)
+  pub keeps_scheduled : (before : Option RunNo) (y : Access) (items : List Access) → items ≡ put_before before y s.accesses → y.wrote ≡ None → w ≡ effective_writer items
+  keeps_scheduled before y items is none = sound.last ∙ sym (ap effective_writer is ∙ put_writer before y s.accesses none)
 
   -- an access is acquired or released
   pub keeps_changed : (r i : ℕ) (x : Access) (f : Access → Access) → position (is_of r) now.accesses ≡ Some i → x ≡ get_or s.accesses i x → ((y : Access) → (f y).wrote ≡ y.wrote) → ((y : Access) → (f y).run ≡ y.run) → w ≡ effective_writer (slice_set s.accesses i (f x))

@@ -60,6 +60,11 @@ abbrev pub behind : ℕ → List Access → List Access
 behind r [] = []
 behind r (x ∷ xs) = if is_of r x then xs else behind r xs
 
+-- the accesses behind that of this run, all where no run is named
+abbrev pub behind_run : Option RunNo → List Access → List Access
+behind_run None accesses = accesses
+behind_run (Some r) accesses = behind r.0 accesses
+
 -- the run of the access immediately behind that of the run
 abbrev pub run_behind : ℕ → List Access → Option RunNo
 run_behind r accesses = option_map (λ x. x.run) (slice_get (behind r accesses) 0)

@@ -1,14 +1,16 @@
 //! The lineage of one device: its committed value and its accesses, in line order.
-ghost use Rattle.std.specs.Prelude.{◌≡◌, ◌+◌, ◌<◌, ◌≤◌, [], drop, false, IfOk, IsSome, IsTrue, None, Some, length, not, option_map, position, slice_index_or, take, vec_capacity, vec_len};
-ghost use Rattle.std.specs.List.{insert};
+ghost use Rattle.std.specs.Prelude.{◌≡◌, ◌+◌, ◌<◌, [], false, IfOk, IsSome, IsTrue, Some, not};
+ghost use Rattle.chain_arena.specs.Chains.{values_of};
 ghost use Rattle.std.specs.Option.{ForSome};
 ghost use Rattle.lineage_table.specs.declared.accesses.Access.{Access};
-ghost use Rattle.lineage_table.specs.Accesses.{IsDisciplined, IsFirstBefore, access_of, before, effective_writer, has_access, is_of, place_before, run_behind, some_acquired, some_scheduled, standing_value, status_of, without, written_by};
+ghost use Rattle.lineage_table.specs.Accesses.{IsDisciplined, IsFirstBefore, access_of, before, effective_writer, has_access, put_before, run_behind, some_acquired, some_scheduled, standing_value, status_of, without, written_by};
 ghost use Rattle.lineage_table.specs.Answers.{MayAnswer, answered_access, answered_if};
 ghost use Rattle.home_types.specs.declared.numbers.RunNo.{RunNo};
+ghost use Rattle.lineage_table.specs.Knots.{CutAt, IsKnotOf};
 ghost use Rattle.lineage_table.specs.Lineages.{IsNew, acquired, counted_up, released, removed, scheduled, settled, undone, with_committed, written};
 
 use crate::accesses::{Access, Status};
+use chain_arena::{Chain, Knot};
 use home_types::{NoMemory, RunNo, Stand, Value, View};
 use std::alloc::Global;
 use std::marker::Model;
@@ -19,22 +21,22 @@ use std::marker::Model;
 #[derive(Drop)]
 pub struct Lineage {
     committed: Value,
-    accesses: Vec<Access>,
+    accesses: Chain<Access>,
     // the run of the last access that has a written value
     writer: Option<RunNo>,
     up: bool,
 }
 
 impl Model for Lineage {
-    ghost use Rattle.std.specs.Prelude.{◌-◌, vec_capacity, vec_len};
+    ghost use Rattle.chain_arena.specs.Chains.{values_of};
     ghost use Rattle.lineage_table.specs.KeptWriters.{IsSoundLineage};
     ghost use Rattle.lineage_table.specs.Lineages.{LineageState};
 
     ghost Value = { LineageState };
 
-    ghost view = { λ l. record { committed = l.committed; accesses = l.accesses.items; room = vec_capacity l.accesses - vec_len l.accesses; up = l.up } };
+    ghost view = { λ l. record { committed = l.committed; accesses = values_of l.accesses.pairs; room = l.accesses.spare; up = l.up } };
 
-    ghost invariant = { λ l. IsSoundLineage l.accesses.items l.writer };
+    ghost invariant = { λ l. IsSoundLineage (values_of l.accesses.pairs) l.writer };
 }
 
 impl Lineage {
@@ -42,9 +44,11 @@ impl Lineage {
     pub fn open(alloc: Global, stand: Stand, runs: usize) -> Result<Lineage, NoMemory>
         ensures { IfOk result (IsNew stand runs) }
     {
-        let Ok(accesses) = Vec::with_capacity(alloc, runs) else {
+        if runs > u32::MAX as usize {
             return Err(NoMemory);
-        };
+        }
+        let mut accesses = Chain::new(alloc);
+        accesses.reserve(runs as u32)?;
         Ok(Lineage {
             committed: stand.value,
             accesses,
@@ -61,10 +65,9 @@ impl Lineage {
         requires before { ForSome before (λ r. status_of r.0 self.old.accesses ≡ Some Status.Scheduled) }
         ensures { self.new ≡ scheduled before access self.old }
     {
-        let at = self.place_before(before);
-        put_in(&mut self.accesses, at, access);
+        put_in(&mut self.accesses, before, access);
         let stays = access.wrote.is_none();
-        self.writer = writer_of(stays, self.writer, self.accesses.as_slice());
+        self.writer = writer_of(stays, self.writer, &self.accesses);
     }
 
     /// The run has its first answer on the device, and sees it so from then on.
@@ -74,12 +77,11 @@ impl Lineage {
         requires first { some_scheduled (before r.0 self.old.accesses) ≡ false }
         ensures { self.new ≡ acquired r.0 view self.old }
     {
-        let at = self.place(r);
-        self.accesses[at] = Access {
-            status: Status::Acquired,
-            view: Some(view),
-            ..self.accesses[at]
-        };
+        self.accesses.kept();
+        let k = knot(&self.accesses, r);
+        let access = self.accesses.get_mut(k);
+        access.status = Status::Acquired;
+        access.view = Some(view);
     }
 
     /// The run wrote the value.
@@ -87,12 +89,10 @@ impl Lineage {
         requires acquired { status_of r.0 self.old.accesses ≡ Some Status.Acquired }
         ensures { self.new ≡ written r.0 v self.old }
     {
-        let at = self.place(r);
-        self.accesses[at] = Access {
-            wrote: Some(v),
-            ..self.accesses[at]
-        };
-        self.writer = writer_with(self.writer, r, self.accesses.as_slice());
+        self.accesses.kept();
+        let k = knot(&self.accesses, r);
+        self.accesses.get_mut(k).wrote = Some(v);
+        self.writer = writer_with(self.writer, r, &self.accesses);
     }
 
     /// The run notes an answer on the device: with its first one it acquires it, and sees it so; then the value that it
@@ -104,13 +104,15 @@ impl Lineage {
         ensures turn { result ≡ not (some_scheduled (before r.0 self.old.accesses)) }
         ensures noted { self.new ≡ answered_if result r.0 view wrote is_last self.old }
     {
-        let at = self.place(r);
-        if self.waits_before(at) {
+        self.accesses.kept();
+        let (k, waits) = knot_in_turn(&self.accesses, r);
+        if waits {
             return false;
         }
-        self.accesses[at] = answered(self.accesses[at], view, wrote, is_last);
+        let access = self.accesses.get_mut(k);
+        *access = answered(*access, view, wrote, is_last);
         self.writer = match wrote {
-            Some(_) => writer_with(self.writer, r, self.accesses.as_slice()),
+            Some(_) => writer_with(self.writer, r, &self.accesses),
             None => self.writer,
         };
         true
@@ -121,24 +123,20 @@ impl Lineage {
         requires acquired { status_of r.0 self.old.accesses ≡ Some Status.Acquired }
         ensures { self.new ≡ released r.0 self.old }
     {
-        let at = self.place(r);
-        self.accesses[at] = Access {
-            status: Status::Released,
-            ..self.accesses[at]
-        };
+        self.accesses.kept();
+        let k = knot(&self.accesses, r);
+        self.accesses.get_mut(k).status = Status::Released;
     }
 
     /// What the run wrote is undone. Nothing changes where it has no access, or wrote nothing.
     pub fn undone(&mut self, r: RunNo)
         ensures { self.new ≡ undone r.0 self.old }
     {
-        if let Some(at) = self.place_of(r) {
-            self.accesses[at] = Access {
-                wrote: None,
-                ..self.accesses[at]
-            };
+        self.accesses.kept();
+        if let Some(k) = knot_of(&self.accesses, r) {
+            self.accesses.get_mut(k).wrote = None;
             let of_another = self.writer != Some(r);
-            self.writer = writer_of(of_another, self.writer, self.accesses.as_slice());
+            self.writer = writer_of(of_another, self.writer, &self.accesses);
         }
     }
 
@@ -147,11 +145,12 @@ impl Lineage {
         ensures found { result ≡ has_access r.0 self.old.accesses }
         ensures left { self.new ≡ removed r.0 self.old }
     {
-        match self.place_of(r) {
-            Some(at) => {
-                self.accesses.remove(at);
+        self.accesses.kept();
+        match knot_of(&self.accesses, r) {
+            Some(k) => {
+                self.accesses.unlink(k);
                 let stays = self.writer != Some(r);
-                self.writer = writer_of(stays, self.writer, self.accesses.as_slice());
+                self.writer = writer_of(stays, self.writer, &self.accesses);
                 true
             }
             None => false,
@@ -163,9 +162,10 @@ impl Lineage {
         requires wrote { IsSome (written_by r.0 self.old.accesses) }
         ensures { self.new ≡ settled r.0 self.old }
     {
-        let at = self.place(r);
-        self.committed = self.accesses[at].wrote.unwrap();
-        leave_through(&mut self.accesses, at);
+        self.accesses.kept();
+        let k = knot(&self.accesses, r);
+        self.accesses.drop_left_of(k);
+        self.committed = self.accesses.unlink(k).wrote.unwrap();
         self.writer = if self.writer == Some(r) {
             None
         } else {
@@ -199,14 +199,14 @@ impl Lineage {
     pub fn room(&self) -> u64
         ensures { result ≡ self.now.room }
     {
-        (self.accesses.capacity() - self.accesses.len()) as u64
+        self.accesses.spare() as u64
     }
 
     /// The accesses, in line order.
-    pub fn accesses(&self) -> &[Access]
-        ensures { result.now ≡ self.now.accesses }
+    pub fn chain(&self) -> &Chain<Access>
+        ensures { values_of result.now.pairs ≡ self.now.accesses }
     {
-        self.accesses.as_slice()
+        &self.accesses
     }
 
     /// The run of the first access before that of the run of which the test holds.
@@ -214,7 +214,7 @@ impl Lineage {
         requires { F.IsAlwaysCallable test }
         ensures { IsFirstBefore (F.post test) r.0 self.now.accesses result }
     {
-        'accesses: for access in self.accesses.as_slice() {
+        'accesses: for (_, access) in self.accesses.iter() {
             if access.run == r {
                 return None;
             }
@@ -229,9 +229,10 @@ impl Lineage {
     pub fn run_behind(&self, r: RunNo) -> Option<RunNo>
         ensures { result ≡ run_behind r.0 self.now.accesses }
     {
-        let at = self.place_of(r)?;
-        let access = self.accesses.get(at + 1)?;
-        Some(access.run)
+        self.accesses.kept();
+        let k = knot_of(&self.accesses, r)?;
+        let behind = self.accesses.after(k)?;
+        Some(self.accesses.get(behind).run)
     }
 
     /// Does nothing. Its contract is what the accesses of every lineage keep: the released ones stand before the acquired
@@ -246,16 +247,9 @@ impl Lineage {
     pub fn access(&self, r: RunNo) -> Option<Access>
         ensures { result ≡ access_of r.0 self.now.accesses }
     {
-        let at = self.place_of(r)?;
-        Some(self.accesses[at])
-    }
-
-    /// The run of the access at this place, counted from 0.
-    pub(crate) fn run_at(&self, at: usize) -> RunNo
-        requires { at < length self.now.accesses }
-        ensures { (any : Access) → result ≡ (slice_index_or self.now.accesses at any).run }
-    {
-        self.accesses[at].run
+        self.accesses.kept();
+        let k = knot_of(&self.accesses, r)?;
+        Some(*self.accesses.get(k))
     }
 
     /// The value that stands: the last one written, else the committed one.
@@ -263,7 +257,11 @@ impl Lineage {
         ensures { result ≡ standing_value self.now.committed self.now.accesses }
     {
         match self.writer {
-            Some(r) => self.accesses[self.place(r)].wrote.unwrap(),
+            Some(r) => {
+                self.accesses.kept();
+                let k = knot(&self.accesses, r);
+                self.accesses.get(k).wrote.unwrap()
+            }
             None => self.committed,
         }
     }
@@ -272,13 +270,15 @@ impl Lineage {
     pub fn stand_without(&self, r: RunNo) -> Value
         ensures { result ≡ standing_value self.now.committed (without r.0 self.now.accesses) }
     {
-        self.accesses.iter().fold(self.committed, |value, access| {
-            if access.run == r {
-                value
-            } else {
-                access.wrote.unwrap_or(value)
-            }
-        })
+        self.accesses
+            .iter()
+            .fold(self.committed, |value, (_, access)| {
+                if access.run == r {
+                    value
+                } else {
+                    access.wrote.unwrap_or(value)
+                }
+            })
     }
 
     /// The run of the last access that has a written value.
@@ -287,69 +287,61 @@ impl Lineage {
     {
         self.writer
     }
+}
 
-    /// The place of an access that will stand before that of this run, last where none is named.
-    fn place_before(&self, before: Option<RunNo>) -> usize
-        requires { ForSome before (λ r. status_of r.0 self.now.accesses ≡ Some Status.Scheduled) }
-        ensures { place_before before self.now.accesses ≡ Some result }
-    {
-        match before {
-            Some(r) => self.place(r),
-            None => self.accesses.len(),
+/// Puts an access in before that of this run, last where none is named. There is room for it.
+fn put_in(accesses: &mut Chain<Access>, before: Option<RunNo>, access: Access)
+    requires room { 0 < accesses.old.spare }
+    requires before { ForSome before (λ r. IsTrue (has_access r.0 (values_of accesses.old.pairs))) }
+    ensures items { values_of accesses.new.pairs ≡ put_before before access (values_of accesses.old.pairs) }
+    ensures spare { accesses.new.spare + 1 ≡ accesses.old.spare }
+{
+    accesses.kept();
+    match before {
+        Some(r) => {
+            let k = knot(accesses, r);
+            accesses.insert_before(k, access);
+        }
+        None => {
+            accesses.push_back(access);
         }
     }
-
-    /// Whether a scheduled access stands before this place. The one that stands directly before it tells.
-    fn waits_before(&self, at: usize) -> bool
-        requires { at ≤ length self.now.accesses }
-        ensures { result ≡ some_scheduled (take at self.now.accesses) }
-    {
-        at != 0 && self.accesses[at - 1].status == Status::Scheduled
-    }
-
-    /// The place of the run's access, counted from 0. It has one.
-    pub(crate) fn place(&self, r: RunNo) -> usize
-        requires { IsTrue (has_access r.0 self.now.accesses) }
-        ensures { position (is_of r.0) self.now.accesses ≡ Some result }
-    {
-        self.place_of(r).unwrap()
-    }
-
-    /// The place of the run's access, counted from 0, where it has one.
-    fn place_of(&self, r: RunNo) -> Option<usize>
-        ensures { result ≡ position (is_of r.0) self.now.accesses }
-    {
-        self.accesses.iter().position(|access| access.run == r)
-    }
 }
 
-/// Puts an access in at this place. There is room for it; at the end none is moved.
-fn put_in(accesses: &mut Vec<Access>, at: usize, access: Access)
-    requires place { at ≤ vec_len accesses.old }
-    requires room { vec_len accesses.old < vec_capacity accesses.old }
-    ensures items { accesses.new.items ≡ insert accesses.old.items at access }
-    ensures len { vec_len accesses.new ≡ vec_len accesses.old + 1 }
-    ensures capacity { vec_capacity accesses.new ≡ vec_capacity accesses.old }
+/// The knot of the run's access. It has one.
+fn knot(accesses: &Chain<Access>, r: RunNo) -> Knot
+    requires { IsTrue (has_access r.0 (values_of accesses.now.pairs)) }
+    ensures { CutAt r.0 result accesses.now.pairs }
 {
-    if at == accesses.len() {
-        accesses.push_reserved(access);
-    } else {
-        let inserted = accesses.insert(at, access);
-        inserted.unwrap();
-    }
+    knot_of(accesses, r).unwrap()
 }
 
-/// Takes out the access at this place and those before it.
-fn leave_through(accesses: &mut Vec<Access>, at: usize)
-    requires { at < vec_len accesses.old }
-    ensures items { accesses.new.items ≡ drop (at + 1) accesses.old.items }
-    ensures len { vec_len accesses.new + (at + 1) ≡ vec_len accesses.old }
-    ensures capacity { vec_capacity accesses.new ≡ vec_capacity accesses.old }
+/// The knot of the run's access, where it has one.
+pub(crate) fn knot_of(accesses: &Chain<Access>, r: RunNo) -> Option<Knot>
+    ensures { IsKnotOf r.0 accesses.now.pairs result }
 {
-    'leaving: for _ in 0..at {
-        accesses.remove(0);
+    'accesses: for (k, access) in accesses.iter() {
+        if access.run == r {
+            return Some(k);
+        }
     }
-    accesses.remove(0);
+    None
+}
+
+/// The knot of the run's access, and whether a scheduled access stands before it. The run has one.
+fn knot_in_turn(accesses: &Chain<Access>, r: RunNo) -> (Knot, bool)
+    requires { IsTrue (has_access r.0 (values_of accesses.now.pairs)) }
+    ensures knot { CutAt r.0 result.0 accesses.now.pairs }
+    ensures waits { result.1 ≡ some_scheduled (before r.0 (values_of accesses.now.pairs)) }
+{
+    let mut waits = false;
+    'accesses: for (k, access) in accesses.iter() {
+        if access.run == r {
+            return (k, waits);
+        }
+        waits = waits || access.status == Status::Scheduled;
+    }
+    unreachable!()
 }
 
 /// The access when its run has noted an answer.
@@ -374,33 +366,31 @@ fn answered(access: Access, view: View, wrote: Option<Value>, is_last: bool) -> 
 
 /// The run of the last of these accesses that has a written value, when this run has just written, and it was `writer`
 /// before.
-fn writer_with(writer: Option<RunNo>, r: RunNo, accesses: &[Access]) -> Option<RunNo>
-    requires { ((q : RunNo) → writer ≡ Some q → q ≡ r) → Some r ≡ effective_writer accesses.now }
-    ensures { result ≡ effective_writer accesses.now }
+fn writer_with(writer: Option<RunNo>, r: RunNo, accesses: &Chain<Access>) -> Option<RunNo>
+    requires { ((q : RunNo) → writer ≡ Some q → q ≡ r) → Some r ≡ effective_writer (values_of accesses.now.pairs) }
+    ensures { result ≡ effective_writer (values_of accesses.now.pairs) }
 {
     let is_last = writer.is_none() || writer == Some(r);
     writer_of(is_last, Some(r), accesses)
 }
 
 /// The run of the last of these accesses that has a written value: `writer`, where it is known to be that.
-fn writer_of(known: bool, writer: Option<RunNo>, accesses: &[Access]) -> Option<RunNo>
-    requires { IsTrue known → writer ≡ effective_writer accesses.now }
-    ensures { result ≡ effective_writer accesses.now }
+fn writer_of(known: bool, writer: Option<RunNo>, accesses: &Chain<Access>) -> Option<RunNo>
+    requires { IsTrue known → writer ≡ effective_writer (values_of accesses.now.pairs) }
+    ensures { result ≡ effective_writer (values_of accesses.now.pairs) }
 {
     if known { writer } else { last_writer(accesses) }
 }
 
 /// The run of the last of these accesses that has a written value.
-fn last_writer(accesses: &[Access]) -> Option<RunNo>
-    ensures { result ≡ effective_writer accesses.now }
+fn last_writer(accesses: &Chain<Access>) -> Option<RunNo>
+    ensures { result ≡ effective_writer (values_of accesses.now.pairs) }
 {
-    let mut left = accesses.len();
-    'accesses: while left != 0 {
-        left -= 1;
-        let access = accesses[left];
+    accesses.iter().fold(None, |writer, (_, access)| {
         if access.wrote.is_some() {
-            return Some(access.run);
+            Some(access.run)
+        } else {
+            writer
         }
-    }
-    None
+    })
 }

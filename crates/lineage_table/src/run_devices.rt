@@ -3,7 +3,8 @@ ghost use Rattle.std.specs.Prelude.{◌≡◌, ◌<◌, ◌==◌, ◌↔◌, IfO
 ghost use Rattle.home_types.specs.DeviceSets.{IsFirstFrom};
 ghost use Rattle.home_types.specs.Limits.{most_devices};
 ghost use Rattle.lineage_table.specs.RunDevices.{HasLess, HasMore, is_in};
-ghost use Rattle.std.specs.Prelude.{false, ℕ};
+ghost use Rattle.std.specs.FinSet as set;
+ghost use Rattle.std.specs.Prelude.{◌&&◌, false, ℕ};
 
 use home_types::{DeviceNo, DeviceSet, NoMemory, RunNo};
 use std::alloc::Global;
@@ -68,6 +69,14 @@ impl RunDevices {
         if (r.0 as usize) < self.sets.len() {
             self.sets[r.0 as usize].remove(d);
         }
+    }
+
+    /// The devices of the run's set that are in this one too.
+    pub(crate) fn among(&self, r: RunNo, devices: &DeviceSet) -> DeviceSet
+        requires { r.0 < length self.now }
+        ensures { (d : ℕ) → set.contains result d ≡ (is_in self.now r.0 d && set.contains devices.now d) }
+    {
+        self.sets[r.0 as usize].both(devices)
     }
 
     /// The smallest device of the run's set from `from` on.

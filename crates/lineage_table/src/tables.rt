@@ -1,7 +1,9 @@
 //! The lineage table: the lineage of each device of a home.
-ghost use Rattle.std.specs.Prelude.{◌≡◌, ◌+◌, ◌<◌, ◌≤◌, ◌==◌, ◌||◌, ◌^◌, [], false, if◌then◌else◌, IfOk, IfSome, IsSome, IsTrue, Some, length, not, option_map, slice_index_or, ℕ};
+ghost use Rattle.std.specs.Prelude.{◌&&◌, ◌≡◌, ◌+◌, ◌<◌, ◌≤◌, ◌==◌, ◌||◌, ◌^◌, [], false, if◌then◌else◌, IfOk, IfSome, IsSome, IsTrue, Some, length, not, option_map, slice_index_or, true, ℕ};
 ghost use Rattle.std.specs.List.{list_any};
+ghost use Rattle.std.specs.FinSet as set;
 ghost use Rattle.std.specs.Option.{ForSome};
+ghost use Rattle.chain_arena.specs.Chains.{values_of};
 ghost use Rattle.command_rules.specs.Rosters.{is_on, runs_of};
 ghost use Rattle.lineage_table.specs.Accesses.{IsDisciplined, IsFirstBefore, access_of, before, effective_writer, has_access, run_behind, some_acquired, some_scheduled, standing_value, status_of, without, written_by};
 ghost use Rattle.home_types.specs.DeviceSets.{IsFirstFrom};
@@ -13,6 +15,7 @@ ghost use Rattle.lineage_table.specs.Lineages.{IsOpened, accesses_at, acquired, 
 use crate::accesses::{Access, Status};
 use crate::lineages::Lineage;
 use crate::run_devices::RunDevices;
+use chain_arena::Chain;
 use command_rules::Roster;
 use home_types::limits::RUNS;
 use home_types::{Command, DeviceNo, DeviceSet, NoMemory, RunNo, Value, View, World};
@@ -164,11 +167,11 @@ impl Table {
     }
 
     /// The accesses to the device, in line order.
-    pub fn accesses(&self, d: DeviceNo) -> &[Access]
+    pub fn chain(&self, d: DeviceNo) -> &Chain<Access>
         requires { d.0 < length self.now }
-        ensures { result.now ≡ accesses_at self.now d.0 }
+        ensures { values_of result.now.pairs ≡ accesses_at self.now d.0 }
     {
-        self.lineages[d.0 as usize].accesses()
+        self.lineages[d.0 as usize].chain()
     }
 
     /// The run of the first access before that of the run of which the test holds, or of all where the run has none.
@@ -228,6 +231,34 @@ impl Table {
         None
     }
 
+    /// The devices of this set to which the run has an access.
+    ///
+    /// Of the runs of the roster it looks at four words; for others it goes over the devices.
+    pub fn devices_among(&self, r: RunNo, devices: &DeviceSet) -> DeviceSet
+        ensures devices { (d : ℕ) → set.contains result d ≡ (has_access r.0 (accesses_at self.now d) && set.contains devices.now d) }
+        ensures homed { (d : ℕ) → set.contains result d ≡ true → (d < length self.now) × (d < most_devices) }
+    {
+        if self.devices.has_set(r) {
+            self.devices.among(r, devices)
+        } else {
+            self.search_among(r, devices)
+        }
+    }
+
+    /// The devices of this set to which the run has an access, by going over the devices.
+    fn search_among(&self, r: RunNo, devices: &DeviceSet) -> DeviceSet
+        ensures { (d : ℕ) → set.contains result d ≡ (has_access r.0 (accesses_at self.now d) && set.contains devices.now d) }
+    {
+        let mut found = DeviceSet::none();
+        'devices: for d in 0..self.lineages.len() {
+            let device = DeviceNo(d as u16);
+            if self.lineages[d].access(r).is_some() && devices.has(device) {
+                found.add(device);
+            }
+        }
+        found
+    }
+
     /// How many more accesses the device takes.
     pub fn room(&self, d: DeviceNo) -> u64
         requires { d.0 < length self.now }
@@ -283,7 +314,7 @@ impl Table {
         requires wrote { IsSome (written_by r.0 (accesses_at self.old d.0)) }
         ensures { self.new ≡ with_lineage self.old d.0 (settled r.0) }
     {
-        take_out_through(&mut self.devices, &self.lineages[d.0 as usize], d, r);
+        take_out_through(&mut self.devices, self.lineages[d.0 as usize].chain(), d, r);
         self.lineages[d.0 as usize].settle(r);
         self.lineages[d.0 as usize].kept();
     }
@@ -308,15 +339,18 @@ impl Table {
 }
 
 /// Takes the device out of the sets of the run and of those whose accesses stand before its own.
-fn take_out_through(devices: &mut RunDevices, lineage: &Lineage, d: DeviceNo, r: RunNo)
+fn take_out_through(devices: &mut RunDevices, accesses: &Chain<Access>, d: DeviceNo, r: RunNo)
     requires device { d.0 < most_devices }
-    requires access { IsTrue (has_access r.0 lineage.now.accesses) }
-    ensures { HasLess (λ q. has_access q (before r.0 lineage.now.accesses) || (q == r.0)) d.0 devices.old devices.new }
+    requires access { IsTrue (has_access r.0 (values_of accesses.now.pairs)) }
+    ensures { HasLess (λ q. has_access q (before r.0 (values_of accesses.now.pairs)) || (q == r.0)) d.0 devices.old devices.new }
 {
-    'leaving: for at in 0..lineage.place(r) {
-        devices.remove(lineage.run_at(at), d);
+    'leaving: for (_, access) in accesses.iter() {
+        devices.remove(access.run, d);
+        if access.run == r {
+            return;
+        }
     }
-    devices.remove(r, d);
+    unreachable!()
 }
 
 /// For each device that a home may have, how many runs of the roster have it in their footprint. Goes over the commands

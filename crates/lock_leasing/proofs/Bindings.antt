@@ -181,7 +181,7 @@ followed_is w n r history marks ends items = at (followed_by w.runs r)
     at (Some f) = ap (λ o. if unwrap_or (option_map is_committing o) false then up_to (last_place (is_ran f.0) (items_of marks)) else 0) (ends f.0) ∙ by_end f (is_committed n f.0) refl
 
 -- before the first live run
-front_is : (n : Reading) (g : Grips) (marks : List Mark) → IsLineOf n.line (item_has_touched n g) (has_ended n) marks → ((q : ℕ) → list_any (is_ran q) n.line ≡ true → is_some (n.run q).placed ≡ true) → front_of marks ≡ up_to_first (of_run (is_live n)) n.line
+pub front_is : (n : Reading) (g : Grips) (marks : List Mark) → IsLineOf n.line (item_has_touched n g) (has_ended n) marks → ((q : ℕ) → list_any (is_ran q) n.line ≡ true → is_some (n.run q).placed ≡ true) → front_of marks ≡ up_to_first (of_run (is_live n)) n.line
 front_is n g marks is placed = front_in_line is ∙ up_to_first_same (of_run (λ q. not (has_ended n q))) (of_run (is_live n)) n.line (each n.line placed)
   where
     lives : (o : OfRun) → is_some o.placed ≡ true → not (is_some o.ended) ≡ (is_some o.placed && is_none o.ended)

@@ -1,8 +1,10 @@
 -- The places behind which nothing must stand before a run: those of every scheduler are such places.
 use Rattle.command_rules.specs.Items.{is_ran, of_run}
 use Rattle.command_rules.specs.Rosters.{follows, touches}
+use Rattle.history_book.proofs.Sealed.{first_within}
 use Rattle.history_book.specs.Lines.{Split, is_event_on, split_at}
 use Rattle.history_book.specs.Readings.{Reading, is_committed, is_live}
+use Rattle.history_book.specs.Sealed.{sealed_in}
 use Rattle.history_book.specs.Settings.{Setting, devices_of, is_device, scheduler_of}
 use Rattle.home_types.specs.declared.items.Item.TheVariants.{Back, Failed, Ran}
 use Rattle.home_types.specs.declared.items.Item.{Item}
@@ -20,9 +22,10 @@ use Rattle.std.proofs.lemmas.List.{take-append-drop}
 use Rattle.std.specs.List.{list_any, range_with_len}
 use Rattle.std.specs.Prelude.{Bool, List, None, Option, Some, [], drop, false, find, if◌then◌else◌, length, max, nat_le, option_map, suc, take, true, unwrap_or, zero, ℕ, ◌&&◌, ◌+◌, ◌-◌, ◌<◌, ◌==◌, ◌||◌, ◌∷◌, ◌≡◌, ◌≤◌}
 
--- a place of the line for the run, with nothing behind it that must stand before
+-- a place of the line for the run, behind what is sealed, with nothing behind it that must stand before
 pub record IsPlaceFor (w : Setting) (n : Reading) (g : Grips) (r at : ℕ) : Type 0 where
   pub clear : IsClear w n g r at
+  pub sealed : sealed_in n ≤ at
   pub within : at ≤ length n.line
 
 -- The first place
@@ -34,14 +37,6 @@ last_within test (i ∷ is) = at (list_any test (i ∷ is)) (last_within test is
     at : (b : Bool) → up_to_last test is ≤ length is → (if b then up_to_last test is + 1 else 0) ≤ length (i ∷ is)
     at true behind = omega (arith, behind)
     at false behind = omega arith
-
-first_within : (test : Item → Bool) (is : List Item) → up_to_first test is ≤ length is
-first_within test [] = omega arith
-first_within test (i ∷ is) = at (test i) (first_within test is)
-  where
-    at : (b : Bool) → up_to_first test is ≤ length is → (if b then 0 else up_to_first test is + 1) ≤ length (i ∷ is)
-    at true behind = omega arith
-    at false behind = omega (arith, behind)
 
 -- it is one of the line
 pub place_within : (w : Setting) (n : Reading) (g : Grips) (r : ℕ) → first_place w n g r ≤ length n.line
@@ -79,6 +74,13 @@ clear_from w n g r at from = none_behind (binds w n g r) n.line at (first (up_to
     first : (a b k : ℕ) → max a b ≤ k → a ≤ k
     first a b k h = grind (arith, common_steps)
 
+-- .. and behind what is sealed
+behind_sealed : (w : Setting) (n : Reading) (g : Grips) (r at : ℕ) → first_place w n g r ≤ at → sealed_in n ≤ at
+behind_sealed w n g r at from = last (up_to_last (binds w n g r) n.line) (sealed_in n) at from
+  where
+    last : (a b k : ℕ) → max a b ≤ k → b ≤ k
+    last a b k h = grind (arith, common_steps)
+
 -- .. and so is the end
 pub clear_at_end : (w : Setting) (n : Reading) (g : Grips) (r : ℕ) → IsClear w n g r (length n.line)
 clear_at_end w n g r = clear_from w n g r (length n.line) (place_within w n g r)
@@ -90,7 +92,7 @@ abbrev pub StandsAt : Setting → Reading → Grips → ℕ → Split → Type 0
 StandsAt w n g r s = (s ≡ split_at n.line (length s.front)) × IsPlaceFor w n g r (length s.front)
 
 stands_at : (w : Setting) (n : Reading) (g : Grips) (r at : ℕ) (s : Split) → first_place w n g r ≤ at → at ≤ length n.line → At (split_at n.line at) ≡ At s → StandsAt w n g r s
-stands_at w n g r at s from within is = subst (StandsAt w n g r) same (ap (split_at n.line) (sym size), subst (IsPlaceFor w n g r) (sym size) (record { clear = clear_from w n g r at from; within = within }))
+stands_at w n g r at s from within is = subst (StandsAt w n g r) same (ap (split_at n.line) (sym size), subst (IsPlaceFor w n g r) (sym size) (record { clear = clear_from w n g r at from; sealed = behind_sealed w n g r at from; within = within }))
   where
     placed : Placing → Split
     placed (At s) = s

@@ -2,6 +2,7 @@
 use Rattle.command_rules.specs.Items.{of_run}
 use Rattle.command_rules.specs.Rosters.{follows, reads_first, touches}
 use Rattle.history_book.specs.Lines.{Split, split_at}
+pub use Rattle.history_book.specs.Lines.{up_to_first}
 use Rattle.history_book.specs.Plans.{planned_end, planned_start, planned_times, split_of}
 use Rattle.history_book.specs.Readings.{Planned, Reading, has_written, is_committed, is_doomed, is_live, is_next_on, next_of, nothing_read, passed_by}
 use Rattle.history_book.specs.Settings.{Setting, devices_of, is_device, scheduler_of}
@@ -22,11 +23,6 @@ use Rattle.std.specs.Prelude.{Bool, IsTrue, List, None, Option, Some, [], drop, 
 abbrev pub up_to_last : (Item → Bool) → List Item → ℕ
 up_to_last test [] = 0
 up_to_last test (i ∷ is) = if list_any test (i ∷ is) then up_to_last test is + 1 else 0
-
--- the number of items before the first one of which the test holds
-abbrev pub up_to_first : (Item → Bool) → List Item → ℕ
-up_to_first test [] = 0
-up_to_first test (i ∷ is) = if test i then 0 else up_to_first test is + 1
 
 -- the item must stand before the new run: it has touched one of its devices, or is the committed run that it follows
 abbrev pub binds : Setting → Reading → Grips → ℕ → Item → Bool

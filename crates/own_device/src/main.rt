@@ -10,12 +10,16 @@ ghost use Rattle.routine_reader.specs.Sound.{IsSound};
 use day_report::window_text;
 use device_states::Device;
 use history_book::WindowRecord;
-use home_types::List;
+use home_types::{Item, List};
+use hub_core::Hub;
 use radio_devices::RadioDevice;
 use routine_reader::{Script, read_script};
 use std::io::Write;
 use std::process::ExitCode;
-use windows::{MODE, open_first, work};
+use windows::{MODE, MOST_TURNS, open_first, work};
+
+/// After so many turns the order is printed as far as it is final.
+const FIRST_TURNS: u64 = 7;
 
 /// A lamp, a heating and a fan, and one window with three runs and one round of probes.
 const SCRIPT: &str = r#"{"safehome": 1, "devices": [
@@ -39,7 +43,8 @@ fn main(rt: HostRuntime) -> ExitCode {
     }
 }
 
-/// Works the script's window, and prints it with its history, and the counts of each device. None where that fails.
+/// Works the script's window, and prints its order as far as it is final after some turns, then the window with its
+/// history, and the counts of each device. None where that fails.
 fn run(rt: &HostRuntime) -> Option<()> {
     match read_script(rt.alloc(), SCRIPT.as_bytes()) {
         Ok(script) => {
@@ -55,10 +60,12 @@ fn play(rt: &HostRuntime, script: &Script) -> Option<()>
     requires sound { IsSound (plain_script script.now) }
 {
     let mut hub = open_first(rt.alloc(), script)?;
-    work(&mut hub);
+    work(&mut hub, 0, FIRST_TURNS);
+    let shown = print_final(rt, script, &hub);
+    work(&mut hub, FIRST_TURNS, MOST_TURNS);
     match hub.close_window() {
         Ok((home, closed)) => {
-            let told = print_window(rt, script, &closed);
+            let told = shown.and(print_window(rt, script, &closed));
             drop(closed);
             let devices = home.into_devices();
             let counted = print_counts(rt, script, &devices);
@@ -68,6 +75,29 @@ fn play(rt: &HostRuntime, script: &Script) -> Option<()>
         Err((hub, _)) => {
             drop(hub);
             None
+        }
+    }
+}
+
+/// The items that are final stay first in the line, in this order, whatever comes; so the record's order begins with them.
+fn print_final(rt: &HostRuntime, script: &Script, hub: &Hub<RadioDevice>) -> Option<()> {
+    print!(rt; "final after {FIRST_TURNS} turns:").ok()?;
+    for at in 0..hub.sealed() {
+        print_item(rt, script, hub.final_item(at)?)?;
+    }
+    println!(rt; "").ok()
+}
+
+fn print_item(rt: &HostRuntime, script: &Script, item: Item) -> Option<()> {
+    match item {
+        Item::Ran(run) => print!(rt; " {}", run.0).ok(),
+        Item::Failed(device, _) => {
+            let name = script.devices.get(device.0 as u64)?.name.as_str();
+            print!(rt; " fail({name})").ok()
+        }
+        Item::Back(device, _) => {
+            let name = script.devices.get(device.0 as u64)?.name.as_str();
+            print!(rt; " back({name})").ok()
         }
     }
 }

@@ -17,7 +17,7 @@ pub const MODE: Mode = Mode {
 };
 
 /// In so many turns the example's runs have ended.
-const MOST_TURNS: u64 = 64;
+pub const MOST_TURNS: u64 = 64;
 
 /// The turn, from 0, in which every device is probed.
 const PROBING_TURN: u64 = 5;
@@ -33,9 +33,10 @@ pub fn open_first(alloc: Global, script: &Script) -> Option<Hub<RadioDevice>>
     home.open_window(alloc, roster, MODE, window.probes).ok()
 }
 
-/// Steps each run, turn after turn, 1 ms each, until nothing is left to do. In one turn every device is probed.
-pub fn work<D: Device>(hub: &mut Hub<D>) {
-    for turn in 0..MOST_TURNS {
+/// Steps each run, turn after turn, 1 ms each, from this turn until that one, or until nothing is left to do. In one turn
+/// every device is probed.
+pub fn work<D: Device>(hub: &mut Hub<D>, from: u64, until: u64) {
+    for turn in from..until {
         if hub.quiet().is_none() {
             return;
         }

@@ -82,7 +82,7 @@ fn fail(
     if d.0 as u32 >= table.devices() || has_access(table, d, RunNo(0)) || !table.is_up(d) {
         return Err(NoMemory);
     }
-    if line.len() >= 64 || line.place_of(Item::Failed(d, 1)).is_some() {
+    if line.len() >= 64 || line.place_of(Item::Failed(d, 1)).is_some() || line.sealed() != 0 {
         return Err(NoMemory);
     }
     line.reserve(1)?;
@@ -94,7 +94,7 @@ fn restart(line: &mut Line, table: &mut Table, book: &Book, d: DeviceNo) -> Resu
     if d.0 as u32 >= table.devices() || has_access(table, d, RunNo(0)) || table.is_up(d) {
         return Err(NoMemory);
     }
-    if line.len() >= 64 || line.place_of(Item::Back(d, 1)).is_some() {
+    if line.len() >= 64 || line.place_of(Item::Back(d, 1)).is_some() || line.sealed() != 0 {
         return Err(NoMemory);
     }
     line.reserve(1)?;

@@ -1,11 +1,13 @@
 //! Each call of a table once, on a heater that one run uses.
-ghost use Rattle.std.specs.Prelude.{◌≡◌, ◌<◌, IsTrue, Some, length, position};
-ghost use Rattle.lineage_table.specs.Accesses.{before, has_access, is_of, some_acquired, some_scheduled, status_of};
+ghost use Rattle.std.specs.Prelude.{◌≡◌, ◌<◌, IsTrue, Some, length};
+ghost use Rattle.chain_arena.specs.Chains.{values_of};
+ghost use Rattle.lineage_table.specs.Accesses.{before, has_access, some_acquired, some_scheduled, status_of};
 ghost use Rattle.lineage_table.specs.Lineages.{accesses_at};
 
+use chain_arena::Chain;
 use command_rules::{Roster, RosterRun};
-use home_types::{Command, DeviceNo, Job, List, NoMemory, Routine, RunNo, Stand, World};
-use lineage_table::{Access, Status, Table, View};
+use home_types::{Command, DeviceNo, DeviceSet, Job, List, NoMemory, Routine, RunNo, Stand, World};
+use lineage_table::{Access, Status, Table, View, knot_behind, knot_from};
 use std::alloc::Global;
 
 const HEAT: DeviceNo = DeviceNo(0);
@@ -40,7 +42,7 @@ fn table(alloc: Global) -> Result<Table, NoMemory> {
 fn schedule(table: &mut Table, d: DeviceNo, run: RunNo) -> bool
     requires { d.0 < length table.old }
 {
-    let may = table.room(d) > 0 && !has_access(table.accesses(d), run);
+    let may = table.room(d) > 0 && !has_access(table, d, run);
     if may {
         let access = Access {
             run,
@@ -59,10 +61,10 @@ fn schedule(table: &mut Table, d: DeviceNo, run: RunNo) -> bool
 fn acquire(table: &mut Table, d: DeviceNo, r: RunNo, view: View) -> bool
     requires { d.0 < length table.old }
 {
-    let accesses = table.accesses(d);
+    let accesses = table.chain(d);
     let may = has_status(table, d, r, Status::Scheduled)
         && !some_acquired(accesses)
-        && !some_scheduled(before(accesses, r));
+        && !some_scheduled_before(accesses, r);
     if may {
         table.acquire(d, r, view);
     }
@@ -82,42 +84,37 @@ fn settle(table: &mut Table, d: DeviceNo, r: RunNo) -> bool
     may
 }
 
-fn has_access(accesses: &[Access], r: RunNo) -> bool
-    ensures { result ≡ has_access r.0 accesses.now }
+fn has_access(table: &Table, d: DeviceNo, r: RunNo) -> bool
+    requires { d.0 < length table.now }
+    ensures { result ≡ has_access r.0 (accesses_at table.now d.0) }
 {
-    accesses.iter().any(|access| access.run == r)
+    table.access(d, r).is_some()
 }
 
-fn some_acquired(accesses: &[Access]) -> bool
-    ensures { result ≡ some_acquired accesses.now }
+fn some_acquired(accesses: &Chain<Access>) -> bool
+    ensures { result ≡ some_acquired (values_of accesses.now.pairs) }
 {
-    accesses
-        .iter()
-        .any(|access| matches!(access.status, Status::Acquired))
-}
-
-fn some_scheduled(accesses: &[Access]) -> bool
-    ensures { result ≡ some_scheduled accesses.now }
-{
-    accesses
-        .iter()
-        .any(|access| matches!(access.status, Status::Scheduled))
-}
-
-/// The accesses before that of the run.
-fn before(accesses: &[Access], r: RunNo) -> &[Access]
-    ensures { result.now ≡ before r.0 accesses.now }
-{
-    match place_of(accesses, r) {
-        Some(at) => &accesses[..at],
-        None => accesses,
+    'accesses: for (_, access) in accesses.iter() {
+        if matches!(access.status, Status::Acquired) {
+            return true;
+        }
     }
+    false
 }
 
-fn place_of(accesses: &[Access], r: RunNo) -> Option<usize>
-    ensures { result ≡ position (is_of r.0) accesses.now }
+/// Whether an access before that of the run waits for its first answer.
+fn some_scheduled_before(accesses: &Chain<Access>, r: RunNo) -> bool
+    ensures { result ≡ some_scheduled (before r.0 (values_of accesses.now.pairs)) }
 {
-    accesses.iter().position(|access| access.run == r)
+    'accesses: for (_, access) in accesses.iter() {
+        if access.run == r {
+            return false;
+        }
+        if matches!(access.status, Status::Scheduled) {
+            return true;
+        }
+    }
+    false
 }
 
 /// Whether the access of the run has the status.
@@ -131,11 +128,23 @@ fn has_status(table: &Table, d: DeviceNo, r: RunNo, status: Status) -> bool
     }
 }
 
+/// Whether the access of the run is the only one to the device, as one who goes along them finds.
+fn goes_along(table: &Table, d: DeviceNo, r: RunNo) -> bool
+    requires { d.0 < length table.now }
+{
+    table.kept();
+    let accesses = table.chain(d);
+    let first = knot_behind(accesses, None, None);
+    first.is_some()
+        && first == knot_from(accesses, r, first)
+        && knot_behind(accesses, Some(r), first).is_none()
+}
+
 #[test]
 fn keeps_the_lineage_of_a_device(rt: HostRuntime) {
     let mut table = table(rt.alloc()).expect(&rt, "memory");
     assert!(rt; table.devices() == 1);
-    assert!(rt; table.room(HEAT) == 1 && table.accesses(HEAT).is_empty());
+    assert!(rt; table.room(HEAT) == 1 && table.chain(HEAT).first().is_none());
     table.set_committed(HEAT, 21);
     assert!(rt; schedule(&mut table, HEAT, A));
     assert!(rt; table.devices() == 1);
@@ -158,6 +167,11 @@ fn keeps_the_lineage_of_a_device(rt: HostRuntime) {
     assert!(rt; table.first_before(HEAT, RunNo(2), |access| access.run == A) == Some(A));
     assert!(rt; table.run_behind(HEAT, A).is_none());
     assert!(rt; table.next_device(A, DeviceNo(0)) == Some(HEAT));
+    assert!(rt; goes_along(&table, HEAT, A));
+    let mut heaters = DeviceSet::none();
+    heaters.add(HEAT);
+    assert!(rt; table.devices_among(A, &heaters).has(HEAT));
+    assert!(rt; !table.devices_among(RunNo(9), &heaters).has(HEAT));
     assert!(rt; settle(&mut table, HEAT, A));
     assert!(rt; table.devices() == 1);
     table.undone(HEAT, A);

@@ -1,4 +1,5 @@
 pub mod Marks
+pub mod Labels
 pub mod RunPlaces
 pub mod Lines
 pub mod Ties

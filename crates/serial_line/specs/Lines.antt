@@ -1,4 +1,5 @@
 -- What is true of the fields of each line.
+use Rattle.serial_line.specs.Labels.{AreLabels}
 use Rattle.serial_line.specs.Marks.{all_differ, front_of, items_of}
 use Rattle.serial_line.specs.RunPlaces.{ArePlaces}
 use Rattle.serial_line.specs.declared.lines.Line.TheInside.{Inside}
@@ -10,3 +11,7 @@ pub record IsSound (line : Inside) : Type 0 where
   pub few : vec_len line.entries + line.spare < 2 ^ 32
   pub places : ArePlaces line.entries.items line.places
   pub front : line.front ≡ front_of line.entries.items
+  pub labelled : vec_len line.labels ≡ vec_len line.entries
+  pub labels : AreLabels line.labels.items
+  pub label_room : vec_len line.labels + line.spare ≤ vec_capacity line.labels
+  pub sealed : line.sealed ≤ vec_len line.entries

@@ -16,17 +16,19 @@ pub record Mark : Type 0 where
   pub touched : Devices
   pub ended : Bool
 
--- the line, and how many more items it takes with no memory
+-- the line, the labels of its items in their order, how many more items it takes with no memory, and how many of its first items are sealed
 pub record Marked : Type 0 where
   pub marks : List Mark
+  pub labels : List ℕ
   pub spare : ℕ
+  pub sealed : ℕ
 
 -- a mark is stored as the tuple of its fields, and a line too
 abbrev pub mark_code : Coded Mark
 mark_code = code_by (Item × (Devices × Bool)) (coded× the_item.the_row.coded (coded× (set.code coded_ℕ) coded_bool)) (λ m. (m.item, (m.touched, m.ended))) (λ p. record { item = p.0; touched = p.1.0; ended = p.1.1 }) (λ m. refl)
 
 abbrev pub marked_code : Coded Marked
-marked_code = code_by (List Mark × ℕ) (coded× (coded_list mark_code) coded_ℕ) (λ l. (l.marks, l.spare)) (λ p. record { marks = p.0; spare = p.1 }) (λ l. refl)
+marked_code = code_by (List Mark × (List ℕ × (ℕ × ℕ))) (coded× (coded_list mark_code) (coded× (coded_list coded_ℕ) (coded× coded_ℕ coded_ℕ))) (λ l. (l.marks, (l.labels, (l.spare, l.sealed)))) (λ p. record { marks = p.0; labels = p.1.0; spare = p.1.1.0; sealed = p.1.1.1 }) (λ l. refl)
 
 abbrev pub items_of : List Mark → List Item
 items_of marks = map (λ m. m.item) marks

@@ -3,5 +3,6 @@
 
 mod entries;
 mod lines;
+mod order_labels;
 
 pub use lines::Line;

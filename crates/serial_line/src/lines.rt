@@ -1,10 +1,12 @@
-ghost use Rattle.std.specs.Prelude.{◌≡◌, true, false, if◌then◌else◌, ◌+◌, ◌<◌, ◌≤◌, ◌^◌, [], is_some, length, max, slice_get, IfSome, OnOk, OnErr};
+ghost use Rattle.std.specs.Prelude.{◌≡◌, true, false, if◌then◌else◌, ◌+◌, ◌<◌, ◌≤◌, ◌^◌, [], is_some, length, max, remove, slice_get, take, IfSome, OnOk, OnErr};
 ghost use Rattle.home_types.specs.Limits.{most_devices};
 ghost use Rattle.home_types.specs.declared.items.Item.TheVariants.{Ran};
+ghost use Rattle.serial_line.specs.Labels.{LabelsAreInOrder, has_free, is_sealed, label_of};
 ghost use Rattle.serial_line.specs.Marks.{all_differ, front_of, has_touched, items_of, last_meeting, place_of, settling, stands, touching, with_item, without};
 ghost use Rattle.serial_line.specs.RunPlaces.{ArePlaces, ArePlacesBefore, with_place};
 
 use crate::entries::Entry;
+use crate::order_labels::{insert_label, remove_label};
 use home_types::{DeviceNo, DeviceSet, Item, NoMemory, RunNo, limits};
 use std::alloc::Global;
 use std::marker::Model;
@@ -12,16 +14,23 @@ use std::marker::Model;
 /// The places that are kept: one for each run that a window may have, by its number.
 const PLACES: usize = limits::RUNS as usize + 1;
 
-/// The line of a window: its items in their order. Contracts see each with the devices that it has
-/// touched and whether it is a run that has ended, and beside them how many more the line takes with no memory.
+/// The line of a window: its items in their order, each with a label, by which two of them are compared. The first items
+/// may be sealed: no item comes between them any more, and none of them leaves.
+///
+/// Contracts see each item with the devices that it has touched and whether it is a run that has ended, the labels in the
+/// same order, how many more items the line takes with no memory, and how many are sealed.
 #[derive(Drop)]
 pub struct Line {
     entries: Vec<Entry>,
+    // of each item, in the order of the items
+    labels: Vec<u64>,
     spare: u32,
     // where each run stands, so that a question about a run looks at no other item
     places: [Option<u32>; PLACES],
     // how many items stand before the first run that has not ended
     front: u32,
+    // how many of the first items are sealed
+    sealed: u32,
 }
 
 impl Model for Line {
@@ -33,7 +42,7 @@ impl Model for Line {
 
     ghost use Rattle.serial_line.specs.Lines.{IsSound};
 
-    ghost view = { λ l. record { marks = l.entries.items; spare = l.spare } };
+    ghost view = { λ l. record { marks = l.entries.items; labels = l.labels.items; spare = l.spare; sealed = l.sealed } };
 
     ghost invariant = { IsSound };
 }
@@ -42,24 +51,30 @@ impl Line {
     /// Makes an empty line. Takes no memory.
     pub fn new(alloc: Global) -> Line
         ensures empty { result.marks ≡ [] }
+        ensures no_label { result.labels ≡ [] }
         ensures no_room { result.spare ≡ 0 }
+        ensures none_sealed { result.sealed ≡ 0 }
         ensures few { length result.marks + result.spare < 2 ^ 32 }
     {
         Line {
             entries: Vec::new(alloc),
+            labels: Vec::new(alloc),
             spare: 0,
             places: [None; PLACES],
             front: 0,
+            sealed: 0,
         }
     }
 
-    /// Makes room for `n` more items and for no more than these, or answers `NoMemory`. The items stay in both cases, and
-    /// so does the room that there was.
+    /// Makes room for `n` more items and for no more than these, or answers `NoMemory`. The items and their labels stay in
+    /// both cases, and so does the room that there was.
     ///
     /// Asks that the items and the `n` together are below 2^32.
     pub fn reserve(&mut self, n: u64) -> Result<(), NoMemory>
         requires few { length self.old.marks + n < 2 ^ 32 }
         ensures marks { self.new.marks ≡ self.old.marks }
+        ensures labels { self.new.labels ≡ self.old.labels }
+        ensures sealed { self.new.sealed ≡ self.old.sealed }
         ensures room { OnOk result (self.new.spare ≡ max self.old.spare n) }
         ensures kept { self.old.spare ≤ self.new.spare }
         ensures refused { OnErr result (self.new ≡ self.old) }
@@ -67,7 +82,10 @@ impl Line {
     {
         let more = n as u32;
         if self.spare < more {
-            match self.entries.reserve_exact(n as usize) {
+            if self.entries.reserve_exact(n as usize).is_err() {
+                return Err(NoMemory);
+            }
+            match self.labels.reserve_exact(n as usize) {
                 Ok(()) => self.spare = more,
                 Err(_) => return Err(NoMemory),
             }
@@ -76,19 +94,25 @@ impl Line {
     }
 
     /// Puts an item at the place `at`, counted from 0: a run that has touched nothing, or an event.
-    /// The others stay in their order, with their touches. Takes no memory, and uses one place of the
-    /// room.
+    /// The others stay in their order, with their touches, and with their labels where one is free for the item; else those
+    /// of the items that are not sealed are given anew. Takes no memory, and uses one place of the room.
     ///
-    /// Asks for room, for a place up to the end, and for an item that is not in the line.
+    /// Asks for room, for a place up to the end and behind the items that are sealed, and for an item that is not in the
+    /// line.
     pub fn insert(&mut self, at: u32, item: Item)
         requires room { 0 < self.old.spare }
         requires place { at ≤ length self.old.marks }
+        requires unsealed { self.old.sealed ≤ at }
         requires absent { stands item self.old.marks ≡ false }
         ensures marks { self.new.marks ≡ with_item at item self.old.marks }
         ensures spare { self.new.spare + 1 ≡ self.old.spare }
+        ensures sealed { self.new.sealed ≡ self.old.sealed }
+        ensures final_labels { take self.old.sealed self.new.labels ≡ take self.old.sealed self.old.labels }
+        ensures labels { has_free 0 at self.old.labels ≡ true → remove self.new.labels at ≡ self.old.labels }
     {
         let inserted = self.entries.insert(at as usize, Entry::new(item));
         inserted.unwrap();
+        insert_label(&mut self.labels, at, self.sealed);
         self.spare -= 1;
         let entries = self.entries.as_slice();
         tell_places(&mut self.places, entries, at);
@@ -96,15 +120,21 @@ impl Line {
     }
 
     /// Takes a run out, and keeps its room; answers whether it was there. The others stay in their
-    /// order, with their touches.
+    /// order, with their touches, and those that are sealed with their labels.
+    ///
+    /// Asks that the run is none of those that are sealed.
     pub fn remove(&mut self, run: RunNo) -> bool
+        requires unsealed { is_sealed (Ran run) self.old ≡ false }
         ensures was_there { result ≡ stands (Ran run) self.old.marks }
         ensures marks { self.new.marks ≡ without run.0 self.old.marks }
         ensures spare { self.new.spare ≡ (if result then self.old.spare + 1 else self.old.spare) }
+        ensures sealed { self.new.sealed ≡ self.old.sealed }
+        ensures final_labels { take self.old.sealed self.new.labels ≡ take self.old.sealed self.old.labels }
     {
         match self.place_of(Item::Ran(run)) {
             Some(at) => {
                 self.entries.remove(at as usize);
+                remove_label(&mut self.labels, at, self.sealed);
                 self.spare += 1;
                 let entries = self.entries.as_slice();
                 tell_place(&mut self.places, Item::Ran(run), None);
@@ -122,7 +152,9 @@ impl Line {
         requires run { stands (Ran run) self.old.marks ≡ true }
         requires device { device.0 < most_devices }
         ensures marks { self.new.marks ≡ touching run.0 device.0 self.old.marks }
+        ensures labels { self.new.labels ≡ self.old.labels }
         ensures spare { self.new.spare ≡ self.old.spare }
+        ensures sealed { self.new.sealed ≡ self.old.sealed }
     {
         if let Some(at) = self.place_of(Item::Ran(run)) {
             self.entries[at as usize].touch(run, device);
@@ -132,7 +164,9 @@ impl Line {
     /// The run, where it is in the line, has ended, and stays there. Takes no memory.
     pub fn settle(&mut self, run: RunNo)
         ensures marks { self.new.marks ≡ settling run.0 self.old.marks }
+        ensures labels { self.new.labels ≡ self.old.labels }
         ensures spare { self.new.spare ≡ self.old.spare }
+        ensures sealed { self.new.sealed ≡ self.old.sealed }
     {
         if let Some(at) = self.place_of(Item::Ran(run)) {
             self.entries[at as usize].settle();
@@ -142,9 +176,43 @@ impl Line {
 
     /// How many items stand before the first run that has not ended: all where there is none. Looks at no item.
     pub fn front(&self) -> u32
-        ensures { result ≡ front_of self.now.marks }
+        ensures front { result ≡ front_of self.now.marks }
+        ensures within { result ≤ length self.now.marks }
     {
         self.front
+    }
+
+    /// How many of the first items are sealed: these stay, in their places and with their labels.
+    pub fn sealed(&self) -> u32
+        ensures sealed { result ≡ self.now.sealed }
+        ensures within { result ≤ length self.now.marks }
+    {
+        self.sealed
+    }
+
+    /// The first `upto` items are sealed from now on. Takes no memory.
+    ///
+    /// Asks for no fewer than are sealed, and for no more than there are.
+    pub fn seal(&mut self, upto: u32)
+        requires grows { self.old.sealed ≤ upto }
+        requires within { upto ≤ length self.old.marks }
+        ensures { self.new ≡ record self.old { sealed = upto } }
+    {
+        self.sealed = upto;
+    }
+
+    /// The label of an item: of two items of the line the earlier one has the smaller label. `None` where the item is not in
+    /// the line.
+    pub fn label(&self, item: Item) -> Option<u64>
+        ensures label { result ≡ label_of item self.now }
+        ensures there { is_some result ≡ stands item self.now.marks }
+        ensures in_order { LabelsAreInOrder self.now }
+        ensures each { length self.now.labels ≡ length self.now.marks }
+    {
+        match self.place_of(item) {
+            Some(at) => Some(self.labels[at as usize]),
+            None => None,
+        }
     }
 
     /// The place of an item, counted from 0; no item stands twice. `None` where it is not in the line.
@@ -195,6 +263,7 @@ impl Line {
     pub fn len(&self) -> u32
         ensures len { result ≡ length self.now.marks }
         ensures few { length self.now.marks + self.now.spare < 2 ^ 32 }
+        ensures sealed { self.now.sealed ≤ length self.now.marks }
     {
         self.entries.len() as u32
     }

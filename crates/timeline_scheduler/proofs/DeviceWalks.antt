@@ -1,7 +1,8 @@
 -- The devices of which a test holds, found by a walk from one to the next.
+use Rattle.home_types.specs.DeviceSets.{IsFirstFrom}
 use Rattle.std.proofs.Common.{ap, ap₂, arith, cond, sym, ◌∙◌}
 use Rattle.std.specs.List.{list_all, range_with_len}
-use Rattle.std.specs.Prelude.{Bool, List, [], false, filter, fold, suc, true, zero, ℕ, ◌&&◌, ◌+◌, ◌-◌, ◌<◌, ◌∷◌, ◌≡◌, ◌≤◌}
+use Rattle.std.specs.Prelude.{Bool, List, None, Some, [], false, filter, fold, suc, true, zero, ℕ, ◌&&◌, ◌+◌, ◌-◌, ◌<◌, ◌∷◌, ◌≡◌, ◌≤◌}
 
 -- those of so many devices that are left from this one on
 abbrev pub rest : (ℕ → Bool) → ℕ → ℕ → List ℕ
@@ -34,6 +35,13 @@ module _ (p : ℕ → Bool) where
   rest_none n from none =
       let size : n - from ≡ (n - from) + 0 = omega arith in
       ap (λ k. filter p (range_with_len from k)) size ∙ skipped from (n - from) 0 (λ e above below. none e above)
+
+-- two tests that agree find the same one
+pub next_alike : (p q : ℕ → Bool) → ((d : ℕ) → p d ≡ q d) → (from d : ℕ) → IsFirstFrom p from (Some d) → IsFirstFrom q from (Some d)
+next_alike p q same from d next = (next.0, sym (same d) ∙ next.1, λ e low high. sym (same e) ∙ next.2 e low high)
+
+pub none_alike : (p q : ℕ → Bool) → ((d : ℕ) → p d ≡ q d) → (from : ℕ) → IsFirstFrom p from None → IsFirstFrom q from None
+none_alike p q same from none e low = sym (same e) ∙ none e low
 
 -- A fold over them
 

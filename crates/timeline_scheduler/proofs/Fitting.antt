@@ -10,6 +10,7 @@ use Rattle.home_types.specs.declared.items.Item.TheVariants.{Back, Failed, Ran}
 use Rattle.home_types.specs.declared.items.Item.{Item}
 use Rattle.home_types.specs.declared.modes.Scheduler.TheVariants.{Fcfs, JustInTime, Timeline}
 use Rattle.home_types.specs.declared.modes.Scheduler.{Scheduler}
+use Rattle.lineage_table.specs.Accesses.{behind_run}
 use Rattle.lineage_table.specs.Lineages.{LineageState, accesses_at}
 use Rattle.lineage_table.specs.declared.accesses.Access.{Access}
 use Rattle.lock_leasing.proofs.ClearPlaces.{clear_from, clear_touch, none_beside}
@@ -26,9 +27,9 @@ use Rattle.std.proofs.lemmas.List.Folds.{list_any-append}
 use Rattle.std.specs.List.{cons_option, list_all, list_any, range_with_len}
 use Rattle.std.specs.Prelude.{Bool, List, None, Option, Some, [], drop, false, filter, find, fold, if◌then◌else◌, length, map, max, min, nat_le, not, option_map, slice_get, suc, take, true, unwrap_or, zero, ℕ, ◌&&◌, ◌++◌, ◌+◌, ◌<◌, ◌==◌, ◌||◌, ◌∷◌, ◌≡◌, ◌≤◌}
 use Rattle.timeline_scheduler.proofs.HeldTimes.{planned_in_slot}
-use Rattle.timeline_scheduler.proofs.Reached.{IsReached, Shows, get_drop}
+use Rattle.timeline_scheduler.proofs.Reached.{IsReached, Shows}
 use Rattle.timeline_scheduler.specs.Scratches.{HoldsTimes, planned_span}
-use Rattle.timeline_scheduler.specs.Slots.{devices_among, fits_slot, plan_behind, slot_at}
+use Rattle.timeline_scheduler.specs.Slots.{devices_among, fits_slot, is_followed, plan_behind, reads_some, slot_at}
 use Rattle.timeline_scheduler.specs.declared.scratches.Slot.{Slot}
 
 -- Plans
@@ -117,21 +118,24 @@ uncovered w n g f r at d from within used =
 
 -- Fitting
 
+abbrev by_plan : Option (ℕ × ℕ) → Option Access → Bool
+by_plan None next = true
+by_plan (Some used) None = true
+by_plan (Some used) (Some next) = nat_le used.1 next.from
+
+-- the plan ends before the next access starts
+pub fits_next : (xs : List Access) (s : Slot) (used : ℕ × ℕ) (x : Access) → s.planned ≡ Some used → slice_get (behind_run s.last xs) 0 ≡ Some x → nat_le used.1 x.from ≡ fits_slot xs s
+fits_next xs s used x held next = sym (ap (λ o. by_plan o (slice_get (behind_run s.last xs) 0)) held ∙ ap (by_plan (Some used)) next)
+
 module _ (w : Setting) (n : Reading) (g : Grips) (r d : ℕ) (planned : List Planned) (back : List Item) (xs : List Access) (s : Slot) where
   abbrev fits_before : Option ℕ → Bool
   fits_before o = unwrap_or (option_map (λ x. nat_le (planned_end planned d) (planned_start (n.run x).planned d)) o) true
 
-  abbrev by_plan : Option (ℕ × ℕ) → Option Access → Bool
-  by_plan None next = true
-  by_plan (Some used) None = true
-  by_plan (Some used) (Some next) = nat_le used.1 next.from
-
   -- on a device of the run
-  slot_fits : list_any (covers n d) back ≡ false → Shows w n g d back (drop s.passed xs) → s.planned ≡ Some (planned_start planned d, planned_end planned d) → fits_slot xs s ≡ fits_on w n planned back d
+  slot_fits : list_any (covers n d) back ≡ false → Shows w n g d back (behind_run s.last xs) → s.planned ≡ Some (planned_start planned d, planned_end planned d) → fits_slot xs s ≡ fits_on w n planned back d
   slot_fits none shows held =
-      ap (λ o. by_plan o (slice_get xs s.passed)) held
-      ∙ ap (by_plan (Some (planned_start planned d, planned_end planned d))) (get_drop xs s.passed)
-      ∙ by_accesses (drop s.passed xs) shows.0 shows.1
+      ap (λ o. by_plan o (slice_get (behind_run s.last xs) 0)) held
+      ∙ by_accesses (behind_run s.last xs) shows.0 shows.1
       ∙ ap fits_before (sym (first_user w n d back none))
     where
       by_accesses : (ys : List Access) → map (λ x. x.run.0) ys ≡ runs_with_access w n d back → EachTellsOfRun w n g d ys
@@ -151,7 +155,7 @@ all_alike f h p a (suc k) same = by_test (p a) refl (all_alike f h p (a + 1) k (
 
 -- the slots with the planned times tell whether the place fits
 pub fits_told : (w : Setting) (n : Reading) (g : Grips) (f : Facts w n g) (r m at : ℕ) (table : List LineageState) (slots : List Slot) → first_place w n g r ≤ at → length slots ≡ length w.first
-    → ((d : ℕ) → d < length w.first → IsReached w n g r d (take at n.line) (drop at n.line) (accesses_at table d) (slot_at slots d)) → HoldsTimes slots (planned_times w n r (take at n.line) m)
+    → ((d : ℕ) → d < length w.first → is_followed w.runs r d ≡ true → IsReached w n g r d (take at n.line) (drop at n.line) (accesses_at table d) (slot_at slots d)) → HoldsTimes slots (planned_times w n r (take at n.line) m)
     → list_all (λ d. fits_slot (accesses_at table d) (slot_at slots d)) (devices_among w.runs r (length slots)) ≡ fits w n r m (split_at n.line at)
 fits_told w n g f r m at table slots from size reached holds =
     ap (λ k. list_all (λ d. fits_slot (accesses_at table d) (slot_at slots d)) (devices_among w.runs r k)) size
@@ -170,4 +174,4 @@ fits_told w n g f r m at table slots from size reached holds =
 
     one : (d : ℕ) → d < length w.first → touches w.runs r d ≡ true → fits_slot (accesses_at table d) (slot_at slots d) ≡ fits_on w n planned (drop at n.line) d
     one d within on =
-        slot_fits w n g r d planned (drop at n.line) (accesses_at table d) (slot_at slots d) (uncovered w n g f r at d from within on) (reached d within).accesses (sym (planned_in_slot slots d) ∙ holds d ∙ span d on)
+        slot_fits w n g r d planned (drop at n.line) (accesses_at table d) (slot_at slots d) (uncovered w n g f r at d from within on) (reached d within (or_right (reads_some w.runs r) (touches w.runs r d) on)).accesses (sym (planned_in_slot slots d) ∙ holds d ∙ span d on)

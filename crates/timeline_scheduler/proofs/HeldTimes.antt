@@ -75,19 +75,19 @@ holds_more slots q p s within holds is d = planned_in_slot (slice_set slots p.de
 -- What was passed stays
 
 pub leaves_all : (slots : List Slot) → LeavesPassed slots slots
-leaves_all slots = record { size = refl; passed = λ d. refl; free = λ d. refl }
+leaves_all slots = record { size = refl; last = λ d. refl; free = λ d. refl }
 
 pub leaves_then : (a b c : List Slot) → LeavesPassed a b → LeavesPassed b c → LeavesPassed a c
-leaves_then a b c first second = record { size = second.size ∙ first.size; passed = λ d. second.passed d ∙ first.passed d; free = λ d. second.free d ∙ first.free d }
+leaves_then a b c first second = record { size = second.size ∙ first.size; last = λ d. second.last d ∙ first.last d; free = λ d. second.free d ∙ first.free d }
 
-pub leaves_set : (slots : List Slot) (d : ℕ) (s : Slot) → d < length slots → s.passed ≡ (slot_at slots d).passed → s.free ≡ (slot_at slots d).free → LeavesPassed slots (slice_set slots d s)
-leaves_set slots d s within passed free = record { size = length-set slots d s; passed = λ e. kept_passed e (e == d) refl; free = λ e. kept_free e (e == d) refl }
+pub leaves_set : (slots : List Slot) (d : ℕ) (s : Slot) → d < length slots → s.last ≡ (slot_at slots d).last → s.free ≡ (slot_at slots d).free → LeavesPassed slots (slice_set slots d s)
+leaves_set slots d s within last free = record { size = length-set slots d s; last = λ e. kept_last e (e == d) refl; free = λ e. kept_free e (e == d) refl }
   where
-    kept_passed : (e : ℕ) (b : Bool) → (e == d) ≡ b → (slot_at (slice_set slots d s) e).passed ≡ (slot_at slots e).passed
-    kept_passed e true own =
+    kept_last : (e : ℕ) (b : Bool) → (e == d) ≡ b → (slot_at (slice_set slots d s) e).last ≡ (slot_at slots e).last
+    kept_last e true own =
         let same : d ≡ e = grind (arith, common_steps) in
-        subst (λ k. (slot_at (slice_set slots d s) k).passed ≡ (slot_at slots k).passed) same (ap (λ (x : Slot). x.passed) (set_here slots d s within) ∙ passed)
-    kept_passed e false other = let apart : e ≢ d = grind (arith, common_steps) in ap (λ (x : Slot). x.passed) (set_other slots d e s apart)
+        subst (λ k. (slot_at (slice_set slots d s) k).last ≡ (slot_at slots k).last) same (ap (λ (x : Slot). x.last) (set_here slots d s within) ∙ last)
+    kept_last e false other = let apart : e ≢ d = grind (arith, common_steps) in ap (λ (x : Slot). x.last) (set_other slots d e s apart)
 
     kept_free : (e : ℕ) (b : Bool) → (e == d) ≡ b → (slot_at (slice_set slots d s) e).free ≡ (slot_at slots e).free
     kept_free e true own =
@@ -117,7 +117,7 @@ planned_none slots cs m none = record { left = leaves_all slots; times = ([], (�
 pub planned_next : (start slots : List Slot) (cs : List Command) (m k clock from to : ℕ) (c : Command) (s x : Slot) (span : ℕ × ℕ) → IsPlannedTo start slots cs m k clock → k < length cs → slice_index_or cs k c ≡ c → c.device.0 < length slots
     → s ≡ slice_index_or slots c.device.0 s → from ≡ max clock s.free → to ≡ min (from + c.ms) greatest → span ≡ used_again s.planned from to → x ≡ record s { planned = Some span } → IsPlannedTo start (slice_set slots c.device.0 x) cs m (k + 1) to
 planned_next start slots cs m k clock from to c s x span was more own within read starts ends used is = record {
-  left = leaves_then start slots (slice_set slots c.device.0 x) was.left (leaves_set slots c.device.0 x within (ap (λ (y : Slot). y.passed) is ∙ ap (λ (y : Slot). y.passed) (sym slot)) (ap (λ (y : Slot). y.free) is ∙ ap (λ (y : Slot). y.free) (sym slot)));
+  left = leaves_then start slots (slice_set slots c.device.0 x) was.left (leaves_set slots c.device.0 x within (ap (λ (y : Slot). y.last) is ∙ ap (λ (y : Slot). y.last) (sym slot)) (ap (λ (y : Slot). y.free) is ∙ ap (λ (y : Slot). y.free) (sym slot)));
   times = (was.times.0 ++ p ∷ [], holds_more slots was.times.0 p x within was.times.1 (ap (λ (y : Slot). y.planned) is ∙ ap Some (used ∙ ap (λ (y : Slot). used_again y.planned from to) (sym slot))), sym planned ∙ was.times.2);
   only = λ d off. others d (d == c.device.0) refl off;
 }
@@ -179,7 +179,7 @@ pub record IsClearedTo (start slots : List Slot) (cs : List Command) (k : ℕ) :
 pub cleared_next : (start slots : List Slot) (cs : List Command) (k : ℕ) (c : Command) (x : Slot) → IsClearedTo start slots cs k → k < length cs → slice_index_or cs k c ≡ c → c.device.0 < length slots → x ≡ record (slot_at slots c.device.0) { planned = None }
     → IsClearedTo start (slice_set slots c.device.0 x) cs (k + 1)
 cleared_next start slots cs k c x was more own within is = record {
-  left = leaves_then start slots (slice_set slots c.device.0 x) was.left (leaves_set slots c.device.0 x within (ap (λ (y : Slot). y.passed) is) (ap (λ (y : Slot). y.free) is));
+  left = leaves_then start slots (slice_set slots c.device.0 x) was.left (leaves_set slots c.device.0 x within (ap (λ (y : Slot). y.last) is) (ap (λ (y : Slot). y.free) is));
   none = λ d off. by_device d (d == c.device.0) refl off;
 }
   where

@@ -1,6 +1,7 @@
 pub mod DeviceWalks
 pub mod Fitting
 pub mod HeldTimes
+pub mod NextAccesses
 pub mod Passes
 pub mod Reached
 pub mod Searched

@@ -1,8 +1,9 @@
 -- What the slots tell behind a front of the line, item by item.
 use Rattle.command_rules.specs.Items.{is_ran}
-use Rattle.command_rules.specs.Rosters.{Run, is_on, reads_first, touches, writes_on}
+use Rattle.command_rules.specs.Rosters.{Run, commands_of, is_on, reads_first, touches, writes_on}
 use Rattle.history_book.specs.Books.{doom_of}
-use Rattle.history_book.specs.Readings.{Reading, is_doomed}
+use Rattle.history_book.specs.Plans.{whole_end}
+use Rattle.history_book.specs.Readings.{Reading, is_doomed, is_live}
 use Rattle.history_book.specs.Settings.{Setting}
 use Rattle.history_book.specs.declared.entries.Kept.{Kept}
 use Rattle.home_types.specs.Commands.{reads}
@@ -10,21 +11,22 @@ use Rattle.home_types.specs.declared.commands.Command.{Command}
 use Rattle.home_types.specs.declared.items.Item.TheVariants.{Back, Failed, Ran}
 use Rattle.home_types.specs.declared.items.Item.{Item}
 use Rattle.home_types.specs.declared.numbers.RunNo.{RunNo}
-use Rattle.lineage_table.specs.Accesses.{has_access}
+use Rattle.lineage_table.specs.Accesses.{access_of, has_access}
 use Rattle.lineage_table.specs.Lineages.{LineageState, accesses_at}
 use Rattle.lineage_table.specs.declared.accesses.Access.{Access}
 use Rattle.lock_leasing.proofs.AccessRuns.{Alone, EachTail, HasAccess, alone, workers_have_access}
 use Rattle.lock_leasing.proofs.Facts.{Facts}
 use Rattle.lock_leasing.specs.Configurations.{Grips}
 use Rattle.std.proofs.Common.{ap, arith, cond, refl, subst, sym, ◌∙◌}
+use Rattle.std.proofs.lemmas.Bool.{or_right}
 use Rattle.std.proofs.lemmas.Grind.{common_steps}
 use Rattle.std.proofs.lemmas.List.{drop_more, take-append-drop, take_more}
 use Rattle.std.specs.List.{list_any}
 use Rattle.std.specs.Prelude.{Bool, List, None, Option, Some, [], drop, false, find, if◌then◌else◌, is_some, length, nat_lt, option_map, slice_get, slice_index_or, slice_set, suc, take, true, unwrap_or, zero, ℕ, ◌&&◌, ◌++◌, ◌+◌, ◌<◌, ◌==◌, ◌||◌, ◌∷◌, ◌≡◌}
-use Rattle.timeline_scheduler.proofs.Reached.{IsReached, back_reached, failed_reached, none_next, run_reached}
-use Rattle.timeline_scheduler.proofs.SlotSets.{changed_at, changed_length}
+use Rattle.timeline_scheduler.proofs.Reached.{AreOfLine, IsReached, back_reached, failed_reached, lacks_access, none_of, run_reached}
+use Rattle.timeline_scheduler.proofs.SlotSets.{changed_at, changed_length, chosen_at}
 use Rattle.timeline_scheduler.proofs.Wholes.{whole_is}
-use Rattle.timeline_scheduler.specs.Slots.{changed, changed_on, devices_among, devices_with, next_access, passed_item, slot_at, slot_behind, slot_passed, slot_waiting, whole_passed}
+use Rattle.timeline_scheduler.specs.Slots.{changed, changed_on, devices_among, devices_passed, is_followed, is_passed, passed_item, reads_some, slot_at, slot_behind, slot_passed, slot_waiting, whole_passed}
 use Rattle.timeline_scheduler.specs.declared.scratches.Slot.{Slot}
 
 -- Slots of an item
@@ -55,32 +57,54 @@ no_whole runs r x whole d s none = at (nat_lt s.free whole) refl
     at true e = absurd (grind (arith, common_steps))
     at false e = refl
 
--- what passing a run makes of the slot of a device
-run_slot : (table : List LineageState) (history : List Kept) (runs : List Run) (r : ℕ) (q : RunNo) (slots : List Slot) (d : ℕ) → length slots ≡ length table → d < length table
-    → slot_at (passed_item table history runs r (Some (Ran q)) slots) d ≡ slot_waiting runs r q.0 (whole_passed table q.0 slots) d (slot_passed table (is_some (doom_of history q.0)) q.0 d (slot_at slots d))
-run_slot table history runs r q slots d size within = by_whole (nat_lt 0 (whole_passed table q.0 slots)) refl
+-- what passing a run makes of the slot of a device that is followed
+run_slot : (table : List LineageState) (history : List Kept) (runs : List Run) (r : ℕ) (q : RunNo) (slots : List Slot) (d : ℕ) → length slots ≡ length table → d < length table → is_followed runs r d ≡ true
+    → slot_at (passed_item table history runs r (Some (Ran q)) slots) d ≡ slot_waiting runs r q.0 (whole_passed table runs r q.0) d (slot_passed table (is_some (doom_of history q.0)) q.0 d (slot_at slots d))
+run_slot table history runs r q slots d size within follows = by_whole (nat_lt 0 (whole_passed table runs r q.0)) refl
   where
     doomed : Bool
     doomed = is_some (doom_of history q.0)
 
     whole : ℕ
-    whole = whole_passed table q.0 slots
+    whole = whole_passed table runs r q.0
 
     passed : List Slot
-    passed = changed (slot_passed table doomed q.0) (devices_with table q.0) slots
+    passed = changed (slot_passed table doomed q.0) (devices_passed table runs r q.0) slots
 
     long : length passed ≡ length slots
-    long = changed_length (slot_passed table doomed q.0) (devices_with table q.0) slots
+    long = changed_length (slot_passed table doomed q.0) (devices_passed table runs r q.0) slots
 
     at_passed : slot_at passed d ≡ slot_passed table doomed q.0 d (slot_at slots d)
     at_passed =
-        changed_at (slot_passed table doomed q.0) (λ e. has_access q.0 (accesses_at table e)) (λ e s none. ap (λ o. slot_behind doomed o s) (none_next q.0 (accesses_at table e) s none)) (length table) slots d size within
+        chosen_at (slot_passed table doomed q.0) (is_passed table runs r q.0) (length table) slots d size within
+        ∙ ap (λ b. cond (has_access q.0 (accesses_at table d) && b) (slot_passed table doomed q.0 d (slot_at slots d)) (slot_at slots d)) follows ∙ by_access (has_access q.0 (accesses_at table d)) refl
+      where
+        by_access : (b : Bool) → has_access q.0 (accesses_at table d) ≡ b → cond (b && true) (slot_passed table doomed q.0 d (slot_at slots d)) (slot_at slots d) ≡ slot_passed table doomed q.0 d (slot_at slots d)
+        by_access true e = refl
+        by_access false e = sym (ap (λ o. slot_behind doomed o (slot_at slots d)) (none_of q.0 (accesses_at table d) e))
 
     by_whole : (b : Bool) → nat_lt 0 whole ≡ b → slot_at (if b then changed (slot_waiting runs r q.0 whole) (devices_among runs r (length passed)) passed else passed) d ≡ slot_waiting runs r q.0 whole d (slot_passed table doomed q.0 d (slot_at slots d))
     by_whole true e =
         changed_at (slot_waiting runs r q.0 whole) (touches runs r) (λ k s off. no_wait runs r q.0 whole k s (none_found k _ off)) (length passed) passed d refl (omega (arith, within, size, long))
         ∙ ap (slot_waiting runs r q.0 whole d) at_passed
     by_whole false e = at_passed ∙ sym (no_whole runs r q.0 whole d (slot_passed table doomed q.0 d (slot_at slots d)) e)
+
+-- a run that begins on the device with a read reads some first
+read_some : (runs : List Run) (r d : ℕ) → reads_first runs r d ≡ true → reads_some runs r ≡ true
+read_some runs r d first = along (commands_of runs r) first
+  where
+    own : (c : Command) → (c.device.0 == d) ≡ true → (reads c.job && reads_first runs r c.device.0) ≡ (reads c.job && true)
+    own c on = let same : c.device.0 ≡ d = grind (arith, common_steps) in ap (λ k. reads c.job && reads_first runs r k) same ∙ ap (λ b. reads c.job && b) first
+
+    along : (cs : List Command) → unwrap_or (option_map (λ c. reads c.job) (find (is_on d) cs)) false ≡ true → list_any (λ c. reads c.job && reads_first runs r c.device.0) cs ≡ true
+    along [] found = absurd (cc)
+    along (c ∷ cs) found = at (c.device.0 == d) refl found (along cs)
+      where
+        at : (b : Bool) → (c.device.0 == d) ≡ b → unwrap_or (option_map (λ c. reads c.job) (cond b (Some c) (find (is_on d) cs))) false ≡ true
+            → (unwrap_or (option_map (λ c. reads c.job) (find (is_on d) cs)) false ≡ true → list_any (λ c. reads c.job && reads_first runs r c.device.0) cs ≡ true)
+            → ((reads c.job && reads_first runs r c.device.0) || list_any (λ c. reads c.job && reads_first runs r c.device.0) cs) ≡ true
+        at true on here rest = ap (λ b. b || list_any (λ c. reads c.job && reads_first runs r c.device.0) cs) (own c on ∙ ap (λ b. b && true) here)
+        at false off past rest = or_right (reads c.job && reads_first runs r c.device.0) (list_any (λ c. reads c.job && reads_first runs r c.device.0) cs) (rest past)
 
 -- The planned times stay
 
@@ -115,13 +139,13 @@ module _ (table : List LineageState) (history : List Kept) (runs : List Run) (r 
   item_planned (Some (Ran q)) e = by_whole (nat_lt 0 whole)
     where
       whole : ℕ
-      whole = whole_passed table q.0 slots
+      whole = whole_passed table runs r q.0
 
       passed : List Slot
-      passed = changed (slot_passed table (is_some (doom_of history q.0)) q.0) (devices_with table q.0) slots
+      passed = changed (slot_passed table (is_some (doom_of history q.0)) q.0) (devices_passed table runs r q.0) slots
 
       at_passed : (slot_at passed e).planned ≡ (slot_at slots e).planned
-      at_passed = changed_planned (slot_passed table (is_some (doom_of history q.0)) q.0) (λ d s. behind_planned (is_some (doom_of history q.0)) (next_access (accesses_at table d) s q.0) s) (devices_with table q.0) slots e
+      at_passed = changed_planned (slot_passed table (is_some (doom_of history q.0)) q.0) (λ d s. behind_planned (is_some (doom_of history q.0)) (access_of q.0 (accesses_at table d)) s) (devices_passed table runs r q.0) slots e
 
       by_whole : (b : Bool) → (slot_at (if b then changed (slot_waiting runs r q.0 whole) (devices_among runs r (length passed)) passed else passed) e).planned ≡ (slot_at slots e).planned
       by_whole true = changed_planned (slot_waiting runs r q.0 whole) (λ d s. waiting_planned runs r q.0 whole d s) (devices_among runs r (length passed)) passed e ∙ at_passed
@@ -135,13 +159,13 @@ module _ (table : List LineageState) (history : List Kept) (runs : List Run) (r 
   item_length (Some (Ran q)) = by_whole (nat_lt 0 whole)
     where
       whole : ℕ
-      whole = whole_passed table q.0 slots
+      whole = whole_passed table runs r q.0
 
       passed : List Slot
-      passed = changed (slot_passed table (is_some (doom_of history q.0)) q.0) (devices_with table q.0) slots
+      passed = changed (slot_passed table (is_some (doom_of history q.0)) q.0) (devices_passed table runs r q.0) slots
 
       long : length passed ≡ length slots
-      long = changed_length (slot_passed table (is_some (doom_of history q.0)) q.0) (devices_with table q.0) slots
+      long = changed_length (slot_passed table (is_some (doom_of history q.0)) q.0) (devices_passed table runs r q.0) slots
 
       by_whole : (b : Bool) → length (if b then changed (slot_waiting runs r q.0 whole) (devices_among runs r (length passed)) passed else passed) ≡ length slots
       by_whole true = changed_length (slot_waiting runs r q.0 whole) (devices_among runs r (length passed)) passed ∙ long
@@ -158,26 +182,27 @@ get_some [] k x within = absurd (omega (arith, within))
 get_some (y ∷ xs) zero x within = refl
 get_some (y ∷ xs) (suc k) x within = get_some xs k x (omega (arith, within))
 
-module _ (w : Setting) (n : Reading) (g : Grips) (f : Facts w n g) (r : ℕ) (table : List LineageState) (history : List Kept) (size : length table ≡ length w.first) (dooms : (q : ℕ) → is_some (doom_of history q) ≡ is_doomed n q) where
-  -- each slot tells of its device behind the front
+module _ (w : Setting) (n : Reading) (g : Grips) (f : Facts w n g) (r : ℕ) (table : List LineageState) (history : List Kept) (size : length table ≡ length w.first) (lines : (d : ℕ) → d < length w.first → AreOfLine w n d (accesses_at table d)) (dooms : (q : ℕ) → is_some (doom_of history q) ≡ is_doomed n q) where
+  -- each slot of a device that is followed tells of it behind the front
   abbrev pub AllReached : List Item → List Item → List Slot → Type 0
-  AllReached front back slots = (d : ℕ) → d < length w.first → IsReached w n g r d front back (accesses_at table d) (slot_at slots d)
+  AllReached front back slots = (d : ℕ) → d < length w.first → is_followed w.runs r d ≡ true → IsReached w n g r d front back (accesses_at table d) (slot_at slots d)
 
   item_reached : (front is : List Item) (i : Item) (slots : List Slot) → n.line ≡ front ++ i ∷ is → length slots ≡ length table → AllReached front (i ∷ is) slots → AllReached (front ++ i ∷ []) is (passed_item table history w.runs r (Some i) slots)
-  item_reached front is (Failed e k) slots cut long was d within = failed_reached w n g f r d front is e k (accesses_at table d) (slot_at slots d) (was d within)
-  item_reached front is (Back e k) slots cut long was d within = back_reached w n g f r d front is e k (accesses_at table d) (slot_at slots d) (was d within)
-  item_reached front is (Ran q) slots cut long was d within =
-      subst (IsReached w n g r d (front ++ Ran q ∷ []) is (accesses_at table d)) (sym (run_slot table history w.runs r q slots d long (omega (arith, within, size))))
-      (run_reached w n g f r d front is q (accesses_at table d) (slot_at slots d) (is_some (doom_of history q.0)) (whole_passed table q.0 slots) has own_alone (dooms q.0) (whole_is w n g r table slots q front is cut once own_alone size was) (was d within))
+  item_reached front is (Failed e k) slots cut long was d within follows = failed_reached w n g f r d front is e k (accesses_at table d) (slot_at slots d) (was d within follows)
+  item_reached front is (Back e k) slots cut long was d within follows = back_reached w n g f r d front is e k (accesses_at table d) (slot_at slots d) (was d within follows)
+  item_reached front is (Ran q) slots cut long was d within follows =
+      subst (IsReached w n g r d (front ++ Ran q ∷ []) is (accesses_at table d)) (sym (run_slot table history w.runs r q slots d long (omega (arith, within, size)) follows))
+      (run_reached w n g f r d front is q (accesses_at table d) (slot_at slots d) (is_some (doom_of history q.0)) (whole_passed table w.runs r q.0) has (lines d within).apart
+      (lacks_access w n g d q front is (accesses_at table d) cut once (lines d within)) (dooms q.0) whole (was d within follows))
     where
       once : EachTail Alone (front ++ Ran q ∷ is)
       once = subst (EachTail Alone) cut (alone n f.once)
 
-      self : (k : ℕ) → (k == k) ≡ true
-      self k = grind (arith, common_steps)
-
-      own_alone : list_any (is_ran q.0) is ≡ false
-      own_alone = (each_behind Alone front (Ran q ∷ is) once).0 q.0 (self q.0)
+      -- whole runs are waited for only where all devices are followed
+      whole : reads_first w.runs r d ≡ true → whole_passed table w.runs r q.0 ≡ (if is_live n q.0 then whole_end w n q.0 else 0)
+      whole reading =
+          let all : reads_some w.runs r ≡ true = read_some w.runs r d reading in
+          whole_is w n g r table slots q front is cut once size all lines (λ e inside. was e inside (ap (λ b. b || touches w.runs r e) all))
 
       has : HasAccess w n g f d (Ran q) is
       has = (each_behind (HasAccess w n g f d) front (Ran q ∷ is) (subst (EachTail (HasAccess w n g f d)) cut (workers_have_access w n g f d))).0

@@ -8,53 +8,36 @@ use Rattle.home_types.specs.declared.items.Item.TheVariants.{Back, Failed, Ran}
 use Rattle.home_types.specs.declared.items.Item.{Item}
 use Rattle.home_types.specs.declared.numbers.DeviceNo.{DeviceNo}
 use Rattle.home_types.specs.declared.numbers.RunNo.{RunNo}
-use Rattle.lineage_table.specs.Accesses.{has_access, is_of, is_released}
+use Rattle.lineage_table.proofs.Pairs.{Pairs}
+use Rattle.lineage_table.specs.Accesses.{AreOfTwoRuns, access_of, behind_run, has_access, is_of, is_released}
 use Rattle.lineage_table.specs.declared.accesses.Access.{Access}
-use Rattle.lock_leasing.proofs.AccessRuns.{HasAccess}
+use Rattle.lock_leasing.proofs.AccessRuns.{Alone, EachTail, HasAccess}
 use Rattle.lock_leasing.proofs.Facts.{Facts}
 use Rattle.lock_leasing.proofs.Holding.{sound_holds}
 use Rattle.lock_leasing.specs.Configurations.{Grips}
 use Rattle.lock_leasing.specs.Order.{covers}
 use Rattle.lock_leasing.specs.Tables.{EachTellsOfRun, TellsOfRun, runs_with_access, uses}
 use Rattle.lock_leasing.specs.Words.{has_effect, holds_device}
-use Rattle.std.proofs.Common.{ap, arith, refl, subst, sym, ◌∙◌}
-use Rattle.std.proofs.lemmas.Bool.{and_parts, or_parts}
+use Rattle.std.proofs.Common.{ap, arith, cond, refl, subst, sym, ◌∙◌}
+use Rattle.std.proofs.lemmas.Bool.{and_parts, eq-eqb, or_from, or_left, or_parts, or_right}
 use Rattle.std.proofs.lemmas.Grind.{common_steps}
 use Rattle.std.proofs.lemmas.List.Sums.{fold-append}
 use Rattle.std.specs.List.{list_any}
 use Rattle.std.specs.Prelude.{Bool, List, None, Option, Some, [], drop, false, if◌then◌else◌, map, max, nat_lt, not, option_and_then, slice_get, suc, true, zero, ℕ, ◌&&◌, ◌++◌, ◌+◌, ◌==◌, ◌||◌, ◌∷◌, ◌≡◌}
-use Rattle.timeline_scheduler.specs.Slots.{next_access, slot_behind, slot_waiting}
+use Rattle.timeline_scheduler.proofs.NextAccesses.{is_next}
+use Rattle.timeline_scheduler.specs.Slots.{slot_behind, slot_waiting}
 use Rattle.timeline_scheduler.specs.declared.scratches.Slot.{Slot}
 
--- Lists
+-- What stands behind a run of a line in which no run stands twice
 
-pub get_drop : {A : Type 0} (xs : List A) (k : ℕ) → slice_get xs k ≡ slice_get (drop k xs) 0
-get_drop [] zero = refl
-get_drop [] (suc k) = refl
-get_drop (x ∷ xs) zero = refl
-get_drop (x ∷ xs) (suc k) = get_drop xs k
+pub any_behind : (q : RunNo) (front is : List Item) → list_any (is_ran q.0) (front ++ Ran q ∷ is) ≡ true
+any_behind q [] is = or_left (q.0 == q.0) (list_any (is_ran q.0) is) (eq-eqb q.0 q.0 refl)
+any_behind q (i ∷ front) is = or_right (is_ran q.0 i) (list_any (is_ran q.0) (front ++ Ran q ∷ is)) (any_behind q front is)
 
-drop_suc : {A : Type 0} (xs : List A) (k : ℕ) (y : A) (ys : List A) → drop k xs ≡ y ∷ ys → drop (suc k) xs ≡ ys
-drop_suc {A} [] zero y ys same = absurd (cc)
-drop_suc {A} [] (suc k) y ys same = absurd (cc)
-drop_suc {A} (x ∷ xs) zero y ys same = ap tail same
-  where
-    tail : List A → List A
-    tail [] = []
-    tail (z ∷ zs) = zs
-drop_suc {A} (x ∷ xs) (suc k) y ys same = drop_suc xs k y ys same
-
-pub drop_next : {A : Type 0} (xs : List A) (k : ℕ) (y : A) (ys : List A) → drop k xs ≡ y ∷ ys → drop (k + 1) xs ≡ ys
-drop_next xs k y ys same = let further : k + 1 ≡ suc k = omega arith in ap (λ j. drop j xs) further ∙ drop_suc xs k y ys same
-
--- a run with no access has no next one
-none_got : (q : ℕ) (xs : List Access) (k : ℕ) → has_access q xs ≡ false → option_and_then (λ (a : Access). if is_of q a then Some a else None) (slice_get xs k) ≡ None
-none_got q [] k none = refl
-none_got q (x ∷ xs) zero none = ap (λ b. if b then Some x else None) (or_parts (is_of q x) (has_access q xs) none).0
-none_got q (x ∷ xs) (suc k) none = none_got q xs k (or_parts (is_of q x) (has_access q xs) none).1
-
-pub none_next : (q : ℕ) (xs : List Access) (s : Slot) → has_access q xs ≡ false → next_access xs s q ≡ None
-none_next q xs s none = none_got q xs s.passed none
+-- a run with no access
+pub none_of : (q : ℕ) (xs : List Access) → has_access q xs ≡ false → access_of q xs ≡ None
+none_of q [] none = refl
+none_of q (x ∷ xs) none = ap (λ b. cond b (Some x) (access_of q xs)) (or_parts (is_of q x) (has_access q xs) none).0 ∙ none_of q xs (or_parts (is_of q x) (has_access q xs) none).1
 
 -- Numbers
 
@@ -64,8 +47,8 @@ max_none t = grind (arith, common_steps)
 max_both : (a b c : ℕ) → max (max a b) c ≡ max a (max b c)
 max_both a b c = grind (arith, common_steps)
 
-later_of : (t e : ℕ) (live reads writes : Bool) (whole : ℕ) → whole ≡ (if live then e else 0) → (if nat_lt t whole && (reads && writes) then whole else t) ≡ max t (if live && reads && writes then e else 0)
-later_of t e live reads writes whole is = ap (λ k. if nat_lt t k && (reads && writes) then k else t) is ∙ at live reads writes
+later_of : (t e : ℕ) (live reads writes : Bool) (whole : ℕ) → (reads ≡ true → whole ≡ (if live then e else 0)) → (if nat_lt t whole && (reads && writes) then whole else t) ≡ max t (if live && reads && writes then e else 0)
+later_of t e live true writes whole is = ap (λ k. if nat_lt t k && (true && writes) then k else t) (is refl) ∙ at live writes
   where
     longer : (b : Bool) → nat_lt t e ≡ b → (if b && true then e else t) ≡ max t e
     longer true h = grind (arith, common_steps)
@@ -79,13 +62,20 @@ later_of t e live reads writes whole is = ap (λ k. if nat_lt t k && (reads && w
     nothing true h = absurd (grind (arith, common_steps))
     nothing false h = sym (max_none t)
 
-    at : (l a b : Bool) → (if nat_lt t (if l then e else 0) && (a && b) then (if l then e else 0) else t) ≡ max t (if l && a && b then e else 0)
-    at true true true = longer (nat_lt t e) refl
-    at true true false = unwanted (nat_lt t e) e
-    at true false b = unwanted (nat_lt t e) e
-    at false true true = nothing (nat_lt t 0) refl
-    at false true false = unwanted (nat_lt t 0) 0
-    at false false b = unwanted (nat_lt t 0) 0
+    at : (l b : Bool) → (if nat_lt t (if l then e else 0) && (true && b) then (if l then e else 0) else t) ≡ max t (if l && true && b then e else 0)
+    at true true = longer (nat_lt t e) refl
+    at true false = unwanted (nat_lt t e) e
+    at false true = nothing (nat_lt t 0) refl
+    at false false = unwanted (nat_lt t 0) 0
+later_of t e live false writes whole is = unread (nat_lt t whole) ∙ sym (max_none t) ∙ ap (max t) (none live)
+  where
+    unread : (b : Bool) → (if b && false then whole else t) ≡ t
+    unread true = refl
+    unread false = refl
+
+    none : (l : Bool) → 0 ≡ (if l && false && writes then e else 0)
+    none true = refl
+    none false = refl
 
 -- The accesses that are left
 
@@ -95,13 +85,18 @@ Shows w n g d is xs = (map (λ x. x.run.0) xs ≡ runs_with_access w n d is) × 
 
 -- behind the front the accesses that are not passed are those of the back, and the device is free for r when it should be
 pub record IsReached (w : Setting) (n : Reading) (g : Grips) (r d : ℕ) (front back : List Item) (xs : List Access) (s : Slot) : Type 0 where
-  pub accesses : Shows w n g d back (drop s.passed xs)
+  pub accesses : Shows w n g d back (behind_run s.last xs)
   pub time : s.free ≡ free w n r front d
 
--- the next access is that of the run, with those of the rest behind it, or the run has none
+-- the accesses are those of the whole line, and no two are of one run
+pub record AreOfLine (w : Setting) (n : Reading) (d : ℕ) (xs : List Access) : Type 0 where
+  pub runs : map (λ x. x.run.0) xs ≡ runs_with_access w n d n.line
+  pub apart : Pairs AreOfTwoRuns xs
+
+-- the run has the next access, with those of the rest behind it, or it has none
 pub data Next (w : Setting) (n : Reading) (g : Grips) (d q : ℕ) (is : List Item) (xs : List Access) (s : Slot) : Type 0 where
-  Own : (x : Access) (rest : List Access) (found : next_access xs s q ≡ Some x) (has : (uses w n d q && not (list_any (covers n d) is)) ≡ true) (own : x.run.0 ≡ q) (tells : TellsOfRun w n g d x rest) (left : Shows w n g d is (drop (s.passed + 1) xs)) → Next w n g d q is xs s
-  Other : (none : next_access xs s q ≡ None) (lacks : (uses w n d q && not (list_any (covers n d) is)) ≡ false) (left : Shows w n g d is (drop s.passed xs)) → Next w n g d q is xs s
+  Own : (x : Access) (rest : List Access) (found : access_of q xs ≡ Some x) (has : (uses w n d q && not (list_any (covers n d) is)) ≡ true) (own : x.run.0 ≡ q) (tells : TellsOfRun w n g d x rest) (left : Shows w n g d is (behind_run (Some x.run) xs)) → Next w n g d q is xs s
+  Other : (none : access_of q xs ≡ None) (lacks : (uses w n d q && not (list_any (covers n d) is)) ≡ false) (left : Shows w n g d is (behind_run s.last xs)) → Next w n g d q is xs s
 
 abbrev head_or : List ℕ → ℕ → ℕ
 head_or [] k = k
@@ -112,36 +107,54 @@ tail_of [] = []
 tail_of (y ∷ ys) = ys
 
 module _ (w : Setting) (n : Reading) (g : Grips) (d : ℕ) where
-  -- the first run with an access is one of the items
-  apart : (q : ℕ) (is : List Item) (x : ℕ) (xs : List ℕ) → list_any (is_ran q) is ≡ false → runs_with_access w n d is ≡ x ∷ xs → (x == q) ≡ false
-  apart q [] x xs none same = absurd (cc)
-  apart q (Failed e k ∷ is) x xs none same = apart q is x xs none same
-  apart q (Back e k ∷ is) x xs none same = apart q is x xs none same
-  apart q (Ran p ∷ is) x xs none same = at (uses w n d p.0 && not (list_any (covers n d) is)) (apart q is x xs (or_parts (p.0 == q) (list_any (is_ran q) is) none).1) same
+  -- a run with an access is one of the items
+  no_run : (q : ℕ) (is : List Item) → list_any (is_ran q) is ≡ false → list_any (λ k. k == q) (runs_with_access w n d is) ≡ false
+  no_run q [] none = refl
+  no_run q (Failed e k ∷ is) none = no_run q is none
+  no_run q (Back e k ∷ is) none = no_run q is none
+  no_run q (Ran p ∷ is) none = let parts = or_parts (p.0 == q) (list_any (is_ran q) is) none in at (uses w n d p.0 && not (list_any (covers n d) is)) parts.0 (no_run q is parts.1)
     where
-      at : (b : Bool) → (runs_with_access w n d is ≡ x ∷ xs → (x == q) ≡ false) → (if b then (p.0 ∷ runs_with_access w n d is) else runs_with_access w n d is) ≡ x ∷ xs → (x == q) ≡ false
-      at true rest same = ap (λ k. k == q) (sym (ap (λ l. head_or l 0) same)) ∙ (or_parts (p.0 == q) (list_any (is_ran q) is) none).0
-      at false rest same = rest same
+      at : (b : Bool) → (p.0 == q) ≡ false → list_any (λ k. k == q) (runs_with_access w n d is) ≡ false → list_any (λ k. k == q) (if b then (p.0 ∷ runs_with_access w n d is) else runs_with_access w n d is) ≡ false
+      at true other rest = or_from (p.0 == q) (list_any (λ k. k == q) (runs_with_access w n d is)) other rest
+      at false other rest = rest
 
-  pub next_tells : (q : RunNo) (is : List Item) (xs : List Access) (s : Slot) → list_any (is_ran q.0) is ≡ false → Shows w n g d (Ran q ∷ is) (drop s.passed xs) → Next w n g d q.0 is xs s
-  next_tells q is xs s alone shows = at (uses w n d q.0 && not (list_any (covers n d) is)) (drop s.passed xs) refl refl shows.0 shows.1
+  -- a run that stands once in the line, and has no access there, has none
+  lacks_run : (q : RunNo) (front is : List Item) → EachTail Alone (front ++ Ran q ∷ is) → (uses w n d q.0 && not (list_any (covers n d) is)) ≡ false → list_any (λ k. k == q.0) (runs_with_access w n d (front ++ Ran q ∷ is)) ≡ false
+  lacks_run q [] is once lacks = ap (λ b. list_any (λ k. k == q.0) (if b then (q.0 ∷ runs_with_access w n d is) else runs_with_access w n d is)) lacks ∙ no_run q.0 is (once.0 q.0 (eq-eqb q.0 q.0 refl))
+  lacks_run q (Failed e k ∷ front) is once lacks = lacks_run q front is once.1 lacks
+  lacks_run q (Back e k ∷ front) is once lacks = lacks_run q front is once.1 lacks
+  lacks_run q (Ran p ∷ front) is once lacks = at (uses w n d p.0 && not (list_any (covers n d) (front ++ Ran q ∷ is))) (other (p.0 == q.0) refl) (lacks_run q front is once.1 lacks)
     where
-      its : Access → Option Access
-      its a = if is_of q.0 a then Some a else None
+      rest : List ℕ
+      rest = runs_with_access w n d (front ++ Ran q ∷ is)
 
-      got : (ys : List Access) → drop s.passed xs ≡ ys → next_access xs s q.0 ≡ option_and_then its (slice_get ys 0)
-      got ys cut = ap (option_and_then its) (get_drop xs s.passed ∙ ap (λ l. slice_get l 0) cut)
+      other : (b : Bool) → (p.0 == q.0) ≡ b → (p.0 == q.0) ≡ false
+      other true e = absurd (cc (once.0 q.0 e, any_behind q front is))
+      other false e = e
 
-      at : (b : Bool) (ys : List Access) → (uses w n d q.0 && not (list_any (covers n d) is)) ≡ b → drop s.passed xs ≡ ys
+      at : (b : Bool) → (p.0 == q.0) ≡ false → list_any (λ k. k == q.0) rest ≡ false → list_any (λ k. k == q.0) (if b then (p.0 ∷ rest) else rest) ≡ false
+      at true apart none = or_from (p.0 == q.0) (list_any (λ k. k == q.0) rest) apart none
+      at false apart none = none
+
+  by_runs : (q : ℕ) (xs : List Access) → has_access q xs ≡ list_any (λ k. k == q) (map (λ x. x.run.0) xs)
+  by_runs q [] = refl
+  by_runs q (x ∷ xs) = ap (λ b. is_of q x || b) (by_runs q xs)
+
+  pub lacks_access : (q : RunNo) (front is : List Item) (xs : List Access) → n.line ≡ front ++ Ran q ∷ is → EachTail Alone (front ++ Ran q ∷ is) → AreOfLine w n d xs → (uses w n d q.0 && not (list_any (covers n d) is)) ≡ false → has_access q.0 xs ≡ false
+  lacks_access q front is xs cut once all lacks = by_runs q.0 xs ∙ ap (list_any (λ k. k == q.0)) (all.runs ∙ ap (runs_with_access w n d) cut) ∙ lacks_run q front is once lacks
+
+  pub next_tells : (q : RunNo) (is : List Item) (xs : List Access) (s : Slot) → Pairs AreOfTwoRuns xs → ((uses w n d q.0 && not (list_any (covers n d) is)) ≡ false → has_access q.0 xs ≡ false)
+      → Shows w n g d (Ran q ∷ is) (behind_run s.last xs) → Next w n g d q.0 is xs s
+  next_tells q is xs s two lone shows = at (uses w n d q.0 && not (list_any (covers n d) is)) (behind_run s.last xs) refl refl shows.0 shows.1
+    where
+      at : (b : Bool) (ys : List Access) → (uses w n d q.0 && not (list_any (covers n d) is)) ≡ b → behind_run s.last xs ≡ ys
           → map (λ x. x.run.0) ys ≡ (if b then (q.0 ∷ runs_with_access w n d is) else runs_with_access w n d is) → EachTellsOfRun w n g d ys → Next w n g d q.0 is xs s
       at true [] e cut same all = absurd (cc)
       at true (x ∷ ys) e cut same all =
           let own : x.run.0 ≡ q.0 = ap (λ l. head_or l 0) same in
-          let mine : (x.run.0 == q.0) ≡ true = grind (arith, common_steps) in
-          Own x ys (got (x ∷ ys) cut ∙ ap (λ b. if b then Some x else None) mine) e own all.0 (subst (Shows w n g d is) (sym (drop_next xs s.passed x ys cut)) (ap tail_of same, all.1))
-      at false [] e cut same all = Other (got [] cut) e (subst (Shows w n g d is) (sym cut) (same, all))
-      at false (x ∷ ys) e cut same all =
-          Other (got (x ∷ ys) cut ∙ ap (λ b. if b then Some x else None) (apart q.0 is x.run.0 (map (λ y. y.run.0) ys) alone (sym same))) e (subst (Shows w n g d is) (sym cut) (same, all))
+          let next = is_next s.last xs x ys two cut in
+          Own x ys (ap (λ k. access_of k xs) (sym own) ∙ next.found) e own all.0 (subst (Shows w n g d is) (sym next.left) (ap tail_of same, all.1))
+      at false ys e cut same all = Other (none_of q.0 xs (lone e)) e (subst (Shows w n g d is) (sym cut) (same, all))
 
 module _ (w : Setting) (n : Reading) (g : Grips) (f : Facts w n g) (r d : ℕ) where
   -- one item further
@@ -194,11 +207,11 @@ module _ (w : Setting) (n : Reading) (g : Grips) (f : Facts w n g) (r d : ℕ) w
 
   -- the slot behind the run alone
   pub record IsPassed (front is : List Item) (q : ℕ) (xs : List Access) (s : Slot) : Type 0 where
-    pub accesses : Shows w n g d is (drop s.passed xs)
+    pub accesses : Shows w n g d is (behind_run s.last xs)
     pub time : s.free ≡ max (free w n r front d) (end_on q)
 
   passed : (front is : List Item) (q : RunNo) (xs : List Access) (s : Slot) (doomed : Bool) → HasAccess w n g f d (Ran q) is → doomed ≡ is_doomed n q.0 → s.free ≡ free w n r front d → Next w n g d q.0 is xs s
-      → IsPassed front is q.0 xs (slot_behind doomed (next_access xs s q.0) s)
+      → IsPassed front is q.0 xs (slot_behind doomed (access_of q.0 xs) s)
   passed front is q xs s doomed has doom time (Own x rest found its own tells left) = subst (λ o. IsPassed front is q.0 xs (slot_behind doomed o s)) (sym found) (record {
     accesses = left;
     time = ap (λ b. if b || is_released x.status then s.free else max s.free x.to) doom ∙ own_end q.0 x rest s.free own tells (and_parts (uses w n d q.0) (not (list_any (covers n d) is)) its).0 ∙ ap (λ t. max t (end_on q.0)) time;
@@ -212,23 +225,24 @@ module _ (w : Setting) (n : Reading) (g : Grips) (f : Facts w n g) (r d : ℕ) w
       closed true e = let some : (uses w n d q.0 && not (list_any (covers n d) is)) ≡ true = has (ap (λ b. b || (is_live n q.0 && has_effect n g q.0 d)) e) in absurd (cc (some, lacks))
       closed false e = refl
 
-  pub run_reached : (front is : List Item) (q : RunNo) (xs : List Access) (s : Slot) (doomed : Bool) (whole : ℕ) → HasAccess w n g f d (Ran q) is → list_any (is_ran q.0) is ≡ false → doomed ≡ is_doomed n q.0 → whole ≡ (if is_live n q.0 then whole_end w n q.0 else 0)
-      → IsReached w n g r d front (Ran q ∷ is) xs s → IsReached w n g r d (front ++ Ran q ∷ []) is xs (slot_waiting w.runs r q.0 whole d (slot_behind doomed (next_access xs s q.0) s))
-  run_reached front is q xs s doomed whole has alone doom ends was = record {
-    accesses = subst (λ k. Shows w n g d is (drop k xs)) (sym (stays waits)) before.accesses;
+  pub run_reached : (front is : List Item) (q : RunNo) (xs : List Access) (s : Slot) (doomed : Bool) (whole : ℕ) → HasAccess w n g f d (Ran q) is → Pairs AreOfTwoRuns xs → ((uses w n d q.0 && not (list_any (covers n d) is)) ≡ false → has_access q.0 xs ≡ false) → doomed ≡ is_doomed n q.0
+      → (reads_first w.runs r d ≡ true → whole ≡ (if is_live n q.0 then whole_end w n q.0 else 0))
+      → IsReached w n g r d front (Ran q ∷ is) xs s → IsReached w n g r d (front ++ Ran q ∷ []) is xs (slot_waiting w.runs r q.0 whole d (slot_behind doomed (access_of q.0 xs) s))
+  run_reached front is q xs s doomed whole has two lone doom ends was = record {
+    accesses = subst (λ o. Shows w n g d is (behind_run o xs)) (sym (stays waits)) before.accesses;
     time = waits_to waits ∙ later_of t.free (whole_end w n q.0) (is_live n q.0) (reads_first w.runs r d) (writes_on w.runs q.0 d) whole ends ∙ ap (λ k. max k (end_whole q.0)) before.time ∙ max_both (free w n r front d) (end_on q.0) (end_whole q.0) ∙ sym (free_more front (Ran q));
   }
     where
       t : Slot
-      t = slot_behind doomed (next_access xs s q.0) s
+      t = slot_behind doomed (access_of q.0 xs) s
 
       before : IsPassed front is q.0 xs t
-      before = passed front is q xs s doomed has doom was.time (next_tells w n g d q is xs s alone was.accesses)
+      before = passed front is q xs s doomed has doom was.time (next_tells w n g d q is xs s two lone was.accesses)
 
       waits : Bool
       waits = nat_lt t.free whole && (reads_first w.runs r d && writes_on w.runs q.0 d)
 
-      stays : (b : Bool) → (if b then record t { free = whole } else t).passed ≡ t.passed
+      stays : (b : Bool) → (if b then record t { free = whole } else t).last ≡ t.last
       stays true = refl
       stays false = refl
 

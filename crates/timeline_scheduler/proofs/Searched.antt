@@ -12,6 +12,8 @@ use Rattle.history_book.specs.declared.entries.Kept.{Kept}
 use Rattle.home_types.specs.declared.items.Item.TheVariants.{Ran}
 use Rattle.home_types.specs.declared.items.Item.{Item}
 use Rattle.home_types.specs.declared.modes.Scheduler.TheVariants.{Timeline}
+use Rattle.lineage_table.proofs.Pairs.{pairs_from_all}
+use Rattle.lineage_table.specs.Accesses.{AreOfTwoRuns, behind_run}
 use Rattle.lineage_table.specs.Lineages.{LineageState, accesses_at}
 use Rattle.lock_leasing.proofs.ClearPlaces.{place_within}
 use Rattle.lock_leasing.proofs.EarliestPlaces.{timeline_is_earliest}
@@ -29,10 +31,10 @@ use Rattle.std.specs.List.{list_all, list_any, range_with_len}
 use Rattle.std.specs.Prelude.{Bool, IsTrue, List, None, Option, Some, [], drop, false, find, is_some, length, option_map, slice_get, suc, take, true, unwrap_or, zero, ℕ, ◌+◌, ◌-◌, ◌<◌, ◌==◌, ◌||◌, ◌∷◌, ◌≡◌, ◌≢◌, ◌≤◌}
 use Rattle.timeline_scheduler.proofs.Fitting.{fits_told, times_told}
 use Rattle.timeline_scheduler.proofs.Passes.{item_length, item_planned, pass_next}
-use Rattle.timeline_scheduler.proofs.Reached.{IsReached, Shows}
+use Rattle.timeline_scheduler.proofs.Reached.{AreOfLine, IsReached, Shows}
 use Rattle.timeline_scheduler.specs.Placings.{IsEarliestOf, IsPlaceOf, IsPlanOf, MayPlan, Planning}
 use Rattle.timeline_scheduler.specs.Scratches.{HoldsTimes}
-use Rattle.timeline_scheduler.specs.Slots.{AreHomed, AreRuns, LeavesPassed, PlansOnly, devices_among, fits_slot, passed_item, plan_behind, slot_at}
+use Rattle.timeline_scheduler.specs.Slots.{AreHomed, AreRuns, LeavesPassed, PlansOnly, devices_among, fits_slot, is_followed, passed_item, reads_some, plan_behind, slot_at}
 use Rattle.timeline_scheduler.specs.declared.scratches.Slot.{Slot}
 
 -- The least number of a range that passes a test
@@ -98,8 +100,11 @@ module _ (table : List LineageState) (line : List Mark) (history : List Kept) (r
 
   -- Passing
 
+  of_line : (s : Configuration) → IsStandingOf s table line history runs → (d : ℕ) → d < length s.setting.first → AreOfLine s.setting (read_of s) d (accesses_at table d)
+  of_line s parts d within = record { runs = (parts.its_table.each d within).runs; apart = pairs_from_all AreOfTwoRuns (accesses_at table d) (parts.disciplined d).one_each }
+
   abbrev pub Reaches : (s : Configuration) → List Slot → ℕ → Type 0
-  Reaches s slots at = (d : ℕ) → d < length s.setting.first → IsReached s.setting (read_of s) s.grips r d (take at (read_of s).line) (drop at (read_of s).line) (accesses_at table d) (slot_at slots d)
+  Reaches s slots at = (d : ℕ) → d < length s.setting.first → is_followed s.setting.runs r d ≡ true → IsReached s.setting (read_of s) s.grips r d (take at (read_of s).line) (drop at (read_of s).line) (accesses_at table d) (slot_at slots d)
 
   -- the items before this place are passed
   pub record IsPassedTo (slots : List Slot) (at : ℕ) : Type 0 where
@@ -117,19 +122,19 @@ module _ (table : List LineageState) (line : List Mark) (history : List Kept) (r
       one : (s : Configuration) → IsStandingOf s table line history runs → Reaches s (passed_item table history s.setting.runs r (slice_get (read_of s).line at) slots) (at + 1)
       one s parts =
           let size = line_length s parts in
-          pass_next s.setting (read_of s) s.grips (facts_of s table line history runs parts) r table history parts.its_table.devices dooms at slots (omega (arith, within, size)) was.size (was.reached s parts)
+          pass_next s.setting (read_of s) s.grips (facts_of s table line history runs parts) r table history parts.its_table.devices (of_line s parts) dooms at slots (omega (arith, within, size)) was.size (was.reached s parts)
         where
           dooms : (q : ℕ) → is_some (doom_of history q) ≡ is_doomed (read_of s) q
           dooms q = ap is_some (ap (λ h. doom_of h q) (sym parts.its_history) ∙ doom_is s.setting s.history q parts.well_formed)
 
   -- a plan leaves what was passed
   pub passed_planned : (slots planned : List Slot) (at : ℕ) → LeavesPassed slots planned → PlansOnly (commands_of runs r) planned → IsPassedTo slots at → IsPassedTo planned at
-  passed_planned slots planned at left only was = record { size = left.size ∙ was.size; only = only; reached = λ s parts d within. keeps s d (was.reached s parts d within) }
+  passed_planned slots planned at left only was = record { size = left.size ∙ was.size; only = only; reached = λ s parts d within follows. keeps s d (was.reached s parts d within follows) }
     where
       keeps : (s : Configuration) (d : ℕ) → IsReached s.setting (read_of s) s.grips r d (take at (read_of s).line) (drop at (read_of s).line) (accesses_at table d) (slot_at slots d)
           → IsReached s.setting (read_of s) s.grips r d (take at (read_of s).line) (drop at (read_of s).line) (accesses_at table d) (slot_at planned d)
       keeps s d here = record {
-        accesses = subst (λ k. Shows s.setting (read_of s) s.grips d (drop at (read_of s).line) (drop k (accesses_at table d))) (sym (left.passed d)) here.accesses;
+        accesses = subst (λ o. Shows s.setting (read_of s) s.grips d (drop at (read_of s).line) (behind_run o (accesses_at table d))) (sym (left.last d)) here.accesses;
         time = left.free d ∙ here.time;
       }
 
@@ -140,7 +145,7 @@ module _ (table : List LineageState) (line : List Mark) (history : List Kept) (r
   plan_told slots planned m at was holds s parts timed =
       subst (HoldsTimes planned)
       (ap (λ rs. plan_behind slots (commands_of rs r) m) (sym parts.its_roster)
-      ∙ times_told s.setting (read_of s) r m (take at (read_of s).line) slots timed (λ d on. (was.reached s parts d (device_within s parts r d on)).time))
+      ∙ times_told s.setting (read_of s) r m (take at (read_of s).line) slots timed (λ d on. (was.reached s parts d (device_within s parts r d on) (or_right (reads_some s.setting.runs r) (touches s.setting.runs r d) on)).time))
       holds
 
   abbrev Fits : Configuration → ℕ → ℕ → Bool

@@ -35,7 +35,7 @@ module _ (change : ℕ → Slot → Slot) where
   changed_length [] slots = refl
   changed_length (d ∷ devices) slots = changed_length devices (changed_on change slots d) ∙ length-set slots d (change d (slot_at slots d))
 
-  module _ (p : ℕ → Bool) (else_same : (d : ℕ) (s : Slot) → p d ≡ false → change d s ≡ s) where
+  module _ (p : ℕ → Bool) where
     -- a device before the range is as it was
     before_range : (a n : ℕ) (slots : List Slot) (d : ℕ) → d < a → slot_at (changed change (filter p (range_with_len a n)) slots) d ≡ slot_at slots d
     before_range a zero slots d below = refl
@@ -46,37 +46,46 @@ module _ (change : ℕ → Slot → Slot) where
         by_test true rest = rest (changed_on change slots a) ∙ set_other slots a d (change a (slot_at slots a)) (omega (arith, below))
         by_test false rest = rest slots
 
-    -- one in it is changed
-    in_range : (a n : ℕ) (slots : List Slot) (d : ℕ) → a + n ≤ length slots → a ≤ d → d < a + n → slot_at (changed change (filter p (range_with_len a n)) slots) d ≡ change d (slot_at slots d)
+    -- one in it is changed where it is chosen
+    in_range : (a n : ℕ) (slots : List Slot) (d : ℕ) → a + n ≤ length slots → a ≤ d → d < a + n → slot_at (changed change (filter p (range_with_len a n)) slots) d ≡ cond (p d) (change d (slot_at slots d)) (slot_at slots d)
     in_range a zero slots d size from below = absurd (omega (arith, from, below))
     in_range a (suc n) slots d size from below = by_test (p a) (d == a) refl refl (λ s long further. in_range (a + 1) n s d long further (omega (arith, below)))
       where
         Goal : Bool → Type 0
-        Goal b = slot_at (changed change (cond b (a ∷ filter p (range_with_len (a + 1) n)) (filter p (range_with_len (a + 1) n))) slots) d ≡ change d (slot_at slots d)
+        Goal b = slot_at (changed change (cond b (a ∷ filter p (range_with_len (a + 1) n)) (filter p (range_with_len (a + 1) n))) slots) d ≡ cond (p d) (change d (slot_at slots d)) (slot_at slots d)
 
         after : List Slot
         after = changed_on change slots a
 
         by_test : (b c : Bool) → p a ≡ b → (d == a) ≡ c
-            → ((s : List Slot) → a + 1 + n ≤ length s → a + 1 ≤ d → slot_at (changed change (filter p (range_with_len (a + 1) n)) s) d ≡ change d (slot_at s d)) → Goal b
+            → ((s : List Slot) → a + 1 + n ≤ length s → a + 1 ≤ d → slot_at (changed change (filter p (range_with_len (a + 1) n)) s) d ≡ cond (p d) (change d (slot_at s d)) (slot_at s d)) → Goal b
         by_test true true on own rest =
             let same : a ≡ d = grind (arith, common_steps) in
             before_range (a + 1) n after d (omega (arith, same))
             ∙ subst (λ k. slot_at (changed_on change slots a) k ≡ change k (slot_at slots k)) same (set_here slots a (change a (slot_at slots a)) (omega (arith, size)))
+            ∙ sym (ap (λ b. cond b (change d (slot_at slots d)) (slot_at slots d)) (ap p (sym same) ∙ on))
         by_test true false on other rest =
             let apart : d ≢ a = grind (arith, common_steps) in
             let long : length after ≡ length slots = length-set slots a (change a (slot_at slots a)) in
-            rest after (omega (arith, long, size)) (omega (arith, from, apart)) ∙ ap (change d) (set_other slots a d (change a (slot_at slots a)) apart)
+            rest after (omega (arith, long, size)) (omega (arith, from, apart)) ∙ ap (λ x. cond (p d) (change d x) x) (set_other slots a d (change a (slot_at slots a)) apart)
         by_test false true off own rest =
             let same : a ≡ d = grind (arith, common_steps) in
-            before_range (a + 1) n slots d (omega (arith, same)) ∙ sym (subst (λ k. change k (slot_at slots d) ≡ slot_at slots d) same (else_same a (slot_at slots d) off))
+            before_range (a + 1) n slots d (omega (arith, same)) ∙ sym (ap (λ b. cond b (change d (slot_at slots d)) (slot_at slots d)) (ap p (sym same) ∙ off))
         by_test false false off other rest =
             let apart : d ≢ a = grind (arith, common_steps) in
             rest slots (omega (arith, size)) (omega (arith, from, apart))
 
-    -- each device is changed, where the others would stay
-    pub changed_at : (n : ℕ) (slots : List Slot) (d : ℕ) → length slots ≡ n → d < n → slot_at (changed change (filter p (range_with_len 0 n)) slots) d ≡ change d (slot_at slots d)
-    changed_at n slots d size within = in_range 0 n slots d (omega (arith, size)) (omega arith) (omega (arith, within))
+    -- each device that is chosen is changed
+    pub chosen_at : (n : ℕ) (slots : List Slot) (d : ℕ) → length slots ≡ n → d < n → slot_at (changed change (filter p (range_with_len 0 n)) slots) d ≡ cond (p d) (change d (slot_at slots d)) (slot_at slots d)
+    chosen_at n slots d size within = in_range 0 n slots d (omega (arith, size)) (omega arith) (omega (arith, within))
+
+    -- .. and so is each, where the others would stay
+    pub changed_at : ((d : ℕ) (s : Slot) → p d ≡ false → change d s ≡ s) → (n : ℕ) (slots : List Slot) (d : ℕ) → length slots ≡ n → d < n → slot_at (changed change (filter p (range_with_len 0 n)) slots) d ≡ change d (slot_at slots d)
+    changed_at else_same n slots d size within = chosen_at n slots d size within ∙ by_test (p d) refl
+      where
+        by_test : (b : Bool) → p d ≡ b → cond b (change d (slot_at slots d)) (slot_at slots d) ≡ change d (slot_at slots d)
+        by_test true e = refl
+        by_test false e = sym (else_same d (slot_at slots d) e)
 
   module _ (p q : ℕ → Bool) (only : (d : ℕ) → q d ≡ true → p d ≡ true) (else_same : (d : ℕ) (s : Slot) → p d ≡ true → q d ≡ false → change d s ≡ s) where
     fewer_in_range : (a n : ℕ) (slots : List Slot) → a + n ≤ length slots → changed change (filter q (range_with_len a n)) slots ≡ changed change (filter p (range_with_len a n)) slots

@@ -8,7 +8,7 @@ use Rattle.history_book.specs.Settings.{Setting}
 use Rattle.home_types.specs.declared.items.Item.TheVariants.{Ran}
 use Rattle.home_types.specs.declared.items.Item.{Item}
 use Rattle.home_types.specs.declared.numbers.RunNo.{RunNo}
-use Rattle.lineage_table.specs.Accesses.{has_access}
+use Rattle.lineage_table.specs.Accesses.{access_of, has_access}
 use Rattle.lineage_table.specs.Lineages.{LineageState, accesses_at}
 use Rattle.lineage_table.specs.declared.accesses.Access.{Access}
 use Rattle.lock_leasing.proofs.AccessRuns.{Alone, EachTail}
@@ -18,9 +18,9 @@ use Rattle.std.proofs.Common.{ap, arith, cond, refl, sym, ◌∙◌}
 use Rattle.std.proofs.lemmas.Bool.{eq-eqb, or_left, or_right}
 use Rattle.std.proofs.lemmas.Grind.{common_steps}
 use Rattle.std.specs.List.{list_any, range_with_len}
-use Rattle.std.specs.Prelude.{Bool, List, Option, [], false, filter, fold, if◌then◌else◌, length, max, not, suc, true, zero, ℕ, ◌&&◌, ◌++◌, ◌+◌, ◌<◌, ◌==◌, ◌∷◌, ◌≡◌}
-use Rattle.timeline_scheduler.proofs.Reached.{IsReached, Next, Other, Own, max_none, next_tells, none_next}
-use Rattle.timeline_scheduler.specs.Slots.{end_of_access, next_access, slot_at, whole_passed}
+use Rattle.std.specs.Prelude.{Bool, List, Option, [], false, filter, fold, if◌then◌else◌, length, max, not, suc, true, zero, ℕ, ◌&&◌, ◌++◌, ◌+◌, ◌<◌, ◌==◌, ◌||◌, ◌∷◌, ◌≡◌}
+use Rattle.timeline_scheduler.proofs.Reached.{AreOfLine, IsReached, Next, Other, Own, any_behind, lacks_access, max_none, next_tells, none_of}
+use Rattle.timeline_scheduler.specs.Slots.{end_of_access, is_passed, reads_some, slot_at, whole_passed}
 use Rattle.timeline_scheduler.specs.declared.scratches.Slot.{Slot}
 
 -- Folds
@@ -43,10 +43,6 @@ fold_stays t (x ∷ xs) = fold_stays t xs
 
 -- What stands behind a run of a line in which no run stands twice
 
-any_behind : (q : RunNo) (front is : List Item) → list_any (is_ran q.0) (front ++ Ran q ∷ is) ≡ true
-any_behind q [] is = or_left (q.0 == q.0) (list_any (is_ran q.0) is) (eq-eqb q.0 q.0 refl)
-any_behind q (i ∷ front) is = or_right (is_ran q.0 i) (list_any (is_ran q.0) (front ++ Ran q ∷ is)) (any_behind q front is)
-
 behind_is : (q : RunNo) (front is : List Item) → EachTail Alone (front ++ Ran q ∷ is) → behind q.0 (front ++ Ran q ∷ is) ≡ is
 behind_is q [] is alone = ap (λ b. if b then is else behind q.0 is) (eq-eqb q.0 q.0 refl)
 behind_is q (i ∷ front) is alone = by_test (is_ran q.0 i) refl (behind_is q front is alone.1)
@@ -56,13 +52,14 @@ behind_is q (i ∷ front) is alone = by_test (is_ran q.0 i) refl (behind_is q fr
     by_test false e rest = rest
 
 module _ (w : Setting) (n : Reading) (g : Grips) (r : ℕ) (table : List LineageState) (slots : List Slot) (q : RunNo) (front is : List Item) (cut : n.line ≡ front ++ Ran q ∷ is)
-    (alone : EachTail Alone (front ++ Ran q ∷ is)) (own_alone : list_any (is_ran q.0) is ≡ false) (size : length table ≡ length w.first)
+    (alone : EachTail Alone (front ++ Ran q ∷ is)) (size : length table ≡ length w.first)
+    (reads : reads_some w.runs r ≡ true) (lines : (d : ℕ) → d < length w.first → AreOfLine w n d (accesses_at table d))
     (reached : (d : ℕ) → d < length w.first → IsReached w n g r d front (Ran q ∷ is) (accesses_at table d) (slot_at slots d)) where
   abbrev next : ℕ → Option Access
-  next d = next_access (accesses_at table d) (slot_at slots d) q.0
+  next d = access_of q.0 (accesses_at table d)
 
   abbrev has : ℕ → Bool
-  has d = has_access q.0 (accesses_at table d)
+  has d = is_passed table w.runs r q.0 d
 
   abbrev counts : ℕ → Bool
   counts d = not (passed_by w n q.0 d) && not (is_overwritten n q.0 d)
@@ -74,14 +71,19 @@ module _ (w : Setting) (n : Reading) (g : Grips) (r : ℕ) (table : List Lineage
   overwritten d = ap (λ l. list_any (covers n d) (behind q.0 l)) cut ∙ ap (list_any (covers n d)) (behind_is q front is alone)
 
   any_next : (t d : ℕ) → (if has d then max t (end_of_access (next d)) else t) ≡ max t (end_of_access (next d))
-  any_next t d = by_test (has d) refl
+  any_next t d = ap (λ b. if has_access q.0 (accesses_at table d) && (b || touches w.runs r d) then max t (end_of_access (next d)) else t) reads ∙ by_test (has_access q.0 (accesses_at table d)) refl
     where
-      by_test : (b : Bool) → has d ≡ b → (if b then max t (end_of_access (next d)) else t) ≡ max t (end_of_access (next d))
+      by_test : (b : Bool) → has_access q.0 (accesses_at table d) ≡ b → (if b && true then max t (end_of_access (next d)) else t) ≡ max t (end_of_access (next d))
       by_test true e = refl
-      by_test false e = sym (ap (λ o. max t (end_of_access o)) (none_next q.0 (accesses_at table d) (slot_at slots d) e) ∙ max_none t)
+      by_test false e = sym (ap (λ o. max t (end_of_access o)) (none_of q.0 (accesses_at table d) e) ∙ max_none t)
+
+  tells : (d : ℕ) → d < length w.first → Next w n g d q.0 is (accesses_at table d) (slot_at slots d)
+  tells d within =
+      let all = lines d within in
+      next_tells w n g d q is (accesses_at table d) (slot_at slots d) all.apart (lacks_access w n g d q front is (accesses_at table d) cut alone all) (reached d within).accesses
 
   one_live : is_live n q.0 ≡ true → (t d : ℕ) → d < length w.first → max t (end_of_access (next d)) ≡ (if touches w.runs q.0 d then (if counts d then max t (end_at d) else t) else t)
-  one_live live t d within = by_next (next_tells w n g d q is (accesses_at table d) (slot_at slots d) own_alone (reached d within).accesses)
+  one_live live t d within = by_next (tells d within)
     where
       counted : (a b : Bool) → touches w.runs q.0 d ≡ a → counts d ≡ b → a ≡ true → b ≡ true → max t (end_at d) ≡ (if touches w.runs q.0 d then (if counts d then max t (end_at d) else t) else t)
       counted a b on count yes' also = sym (ap (λ c. if c then (if counts d then max t (end_at d) else t) else t) (on ∙ yes') ∙ ap (λ c. if c then max t (end_at d) else t) (count ∙ also))
@@ -108,7 +110,7 @@ module _ (w : Setting) (n : Reading) (g : Grips) (r : ℕ) (table : List Lineage
           ∙ ap (λ c. if touches w.runs q.0 d then (if not (passed_by w n q.0 d) && not c then max t (end_at d) else t) else t) (sym (overwritten d))
 
   one_dead : is_live n q.0 ≡ false → (t d : ℕ) → d < length w.first → max t (end_of_access (next d)) ≡ t
-  one_dead dead t d within = by_next (next_tells w n g d q is (accesses_at table d) (slot_at slots d) own_alone (reached d within).accesses)
+  one_dead dead t d within = by_next (tells d within)
     where
       lives : (a b c : Bool) → (is_live n q.0 && a && not b && not c) ≡ true → is_live n q.0 ≡ true
       lives a b c e = grind (arith, common_steps)
@@ -117,13 +119,13 @@ module _ (w : Setting) (n : Reading) (g : Grips) (r : ℕ) (table : List Lineage
       by_next (Own x rest found its own tells left) = absurd (cc (lives (touches w.runs q.0 d) (passed_by w n q.0 d) (list_any (covers n d) is) its, dead))
       by_next (Other none lacks left) = ap (λ o. max t (end_of_access o)) none ∙ max_none t
 
-  by_devices : whole_passed table q.0 slots ≡ fold (λ t d. max t (end_of_access (next d))) 0 (range_with_len 0 (length w.first))
+  by_devices : whole_passed table w.runs r q.0 ≡ fold (λ t d. max t (end_of_access (next d))) 0 (range_with_len 0 (length w.first))
   by_devices =
       fold_filter (λ t d. max t (end_of_access (next d))) has 0 (range_with_len 0 (length table))
       ∙ ap (λ k. fold (λ t d. if has d then max t (end_of_access (next d)) else t) 0 (range_with_len 0 k)) size
       ∙ fold_alike (λ t d. if has d then max t (end_of_access (next d)) else t) (λ t d. max t (end_of_access (next d))) 0 (length w.first) (λ t d within. any_next t d) 0
 
-  pub whole_is : whole_passed table q.0 slots ≡ (if is_live n q.0 then whole_end w n q.0 else 0)
+  pub whole_is : whole_passed table w.runs r q.0 ≡ (if is_live n q.0 then whole_end w n q.0 else 0)
   whole_is = by_devices ∙ by_live (is_live n q.0) refl
     where
       by_live : (b : Bool) → is_live n q.0 ≡ b → fold (λ t d. max t (end_of_access (next d))) 0 (range_with_len 0 (length w.first)) ≡ (if b then whole_end w n q.0 else 0)

@@ -1,25 +1,28 @@
 -- What the slots of a scratch become as items of the line are passed, and as a run is planned behind them.
-use Rattle.command_rules.specs.Rosters.{Run, is_on, is_run, reads_first, touches, writes_on}
+use Rattle.command_rules.specs.Rosters.{Run, commands_of, is_on, is_run, reads_first, touches, writes_on}
 use Rattle.history_book.specs.Books.{doom_of}
 use Rattle.history_book.specs.Plans.{plan_more}
 use Rattle.history_book.specs.Readings.{Planned}
 use Rattle.history_book.specs.declared.entries.Kept.{Kept}
+use Rattle.home_types.specs.Commands.{reads}
+use Rattle.home_types.specs.DeviceSets.{Devices}
 use Rattle.home_types.specs.declared.commands.Command.{Command}
 use Rattle.home_types.specs.declared.items.Item.TheVariants.{Back, Failed, Ran}
 use Rattle.home_types.specs.declared.items.Item.{Item}
 use Rattle.home_types.specs.declared.numbers.RunNo.{RunNo}
-use Rattle.lineage_table.specs.Accesses.{has_access, is_of, is_released}
+use Rattle.lineage_table.specs.Accesses.{access_of, behind_run, has_access, is_released}
 use Rattle.lineage_table.specs.Lineages.{LineageState, accesses_at}
 use Rattle.lineage_table.specs.declared.accesses.Access.{Access}
+use Rattle.std.specs.FinSet as set
 use Rattle.std.specs.List.{list_any, range_with_len}
-use Rattle.std.specs.Prelude.{Bool, IsTrue, List, None, Option, Some, [], false, filter, fold, if◌then◌else◌, is_some, length, max, nat_le, nat_lt, option_and_then, slice_get, slice_index_or, slice_set, true, ℕ, ◌&&◌, ◌+◌, ◌<◌, ◌≡◌, ◌||◌}
+use Rattle.std.specs.Prelude.{Bool, IsTrue, List, None, Option, Some, [], false, filter, fold, if◌then◌else◌, is_some, length, max, nat_le, nat_lt, slice_get, slice_index_or, slice_set, true, ℕ, ◌&&◌, ◌<◌, ◌≡◌, ◌||◌}
 use Rattle.timeline_scheduler.specs.declared.scratches.Slot.{Slot}
 
 -- Slots
 
 -- of a device nothing was passed, and nothing is planned
 abbrev pub no_slot : Slot
-no_slot = record { passed = 0; free = 0; planned = None }
+no_slot = record { last = None; free = 0; planned = None }
 
 -- what is known of the device
 abbrev pub slot_at : List Slot → ℕ → Slot
@@ -43,29 +46,50 @@ AreRuns runs items = (at : ℕ) (x : RunNo) → slice_get items at ≡ Some (Ran
 abbrev pub devices_among : List Run → ℕ → ℕ → List ℕ
 devices_among runs r devices = filter (touches runs r) (range_with_len 0 devices)
 
--- those to which the run has an access
-abbrev pub devices_with : List LineageState → ℕ → List ℕ
-devices_with table x = filter (λ d. has_access x (accesses_at table d)) (range_with_len 0 (length table))
+-- the run begins on some device with a read
+abbrev pub reads_some : List Run → ℕ → Bool
+reads_some runs r = list_any (λ c. reads c.job && reads_first runs r c.device.0) (commands_of runs r)
+
+-- the plan of r needs to know of the device: it is of its footprint, or r waits for whole runs
+abbrev pub is_followed : List Run → ℕ → ℕ → Bool
+is_followed runs r d = reads_some runs r || touches runs r d
+
+-- these devices are followed, all where none are named
+abbrev pub is_among : Option Devices → ℕ → Bool
+is_among None d = true
+is_among (Some devices) d = set.contains devices d
+
+-- the device is one of these, of those to which x has an access where none are named
+abbrev pub is_with_access : List LineageState → ℕ → Option Devices → ℕ → Bool
+is_with_access table x None d = has_access x (accesses_at table d)
+is_with_access table x (Some devices) d = set.contains devices d
+
+abbrev pub AreFollowed : List Run → ℕ → Option Devices → Type 0
+AreFollowed runs r devices = (d : ℕ) → is_among devices d ≡ is_followed runs r d
+
+-- x has an access to the device, which is followed
+abbrev pub is_passed : List LineageState → List Run → ℕ → ℕ → ℕ → Bool
+is_passed table runs r x d = has_access x (accesses_at table d) && is_followed runs r d
+
+-- .. those of the table
+abbrev pub devices_passed : List LineageState → List Run → ℕ → ℕ → List ℕ
+devices_passed table runs r x = filter (is_passed table runs r x) (range_with_len 0 (length table))
 
 -- An item is passed
-
--- the first access that is not passed, where it is that of the run
-abbrev pub next_access : List Access → Slot → ℕ → Option Access
-next_access accesses slot x = option_and_then (λ (a : Access). if is_of x a then Some a else None) (slice_get accesses slot.passed)
 
 -- behind this access the device is free at its planned end, unless its run is done with it, or is doomed
 abbrev pub slot_behind : Bool → Option Access → Slot → Slot
 slot_behind doomed None slot = slot
-slot_behind doomed (Some a) slot = record { passed = slot.passed + 1; free = if doomed || is_released a.status then slot.free else max slot.free a.to; planned = slot.planned }
+slot_behind doomed (Some a) slot = record { last = Some a.run; free = if doomed || is_released a.status then slot.free else max slot.free a.to; planned = slot.planned }
 
 -- the planned end of the access, where there is one
 abbrev pub end_of_access : Option Access → ℕ
 end_of_access None = 0
 end_of_access (Some a) = a.to
 
--- the next access to the device is passed, where it is that of the run
+-- the access of the run to the device is passed
 abbrev pub slot_passed : List LineageState → Bool → ℕ → ℕ → Slot → Slot
-slot_passed table doomed x d slot = slot_behind doomed (next_access (accesses_at table d) slot x) slot
+slot_passed table doomed x d slot = slot_behind doomed (access_of x (accesses_at table d)) slot
 
 -- where r begins on the device with a read, and x writes it, it is free at the planned end of the whole of x
 abbrev pub slot_waiting : List Run → ℕ → ℕ → ℕ → ℕ → Slot → Slot
@@ -79,9 +103,9 @@ changed_on change slots d = slice_set slots d (change d (slot_at slots d))
 abbrev pub changed : (ℕ → Slot → Slot) → List ℕ → List Slot → List Slot
 changed change devices slots = fold (changed_on change) slots devices
 
--- the planned end of the whole run, by its next accesses
-abbrev pub whole_passed : List LineageState → ℕ → List Slot → ℕ
-whole_passed table x slots = fold (λ t d. max t (end_of_access (next_access (accesses_at table d) (slot_at slots d) x))) 0 (devices_with table x)
+-- the planned end of the whole run, by its accesses
+abbrev pub whole_passed : List LineageState → List Run → ℕ → ℕ → ℕ
+whole_passed table runs r x = fold (λ t d. max t (end_of_access (access_of x (accesses_at table d)))) 0 (devices_passed table runs r x)
 
 -- the item stands before r
 abbrev pub passed_item : List LineageState → List Kept → List Run → ℕ → Option Item → List Slot → List Slot
@@ -92,7 +116,7 @@ passed_item table history runs r item slots = by_item item
 
     by_item : Option Item → List Slot
     by_item None = slots
-    by_item (Some (Ran x)) = waited x.0 (whole_passed table x.0 slots) (changed (slot_passed table (is_some (doom_of history x.0)) x.0) (devices_with table x.0) slots)
+    by_item (Some (Ran x)) = waited x.0 (whole_passed table runs r x.0) (changed (slot_passed table (is_some (doom_of history x.0)) x.0) (devices_passed table runs r x.0) slots)
     by_item (Some (Failed d k)) = slots
     by_item (Some (Back d k)) = slots
 
@@ -109,7 +133,7 @@ PlansOnly commands slots = (d : ℕ) → list_any (is_on d) commands ≡ false �
 -- what was passed is as it was
 pub record LeavesPassed (slots left : List Slot) : Type 0 where
   pub size : length left ≡ length slots
-  pub passed : (d : ℕ) → (slot_at left d).passed ≡ (slot_at slots d).passed
+  pub last : (d : ℕ) → (slot_at left d).last ≡ (slot_at slots d).last
   pub free : (d : ℕ) → (slot_at left d).free ≡ (slot_at slots d).free
 
 -- the use of a device with one more command, planned from and to these times
@@ -119,7 +143,7 @@ used_again (Some used) from to = (used.0, to)
 
 -- the plan ends on the device before the next one of these accesses is planned to start
 abbrev pub fits_slot : List Access → Slot → Bool
-fits_slot accesses slot = by_plan slot.planned (slice_get accesses slot.passed)
+fits_slot accesses slot = by_plan slot.planned (slice_get (behind_run slot.last accesses) 0)
   where
     by_plan : Option (ℕ × ℕ) → Option Access → Bool
     by_plan None next = true

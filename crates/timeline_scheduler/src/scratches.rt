@@ -1,16 +1,22 @@
 //! The room in which the timeline searches: for each device, when it is free, and the plan so far.
-ghost use Rattle.std.specs.Prelude.{◌≡◌, ◌+◌, ◌-◌, ◌<◌, ◌^◌, IfOk, IfSome, IsTrue, is_some, length, max, slice_get};
+ghost use Rattle.std.specs.FinSet as set;
+ghost use Rattle.std.specs.Prelude.{◌&&◌, ◌≡◌, ◌-◌, ◌<◌, IfOk, IfSome, IsTrue, Some, true, ℕ, is_some, length, max, option_map, slice_get};
 ghost use Rattle.std.specs.List.{list_all};
 ghost use Rattle.command_rules.specs.Rosters.{commands_of, is_run, runs_of};
 ghost use Rattle.history_book.specs.Books.{doom_of};
+ghost use Rattle.chain_arena.specs.Chains.{values_of};
+ghost use Rattle.home_types.specs.DeviceSets.{IsFirstFrom};
+ghost use Rattle.home_types.specs.Limits.{most_devices};
+ghost use Rattle.lineage_table.specs.Accesses.{IsDisciplined, has_access};
 ghost use Rattle.lineage_table.specs.Lineages.{accesses_at};
 ghost use Rattle.serial_line.specs.Marks.{items_of};
 ghost use Rattle.timeline_scheduler.specs.Scratches.{HoldsTimes, planned_in};
-ghost use Rattle.timeline_scheduler.specs.Slots.{AreHomed, AreRuns, IsFresh, LeavesPassed, PlansOnly, changed, devices_among, devices_with, end_of_access, fits_slot, next_access, passed_item, plan_behind, slot_at, slot_behind, slot_passed, slot_waiting, used_again, whole_passed};
+ghost use Rattle.timeline_scheduler.specs.Slots.{AreFollowed, AreHomed, AreRuns, IsFresh, LeavesPassed, PlansOnly, changed, devices_among, devices_passed, fits_slot, is_among, is_with_access, passed_item, plan_behind, slot_at, slot_behind, slot_passed, slot_waiting, used_again, whole_passed};
 
+use chain_arena::{Chain, Knot};
 use command_rules::IndexedRoster;
-use home_types::{DeviceNo, Item, NoMemory, RunNo};
-use lineage_table::{Access, Status};
+use home_types::{DeviceNo, DeviceSet, Item, NoMemory, RunNo};
+use lineage_table::{Access, Status, Table, knot_behind, knot_from};
 use lock_leasing::Standing;
 use std::alloc::Global;
 use std::marker::Model;
@@ -18,8 +24,8 @@ use std::marker::Model;
 /// What is known of a device behind the items of the line that were passed.
 #[derive(Clone, Copy, Debug, PartialEq, Eq)]
 pub struct Slot {
-    /// How many accesses to it stand among them.
-    pub(crate) passed: usize,
+    /// The run of the last access to it that stands among them.
+    pub(crate) last: Option<RunNo>,
     /// When it is free for the run behind them, in ms.
     pub(crate) free: u64,
     /// From when and to when the run is planned to use it, in ms. `None` where it does not.
@@ -28,7 +34,7 @@ pub struct Slot {
 
 /// A device of which nothing was passed, and for which nothing is planned.
 const FREE: Slot = Slot {
-    passed: 0,
+    last: None,
     free: 0,
     planned: None,
 };
@@ -37,17 +43,19 @@ const FREE: Slot = Slot {
 #[derive(Drop)]
 pub struct Scratch {
     slots: Vec<Slot>,
+    // for each device where the access that was passed last stands
+    nears: Vec<Option<Knot>>,
 }
 
 impl Model for Scratch {
-    ghost use Rattle.std.specs.Prelude.{List, ⊤};
+    ghost use Rattle.std.specs.Prelude.{List, length, ◌≡◌};
     ghost use Rattle.timeline_scheduler.specs.declared.scratches.Slot.{Slot};
 
     ghost Value = { List Slot };
 
     ghost view = { λ s. s.slots.items };
 
-    ghost invariant = { λ s. ⊤ };
+    ghost invariant = { λ s. length s.nears.items ≡ length s.slots.items };
 }
 
 impl Scratch {
@@ -60,10 +68,14 @@ impl Scratch {
         let Ok(mut slots) = Vec::with_capacity(alloc, devices as usize) else {
             return Err(NoMemory);
         };
+        let Ok(mut nears) = Vec::with_capacity(alloc, devices as usize) else {
+            return Err(NoMemory);
+        };
         'devices: for _ in 0..devices {
             slots.push_reserved(FREE);
+            nears.push_reserved(None);
         }
-        Ok(Scratch { slots })
+        Ok(Scratch { slots, nears })
     }
 
     /// From when and to when the run that was placed last is planned to use the device, in ms: from the start of its first
@@ -87,38 +99,52 @@ impl Scratch {
         }
     }
 
-    /// The item at this place of the line stands before the run `r`.
-    pub(crate) fn pass(&mut self, s: &Standing, r: RunNo, at: u32)
+    /// The item at this place of the line stands before the run `r`. These devices are followed, all where none are named.
+    pub(crate) fn pass(&mut self, s: &Standing, r: RunNo, followed: Option<&DeviceSet>, at: u32)
         requires size { length self.old ≡ length s.now.table.now }
         requires run { IsTrue (is_run (runs_of s.now.roster.now) r.0) }
         requires runs { AreRuns (runs_of s.now.roster.now) (items_of s.now.line.now.marks) }
         requires homed { AreHomed (length s.now.table.now) (runs_of s.now.roster.now) }
+        requires followed { AreFollowed (runs_of s.now.roster.now) r.0 (option_map (λ b. b.now) followed) }
         ensures { self.new ≡ passed_item s.now.table.now s.now.book.now.items (runs_of s.now.roster.now) r.0 (slice_get (items_of s.now.line.now.marks) at) self.old }
     {
         let Some(Item::Ran(x)) = s.line.get(at) else {
             return;
         };
-        let whole = self.pass_accesses(s, x);
+        let whole = self.pass_accesses(s, r, followed, x);
         if whole > 0 {
             self.wait_for_writer(s.roster, r, x, whole);
         }
     }
 
-    /// The next access to each device of the run `x` is passed, where it is its own: the device is free at its planned end
-    /// there, unless the run is done with it, or is doomed. Answers the planned end of the whole run.
-    fn pass_accesses(&mut self, s: &Standing, x: RunNo) -> u64
-        requires { length self.old ≡ length s.now.table.now }
-        ensures slots { self.new ≡ changed (slot_passed s.now.table.now (is_some (doom_of s.now.book.now.items x.0)) x.0) (devices_with s.now.table.now x.0) self.old }
-        ensures whole { result ≡ whole_passed s.now.table.now x.0 self.old }
+    /// The accesses of the run `x` to the devices that are followed are passed: each device is free at the planned end there,
+    /// unless the run is done with it, or is doomed. Answers the planned end of the run on these devices.
+    fn pass_accesses(
+        &mut self,
+        s: &Standing,
+        r: RunNo,
+        followed: Option<&DeviceSet>,
+        x: RunNo,
+    ) -> u64
+        requires size { length self.old ≡ length s.now.table.now }
+        requires followed { AreFollowed (runs_of s.now.roster.now) r.0 (option_map (λ b. b.now) followed) }
+        ensures slots { self.new ≡ changed (slot_passed s.now.table.now (is_some (doom_of s.now.book.now.items x.0)) x.0) (devices_passed s.now.table.now (runs_of s.now.roster.now) r.0 x.0) self.old }
+        ensures whole { result ≡ whole_passed s.now.table.now (runs_of s.now.roster.now) r.0 x.0 }
     {
+        s.table.kept();
         let doomed = s.book.is_doomed(x);
+        let devices = devices_to_pass(s.table, x, followed);
         let mut whole = 0;
         let mut from = DeviceNo(0);
-        'devices: while let Some(d) = s.table.next_device(x, from) {
-            let slot = self.slots[d.0 as usize];
-            let access = next_access(s.table.accesses(d), slot, x);
-            self.slots[d.0 as usize] = slot.behind(access, doomed);
-            whole = whole.max(end_of_access(access));
+        'devices: while let Some(d) = next_device(s.table, x, &devices, from) {
+            let at = d.0 as usize;
+            let accesses = s.table.chain(d);
+            accesses.kept();
+            let k = knot_from(accesses, x, self.nears[at]).unwrap();
+            let access = *accesses.get(k);
+            self.nears[at] = Some(k);
+            self.slots[at].pass(access, doomed);
+            whole = whole.max(access.to);
             from = DeviceNo(d.0 + 1);
         }
         whole
@@ -175,9 +201,11 @@ impl Scratch {
         ensures { result ≡ list_all (λ d. fits_slot (accesses_at s.now.table.now d) (slot_at self.now d)) (devices_among (runs_of s.now.roster.now) r.0 (length self.now)) }
     {
         s.roster.kept();
+        s.table.kept();
         let mut from = DeviceNo(0);
         'devices: while let Some(d) = s.roster.next_device(r, from) {
-            if !self.slots[d.0 as usize].fits(s.table.accesses(d)) {
+            let slot = self.slots[d.0 as usize];
+            if !slot.fits(s.table.chain(d), self.nears[d.0 as usize]) {
                 return false;
             }
             from = DeviceNo(d.0 + 1);
@@ -187,25 +215,13 @@ impl Scratch {
 }
 
 impl Slot {
-    /// The slot behind this access too, if it is the next one: the device is free at its planned end, unless its run is
-    /// done with it, or is doomed.
-    fn behind(self, access: Option<Access>, doomed: bool) -> Slot
-        requires { IfSome access (λ _. self.passed + 1 < 2 ^ 64) }
-        ensures { result ≡ slot_behind doomed access self }
+    /// This access is passed: the device is free at its planned end, unless its run is done with it, or is doomed.
+    fn pass(&mut self, access: Access, doomed: bool)
+        ensures { self.new ≡ slot_behind doomed (Some access) self.old }
     {
-        let Some(access) = access else {
-            return self;
-        };
-        let done = doomed || access.status == Status::Released;
-        let free = if done {
-            self.free
-        } else {
-            self.free.max(access.to)
-        };
-        Slot {
-            passed: self.passed + 1,
-            free,
-            ..self
+        self.last = Some(access.run);
+        if !doomed && access.status != Status::Released {
+            self.free = self.free.max(access.to);
         }
     }
 
@@ -219,33 +235,47 @@ impl Slot {
         }
     }
 
-    /// Whether the plan ends on the device before the next one of these accesses to it is planned to start.
-    fn fits(self, accesses: &[Access]) -> bool
-        ensures { result ≡ fits_slot accesses.now self }
+    /// Whether the plan ends on the device before the next one of these accesses to it is planned to start. The one that was
+    /// passed last stands at `near`, if anywhere.
+    fn fits(self, accesses: &Chain<Access>, near: Option<Knot>) -> bool
+        requires { IsDisciplined (values_of accesses.now.pairs) }
+        ensures { result ≡ fits_slot (values_of accesses.now.pairs) self }
     {
-        match (self.planned, accesses.get(self.passed)) {
-            (Some((_, to)), Some(next)) => to <= next.from,
-            _ => true,
+        let Some((_, to)) = self.planned else {
+            return true;
+        };
+        match knot_behind(accesses, self.last, near) {
+            Some(next) => to <= accesses.get(next).from,
+            None => true,
         }
     }
 }
 
-/// The first of these accesses that is not passed, where it is that of the run.
-fn next_access(accesses: &[Access], slot: Slot, x: RunNo) -> Option<Access>
-    ensures next { result ≡ next_access accesses.now slot x.0 }
-    ensures more { IfSome result (λ _. slot.passed + 1 < 2 ^ 64) }
+/// The devices among these to which the run has an access. `None`, for all, where none are named.
+fn devices_to_pass(table: &Table, x: RunNo, among: Option<&DeviceSet>) -> Option<DeviceSet>
+    ensures devices { (d : ℕ) → is_with_access table.now x.0 result d ≡ (has_access x.0 (accesses_at table.now d) && is_among (option_map (λ b. b.now) among.entry) d) }
+    ensures homed { IfSome result (λ found. (d : ℕ) → set.contains found d ≡ true → (d < length table.now) × (d < most_devices)) }
 {
-    let access = accesses.get(slot.passed).copied()?;
-    if access.run == x { Some(access) } else { None }
+    match among {
+        Some(devices) => Some(table.devices_among(x, devices)),
+        None => None,
+    }
 }
 
-/// The planned end of the access, in ms, 0 where there is none.
-fn end_of_access(access: Option<Access>) -> u64
-    ensures { result ≡ end_of_access access }
+/// The smallest of these devices from `from` on, of those to which the run has an access where none are named.
+fn next_device(
+    table: &Table,
+    x: RunNo,
+    devices: &Option<DeviceSet>,
+    from: DeviceNo,
+) -> Option<DeviceNo>
+    requires { IfSome devices.now (λ found. (d : ℕ) → set.contains found d ≡ true → (d < length table.now) × (d < most_devices)) }
+    ensures next { IsFirstFrom (is_with_access table.now x.0 devices.now) from.0 (option_map (λ d. d.0) result) }
+    ensures homed { IfSome result (λ d. (d.0 < length table.now) × (d.0 < most_devices)) }
 {
-    match access {
-        Some(access) => access.to,
-        None => 0,
+    match devices {
+        Some(devices) => devices.next(from),
+        None => table.next_device(x, from),
     }
 }
 

@@ -43,7 +43,7 @@ some_slip = record { ticket = 0; device = record { 0 = 0 }; maker = 0; stood = 0
 pub chosen : {D : Type 0} (s t : OpenHub D) (r m : ℕ) (choice : Choice) → Answers s r m choice t → choice ≡ choice_of (configuration_of s) r m
 chosen s t r m choice answers = took_choice (state_of s) (state_of t) r m some_slip choice (answers.step some_slip)
 
-after : {D : Type 0} (s t : OpenHub D) (r m : ℕ) (choice : Choice) → Answers s r m choice t → configuration_of t ≡ after_take (configuration_of s) r m
+pub after : {D : Type 0} (s t : OpenHub D) (r m : ℕ) (choice : Choice) → Answers s r m choice t → configuration_of t ≡ after_take (configuration_of s) r m
 after s t r m choice answers = took_after (state_of s) (state_of t) r m some_slip choice (answers.step some_slip)
 
 -- the test of the entries is that of the window before the call

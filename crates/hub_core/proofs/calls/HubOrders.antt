@@ -43,11 +43,12 @@ use Rattle.hub_core.proofs.kept.Kept.{enters_place}
 use Rattle.hub_core.proofs.windows.StrongChoices.{IsPlacing}
 use Rattle.hub_core.proofs.steps.Choices.{decide_is}
 use Rattle.hub_core.proofs.kept.Sizes.{line_fits}
+use Rattle.hub_core.proofs.kept.SealedOrders.{sealed_is}
 use Rattle.hub_core.proofs.kept.OrderSteps.{done_after, last_follows, may_note_down, none_commands, order_aborted, order_arrived, order_committed, order_doomed, order_doomed_if, order_dropped, order_joined, order_out, order_placed, order_told_down, order_told_weakly, order_undo_out, read_more}
 use Rattle.hub_core.proofs.steps.Takes.{live_run}
 use Rattle.hub_core.specs.HubKept.{ConfigurationIsKept}
 use Rattle.hub_core.specs.HubsKept.{HandsAre, HubIsKept, IsWhole, open_of}
-use Rattle.hub_core.specs.KeptOrders.{MayNote, OrderIsBeside, is_first, noted_first, scheduled_with}
+use Rattle.hub_core.specs.KeptOrders.{IsSealed, MayNote, OrderIsBeside, is_first, noted_first, scheduled_with}
 use Rattle.hub_core.specs.OpenHubs.{OpenHub, configuration_of, device_at, grip_in, held_in, progress_of, purpose_of}
 use Rattle.hub_core.specs.Openings.{MayOpen, names_values_of}
 use Rattle.hub_core.specs.PlannedPlaces.{AreUsesOf, HoldsPlan}
@@ -207,6 +208,13 @@ joins_within h r at m is k =
     let size = sym (length-map h.order.line.marks (λ (x : Mark). x.item)) ∙ ap length k.order.line_is.items in
     omega (arith, within, size)
 
+-- .. behind what is sealed
+pub joins_behind : {D : Type 0} {stands turns probes faults : D → ℕ} (h : Inside D) (r at m : ℕ) → choice_of (configuration_of (open_of h)) r m ≡ Moves (Placed (run_no r) at (max h.moment m) ∷ []) → IsWhole stands turns probes faults h → h.order.line.sealed ≤ at
+joins_behind h r at m is k =
+    let behind = (joins_at h r at m is).sealed in
+    let sealed = sealed_is h.history.setting (read_in h.history) (configuration_of (open_of h)).grips h.order.line (read_whole h k) k.order.line_is k.order.sealed in
+    omega (arith, behind, sealed)
+
 -- the line has one item more
 placed_size : (w : Setting) (n : Reading) (r at m : ℕ) → length (entry w n (Placed (run_no r) at m)).line ≡ length n.line + 1
 unfolding split_of
@@ -255,6 +263,7 @@ hub_joins h r at m is strong k =
 pub record IsJoined {D : Type 0} (h t : Inside D) (r at m : ℕ) : Type 0 where
   pub marks : t.order.line.marks ≡ with_item at (Ran (run_no r)) h.order.line.marks
   pub spare : t.order.line.spare + 1 ≡ h.order.line.spare
+  pub sealed : t.order.line.sealed ≡ h.order.line.sealed
   pub table : ChangesEach (scheduled_on h.history.setting.runs r (planned_times h.history.setting (read_in h.history) r (take at (read_in h.history).line) (max h.moment m)) (drop at (items_of h.order.line.marks))) h.order.table t.order.table
 
 -- .. with its planned uses, as the scratch has them where it is placed by the timeline
@@ -284,14 +293,14 @@ joins_planned {D = D} h s r at m now slots uses runs later seen holds is planned
 
 pub joins_whole : {D : Type 0} {stands turns probes faults : D → ℕ} (h t : Inside D) (r at m : ℕ) → IsEntered h t r m (Placed (run_no r) at (max h.moment m) ∷ []) Going → IsJoined h t r at m → is_weak h.history.setting.mode ≡ false → IsWhole stands turns probes faults h → IsWhole stands turns probes faults t
 joins_whole h t r at m enters joined strong k = entered_whole h t r m _ Going enters (λ formed.
-    order_placed h.history _ _ r at (max h.moment m) h.order.line t.order.line h.order.table t.order.table (read_whole h k) k.shown.configuration.grips strong (joins_at h r at m enters.chosen).clear refl formed joined.marks joined.spare joined.table k.order) k
+    order_placed h.history _ _ r at (max h.moment m) h.order.line t.order.line h.order.table t.order.table (read_whole h k) k.shown.configuration.grips strong (joins_at h r at m enters.chosen).clear (joins_at h r at m enters.chosen).sealed refl formed joined.marks joined.spare joined.sealed joined.table k.order) k
 
 -- .. under the weak model it is scheduled on none
-pub enters_whole : {D : Type 0} {stands turns probes faults : D → ℕ} (h t : Inside D) (r at m : ℕ) → IsEntered h t r m (Placed (run_no r) at (max h.moment m) ∷ []) Going → t.order.line.marks ≡ with_item at (Ran (run_no r)) h.order.line.marks → t.order.line.spare + 1 ≡ h.order.line.spare → t.order.table ≡ h.order.table
+pub enters_whole : {D : Type 0} {stands turns probes faults : D → ℕ} (h t : Inside D) (r at m : ℕ) → IsEntered h t r m (Placed (run_no r) at (max h.moment m) ∷ []) Going → t.order.line.marks ≡ with_item at (Ran (run_no r)) h.order.line.marks → t.order.line.spare + 1 ≡ h.order.line.spare → t.order.line.sealed ≡ h.order.line.sealed → t.order.table ≡ h.order.table
     → is_weak h.history.setting.mode ≡ true → IsWhole stands turns probes faults h → IsWhole stands turns probes faults t
-enters_whole h t r at m enters marks spare same weak k = entered_whole h t r m _ Going enters (λ formed.
+enters_whole h t r at m enters marks spare sealed same weak k = entered_whole h t r m _ Going enters (λ formed.
     subst (OrderIsBeside h.rounds (with_entry h.history r (Placed (run_no r) at (max h.moment m))) (configuration_of (open_of h)).grips t.order.line) (sym same)
-    (order_joined h.history _ _ r at (max h.moment m) h.order.line t.order.line h.order.table weak (read_whole h k) k.shown.configuration.grips refl formed marks spare k.order)) k
+    (order_joined h.history _ _ r at (max h.moment m) h.order.line t.order.line h.order.table weak (read_whole h k) k.shown.configuration.grips (joins_at h r at m enters.chosen).sealed refl formed marks spare sealed k.order)) k
 
 -- the run is in no line before
 abbrev pub IsAbsent : ℕ → List Mark → Type 0
@@ -328,20 +337,21 @@ hub_downs {D = D} h s r p c seen known sound next home down k =
 
 -- A run ends
 
-pub commits_whole : {D : Type 0} {stands turns probes faults : D → ℕ} (h t : Inside D) (r m : ℕ) → IsEntered h t r m (Ended (run_no r) Committed ∷ []) (Ending Committed) → t.order.line.marks ≡ settling r h.order.line.marks → t.order.line.spare ≡ h.order.line.spare → ChangesEach (λ d. committed_lineage r) h.order.table t.order.table
+pub commits_whole : {D : Type 0} {stands turns probes faults : D → ℕ} (h t : Inside D) (r m : ℕ) → IsEntered h t r m (Ended (run_no r) Committed ∷ []) (Ending Committed) → t.order.line.marks ≡ settling r h.order.line.marks → t.order.line.spare ≡ h.order.line.spare → IsSealed t.order.line → ChangesEach (λ d. committed_lineage r) h.order.table t.order.table
     → IsWhole stands turns probes faults h → IsWhole stands turns probes faults t
-commits_whole h t r m enters marks spare table k = entered_whole h t r m _ (Ending Committed) enters (λ formed.
-    order_committed h.history _ _ r h.order.line t.order.line h.order.table t.order.table (read_whole h k) k.shown.configuration.grips refl formed marks spare table k.order) k
+commits_whole h t r m enters marks spare sealed table k = entered_whole h t r m _ (Ending Committed) enters (λ formed.
+    order_committed h.history _ _ r h.order.line t.order.line h.order.table t.order.table (read_whole h k) k.shown.configuration.grips refl formed marks spare sealed table k.order) k
 
 -- the run has left the line, and has no access any more
 pub record IsWithdrawn {D : Type 0} (h t : Inside D) (r : ℕ) : Type 0 where
   pub marks : t.order.line.marks ≡ without r h.order.line.marks
   pub spare : t.order.line.spare ≡ h.order.line.spare + 1
+  pub sealed : IsSealed t.order.line
   pub table : ChangesEach (λ d. removed r) h.order.table t.order.table
 
 pub aborts_whole : {D : Type 0} {stands turns probes faults : D → ℕ} (h t : Inside D) (r m : ℕ) (cause : Cause) → IsEntered h t r m (Ended (run_no r) (Aborted cause) ∷ []) (Ending (Aborted cause)) → IsWithdrawn h t r → IsWhole stands turns probes faults h → IsWhole stands turns probes faults t
 aborts_whole h t r m cause enters left k = entered_whole h t r m _ (Ending (Aborted cause)) enters (λ formed.
-    order_aborted h.history _ _ r cause h.order.line t.order.line h.order.table t.order.table (read_whole h k) refl formed left.marks left.spare left.table k.order) k
+    order_aborted h.history _ _ r cause h.order.line t.order.line h.order.table t.order.table (read_whole h k) refl formed left.marks left.spare left.sealed left.table k.order) k
 
 -- its undos are finished, as the table tells
 bare_beyond : (table : List LineageState) (k d : ℕ) → length table ≡ k → ((e : ℕ) → e < k → accesses_at table e ≡ []) → accesses_at table d ≡ []
@@ -438,6 +448,7 @@ pub record IsToldSo {D : Type 0} (h t : Inside D) (r k : ℕ) (must : Bool) (c :
   pub last_is : last ≡ (is_doomed (read_in mid) r || not (pends mid.setting (read_in mid) r c.device.0))
   pub marks : between.line.marks ≡ touching r c.device.0 h.order.line.marks
   pub spare : between.line.spare ≡ h.order.line.spare
+  pub sealed : between.line.sealed ≡ h.order.line.sealed
   pub table : is_weak h.history.setting.mode ≡ false → between.table ≡ with_lineage h.order.table c.device.0 (noted_first r (is_first r (lineage_at h.order.table c.device.0)) ViewedDown None last)
   pub same_table : is_weak h.history.setting.mode ≡ true → between.table ≡ h.order.table
   pub line_after : t.order.line ≡ between.line
@@ -486,8 +497,8 @@ pub told_whole : {D : Type 0} {stands turns probes faults : D → ℕ} (h t : In
 told_whole {D = D} h t r m k must c cause mid last between is new told whole = entered_whole h t r m es Going enters (λ formed.
     order_doomed_if mid (with_more h.history r es) g r cause between.line t.order.line between.table t.order.table fit (none_commands w g r none) (sym history) formed told.line_after told.unchanged told.changed
     (either_model (OrderIsBeside h.rounds mid g between.line between.table) w
-    (λ weak. order_told_weakly h.history mid g r k h.order.line between.line h.order.table between.table weak told.answered marks told.spare (told.same_table weak) whole.order)
-    (λ strong. order_told_down h.history mid g (held_in (open_of h)) r k last h.order.line between.line h.order.table between.table (down.told strong) below down.number told.answered last_is marks told.spare (table strong) whole.order))) whole
+    (λ weak. order_told_weakly h.history mid g r k h.order.line between.line h.order.table between.table weak told.answered marks told.spare told.sealed (told.same_table weak) whole.order)
+    (λ strong. order_told_down h.history mid g (held_in (open_of h)) r k last h.order.line between.line h.order.table between.table (down.told strong) below down.number told.answered last_is marks told.spare told.sealed (table strong) whole.order))) whole
   where
     w : Setting
     w = h.history.setting
@@ -558,16 +569,17 @@ may_mark s rounds opened held r m d purpose marks table k chose line_is size = r
 
 -- line and table when a device has gone out for this purpose
 went_for : {rounds : ℕ} (h : HistoryState) (s : Configuration) (g f : Grips) (r d : ℕ) (purpose : Purpose) (line after : Marked) (table later : List LineageState) → s.setting ≡ h.setting → read_of s ≡ read_in h → IsRead h.setting (read_in h) → g d ≡ None → d < length table → GoesFor s r d purpose → f ≡ put g d (Some (record { maker = r; purpose = purpose }))
-    → after.marks ≡ (if is_command purpose then touching r d line.marks else line.marks) → after.spare ≡ line.spare → later ≡ (if is_undo purpose then with_lineage table d (undone r) else table) → OrderIsBeside rounds h g line table → OrderIsBeside rounds h f after later
-went_for h s g f r d (Commands k) line after table later setting same read home below for out marks spare changed order =
-    order_out h g f r d k line after table later home (ap (λ n. is_doomed n r) (sym same) ∙ for.sound) (ap₂ (λ w n. pends w n r d) (sym setting) (sym same) ∙ next_is_left d (commands_of s.setting.runs r) (next_of (read_of s) r) (ap (λ o. unwrap_or (option_map (is_on d) o) false) for.next ∙ eq-eqb for.command.device.0 d for.on)) out marks spare changed order
-went_for h s g f r d (Undoes v) line after table later setting same read home below for out marks spare changed order = order_undo_out h g f r d v line after table later read home below out marks spare changed order
-went_for h s g f r d (Probes v) line after table later setting same read home below for out marks spare changed order = absurd for
+    → after.marks ≡ (if is_command purpose then touching r d line.marks else line.marks) → after.spare ≡ line.spare → after.sealed ≡ line.sealed → later ≡ (if is_undo purpose then with_lineage table d (undone r) else table) → OrderIsBeside rounds h g line table → OrderIsBeside rounds h f after later
+went_for h s g f r d (Commands k) line after table later setting same read home below for out marks spare stays changed order =
+    order_out h g f r d k line after table later home (ap (λ n. is_doomed n r) (sym same) ∙ for.sound) (ap₂ (λ w n. pends w n r d) (sym setting) (sym same) ∙ next_is_left d (commands_of s.setting.runs r) (next_of (read_of s) r) (ap (λ o. unwrap_or (option_map (is_on d) o) false) for.next ∙ eq-eqb for.command.device.0 d for.on)) out marks spare stays changed order
+went_for h s g f r d (Undoes v) line after table later setting same read home below for out marks spare stays changed order = order_undo_out h g f r d v line after table later read home below out marks spare stays changed order
+went_for h s g f r d (Probes v) line after table later setting same read home below for out marks spare stays changed order = absurd for
 
 -- .. as the step of the hub does
 pub record IsTouched {D : Type 0} (h t : Inside D) (r d : ℕ) (purpose : Purpose) : Type 0 where
   pub marks : t.order.line.marks ≡ (if is_command purpose then touching r d h.order.line.marks else h.order.line.marks)
   pub spare : t.order.line.spare ≡ h.order.line.spare
+  pub sealed : t.order.line.sealed ≡ h.order.line.sealed
   pub table : t.order.table ≡ (if is_undo purpose then with_lineage h.order.table d (undone r) else h.order.table)
 
 gone_grips : {D : Type 0} {turns probes faults : D → ℕ} (h t : Inside D) (r m d : ℕ) (purpose : KeptPurpose) (known : DeviceProgress) (task : Task) (grip : Gripped D Ready) → IsHanded turns probes faults h t r m d purpose known task grip
@@ -581,7 +593,7 @@ order_went : {D : Type 0} {stands turns probes faults : D → ℕ} (h t : Inside
     → IsWhole stands turns probes faults h → OrderIsBeside h.rounds h.history (configuration_of (open_of t)).grips t.order.line t.order.table
 order_went {D = D} h t r m d purpose known task grip handed touched k =
     went_for h.history s g (configuration_of (open_of t)).grips r d (purpose_of purpose) h.order.line t.order.line h.order.table t.order.table refl refl (read_whole h k) (none_there (g d) out.home)
-    (let first : d < length h.history.setting.first = below_home h.history.setting d out.device in let size : length h.order.table ≡ length h.history.setting.first = k.order.table_is.devices in omega (arith, first, size)) out.for gone touched.marks touched.spare touched.table k.order
+    (let first : d < length h.history.setting.first = below_home h.history.setting d out.device in let size : length h.order.table ≡ length h.history.setting.first = k.order.table_is.devices in omega (arith, first, size)) out.for gone touched.marks touched.spare touched.sealed touched.table k.order
   where
     s : Configuration
     s = configuration_of (open_of h)

@@ -20,6 +20,7 @@ use Rattle.hub_core.proofs.kept.Sizes.{few_events, line_fits}
 use Rattle.hub_core.proofs.steps.Afters.{read_with}
 use Rattle.hub_core.specs.Bounds.{most_items}
 use Rattle.hub_core.specs.HubsKept.{IsWhole, open_of}
+use Rattle.hub_core.proofs.kept.SealedOrders.{table_unsealed}
 use Rattle.hub_core.specs.KeptOrders.{MayTurn}
 use Rattle.hub_core.specs.OpenHubs.{configuration_of, device_at, held_in}
 use Rattle.hub_core.specs.ReadHistories.{read_in}
@@ -75,6 +76,8 @@ may_fall h slip task d es device v events t number tells below number_is k =
       counted = counted_told h.history.setting (read_in h.history) (configuration_of (open_of h)).grips h.order.table d.0 below k.order.table_is ∙ (let may : may_follow h.history.setting (read_in h.history) (Fell d) ≡ true = first_may h.history.setting h.history.history slip.maker (Fell d) es tells.comes.configuration.history.well_formed in grind (arith, common_steps));
       place = room.0;
       absent = (λ i. stands_in (number_is i)) ∙ failure_absent h.history.setting (read_in h.history) (configuration_of (open_of h)).grips d h.order.line.marks (read_whole h k) k.order.line_is;
+      sealed = k.order.sealed;
+      unsealed = table_unsealed h.history.setting (read_in h.history) (configuration_of (open_of h)).grips d.0 h.order.line h.order.table below k.order.table_is k.order.line_is k.order.sealed;
       entry = room.1;
     }
   where
@@ -92,6 +95,8 @@ may_rise h slip task d es device v events t number tells below number_is k =
       counted = counted_told h.history.setting (read_in h.history) (configuration_of (open_of h)).grips h.order.table d.0 below k.order.table_is ∙ (let may : may_follow h.history.setting (read_in h.history) (Rose d) ≡ true = first_may h.history.setting h.history.history slip.maker (Rose d) es tells.comes.configuration.history.well_formed in grind (arith, common_steps));
       place = room.0;
       absent = (λ i. stands_in (number_is i)) ∙ restart_absent h.history.setting (read_in h.history) (configuration_of (open_of h)).grips d h.order.line.marks (read_whole h k) k.order.line_is;
+      sealed = k.order.sealed;
+      unsealed = table_unsealed h.history.setting (read_in h.history) (configuration_of (open_of h)).grips d.0 h.order.line h.order.table below k.order.table_is k.order.line_is k.order.sealed;
       entry = room.1;
     }
   where

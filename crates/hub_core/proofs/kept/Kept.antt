@@ -170,7 +170,7 @@ gripless w n g r d fit run gone = by_grip (g d) refl
 
 -- a place that the scheduler gives to a run that enters
 pub enters_place : (w : Setting) (n : Reading) (g : Grips) (r m : ℕ) (x : Split) → Enters w n g r m x → IsPlacing w n g r (length x.front)
-enters_place w n g r m x enters = let is = scheduled_is_clear w n g r m x enters.place in record { leader = enters.leader; clear = is.1.clear; within = is.1.within; last = λ first. last first }
+enters_place w n g r m x enters = let is = scheduled_is_clear w n g r m x enters.place in record { leader = enters.leader; clear = is.1.clear; sealed = is.1.sealed; within = is.1.within; last = λ first. last first }
   where
     front_of : Placing → ℕ
     front_of (At s) = length s.front

@@ -8,6 +8,7 @@ use Rattle.history_book.proofs.Snoc.{along_on, each_at, entries_on, put_same, re
 use Rattle.history_book.specs.Histories.{entries_of, entry, kept_by, reading}
 use Rattle.history_book.specs.Plans.{planned_times}
 use Rattle.history_book.specs.Readings.{OfRun, Reading, did, is_doomed, next_of, nothing_read, pends, put}
+use Rattle.history_book.specs.Sealed.{sealed_in}
 use Rattle.history_book.specs.Settings.{Setting, is_weak}
 use Rattle.history_book.specs.WellFormed.{IsWellFormed, along, cause_fits, is_well_formed, may_act, may_follow}
 use Rattle.history_book.specs.declared.entries.End.TheVariants.{Aborted, Committed}
@@ -22,14 +23,15 @@ use Rattle.home_types.specs.declared.commands.View.{View}
 use Rattle.home_types.specs.declared.items.Item.TheVariants.{Ran}
 use Rattle.home_types.specs.declared.items.Item.{Item}
 use Rattle.hub_core.specs.Bounds.{most_items}
-use Rattle.hub_core.specs.KeptOrders.{IsOrderOf, MayNote, OrderIsBeside, TableFits, is_first, noted_first}
+use Rattle.hub_core.specs.KeptOrders.{IsOrderOf, IsSealed, MayNote, OrderIsBeside, TableFits, is_first, noted_first}
 use Rattle.hub_core.specs.ReadHistories.{HistoryState, read_in, with_doom, with_entry}
 use Rattle.lineage_table.specs.Accesses.{is_scheduled, status_of}
 use Rattle.lineage_table.specs.Lineages.{IsOpened, LineageState, committed_lineage, lineage_at, removed, undone, with_lineage}
 use Rattle.lineage_table.specs.declared.accesses.Status.TheVariants.{Acquired, Scheduled}
 use Rattle.lock_leasing.specs.Configurations.{Commands, Grip, Grips, Purpose, Undoes, grips_command, is_command, no_grips}
-use Rattle.serial_line.specs.Marks.{Mark, Marked, items_of, settling, touching, untouched, with_end, with_item, with_touch, without}
+use Rattle.serial_line.specs.Marks.{Mark, Marked, front_of, items_of, settling, touching, untouched, with_end, with_item, with_touch, without}
 use Rattle.std.proofs.Common.{ap, arith, cond, length-append, refl, subst, sym, ◌∙◌}
+use Rattle.hub_core.proofs.kept.SealedOrders.{placed_sealed, same_sealed, sealed_is, touched_sealed}
 use Rattle.hub_core.proofs.kept.Sizes.{count_cons, one_at_most}
 use Rattle.hub_core.proofs.kept.TableFits.{committed_bare, doomed_bare, fits_changed, fits_ordered, fits_still, fits_weakly, removed_bare, undone_change_bare}
 use Rattle.std.proofs.lemmas.List.{length-map, take-append-drop}
@@ -75,14 +77,15 @@ entry_kept {rounds = rounds} h h₂ g maker e line table new kept =
 
 -- The start
 
-pub order_begins : (rounds : ℕ) (w : Setting) (line : Marked) (table : List LineageState) → line.marks ≡ [] → most_items (length w.runs) (length w.first) rounds ≤ line.spare → IsOpened w.runs w.first table → IsOrderOf rounds w (nothing_read w) no_grips line table
-order_begins rounds w line table none room opened = record {
+pub order_begins : (rounds : ℕ) (w : Setting) (line : Marked) (table : List LineageState) → line.marks ≡ [] → line.sealed ≡ 0 → most_items (length w.runs) (length w.first) rounds ≤ line.spare → IsOpened w.runs w.first table → IsOrderOf rounds w (nothing_read w) no_grips line table
+order_begins rounds w line table none none_sealed room opened = record {
   table_is = record {
     devices = opened.devices;
     ordered = λ strong. opened_table w no_grips table opened;
     weakly = λ weak d below. let new = opened.each d below in record { accesses = new.none; up = new.up };
   };
   line_is = subst (MarksAreKept (nothing_read w) no_grips) (sym none) (marks_begin w);
+  sealed = none_sealed ∙ ap front_of (sym none);
   room = omega (arith, room);
 }
 
@@ -92,6 +95,7 @@ pub order_arrived : {rounds : ℕ} (h h₂ : HistoryState) (g : Grips) (r m : �
 order_arrived {rounds = rounds} h h₂ g r m line table new kept = entry_kept h h₂ g r (Arrived (run_no r) m) line table new (record {
   table_is = fits_still h.setting (read_in h) _ g g table (λ d. refl) (λ own. arrived_table h.setting (read_in h) g r m table own) kept.table_is;
   line_is = marks_arrived h.setting (read_in h) g r m line.marks kept.line_is;
+  sealed = kept.sealed;
   room = omega (arith, kept.room);
 })
 
@@ -105,13 +109,14 @@ length_with at x marks =
     omega (arith, after, before, whole)
 
 -- .. at a clear place
-pub order_placed : {rounds : ℕ} (h h₂ : HistoryState) (g : Grips) (r at m : ℕ) (line after : Marked) (table later : List LineageState) → IsRead h.setting (read_in h) → GripsFit h.setting (read_in h) g → is_weak h.setting.mode ≡ false → IsClear h.setting (read_in h) g r at
+pub order_placed : {rounds : ℕ} (h h₂ : HistoryState) (g : Grips) (r at m : ℕ) (line after : Marked) (table later : List LineageState) → IsRead h.setting (read_in h) → GripsFit h.setting (read_in h) g → is_weak h.setting.mode ≡ false → IsClear h.setting (read_in h) g r at → sealed_in (read_in h) ≤ at
     → h₂ ≡ with_entry h r (Placed (run_no r) at m) → IsWellFormed h₂.setting (entries_of h₂.history)
-    → after.marks ≡ with_item at (Ran (run_no r)) line.marks → after.spare + 1 ≡ line.spare → ChangesEach (scheduled_on h.setting.runs r (planned_times h.setting (read_in h) r (take at (read_in h).line) m) (drop at (items_of line.marks))) table later
+    → after.marks ≡ with_item at (Ran (run_no r)) line.marks → after.spare + 1 ≡ line.spare → after.sealed ≡ line.sealed → ChangesEach (scheduled_on h.setting.runs r (planned_times h.setting (read_in h) r (take at (read_in h).line) m) (drop at (items_of line.marks))) table later
     → OrderIsBeside rounds h g line table → OrderIsBeside rounds h₂ g after later
-order_placed {rounds = rounds} h h₂ g r at m line after table later read fit strong clear new formed marks spare changes kept = entry_kept h h₂ g r (Placed (run_no r) at m) after later new (record {
+order_placed {rounds = rounds} h h₂ g r at m line after table later read fit strong clear behind new formed marks spare stays changes kept = entry_kept h h₂ g r (Placed (run_no r) at m) after later new (record {
   table_is = fits_ordered w _ g later strong (placed_table w n g r at m table later read may clear changed (kept.table_is.ordered strong));
   line_is = subst (MarksAreKept (entry w n (Placed (run_no r) at m)) g) (sym marks) (marks_placed w n g r at m line.marks read fit may kept.line_is);
+  sealed = placed_sealed (run_no r) at line after (let is = sealed_is w n g line read kept.line_is kept.sealed in omega (arith, behind, is)) marks stays kept.sealed;
   room = let size = ap (λ (x : List Mark). length x) marks ∙ length_with at (Ran (run_no r)) line.marks in omega (arith, size, spare, kept.room);
 })
   where
@@ -128,11 +133,12 @@ order_placed {rounds = rounds} h h₂ g r at m line after table later read fit s
     changed = subst (λ is. ChangesEach (scheduled_on w.runs r (planned_times w n r (take at n.line) m) (drop at is)) table later) kept.line_is.items changes
 
 -- .. under the weak model, where it has no access
-pub order_joined : {rounds : ℕ} (h h₂ : HistoryState) (g : Grips) (r at m : ℕ) (line after : Marked) (table : List LineageState) → is_weak h.setting.mode ≡ true → IsRead h.setting (read_in h) → GripsFit h.setting (read_in h) g → h₂ ≡ with_entry h r (Placed (run_no r) at m) → IsWellFormed h₂.setting (entries_of h₂.history)
-    → after.marks ≡ with_item at (Ran (run_no r)) line.marks → after.spare + 1 ≡ line.spare → OrderIsBeside rounds h g line table → OrderIsBeside rounds h₂ g after table
-order_joined {rounds = rounds} h h₂ g r at m line after table weak read fit new formed marks spare kept = entry_kept h h₂ g r (Placed (run_no r) at m) after table new (record {
+pub order_joined : {rounds : ℕ} (h h₂ : HistoryState) (g : Grips) (r at m : ℕ) (line after : Marked) (table : List LineageState) → is_weak h.setting.mode ≡ true → IsRead h.setting (read_in h) → GripsFit h.setting (read_in h) g → sealed_in (read_in h) ≤ at → h₂ ≡ with_entry h r (Placed (run_no r) at m) → IsWellFormed h₂.setting (entries_of h₂.history)
+    → after.marks ≡ with_item at (Ran (run_no r)) line.marks → after.spare + 1 ≡ line.spare → after.sealed ≡ line.sealed → OrderIsBeside rounds h g line table → OrderIsBeside rounds h₂ g after table
+order_joined {rounds = rounds} h h₂ g r at m line after table weak read fit behind new formed marks spare stays kept = entry_kept h h₂ g r (Placed (run_no r) at m) after table new (record {
   table_is = fits_weakly w n _ g g table weak (λ d. refl) kept.table_is;
   line_is = subst (MarksAreKept (entry w n (Placed (run_no r) at m)) g) (sym marks) (marks_placed w n g r at m line.marks read fit may kept.line_is);
+  sealed = placed_sealed (run_no r) at line after (let is = sealed_is w n g line read kept.line_is kept.sealed in omega (arith, behind, is)) marks stays kept.sealed;
   room = let size = ap (λ (x : List Mark). length x) marks ∙ length_with at (Ran (run_no r)) line.marks in omega (arith, size, spare, kept.room);
 })
   where
@@ -148,10 +154,11 @@ order_joined {rounds = rounds} h h₂ g r at m line after table weak read fit ne
 -- A run commits
 
 pub order_committed : {rounds : ℕ} (h h₂ : HistoryState) (g : Grips) (r : ℕ) (line after : Marked) (table later : List LineageState) → IsRead h.setting (read_in h) → GripsFit h.setting (read_in h) g → h₂ ≡ with_entry h r (Ended (run_no r) Committed) → IsWellFormed h₂.setting (entries_of h₂.history)
-    → after.marks ≡ settling r line.marks → after.spare ≡ line.spare → ChangesEach (λ d. committed_lineage r) table later → OrderIsBeside rounds h g line table → OrderIsBeside rounds h₂ g after later
-order_committed {rounds = rounds} h h₂ g r line after table later read fit new formed marks spare changes kept = entry_kept h h₂ g r (Ended (run_no r) Committed) after later new (record {
+    → after.marks ≡ settling r line.marks → after.spare ≡ line.spare → IsSealed after → ChangesEach (λ d. committed_lineage r) table later → OrderIsBeside rounds h g line table → OrderIsBeside rounds h₂ g after later
+order_committed {rounds = rounds} h h₂ g r line after table later read fit new formed marks spare sealed changes kept = entry_kept h h₂ g r (Ended (run_no r) Committed) after later new (record {
   table_is = fits_changed w n _ g g (λ d. committed_lineage r) table later (λ d. refl) (λ d. committed_bare r) changes (λ own. committed_table w n g r table later read fit may changes own) kept.table_is;
   line_is = subst (MarksAreKept (entry w n (Ended (run_no r) Committed)) g) (sym marks) (marks_committed w n g r line.marks kept.line_is);
+  sealed = sealed;
   room = let size = ap (λ (x : List Mark). length x) marks ∙ length-map line.marks (with_end r) in omega (arith, size, spare, kept.room);
 })
   where
@@ -170,10 +177,11 @@ length_touching : (r d : ℕ) (marks : List Mark) → length (touching r d marks
 length_touching r d marks = length-map marks (with_touch r d)
 
 pub order_out : {rounds : ℕ} (h : HistoryState) (g f : Grips) (r d k : ℕ) (line after : Marked) (table later : List LineageState) → g d ≡ None → is_doomed (read_in h) r ≡ false → pends h.setting (read_in h) r d ≡ true → f ≡ put g d (Some (record { maker = r; purpose = Commands k }))
-    → after.marks ≡ touching r d line.marks → after.spare ≡ line.spare → later ≡ table → OrderIsBeside rounds h g line table → OrderIsBeside rounds h f after later
-order_out {rounds = rounds} h g f r d k line after table later home sound pending out marks spare same kept = subst (λ (x : Grips). IsOrderOf rounds w n x after later) (sym out) (record {
+    → after.marks ≡ touching r d line.marks → after.spare ≡ line.spare → after.sealed ≡ line.sealed → later ≡ table → OrderIsBeside rounds h g line table → OrderIsBeside rounds h f after later
+order_out {rounds = rounds} h g f r d k line after table later home sound pending out marks spare stays same kept = subst (λ (x : Grips). IsOrderOf rounds w n x after later) (sym out) (record {
   table_is = subst (TableFits w n (put g d (Some (record { maker = r; purpose = Commands k })))) (sym same) (fits_still w n n g _ table (λ e. refl) (λ own. command_out_table w n g d r k table home sound pending own) kept.table_is);
   line_is = subst (MarksAreKept n (put g d (Some (record { maker = r; purpose = Commands k })))) (sym marks) (marks_out n g r d k line.marks home kept.line_is);
+  sealed = touched_sealed r d line after marks stays kept.sealed;
   room = let size = ap (λ (x : List Mark). length x) marks ∙ length_touching r d line.marks in omega (arith, size, spare, kept.room);
 })
   where
@@ -186,10 +194,11 @@ order_out {rounds = rounds} h g f r d k line after table later home sound pendin
 -- An undo goes out
 
 pub order_undo_out : {rounds : ℕ} (h : HistoryState) (g f : Grips) (r d v : ℕ) (line after : Marked) (table later : List LineageState) → IsRead h.setting (read_in h) → g d ≡ None → d < length table → f ≡ put g d (Some (record { maker = r; purpose = Undoes v }))
-    → after.marks ≡ line.marks → after.spare ≡ line.spare → later ≡ with_lineage table d (undone r) → OrderIsBeside rounds h g line table → OrderIsBeside rounds h f after later
-order_undo_out {rounds = rounds} h g f r d v line after table later read home below out marks spare changed kept = subst (λ (x : Grips). IsOrderOf rounds w n x after later) (sym out) (record {
+    → after.marks ≡ line.marks → after.spare ≡ line.spare → after.sealed ≡ line.sealed → later ≡ with_lineage table d (undone r) → OrderIsBeside rounds h g line table → OrderIsBeside rounds h f after later
+order_undo_out {rounds = rounds} h g f r d v line after table later read home below out marks spare stays changed kept = subst (λ (x : Grips). IsOrderOf rounds w n x after later) (sym out) (record {
   table_is = fits_changed w n n g _ (undone_change r d) table later (λ e. refl) (λ e. undone_change_bare r d e) changes (λ own. undo_out_table w n g d r v table later read home changes own) kept.table_is;
   line_is = subst (MarksAreKept n (put g d (Some (record { maker = r; purpose = Undoes v })))) (sym marks) (marks_undo_out n g r d v line.marks home kept.line_is);
+  sealed = same_sealed line after marks stays kept.sealed;
   room = let size = ap (λ (x : List Mark). length x) marks in omega (arith, size, spare, kept.room);
 })
   where
@@ -247,6 +256,7 @@ order_answered {rounds = rounds} h h₂ g f held d r k a view wrote last line af
     entry_kept h h₂ f r (Did (run_no r) k a) after later new (subst (λ (x : Grips). IsOrderOf rounds w m x after later) (sym home) (subst (λ (x : Marked). IsOrderOf rounds w m (put g d None) x later) (sym same) (record {
       table_is = fits_ordered w _ _ later strong (answered_table w n g held d r k a table later read order at changes (kept.table_is.ordered strong));
       line_is = marks_answered w n g d r k a line.marks out at kept.line_is;
+      sealed = kept.sealed;
       room = omega (arith, kept.room);
     })))
   where
@@ -289,6 +299,7 @@ order_answered_weakly {rounds = rounds} h h₂ g f d r k a line after table late
     entry_kept h h₂ f r (Did (run_no r) k a) after later new (subst (λ (x : Grips). IsOrderOf rounds w m x after later) (sym home) (subst (λ (x : Marked). IsOrderOf rounds w m (put g d None) x later) (sym same) (subst (IsOrderOf rounds w m (put g d None) line) (sym still) (record {
       table_is = fits_weakly w n m g (put g d None) table weak (λ e. refl) kept.table_is;
       line_is = marks_answered w n g d r k a line.marks (out_is w n g d r k fit at) at kept.line_is;
+      sealed = kept.sealed;
       room = omega (arith, kept.room);
     }))))
   where
@@ -319,12 +330,13 @@ done_after w n r k a d number on = (λ i. ap (λ (o : OfRun). is_some o.doomed) 
     left = ap (λ (o : OfRun). touches_from w.runs r d (length o.answers)) (put_same n.run r (answered_run w n r k a)) ∙ left_after w n r k a d number
 
 pub order_told_down : {rounds : ℕ} (h h₂ : HistoryState) (g : Grips) (held : ℕ → ℕ) (r k : ℕ) (last : Bool) (line after : Marked) (table later : List LineageState) → IsToldDown h.setting (read_in h) g held r (command_at h.setting.runs r k) → (command_at h.setting.runs r k).device.0 < length h.setting.first → k ≡ next_of (read_in h) r
-    → h₂ ≡ with_entry h r (Did (run_no r) k Down) → last ≡ is_done_there h.setting (read_in h) r k → after.marks ≡ touching r (command_at h.setting.runs r k).device.0 line.marks → after.spare ≡ line.spare
+    → h₂ ≡ with_entry h r (Did (run_no r) k Down) → last ≡ is_done_there h.setting (read_in h) r k → after.marks ≡ touching r (command_at h.setting.runs r k).device.0 line.marks → after.spare ≡ line.spare → after.sealed ≡ line.sealed
     → later ≡ with_lineage table (command_at h.setting.runs r k).device.0 (noted_first r (is_first r (lineage_at table (command_at h.setting.runs r k).device.0)) ViewedDown None last)
     → OrderIsBeside rounds h g line table → OrderIsBeside rounds h₂ g after later
-order_told_down {rounds = rounds} h h₂ g held r k last line after table later told below number new last_is marks spare changed kept = entry_kept h h₂ g r (Did (run_no r) k Down) after later new (record {
+order_told_down {rounds = rounds} h h₂ g held r k last line after table later told below number new last_is marks spare stays changed kept = entry_kept h h₂ g r (Did (run_no r) k Down) after later new (record {
   table_is = fits_ordered w _ g later told.strong (subst (λ j. TableIsKept w (entry w n (Did (run_no r) j Down)) g later) (sym number) (told_table w n g held r c table later told (subst (λ j. ChangesEach (answered_change w n r j Down) table later) number changes) (kept.table_is.ordered told.strong)));
   line_is = subst (MarksAreKept (entry w n (Did (run_no r) k Down)) g) (sym marks) (marks_told w n g r k Down line.marks kept.line_is);
+  sealed = touched_sealed r c.device.0 line after marks stays kept.sealed;
   room = let size = ap (λ (x : List Mark). length x) marks ∙ length_touching r c.device.0 line.marks in omega (arith, size, spare, kept.room);
 })
   where
@@ -357,11 +369,12 @@ order_told_down {rounds = rounds} h h₂ g held r k last line after table later 
 
 -- .. under the weak model
 pub order_told_weakly : {rounds : ℕ} (h h₂ : HistoryState) (g : Grips) (r k : ℕ) (line after : Marked) (table later : List LineageState)
-    → is_weak h.setting.mode ≡ true → h₂ ≡ with_entry h r (Did (run_no r) k Down) → after.marks ≡ touching r (command_at h.setting.runs r k).device.0 line.marks → after.spare ≡ line.spare → later ≡ table
+    → is_weak h.setting.mode ≡ true → h₂ ≡ with_entry h r (Did (run_no r) k Down) → after.marks ≡ touching r (command_at h.setting.runs r k).device.0 line.marks → after.spare ≡ line.spare → after.sealed ≡ line.sealed → later ≡ table
     → OrderIsBeside rounds h g line table → OrderIsBeside rounds h₂ g after later
-order_told_weakly {rounds = rounds} h h₂ g r k line after table later weak new marks spare still kept = entry_kept h h₂ g r (Did (run_no r) k Down) after later new (subst (IsOrderOf rounds w (entry w n (Did (run_no r) k Down)) g after) (sym still) (record {
+order_told_weakly {rounds = rounds} h h₂ g r k line after table later weak new marks spare stays still kept = entry_kept h h₂ g r (Did (run_no r) k Down) after later new (subst (IsOrderOf rounds w (entry w n (Did (run_no r) k Down)) g after) (sym still) (record {
   table_is = fits_weakly w n _ g g table weak (λ d. refl) kept.table_is;
   line_is = subst (MarksAreKept (entry w n (Did (run_no r) k Down)) g) (sym marks) (marks_told w n g r k Down line.marks kept.line_is);
+  sealed = touched_sealed r (command_at w.runs r k).device.0 line after marks stays kept.sealed;
   room = let size = ap (λ (x : List Mark). length x) marks ∙ length_touching r (command_at w.runs r k).device.0 line.marks in omega (arith, size, spare, kept.room);
 }))
   where
@@ -378,6 +391,7 @@ pub order_doomed : {rounds : ℕ} (h h₂ : HistoryState) (g : Grips) (r : ℕ) 
 order_doomed {rounds = rounds} h h₂ g r cause line after table later read fit none new formed same changes kept = entry_kept h h₂ g r (Doomed (run_no r) cause) after later new (subst (λ (x : Marked). IsOrderOf rounds w (entry w n (Doomed (run_no r) cause)) g x later) (sym same) (record {
   table_is = fits_changed w n _ g g (λ d. doomed_lineage r) table later (λ d. refl) (λ d. doomed_bare r) changes (λ own. doomed_table w n g r cause table later read fit sound (doomed_each g r None table later none changes) own) kept.table_is;
   line_is = marks_doomed w n g r cause line.marks kept.line_is;
+  sealed = kept.sealed;
   room = omega (arith, kept.room);
 }))
   where
@@ -432,6 +446,7 @@ pub order_undone : {rounds : ℕ} (h h₂ : HistoryState) (g f : Grips) (r d v :
 order_undone {rounds = rounds} h h₂ g f r d v line table new out home kept = entry_kept h h₂ f r (Undid (run_no r) (device_no d) true) line table new (subst (λ (x : Grips). IsOrderOf rounds w (entry w n (Undid (run_no r) (device_no d) true)) x line table) (sym home) (record {
   table_is = fits_still w n _ g _ table (λ e. refl) (λ own. undid_table w n g d r v table out own) kept.table_is;
   line_is = marks_undone w n (put g d None) r d true line.marks (marks_undo_home n g r d v line.marks out kept.line_is);
+  sealed = kept.sealed;
   room = omega (arith, kept.room);
 }))
   where
@@ -447,6 +462,7 @@ pub order_dropped : {rounds : ℕ} (h h₂ : HistoryState) (g : Grips) (r d : �
 order_dropped {rounds = rounds} h h₂ g r d line after table later read below new same changed kept = entry_kept h h₂ g r (Undid (run_no r) (device_no d) false) after later new (subst (λ (x : Marked). IsOrderOf rounds w (entry w n (Undid (run_no r) (device_no d) false)) g x later) (sym same) (record {
   table_is = fits_changed w n _ g g (undone_change r d) table later (λ e. refl) (λ e. undone_change_bare r d e) changes (λ own. undo_dropped_table w n g d r false table later read changes own) kept.table_is;
   line_is = marks_undone w n g r d false line.marks kept.line_is;
+  sealed = kept.sealed;
   room = omega (arith, kept.room);
 }))
   where
@@ -472,10 +488,11 @@ length_without r (m ∷ marks) = at_ (length_without r marks) (is_ran r m.item) 
     at_ ih false counted = omega (arith, ih, counted)
 
 pub order_aborted : {rounds : ℕ} (h h₂ : HistoryState) (g : Grips) (r : ℕ) (cause : Cause) (line after : Marked) (table later : List LineageState) → IsRead h.setting (read_in h) → h₂ ≡ with_entry h r (Ended (run_no r) (Aborted cause)) → IsWellFormed h₂.setting (entries_of h₂.history)
-    → after.marks ≡ without r line.marks → after.spare ≡ line.spare + 1 → ChangesEach (λ d. removed r) table later → OrderIsBeside rounds h g line table → OrderIsBeside rounds h₂ g after later
-order_aborted {rounds = rounds} h h₂ g r cause line after table later read new formed marks spare changes kept = entry_kept h h₂ g r (Ended (run_no r) (Aborted cause)) after later new (record {
+    → after.marks ≡ without r line.marks → after.spare ≡ line.spare + 1 → IsSealed after → ChangesEach (λ d. removed r) table later → OrderIsBeside rounds h g line table → OrderIsBeside rounds h₂ g after later
+order_aborted {rounds = rounds} h h₂ g r cause line after table later read new formed marks spare sealed changes kept = entry_kept h h₂ g r (Ended (run_no r) (Aborted cause)) after later new (record {
   table_is = fits_changed w n _ g g (λ d. removed r) table later (λ d. refl) (λ d. removed_bare r) changes (λ own. aborted_table w n g r cause table later read may changes own) kept.table_is;
   line_is = subst (MarksAreKept (entry w n (Ended (run_no r) (Aborted cause))) g) (sym marks) (marks_aborted w n g r cause line.marks kept.line_is);
+  sealed = sealed;
   room =
       let size = ap (λ (x : List Mark). length x) marks in
       let left = length_without r line.marks in

@@ -6,6 +6,7 @@ use Rattle.history_book.proofs.Standing.{Standing, is_abort, standing}
 use Rattle.history_book.specs.Histories.{entries_of}
 use Rattle.history_book.specs.Lines.{before}
 use Rattle.history_book.specs.Readings.{PlacedAt, Reading, is_live}
+use Rattle.history_book.specs.Sealed.{sealed_in}
 use Rattle.history_book.specs.Settings.{Setting, is_device, is_weak, scheduler_of}
 use Rattle.history_book.specs.declared.entries.Cause.{Cause}
 use Rattle.history_book.specs.declared.entries.Cause.TheVariants.{Revoked}
@@ -44,10 +45,11 @@ pub record StrongSteps (w : Setting) (n : Reading) : Type 0 where
   pub homed : (r k : ℕ) (c : Command) → slice_get (commands_of w.runs r) k ≡ Some c → is_device w c.device.0 ≡ true
   pub standing : (r : ℕ) → is_live n r ≡ true → list_any (is_ran r) n.line ≡ true
 
--- what is known of the place of a run that is placed: the run waits for no other, nothing behind the place must stand before it, and where runs are served as they come it is the end of the line
+-- what is known of the place of a run that is placed: the run waits for no other, the place is behind what is sealed, nothing behind the place must stand before it, and where runs are served as they come it is the end of the line
 pub record IsPlacing (w : Setting) (n : Reading) (g : Grips) (r at : ℕ) : Type 0 where
   pub leader : follow_wait w n r ≡ None
   pub clear : IsClear w n g r at
+  pub sealed : sealed_in n ≤ at
   pub within : at ≤ length n.line
   pub last : scheduler_of w.mode ≡ Fcfs → at ≡ length n.line
 

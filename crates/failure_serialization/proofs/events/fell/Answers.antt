@@ -4,7 +4,7 @@ use Rattle.home_types.specs.declared.items.Item.TheVariants.{Failed}
 use Rattle.lineage_table.specs.Lineages.{accesses_at}
 use Rattle.failure_serialization.specs.Events.{event_place}
 use Rattle.serial_line.specs.Marks.{with_item}
-use Rattle.std.proofs.Common.{ap, rules, ◌∙◌, ◌≡◌}
+use Rattle.std.proofs.Common.{rules, ◌≡◌}
 
 pub returns-clause-placed : goal.returns-clause-placed
 returns-clause-placed c =

@@ -2,8 +2,10 @@ use Rattle.history_book.specs.Settings.{Setting}
 use Rattle.device_gate.specs.declared.slips.Slip.{Slip}
 use Rattle.hub_core.proofs.kept.BlockedMarks.{none_blocked}
 use Rattle.history_book.specs.Histories.{entries_made}
+use Rattle.hub_core.proofs.calls.FinalItems.{given_sealed, seen_so}
 use Rattle.hub_core.proofs.calls.HubMarks.{marks_given, model_before}
 use Rattle.hub_core.proofs.hubs.Hub.give.Goals as goal
+use Rattle.hub_core.proofs.hubs.Hub.give.Goals.{then-is_weak, else-is_weak}
 use Rattle.hub_core.specs.BlockedMarks.{AreLeft}
 use Rattle.hub_core.specs.BlockedRuns.{is_quiet}
 use Rattle.hub_core.specs.HubCalls.{IsGiven}
@@ -24,3 +26,9 @@ invariant_of-self g c = record {
   marks = none_blocked _ _ c.unmark_all.ensures;
   scratch = c.self.invariant.scratch ∙ sym (ap (λ (w : Setting). length w.first) c.give.ensures.window.setting);
 }
+
+pub returns-after-is_weak-clause-sealed : goal.returns-after-is_weak-clause-sealed
+returns-after-is_weak-clause-sealed g c = elim c.if-is_weak.branch [
+  | then-is_weak w ↦ seen_so c.self.view_is w.self-is (given_sealed g.D.Device.stands g.D.Device.turns g.D.Device.probes g.D.Device.faults c.self.inside.window c.give.new.self c.args.grip c.args.moment c.give.result c.give.ensures.given c.whole-in-Ok.ensures)
+  | else-is_weak w ↦ seen_so c.self.view_is w.self-is (given_sealed g.D.Device.stands g.D.Device.turns g.D.Device.probes g.D.Device.faults c.self.inside.window c.give.new.self c.args.grip c.args.moment c.give.result c.give.ensures.given c.whole-in-Ok.ensures)
+]

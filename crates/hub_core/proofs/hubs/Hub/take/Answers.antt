@@ -1,4 +1,5 @@
 use Rattle.hub_core.proofs.calls.HubMarks.{marks_absent, marks_goes, marks_moved, marks_over, marks_wait, marks_weakly, model_before}
+use Rattle.hub_core.proofs.calls.FinalItems.{seen_so, turn_sealed}
 use Rattle.hub_core.proofs.calls.Placings.{turn_earliest}
 use Rattle.hub_core.proofs.hubs.Hub.take.Goals as goal
 use Rattle.hub_core.specs.HubCalls.{IsTurn, PlansEarliest}
@@ -49,3 +50,15 @@ invariant_of-self g c = record {
 pub returns-in-Moved-clause-earliest : goal.returns-in-Moved-clause-earliest
 returns-in-Moved-clause-earliest g c = subst (λ (s : OpenHub g.row.D.Denot). PlansEarliest (configuration_of s) c.args.r.0 c.take-turn.result) c.self.view_is
     (turn_earliest c.self.inside.window c.take-turn.new.self c.args.r.0 c.args.moment c.take-turn.result c.take-turn.ensures.turn)
+
+pub returns-then-is_weak-clause-sealed : goal.returns-then-is_weak-clause-sealed
+returns-then-is_weak-clause-sealed g c = seen_so c.self.view_is (λ i. c.take-turn.new.self) (turn_sealed g.D.Device.stands g.D.Device.turns g.D.Device.probes g.D.Device.faults c.self.inside.window c.take-turn.new.self c.args.r.0 c.args.moment c.take-turn.result c.take-turn.ensures.turn c.whole-2.ensures)
+
+pub returns-in-Go-clause-sealed : goal.returns-in-Go-clause-sealed
+returns-in-Go-clause-sealed g c = seen_so c.self.view_is (λ i. c.take-turn.new.self) (turn_sealed g.D.Device.stands g.D.Device.turns g.D.Device.probes g.D.Device.faults c.self.inside.window c.take-turn.new.self c.args.r.0 c.args.moment c.take-turn.result c.take-turn.ensures.turn c.whole-2.ensures)
+
+pub returns-in-Moved-clause-sealed : goal.returns-in-Moved-clause-sealed
+returns-in-Moved-clause-sealed g c = seen_so c.self.view_is (λ i. c.take-turn.new.self) (turn_sealed g.D.Device.stands g.D.Device.turns g.D.Device.probes g.D.Device.faults c.self.inside.window c.take-turn.new.self c.args.r.0 c.args.moment c.take-turn.result c.take-turn.ensures.turn c.whole-2.ensures)
+
+pub returns-in-Over-clause-sealed : goal.returns-in-Over-clause-sealed
+returns-in-Over-clause-sealed g c = seen_so c.self.view_is (λ i. c.take-turn.new.self) (turn_sealed g.D.Device.stands g.D.Device.turns g.D.Device.probes g.D.Device.faults c.self.inside.window c.take-turn.new.self c.args.r.0 c.args.moment c.take-turn.result c.take-turn.ensures.turn c.whole-2.ensures)

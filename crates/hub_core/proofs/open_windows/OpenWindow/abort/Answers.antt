@@ -2,8 +2,11 @@ use Rattle.history_book.specs.declared.entries.End.TheVariants.{Aborted}
 use Rattle.hub_core.proofs.calls.HubChanges.{Ending, chosen_here, has_place}
 use Rattle.hub_core.proofs.calls.HubChoices.{aborting}
 use Rattle.hub_core.proofs.calls.HubOrders.{aborts_whole, hub_finished, read_whole}
+use Rattle.hub_core.proofs.kept.SealedOrders.{live_is_unsealed}
 use Rattle.hub_core.proofs.open_windows.OpenWindow.abort.Goals as goal
-use Rattle.hub_core.specs.ReadHistories.{with_entry}
+use Rattle.hub_core.specs.HubsKept.{open_of}
+use Rattle.hub_core.specs.OpenHubs.{configuration_of}
+use Rattle.hub_core.specs.ReadHistories.{read_in, with_entry}
 use Rattle.hub_core.specs.declared.decisions.Chosen.TheVariants.{Aborts}
 use Rattle.std.proofs.Common.{ap, ◌∙◌}
 use Rattle.window_order.proofs.TouchedLines.{live_stands}
@@ -12,6 +15,14 @@ pub withdraw-requires-clause-run : goal.withdraw-requires-clause-run
 withdraw-requires-clause-run g c =
     let ends = aborting _ _ _ _ c.args.r.0 c.args.moment c.args.cause c.self.invariant.shown.configuration (chosen_here c.self.inside c.args.self.now c.args.r.0 c.args.moment (Aborts c.args.cause) c.self.view_is c.requires) in
     live_stands _ _ _ c.args.r.0 _ (read_whole c.self.inside c.self.invariant) ends.live c.self.invariant.order.line_is
+
+pub withdraw-requires-clause-sealed : goal.withdraw-requires-clause-sealed
+withdraw-requires-clause-sealed g c = c.self.invariant.order.sealed
+
+pub withdraw-requires-clause-live : goal.withdraw-requires-clause-live
+withdraw-requires-clause-live g c =
+    let ends = aborting _ _ _ _ c.args.r.0 c.args.moment c.args.cause c.self.invariant.shown.configuration (chosen_here c.self.inside c.args.self.now c.args.r.0 c.args.moment (Aborts c.args.cause) c.self.view_is c.requires) in
+    live_is_unsealed (read_in c.self.inside.history) (configuration_of (open_of c.self.inside)).grips c.args.r c.self.inside.order.line ends.live c.self.invariant.order.line_is c.self.invariant.order.sealed
 
 pub withdraw-requires-clause-finished : goal.withdraw-requires-clause-finished
 withdraw-requires-clause-finished g c =
@@ -27,4 +38,4 @@ invariant_of-self g c =
     aborts_whole c.self.inside _ c.args.r.0 c.args.moment c.args.cause (record {
       chosen = chosen_here c.self.inside c.args.self.now c.args.r.0 c.args.moment (Aborts c.args.cause) c.self.view_is c.requires;
       new = λ i. record c.self.inside { history = new i; moment = c.max-self-inside.ensures i; order = c.withdraw.new.self };
-    }) (record { marks = c.withdraw.ensures.marks; spare = c.withdraw.ensures.spare; table = c.withdraw.ensures.table }) c.self.invariant
+    }) (record { marks = c.withdraw.ensures.marks; spare = c.withdraw.ensures.spare; sealed = c.withdraw.ensures.sealed; table = c.withdraw.ensures.table }) c.self.invariant

@@ -9,10 +9,13 @@ use Rattle.std.proofs.Common.{ap, ◌∙◌}
 pub commit-requires-clause-room : goal.commit-requires-clause-room
 commit-requires-clause-room g c = has_place c.self.inside c.args.r.0 c.args.moment _ (Ending Committed) (chosen_here c.self.inside c.args.self.now c.args.r.0 c.args.moment Commits c.self.view_is c.requires) c.self.invariant
 
+pub settle-requires : goal.settle-requires
+settle-requires g c = record { sealed = c.self.invariant.order.sealed }
+
 pub invariant_of-self : goal.invariant_of-self
 invariant_of-self g c =
     let new = c.commit.ensures.new ∙ ap (with_entry c.self.inside.history c.args.r.0) c.commit.ensures.entry in
     commits_whole c.self.inside _ c.args.r.0 c.args.moment (record {
       chosen = chosen_here c.self.inside c.args.self.now c.args.r.0 c.args.moment Commits c.self.view_is c.requires;
       new = λ i. record c.self.inside { history = new i; moment = c.max-self-inside.ensures i; order = c.settle.new.self };
-    }) c.settle.ensures.marks c.settle.ensures.spare c.settle.ensures.table c.self.invariant
+    }) c.settle.ensures.marks c.settle.ensures.spare c.settle.ensures.sealed c.settle.ensures.table c.self.invariant

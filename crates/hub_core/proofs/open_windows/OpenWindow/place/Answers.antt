@@ -1,6 +1,6 @@
 use Rattle.history_book.specs.declared.entries.Entry.TheVariants.{Placed}
 use Rattle.hub_core.proofs.calls.HubChanges.{Going, chosen_here, has_place, strong_here}
-use Rattle.hub_core.proofs.calls.HubOrders.{hub_joins, joins_planned, joins_whole, joins_within, line_place}
+use Rattle.hub_core.proofs.calls.HubOrders.{hub_joins, joins_behind, joins_planned, joins_whole, joins_within, line_place}
 use Rattle.hub_core.proofs.open_windows.OpenWindow.place.Goals as goal
 use Rattle.hub_core.specs.ReadHistories.{with_entry}
 use Rattle.hub_core.specs.declared.decisions.Chosen.TheVariants.{Joins}
@@ -11,6 +11,9 @@ join-requires-clause-room g c = line_place c.self.inside c.args.r.0 c.args.at c.
 
 pub join-requires-clause-place : goal.join-requires-clause-place
 join-requires-clause-place g c = joins_within c.self.inside c.args.r.0 c.args.at c.args.moment (chosen_here c.self.inside c.args.self.now c.args.r.0 c.args.moment (Joins c.args.at) c.self.view_is c.requires.chosen) c.self.invariant
+
+pub join-requires-clause-behind : goal.join-requires-clause-behind
+join-requires-clause-behind g c = joins_behind c.self.inside c.args.r.0 c.args.at c.args.moment (chosen_here c.self.inside c.args.self.now c.args.r.0 c.args.moment (Joins c.args.at) c.self.view_is c.requires.chosen) c.self.invariant
 
 pub join-requires-clause-absent : goal.join-requires-clause-absent
 join-requires-clause-absent g c = (hub_joins c.self.inside c.args.r.0 c.args.at c.args.moment (chosen_here c.self.inside c.args.self.now c.args.r.0 c.args.moment (Joins c.args.at) c.self.view_is c.requires.chosen) (strong_here c.self.inside c.args.self.now false c.self.view_is c.requires.strong) c.self.invariant).absent
@@ -37,4 +40,4 @@ invariant_of-self g c =
     joins_whole c.self.inside _ c.args.r.0 c.args.at c.args.moment (record {
       chosen = chosen_here c.self.inside c.args.self.now c.args.r.0 c.args.moment (Joins c.args.at) c.self.view_is c.requires.chosen;
       new = λ i. record c.self.inside { history = new i; moment = c.max-self-inside.ensures i; order = c.join.new.self };
-    }) (record { marks = c.join.ensures.marks; spare = c.join.ensures.spare; table = table }) (strong_here c.self.inside c.args.self.now false c.self.view_is c.requires.strong) c.self.invariant
+    }) (record { marks = c.join.ensures.marks; spare = c.join.ensures.spare; sealed = c.join.ensures.sealed; table = table }) (strong_here c.self.inside c.args.self.now false c.self.view_is c.requires.strong) c.self.invariant

@@ -1,9 +1,18 @@
+use Rattle.lineage_table.proofs.Knots.{none_read, read}
 use Rattle.lineage_table.proofs.lineages.Lineage.access.Goals as goal
-use Rattle.lineage_table.proofs.Keeping.{no_access, read_there}
-use Rattle.std.proofs.Common.{sym, ◌∙◌}
+use Rattle.chain_arena.specs.Chains.{values_of}
+use Rattle.lineage_table.specs.Accesses.{access_of}
+use Rattle.lineage_table.specs.Knots.{IsKnotOf}
+use Rattle.std.proofs.Common.{ap, subst, ◌∙◌}
 
-pub returns-in_err-at : goal.returns-in_err-at
-returns-in_err-at c = c.from_residual.ensures ∙ sym (no_access c.args.r.0 c.args.self.now.accesses (sym c.place_of.ensures ∙ c.in_err-at.was))
+pub returns-in_err-k : goal.returns-in_err-k
+returns-in_err-k c =
+    let r = c.args.r.0 in
+    let ps = c.self.inside.accesses.pairs in
+    c.from_residual.ensures ∙ none_read r (values_of ps) (subst (IsKnotOf r ps) c.in_err-k.was c.knot_of.ensures) ∙ ap (λ v. access_of r v.accesses) c.self.view_is
 
 pub returns : goal.returns
-returns c = read_there _ c.args.self.now c.args.r.0 c.in_ok-at.at c.index.result.now c.self.view_is (sym c.place_of.ensures ∙ c.in_ok-at.was) c.index.ensures
+returns c =
+    let r = c.args.r.0 in
+    let ps = c.self.inside.accesses.pairs in
+    read r c.in_ok-k.k ps (subst (IsKnotOf r ps) c.in_ok-k.was c.knot_of.ensures) c.kept.ensures c.get.result.now c.get.ensures ∙ ap (λ v. access_of r v.accesses) c.self.view_is

@@ -1,9 +1,10 @@
+use Rattle.chain_arena.specs.Chains.{values_of}
 use Rattle.lineage_table.proofs.lineages.Lineage.first_before.Given as goal
 use Rattle.lineage_table.specs.Accesses.{first_before}
 use Rattle.lineage_table.specs.declared.accesses.Access.{Access}
-use Rattle.std.proofs.Common.{drop, ◌≡◌}
+use Rattle.std.proofs.Common.{◌≡◌}
 use Rattle.std.specs.Prelude.{Bool}
 
 -- the test holds of none so far, nor is one the run's own
 abbrev pub invariant-accesses : goal.invariant-accesses
-invariant-accesses g l = (test : Access → Bool) → ((x : Access) (b : Bool) → goal.F-post g l.fn.test x b → b ≡ test x) → first_before test l.r.0 l.self.accesses ≡ first_before test l.r.0 (drop l.access-index l.access-items)
+invariant-accesses g l = (test : Access → Bool) → ((x : Access) (b : Bool) → goal.F-post g l.fn.test x b → b ≡ test x) → first_before test l.r.0 l.self.accesses ≡ first_before test l.r.0 (values_of l.access-iterator)

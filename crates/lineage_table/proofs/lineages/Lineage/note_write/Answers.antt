@@ -1,18 +1,50 @@
-use Rattle.lineage_table.proofs.lineages.Lineage.note_write.Goals as goal
+use Rattle.chain_arena.specs.Chains.{values_of}
+use Rattle.lineage_table.proofs.Keeping.{changed_state, found_by_status, writes}
+use Rattle.lineage_table.proofs.Knots.{at_now, read_in_place, set_in_place}
 use Rattle.lineage_table.proofs.Writers.{keeps_written}
-use Rattle.lineage_table.proofs.Keeping.{changed_state, found_by_status}
+use Rattle.lineage_table.proofs.lineages.Lineage.note_write.Goals as goal
+use Rattle.lineage_table.specs.Accesses.{IsDisciplined, effective_writer, has_access}
 use Rattle.lineage_table.specs.declared.accesses.Access.{Access}
-use Rattle.lineage_table.specs.declared.accesses.Status.TheVariants.{Acquired}
-use Rattle.lineage_table.specs.Accesses.{effective_writer}
-use Rattle.std.proofs.Common.{Some, ap, refl, sym, ◌∙◌}
+use Rattle.lineage_table.specs.declared.accesses.Status.TheVariants.{Acquired, Released, Scheduled}
+use Rattle.std.proofs.Common.{Some, ap, length, refl, subst, sym, ◌∙◌}
 
-pub place-at-requires : goal.place-at-requires
-place-at-requires c = found_by_status c.args.r.0 c.args.self.now.accesses Acquired c.requires.acquired
+pub knot-k-requires : goal.knot-k-requires
+knot-k-requires c = ap (λ v. has_access c.args.r.0 v.accesses) c.self.view_is ∙ found_by_status c.args.r.0 c.args.self.now.accesses Acquired c.requires.acquired
 
 pub writer_with-self-inside-requires : goal.writer_with-self-inside-requires
 writer_with-self-inside-requires c = λ only.
-    keeps_written _ c.args.self.now c.self.inside.writer c.self.view_is c.self.invariant c.args.r c.place-at.result c.args.v c.index.result.now (λ (x : Access). record x { wrote = Some c.args.v }) c.place-at.ensures c.index.ensures (λ x. refl) (λ x. refl) only
-    ∙ ap effective_writer (sym c.as_slice.ensures.value)
+    let r = c.args.r.0 in
+    let ps = c.self.inside.accesses.pairs in
+    let cut = c.knot-k.ensures in
+    let x = c.get_mut.result.now in
+    let i = length (values_of cut.front) in
+    let at = at_now r c.knot-k.result ps cut c.kept.ensures c.args.self.now.accesses (ap (λ v. v.accesses) c.self.view_is) in
+    let is = read_in_place r c.knot-k.result ps cut c.kept.ensures x c.get_mut.ensures.value in
+    keeps_written _ c.args.self.now c.self.inside.writer c.self.view_is c.self.invariant c.args.r i c.args.v x (λ (z : Access). record z { wrote = Some c.args.v }) at is (λ z. refl) (λ z. refl) only
+    ∙ sym (ap effective_writer (set_in_place r c.knot-k.result ps cut c.kept.ensures ((λ (z : Access). record z { wrote = Some c.args.v }) x)))
+
+pub invariant_of-self : goal.invariant_of-self
+invariant_of-self c =
+    let r = c.args.r.0 in
+    let ps = c.self.inside.accesses.pairs in
+    let cut = c.knot-k.ensures in
+    let x = c.get_mut.result.now in
+    let i = length (values_of cut.front) in
+    let at = at_now r c.knot-k.result ps cut c.kept.ensures c.args.self.now.accesses (ap (λ v. v.accesses) c.self.view_is) in
+    let is = read_in_place r c.knot-k.result ps cut c.kept.ensures x c.get_mut.ensures.value in
+    record {
+      turns = subst IsDisciplined (sym (set_in_place r c.knot-k.result ps cut c.kept.ensures (record x { wrote = Some c.args.v }))) (writes _ c.args.self.now r i x (Some c.args.v) c.self.view_is c.self.invariant.turns at is);
+      last = c.writer_with-self-inside.ensures;
+    }
 
 pub returns : goal.returns
-returns c = changed_state _ c.args.self.now c.args.r.0 c.place-at.result c.index.result.now (λ (x : Access). record x { wrote = Some c.args.v }) c.self.view_is c.place-at.ensures c.index.ensures
+returns c =
+    let r = c.args.r.0 in
+    let ps = c.self.inside.accesses.pairs in
+    let cut = c.knot-k.ensures in
+    let x = c.get_mut.result.now in
+    let i = length (values_of cut.front) in
+    let at = at_now r c.knot-k.result ps cut c.kept.ensures c.args.self.now.accesses (ap (λ v. v.accesses) c.self.view_is) in
+    let is = read_in_place r c.knot-k.result ps cut c.kept.ensures x c.get_mut.ensures.value in
+    ap (λ l. record { committed = c.self.inside.committed; accesses = l; room = c.self.inside.accesses.spare; up = c.self.inside.up }) (set_in_place r c.knot-k.result ps cut c.kept.ensures ((λ (z : Access). record z { wrote = Some c.args.v }) x))
+    ∙ changed_state _ c.args.self.now r i x (λ (z : Access). record z { wrote = Some c.args.v }) c.self.view_is at is

@@ -1,14 +1,38 @@
-use Rattle.lineage_table.proofs.Keeping.{behind_there, last_there, no_run_behind}
+use Rattle.lineage_table.proofs.Keeping.{no_run_behind}
+use Rattle.lineage_table.proofs.Knots.{behind_there, first_from, none_placed}
 use Rattle.lineage_table.proofs.lineages.Lineage.run_behind.Goals as goal
-use Rattle.std.proofs.Common.{sym, ◌∙◌}
+use Rattle.chain_arena.specs.Chains.{IsBehind, rest_of, values_of}
+use Rattle.lineage_table.specs.Accesses.{has_access, run_behind}
+use Rattle.lineage_table.specs.Knots.{IsKnotOf}
+use Rattle.lineage_table.specs.declared.accesses.Access.{Access}
+use Rattle.std.proofs.Common.{None, Some, ap, subst, sym, ◌∙◌}
+use Rattle.std.specs.Prelude.{option_map, slice_get}
 
-pub returns-in_err-at : goal.returns-in_err-at
-returns-in_err-at c = c.from_residual.ensures ∙ no_run_behind c.args.r.0 c.args.self.now.accesses (sym c.place_of.ensures ∙ c.in_err-at.was)
+pub returns-in_err-k : goal.returns-in_err-k
+returns-in_err-k c =
+    let r = c.args.r.0 in
+    let none = sym (ap (λ v. has_access r v.accesses) c.self.view_is) ∙ subst (IsKnotOf r c.self.inside.accesses.pairs) c.in_err-k.was c.knot_of.ensures in
+    c.from_residual.ensures ∙ no_run_behind r c.args.self.now.accesses (none_placed r c.args.self.now.accesses none)
 
-pub returns-in_err-access : goal.returns-in_err-access
-returns-in_err-access c =
-    c.from_residual-in_err-access.ensures
-    ∙ last_there _ c.args.self.now c.args.r.0 c.in_ok-at.at c.deref.result.now c.self.view_is c.deref.ensures.value (sym c.place_of.ensures ∙ c.in_ok-at.was) c.in_err-access.ensures.lookup.3
+pub returns-in_err-behind : goal.returns-in_err-behind
+returns-in_err-behind c =
+    let r = c.args.r.0 in
+    let ps = c.self.inside.accesses.pairs in
+    let k = c.in_ok-k.k in
+    let cut = subst (IsKnotOf r ps) c.in_ok-k.was c.knot_of.ensures in
+    c.from_residual-in_err-behind.ensures
+    ∙ sym (ap (λ l. option_map (λ (x : Access). x.run) (slice_get l 0)) (behind_there r k ps cut c.kept.ensures None (subst (λ o. IsBehind k o ps) c.in_err-behind.was c.after.ensures.behind)))
+    ∙ ap (λ v. run_behind r v.accesses) c.self.view_is
 
 pub returns : goal.returns
-returns c = behind_there _ c.args.self.now c.args.r.0 c.in_ok-at.at c.deref.result.now c.in_ok-access.access.now c.self.view_is c.deref.ensures.value (sym c.place_of.ensures ∙ c.in_ok-at.was) c.in_ok-access.ensures.lookup.3.0 c.in_ok-access.ensures.lookup.1
+returns c =
+    let r = c.args.r.0 in
+    let ps = c.self.inside.accesses.pairs in
+    let k = c.in_ok-k.k in
+    let cut = subst (IsKnotOf r ps) c.in_ok-k.was c.knot_of.ensures in
+    let b = c.in_ok-behind.behind in
+    sym (
+    ap (λ l. option_map (λ (x : Access). x.run) (slice_get l 0)) (behind_there r k ps cut c.kept.ensures (Some b) (subst (λ o. IsBehind k o ps) c.in_ok-behind.was c.after.ensures.behind))
+    ∙ ap (option_map (λ (x : Access). x.run)) (first_from b.0 ps c.get.result.now c.get.ensures)
+    )
+    ∙ ap (λ v. run_behind r v.accesses) c.self.view_is

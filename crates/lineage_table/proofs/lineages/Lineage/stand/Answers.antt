@@ -1,15 +1,28 @@
+use Rattle.chain_arena.specs.Chains.{values_of}
+use Rattle.lineage_table.proofs.Knots.{at_now, read_in_place}
 use Rattle.lineage_table.proofs.Writers.{has_stood, stood_committed, stood_there}
 use Rattle.lineage_table.proofs.lineages.Lineage.stand.Goals as goal
-use Rattle.std.proofs.Common.{IsSome, Some, rules, subst, sym, ℕ, ◌∙◌, ◌≡◌}
+use Rattle.lineage_table.specs.Accesses.{has_access}
+use Rattle.std.proofs.Common.{IsSome, Some, ap, length, rules, subst, sym, ℕ, ◌∙◌, ◌≡◌}
 
-pub place-requires : goal.place-requires
-place-requires c = has_stood _ c.args.self.now c.self.inside.writer c.self.view_is c.self.invariant c.in-Some.r c.in-Some.is
+pub knot-k-requires : goal.knot-k-requires
+knot-k-requires c = ap (λ v. has_access c.in-Some.r.0 v.accesses) c.self.view_is ∙ has_stood _ c.args.self.now c.self.inside.writer c.self.view_is c.self.invariant c.in-Some.r c.in-Some.is
 
 pub unwrap-requires : goal.unwrap-requires
-unwrap-requires c = subst IsSome (sym (stood_there _ c.args.self.now c.self.inside.writer c.self.view_is c.self.invariant c.in-Some.r c.place.result c.index.result.now c.in-Some.is c.place.ensures c.index.ensures)) (search rules)
+unwrap-requires c =
+    let ps = c.self.inside.accesses.pairs in
+    let cut = c.knot-k.ensures in
+    let at = at_now c.in-Some.r.0 c.knot-k.result ps cut c.kept.ensures c.args.self.now.accesses (ap (λ v. v.accesses) c.self.view_is) in
+    let is = read_in_place c.in-Some.r.0 c.knot-k.result ps cut c.kept.ensures c.get.result.now c.get.ensures in
+    subst IsSome (sym (stood_there _ c.args.self.now c.self.inside.writer c.self.view_is c.self.invariant c.in-Some.r (length (values_of cut.front)) c.get.result.now c.in-Some.is at is)) (search rules)
 
 pub returns-in-Some : goal.returns-in-Some
-returns-in-Some c = same (sym c.unwrap.ensures ∙ stood_there _ c.args.self.now c.self.inside.writer c.self.view_is c.self.invariant c.in-Some.r c.place.result c.index.result.now c.in-Some.is c.place.ensures c.index.ensures)
+returns-in-Some c =
+    let ps = c.self.inside.accesses.pairs in
+    let cut = c.knot-k.ensures in
+    let at = at_now c.in-Some.r.0 c.knot-k.result ps cut c.kept.ensures c.args.self.now.accesses (ap (λ v. v.accesses) c.self.view_is) in
+    let is = read_in_place c.in-Some.r.0 c.knot-k.result ps cut c.kept.ensures c.get.result.now c.get.ensures in
+    same (sym c.unwrap.ensures ∙ stood_there _ c.args.self.now c.self.inside.writer c.self.view_is c.self.invariant c.in-Some.r (length (values_of cut.front)) c.get.result.now c.in-Some.is at is)
   where
     same : {a b : ℕ} → Some a ≡ Some b → a ≡ b
     same e = cc

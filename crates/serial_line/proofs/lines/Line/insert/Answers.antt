@@ -33,6 +33,10 @@ invariant_of-self c = record {
       ap (λ ms. all_differ (items_of ms)) seen ∙ differ_insert c.self.inside.entries.items c.args.at (untouched c.args.item) c.self.invariant.once absent;
   room = search rules;
   few = search rules;
+  labelled = search rules;
+  labels = c.insert_label.ensures.labels;
+  label_room = search rules;
+  sealed = search rules;
   front = c.front_from-self-inside.ensures ∙ ap front_of c.as_slice-entries.ensures.value;
   places = subst (λ ms. ArePlaces ms c.tell_places.new.places) c.as_slice-entries.ensures.value c.tell_places.ensures;
 }

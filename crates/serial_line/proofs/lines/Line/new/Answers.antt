@@ -1,5 +1,6 @@
 use Rattle.serial_line.proofs.RunPlaces.{no_places}
 use Rattle.serial_line.proofs.lines.Line.new.Goals as goal
+use Rattle.serial_line.specs.Labels.{AreLabels}
 use Rattle.serial_line.specs.RunPlaces.{ArePlaces}
 use Rattle.std.proofs.Common.{None, replicate, rules, subst, sym}
 
@@ -9,5 +10,9 @@ invariant_of-result c = record {
   room = search rules;
   few = search rules;
   front = search rules;
+  labelled = search rules;
+  labels = subst AreLabels (sym c.new-2.ensures.items) (record { rising = tt; room = tt });
+  label_room = search rules;
+  sealed = search rules;
   places = subst (λ ms. ArePlaces ms (replicate 65 None)) (sym c.new.ensures.items) (no_places 65);
 }

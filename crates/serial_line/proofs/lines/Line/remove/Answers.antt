@@ -1,11 +1,19 @@
 use Rattle.home_types.specs.declared.items.Item.TheVariants.{Ran}
 use Rattle.serial_line.proofs.Fronts.{front_removed}
-use Rattle.serial_line.proofs.Once.{differ_removed, removed_told, removed_untold, told_stands, untold_stands}
+use Rattle.serial_line.proofs.Once.{differ_removed, place_told, removed_told, removed_untold, told_stands, untold_stands}
 use Rattle.serial_line.proofs.RunPlaces.{before_removed}
+use Rattle.serial_line.proofs.Sealed.{unsealed_place}
 use Rattle.serial_line.proofs.lines.Line.remove.Goals as goal
-use Rattle.serial_line.specs.Marks.{all_differ, front_of, items_of, place_of, without}
+use Rattle.serial_line.specs.Marks.{all_differ, front_of, items_of, place_of, stands, untouched, without}
 use Rattle.serial_line.specs.RunPlaces.{ArePlaces}
-use Rattle.std.proofs.Common.{ap, arith, remove, rules, subst, sym, ◌∙◌, ◌≡◌}
+use Rattle.std.proofs.Common.{ap, arith, length, vec_len, remove, rules, subst, sym, take, ◌∙◌, ◌≡◌}
+
+-- it is none of those that are sealed
+pub remove_label-requires-clause-unsealed : goal.remove_label-requires-clause-unsealed
+remove_label-requires-clause-unsealed c =
+    let told = ap (λ s. place_of (Ran c.args.run) s.marks) c.self.view_is ∙ sym c.place_of.ensures.place ∙ c.in-Some.is in
+    let none = ap (λ s. stands (Ran c.args.run) (take s.sealed s.marks)) c.self.view_is ∙ c.requires.unsealed in
+    unsealed_place (Ran c.args.run) c.self.inside.entries.items c.in-Some.at c.self.inside.sealed told none
 
 -- what the call sees is the line without the run
 pub tell_places-requires-clause-once : goal.tell_places-requires-clause-once
@@ -35,6 +43,17 @@ invariant_of-self c = record {
       ap (λ ms. all_differ (items_of ms)) c.remove.ensures.items ∙ differ_removed (Ran c.args.run) c.self.inside.entries.items c.in-Some.at c.self.invariant.once told;
   room = search rules;
   few = search rules;
+  labelled = search rules;
+  labels = c.remove_label.ensures.labels;
+  label_room = search rules;
+  sealed =
+      let told = ap (λ s. place_of (Ran c.args.run) s.marks) c.self.view_is ∙ sym c.place_of.ensures.place ∙ c.in-Some.is in
+      let none = ap (λ s. stands (Ran c.args.run) (take s.sealed s.marks)) c.self.view_is ∙ c.requires.unsealed in
+      let low = unsealed_place (Ran c.args.run) c.self.inside.entries.items c.in-Some.at c.self.inside.sealed told none in
+      let within = (place_told (Ran c.args.run) c.self.inside.entries.items c.in-Some.at (untouched (Ran c.args.run)) told).0 in
+      let count : length c.self.inside.entries.items ≡ vec_len c.self.inside.entries = search rules in
+      let size = c.remove.ensures.len in
+      omega (arith, low, within, count, size);
   front = c.front_from-self-inside.ensures ∙ ap front_of c.as_slice-entries.ensures.value;
   places = subst (λ ms. ArePlaces ms c.tell_places.new.places) c.as_slice-entries.ensures.value c.tell_places.ensures;
 }

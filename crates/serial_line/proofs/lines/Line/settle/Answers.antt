@@ -19,6 +19,10 @@ invariant_of-self c =
       once = differ_changed (Ran c.args.run) c.self.inside.entries.items c.in-Some.at c.index_mut.result.now c.settle.new.self c.self.invariant.once told c.index_mut.ensures.value (ap (λ m. m.item) c.settle.ensures);
       room = c.self.invariant.room;
       few = c.self.invariant.few;
+      labelled = search rules;
+      labels = c.self.invariant.labels;
+      label_room = c.self.invariant.label_room;
+      sealed = search rules;
       front = c.front_from-self-inside.ensures ∙ ap front_of c.as_slice.ensures.value;
       places = places_stay c.self.inside.entries.items _ c.self.inside.places (same_items c.self.inside.entries.items c.in-Some.at c.settle.new.self c.index_mut.result.now (place_told (Ran c.args.run) c.self.inside.entries.items c.in-Some.at c.index_mut.result.now told).0 (ap (λ m. m.item) c.settle.ensures ∙ ap (λ m. m.item) c.index_mut.ensures.value)) c.self.invariant.places;
     }

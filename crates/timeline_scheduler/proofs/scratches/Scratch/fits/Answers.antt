@@ -1,8 +1,10 @@
+use Rattle.chain_arena.specs.Chains.{values_of}
 use Rattle.command_rules.proofs.Indexes.{device_below}
 use Rattle.command_rules.specs.Rosters.{commands_of, runs_of, touches}
 use Rattle.home_types.specs.Limits.{most_devices}
+use Rattle.lineage_table.specs.Accesses.{IsDisciplined}
 use Rattle.lineage_table.specs.Lineages.{accesses_at}
-use Rattle.std.proofs.Common.{ap, arith, length, sym, ◌<◌, ◌∙◌}
+use Rattle.std.proofs.Common.{ap, arith, length, subst, sym, ◌<◌, ◌∙◌}
 use Rattle.std.specs.List.{list_all}
 use Rattle.timeline_scheduler.proofs.DeviceWalks.{all_done, all_fails, all_next}
 use Rattle.timeline_scheduler.proofs.SlotSets.{slot_read}
@@ -17,9 +19,9 @@ returns-then-not-fits c =
     all_fails (λ d. fits_slot (accesses_at c.args.s.now.table.now d) (slot_at c.args.self.now d)) (touches (runs_of c.args.s.now.roster.now) c.args.r.0)
     (list_all (λ d. fits_slot (accesses_at c.args.s.now.table.now d) (slot_at c.args.self.now d)) (devices_among (runs_of c.args.s.now.roster.now) c.args.r.0 (length c.args.self.now)))
     (length c.args.self.now) c.devices.from.0 c.in-Some.d.0 c.in-Some.ensures.0 (omega (arith, there, size)) c.in-Some.ensures.1 c.in-Some.ensures.2
-    (ap (λ xs. fits_slot xs (slot_at c.args.self.now c.in-Some.d.0)) (sym c.accesses.ensures)
-    ∙ ap (λ ss. fits_slot c.accesses.result.now (slot_at ss c.in-Some.d.0)) (sym c.self.view_is)
-    ∙ ap (fits_slot c.accesses.result.now) (slot_read c.self.inside.slots.items c.in-Some.d.0 c.index.result.now (omega (arith, there, old, size)) c.index.ensures)
+    (ap (λ xs. fits_slot xs (slot_at c.args.self.now c.in-Some.d.0)) (sym c.chain.ensures)
+    ∙ ap (λ ss. fits_slot (values_of c.chain.result.now.pairs) (slot_at ss c.in-Some.d.0)) (sym c.self.view_is)
+    ∙ ap (fits_slot (values_of c.chain.result.now.pairs)) (slot_read c.self.inside.slots.items c.in-Some.d.0 c.index-slot.result.now (omega (arith, there, old, size)) c.index-slot.ensures)
     ∙ sym c.fits.ensures ∙ c.if-not-fits.true)
     c.devices.invariant
 
@@ -34,9 +36,9 @@ devices-preserved c =
     all_next (λ d. fits_slot (accesses_at c.args.s.now.table.now d) (slot_at c.args.self.now d)) (touches (runs_of c.args.s.now.roster.now) c.args.r.0)
     (list_all (λ d. fits_slot (accesses_at c.args.s.now.table.now d) (slot_at c.args.self.now d)) (devices_among (runs_of c.args.s.now.roster.now) c.args.r.0 (length c.args.self.now)))
     (length c.args.self.now) c.devices.from.0 c.in-Some.d.0 c.in-Some.ensures.0 (omega (arith, there, size)) c.in-Some.ensures.1 c.in-Some.ensures.2
-    (ap (λ xs. fits_slot xs (slot_at c.args.self.now c.in-Some.d.0)) (sym c.accesses.ensures)
-    ∙ ap (λ ss. fits_slot c.accesses.result.now (slot_at ss c.in-Some.d.0)) (sym c.self.view_is)
-    ∙ ap (fits_slot c.accesses.result.now) (slot_read c.self.inside.slots.items c.in-Some.d.0 c.index.result.now (omega (arith, there, old, size)) c.index.ensures)
+    (ap (λ xs. fits_slot xs (slot_at c.args.self.now c.in-Some.d.0)) (sym c.chain.ensures)
+    ∙ ap (λ ss. fits_slot (values_of c.chain.result.now.pairs) (slot_at ss c.in-Some.d.0)) (sym c.self.view_is)
+    ∙ ap (fits_slot (values_of c.chain.result.now.pairs)) (slot_read c.self.inside.slots.items c.in-Some.d.0 c.index-slot.result.now (omega (arith, there, old, size)) c.index-slot.ensures)
     ∙ sym c.fits.ensures ∙ c.if-not-fits.false)
     c.devices.invariant
 
@@ -45,3 +47,6 @@ returns c =
     all_done (λ d. fits_slot (accesses_at c.args.s.now.table.now d) (slot_at c.args.self.now d)) (touches (runs_of c.args.s.now.roster.now) c.args.r.0)
     (list_all (λ d. fits_slot (accesses_at c.args.s.now.table.now d) (slot_at c.args.self.now d)) (devices_among (runs_of c.args.s.now.roster.now) c.args.r.0 (length c.args.self.now)))
     (length c.args.self.now) c.devices.from.0 c.in_default.ensures c.devices.invariant
+
+pub fits-requires : goal.fits-requires
+fits-requires c = subst IsDisciplined (sym c.chain.ensures) (c.kept-2.ensures c.in-Some.d.0)

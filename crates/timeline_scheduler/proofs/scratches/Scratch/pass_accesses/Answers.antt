@@ -1,51 +1,60 @@
-use Rattle.lineage_table.specs.Accesses.{has_access}
+use Rattle.chain_arena.specs.Chains.{values_of}
+use Rattle.command_rules.specs.Rosters.{runs_of}
+use Rattle.history_book.specs.Books.{doom_of}
+use Rattle.home_types.specs.DeviceSets.{IsFirstFrom}
+use Rattle.lineage_table.proofs.Knots.{read}
+use Rattle.lineage_table.specs.Accesses.{IsDisciplined, access_of, has_access}
+use Rattle.lineage_table.specs.Knots.{IsKnotOf}
 use Rattle.lineage_table.specs.Lineages.{accesses_at}
-use Rattle.std.proofs.Common.{ap, arith, length, rules, sym, ℕ, ◌<◌, ◌∙◌, ◌≡◌}
+use Rattle.std.proofs.Common.{Some, ap, arith, length, rules, subst, sym, ℕ, ◌<◌, ◌∙◌, ◌≡◌}
 use Rattle.std.proofs.lemmas.List.{length-set}
-use Rattle.std.specs.Prelude.{max}
-use Rattle.timeline_scheduler.proofs.DeviceWalks.{fold_done, fold_next}
-use Rattle.timeline_scheduler.proofs.SlotSets.{changed_is, set_other, slot_read}
+use Rattle.std.specs.Prelude.{is_some, max, ◌&&◌}
+use Rattle.timeline_scheduler.proofs.DeviceWalks.{fold_done, fold_next, next_alike, none_alike}
+use Rattle.timeline_scheduler.proofs.SlotSets.{changed_is}
 use Rattle.timeline_scheduler.proofs.scratches.Scratch.pass_accesses.Goals as goal
-use Rattle.timeline_scheduler.specs.Slots.{changed, changed_on, devices_with, end_of_access, next_access, slot_at, slot_behind, slot_passed, whole_passed}
+use Rattle.timeline_scheduler.specs.Slots.{changed, changed_on, devices_passed, end_of_access, is_passed, is_with_access, slot_behind, slot_passed, whole_passed}
+
+pub knot_from-requires : goal.knot_from-requires
+knot_from-requires c = subst IsDisciplined (sym c.chain-accesses.ensures) (c.kept.ensures c.in-Some.d.0)
 
 pub devices-preserved : goal.devices-preserved
 devices-preserved c =
-    let table = c.args.s.now.table.now in
-    let slots = c.devices.self-inside.slots.items in
-    let there : c.in-Some.d.0 < length c.args.s.now.table.now = c.in-Some.ensures.homed in
+    let there : c.in-Some.d.0 < length c.args.s.now.table.now = c.in-Some.ensures.homed.0 in
     let size = c.devices.invariant.size in
     let within : c.in-Some.d.0 < length c.devices.self-inside.slots.items = omega (arith, there, size) in
-    let next = c.next_access-access.ensures.next ∙ ap (λ xs. next_access xs c.index-slot.result.now c.args.x.0) c.accesses.ensures in
-    let grown : c.max-whole.result ≡ max c.devices.whole c.end_of_access.result = search rules in
+    let next : IsFirstFrom (is_passed c.args.s.now.table.now (runs_of c.args.s.now.roster.now) c.args.r.0 c.args.x.0) c.devices.from.0 (Some c.in-Some.d.0) =
+    next_alike (is_with_access c.args.s.now.table.now c.args.x.0 c.devices_to_pass-devices.result) (is_passed c.args.s.now.table.now (runs_of c.args.s.now.roster.now) c.args.r.0 c.args.x.0) (λ e. c.devices_to_pass-devices.ensures.devices e ∙ ap (λ b. has_access c.args.x.0 (accesses_at c.args.s.now.table.now e) && b) (c.requires.followed e)) c.devices.from.0 c.in-Some.d.0 c.in-Some.ensures.next in
+    let cut = subst (IsKnotOf c.args.x.0 c.chain-accesses.result.now.pairs) c.unwrap-k.ensures c.knot_from.ensures in
+    let own : Some c.get-access.result.now ≡ access_of c.args.x.0 (accesses_at c.args.s.now.table.now c.in-Some.d.0) =
+    read c.args.x.0 c.unwrap-k.result c.chain-accesses.result.now.pairs cut c.kept-in-Some.ensures c.get-access.result.now c.get-access.ensures ∙ ap (access_of c.args.x.0) c.chain-accesses.ensures in
+    let grown : c.max-whole.result ≡ max c.devices.whole c.get-access.result.now.to = search rules in
     record {
-      size = length-set slots c.in-Some.d.0 c.behind.result ∙ size;
+      size = length-set c.devices.self-inside.slots.items c.in-Some.d.0 c.pass.new.self ∙ size;
+      nears = length-set c.devices.self-inside.nears.items c.in-Some.d.0 (Some c.unwrap-k.result) ∙ c.devices.invariant.nears;
       slots =
-          fold_next (changed_on (slot_passed table c.is_doomed-doomed.result c.args.x.0)) (λ d. has_access c.args.x.0 (accesses_at table d))
-          (changed (slot_passed table c.is_doomed-doomed.result c.args.x.0) (devices_with table c.args.x.0) c.self.inside.slots.items)
-          (length table) c.devices.from.0 c.in-Some.d.0 slots _ c.in-Some.ensures.next.0 there c.in-Some.ensures.next.1 c.in-Some.ensures.next.2
-          (changed_is (slot_passed table c.is_doomed-doomed.result c.args.x.0) slots c.in-Some.d.0 c.index-slot.result.now c.behind.result within c.index-slot.ensures (c.behind.ensures ∙ ap (λ o. slot_behind c.is_doomed-doomed.result o c.index-slot.result.now) next))
+          fold_next (changed_on (slot_passed c.args.s.now.table.now c.is_doomed-doomed.result c.args.x.0)) (is_passed c.args.s.now.table.now (runs_of c.args.s.now.roster.now) c.args.r.0 c.args.x.0)
+          (changed (slot_passed c.args.s.now.table.now c.is_doomed-doomed.result c.args.x.0) (devices_passed c.args.s.now.table.now (runs_of c.args.s.now.roster.now) c.args.r.0 c.args.x.0) c.self.inside.slots.items)
+          (length c.args.s.now.table.now) c.devices.from.0 c.in-Some.d.0 c.devices.self-inside.slots.items _ next.0 there next.1 next.2
+          (changed_is (slot_passed c.args.s.now.table.now c.is_doomed-doomed.result c.args.x.0) c.devices.self-inside.slots.items c.in-Some.d.0 c.index_mut-in-Some.result.now c.pass.new.self within c.index_mut-in-Some.ensures.value (c.pass.ensures ∙ ap (λ o. slot_behind c.is_doomed-doomed.result o c.index_mut-in-Some.result.now) own))
           c.devices.invariant.slots;
       whole =
-          fold_next (λ (t d : ℕ). max t (end_of_access (next_access (accesses_at table d) (slot_at c.self.inside.slots.items d) c.args.x.0))) (λ d. has_access c.args.x.0 (accesses_at table d))
-          (whole_passed table c.args.x.0 c.self.inside.slots.items)
-          (length table) c.devices.from.0 c.in-Some.d.0 c.devices.whole _ c.in-Some.ensures.next.0 there c.in-Some.ensures.next.1 c.in-Some.ensures.next.2
-          (grown ∙ ap (max c.devices.whole) (c.end_of_access.ensures ∙ ap end_of_access (next
-          ∙ ap (λ s. next_access (accesses_at table c.in-Some.d.0) s c.args.x.0) (sym (slot_read slots c.in-Some.d.0 c.index-slot.result.now within c.index-slot.ensures) ∙ c.devices.invariant.left c.in-Some.d.0 c.in-Some.ensures.next.0))))
-          c.devices.invariant.whole;
-      left = λ e from. set_other slots c.in-Some.d.0 e c.behind.result (omega (arith, from)) ∙ c.devices.invariant.left e (omega (arith, from, c.in-Some.ensures.next.0));
+          fold_next (λ (t e : ℕ). max t (end_of_access (access_of c.args.x.0 (accesses_at c.args.s.now.table.now e)))) (is_passed c.args.s.now.table.now (runs_of c.args.s.now.roster.now) c.args.r.0 c.args.x.0) (whole_passed c.args.s.now.table.now (runs_of c.args.s.now.roster.now) c.args.r.0 c.args.x.0)
+          (length c.args.s.now.table.now) c.devices.from.0 c.in-Some.d.0 c.devices.whole _ next.0 there next.1 next.2 (grown ∙ ap (λ o. max c.devices.whole (end_of_access o)) own) c.devices.invariant.whole;
     }
 
 pub returns-clause-slots : goal.returns-clause-slots
 returns-clause-slots c =
-    fold_done (changed_on (slot_passed c.args.s.now.table.now c.is_doomed-doomed.result c.args.x.0)) (λ d. has_access c.args.x.0 (accesses_at c.args.s.now.table.now d))
-    (changed (slot_passed c.args.s.now.table.now c.is_doomed-doomed.result c.args.x.0) (devices_with c.args.s.now.table.now c.args.x.0) c.self.inside.slots.items)
-    (length c.args.s.now.table.now) c.devices.from.0 c.devices.self-inside.slots.items c.in_default.ensures.next c.devices.invariant.slots
-    ∙ ap (changed (slot_passed c.args.s.now.table.now c.is_doomed-doomed.result c.args.x.0) (devices_with c.args.s.now.table.now c.args.x.0)) c.self.view_is
-    ∙ ap (λ b. changed (slot_passed c.args.s.now.table.now b c.args.x.0) (devices_with c.args.s.now.table.now c.args.x.0) c.args.self.now) c.is_doomed-doomed.ensures
+    fold_done (changed_on (slot_passed c.args.s.now.table.now c.is_doomed-doomed.result c.args.x.0)) (is_passed c.args.s.now.table.now (runs_of c.args.s.now.roster.now) c.args.r.0 c.args.x.0)
+    (changed (slot_passed c.args.s.now.table.now c.is_doomed-doomed.result c.args.x.0) (devices_passed c.args.s.now.table.now (runs_of c.args.s.now.roster.now) c.args.r.0 c.args.x.0) c.self.inside.slots.items)
+    (length c.args.s.now.table.now) c.devices.from.0 c.devices.self-inside.slots.items
+    (none_alike (is_with_access c.args.s.now.table.now c.args.x.0 c.devices_to_pass-devices.result) (is_passed c.args.s.now.table.now (runs_of c.args.s.now.roster.now) c.args.r.0 c.args.x.0) (λ e. c.devices_to_pass-devices.ensures.devices e ∙ ap (λ b. has_access c.args.x.0 (accesses_at c.args.s.now.table.now e) && b) (c.requires.followed e)) c.devices.from.0 c.in_default.ensures.next)
+    c.devices.invariant.slots
+    ∙ ap (changed (slot_passed c.args.s.now.table.now c.is_doomed-doomed.result c.args.x.0) (devices_passed c.args.s.now.table.now (runs_of c.args.s.now.roster.now) c.args.r.0 c.args.x.0)) c.self.view_is
+    ∙ ap (λ b. changed (slot_passed c.args.s.now.table.now b c.args.x.0) (devices_passed c.args.s.now.table.now (runs_of c.args.s.now.roster.now) c.args.r.0 c.args.x.0) c.args.self.now) c.is_doomed-doomed.ensures
 
 pub returns-clause-whole : goal.returns-clause-whole
 returns-clause-whole c =
-    fold_done (λ (t d : ℕ). max t (end_of_access (next_access (accesses_at c.args.s.now.table.now d) (slot_at c.self.inside.slots.items d) c.args.x.0))) (λ d. has_access c.args.x.0 (accesses_at c.args.s.now.table.now d))
-    (whole_passed c.args.s.now.table.now c.args.x.0 c.self.inside.slots.items)
-    (length c.args.s.now.table.now) c.devices.from.0 c.devices.whole c.in_default.ensures.next c.devices.invariant.whole
-    ∙ ap (whole_passed c.args.s.now.table.now c.args.x.0) c.self.view_is
+    fold_done (λ (t e : ℕ). max t (end_of_access (access_of c.args.x.0 (accesses_at c.args.s.now.table.now e)))) (is_passed c.args.s.now.table.now (runs_of c.args.s.now.roster.now) c.args.r.0 c.args.x.0) (whole_passed c.args.s.now.table.now (runs_of c.args.s.now.roster.now) c.args.r.0 c.args.x.0)
+    (length c.args.s.now.table.now) c.devices.from.0 c.devices.whole
+    (none_alike (is_with_access c.args.s.now.table.now c.args.x.0 c.devices_to_pass-devices.result) (is_passed c.args.s.now.table.now (runs_of c.args.s.now.roster.now) c.args.r.0 c.args.x.0) (λ e. c.devices_to_pass-devices.ensures.devices e ∙ ap (λ b. has_access c.args.x.0 (accesses_at c.args.s.now.table.now e) && b) (c.requires.followed e)) c.devices.from.0 c.in_default.ensures.next)
+    c.devices.invariant.whole

@@ -1,7 +1,7 @@
 use Rattle.command_rules.proofs.Indexes.{device_below}
 use Rattle.command_rules.specs.Rosters.{commands_of, runs_of}
 use Rattle.home_types.specs.Limits.{most_devices}
-use Rattle.std.proofs.Common.{ap, arith, length, refl, ◌<◌, ◌∙◌}
+use Rattle.std.proofs.Common.{ap, arith, length, refl, sym, ◌<◌, ◌∙◌}
 use Rattle.std.proofs.lemmas.List.{length-set}
 use Rattle.timeline_scheduler.proofs.DeviceWalks.{fold_done, fold_next, rest}
 use Rattle.timeline_scheduler.proofs.SlotSets.{changed_is}
@@ -49,6 +49,7 @@ devices-preserved c =
           (changed_is (slot_waiting runs c.args.r.0 c.args.x.0 c.args.whole) slots c.in-Some.d.0 c.index-slot.result.now c.behind_writer.result (omega (arith, there, old, size)) c.index-slot.ensures
           (c.behind_writer.ensures ∙ waiting_slot runs c.args.r.0 c.args.x.0 c.args.whole c.in-Some.d.0 c.index-slot.result.now waits.1))
           c.devices.invariant.1,
+      c.devices.invariant.2,
     )
 
 pub returns : goal.returns
@@ -59,3 +60,6 @@ returns c =
     (length c.self.inside.slots.items) c.devices.from.0 c.devices.self-inside.slots.items (none_waiting runs c.args.r.0 c.args.x.0 c.first_reads_of-waiting.result c.first_reads_of-waiting.ensures c.devices.from.0 c.in_default.ensures) c.devices.invariant.1
     ∙ waits_alone runs c.args.r.0 c.args.x.0 c.args.whole (length c.self.inside.slots.items) c.self.inside.slots.items refl
     ∙ ap (λ xs. changed (slot_waiting runs c.args.r.0 c.args.x.0 c.args.whole) (devices_among runs c.args.r.0 (length xs)) xs) c.self.view_is
+
+pub invariant_of-self : goal.invariant_of-self
+invariant_of-self c = c.devices.invariant.2 ∙ c.self.invariant ∙ sym c.devices.invariant.0

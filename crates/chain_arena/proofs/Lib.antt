@@ -1,0 +1,10 @@
+pub mod Chains
+pub mod Cuts
+pub mod Drops
+pub mod Grows
+pub mod Joins
+pub mod Nexts
+pub mod Opened
+pub mod Places
+pub mod Values
+pub mod Words

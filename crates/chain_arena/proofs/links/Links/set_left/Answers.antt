@@ -1,0 +1,8 @@
+use Rattle.chain_arena.proofs.Places.{left_set}
+use Rattle.chain_arena.proofs.links.Links.set_left.Goals as goal
+use Rattle.std.proofs.Common.{arith, refl}
+
+pub returns-else-place-eq-NONE : goal.returns-else-place-eq-NONE
+returns-else-place-eq-NONE g c =
+    let n = c.get_mut.result.now in
+    left_set c.args.self.now c.args.place n (record { left = c.args.to; right = n.right; value = n.value }) c.get_mut.ensures.value (λ e. omega (arith, c.if-place-eq-NONE.false, e)) refl refl

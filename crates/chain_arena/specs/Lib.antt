@@ -1,0 +1,9 @@
+pub mod BlockLends
+pub mod Blocks
+pub mod ChainLends
+pub mod Chains
+pub mod Linked
+pub mod LinksLends
+pub mod Memory
+pub mod MemoryLends
+pub mod Places

@@ -1,0 +1,9 @@
+use Rattle.home_types.specs.declared.items.Item.TheVariants.{Failed}
+use Rattle.hub_core.proofs.failures.note_fall.Goals as goal
+use Rattle.hub_core.proofs.kept.SealedOrders.{turned_sealed}
+use Rattle.lineage_table.specs.Lineages.{accesses_at}
+
+pub seal-requires : goal.seal-requires
+seal-requires c =
+    turned_sealed c.book.result.now.items c.args.first (accesses_at c.args.order.now.table c.args.d.0) (Failed c.args.d c.args.number) c.args.order.now.line c.fell-lost.new.line
+    c.requires.may.unsealed c.fell-lost.ensures.marks c.fell-lost.ensures.sealed c.requires.may.sealed

@@ -1,0 +1,10 @@
+use Rattle.home_types.specs.declared.items.Item.TheVariants.{Back}
+use Rattle.hub_core.proofs.failures.note_rise.Goals as goal
+use Rattle.hub_core.proofs.kept.SealedOrders.{turned_sealed}
+use Rattle.lineage_table.specs.Lineages.{accesses_at}
+use Rattle.std.specs.Prelude.{None}
+
+pub seal-requires : goal.seal-requires
+seal-requires c =
+    turned_sealed c.book.result.now.items None (accesses_at c.args.order.now.table c.args.d.0) (Back c.args.d c.args.number) c.args.order.now.line c.rose.new.line
+    c.requires.may.unsealed c.rose.ensures.marks c.rose.ensures.sealed c.requires.may.sealed

@@ -1,0 +1,9 @@
+use Rattle.hub_core.proofs.calls.FinalItems.{legal_begins}
+use Rattle.hub_core.proofs.hubs.Hub.close_window.Goals as goal
+use Rattle.hub_core.specs.LegalWindows.{IsLegalWindow}
+use Rattle.hub_core.specs.OpenHubs.{OpenHub}
+use Rattle.std.proofs.Common.{subst}
+
+pub returns-in-Ok-clause-sealed : goal.returns-in-Ok-clause-sealed
+returns-in-Ok-clause-sealed g c strong =
+    legal_begins c.args.self.setting c.in-Ok.closed.1 (subst (λ (s : OpenHub g.row.D.Denot). IsLegalWindow s.setting c.in-Ok.closed.1) c.self.view_is c.in-Ok.ensures.closed.legal) strong

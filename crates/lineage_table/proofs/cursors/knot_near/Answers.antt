@@ -1,0 +1,11 @@
+use Rattle.chain_arena.specs.Chains.{values_of}
+use Rattle.lineage_table.proofs.Knots.{cut_near}
+use Rattle.lineage_table.proofs.Pairs.{pairs_from_all}
+use Rattle.lineage_table.proofs.cursors.knot_near.Goals as goal
+use Rattle.lineage_table.specs.Accesses.{AreOfTwoRuns}
+use Rattle.std.proofs.Common.{sym, ◌∙◌}
+
+pub returns : goal.returns
+returns c =
+    let ps = c.args.accesses.now.pairs in
+    cut_near c.args.r.0 c.in-Some.k ps c.get.result.now (pairs_from_all AreOfTwoRuns (values_of ps) c.requires.one_each) c.get.ensures (sym c.eq.ensures ∙ c.if-eq.true)
