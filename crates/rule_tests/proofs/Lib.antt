@@ -1,1 +1,2 @@
+pub mod OneLamp
 pub mod Unsealed

@@ -8,6 +8,8 @@ mod devices;
 #[cfg(test)]
 mod failures;
 #[cfg(test)]
+mod journals;
+#[cfg(test)]
 mod lines;
 #[cfg(test)]
 mod records;

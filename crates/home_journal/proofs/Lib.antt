@@ -1,0 +1,10 @@
+pub mod Images
+pub mod Moments
+pub mod OpenSlots
+pub mod StateBytes
+pub mod Scanning
+pub mod Shutting
+pub mod Keeping
+pub mod Firsts
+pub mod KeptKinds
+pub mod WrittenSlots

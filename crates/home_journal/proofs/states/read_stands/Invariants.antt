@@ -1,0 +1,7 @@
+use Rattle.home_journal.proofs.StateBytes.{IsReadTo}
+use Rattle.home_journal.proofs.states.read_stands.Given as goal
+use Rattle.std.proofs.Common.{length, ◌≡◌}
+
+abbrev pub invariant-devices : goal.invariant-devices
+invariant-devices l =
+    IsReadTo l.kinds l.stands l.at l.rest l.home.devices.items × (length l.home.devices.items ≡ length l.kinds)
