@@ -3,6 +3,7 @@
 # error with what docs/FORMATS.md says, its examples too. `rt ci` builds the program and leaves it in out/. Silent where
 # all is as it says.
 cd "$(dirname "$0")" || exit 1
+unset LAZBENDIX_PROGRESS
 if [ ! -f out/hub_main ]; then
     echo "edge: there is no built program at crates/hub_main/out/hub_main" >&2
     exit 1
@@ -94,6 +95,8 @@ words replay "$(printf '\377')"
 call check
 ends 7 'check: window 0 head'
 words run twice
+words watch twice
+words watch --progress
 words run --model wv --model wv
 
 # zeros COUNT WORD..: calls the program with these words on so many bytes of zero
@@ -138,7 +141,7 @@ got=$?
 ends 3 read
 
 : >"$room/out"
-for word in replay run; do
+for word in replay run watch; do
     call="$word to no standard output"
     printf '%s' "$input" | "$room/hub_main" "$word" >&- 2>"$room/err"
     got=$?
@@ -192,6 +195,38 @@ printf '%s\n' 'safehome day' 'model ev fcfs' 'window 1 2021-04-26T07:00:00' 'run
     'order fail(lamp)' 'home lamp=off!' 'total windows 1 runs 1 committed 0 aborted 1' >"$room/record"
 plays "$room/record" replay
 plays "$room/record" run
+
+# a watched day has the record of its run, and behind it the line of its board; what is read beside it is shown where
+# the environment asks for that, on a terminal in one line, and the record and the line of a fault stay as they are
+input=$kept
+(cat stdout && printf 'board windows 1 runs 1 committed 1 aborted 0\n') >"$room/record"
+plays "$room/record" watch
+shown='window 1 of 1: 1 committed, 0 aborted'
+call='watch with LAZBENDIX_PROGRESS'
+printf '%s' "$input" | LAZBENDIX_PROGRESS=1 "$room/hub_main" watch >"$room/out" 2>"$room/err"
+got=$?
+if [ "$got" != 0 ] || ! cmp -s "$room/record" "$room/out" || [ "$(tail -n 1 "$room/err")" != "$shown" ] ||
+    grep -v '^window [01] of 1: [01] committed, 0 aborted$' "$room/err"; then
+    echo "edge: $call: status $got and '$(cat "$room/err")'" >&2
+    failed=1
+fi
+call='watch with LAZBENDIX_PROGRESS to no standard output'
+printf '%s' "$input" | LAZBENDIX_PROGRESS=1 "$room/hub_main" watch >&- 2>"$room/err"
+got=$?
+if [ "$got" != 4 ] || [ "$(tail -n 1 "$room/err")" != write ] || [ "$(grep -c -v '^window ' "$room/err")" != 1 ]; then
+    echo "edge: $call: status $got and '$(cat "$room/err")'" >&2
+    failed=1
+fi
+if env script --version >/dev/null 2>&1; then
+    call='watch on a terminal'
+    printf '%s' "$input" >"$room/input"
+    env script -qec "\"$room/hub_main\" watch <\"$room/input\" >\"$room/out\"" "$room/typed" >/dev/null
+    got=$?
+    if [ "$got" != 0 ] || ! cmp -s "$room/record" "$room/out" || ! grep -q "$shown" "$room/typed"; then
+        echo "edge: $call: status $got and '$(cat "$room/typed")'" >&2
+        failed=1
+    fi
+fi
 
 # moments are those of a clock that goes: in the last of sixty windows, behind some hundred threads, it is later than in
 # the first

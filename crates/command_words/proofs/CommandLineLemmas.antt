@@ -1,7 +1,7 @@
 -- The command line by its command.
 use Rattle.command_words.specs.CommandLines.{command_line_of, command_of}
 use Rattle.command_words.specs.OptionGrammar.{options_by_words}
-use Rattle.command_words.specs.declared.command_lines.CommandLine.TheVariants.{Replay, Run}
+use Rattle.command_words.specs.declared.command_lines.CommandLine.TheVariants.{Replay, Run, Watch}
 use Rattle.command_words.specs.declared.command_lines.Options.{Options}
 use Rattle.std.proofs.Common.{List, Option, [], ap, ap₂, arith, codes, drop, length, map, option_map, refl, sym, take, ℕ, ◌-◌, ◌≡◌, ◌≤◌, ◌∙◌, ◌∷◌}
 use Rattle.std.proofs.lemmas.List.{take_rest}
@@ -24,6 +24,9 @@ module _ {X : Type 0} (bytes : X → List ℕ) where
   replay_read : (words : List (List ℕ)) → command_of (codes "replay") words ≡ option_map Replay (options_by_words words)
   replay_read words = refl
 
+  watch_read : (words : List (List ℕ)) → command_of (codes "watch") words ≡ option_map Watch (options_by_words words)
+  watch_read words = refl
+
   module _ (words : List X) (word : X) (said : List ℕ) (some : 1 ≤ length words) (is : word ≡ slice_index_or words 0 word)
       (told : said ≡ bytes word) (options : Option Options) (given : options_by_words (Rest words) ≡ options) where
     pub run_means : said ≡ codes "run" → command_line_of (map bytes words) ≡ option_map Run options
@@ -35,3 +38,8 @@ module _ {X : Type 0} (bytes : X → List ℕ) where
     replay_means replay =
         command_split words word some is ∙ ap (λ w. command_of w (Rest words)) (sym told ∙ replay)
         ∙ replay_read (Rest words) ∙ ap (option_map Replay) given
+
+    pub watch_means : said ≡ codes "watch" → command_line_of (map bytes words) ≡ option_map Watch options
+    watch_means watch =
+        command_split words word some is ∙ ap (λ w. command_of w (Rest words)) (sym told ∙ watch)
+        ∙ watch_read (Rest words) ∙ ap (option_map Watch) given

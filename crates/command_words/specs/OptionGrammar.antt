@@ -1,4 +1,4 @@
--- The options of `run` and `replay`, word by word.
+-- The options of `run`, `replay` and `watch`, word by word.
 use Rattle.command_words.specs.OptionWords.{mode_of}
 use Rattle.command_words.specs.declared.command_lines.Options.{Options}
 use Rattle.std.specs.List.{after_first, before_first, list_any}

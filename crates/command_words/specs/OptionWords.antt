@@ -1,4 +1,4 @@
--- The options of `run` and `replay`, by what `clap` makes of the words.
+-- The options of `run`, `replay` and `watch`, by what `clap` makes of the words.
 use Rattle.clap.specs.Faults.{fault_of}
 use Rattle.clap.specs.Kinds.{Kinds}
 use Rattle.clap.specs.Matches.{first_value}

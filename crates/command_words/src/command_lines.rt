@@ -8,6 +8,8 @@ pub enum CommandLine {
     Run(Options),
     /// Replays the day of a script step by step.
     Replay(Options),
+    /// Runs the day of a script with threads, and tells how far it is while it runs.
+    Watch(Options),
     /// Checks a record against its script.
     Check,
     /// Replays and checks a day of this many windows, from 1 to `limits::WINDOWS`, that a generator makes.
@@ -27,6 +29,6 @@ pub struct Options {
 pub enum WordFault {
     /// The words are not of the format.
     Words,
-    /// Want of memory. It comes with `run` and `replay` alone.
+    /// Want of memory. It comes with `run`, `replay` and `watch` alone.
     NoMemory,
 }

@@ -7,3 +7,5 @@ mod finals;
 mod replays;
 #[cfg(test)]
 mod runs;
+#[cfg(test)]
+mod watches;

@@ -54,11 +54,11 @@ const PROBED: &str = r#"{"safehome": 1, "devices": [
  "windows": [{"at": "2021-04-26T07:00", "probes": 1, "runs": [{"routine": "a"}]}]}"#;
 
 /// A window of one run that drives the lamp.
-const LIGHT: &str =
+pub const LIGHT: &str =
     r#"{"safehome":1,"devices":[{"name":"lamp","states":["off","on"],"start":"off"}],"routines":[{"name":"light","commands":[{"on":"lamp","do":"set","to":"on"}]}],"windows":[{"at":"2021-04-26T07:00:00","runs":[{"routine":"light"}]}]}"#;
 
 /// The record of the day of `LIGHT`.
-const LIGHT_RECORD: &str = "safehome day
+pub const LIGHT_RECORD: &str = "safehome day
 model ev fcfs
 window 1 2021-04-26T07:00:00
 run 1 light committed .
@@ -161,7 +161,8 @@ where
     Ok((finish, sink))
 }
 
-fn owned(alloc: Global, words: &[&str]) -> Result<Vec<String>, NoMemory> {
+/// These words, as the command line has them.
+pub fn owned(alloc: Global, words: &[&str]) -> Result<Vec<String>, NoMemory> {
     let mut all = Vec::new(alloc);
     for word in words {
         let word = String::from_str(alloc, word).map_err(|_| NoMemory)?;

@@ -12,3 +12,7 @@ mod Dividing
 mod EndedCalls
 mod AskedTrials
 mod TrialDays
+mod PublishedDays
+mod CountedRuns
+mod WatchedDays
+mod KeptWindows

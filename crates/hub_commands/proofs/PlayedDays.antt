@@ -11,7 +11,7 @@ use Rattle.hub_core.specs.LegalDays.{IsLegalCutDay, IsLegalDay}
 use Rattle.hub_commands.proofs.DaysUnderWay.{cut_is_legal, day_is_legal, no_window, starts}
 use Rattle.hub_commands.proofs.Snocs.{no_snoc, snoc_front}
 use Rattle.hub_commands.proofs.Texts.{appends_keeps, appends_more, due_whole, keeps_appends, part_more, part_wider, text_more, text_starts, text_whole, whole_first}
-use Rattle.hub_commands.specs.Days.{DevicesAreProbed, IsUnderWay, WindowsArePlayed, text_due, text_so_far}
+use Rattle.hub_commands.specs.Days.{DevicesAreProbed, IsUnderWay, WindowsArePlayed, plain, text_due, text_so_far}
 use Rattle.hub_commands.specs.Finishes.{AppendsFirst, DayEnds, IsCut, IsStarved, IsWhole, IsWrittenAsClosed, Shown, written}
 use Rattle.hub_commands.specs.Going.{IsGoingOn}
 use Rattle.hub_commands.specs.Pieces.{PieceEnds, StopEnds}
@@ -36,12 +36,12 @@ said : {M : Type 0} (piece : Result (List ℕ) M) (text bytes : List ℕ) → If
 said {M} piece text bytes ok is = subst (λ (r : Result (List ℕ) M). IfOk r (λ b. b ≡ text)) is ok
 
 -- what is not written is kept
-keeps_same : (held : Option (List ℕ)) → Keeps held held
+pub keeps_same : (held : Option (List ℕ)) → Keeps held held
 keeps_same None = tt
 keeps_same (Some bytes) = refl
 
 -- these bytes begin with the text of the windows but the last
-abbrev LeadWith : Script → Options → List WindowRecord → List ℕ → Type 0
+abbrev pub LeadWith : Script → Options → List WindowRecord → List ℕ → Type 0
 LeadWith script options records bytes = (before : List WindowRecord) (closed : WindowRecord) → records ≡ before ++ closed ∷ []
     → (rest : List ℕ) × (bytes ≡ text_so_far script options.mode options.trace before ++ rest)
 
@@ -50,7 +50,7 @@ none_leads : (script : Script) (options : Options) (records : List WindowRecord)
 none_leads script options records bytes none before closed is = absurd (no_snoc before closed (sym none ∙ is))
 
 -- the text of all windows does
-all_lead : (script : Script) (options : Options) (records : List WindowRecord) → LeadWith script options records (text_so_far script options.mode options.trace records)
+pub all_lead : (script : Script) (options : Options) (records : List WindowRecord) → LeadWith script options records (text_so_far script options.mode options.trace records)
 all_lead script options records before closed is = (
   window_text script (length before) closed options.mode options.trace,
   ap (λ rs. text_so_far script options.mode options.trace rs) is ∙ text_more script options.mode options.trace before closed,
@@ -65,14 +65,14 @@ rest_lead script options earlier last records all before closed is = (
 )
 
 -- so the sink that got these bytes, and any more, has each window but the last
-lead_written : (script : Script) (options : Options) (held holds : Option (List ℕ)) (f f_after : ℕ) (records : List WindowRecord) (bytes more : List ℕ)
+pub lead_written : (script : Script) (options : Options) (held holds : Option (List ℕ)) (f f_after : ℕ) (records : List WindowRecord) (bytes more : List ℕ)
     → LeadWith script options records bytes → Appends held holds (bytes ++ more) → IsWrittenAsClosed script options (written held holds f f_after) records
 lead_written script options held holds f f_after records bytes more leads got before closed is =
     let own = leads before closed is in
     (own.0 ++ more, subst (λ t. Appends held holds t) (ap (λ t. t ++ more) own.1 ∙ append_assoc (text_so_far script options.mode options.trace before) own.0 more) got)
 
 -- the same where it got these bytes alone
-lead_whole : (script : Script) (options : Options) (held holds : Option (List ℕ)) (f f_after : ℕ) (records : List WindowRecord) (bytes : List ℕ)
+pub lead_whole : (script : Script) (options : Options) (held holds : Option (List ℕ)) (f f_after : ℕ) (records : List WindowRecord) (bytes : List ℕ)
     → LeadWith script options records bytes → Appends held holds bytes → IsWrittenAsClosed script options (written held holds f f_after) records
 lead_whole script options held holds f f_after records bytes leads got =
     lead_written script options held holds f f_after records bytes [] leads (subst (λ t. Appends held holds t) (sym (append-nil bytes)) got)
@@ -82,12 +82,12 @@ stopped : {D M : Type 0} (works : Setting → WindowText → WindowRecord → (�
     → IsUnderWay works shown.tag shown.plan shown.stands shown.turns shown.probes shown.faults script options.mode home windows.items
     → Appends held mid before → LeadWith script options windows.items before → f_mid ≡ f
     → PieceEnds (written mid holds f_mid f_after) piece (Err fault) → StopEnds windows home.devices fault day why
-    → (tail : List ℕ) × (text_due script options.mode options.trace windows.items ≡ before ++ tail)
-    → ((bytes : List ℕ) → piece ≡ Ok bytes → (rest : List ℕ) × (text_due script options.mode options.trace windows.items ≡ (before ++ bytes) ++ rest))
-    → DayEnds works shown script options (written held holds f f_after) day why
+    → (tail : List ℕ) × (text_due plain script options.mode options.trace windows.items ≡ before ++ tail)
+    → ((bytes : List ℕ) → piece ≡ Ok bytes → (rest : List ℕ) × (text_due plain script options.mode options.trace windows.items ≡ (before ++ bytes) ++ rest))
+    → DayEnds works shown plain script options (written held holds f f_after) day why
 stopped works shown script options held mid holds f f_mid f_after home windows before piece Sink day why under first leads calm ended stop tail due =
     let rest = due ended.0 ended.1 in
-    let cut : IsCut works shown script options (written held holds f f_after) day = record {
+    let cut : IsCut works shown plain script options (written held holds f f_after) day = record {
       day = record { windows = windows; devices = Some stop.0 };
       given = stop.2;
       devices = stop.0;
@@ -101,9 +101,9 @@ stopped works shown script options held mid holds f f_mid f_after home windows b
       as_closed = lead_written script options held holds f f_after windows.items before (take ended.2.0 ended.0) leads (appends_more held mid holds before (take ended.2.0 ended.0) first ended.2.2);
       failed = let late = ended.3 in omega (arith, late, calm);
     } in
-    subst (λ (w : Option Fault). DayEnds works shown script options (written held holds f f_after) day w) (sym stop.3) cut
+    subst (λ (w : Option Fault). DayEnds works shown plain script options (written held holds f f_after) day w) (sym stop.3) cut
 stopped works shown script options held mid holds f f_mid f_after home windows before piece Memory day why under first leads calm ended stop tail due =
-    let starved : IsStarved works script options (written held holds f f_after) day = record {
+    let starved : IsStarved works plain script options (written held holds f f_after) day = record {
       day = record { windows = windows; devices = None };
       given = stop.0;
       no_devices = refl;
@@ -113,7 +113,7 @@ stopped works shown script options held mid holds f f_mid f_after home windows b
       as_closed = lead_whole script options held holds f f_after windows.items before leads (appends_keeps held mid holds before first ended.0);
       calm = ended.1 ∙ calm;
     } in
-    subst (λ (w : Option Fault). DayEnds works shown script options (written held holds f f_after) day w) (sym stop.1) starved
+    subst (λ (w : Option Fault). DayEnds works shown plain script options (written held holds f f_after) day w) (sym stop.1) starved
 
 -- the home before its first window
 home_starts : {D : Type 0} (works : Setting → WindowText → WindowRecord → (ℕ → ℕ) → Type 0) (shown : Shown D) (script : Script) (mode : Mode) (home : HomeState D) (records : List WindowRecord)
@@ -139,12 +139,12 @@ begun works shown script options held holds f f_after home records piece are kin
 pub head_stopped : {D M : Type 0} (works : Setting → WindowText → WindowRecord → (ℕ → ℕ) → Type 0) (shown : Shown D) (script : Script) (options : Options) (held holds : Option (List ℕ)) (f f_after : ℕ) (home : HomeState D) (windows : Listed WindowRecord) (piece : Result (List ℕ) M) (fault : PieceFault) (day : Option (Day D)) (why : Option Fault)
     → AreNew shown.tag shown.plan shown.stands shown.turns shown.probes shown.faults script.devices.items home.devices → home.kinds ≡ kinds_of script → home.world ≡ start_home script → home.opened ≡ 0 → windows.items ≡ []
     → IfOk piece (λ b. b ≡ head_text options.mode) → PieceEnds (written held holds f f_after) piece (Err fault) → StopEnds windows home.devices fault day why
-    → DayEnds works shown script options (written held holds f f_after) day why
+    → DayEnds works shown plain script options (written held holds f f_after) day why
 head_stopped works shown script options held holds f f_after home windows piece fault day why are kinds world opened none ok ended stop =
     stopped works shown script options held held holds f f f_after home windows [] piece fault day why
     (home_starts works shown script options.mode home windows.items are kinds world opened none)
     (keeps_appends held held (keeps_same held)) (none_leads script options windows.items [] none) refl ended stop
-    (text_due script options.mode options.trace windows.items, refl)
+    (text_due plain script options.mode options.trace windows.items, refl)
     (λ bytes is. (
       after_texts script windows.items,
       ap (λ t. t ++ after_texts script windows.items)
@@ -174,7 +174,7 @@ pub lines_stopped : {D M : Type 0} (works : Setting → WindowText → WindowRec
     → HasGoneOn works shown.tag shown.plan shown.stands shown.turns shown.probes shown.faults script options.mode records next windows.items
     → ((before : List WindowRecord) (closed : WindowRecord) → windows.items ≡ before ++ closed ∷ [] → IfOk piece (λ lines. lines ≡ window_text script (length before) closed options.mode options.trace))
     → PieceEnds (written mid holds f_mid f_after) piece (Err fault) → StopEnds windows next.devices fault day why
-    → DayEnds works shown script options (written held holds f f_after) day why
+    → DayEnds works shown plain script options (written held holds f f_after) day why
 lines_stopped works shown script options held mid holds f f_mid f_after home next records windows piece fault day why under gone lines ended stop =
     stopped works shown script options held mid holds f f_mid f_after next windows (text_so_far script options.mode options.trace records) piece fault day why
     gone.under_way under.text (rest_lead script options records gone.closed windows.items gone.more) under.calm ended stop
@@ -188,7 +188,7 @@ lines_stopped works shown script options held mid holds f f_mid f_after home nex
     own : List ℕ
     own = window_text script (length records) gone.closed options.mode options.trace
 
-    due : text_due script options.mode options.trace windows.items ≡ (text_so_far script options.mode options.trace records ++ own) ++ after_texts script windows.items
+    due : text_due plain script options.mode options.trace windows.items ≡ (text_so_far script options.mode options.trace records ++ own) ++ after_texts script windows.items
     due = ap (λ t. t ++ after_texts script windows.items)
         (ap (λ rs. text_so_far script options.mode options.trace rs) gone.more ∙ text_more script options.mode options.trace records gone.closed)
 
@@ -198,7 +198,7 @@ pub total_stopped : {D M : Type 0} (works : Setting → WindowText → WindowRec
     → length windows.items ≡ length script.windows.items
     → IfOk piece (λ b. b ≡ total_text windows.items)
     → PieceEnds (written mid holds f_mid f_after) piece (Err fault) → StopEnds windows home.devices fault day why
-    → DayEnds works shown script options (written held holds f f_after) day why
+    → DayEnds works shown plain script options (written held holds f f_after) day why
 total_stopped works shown script options held mid holds f f_mid f_after home windows piece fault day why under all ok ended stop =
     stopped works shown script options held mid holds f f_mid f_after home windows (text_so_far script options.mode options.trace windows.items) piece fault day why
     under.under_way under.text (all_lead script options windows.items) under.calm ended stop
@@ -216,7 +216,7 @@ pub finished : {D M : Type 0} (works : Setting → WindowText → WindowRecord �
     → length windows.items ≡ length script.windows.items
     → IfOk piece (λ b. b ≡ total_text windows.items)
     → PieceEnds (written mid holds f_mid f_after) piece (Ok tt) → devices.items ≡ home.devices
-    → IsWhole works shown script options (written held holds f f_after) (Some (record { windows = windows; devices = Some devices }))
+    → IsWhole works shown plain script options (written held holds f f_after) (Some (record { windows = windows; devices = Some devices }))
 finished works shown script options held mid holds f f_mid f_after home windows devices piece day all ok ended same = record {
   day = record { windows = windows; devices = Some devices };
   given = refl;
@@ -237,28 +237,28 @@ finished works shown script options held mid holds f f_mid f_after home windows 
 pub starved : {D : Type 0} (works : Setting → WindowText → WindowRecord → (ℕ → ℕ) → Type 0) (shown : Shown D) (script : Script) (options : Options) (held holds : Option (List ℕ)) (f f_after : ℕ) (home : HomeState D) (records : List WindowRecord) (windows : Listed WindowRecord) (day : Option (Day D)) (why : Option Fault)
     → IsGoingOn works shown script options (written held holds f f_after) home records → windows.items ≡ records
     → day ≡ Some (record { windows = windows; devices = None }) → why ≡ Some WantsMemory
-    → DayEnds works shown script options (written held holds f f_after) day why
+    → DayEnds works shown plain script options (written held holds f f_after) day why
 starved works shown script options held holds f f_after home records windows day why under same given because =
-    let ends : IsStarved works script options (written held holds f f_after) day = record {
+    let ends : IsStarved works plain script options (written held holds f f_after) day = record {
       day = record { windows = windows; devices = None };
       given = given;
       no_devices = refl;
       takes = under.under_way.takes;
       played = subst (λ rs. WindowsArePlayed works script options.mode rs under.under_way.takes) (sym same) under.under_way.played;
-      text = subst (λ rs. AppendsFirst held holds (text_due script options.mode options.trace rs)) (sym same)
+      text = subst (λ rs. AppendsFirst held holds (text_due plain script options.mode options.trace rs)) (sym same)
           (whole_first held holds (text_so_far script options.mode options.trace records) (after_texts script records) under.text);
       as_closed = subst (λ rs. IsWrittenAsClosed script options (written held holds f f_after) rs) (sym same)
           (lead_whole script options held holds f f_after records (text_so_far script options.mode options.trace records) (all_lead script options records) under.text);
       calm = under.calm;
     } in
-    subst (λ (w : Option Fault). DayEnds works shown script options (written held holds f f_after) day w) (sym because) ends
+    subst (λ (w : Option Fault). DayEnds works shown plain script options (written held holds f f_after) day w) (sym because) ends
 
 -- no memory for the home
 pub unbuilt : {D : Type 0} (works : Setting → WindowText → WindowRecord → (ℕ → ℕ) → Type 0) (shown : Shown D) (script : Script) (options : Options) (held : Option (List ℕ)) (f : ℕ) (windows : Listed WindowRecord) (day : Option (Day D)) (why : Option Fault)
     → windows.items ≡ [] → day ≡ Some (record { windows = windows; devices = None }) → why ≡ Some WantsMemory
-    → DayEnds works shown script options (written held held f f) day why
+    → DayEnds works shown plain script options (written held held f f) day why
 unbuilt works shown script options held f windows day why none given because =
-    let ends : IsStarved works script options (written held held f f) day = record {
+    let ends : IsStarved works plain script options (written held held f f) day = record {
       day = record { windows = windows; devices = None };
       given = given;
       no_devices = refl;
@@ -268,4 +268,4 @@ unbuilt works shown script options held f windows day why none given because =
       as_closed = lead_whole script options held held f f windows.items [] (none_leads script options windows.items [] none) (keeps_appends held held (keeps_same held));
       calm = refl;
     } in
-    subst (λ (w : Option Fault). DayEnds works shown script options (written held held f f) day w) (sym because) ends
+    subst (λ (w : Option Fault). DayEnds works shown plain script options (written held held f f) day w) (sym because) ends

@@ -1,5 +1,5 @@
 -- Lists with one item more.
-use Rattle.std.proofs.Common.{ap, refl}
+use Rattle.std.proofs.Common.{ap, arith, refl, sym, ◌∙◌}
 use Rattle.std.specs.Prelude.{List, [], fold, length, suc, sum_by, ℕ, ◌+◌, ◌++◌, ◌∷◌, ◌≡◌}
 
 -- lists with one item more each are the same before it
@@ -26,6 +26,10 @@ fold_more f a (y ∷ xs) x = fold_more f (f a y) xs x
 
 pub sum_more : {X : Type 0} (f : X → ℕ) (xs : List X) (x : X) → sum_by f (xs ++ x ∷ []) ≡ sum_by f xs + f x
 sum_more f xs x = fold_more (λ a y. a + f y) 0 xs x
+
+-- .. by the sums of the two parts
+pub sum_apart : {X : Type 0} (f : X → ℕ) (xs : List X) (x : X) → sum_by f (xs ++ x ∷ []) ≡ sum_by f xs + sum_by f (x ∷ [])
+sum_apart f xs x = let one : 0 + f x ≡ f x = omega arith in sum_more f xs x ∙ ap (λ n. sum_by f xs + n) (sym one)
 
 pub length_more : {X : Type 0} (xs : List X) (x : X) → length (xs ++ x ∷ []) ≡ suc (length xs)
 length_more [] x = refl

@@ -4,16 +4,17 @@ use Rattle.day_report.proofs.Growing.{enumerate_from-append}
 use Rattle.day_report.specs.Days.{day_text, head_text, total_text, window_text, window_texts}
 use Rattle.history_book.specs.declared.records.WindowRecord.{WindowRecord}
 use Rattle.home_types.specs.declared.modes.Mode.{Mode}
-use Rattle.hub_commands.specs.Days.{text_due, text_so_far}
+use Rattle.hub_commands.specs.Boards.{board_text}
+use Rattle.hub_commands.specs.Days.{boarded, plain, text_due, text_so_far}
 use Rattle.hub_commands.specs.Finishes.{AppendsFirst}
 use Rattle.routine_reader.specs.declared.scripts.Script.{Script}
-use Rattle.std.proofs.Common.{ap, append-nil, append_assoc, arith, refl, subst, sym, ◌∙◌}
+use Rattle.std.proofs.Common.{ap, append-nil, append_assoc, arith, refl, subst, sym, take-append-drop, ◌∙◌}
 use Rattle.std.proofs.Math.Seq.{take-append_seam}
 use Rattle.std.proofs.lemmas.Grind.{common_steps}
 use Rattle.std.proofs.lemmas.List.{flat_map_more, length-append}
 use Rattle.std.specs.Io.KnownBytes.{Appends, Keeps}
 use Rattle.std.specs.List.{enumerate_from, flat_map}
-use Rattle.std.specs.Prelude.{Bool, List, None, Option, Some, [], if◌then◌else◌, length, suc, take, true, zero, ℕ, ◌+◌, ◌++◌, ◌<◌, ◌==◌, ◌∷◌, ◌≡◌}
+use Rattle.std.specs.Prelude.{Bool, List, None, Option, Some, [], drop, false, if◌then◌else◌, length, suc, take, true, zero, ℕ, ◌+◌, ◌++◌, ◌<◌, ◌==◌, ◌∷◌, ◌≡◌}
 
 take_behind : {X : Type 0} (xs ys : List X) (n : ℕ) → take (length xs + n) (xs ++ ys) ≡ xs ++ take n ys
 take_behind [] ys n = let none : 0 + n ≡ n = omega (arith) in ap (λ k. take k ys) none
@@ -60,6 +61,14 @@ part_wider a b xs ys part =
 pub whole_first : (a b : Option (List ℕ)) (xs ys : List ℕ) → Appends a b xs → AppendsFirst a b (xs ++ ys)
 whole_first a b xs ys all = (length xs, subst (λ zs. Appends a b zs) (sym (take-append_seam xs ys)) all)
 
+-- a first part, or all, of a longer text
+pub first_wider : (a b : Option (List ℕ)) (xs ys : List ℕ) → AppendsFirst a b xs → AppendsFirst a b (xs ++ ys)
+first_wider a b xs ys part =
+    let front = take part.0 xs in
+    let rest = drop part.0 xs ++ ys in
+    let all : xs ++ ys ≡ front ++ rest = ap (λ zs. zs ++ ys) (sym (take-append-drop part.0 xs)) ∙ append_assoc front (drop part.0 xs) ys in
+    (length front, subst (λ zs. Appends a b zs) (sym (ap (take (length front)) all ∙ take-append_seam front rest)) part.1)
+
 -- the text with one window more
 pub text_more : (script : Script) (mode : Mode) (trace : Bool) (records : List WindowRecord) (closed : WindowRecord)
     → text_so_far script mode trace (records ++ closed ∷ []) ≡ text_so_far script mode trace records ++ window_text script (length records) closed mode trace
@@ -84,7 +93,30 @@ text_whole script mode trace records = refl
 
 -- where all windows are there the text due has the total
 pub due_whole : (script : Script) (mode : Mode) (trace : Bool) (records : List WindowRecord) → length records ≡ length script.windows.items
-    → text_due script mode trace records ≡ text_so_far script mode trace records ++ total_text records
+    → text_due plain script mode trace records ≡ text_so_far script mode trace records ++ total_text records
 due_whole script mode trace records all =
     let same : (length records == length script.windows.items) ≡ true = grind (arith, common_steps) in
     ap (λ b. text_so_far script mode trace records ++ (if b then total_text records else [])) same
+
+under_test : (b : Bool) (xs ys : List ℕ) → (if b then xs ++ ys else []) ≡ (if b then xs else []) ++ (if b then ys else [])
+under_test true xs ys = refl
+under_test false xs ys = refl
+
+-- what a board adds to the text due
+pub board_due : Script → List WindowRecord → List ℕ
+board_due script records = if length records == length script.windows.items then board_text records else []
+
+-- with a board more is due
+pub due_boarded : (script : Script) (mode : Mode) (trace : Bool) (records : List WindowRecord)
+    → text_due boarded script mode trace records ≡ text_due plain script mode trace records ++ board_due script records
+unfolding board_due
+due_boarded script mode trace records =
+    let all = length records == length script.windows.items in
+    ap (λ t. text_so_far script mode trace records ++ t) (under_test all (total_text records) (board_text records))
+    ∙ sym (append_assoc (text_so_far script mode trace records) (if all then total_text records else []) (if all then board_text records else []))
+
+pub board_there : (script : Script) (records : List WindowRecord) → length records ≡ length script.windows.items → board_due script records ≡ board_text records
+unfolding board_due
+board_there script records all =
+    let same : (length records == length script.windows.items) ≡ true = grind (arith, common_steps) in
+    ap (λ b. if b then board_text records else []) same

@@ -1,11 +1,12 @@
 -- How a call ends: by its fault, what was read, played and written.
-use Rattle.command_words.specs.declared.command_lines.CommandLine.TheVariants.{Check as Checks, Replay, Run, Trial}
+use Rattle.command_words.specs.declared.command_lines.CommandLine.TheVariants.{Check as Checks, Replay, Run, Trial, Watch}
 use Rattle.command_words.specs.declared.command_lines.CommandLine.{CommandLine}
 use Rattle.command_words.specs.declared.command_lines.Options.{Options}
 use Rattle.history_book.specs.Settings.{Setting}
 use Rattle.history_book.specs.declared.records.WindowRecord.{WindowRecord}
 use Rattle.home_types.specs.Listed.{Listed}
 use Rattle.hub_commands.specs.Checks.{CheckEnds}
+use Rattle.hub_commands.specs.Days.{Closing, boarded, plain}
 use Rattle.hub_commands.specs.Finishes.{DayEnds, InputFails, InputIsStarved, IsRead, IsRefused, IsUnread, IsUnwritten, Reads, Shown, Writes}
 use Rattle.hub_commands.specs.Trials.{TrialEnds}
 use Rattle.hub_commands.specs.declared.faults.Fault.TheVariants.{Check, Memory, Read, Script as Refuses, Words, Write}
@@ -15,22 +16,25 @@ use Rattle.routine_reader.specs.declared.scripts.Script.{Script}
 use Rattle.routine_reader.specs.declared.scripts.WindowText.{WindowText}
 use Rattle.std.specs.Prelude.{None, Option, Some, slice_get, sum_by, ℕ, ◌≡◌, ◌⊎◌}
 
--- the command line asks for a replay or a run
-abbrev pub AsksFor : Option CommandLine → Options → Type 0
-AsksFor line options = (line ≡ Some (Replay options)) ⊎ (line ≡ Some (Run options))
+-- the command line asks for a day with such a record: replayed or run, or run and watched
+abbrev pub AsksFor : Closing → Option CommandLine → Options → Type 0
+AsksFor plain line options = (line ≡ Some (Replay options)) ⊎ (line ≡ Some (Run options))
+AsksFor boarded line options = line ≡ Some (Watch options)
 
 -- the day of the script that was read is played
 pub record DayIsPlayed {D : Type 0} (works : Setting → WindowText → WindowRecord → (ℕ → ℕ) → Type 0) (shown : Shown D) (line : Option CommandLine) (source : Reads) (sink : Writes) (day : Option (Day D)) (fault : Option Fault) : Type 0 where
+  pub closing : Closing
   pub options : Options
-  pub asked : AsksFor line options
+  pub asked : AsksFor closing line options
   pub script : Script
   pub read : IsRead source script
-  pub ends : DayEnds works shown script options sink day fault
+  pub ends : DayEnds works shown closing script options sink day fault
 
 -- the call ended before the script was read
 pub record EndsBefore {D : Type 0} (line : Option CommandLine) (sink : Writes) (day : Option (Day D)) : Type 0 where
+  pub closing : Closing
   pub options : Options
-  pub asked : AsksFor line options
+  pub asked : AsksFor closing line options
   pub no_day : day ≡ None
   pub unwritten : IsUnwritten sink
 

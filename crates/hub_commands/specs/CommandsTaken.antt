@@ -1,13 +1,14 @@
--- Which commands each of the two calls takes.
+-- Which commands each of the three calls takes.
 use Rattle.command_words.specs.CommandLines.{command_line_of}
-use Rattle.command_words.specs.declared.command_lines.CommandLine.TheVariants.{Check, Replay, Run, Trial}
+use Rattle.command_words.specs.declared.command_lines.CommandLine.TheVariants.{Check, Replay, Run, Trial, Watch}
 use Rattle.command_words.specs.declared.command_lines.CommandLine.{CommandLine}
 use Rattle.std.specs.Prelude.{List, None, Option, Some, option_and_then, ℕ}
 
--- every command but `run`
+-- every command but `run` and `watch`
 abbrev pub still_line : CommandLine → Option CommandLine
 still_line (Run options) = None
 still_line (Replay options) = Some (Replay options)
+still_line (Watch options) = None
 still_line Check = Some Check
 still_line (Trial n) = Some (Trial n)
 
@@ -15,8 +16,17 @@ still_line (Trial n) = Some (Trial n)
 abbrev pub run_line : CommandLine → Option CommandLine
 run_line (Run options) = Some (Run options)
 run_line (Replay options) = None
+run_line (Watch options) = None
 run_line Check = None
 run_line (Trial n) = None
+
+-- `watch` alone
+abbrev pub watch_line : CommandLine → Option CommandLine
+watch_line (Run options) = None
+watch_line (Replay options) = None
+watch_line (Watch options) = Some (Watch options)
+watch_line Check = None
+watch_line (Trial n) = None
 
 -- the command line that the words are, where the call takes it
 abbrev pub still_line_of : List (List ℕ) → Option CommandLine
@@ -24,3 +34,6 @@ still_line_of words = option_and_then still_line (command_line_of words)
 
 abbrev pub run_line_of : List (List ℕ) → Option CommandLine
 run_line_of words = option_and_then run_line (command_line_of words)
+
+abbrev pub watch_line_of : List (List ℕ) → Option CommandLine
+watch_line_of words = option_and_then watch_line (command_line_of words)

@@ -1,6 +1,6 @@
 -- A day under way: what was played and written of it.
 use Rattle.command_rules.specs.Rosters.{is_run}
-use Rattle.day_report.specs.Days.{head_text, total_text, window_texts}
+use Rattle.day_report.specs.Days.{day_text, head_text, total_text, window_texts}
 use Rattle.history_book.specs.Histories.{reading}
 use Rattle.history_book.specs.Settings.{Setting}
 use Rattle.history_book.specs.declared.entries.End.TheVariants.{Committed}
@@ -8,6 +8,7 @@ use Rattle.history_book.specs.declared.records.WindowRecord.{WindowRecord}
 use Rattle.home_types.specs.HomeStates.{stand_at}
 use Rattle.home_types.specs.declared.modes.Mode.{Mode}
 use Rattle.home_types.specs.declared.modes.Scheduler.TheVariants.{Fcfs}
+use Rattle.hub_commands.specs.Boards.{board_text}
 use Rattle.hub_core.specs.Homes.{HomeState}
 use Rattle.hub_core.specs.HubCalls.{RunsHaveEnded}
 use Rattle.hub_core.specs.LegalDays.{DevicesAreLeft, RecordsAreLegal, setting_of, state_after, total}
@@ -83,6 +84,21 @@ pub record IsPlayedOn {D : Type 0} (tag : D → ℕ) (plan : D → Option (List 
 abbrev pub text_so_far : Script → Mode → Bool → List WindowRecord → List ℕ
 text_so_far script mode trace records = head_text mode ++ window_texts script records mode trace
 
--- the same, with the total where these are all windows
-abbrev pub text_due : Script → Mode → Bool → List WindowRecord → List ℕ
-text_due script mode trace records = text_so_far script mode trace records ++ (if length records == length script.windows.items then total_text records else [])
+-- what the record of a day ends with: the total, or a board's line behind it
+pub data Closing : Type 0 where
+  plain : Closing
+  boarded : Closing
+
+-- the lines below the windows
+abbrev pub closing_lines : Closing → List WindowRecord → List ℕ
+closing_lines plain records = total_text records
+closing_lines boarded records = total_text records ++ board_text records
+
+-- the same, with the lines below the windows where these are all
+abbrev pub text_due : Closing → Script → Mode → Bool → List WindowRecord → List ℕ
+text_due closing script mode trace records = text_so_far script mode trace records ++ (if length records == length script.windows.items then closing_lines closing records else [])
+
+-- the whole record
+abbrev pub record_text : Closing → Script → List WindowRecord → Mode → Bool → List ℕ
+record_text plain script records mode trace = day_text script records mode trace
+record_text boarded script records mode trace = day_text script records mode trace ++ board_text records

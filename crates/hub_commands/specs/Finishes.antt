@@ -2,13 +2,12 @@
 use Rattle.command_words.specs.declared.command_lines.Options.{Options}
 use Rattle.day_clock.specs.Sinks.{AppendsPart}
 use Rattle.day_clock.specs.Sources.{TakesCount, TakesUpTo}
-use Rattle.day_report.specs.Days.{day_text}
 use Rattle.home_types.specs.Limits.{most_script_bytes}
 use Rattle.home_types.specs.Listed.{Listed}
 use Rattle.hub_core.specs.LegalDays.{IsLegalCutDay, IsLegalDay}
 use Rattle.history_book.specs.Settings.{Setting}
 use Rattle.history_book.specs.declared.records.WindowRecord.{WindowRecord}
-use Rattle.hub_commands.specs.Days.{DevicesAreProbed, WindowsArePlayed, text_due, text_so_far}
+use Rattle.hub_commands.specs.Days.{Closing, DevicesAreProbed, WindowsArePlayed, record_text, text_due, text_so_far}
 use Rattle.hub_commands.specs.declared.faults.Fault.TheVariants.{Check, Memory, Read, Script as Refuses, Words, Write}
 use Rattle.hub_commands.specs.declared.faults.Fault.{Fault}
 use Rattle.hub_commands.specs.declared.finishes.Day.{Day}
@@ -119,7 +118,7 @@ shown_by tag plan stands turns probes faults = record { tag = tag; plan = plan; 
 
 -- the day that is handed back is whole and legal in the mode of the words, each of its windows was worked in this way, in each every run has ended, and where runs are served as they come and no device fails each that has no must `check` has committed, and the sink got its text;
 -- outside the weak model the printed order of each window holds each committed run once, and the answers and the last state are those of its serial execution; under it no order is claimed; at the day's end each device that is up stands so
-pub record IsWhole {D : Type 0} (works : Setting → WindowText → WindowRecord → (ℕ → ℕ) → Type 0) (shown : Shown D) (script : Script) (options : Options) (sink : Writes) (o : Option (Day D)) : Type 0 where
+pub record IsWhole {D : Type 0} (works : Setting → WindowText → WindowRecord → (ℕ → ℕ) → Type 0) (shown : Shown D) (closing : Closing) (script : Script) (options : Options) (sink : Writes) (o : Option (Day D)) : Type 0 where
   pub day : Day D
   pub given : o ≡ Some day
   pub devices : Listed D
@@ -128,11 +127,11 @@ pub record IsWhole {D : Type 0} (works : Setting → WindowText → WindowRecord
   pub takes : List (ℕ → ℕ)
   pub played : WindowsArePlayed works script options.mode day.windows.items takes
   pub probed : DevicesAreProbed shown.probes takes devices.items
-  pub text : Appends sink.held sink.holds (day_text script day.windows.items options.mode options.trace)
+  pub text : Appends sink.held sink.holds (record_text closing script day.windows.items options.mode options.trace)
   pub calm : sink.faults_after ≡ sink.faults
 
 -- the day was cut short where the sink failed: it is legal up to there, and the sink got a first part of its text, and not all
-pub record IsCut {D : Type 0} (works : Setting → WindowText → WindowRecord → (ℕ → ℕ) → Type 0) (shown : Shown D) (script : Script) (options : Options) (sink : Writes) (o : Option (Day D)) : Type 0 where
+pub record IsCut {D : Type 0} (works : Setting → WindowText → WindowRecord → (ℕ → ℕ) → Type 0) (shown : Shown D) (closing : Closing) (script : Script) (options : Options) (sink : Writes) (o : Option (Day D)) : Type 0 where
   pub day : Day D
   pub given : o ≡ Some day
   pub devices : Listed D
@@ -141,27 +140,27 @@ pub record IsCut {D : Type 0} (works : Setting → WindowText → WindowRecord �
   pub takes : List (ℕ → ℕ)
   pub played : WindowsArePlayed works script options.mode day.windows.items takes
   pub probed : DevicesAreProbed shown.probes takes devices.items
-  pub text : AppendsPart sink.held sink.holds (text_due script options.mode options.trace day.windows.items)
+  pub text : AppendsPart sink.held sink.holds (text_due closing script options.mode options.trace day.windows.items)
   pub as_closed : IsWrittenAsClosed script options sink day.windows.items
   pub failed : sink.faults < sink.faults_after
 
 -- the day was cut short for want of memory: its windows are legal up to there, no device is handed back, and the sink got a first part of its text
-pub record IsStarved {D : Type 0} (works : Setting → WindowText → WindowRecord → (ℕ → ℕ) → Type 0) (script : Script) (options : Options) (sink : Writes) (o : Option (Day D)) : Type 0 where
+pub record IsStarved {D : Type 0} (works : Setting → WindowText → WindowRecord → (ℕ → ℕ) → Type 0) (closing : Closing) (script : Script) (options : Options) (sink : Writes) (o : Option (Day D)) : Type 0 where
   pub day : Day D
   pub given : o ≡ Some day
   pub no_devices : day.devices ≡ None
   pub takes : List (ℕ → ℕ)
   pub played : WindowsArePlayed works script options.mode day.windows.items takes
-  pub text : AppendsFirst sink.held sink.holds (text_due script options.mode options.trace day.windows.items)
+  pub text : AppendsFirst sink.held sink.holds (text_due closing script options.mode options.trace day.windows.items)
   pub as_closed : IsWrittenAsClosed script options sink day.windows.items
   pub calm : sink.faults_after ≡ sink.faults
 
--- how the day of a script ends
-abbrev pub DayEnds : {D : Type 0} → (Setting → WindowText → WindowRecord → (ℕ → ℕ) → Type 0) → Shown D → Script → Options → Writes → Option (Day D) → Option Fault → Type 0
-DayEnds works shown script options sink day None = IsWhole works shown script options sink day
-DayEnds works shown script options sink day (Some (Refuses fault)) = ⊥
-DayEnds works shown script options sink day (Some Words) = ⊥
-DayEnds works shown script options sink day (Some Read) = ⊥
-DayEnds works shown script options sink day (Some Write) = IsCut works shown script options sink day
-DayEnds works shown script options sink day (Some Memory) = IsStarved works script options sink day
-DayEnds works shown script options sink day (Some (Check window place name)) = ⊥
+-- how the day of a script ends, with a record of this closing
+abbrev pub DayEnds : {D : Type 0} → (Setting → WindowText → WindowRecord → (ℕ → ℕ) → Type 0) → Shown D → Closing → Script → Options → Writes → Option (Day D) → Option Fault → Type 0
+DayEnds works shown closing script options sink day None = IsWhole works shown closing script options sink day
+DayEnds works shown closing script options sink day (Some (Refuses fault)) = ⊥
+DayEnds works shown closing script options sink day (Some Words) = ⊥
+DayEnds works shown closing script options sink day (Some Read) = ⊥
+DayEnds works shown closing script options sink day (Some Write) = IsCut works shown closing script options sink day
+DayEnds works shown closing script options sink day (Some Memory) = IsStarved works closing script options sink day
+DayEnds works shown closing script options sink day (Some (Check window place name)) = ⊥

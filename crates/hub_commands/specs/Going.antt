@@ -1,10 +1,12 @@
 -- A day that goes on: what was played of it, and what the sink got.
 use Rattle.command_words.specs.declared.command_lines.Options.{Options}
+use Rattle.day_report.specs.Days.{abort_count, commit_count}
 use Rattle.history_book.specs.Settings.{Setting}
 use Rattle.history_book.specs.declared.records.WindowRecord.{WindowRecord}
 use Rattle.home_types.specs.Listed.{Listed}
 use Rattle.home_types.specs.declared.modes.Mode.{Mode}
-use Rattle.hub_commands.specs.Days.{IsUnderWay, text_so_far}
+use Rattle.hub_commands.specs.Boards.{HasOneMore, IsToldOf}
+use Rattle.hub_commands.specs.Days.{IsUnderWay, plain, text_so_far}
 use Rattle.hub_commands.specs.Finishes.{DayEnds, Shown, Writes, written}
 use Rattle.hub_commands.specs.Played.{HasGoneOn}
 use Rattle.hub_commands.specs.Statuses.{status_of}
@@ -15,8 +17,9 @@ use Rattle.hub_commands.specs.declared.plays.DayUnderWay.{DayUnderWay}
 use Rattle.hub_core.specs.Homes.{HomeState}
 use Rattle.routine_reader.specs.declared.scripts.Script.{Script}
 use Rattle.routine_reader.specs.declared.scripts.WindowText.{WindowText}
+use Rattle.status_board.specs.declared.day_counts.Counts.{Counts}
 use Rattle.std.specs.Io.KnownBytes.{Appends}
-use Rattle.std.specs.Prelude.{Err, List, Ok, Option, Result, length, suc, ℕ, ◌≡◌}
+use Rattle.std.specs.Prelude.{Err, List, Ok, Option, Result, Some, length, suc, ℕ, ◌+◌, ◌<◌, ◌^◌, ◌≡◌}
 
 -- the home is under way, and the sink got the texts so far
 pub record IsGoingOn {D : Type 0} (works : Setting → WindowText → WindowRecord → (ℕ → ℕ) → Type 0) (shown : Shown D) (script : Script) (options : Options) (sink : Writes) (home : HomeState D) (records : List WindowRecord) : Type 0 where
@@ -32,7 +35,7 @@ NextIs works shown script mode records (Err windows) = windows.items ≡ records
 -- the day goes on with so many windows, or it has ended
 abbrev pub GoesOn : {D : Type 0} → (Setting → WindowText → WindowRecord → (ℕ → ℕ) → Type 0) → Shown D → Script → Options → Writes → ℕ → Result (DayUnderWay D) (Finish D) → Type 0
 GoesOn works shown script options sink count (Ok day) = (length day.windows.items ≡ count) × IsGoingOn works shown script options sink day.home day.windows.items
-GoesOn works shown script options sink count (Err finish) = (finish.status ≡ status_of finish.fault) × DayEnds works shown script options sink finish.day finish.fault
+GoesOn works shown script options sink count (Err finish) = (finish.status ≡ status_of finish.fault) × DayEnds works shown plain script options sink finish.day finish.fault
 
 -- what came of the next window was written, whatever the sink held as the day began: with the lines of the window the day goes on, or it has ended
 abbrev pub HasWritten : {D : Type 0} → (Setting → WindowText → WindowRecord → (ℕ → ℕ) → Type 0) → Shown D → Script → Options → Writes → Result (DayUnderWay D) (Listed WindowRecord) → Result (DayUnderWay D) (Finish D) → Type 0
@@ -44,4 +47,31 @@ HasWritten {D} works shown script options sink next result = (held : Option (Lis
 abbrev pub HasEnded : {D : Type 0} → (Setting → WindowText → WindowRecord → (ℕ → ℕ) → Type 0) → Shown D → Script → Options → Writes → DayUnderWay D → Option (Day D) → Option Fault → Type 0
 HasEnded works shown script options sink last day fault = (held : Option (List ℕ)) (f : ℕ)
     → IsGoingOn works shown script options (written held sink.held f sink.faults) last.home last.windows.items → length last.windows.items ≡ length script.windows.items
-    → DayEnds works shown script options (written held sink.holds f sink.faults_after) day fault
+    → DayEnds works shown plain script options (written held sink.holds f sink.faults_after) day fault
+
+-- Which windows are handed back, and who is told of them
+
+-- the windows that were closed so far
+abbrev pub windows_in : {D : Type 0} → Result (DayUnderWay D) (Listed WindowRecord) → List WindowRecord
+windows_in (Ok day) = day.windows.items
+windows_in (Err windows) = windows.items
+
+-- a day is handed back, with these windows
+abbrev pub HandsBack : {D : Type 0} → Option (Day D) → List WindowRecord → Type 0
+HandsBack {D} o records = (day : Day D) × (o ≡ Some day) × (day.windows.items ≡ records)
+
+-- the day goes on with these windows, or ends with them
+abbrev pub KeepsWindows : {D : Type 0} → Result (DayUnderWay D) (Finish D) → List WindowRecord → Type 0
+KeepsWindows (Ok day) records = day.windows.items ≡ records
+KeepsWindows (Err finish) records = HandsBack finish.day records
+
+-- where the next window was played it is one more than who looks on was told of, and their runs can be counted; else the windows are those
+abbrev pub IsNextToTell : {D : Type 0} → Option (List Counts) → Result (DayUnderWay D) (Listed WindowRecord) → Type 0
+IsNextToTell told (Ok day) = HasOneMore told day.windows.items × (commit_count day.windows.items + abort_count day.windows.items < 2 ^ 64)
+IsNextToTell told (Err windows) = IsToldOf told windows.items
+
+-- who looks on was told of the windows that are handed back
+pub record IsToldOfDay {D : Type 0} (told : Option (List Counts)) (o : Option (Day D)) : Type 0 where
+  pub day : Day D
+  pub given : o ≡ Some day
+  pub told_of : IsToldOf told day.windows.items

@@ -1,4 +1,5 @@
 pub mod Ways
+pub mod Boards
 pub mod Days
 pub mod Played
 pub mod Statuses
@@ -11,3 +12,5 @@ pub mod Trials
 pub mod Calls
 pub mod Pieces
 pub mod Going
+pub mod LastLines
+pub mod Watched

@@ -8,6 +8,7 @@ use Rattle.home_types.specs.declared.modes.Scheduler.TheVariants.{Fcfs}
 use Rattle.home_types.specs.declared.modes.Visibility.TheVariants.{Eventual}
 use Rattle.hub_commands.specs.Days.{DevicesAreProbed, WindowsArePlayed}
 use Rattle.hub_commands.specs.Finishes.{IsUnwritten, Shown, Writes}
+use Rattle.hub_commands.specs.LastLines.{LineIsWritten}
 use Rattle.hub_commands.specs.Ways.{IsReplayOf}
 use Rattle.hub_commands.specs.declared.faults.Fault.TheVariants.{Check, Memory, Read, Script as Refuses, Words, Write}
 use Rattle.hub_commands.specs.declared.faults.Fault.{Fault}
@@ -98,10 +99,4 @@ HasStarved day after fault = (fault ≡ Some Memory) × (after ≡ option_map (�
 
 -- the line of the trial was written, or a first part of it, or there was no memory for that
 abbrev pub HasJudged : {D : Type 0} → ℕ → Script → Writes → Day D → Option (Day D) → Option Fault → Type 0
-HasJudged n script sink day after None = (after ≡ Some day) × Appends sink.held sink.holds (line_due n script day) × (sink.faults_after ≡ sink.faults)
-HasJudged n script sink day after (Some (Refuses fault)) = ⊥
-HasJudged n script sink day after (Some Words) = ⊥
-HasJudged n script sink day after (Some Read) = ⊥
-HasJudged n script sink day after (Some Write) = (after ≡ Some day) × AppendsPart sink.held sink.holds (line_due n script day) × (sink.faults < sink.faults_after)
-HasJudged n script sink day after (Some Memory) = (after ≡ Some (record { windows = day.windows; devices = None })) × IsUnwritten sink
-HasJudged n script sink day after (Some (Check window place name)) = ⊥
+HasJudged n script sink day after fault = LineIsWritten (line_due n script day) sink (Some day) after fault

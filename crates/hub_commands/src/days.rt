@@ -3,9 +3,11 @@ ghost use Rattle.std.specs.Prelude.{◌≡◌, ◌<◌, ◌≤◌, ◌++◌, ◌
 ghost use Rattle.day_report.specs.Days.{window_text as window_lines_of};
 ghost use Rattle.home_types.specs.Limits.{most_windows};
 ghost use Rattle.hub_commands.specs.Finishes.{shown_by, written};
-ghost use Rattle.hub_commands.specs.Going.{GoesOn, HasEnded, HasWritten};
+ghost use Rattle.hub_commands.specs.Going.{GoesOn, HandsBack, HasEnded, HasWritten, KeepsWindows, windows_in};
+ghost use Rattle.hub_commands.specs.LastLines.{LineIsWritten};
 ghost use Rattle.hub_commands.specs.Pieces.{StopEnds};
 ghost use Rattle.hub_commands.specs.Statuses.{status_of};
+ghost use Rattle.hub_commands.specs.Trials.{HasStarved};
 ghost use Rattle.routine_reader.specs.Scripts.{plain_script};
 ghost use Rattle.routine_reader.specs.Sound.{IsSound};
 
@@ -50,6 +52,17 @@ pub fn end_without_devices<Dev: Device>(windows: List<WindowRecord>, fault: Faul
             devices: None,
         }),
         fault: Some(fault),
+    }
+}
+
+/// Ends a call for want of memory, with the windows of its day, if there is one.
+pub fn starve<Dev: Device>(day: Option<Day<Dev>>) -> Finish<Dev>
+    ensures status { result.status ≡ status_of result.fault }
+    ensures starved { HasStarved day result.day result.fault }
+{
+    match day {
+        Some(Day { windows, .. }) => end_without_devices(windows, Fault::Memory),
+        None => refuse(Fault::Memory),
     }
 }
 
@@ -109,11 +122,12 @@ pub fn begin<W: Way, K: Sink, B: Bench>(
     bench: &mut B,
 ) -> Result<DayUnderWay<B::Dev>, Finish<B::Dev>>
     requires sound { IsSound (plain_script script.now) }
-    ensures { GoesOn (W.works _way.now)
+    ensures goes_on { GoesOn (W.works _way.now)
         (shown_by B.Dev.tag B.Dev.plan B.Dev.stands B.Dev.turns B.Dev.probes B.Dev.faults)
         script.now options
         (written (K.holds sink.old) (K.holds sink.new) (K.faults sink.old) (K.faults sink.new))
         0 result }
+    ensures kept { KeepsWindows result [] }
 {
     let Ok(home) = Home::build(alloc, bench, script) else {
         return Err(end_without_devices(List::new(alloc), Fault::Memory));
@@ -139,9 +153,10 @@ pub fn go_on<W: Way, D: Device, K: Sink>(
 ) -> Result<DayUnderWay<D>, Finish<D>>
     requires some { IfOk next (λ day. 0 < length day.windows.items) }
     requires few { IfOk next (λ day. length day.windows.items ≤ most_windows) }
-    ensures { HasWritten (W.works _way.now) (shown_by D.tag D.plan D.stands D.turns D.probes D.faults) script.now options
+    ensures written { HasWritten (W.works _way.now) (shown_by D.tag D.plan D.stands D.turns D.probes D.faults) script.now options
         (written (K.holds sink.old) (K.holds sink.new) (K.faults sink.old) (K.faults sink.new))
         next result }
+    ensures kept { KeepsWindows result (windows_in next) }
 {
     let day = match next {
         Ok(day) => day,
@@ -167,6 +182,7 @@ pub fn end<W: Way, D: Device, K: Sink>(
     ensures ends { HasEnded (W.works _way.now) (shown_by D.tag D.plan D.stands D.turns D.probes D.faults) script.now options
         (written (K.holds sink.old) (K.holds sink.new) (K.faults sink.old) (K.faults sink.new))
         day result.day result.fault }
+    ensures kept { HandsBack result.day day.windows.items }
 {
     if let Err(fault) = write_piece(sink, total_text(alloc, &day.windows)) {
         return stop(day, fault);
@@ -179,5 +195,32 @@ pub fn end<W: Way, D: Device, K: Sink>(
             devices: Some(home.into_devices()),
         }),
         fault: None,
+    }
+}
+
+/// Ends a call with its last line, behind a day: with the day where the line is written or the sink failed, and with its
+/// windows alone where memory was wanted.
+pub fn end_with_line<Dev: Device, K: Sink>(
+    sink: &mut K,
+    line: Result<Bytes, NoMemory>,
+    day: Option<Day<Dev>>,
+) -> Finish<Dev>
+    ensures status { result.status ≡ status_of result.fault }
+    ensures ends { (bytes : _) → IfOk line (λ b. b ≡ bytes) → LineIsWritten bytes
+        (written (K.holds sink.old) (K.holds sink.new) (K.faults sink.old) (K.faults sink.new))
+        day result.day result.fault }
+{
+    match write_piece(sink, line) {
+        Ok(()) => Finish {
+            status: 0,
+            day,
+            fault: None,
+        },
+        Err(PieceFault::Sink) => Finish {
+            status: Fault::Write.status(),
+            day,
+            fault: Some(Fault::Write),
+        },
+        Err(PieceFault::Memory) => starve(day),
     }
 }

@@ -1,21 +1,25 @@
 // The commands of the program: each takes words, a source and a sink, and answers how it ended.
 #![tactic(auto)]
 
+mod board_lines;
 mod checks;
 mod days;
 mod divisions;
 mod faults;
 mod finishes;
 mod inputs;
+mod onlookers;
 mod pieces;
 mod plays;
 mod replays;
 mod runs;
 mod stills;
 mod trials;
+mod watches;
 mod ways;
 
 pub use faults::Fault;
 pub use finishes::{Day, Finish};
 pub use runs::run_command;
 pub use stills::still_command;
+pub use watches::{watch_command, watch_command_telling};

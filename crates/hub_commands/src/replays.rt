@@ -1,6 +1,6 @@
 //! The replay of a script's day.
 ghost use Rattle.std.specs.Prelude.{◌≡◌, ◌<◌, Err, IfErr, IfOk, IsTrue, length};
-ghost use Rattle.hub_commands.specs.Days.{IsUnderWay};
+ghost use Rattle.hub_commands.specs.Days.{IsUnderWay, plain};
 ghost use Rattle.hub_commands.specs.Finishes.{DayEnds, shown_by, written};
 ghost use Rattle.hub_commands.specs.Played.{HasGoneOn, IsWorkedAs};
 ghost use Rattle.hub_commands.specs.Statuses.{status_of};
@@ -87,7 +87,7 @@ pub fn replay_day<K: Sink, B: Bench>(
     ensures status { result.status ≡ status_of result.fault }
     ensures ends { DayEnds IsReplayOf
         (shown_by B.Dev.tag B.Dev.plan B.Dev.stands B.Dev.turns B.Dev.probes B.Dev.faults)
-        script.now options
+        plain script.now options
         (written (K.holds sink.old) (K.holds sink.new) (K.faults sink.old) (K.faults sink.new))
         result.day result.fault }
 {

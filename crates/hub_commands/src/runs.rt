@@ -1,9 +1,11 @@
 //! The call for `run`: a day that is run with threads.
-ghost use Rattle.std.specs.Prelude.{◌≡◌, ◌<◌, Err, IfErr, IfOk, IsTrue, None, Some, false, length, map, string_bytes};
+ghost use Rattle.std.specs.Prelude.{◌≡◌, ◌<◌, [], Err, IfErr, IfOk, IsTrue, None, Some, false, length, map, string_bytes};
 ghost use Rattle.hub_commands.specs.CommandsTaken.{run_line_of};
-ghost use Rattle.hub_commands.specs.Days.{IsUnderWay};
+ghost use Rattle.hub_commands.specs.Boards.{IsToldOf};
+ghost use Rattle.hub_commands.specs.Days.{IsUnderWay, plain};
 ghost use Rattle.hub_commands.specs.Calls.{CallEnds, IsProbedInAll};
 ghost use Rattle.hub_commands.specs.Finishes.{DayEnds, read_off, shown_by, written};
+ghost use Rattle.hub_commands.specs.Going.{IsToldOfDay};
 ghost use Rattle.hub_commands.specs.Played.{HasGoneOn, IsWorkedAs};
 ghost use Rattle.hub_commands.specs.Statuses.{status_of};
 ghost use Rattle.hub_commands.specs.Ways.{IsRunWithin};
@@ -17,6 +19,7 @@ use crate::days::{begin, end, go_on, refuse};
 use crate::faults::Fault;
 use crate::finishes::Finish;
 use crate::inputs::read_input;
+use crate::onlookers::{Nobody, Onlooker, tell_of};
 use crate::plays::{DayUnderWay, close_next, open_next};
 use crate::ways::InThreads;
 use command_words::{CommandLine, Options, WordFault, read_words};
@@ -90,8 +93,8 @@ fn run_next<R: Threads + Wait + Sync, D: Device + Send, C: Clock + Sync>(
 }
 
 /// Runs the script's day on devices of the bench, with threads, and writes its record: the head, each window as it
-/// closes, and the total.
-fn run_day<R: Threads + Wait + Sync, K: Sink, B: Bench, C: Clock + Sync>(
+/// closes, and the total. Who looks on is told of each window before its lines are written.
+pub fn run_day<R: Threads + Wait + Sync, K: Sink, B: Bench, C: Clock + Sync, O: Onlooker>(
     rt: &R,
     alloc: Global,
     script: &Script,
@@ -99,17 +102,23 @@ fn run_day<R: Threads + Wait + Sync, K: Sink, B: Bench, C: Clock + Sync>(
     sink: &mut K,
     bench: &mut B,
     clock: &C,
+    onlooker: &mut O,
 ) -> Finish<B::Dev>
 where
     B::Dev: Send,
     requires sound { IsSound (plain_script script.now) }
     requires goes { IsTrue (is_mode options.mode) }
+    requires stands { O.stands onlooker.old }
+    requires new { IsToldOf (O.told onlooker.old) [] }
     ensures status { result.status ≡ status_of result.fault }
     ensures ends { DayEnds (IsRunWithin (C.earliest clock.now) (C.latest clock.now))
         (shown_by B.Dev.tag B.Dev.plan B.Dev.stands B.Dev.turns B.Dev.probes B.Dev.faults)
-        script.now options
+        plain script.now options
         (written (K.holds sink.old) (K.holds sink.new) (K.faults sink.old) (K.faults sink.new))
         result.day result.fault }
+    ensures stands { O.stands onlooker.new }
+    ensures same { O.posts_on onlooker.new ≡ O.posts_on onlooker.old }
+    ensures told { IsToldOfDay (O.told onlooker.new) result.day }
 {
     let way = InThreads { clock };
     let mut day = match begin(&way, alloc, script, options, sink, bench) {
@@ -118,6 +127,7 @@ where
     };
     'windows: for _ in 0..script.windows.len() {
         let next = run_next(rt, alloc, script, options.mode, day, clock);
+        tell_of(rt, onlooker, &next);
         day = match go_on(&way, alloc, script, options, next, sink) {
             Ok(day) => day,
             Err(finish) => return finish,
@@ -134,6 +144,7 @@ fn read_run_words(alloc: Global, words: &[String]) -> Result<Options, WordFault>
     match read_words(alloc, words) {
         Ok(CommandLine::Run(options)) => Ok(options),
         Ok(CommandLine::Replay(_)) => Err(WordFault::Words),
+        Ok(CommandLine::Watch(_)) => Err(WordFault::Words),
         Ok(CommandLine::Check) => Err(WordFault::Words),
         Ok(CommandLine::Trial(_)) => Err(WordFault::Words),
         Err(fault) => Err(fault),
@@ -179,5 +190,5 @@ where
         Ok(script) => script,
         Err(fault) => return refuse(fault),
     };
-    run_day(rt, alloc, &script, options, sink, bench, clock)
+    run_day(rt, alloc, &script, options, sink, bench, clock, &mut Nobody)
 }

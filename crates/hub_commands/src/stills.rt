@@ -2,6 +2,7 @@
 ghost use Rattle.std.specs.Prelude.{◌≡◌, IsTrue, map, string_bytes};
 ghost use Rattle.hub_commands.specs.Calls.{AsksFor, CallEnds};
 ghost use Rattle.hub_commands.specs.CommandsTaken.{still_line_of};
+ghost use Rattle.hub_commands.specs.Days.{plain};
 ghost use Rattle.hub_commands.specs.Finishes.{read_off, shown_by, written};
 ghost use Rattle.hub_commands.specs.Statuses.{status_of};
 ghost use Rattle.hub_commands.specs.Ways.{IsReplayOf};
@@ -29,7 +30,7 @@ fn replay_input<S: Source, K: Sink, B: Bench>(
 ) -> Finish<B::Dev>
     requires goes { IsTrue (is_mode options.mode) }
     ensures status { result.status ≡ status_of result.fault }
-    ensures ends { (line : _) → AsksFor line options → CallEnds IsReplayOf
+    ensures ends { (line : _) → AsksFor plain line options → CallEnds IsReplayOf
         (shown_by B.Dev.tag B.Dev.plan B.Dev.stands B.Dev.turns B.Dev.probes B.Dev.faults)
         line
         (read_off (S.left source.old) (S.left source.new) (S.faults source.old) (S.faults source.new))
@@ -48,7 +49,7 @@ fn replay_input<S: Source, K: Sink, B: Bench>(
 /// seeds, and writes the record to the sink. `check` reads a script and a record, which a line `%%` divides, and writes
 /// `agrees` where the record is the serial execution of its orders. `trial` makes a script of its number, plays its
 /// day, checks the record and writes one line; it reads nothing. The words are those on the command line, without the
-/// program's name; `run` is refused as words.
+/// program's name; `run` and `watch` are refused as words.
 ///
 /// The status tells how the call ended: 0, all is written; 1, the script is refused; 2, the words are of no command
 /// that this call takes; 3, the source failed; 4, the sink failed, and holds a first part of what was due; 5, want of
@@ -73,6 +74,7 @@ pub fn still_command<S: Source, K: Sink, B: Bench>(
         Ok(CommandLine::Replay(options)) => replay_input(alloc, options, source, sink, bench),
         Ok(CommandLine::Check) => check_input(alloc, source, sink),
         Ok(CommandLine::Trial(number)) => play_trial(alloc, number, sink, bench),
+        Ok(CommandLine::Watch(_)) => refuse(Fault::Words),
         Ok(CommandLine::Run(_)) | Err(WordFault::Words) => refuse(Fault::Words),
         Err(WordFault::NoMemory) => refuse(Fault::Memory),
     }

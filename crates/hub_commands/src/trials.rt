@@ -4,17 +4,16 @@ ghost use Rattle.day_report.specs.Days.{day_text};
 ghost use Rattle.home_types.specs.Limits.{most_windows};
 ghost use Rattle.hub_commands.specs.Finishes.{shown_by, written};
 ghost use Rattle.hub_commands.specs.Statuses.{status_of};
-ghost use Rattle.hub_commands.specs.Trials.{HasJudged, HasStarved, TrialEnds, agreeing, finding, trial_mode};
+ghost use Rattle.hub_commands.specs.Trials.{HasJudged, TrialEnds, agreeing, finding, trial_mode};
 ghost use Rattle.hub_core.specs.LegalDays.{RecordsAreLegal};
 ghost use Rattle.order_checker.specs.declared.verdicts.Verdict.TheVariants.{Agrees};
 ghost use Rattle.routine_reader.specs.Scripts.{plain_script};
 ghost use Rattle.routine_reader.specs.Sound.{IsSound};
 ghost use Rattle.trial_scripts.specs.TrialScripts.{trial_script};
 
-use crate::days::{end_without_devices, refuse};
+use crate::days::{end_with_line, refuse, starve};
 use crate::faults::Fault;
 use crate::finishes::{Day, Finish};
-use crate::pieces::{PieceFault, write_piece};
 use crate::replays::replay_day;
 use command_words::Options;
 use day_clock::{BytesSink, Sink};
@@ -50,17 +49,6 @@ fn agreeing(verdict: Verdict, windows: u64) -> u64
     }
 }
 
-/// Ends a trial for want of memory, with the windows of its day, if there is one.
-fn starve<Dev: Device>(day: Option<Day<Dev>>) -> Finish<Dev>
-    ensures status { result.status ≡ status_of result.fault }
-    ensures starved { HasStarved day result.day result.fault }
-{
-    match day {
-        Some(Day { windows, .. }) => end_without_devices(windows, Fault::Memory),
-        None => refuse(Fault::Memory),
-    }
-}
-
 /// Judges the record of the trial's day, and writes the line of the trial.
 fn judge_day<K: Sink, Dev: Device>(
     alloc: Global,
@@ -85,19 +73,8 @@ fn judge_day<K: Sink, Dev: Device>(
         return starve(Some(day));
     };
     let agree = agreeing(verdict, day.windows.len());
-    match write_piece(sink, trial_text(alloc, number, &day.windows, agree)) {
-        Ok(()) => Finish {
-            status: 0,
-            day: Some(day),
-            fault: None,
-        },
-        Err(PieceFault::Sink) => Finish {
-            status: Fault::Write.status(),
-            day: Some(day),
-            fault: Some(Fault::Write),
-        },
-        Err(PieceFault::Memory) => starve(Some(day)),
-    }
+    let line = trial_text(alloc, number, &day.windows, agree);
+    end_with_line(sink, line, Some(day))
 }
 
 /// Plays the day of this script on devices of the bench, checks its record, and writes the line of the trial.

@@ -3,11 +3,15 @@
 
 ghost use Rattle.std.specs.Prelude.{◌≡◌, map, string_bytes};
 ghost use Rattle.hub_commands.specs.Statuses.{fault_status, status_of};
-ghost use Rattle.hub_main.specs.FirstWords.{asks_for_run};
+ghost use Rattle.hub_main.specs.FirstWords.{asks_for};
+
+mod progress;
 
 use day_clock::{Clock, Sink, Source, StdClock, StdSink, StdSource};
 use device_states::{SimBench, SimDevice};
-use hub_commands::{Fault, Finish, run_command, still_command};
+use hub_commands::{Fault, Finish, run_command, still_command, watch_command_telling};
+use progress::{Progress, Showing, how_to_show};
+use status_board::Teller;
 use std::alloc::Global;
 use std::env;
 use std::io::ErrorKind;
@@ -27,7 +31,21 @@ fn main(rt: HostRuntime) -> ExitCode {
     let mut source = StdSource::new(rt.stdin());
     let mut sink = StdSink::new(rt.stdout());
     let clock = StdClock::new(&rt);
-    let finish = call(&rt, rt.alloc(), given, &mut source, &mut sink, &clock);
+    let shows = if asks_for(given, "watch") {
+        how_to_show(&rt)
+    } else {
+        Showing::Off
+    };
+    let mut teller = Progress::new(rt.alloc(), rt.stderr(), shows);
+    let finish = call(
+        &rt,
+        rt.alloc(),
+        given,
+        &mut source,
+        &mut sink,
+        &clock,
+        &mut teller,
+    );
     ExitCode::from(match &finish.fault {
         Some(fault) => tell(&rt, fault),
         None => finish.status,
@@ -35,28 +53,41 @@ fn main(rt: HostRuntime) -> ExitCode {
 }
 
 /// Makes the call that takes the command: the first word tells which.
-fn call<R: Threads + Wait + Sync, S: Source, K: Sink, C: Clock + Sync>(
+fn call<R: Threads + Wait + Sync, S: Source, K: Sink, C: Clock + Sync, T: Teller + Send>(
     rt: &R,
     alloc: Global,
     words: &[String],
     source: &mut S,
     sink: &mut K,
     clock: &C,
+    teller: &mut T,
 ) -> Finish<SimDevice>
     ensures status { result.status ≡ status_of result.fault }
 {
-    if asks_for_run(words) {
+    if asks_for(words, "run") {
         run_command(rt, alloc, words, source, sink, &mut SimBench, clock)
+    } else if asks_for(words, "watch") {
+        let (finish, _) = watch_command_telling(
+            rt,
+            alloc,
+            words,
+            source,
+            sink,
+            &mut SimBench,
+            clock,
+            teller,
+        );
+        finish
     } else {
         still_command(alloc, words, source, sink, &mut SimBench)
     }
 }
 
-/// Whether the first word is `run`.
-fn asks_for_run(words: &[String]) -> bool
-    ensures { result ≡ asks_for_run (map string_bytes words.now) }
+/// Whether the first word is this command.
+fn asks_for(words: &[String], command: &str) -> bool
+    ensures { result ≡ asks_for command.now (map string_bytes words.now) }
 {
-    matches!(words.first(), Some(word) if word.as_str() == "run")
+    matches!(words.first(), Some(word) if word.as_str() == command)
 }
 
 /// The words of the command line, the program's name before them.
@@ -89,3 +120,6 @@ fn tell(rt: &HostRuntime, fault: &Fault) -> u8
     let _ = eprintln!(rt; "{fault}");
     fault.status()
 }
+
+#[cfg(test)]
+mod tests;

@@ -1,10 +1,11 @@
+use Rattle.hub_commands.proofs.KeptWindows.{stop_back}
 use Rattle.hub_commands.proofs.PlayedDays.{begun, head_stopped, unbuilt}
 use Rattle.hub_commands.proofs.days.begin.Goals as goal
 use Rattle.hub_commands.specs.Finishes.{shown_by}
-use Rattle.std.proofs.Common.{ap, length}
+use Rattle.std.proofs.Common.{None, ap, length}
 
-pub returns-in_default : goal.returns-in_default
-returns-in_default g c =
+pub returns-in_default-clause-goes_on : goal.returns-in_default-clause-goes_on
+returns-in_default-clause-goes_on g c =
     let D = g.B.Dev.Device in
     let K = g.K.Sink in (
       c.end_without_devices.ensures.status,
@@ -14,8 +15,8 @@ returns-in_default g c =
           c.new.ensures.empty c.end_without_devices.ensures.day c.end_without_devices.ensures.fault,
     )
 
-pub returns-in-Ok-write_piece : goal.returns-in-Ok-write_piece
-returns-in-Ok-write_piece g c =
+pub returns-in-Ok-write_piece-clause-goes_on : goal.returns-in-Ok-write_piece-clause-goes_on
+returns-in-Ok-write_piece-clause-goes_on g c =
     let D = g.B.Dev.Device in
     let K = g.K.Sink in (
       ap (λ ws. length ws) c.new-2.ensures.empty,
@@ -26,8 +27,8 @@ returns-in-Ok-write_piece g c =
           c.head_text.ensures c.in-Ok-write_piece.ensures,
     )
 
-pub returns-in-Err : goal.returns-in-Err
-returns-in-Err g c =
+pub returns-in-Err-clause-goes_on : goal.returns-in-Err-clause-goes_on
+returns-in-Err-clause-goes_on g c =
     let D = g.B.Dev.Device in
     let K = g.K.Sink in (
       c.stop.ensures.status,
@@ -37,3 +38,9 @@ returns-in-Err g c =
           c.in-Ok.ensures.devices c.in-Ok.ensures.kinds c.in-Ok.ensures.world c.in-Ok.ensures.opened c.new-2.ensures.empty
           c.head_text.ensures c.in-Err.ensures c.stop.ensures.ends,
     )
+
+pub returns-in_default-clause-kept : goal.returns-in_default-clause-kept
+returns-in_default-clause-kept g c = (record { windows = c.new.result; devices = None }, c.end_without_devices.ensures.day, c.new.ensures.empty)
+
+pub returns-in-Err-clause-kept : goal.returns-in-Err-clause-kept
+returns-in-Err-clause-kept g c = stop_back c.new-2.result c.in-Ok.home.devices c.in-Err.fault c.stop.result.day c.stop.result.fault _ c.stop.ensures.ends c.new-2.ensures.empty

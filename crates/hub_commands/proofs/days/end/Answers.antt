@@ -1,6 +1,8 @@
+use Rattle.hub_commands.proofs.KeptWindows.{stop_back}
 use Rattle.hub_commands.proofs.PlayedDays.{finished, total_stopped}
 use Rattle.hub_commands.proofs.days.end.Goals as goal
 use Rattle.hub_commands.specs.Finishes.{shown_by}
+use Rattle.std.proofs.Common.{Some, refl}
 
 pub returns-in-Err-clause-ends : goal.returns-in-Err-clause-ends
 returns-in-Err-clause-ends g c held f going all =
@@ -19,3 +21,9 @@ returns-clause-ends g c held f going all =
     held (K.holds c.args.sink.now) (K.holds c.write_piece.new.sink) f (K.faults c.args.sink.now) (K.faults c.write_piece.new.sink)
     c.args.day.home c.args.day.windows c.into_devices.result c.total_text.result
     going all c.total_text.ensures c.in_default.ensures c.into_devices.ensures.devices
+
+pub returns-in-Err-clause-kept : goal.returns-in-Err-clause-kept
+returns-in-Err-clause-kept g c = stop_back c.args.day.windows c.args.day.home.devices c.in-Err.fault c.stop.result.day c.stop.result.fault _ c.stop.ensures.ends refl
+
+pub returns-clause-kept : goal.returns-clause-kept
+returns-clause-kept g c = (record { windows = c.args.day.windows; devices = Some c.into_devices.result }, refl, refl)

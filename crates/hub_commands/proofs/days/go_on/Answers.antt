@@ -1,12 +1,13 @@
+use Rattle.hub_commands.proofs.KeptWindows.{stop_back}
 use Rattle.hub_commands.proofs.PlayedDays.{goes_on, lines_stopped, starved}
 use Rattle.hub_commands.proofs.Snocs.{length_more}
 use Rattle.hub_commands.proofs.days.go_on.Goals as goal
 use Rattle.hub_commands.specs.Finishes.{shown_by}
-use Rattle.hub_commands.specs.Going.{NextIs}
-use Rattle.std.proofs.Common.{Err, Ok, ap, length, subst, ◌∙◌}
+use Rattle.hub_commands.specs.Going.{NextIs, windows_in}
+use Rattle.std.proofs.Common.{Err, None, Ok, ap, length, subst, sym, ◌∙◌}
 
-pub returns-in-Err : goal.returns-in-Err
-returns-in-Err g c held f home records going next =
+pub returns-in-Err-clause-written : goal.returns-in-Err-clause-written
+returns-in-Err-clause-written g c held f home records going next =
     let D = g.D.Device in
     let K = g.K.Sink in
     let same : NextIs (g.W.Way.works c.args._way.now) (shown_by D.tag D.plan D.stands D.turns D.probes D.faults) c.args.script.now c.args.options.mode records (Err c.in-Err.windows) = subst (λ n. NextIs (g.W.Way.works c.args._way.now) (shown_by D.tag D.plan D.stands D.turns D.probes D.faults) c.args.script.now c.args.options.mode records n) c.in-Err.is next in (
@@ -17,8 +18,8 @@ returns-in-Err g c held f home records going next =
           going same c.end_without_devices.ensures.day c.end_without_devices.ensures.fault,
     )
 
-pub returns-in-Ok-write_piece : goal.returns-in-Ok-write_piece
-returns-in-Ok-write_piece g c held f home records going next =
+pub returns-in-Ok-write_piece-clause-written : goal.returns-in-Ok-write_piece-clause-written
+returns-in-Ok-write_piece-clause-written g c held f home records going next =
     let D = g.D.Device in
     let K = g.K.Sink in
     let gone : NextIs (g.W.Way.works c.args._way.now) (shown_by D.tag D.plan D.stands D.turns D.probes D.faults) c.args.script.now c.args.options.mode records (Ok c.in-Ok.day) = subst (λ n. NextIs (g.W.Way.works c.args._way.now) (shown_by D.tag D.plan D.stands D.turns D.probes D.faults) c.args.script.now c.args.options.mode records n) c.in-Ok.is next in (
@@ -29,8 +30,8 @@ returns-in-Ok-write_piece g c held f home records going next =
           going gone c.last_lines-lines.ensures c.in-Ok-write_piece.ensures,
     )
 
-pub returns-in-Err-write_piece : goal.returns-in-Err-write_piece
-returns-in-Err-write_piece g c held f home records going next =
+pub returns-in-Err-write_piece-clause-written : goal.returns-in-Err-write_piece-clause-written
+returns-in-Err-write_piece-clause-written g c held f home records going next =
     let D = g.D.Device in
     let K = g.K.Sink in
     let gone : NextIs (g.W.Way.works c.args._way.now) (shown_by D.tag D.plan D.stands D.turns D.probes D.faults) c.args.script.now c.args.options.mode records (Ok c.in-Ok.day) = subst (λ n. NextIs (g.W.Way.works c.args._way.now) (shown_by D.tag D.plan D.stands D.turns D.probes D.faults) c.args.script.now c.args.options.mode records n) c.in-Ok.is next in (
@@ -40,3 +41,13 @@ returns-in-Err-write_piece g c held f home records going next =
           home c.in-Ok.day.home records c.in-Ok.day.windows c.last_lines-lines.result c.in-Err-write_piece.fault c.stop.result.day c.stop.result.fault
           going gone c.last_lines-lines.ensures c.in-Err-write_piece.ensures c.stop.ensures.ends,
     )
+
+pub returns-in-Err-clause-kept : goal.returns-in-Err-clause-kept
+returns-in-Err-clause-kept g c = (record { windows = c.in-Err.windows; devices = None }, c.end_without_devices.ensures.day, sym (ap windows_in c.in-Err.is))
+
+pub returns-in-Ok-write_piece-clause-kept : goal.returns-in-Ok-write_piece-clause-kept
+returns-in-Ok-write_piece-clause-kept g c = sym (ap windows_in c.in-Ok.is)
+
+pub returns-in-Err-write_piece-clause-kept : goal.returns-in-Err-write_piece-clause-kept
+returns-in-Err-write_piece-clause-kept g c =
+    stop_back c.in-Ok.day.windows c.in-Ok.day.home.devices c.in-Err-write_piece.fault c.stop.result.day c.stop.result.fault _ c.stop.ensures.ends (sym (ap windows_in c.in-Ok.is))

@@ -8,7 +8,7 @@ pub returns-in-Err-go_on : goal.returns-in-Err-go_on
 returns-in-Err-go_on g c =
     let D = g.B.Dev.Device in
     let K = g.K.Sink in
-    let end = c.in-Err-go_on.ensures (K.holds c.args.sink.now) (K.faults c.args.sink.now) c.windows.day.home c.windows.day.windows.items c.windows.invariant.going
+    let end = c.in-Err-go_on.ensures.written (K.holds c.args.sink.now) (K.faults c.args.sink.now) c.windows.day.home c.windows.day.windows.items c.windows.invariant.going
     (next_is IsReplayOf (shown_by D.tag D.plan D.stands D.turns D.probes D.faults) c.args.script.now c.args.options.mode c.windows.day.windows.items c.replay_next-next.result c.replay_next-next.ensures.played c.replay_next-next.ensures.starved) in
     record { status = end.0; ends = end.1 }
 
@@ -16,7 +16,7 @@ pub windows-preserved : goal.windows-preserved
 windows-preserved g c =
     let D = g.B.Dev.Device in
     let K = g.K.Sink in
-    let on = c.in-Ok-go_on.ensures (K.holds c.args.sink.now) (K.faults c.args.sink.now) c.windows.day.home c.windows.day.windows.items c.windows.invariant.going
+    let on = c.in-Ok-go_on.ensures.written (K.holds c.args.sink.now) (K.faults c.args.sink.now) c.windows.day.home c.windows.day.windows.items c.windows.invariant.going
     (next_is IsReplayOf (shown_by D.tag D.plan D.stands D.turns D.probes D.faults) c.args.script.now c.args.options.mode c.windows.day.windows.items c.replay_next-next.result c.replay_next-next.ensures.played c.replay_next-next.ensures.starved) in
     let counted = c.windows.invariant.counted in
     let more = on.0 in

@@ -1,0 +1,2 @@
+pub mod Publishings
+mod Steps

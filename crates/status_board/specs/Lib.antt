@@ -1,0 +1,3 @@
+pub mod Publishings
+pub mod Sights
+pub mod Views
