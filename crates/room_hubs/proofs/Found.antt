@@ -1,0 +1,61 @@
+-- Runs that are found by their numbers.
+use Rattle.command_rules.specs.Rosters.{Run, commands_of, plain_run, run_no}
+use Rattle.command_rules.specs.declared.rosters.RosterRun.{RosterRun}
+use Rattle.home_types.specs.declared.commands.Command.{Command}
+use Rattle.room_hubs.specs.Numbers.{IsOwnRun, home_run, plain_room}
+use Rattle.room_hubs.specs.Splits.{cross_at, cross_fault, crosses, crosses_rooms}
+use Rattle.room_hubs.specs.declared.rosters.RoomRoster.{RoomRoster}
+use Rattle.room_hubs.specs.declared.splits.SplitFault.TheVariants.{CrossFollow, CrossRoom}
+use Rattle.std.proofs.Common.{Bool, List, None, Option, Some, [], ap, arith, false, get_or, length, map, nat_lt, option_map, refl, suc, sym, true, zero, ℕ, ◌+◌, ◌-◌, ◌<◌, ◌∙◌, ◌≡◌, ◌≢◌, ◌≤◌}
+use Rattle.std.proofs.lemmas.Grind.{common_steps}
+use Rattle.std.proofs.lemmas.List.{get_or-map, length-map}
+use Rattle.std.proofs.lemmas.Option.{slice_get-map, slice_get_past, slice_get_read}
+use Rattle.std.specs.List.{position}
+use Rattle.std.specs.Prelude.{if◌then◌else◌, slice_get, unwrap_or}
+
+-- the commands of a run by a look at its place
+pub commands_found : (runs : List RosterRun) (r : ℕ) (found : Option RosterRun) → r ≢ 0 → found ≡ slice_get runs (r - 1)
+    → unwrap_or (option_map (λ run. run.routine.commands.items) found) [] ≡ commands_of (map plain_run runs) r
+commands_found runs zero found some at = absurd (omega (arith, some))
+commands_found runs (suc i) found some at =
+    let place : suc i - 1 ≡ i = omega arith in
+    let commands : Option Run → List Command = λ o. unwrap_or (option_map (λ run. run.commands) o) [] in
+    seen found ∙ ap (λ o. commands (option_map plain_run o)) (at ∙ ap (slice_get runs) place) ∙ ap commands (sym (slice_get-map plain_run runs i))
+  where
+    seen : (o : Option RosterRun) → unwrap_or (option_map (λ run. run.routine.commands.items) o) [] ≡ unwrap_or (option_map (λ run. run.commands) (option_map plain_run o)) []
+    seen None = refl
+    seen (Some run) = refl
+
+-- as the look tells it
+pub looked_at : (runs : List RosterRun) (i : ℕ) (run : RosterRun) → true ≡ nat_lt i (length runs) → run ≡ get_or runs i run → Some run ≡ slice_get runs i
+looked_at runs i run within at = sym (slice_get_read runs (length runs) i run refl inside at)
+  where
+    inside : i < length runs
+    inside = grind (arith, common_steps)
+
+pub looked_past : (runs : List RosterRun) (i : ℕ) → false ≡ nat_lt i (length runs) → None ≡ slice_get runs i
+looked_past runs i past = sym (slice_get_past runs i beyond)
+  where
+    beyond : length runs ≤ i
+    beyond = grind (arith, common_steps)
+
+-- the home's number of a run of the room
+pub home_run_at : (roster : RoomRoster) (r : ℕ) → IsOwnRun (plain_room roster) r → get_or roster.runs.items (r - 1) (run_no 0) ≡ run_no (home_run (plain_room roster) r)
+home_run_at roster zero within = elim within [ ]
+home_run_at roster (suc i) within =
+    let place : suc i - 1 ≡ i = omega arith in
+    let runs = roster.runs.items in
+    ap (λ n. get_or runs n (run_no 0)) place ∙ ap run_no (sym (get_or-map (λ r. r.0) runs i (run_no 0) 0 (omega (arith, within, length-map runs (λ r. r.0)))))
+
+-- the first run that crosses
+pub fault_is : (room_of : List ℕ) (runs : List Run) (place : ℕ) (b : Bool) → Some place ≡ position (crosses room_of runs) runs
+    → crosses_rooms room_of (commands_of runs (place + 1)) ≡ b
+    → Some (if b then CrossRoom (run_no (place + 1)) else CrossFollow (run_no (place + 1))) ≡ cross_fault room_of runs
+fault_is room_of runs place b at is =
+    let next : place + 1 ≡ suc place = omega arith in
+    ap (λ z. Some (if z then CrossRoom (run_no (place + 1)) else CrossFollow (run_no (place + 1)))) (sym is)
+    ∙ ap (λ n. Some (if crosses_rooms room_of (commands_of runs n) then CrossRoom (run_no n) else CrossFollow (run_no n))) next
+    ∙ ap (option_map (cross_at room_of runs)) at
+
+pub no_fault : (room_of : List ℕ) (runs : List Run) → None ≡ position (crosses room_of runs) runs → None ≡ cross_fault room_of runs
+no_fault room_of runs at = ap (option_map (cross_at room_of runs)) at

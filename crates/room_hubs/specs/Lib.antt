@@ -1,0 +1,4 @@
+pub mod Merges
+pub mod Numbers
+pub mod Rooms
+pub mod Splits
