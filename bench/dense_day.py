@@ -12,6 +12,7 @@ leases become overdue. The contended day is `dense_day.py 288 64 64 16 8 0 0 50`
 day, in which the timeline finds gaps, is `dense_day.py 288 64 4 32`. The day is always the same: what is drawn comes from
 a generator with a fixed seed.
 """
+import argparse
 import json
 import sys
 
@@ -94,9 +95,10 @@ def day(windows, runs, commands, devices, own=0, rounds=0, aborted=0, late=0):
 
 
 def main():
-    sizes = [288, 64, 64, 256, 0, 0, 0, 0]
-    for i, word in enumerate(sys.argv[1:9]):
-        sizes[i] = int(word)
+    reader = argparse.ArgumentParser(description=__doc__, formatter_class=argparse.RawDescriptionHelpFormatter)
+    reader.add_argument("sizes", nargs="*", type=int, metavar="NUMBER")
+    given = reader.parse_args().sizes
+    sizes = given[:8] + [288, 64, 64, 256, 0, 0, 0, 0][len(given) :]
     json.dump(day(*sizes), sys.stdout, separators=(",", ":"))
     sys.stdout.write("\n")
 

@@ -21,7 +21,7 @@ import sys
 import tempfile
 import time
 
-from time_replay import PROGRAM, dense_day
+from time_replay import dense_day, program_asked
 from time_run import timed
 
 WINDOWS, COMMANDS, OWN, ROUNDS = 288, 8, 4, 1
@@ -73,16 +73,20 @@ def shown(number, per=1, digits=0):
 
 
 def table(program):
+    """Prints a row for each size; the homes that a core carries, by runs and devices."""
     row(*COLUMNS)
     row(*["---"] * len(COLUMNS))
+    carried = {}
     for runs in RUNS:
         for devices in DEVICES:
             script = dense_day(WINDOWS, runs, COMMANDS, devices, OWN, ROUNDS)
             replay, run = [program, "replay"], [program, "run"]
             count, time_of_run = instructions(replay, script), measured(run, script)
+            carried[runs, devices] = DAY / max(time_of_run, 1e-3)
             row(f"{runs}", f"{devices}", shown(count), shown(count, WINDOWS * runs * COMMANDS),
                 shown(measured(replay, script), digits=3), shown(time_of_run, digits=3),
-                shown(memory(replay, script), 1024), shown(memory(run, script), 1024), shown(DAY, max(time_of_run, 1e-3)))
+                shown(memory(replay, script), 1024), shown(memory(run, script), 1024), shown(carried[runs, devices]))
+    return carried
 
 
 def together(program, homes, script):
@@ -102,7 +106,7 @@ def together(program, homes, script):
 
 
 def main():
-    program = sys.argv[1] if len(sys.argv) > 1 else PROGRAM
+    program = program_asked(__doc__)
     print("load", *(f"{load:.1f}" for load in os.getloadavg()), flush=True)
     table(program)
     script, cores = dense_day(WINDOWS, 64, COMMANDS, 256, OWN, ROUNDS), os.cpu_count()

@@ -22,7 +22,7 @@ import sys
 import tempfile
 
 from dense_day import day
-from time_replay import PROGRAM, calls_in
+from time_replay import calls_in, program_asked
 from timeline import Timeline
 
 SIZES = [8, 16, 32, 64]
@@ -85,7 +85,7 @@ def in_front(record, script):
 
 
 def main():
-    program = sys.argv[1] if len(sys.argv) > 1 else PROGRAM
+    program = program_asked(__doc__)
     for name, (commands, devices, own) in DAYS.items():
         for runs in SIZES:
             drawn = day(4, runs, commands, devices, own)

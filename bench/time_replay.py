@@ -21,6 +21,7 @@ of such a day whose routines have 8 devices of their own each, under psv; and, u
 timeline, of days with fewer runs a window and with fewer devices. With each goes how many picks found that their run
 must wait, for each step that moved one.
 """
+import argparse
 import collections
 import os
 import re
@@ -40,6 +41,13 @@ CALLS = {
     # the compiler may have put the replay of a window into its caller: then its picks are what is left of it
     "picks": r"run_replay::(windows::replay_window|players::Player::pick|hands::Hands::pick)\b",
 }
+
+
+def built(program):
+    """The program, where it is there."""
+    if not os.path.isfile(program):
+        sys.exit(f"there is no built program at {os.path.relpath(program)}: `rt run` and `rt ci` build it")
+    return program
 
 
 def dense_day(*sizes):
@@ -122,8 +130,15 @@ def counted(program, name, mode, script):
           f" {day // moved:,} of all but reading", flush=True)
 
 
+def program_asked(about):
+    """The built program that the words of a call name."""
+    reader = argparse.ArgumentParser(description=about, formatter_class=argparse.RawDescriptionHelpFormatter)
+    reader.add_argument("program", nargs="?", default=PROGRAM, metavar="PROGRAM")
+    return built(reader.parse_args().program)
+
+
 def main():
-    program = sys.argv[1] if len(sys.argv) > 1 else PROGRAM
+    program = program_asked(__doc__)
     print("load", *(f"{load:.1f}" for load in os.getloadavg()), flush=True)
     dense = dense_day()
     for mode in MODES:

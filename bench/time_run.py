@@ -14,15 +14,16 @@ import sys
 import tempfile
 import time
 
-from time_replay import MODES, PROGRAM, dense_day, words
+from time_replay import MODES, dense_day, program_asked, words
 
 
 def timed(called, script):
+    """The status of a call, its time in s, and what it used. Its line on standard error is left out."""
     with tempfile.TemporaryFile() as given:
         given.write(script)
         given.seek(0)
         begun = time.monotonic()
-        child = subprocess.Popen(called, stdin=given, stdout=subprocess.DEVNULL)
+        child = subprocess.Popen(called, stdin=given, stdout=subprocess.DEVNULL, stderr=subprocess.DEVNULL)
         _, status, used = os.wait4(child.pid, 0)
         child.returncode = os.waitstatus_to_exitcode(status)
     return child.returncode, time.monotonic() - begun, used
@@ -36,7 +37,7 @@ def show(name, called, script):
 
 
 def main():
-    program = sys.argv[1] if len(sys.argv) > 1 else PROGRAM
+    program = program_asked(__doc__)
     print("load", *(f"{load:.1f}" for load in os.getloadavg()), flush=True)
     dense, threads = dense_day(), dense_day(288, 64, 1)
     for mode in MODES:

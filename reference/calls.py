@@ -4,7 +4,7 @@ A source has `read(most)`, a sink `write(data)`, which gives how many bytes went
 """
 from reference import days
 from reference.check import Differs, check_record
-from reference.record import head_text, total_text, window_text
+from reference.record import board_text, head_text, total_text, window_text
 from reference.replay import Home
 from reference.script import LIMITS, Refusal, read_script
 from reference.words import read_words
@@ -104,9 +104,11 @@ class Call:
                 self.trial(asked.windows)
             case _:
                 self.replay(read(read_to_end(self.source, LIMITS["bytes"])), asked.mode, asked.trace, self.sink)
+                if asked.command == "watch":
+                    write_all(self.sink, board_text(self.records))
 
     def replay(self, script, mode, trace, sink):
-        """Plays a day. That of `run` is one of those which threads may come to."""
+        """Plays a day. That of `run` and `watch` is one of those which threads may come to."""
         self.script, self.records, home = script, [], Home(script)
         write_all(sink, head_text(mode))
         for number, window in enumerate(script.windows):

@@ -33,7 +33,7 @@ class Placed:
 class Did:
     run: int
     command: int
-    answer: object
+    answer: str | int  # `FINE`, `DOWN`, or the value that a read found
 
 
 @dataclass(frozen=True)
@@ -56,13 +56,13 @@ class Rose:
 @dataclass(frozen=True)
 class Doomed:
     run: int
-    cause: object
+    cause: "Cause"
 
 
 @dataclass(frozen=True)
 class Ended:
     run: int
-    cause: object  # None where it committed
+    cause: "Cause | None"  # None where it committed
 
 
 @dataclass(frozen=True)
@@ -92,6 +92,10 @@ class Revoked:
 @dataclass(frozen=True)
 class DownAtEnd:
     device: int
+
+
+Entry = Arrived | Placed | Did | Undid | Fell | Rose | Doomed | Ended
+Cause = MustDown | Refuted | Lost | Revoked | DownAtEnd
 
 
 class History:

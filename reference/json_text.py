@@ -6,6 +6,7 @@ bits hold, is a float, and no JSON where it is too great for one. At most 127 br
 import re
 
 MOST_DEPTH = 127
+MOST_DIGITS = 20  # of a whole number that 64 bits hold, with its sign
 BLANKS = re.compile(rb"[ \n\r\t]*")
 NUMBER = re.compile(rb"-?(?:0|[1-9][0-9]*)(\.[0-9]+)?([eE][+-]?[0-9]+)?")
 PLAIN = re.compile(rb'[^"\\\x00-\x1f]*')
@@ -78,7 +79,7 @@ class Text:
 
     def number(self):
         found = self.match(NUMBER)
-        whole = found[1] is None and found[2] is None and found[0] != b"-0"
+        whole = found[1] is None and found[2] is None and found[0] != b"-0" and len(found[0]) <= MOST_DIGITS
         if whole and -(2**63) <= int(found[0]) < 2**64:
             return int(found[0])
         value = float(found[0])

@@ -1,4 +1,4 @@
-"""The text of a day: its head, its windows with or without their trace, and its total."""
+"""The text of a day: its head, its windows with or without their trace, its total, and the line of a board."""
 from reference.history import (Arrived, Did, Doomed, DownAtEnd, Ended, Fell, Lost, MustDown, Placed, Refuted, Revoked, Rose,
                                Undid)
 from reference.serial import Failed, Ran
@@ -16,6 +16,11 @@ def total_text(records):
     runs = sum(len(record.ends) for record in records)
     committed = sum(cause is None for record in records for cause in record.ends.values())
     return f"total windows {len(records)} runs {runs} committed {committed} aborted {runs - committed}\n"
+
+
+def board_text(records):
+    """The line of a watched day, behind its total and with its numbers."""
+    return total_text(records).replace("total", "board", 1)
 
 
 class WindowPrinter:

@@ -74,27 +74,27 @@ class Script(NamedTuple):
 
 # The types of members.
 
-def is_whole(value, bits=32):
+def is_whole(value: object, bits: int = 32) -> bool:
     return isinstance(value, int) and not isinstance(value, bool) and 0 <= value < 2**bits
 
 
-def is_long(value):
+def is_long(value: object) -> bool:
     return is_whole(value, 64)
 
 
-def is_text(value):
+def is_text(value: object) -> bool:
     return isinstance(value, str)
 
 
-def is_list(value):
+def is_list(value: object) -> bool:
     return isinstance(value, list)
 
 
-def is_truth(value):
+def is_truth(value: object) -> bool:
     return isinstance(value, bool)
 
 
-def is_state(value):
+def is_state(value: object) -> bool:
     return is_text(value) or is_whole(value)
 
 

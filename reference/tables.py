@@ -11,12 +11,13 @@ example, by the check of records, but for those of the weak model, which claim n
 first line that does; ends with 1 where one differs.
 
 An example is `examples/NAME.words`, the words of a call and its script, with its record beside it, `NAME.record`, and, where
-it is traced, its picture, docs/pictures/NAME.svg.
+it is traced, its picture, docs/pictures/NAME.svg, under the headline that its script has in examples/README.md.
 """
 import collections
 import dataclasses
 import itertools
 import os
+import re
 import sys
 
 HERE = os.path.dirname(os.path.abspath(__file__))
@@ -156,8 +157,8 @@ class Case:
 
     def outcome(self):
         source, sink = BytesSource(bytes(self.data), *self.source), BytesSink(self.room, *self.sink)
-        # the call behind the table does not take `run`
-        call = Call([] if self.words[:1] == ["run"] else self.words, source, sink)
+        # the call behind the table does not take `run` and `watch`
+        call = Call([] if self.words[:1] in (["run"], ["watch"]) else self.words, source, sink)
         self.before.record = sink.held
         lines = [f"case {self.name}", f"status {call.status}", *([f"fault {call.line}"] if call.line else [])]
         if call.records is None:
@@ -373,6 +374,12 @@ def examples():
                 yield name, words.split(" "), stored.read()
 
 
+def headline(name):
+    """What examples/README.md says in bold type of the example, or of the one whose variant it is."""
+    said = re.findall(r"\*\*`([a-z-]+)`: (.*?)\.\*\*", read_file(EXAMPLES, "README.md").decode())
+    return next((f"{name}: {point}" for script, point in said if f"{name}-".startswith(f"{script}-")), name)
+
+
 def record_of(words, data):
     sink = BytesSink()
     Call(words, BytesSource(data), sink)
@@ -384,7 +391,7 @@ def compare_example(name, call, write):
     record = record_of(words, data)
     same = compare(f"{name}.record", record, os.path.join(EXAMPLES, f"{name}.record"), write)
     if "--trace" in words:
-        picture = picture_of(read_script(data), record.decode()).encode()
+        picture = picture_of(read_script(data), record.decode(), headline(name)).encode()
         same &= compare(f"{name}.svg", picture, os.path.join(PICTURES, f"{name}.svg"), write)
     return same
 
@@ -481,6 +488,9 @@ def compare(name, anew, path, write):
 
 def main():
     words = sys.argv[1:]
+    if {"-h", "--help"} & set(words[:1]):
+        print(__doc__)
+        return
     if words[:1] == ["case"]:
         sys.stdout.write(case_lines(words[1], words[2:], sys.stdin.buffer.read()))
         return
@@ -494,6 +504,8 @@ def main():
                 same &= compare_example(example, call, write)
         elif name == "agree":
             same &= agree()
+        elif name not in TABLES:
+            sys.exit(f"tables: there is no table {name} (--help)")
         else:
             anew = TABLES[name](read_file(CRATES, name, "stdin"))
             same &= compare(name, anew, os.path.join(CRATES, name, "stdout"), write)

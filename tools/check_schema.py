@@ -10,14 +10,18 @@ nowhere, a state of its device, low and high, from and to, a turn or a follow be
 days a month has. Texts that are no JSON have no value to be valid. Prints how many of each kind there were, and the first one
 that is otherwise; ends with 1 then.
 
-It needs jsonschema (the system's package python3-jsonschema is for /usr/bin/python3); nothing else here does.
+It takes no script of your own: tools/explain.py does. It needs jsonschema (the system's package python3-jsonschema is for
+/usr/bin/python3); nothing else here does.
 """
+import argparse
 import collections
 import json
 import os
 import random
 import re
 import sys
+from collections.abc import Iterator
+from typing import Any
 
 import jsonschema
 
@@ -33,14 +37,14 @@ from reference.script import Refusal, read_value
 UNSAID = re.compile("bad (state|time|turn|follow) .*|double name .*|unknown name .*")
 
 
-def with_whole_ends(schema):
+def with_whole_ends(schema: dict[str, Any]) -> dict[str, Any]:
     """The schema's object with `$` in patterns as schemas mean it: the end, and not a line feed before it."""
     if isinstance(schema.get("pattern"), str):
         schema["pattern"] = re.sub(r"\$$", r"\\Z", schema["pattern"])
     return schema
 
 
-def with_whole_numbers(value):
+def with_whole_numbers(value: Any) -> Any:
     """The value with numbers as a schema sees them: 1.0 is 1."""
     if isinstance(value, dict):
         return {name: with_whole_numbers(part) for name, part in value.items()}
@@ -49,7 +53,7 @@ def with_whole_numbers(value):
     return int(value) if isinstance(value, float) and value.is_integer() else value
 
 
-def with_pairs_in_order(value):
+def with_pairs_in_order(value: Any) -> Any:
     """The value with each pair of a `down` in ascending order, where it is a pair of two numbers that differ or not."""
     for device in value.get("devices", []) if isinstance(value, dict) and isinstance(value.get("devices"), list) else []:
         downs = device.get("down") if isinstance(device, dict) else None
@@ -59,7 +63,7 @@ def with_pairs_in_order(value):
     return value
 
 
-def refusal_of(value):
+def refusal_of(value: Any) -> str | None:
     try:
         read_value(value)
         return None
@@ -67,7 +71,7 @@ def refusal_of(value):
         return str(refusal)
 
 
-def texts(count, seed):
+def texts(count: int, seed: int) -> Iterator[bytes]:
     with open(os.path.join(TOP, "crates", "script_table", "stdin"), "rb") as table:
         yield from table.read().split(b"\n")
     folder = os.path.join(TOP, "examples")
@@ -81,34 +85,41 @@ def texts(count, seed):
         yield (days.spoiled(draw, script) if k % 4 else json.dumps(script)).encode()
 
 
-def main():
-    count, seed = (int(word) for word in (sys.argv[1:3] + ["4000", "1"][len(sys.argv[1:3]):]))
-    with open(os.path.join(TOP, "docs", "script.schema.json")) as stored:
+def judged(value: Any, is_valid: bool) -> tuple[str, bool]:
+    """What a value is by the reading and by the schema, and whether the two agree."""
+    refusal = refusal_of(value)
+    # what is left of the refusal where the value is seen as a schema sees it
+    said = refusal and refusal_of(with_pairs_in_order(with_whole_numbers(value)))
+    if refusal is None:
+        kind, is_right = "read", is_valid
+    elif said is None or UNSAID.fullmatch(said):
+        kind, is_right = "refused for what a schema cannot say", True
+    else:
+        kind, is_right = "refused for what a schema says", not is_valid
+    return f"{kind}, {'valid' if is_valid else 'invalid'}", is_right
+
+
+def main() -> None:
+    options = argparse.ArgumentParser(description=__doc__, formatter_class=argparse.RawDescriptionHelpFormatter)
+    options.add_argument("days", type=int, nargs="?", default=4000)
+    options.add_argument("seed", type=int, nargs="?", default=1)
+    asked = options.parse_args()
+    with open(os.path.join(TOP, "docs", "script.schema.json"), encoding="utf-8") as stored:
         schema = json.loads(stored.read(), object_hook=with_whole_ends)
     jsonschema.Draft7Validator.check_schema(schema)
-    validator = jsonschema.Draft7Validator(schema)
-    counts = collections.Counter()
-    for text in texts(count, seed):
+    validator, counts = jsonschema.Draft7Validator(schema), collections.Counter[str]()
+    for text in texts(asked.days, asked.seed):
         try:
             value = read_json(text)
         except NotJson:
             counts["no JSON"] += 1
             continue
-        valid, refusal = validator.is_valid(value), refusal_of(value)
-        # what is left of the refusal where the value is seen as a schema sees it
-        said = refusal and refusal_of(with_pairs_in_order(with_whole_numbers(value)))
-        if refusal is None:
-            kind, right = "read", valid
-        elif said is None or UNSAID.fullmatch(said):
-            kind, right = "refused for what a schema cannot say", True
-        else:
-            kind, right = "refused for what a schema says", not valid
-        counts[kind, "valid" if valid else "invalid"] += 1
-        if not right:
-            print(f"{kind}, {'valid' if valid else 'invalid'}: {refusal}\n{text.decode(errors='replace')}")
-            sys.exit(1)
-    for kind, number in sorted(counts.items(), key=str):
-        print(f"{number:6} {kind if isinstance(kind, str) else ', '.join(kind)}")
+        kind, is_right = judged(value, validator.is_valid(value))
+        counts[kind] += 1
+        if not is_right:
+            sys.exit(f"{kind}\n{text.decode(errors='replace')}")
+    for kind, number in sorted(counts.items()):
+        print(f"{number:6} {kind}")
 
 
 if __name__ == "__main__":

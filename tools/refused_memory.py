@@ -3,21 +3,26 @@
 
     refused_memory.py [--program P] [--day NAME ..]
     refused_memory.py --try N .. [--day NAME ..]
+    refused_memory.py --tests
 
 The first form wants a C compiler, `cc`, and crates/hub_main/out/hub_main, which `rt run` and `rt ci` build. A few lines of C,
 loaded in front of the C library, count the program's requests for memory and for threads, and refuse some. Of each day,
-`one-light`, `undo-drives-live-writer` and `a-morning` by default, cases of crates/day_table, it makes the calls `replay`, `run`
-and the `check` of the replay's record, and `trial 1` besides. First the Nth request for memory alone is refused, one N a call, up to
+`one-light`, `undo-drives-live-writer` and `a-morning` by default, cases of crates/day_table, it makes the calls `replay`, `run`,
+`watch` and the `check` of the replay's record, and `trial 1` besides. First the Nth request for memory alone is refused, one N a call, up to
 the first N to which the call does not come; then the Nth and all behind it; then the Nth thread alone, and all from the Nth on. Asked is
 
 - either status 0, all of the text and nothing on standard error,
 - or status 5, a first part of the text, and `memory` alone on standard error; this only where memory was refused.
 
-The text of a replay, a check and a trial is the reference's. With `run` the threads choose, so its record is judged as the
-windows that it holds (bench/judge_runs.py).
+The text of a replay, a check and a trial is the reference's. With `run` and `watch` the threads choose, so the record is judged
+as the windows that it holds (bench/judge_runs.py), and the line behind a watched one by its total.
 
 The second form needs no proof: it has the Nth allocation of each replay refused by `rt try --fail-alloc N`, which also stops at a
 bad access, and asks the same. Each such call builds the program anew.
+
+The third form wants `cc` and what `rt test` builds in crates/chain_arena. Of each of its tests the Nth request is refused, one
+N a run. A `Chain::reserve` that is refused is called once more there, after a look at the list, so the test passes; where
+another request is refused it ends with want of memory. Asked is that it ends in one of these ways, and by no signal.
 
 Prints a line for each call, and ends with 1 at the first end that is another one.
 """
@@ -41,6 +46,7 @@ from reference.compare import PROGRAM, wanted
 DAYS = ["one-light", "undo-drives-live-writer", "a-morning"]
 TABLE = os.path.join(TOP, "crates", "day_table", "stdin")
 MAIN = os.path.join(TOP, "crates", "hub_main")
+CHAIN_TESTS = os.path.join(TOP, "crates", "chain_arena", "out", "chain_arena_tests")
 MINUTE = 60
 GREATEST = 2**62
 COUNTS = struct.Struct("@ll")
@@ -158,12 +164,35 @@ class Run(Call):
             return False
 
 
+class Test(Call):
+    """A test of chain_arena. It passes, or ends with want of memory, which the harness tells."""
+
+    def __init__(self, name):
+        self.name, self.words, self.data = name, [name], b""
+
+    def judge(self, came, may_be_part):
+        status, out, err = came
+        if (status, err) == (0, b"") or may_be_part and status == 101 and err.startswith(b"error: AllocFailed"):
+            return status
+        raise Wrong(f"status {status}, {out.decode(errors='replace')!r}, {err.decode(errors='replace')!r}")
+class Watch(Run):
+    """A watched day with threads: such a record, and behind it the line with the numbers of its total."""
+
+    def is_whole(self, out):
+        record, board, line = out.decode().rpartition("board")
+        return bool(board) and record.endswith(f"total{line}") and super().is_whole(record.encode())
+
+    def is_part(self, out):
+        return self.is_whole(out) if b"\nboard" in out else super().is_part(out)
+
+
 def calls_of(name):
     """The calls of a worked day."""
     script = worked_day(name)
     replay = Call(f"{name}, replay", ["replay"], script)
     yield replay
     yield Run(f"{name}, run", ["run", "--trace"], script)
+    yield Watch(f"{name}, watch", ["watch", "--trace"], script)
     yield Call(f"{name}, check", ["check"], script + b"\n%%\n" + replay.text)
 
 
@@ -206,11 +235,11 @@ class Refuser:
             ends[status] += 1
 
 
-def sweep_program(program, calls):
+def sweep_program(program, calls, ways=WAYS):
     with tempfile.TemporaryDirectory() as room:
         refuser = Refuser(os.path.abspath(program), room)
         for call in calls:
-            for name, (kind, goes_on) in WAYS.items():
+            for name, (kind, goes_on) in ways.items():
                 try:
                     ends = refuser.sweep(call, kind, goes_on)
                 except Wrong as wrong:
@@ -218,6 +247,12 @@ def sweep_program(program, calls):
                 told = ", ".join(f"{count} with {status}" for status, count in sorted(ends.items()))
                 if ends:
                     print(f"{call.name}, {name}: {sum(ends.values())} refused one a call: {told}", flush=True)
+
+
+def sweep_tests():
+    listed = subprocess.run([CHAIN_TESTS, "--list"], capture_output=True, check=True).stdout.decode()
+    tests = [Test(name) for name in re.findall("^(.*): test$", listed, re.MULTILINE)]
+    sweep_program(CHAIN_TESTS, tests, {"memory": WAYS["memory"]})
 
 
 def tried(call, number):
@@ -235,7 +270,11 @@ def main():
     options.add_argument("--program", default=PROGRAM)
     options.add_argument("--day", nargs="+", default=DAYS)
     options.add_argument("--try", nargs="+", type=int, dest="tries")
+    options.add_argument("--tests", action="store_true")
     asked = options.parse_args()
+    if asked.tests:
+        sweep_tests()
+        return
     if not asked.tries:
         days = [call for name in asked.day for call in calls_of(name)]
         sweep_program(asked.program, [*days, Call("trial 1", ["trial", "1"], b"")])

@@ -36,6 +36,9 @@ def lemmas(text):
 
 
 def main():
+    if len(sys.argv) != 2 or sys.argv[1] in ("-h", "--help"):
+        print(__doc__)
+        return
     window = sys.argv[1]
     text = (CRATE / "proofs" / f"{window}.antt").read_text()
     added, modules = CRATE / "proofs" / f"{window}Rows.antt", CRATE / "proofs" / "Lib.antt"

@@ -1,0 +1,310 @@
+"""The record of a day, read with its script line by line, and told again entry by entry.
+
+A line is read where it prints again as it stands; so what is read says all that the record says. A record that was cut is read as
+far as it goes. Whether it is true is not asked: that is the check of records (`reference.check`).
+"""
+import re
+from collections.abc import Iterator
+from dataclasses import dataclass, field
+
+from reference.check import value_in
+from reference.history import (Arrived, Cause, Did, Doomed, DownAtEnd, Ended, Entry, Fell, Lost, Mode, MustDown, Placed, Refuted,
+                               Revoked, Rose, Undid)
+from reference.hub import WAITS, Behind, Busy, Denied, Dirty, Follow, Strict
+from reference.record import WindowPrinter, head_text, time_text, total_text
+from reference.replay import Home
+from reference.script import DeviceText, Script
+from reference.serial import DOWN, FINE, Back, Command, Failed, Ran, Stand
+
+Item = Ran | Failed | Back  # of the serial order
+Why = Follow | Denied | Busy | Behind | Dirty | Strict  # a run waits
+Answer = str | int  # `FINE`, `DOWN`, or the value that a read found
+
+HEAD = re.compile("model (wv|gsv|psv|ev) (fcfs|jit|timeline)")
+
+
+class Unread(Exception):
+    """The record is none of this script."""
+
+
+class Cut(Exception):
+    """The record ends here, and should not."""
+
+
+@dataclass
+class WindowLines:
+    """A window of a record; behind what is read, the number of its line, from 1."""
+
+    title: str
+    line: int
+    entries: list[Entry] = field(default_factory=list)
+    entry_lines: list[int] = field(default_factory=list)
+    ends: dict[int, Cause | None] = field(default_factory=dict)  # of each run the cause, or none where it committed
+    answers: dict[int, list[Answer]] = field(default_factory=dict)  # of each committed run
+    run_lines: dict[int, int] = field(default_factory=dict)
+    order: list[Item] | None = None  # none where it is unclaimed or not told
+    order_line: int = 0
+    last: list[Stand] | None = None  # where each device stands; none where it is not told
+    home_line: int = 0
+
+
+@dataclass
+class Day:
+    mode: Mode
+    windows: list[WindowLines] = field(default_factory=list)
+    total_line: int = 0  # 0 where the record was cut
+    lines: int = 0  # how many are whole
+
+
+class WindowReader:
+    """Reads the lines of one window of a record."""
+
+    def __init__(self, script: Script, number: int) -> None:
+        self.script, self.window = script, script.windows[number]
+        self.names = {device.name: d for d, device in enumerate(script.devices)}
+        self.ends: dict[int, Cause] = {}  # the causes of the dooms in the trace
+
+    def command(self, run: int, c: int) -> Command:
+        return self.script.routines[self.window.runs[run - 1].routine].commands[c]
+
+    def value(self, device: int, word: str) -> int:
+        return value_in(self.script.devices[device], word)
+
+    def answer(self, command: Command, word: str) -> Answer:
+        return word if word in (FINE, DOWN) else self.value(command.device, word)
+
+    def cause(self, run: int, words: list[str]) -> Cause:
+        match words:
+            case ["must", c]:
+                return MustDown(int(c) - 1)
+            case ["refuted", c, "found", value]:
+                return Refuted(int(c) - 1, self.value(self.command(run, int(c) - 1).device, value))
+            case ["lost", device]:
+                return Lost(self.names[device])
+            case ["downatend", device]:
+                return DownAtEnd(self.names[device])
+            case ["revoked", device, "by", lender, "deadline", deadline, "at", moment]:
+                return Revoked(int(lender), self.names[device], int(deadline), int(moment))
+        raise ValueError(words)
+
+    def entry(self, words: list[str]) -> Entry:
+        match words:
+            case ["arrived", run, "at", moment]:
+                return Arrived(int(run), int(moment))
+            case ["placed", run, "place", place, "at", moment]:
+                return Placed(int(run), int(place), int(moment))
+            case ["did", command, answer]:
+                by, c = (int(word) for word in command.split("."))
+                return Did(by, c - 1, self.answer(self.command(by, c - 1), answer))
+            case ["undid", run, device, how]:
+                return Undid(int(run), self.names[device], how == "drove")
+            case ["fell", device]:
+                return Fell(self.names[device])
+            case ["rose", device]:
+                return Rose(self.names[device])
+            case ["doomed", run, *cause]:
+                self.ends[int(run)] = self.cause(int(run), cause)
+                return Doomed(int(run), self.ends[int(run)])
+            case ["ended", run, end]:
+                return Ended(int(run), None if end == "committed" else self.ends[int(run)])
+        raise ValueError(words)
+
+    def item(self, word: str) -> Item:
+        event = re.fullmatch(r"(fail|back)\((.*)\)", word)
+        if event is None:
+            return Ran(int(word))
+        device = self.names[event[2]]
+        return Failed(device, 0) if event[1] == "fail" else Back(device, 0)
+
+    def stand(self, device: DeviceText, word: str) -> Stand:
+        value, down = word.removesuffix("!").partition("=")[2], word.endswith("!")
+        return Stand(value_in(device, value), not down)
+
+
+class DayReader:
+    def __init__(self, script: Script, text: str) -> None:
+        self.script = script
+        self.lines = text.split("\n")[:-1]
+        self.at = 0
+
+    def unread(self) -> Unread:
+        return Unread(f"line {self.at} is none of a record of this script: {self.lines[self.at - 1][:80]}")
+
+    def need(self, true: object) -> None:
+        if not true:
+            raise self.unread()
+
+    def next(self) -> str:
+        if self.at == len(self.lines):
+            raise Cut
+        self.at += 1
+        return self.lines[self.at - 1]
+
+    def peek(self) -> str:
+        return self.lines[self.at] if self.at < len(self.lines) else ""
+
+    def day(self) -> Day:
+        try:
+            mode = self.head()
+        except Cut:
+            raise Unread("it is no record: one begins with the lines `safehome day` and `model ..`") from None
+        day = Day(mode, lines=len(self.lines))
+        try:
+            for number in range(len(self.script.windows)):
+                self.window(day, number)
+            day.total_line = self.total(day)
+        except Cut:
+            return day
+        except (IndexError, KeyError, TypeError, ValueError):
+            raise self.unread() from None
+        return day
+
+    def head(self) -> Mode:
+        first, second = self.next(), self.next()
+        found = HEAD.fullmatch(second)
+        if found is None or f"{first}\n{second}\n" != head_text(Mode(*found.groups())):
+            raise self.unread()
+        return Mode(*found.groups())
+
+    def window(self, day: Day, number: int) -> None:
+        line = self.next()
+        self.need(line == f"window {number + 1} {time_text(self.script.windows[number].at)}")
+        told = WindowLines(line, self.at)
+        day.windows.append(told)
+        reader, printer = WindowReader(self.script, number), WindowPrinter(self.script, number)
+        while self.peek().startswith("# "):
+            line = self.next()
+            entry = reader.entry(line.split(" ")[1:])
+            self.need(printer.entry(entry) == line)
+            told.entries.append(entry)
+            told.entry_lines.append(self.at)
+        for run in range(1, len(self.script.windows[number].runs) + 1):
+            self.run(told, run, reader, printer)
+        self.order(told, day.mode, reader, printer)
+        self.home(told, reader, printer)
+
+    def run(self, told: WindowLines, run: int, reader: WindowReader, printer: WindowPrinter) -> None:
+        line = self.next()
+        words = line.split(" ")
+        if words[3] == "aborted":
+            told.ends[run] = reader.cause(run, words[4:])
+        else:
+            told.ends[run] = None
+            told.answers[run] = [reader.answer(command, word) for command, word in zip(printer.commands(run), words[4:])]
+        self.need(printer.run(run, told) == line)
+        told.run_lines[run] = self.at
+
+    def order(self, told: WindowLines, mode: Mode, reader: WindowReader, printer: WindowPrinter) -> None:
+        words = self.next().split(" ")
+        if mode.model == "wv":
+            self.need(words == ["order", "unclaimed"])
+        else:
+            told.order = [] if words == ["order", "none"] else [reader.item(word) for word in words[1:]]
+            self.need(words == ["order", *(map(printer.item, told.order) if told.order else ["none"])])
+        told.order_line = self.at
+
+    def home(self, told: WindowLines, reader: WindowReader, printer: WindowPrinter) -> None:
+        words, devices = self.next().split(" "), self.script.devices
+        self.need(len(words) == 1 + max(len(devices), 1))
+        told.last = [reader.stand(*pair) for pair in zip(devices, words[1:])]
+        self.need(words == ["home", *(map(printer.stand, devices, told.last) if devices else ["none"])])
+        told.home_line = self.at
+
+    def total(self, day: Day) -> int:
+        line = self.next()
+        self.need(line + "\n" == total_text(day.windows) and self.at == len(self.lines))
+        return self.at
+
+
+def read_day(script: Script, text: str) -> Day:
+    """The record of the script's day. Raises `Unread`."""
+    return DayReader(script, text).day()
+
+
+# A window is told again.
+
+def is_whole_step(entries: list[Entry], k: int) -> bool:
+    """Whether the step that made the entry made no further one behind it."""
+    if k + 1 == len(entries):
+        return True
+    match entries[k], entries[k + 1]:
+        case _, Doomed(_, MustDown() | Refuted() | Lost()):
+            return False
+        case Fell(device), Undid(_, other, False):
+            return device != other
+        case Fell(_), Did(_, _, answer):
+            return answer != DOWN
+    return True
+
+
+@dataclass
+class Wait:
+    """A run waited behind the entry `since` and no more behind the entry `until`, as far as the history shows it."""
+
+    run: int
+    why: Why
+    since: int
+    until: int | None = None  # none where the record ends first
+
+
+class Retelling:
+    """The hub of a window as the trace tells it, entry after entry. What a grip that is out keeps waiting is not told there."""
+
+    def __init__(self, script: Script, number: int, mode: Mode, stands: list[Stand], told: WindowLines) -> None:
+        home = Home(script)
+        home.stands = stands
+        self.hub = home.open_window(script.windows[number], mode)
+        self.told, self.history, self.moment = told, self.hub.history, 0
+        self.waits, self.waiting = list[Wait](), dict[int, Wait]()
+
+    def device_of(self, entry: Entry) -> int | None:
+        return self.hub.runs[entry.run].commands[entry.command].device if isinstance(entry, Did) else getattr(entry, "device", None)
+
+    def steps(self) -> Iterator[tuple[int, Entry]]:
+        """Each entry with its number, when it has been added."""
+        for k, entry in enumerate(self.told.entries):
+            try:
+                before = self.moment
+                self.history.add(entry)
+                self.moment = max(before, getattr(entry.cause if isinstance(entry, Doomed) else entry, "moment", 0))
+                if is_whole_step(self.told.entries, k):
+                    self.look(k, entry, before)
+            except (IndexError, KeyError, ValueError):
+                raise Unread(f"line {self.told.entry_lines[k]} does not go on from the ones before it") from None
+            yield k, entry
+
+    def look(self, k: int, entry: Entry, before: int) -> None:
+        """Notes which waits begin and end behind the entry, of the runs to which it may mean something."""
+        device = self.device_of(entry)
+        for run in self.hub.runs:
+            if run not in self.history.arrived:
+                continue
+            command = self.history.next_command(run)
+            is_told = device is None or self.moment != before or getattr(entry, "run", None) == run
+            if is_told or run not in self.history.placed or command and command.device == device or run in self.history.ends:
+                self.note(k, run)
+
+    def is_placed_next(self, run: int) -> bool:
+        """Whether the next step of the run is sure to place it: but just in time nobody is denied."""
+        history = self.history
+        return run not in history.placed and self.hub.runs[run].follows is None and history.mode.scheduler != "jit"
+
+    def wait_of(self, run: int) -> Why | None:
+        """Why the run waits, or none, of a run that has arrived."""
+        if run in self.history.ends or self.is_placed_next(run):
+            return None
+        wait = self.hub.decide(run, self.moment)
+        return wait if isinstance(wait, WAITS) else None
+
+    def note(self, k: int, run: int) -> None:
+        wait = self.wait_of(run)
+        if run in self.waiting and self.waiting[run].why != wait:
+            self.waiting.pop(run).until = k
+        if wait and run not in self.waiting:
+            self.waiting[run] = Wait(run, wait, k)
+            self.waits.append(self.waiting[run])
+
+
+def stands_before(script: Script, day: Day, number: int) -> list[Stand]:
+    """Where the devices stand as a window opens."""
+    return day.windows[number - 1].last or [] if number else [Stand(device.start, True) for device in script.devices]

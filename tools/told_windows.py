@@ -1,0 +1,189 @@
+"""The history of a window as pictures and pages are told it: its entries, and what holds between them.
+
+All is told in plain data, as JSON has it. A step is a number: 0 is before the first entry, N behind entry N. A stretch holds from
+its step `from` on, up to its step `to`; where it lasts to the end, that is one more than there are entries. Runs count from 1,
+devices and commands from 0, values are words.
+"""
+from collections.abc import Iterable
+from typing import Any, Generic, TypeVar
+
+from reference.history import Arrived, Did, Doomed, DownAtEnd, Ended, Fell, Lost, MustDown, Placed, Refuted, Revoked, Rose, Undid
+from reference.record import WindowPrinter
+from reference.script import Script
+from reference.serial import DOWN, Command
+from tools.holdings import holders, leases_on
+from tools.records import Answer, Cause, Day, Entry, Item, Retelling, Why, is_whole_step, stands_before
+
+Facts = dict[str, Any]  # as JSON has them
+Key = TypeVar("Key")
+Value = TypeVar("Value")
+
+
+class Stretches(Generic[Key, Value]):
+    """What holds for a while: for each key a value, from the step that first has it to the one that first has it no more."""
+
+    def __init__(self) -> None:
+        self.now: dict[Key, tuple[int, Value]] = {}
+        self.told: list[tuple[Key, int, int, Value]] = []
+
+    def tell(self, key: Key, step: int, value: Value | None) -> None:
+        since, before = self.now.get(key) or (step, None)
+        if before == value:
+            return
+        if before is not None and since < step:
+            self.told.append((key, since, step, before))
+        if value is None:
+            self.now.pop(key, None)
+        else:
+            self.now[key] = step, value
+
+    def close(self, step: int) -> list[tuple[Key, int, int, Value]]:
+        """All of them, where the last one lasts to the end."""
+        for key in list(self.now):
+            self.tell(key, step, None)
+        return sorted(self.told, key=lambda stretch: stretch[1])
+
+
+class HistoryTeller:
+    """Goes along the history of a window, and tells each entry, and what holds between them."""
+
+    def __init__(self, script: Script, number: int, day: Day) -> None:
+        self.script, self.window = script, day.windows[number]
+        self.again = Retelling(script, number, day.mode, stands_before(script, day, number), self.window)
+        self.hub, self.history = self.again.hub, self.again.history
+        self.printer = WindowPrinter(script, number)
+        self.entries: list[Facts] = []
+        self.line: list[Item] = []
+        self.met: set[int] = set()  # devices, since holdings were told
+        self.downs, self.values = Stretches[int, bool](), Stretches[int, str]()
+        self.holds = Stretches[tuple[int, int], bool]()  # of a device and a run, as the leases
+        self.leases = Stretches[tuple[int, int], tuple[tuple[int, ...], int]]()
+        self.tell_stands(0, range(len(script.devices)))
+
+    def told(self) -> Facts:
+        for k, entry in self.again.steps():
+            self.entries.append({"line": self.printer.entry(entry), **self.facts(entry), **self.turn()})
+            devices = self.devices_of(entry)
+            self.tell_stands(k + 1, devices)
+            self.met.update(devices)
+            if is_whole_step(self.window.entries, k):
+                self.tell_holdings(k + 1)
+        last = len(self.entries) + 1
+        return {
+            "entries": self.entries,
+            "states": [state for run in self.hub.runs for state in self.states(run, last)],
+            "holds": [{"device": d, "run": run, "from": since, "to": end} for (d, run), since, end, _ in self.holds.close(last)],
+            "downs": [{"device": d, "from": since, "to": end} for d, since, end, _ in self.downs.close(last)],
+            "leases": [{"device": d, "borrower": run, "from": since, "to": end, "lenders": lenders, "deadline": deadline}
+                       for (d, run), since, end, (lenders, deadline) in self.leases.close(last)],
+            "values": [{"device": d, "from": since, "to": end, "value": word} for d, since, end, word in self.values.close(last)],
+        }
+
+    def states(self, run: int, last: int) -> list[Facts]:
+        """What the run is at, stretch after stretch, from its arrival to its end: it works, waits or is doomed."""
+        steps = {entry["kind"]: step for step, entry in enumerate(self.entries, 1) if entry.get("run") == run}
+        end = steps.get("ended", last)
+        doom = steps.get("doomed", end)
+        states, since = list[tuple[int, int, Facts]](), steps.get("arrived", end)
+        for wait in (wait for wait in self.again.waits if wait.run == run):
+            until = last if wait.until is None else wait.until + 1
+            states += [(since, wait.since + 1, {"state": "works"}), (wait.since + 1, until, {"state": "waits", **wait_facts(wait.why)})]
+            since = until
+        states += [(since, doom, {"state": "works"}), (max(since, doom), end, {"state": "doomed"})]
+        return [{"run": run, "from": since, "to": end, **state} for since, end, state in states if since < end]
+
+    # The entry.
+
+    def turn(self) -> Facts:
+        """Where the entry puts something into the line, or takes it out."""
+        before, self.line = self.line, list(self.history.line)
+        if len(self.line) == len(before):
+            return {}
+        longer, shorter = (self.line, before) if len(self.line) > len(before) else (before, self.line)
+        place = next((k for k, item in enumerate(shorter) if item != longer[k]), len(shorter))
+        return {"into" if longer is self.line else "outOf": place}
+
+    def facts(self, entry: Entry) -> Facts:
+        match entry:
+            case Arrived(run, moment):
+                return {"kind": "arrived", "run": run, "moment": moment}
+            case Placed(run, _, moment):
+                return {"kind": "placed", "run": run, "moment": moment}
+            case Did(run, c, answer):
+                return {"kind": "did", "run": run, "command": c, **self.answer_facts(run, c, answer)}
+            case Undid(run, device, drove):
+                return {"kind": "undid", "run": run, "device": device, "drove": drove, "value": self.stand(device)}
+            case Fell(device):
+                return {"kind": "fell", "device": device}
+            case Rose(device):
+                return {"kind": "rose", "device": device, "value": self.stand(device)}
+            case Doomed(run, cause):
+                at = {"moment": cause.moment} if isinstance(cause, Revoked) else {}
+                facts = cause_facts(self.script, self.hub.runs[run].commands, cause)
+                return {"kind": "doomed", "run": run, **at, "cause": facts}
+            case Ended(run, cause):
+                return {"kind": "ended", "run": run, "committed": cause is None}
+
+    def answer_facts(self, run: int, c: int, answer: Answer) -> Facts:
+        command = self.hub.runs[run].commands[c]
+        if answer == DOWN:
+            return {"device": command.device, "down": True}
+        value = answer if command.reads else self.history.wrote[run][command.device]
+        return {"device": command.device, "value": self.script.devices[command.device].word(value)}
+
+    def stand(self, device: int) -> str:
+        return self.script.devices[device].word(self.hub.standing_value(device))
+
+    # What holds behind it.
+
+    def devices_of(self, entry: Entry) -> list[int]:
+        """The devices of which something else may be true behind the entry."""
+        match entry:
+            case Arrived():
+                return []
+            case Placed(run, _, _) | Doomed(run, _) | Ended(run, _):
+                return self.hub.runs[run].footprint
+        return [self.entries[-1]["device"]]
+
+    def tell_stands(self, step: int, devices: Iterable[int]) -> None:
+        """Tells where the devices should stand behind the entry of this step, and which are down."""
+        for device in devices:
+            self.downs.tell(device, step, not self.history.up[device] or None)
+            self.values.tell(device, step, self.stand(device))
+
+    def tell_holdings(self, step: int) -> None:
+        """Tells who has the devices that were met, and who has them on lease."""
+        for device in sorted(self.met):
+            have = holders(self.hub, device)
+            leases = {lease.borrower: (lease.lenders, lease.deadline) for lease in leases_on(self.hub, device)}
+            for run in self.hub.runs:
+                if device in self.hub.runs[run].last:
+                    self.holds.tell((device, run), step, run in have or None)
+                    self.leases.tell((device, run), step, leases.get(run))
+        self.met = set()
+
+
+def wait_facts(why: Why) -> Facts:
+    """A wait as the page is told it: its kind, and the other run and the device, where it names them."""
+    named = {"other": getattr(why, "run", None), "device": getattr(why, "device", None)}
+    return {"kind": type(why).__name__.lower(), **{name: number for name, number in named.items() if number is not None}}
+
+
+def cause_facts(script: Script, commands: list[Command], cause: Cause) -> Facts:
+    """A cause as the page is told it."""
+    match cause:
+        case MustDown(c):
+            return {"kind": "must", "command": c}
+        case Refuted(c, found):
+            return {"kind": "refuted", "command": c, "found": script.devices[commands[c].device].word(found)}
+        case Lost(device):
+            return {"kind": "lost", "device": device}
+        case Revoked(lender, device, deadline, moment):
+            return {"kind": "revoked", "run": lender, "device": device, "deadline": deadline, "moment": moment}
+        case DownAtEnd(device):
+            return {"kind": "downatend", "device": device}
+
+
+def told_history(script: Script, day: Day, number: int) -> Facts:
+    """The history of a window of a day that was read, the first as number 0."""
+    return HistoryTeller(script, number, day).told()
