@@ -37,8 +37,9 @@ impl Stage for Done {
 
 /// A device that is out, with its slip and what is to be done with it.
 ///
-/// A grip cannot be dropped: a ready one is spent by `act`, a done one by the gate that takes its device in. Its type
-/// keeps how the device is: as it left while the grip is ready, and as the call and its answer say when it is done.
+/// A grip cannot be dropped: a ready one is spent by `act`, or by `answered` where its call was made elsewhere, a done
+/// one by the gate that takes its device in. Its type keeps how the device is: as it left while the grip is ready, and as
+/// the call and its answer say when it is done.
 pub struct Grip<D: Device, S: Stage> {
     device: D,
     slip: Slip,
@@ -85,6 +86,41 @@ impl<D: Device> Grip<D, Ready> {
             slip,
             task,
             stage: Ready,
+        }
+    }
+
+    /// Does nothing. Its contract is that the device is as its slip says, with room for what the task does to its counts.
+    pub fn kept(&self)
+        ensures { IsAsLeft self.now.task self.now.slip (D.tag self.now.device) (D.stands self.now.device) (D.turns self.now.device) (D.probes self.now.device) (D.faults self.now.device) }
+    {
+        let _ = &self.slip;
+    }
+
+    /// Takes the answer to a call that was made elsewhere: what the device told, and the device as it is after that.
+    ///
+    /// The device that the grip held is let go. The grip makes no call.
+    pub fn answered(self, device: D, told: Told) -> Grip<D, Done>
+        requires called { WasCalled told self.task self.slip (D.tag device) (D.stands device) (D.turns device) (D.probes device) (D.faults device) }
+        requires plan { D.plan device ≡ D.plan self.device }
+        ensures told { result.stage.told ≡ told }
+        ensures slip { result.slip ≡ self.slip }
+        ensures task { result.task ≡ self.task }
+        ensures device { result.device ≡ device }
+        ensures tag { D.tag result.device ≡ D.tag self.device }
+        ensures plan { D.plan result.device ≡ D.plan self.device }
+    {
+        let Grip {
+            device: left,
+            slip,
+            task,
+            stage: Ready,
+        } = self;
+        drop(left);
+        Grip {
+            device,
+            slip,
+            task,
+            stage: Done { told },
         }
     }
 
