@@ -34,3 +34,4 @@ pub mod HubMarks
 pub mod Placings
 pub mod FinalItems
 pub mod Revocations
+pub mod ResumedHomes

@@ -12,7 +12,7 @@ use Rattle.home_types.specs.declared.worlds.Stand.{Stand}
 use Rattle.hub_core.specs.Agreement.{UpDevicesStand}
 use Rattle.hub_core.specs.LegalDays.{IsDeviceOf}
 use Rattle.routine_reader.specs.declared.scripts.DeviceText.{DeviceText}
-use Rattle.std.specs.Prelude.{IsTrue, List, Option, Some, length, slice_get, ℕ, ◌*◌, ◌<◌, ◌^◌, ◌≡◌, ◌≤◌}
+use Rattle.std.specs.Prelude.{IsTrue, List, Option, Some, length, slice_get, ℕ, ◌*◌, ◌+◌, ◌<◌, ◌^◌, ◌≡◌, ◌≤◌}
 
 -- what a home shows: its kinds, its state, its devices, and how many windows were opened on it
 pub record HomeState (D : Type 0) : Type 0 where
@@ -25,11 +25,11 @@ pub record HomeState (D : Type 0) : Type 0 where
 abbrev pub window_calls : ℕ
 window_calls = 2 ^ 17
 
--- so high the counts of a device are at most, after so many windows
+-- so high the counts of a device are at most, after so many windows, and one call by which the home may have been resumed
 pub record CountsAreLow (opened turns probes faults : ℕ) : Type 0 where
-  pub few_turns : turns ≤ opened * window_calls
-  pub few_probes : probes ≤ opened * window_calls
-  pub few_faults : faults ≤ opened * window_calls
+  pub few_turns : turns ≤ opened * window_calls + 1
+  pub few_probes : probes ≤ opened * window_calls + 1
+  pub few_faults : faults ≤ opened * window_calls + 1
 
 -- what is kept of a home: each device is the one of its number, stands where the state says if it is up there, and was called as often as the windows allow; the state has values of the kinds
 pub record HomeIsKept {D : Type 0} (tag stands turns probes faults : D → ℕ) (s : HomeState D) : Type 0 where

@@ -8,24 +8,49 @@ use Rattle.hub_core.specs.LegalWindows.{IsLegalWindow}
 use Rattle.routine_reader.specs.Rosters.{kinds_of, script_runs, start_home}
 use Rattle.routine_reader.specs.declared.scripts.DeviceText.{DeviceText}
 use Rattle.routine_reader.specs.declared.scripts.Script.{Script}
-use Rattle.std.specs.Prelude.{List, Option, Some, [], length, option_map, slice_get, slice_index_or, suc, sum_by, unwrap_or, zero, ℕ, ◌≡◌, ◌≤◌}
+use Rattle.std.specs.Prelude.{Bool, List, Option, Some, [], drop, false, length, option_map, slice_get, slice_index_or, suc, sum_by, true, unwrap_or, zero, ℕ, ◌+◌, ◌≡◌, ◌≤◌}
+
+-- where a day begins: so many windows of the script went before it, the home is in this state, and of each device that is told so one call has worked, or one has failed
+pub record Beginning : Type 0 where
+  pub script : Script
+  pub before : ℕ
+  pub first : List Stand
+  pub called : ℕ → Bool
+  pub failed : ℕ → Bool
+
+-- a script's day begins with every device up at its start, and none of them called
+abbrev pub new_day : Script → Beginning
+new_day script = record { script = script; before = 0; first = start_home script; called = λ d. false; failed = λ d. false }
+
+-- the script with the windows behind the first so many
+abbrev pub windows_behind : ℕ → Script → Script
+windows_behind k script = record { devices = script.devices; routines = script.routines; windows = record { items = drop k script.windows.items; spare = script.windows.spare } }
+
+-- the script with the windows that are to come
+abbrev pub to_come : Beginning → Script
+to_come begins = windows_behind begins.before begins.script
 
 -- the state of the home after so many windows
-abbrev pub state_after : Script → List WindowRecord → ℕ → List Stand
-state_after script records zero = start_home script
-state_after script records (suc k) = unwrap_or (option_map (λ closed. closed.last.devices.items) (slice_get records k)) []
+abbrev pub state_from : Beginning → List WindowRecord → ℕ → List Stand
+state_from begins records zero = begins.first
+state_from begins records (suc k) = unwrap_or (option_map (λ closed. closed.last.devices.items) (slice_get records k)) []
 
--- what is fixed in the script's window of this number: it begins where the one before has ended, the first one with every device up at its start
-abbrev pub setting_of : Script → Mode → List WindowRecord → ℕ → Setting
-setting_of script mode records k = record { runs = script_runs script k; mode = mode; kinds = kinds_of script; first = state_after script records k }
+-- what is fixed in the window of this number of those to come: it begins where the one before has ended, the first one where the day begins
+abbrev pub setting_from : Beginning → Mode → List WindowRecord → ℕ → Setting
+setting_from begins mode records k = record { runs = script_runs (to_come begins) k; mode = mode; kinds = kinds_of begins.script; first = state_from begins records k }
 
--- each record is that of the script's window of its number, and legal
-abbrev pub RecordsAreLegal : Script → Mode → List WindowRecord → Type 0
-RecordsAreLegal script mode records = (k : ℕ) (closed : WindowRecord) → slice_get records k ≡ Some closed → IsLegalWindow (setting_of script mode records k) closed
+-- each record is that of the window of its number of those to come, and legal
+abbrev pub AreLegalFrom : Beginning → Mode → List WindowRecord → Type 0
+AreLegalFrom begins mode records = (k : ℕ) (closed : WindowRecord) → slice_get records k ≡ Some closed → IsLegalWindow (setting_from begins mode records k) closed
 
 -- the sum over the windows
 abbrev pub total : (WindowRecord → List ℕ) → List WindowRecord → ℕ → ℕ
 total rises records d = sum_by (λ closed. slice_index_or (rises closed) d 0) records
+
+-- one more, where it is so
+abbrev pub one_more_where : Bool → ℕ → ℕ
+one_more_where false n = n
+one_more_where true n = n + 1
 
 -- the device is the script's: it tells its number, and, where it tells a plan, the ranges in which the script has it down
 pub record IsDeviceOf {D : Type 0} (tag : D → ℕ) (plan : D → Option (List (ℕ × ℕ))) (text : DeviceText) (d : ℕ) (device : D) : Type 0 where
@@ -33,21 +58,47 @@ pub record IsDeviceOf {D : Type 0} (tag : D → ℕ) (plan : D → Option (List 
   pub plan_is : (p : List (ℕ × ℕ)) → plan device ≡ Some p → p ≡ text.downs.items
 
 -- the devices after these windows, in script order
-pub record DevicesAreLeft {D : Type 0} (tag : D → ℕ) (plan : D → Option (List (ℕ × ℕ))) (stands turns faults : D → ℕ) (script : Script) (records : List WindowRecord) (devices : List D) : Type 0 where
-  pub size : length devices ≡ length script.devices.items
-  pub own : (d : ℕ) (device : D) (text : DeviceText) → slice_get devices d ≡ Some device → slice_get script.devices.items d ≡ Some text → IsDeviceOf tag plan text d device
-  pub stand : UpDevicesStand stands devices (state_after script records (length records))
-  pub turns_are : (d : ℕ) (device : D) → slice_get devices d ≡ Some device → turns device ≡ total (λ closed. closed.turns.items) records d
-  pub faults_are : (d : ℕ) (device : D) → slice_get devices d ≡ Some device → faults device ≡ total (λ closed. closed.faults.items) records d
+pub record AreLeftFrom {D : Type 0} (tag : D → ℕ) (plan : D → Option (List (ℕ × ℕ))) (stands turns faults : D → ℕ) (begins : Beginning) (records : List WindowRecord) (devices : List D) : Type 0 where
+  pub size : length devices ≡ length begins.script.devices.items
+  pub own : (d : ℕ) (device : D) (text : DeviceText) → slice_get devices d ≡ Some device → slice_get begins.script.devices.items d ≡ Some text → IsDeviceOf tag plan text d device
+  pub stand : UpDevicesStand stands devices (state_from begins records (length records))
+  pub turns_are : (d : ℕ) (device : D) → slice_get devices d ≡ Some device → turns device ≡ one_more_where (begins.called d) (total (λ closed. closed.turns.items) records d)
+  pub faults_are : (d : ℕ) (device : D) → slice_get devices d ≡ Some device → faults device ≡ one_more_where (begins.failed d) (total (λ closed. closed.faults.items) records d)
+
+-- a day that begins so and was cut short: the first of the windows to come
+pub record IsLegalCutDayFrom {D : Type 0} (tag : D → ℕ) (plan : D → Option (List (ℕ × ℕ))) (stands turns faults : D → ℕ) (begins : Beginning) (mode : Mode) (records : List WindowRecord) (devices : List D) : Type 0 where
+  pub count : length records ≤ length (to_come begins).windows.items
+  pub legal : AreLegalFrom begins mode records
+  pub left : AreLeftFrom tag plan stands turns faults begins records devices
+
+-- a whole day that begins so: one record for each window to come
+pub record IsLegalDayFrom {D : Type 0} (tag : D → ℕ) (plan : D → Option (List (ℕ × ℕ))) (stands turns faults : D → ℕ) (begins : Beginning) (mode : Mode) (records : List WindowRecord) (devices : List D) : Type 0 where
+  pub count : length records ≡ length (to_come begins).windows.items
+  pub legal : AreLegalFrom begins mode records
+  pub left : AreLeftFrom tag plan stands turns faults begins records devices
+
+-- The day of a script, from its start
+
+-- the state of the home after so many windows
+abbrev pub state_after : Script → List WindowRecord → ℕ → List Stand
+state_after script records k = state_from (new_day script) records k
+
+-- what is fixed in the window of this number: the first one begins with every device up at its start
+abbrev pub setting_of : Script → Mode → List WindowRecord → ℕ → Setting
+setting_of script mode records k = setting_from (new_day script) mode records k
+
+-- each record is that of the script's window of its number, and legal
+abbrev pub RecordsAreLegal : Script → Mode → List WindowRecord → Type 0
+RecordsAreLegal script mode records = AreLegalFrom (new_day script) mode records
+
+-- the devices after these windows, in script order
+abbrev pub DevicesAreLeft : {D : Type 0} → (D → ℕ) → (D → Option (List (ℕ × ℕ))) → (D → ℕ) → (D → ℕ) → (D → ℕ) → Script → List WindowRecord → List D → Type 0
+DevicesAreLeft tag plan stands turns faults script records devices = AreLeftFrom tag plan stands turns faults (new_day script) records devices
 
 -- a day that was cut short: the script's first windows
-pub record IsLegalCutDay {D : Type 0} (tag : D → ℕ) (plan : D → Option (List (ℕ × ℕ))) (stands turns faults : D → ℕ) (script : Script) (mode : Mode) (records : List WindowRecord) (devices : List D) : Type 0 where
-  pub count : length records ≤ length script.windows.items
-  pub legal : RecordsAreLegal script mode records
-  pub left : DevicesAreLeft tag plan stands turns faults script records devices
+abbrev pub IsLegalCutDay : {D : Type 0} → (D → ℕ) → (D → Option (List (ℕ × ℕ))) → (D → ℕ) → (D → ℕ) → (D → ℕ) → Script → Mode → List WindowRecord → List D → Type 0
+IsLegalCutDay tag plan stands turns faults script mode records devices = IsLegalCutDayFrom tag plan stands turns faults (new_day script) mode records devices
 
 -- a whole day: one record for each window of the script
-pub record IsLegalDay {D : Type 0} (tag : D → ℕ) (plan : D → Option (List (ℕ × ℕ))) (stands turns faults : D → ℕ) (script : Script) (mode : Mode) (records : List WindowRecord) (devices : List D) : Type 0 where
-  pub count : length records ≡ length script.windows.items
-  pub legal : RecordsAreLegal script mode records
-  pub left : DevicesAreLeft tag plan stands turns faults script records devices
+abbrev pub IsLegalDay : {D : Type 0} → (D → ℕ) → (D → Option (List (ℕ × ℕ))) → (D → ℕ) → (D → ℕ) → (D → ℕ) → Script → Mode → List WindowRecord → List D → Type 0
+IsLegalDay tag plan stands turns faults script mode records devices = IsLegalDayFrom tag plan stands turns faults (new_day script) mode records devices

@@ -1,5 +1,6 @@
 //! A home between two windows: its devices, and how they stand.
 ghost use Rattle.std.specs.Prelude.{◌≡◌, ◌≤◌, IfErr, IfOk, length};
+ghost use Rattle.home_journal.specs.Journals.{IsStateOf};
 ghost use Rattle.home_types.specs.Limits.{most_devices};
 ghost use Rattle.hub_core.specs.Homes.{AreNew, HomeIsKept};
 ghost use Rattle.routine_reader.specs.Rosters.{kinds_of, start_home};
@@ -61,9 +62,10 @@ impl<D: Device> Home<D> {
         })
     }
 
-    /// The state of the home: after the last window, or every device up at its start.
+    /// The state of the home: after the last window, or as the home was built or resumed. A journal of these kinds keeps it.
     pub fn world(&self) -> &World
-        ensures { result.now.devices.items ≡ self.now.world }
+        ensures world { result.now.devices.items ≡ self.now.world }
+        ensures state { IsStateOf self.now.kinds result.now.devices.items }
     {
         &self.world
     }
@@ -135,9 +137,13 @@ fn start_world(alloc: Global, script: &Script) -> Result<World, NoMemory>
     Ok(World { devices })
 }
 
-/// The kinds of the script's devices.
-fn script_kinds(alloc: Global, script: &Script) -> Result<List<Kind>, NoMemory>
-    ensures { IfOk result (λ kinds. kinds.items ≡ kinds_of script.now) }
+/// The kinds of the script's devices, for the journal of a home.
+///
+/// Answers `NoMemory` where there is none to be had.
+pub fn script_kinds(alloc: Global, script: &Script) -> Result<List<Kind>, NoMemory>
+    requires sound { IsSound (plain_script script.now) }
+    ensures kinds { IfOk result (λ kinds. kinds.items ≡ kinds_of script.now) }
+    ensures few { IfOk result (λ kinds. length kinds.items ≤ most_devices) }
 {
     let mut kinds = List::new(alloc);
     'texts: for text in script.devices.as_slice() {

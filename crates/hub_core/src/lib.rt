@@ -23,6 +23,7 @@ mod read_histories;
 pub mod refusals;
 mod releases;
 mod reschedules;
+mod resumed_homes;
 mod returns;
 mod step_calls;
 mod take_calls;
@@ -31,7 +32,7 @@ pub mod waits;
 mod weak_steps;
 
 pub use device_gate::{Done, Grip, Ready, Slip, Stranger, Task, Told};
-pub use homes::Home;
+pub use homes::{Home, script_kinds};
 pub use hubs::Hub;
 pub use refusals::NotQuiet;
 pub use turns::Turn;

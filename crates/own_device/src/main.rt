@@ -1,6 +1,8 @@
-// A home of devices of one's own: opens a window on them, steps its hub by hand, and prints what came of it.
+// A home of devices of one's own: opens a window on them, steps its hub by hand, and prints what came of it. Then a hub that
+// is killed in the middle of a window, and one that goes on.
 #![tactic(auto)]
 
+mod kills;
 mod radio_devices;
 mod windows;
 
@@ -11,12 +13,13 @@ use day_report::window_text;
 use device_states::Device;
 use history_book::WindowRecord;
 use home_types::{Item, List};
-use hub_core::Hub;
-use radio_devices::RadioDevice;
+use hub_core::{Home, Hub};
+use kills::print_killed_day;
+use radio_devices::{RadioBench, RadioDevice};
 use routine_reader::{Script, read_script};
 use std::io::Write;
 use std::process::ExitCode;
-use windows::{MODE, MOST_TURNS, open_first, work};
+use windows::{MODE, MOST_TURNS, open_window, work};
 
 /// After so many turns the order is printed as far as it is final.
 const FIRST_TURNS: u64 = 7;
@@ -37,7 +40,7 @@ const SCRIPT: &str = r#"{"safehome": 1, "devices": [
     "runs": [{"routine": "warm"}, {"routine": "cook"}, {"routine": "read"}]}]}"#;
 
 fn main(rt: HostRuntime) -> ExitCode {
-    match run(&rt) {
+    match run(&rt).and(print_killed_day(&rt)) {
         Some(()) => ExitCode::SUCCESS,
         None => ExitCode::FAILURE,
     }
@@ -59,7 +62,9 @@ fn run(rt: &HostRuntime) -> Option<()> {
 fn play(rt: &HostRuntime, script: &Script) -> Option<()>
     requires sound { IsSound (plain_script script.now) }
 {
-    let mut hub = open_first(rt.alloc(), script)?;
+    let mut bench = RadioBench::new(rt.alloc());
+    let home = Home::build(rt.alloc(), &mut bench, script).ok()?;
+    let mut hub = open_window(rt.alloc(), script, 0, home)?;
     work(&mut hub, 0, FIRST_TURNS);
     let shown = print_final(rt, script, &hub);
     work(&mut hub, FIRST_TURNS, MOST_TURNS);

@@ -3,18 +3,24 @@ ghost use Rattle.std.specs.Prelude.{◌≡◌, ◌+◌, ◌<◌, ◌^◌, OnErr,
 
 use device_states::{Bench, Dead, Device};
 use home_types::{DeviceNo, NoMemory, Value};
-use std::alloc::Global;
+use std::alloc::{AllocError, Global};
+use std::cell::Cell;
+use std::rc::Rc;
 
 /// How many answers a link carries between two that it loses.
 const CARRIED: u32 = 2;
 
+/// Where the thing on the wall stands that a device moves. It outlives the device, and no hub sees it.
+pub type Thing = Rc<Cell<Value>>;
+
 /// A device behind a radio link that loses each third answer.
 ///
 /// The calls themselves arrive: a drive whose answer is lost has moved the device all the same.
-#[derive(Debug, Drop)]
+#[derive(Drop)]
 pub struct RadioDevice {
     number: DeviceNo,
     value: Value,
+    thing: Thing,
     turns: u64,
     probes: u64,
     faults: u64,
@@ -51,6 +57,7 @@ impl Device for RadioDevice {
 
     fn drive(&mut self, v: Value) -> Result<(), Dead> {
         self.value = v;
+        self.thing.set(v);
         self.hear()?;
         self.turns += 1;
         Ok(())
@@ -81,22 +88,55 @@ impl Device for RadioDevice {
 }
 
 /// The bench on which radio devices are made. They tell no plan.
-#[derive(Clone, Copy, Debug, PartialEq, Eq)]
-pub struct RadioBench;
+///
+/// It puts a thing on the wall with its first device, at the device's start. Each later device of the number finds the
+/// thing where it stands.
+#[derive(Drop)]
+pub struct RadioBench {
+    things: Vec<Thing>,
+}
+
+impl RadioBench {
+    /// A bench with nothing on the wall.
+    pub fn new(alloc: Global) -> RadioBench {
+        RadioBench {
+            things: Vec::new(alloc),
+        }
+    }
+
+    /// The things on the wall, in the order of their devices' numbers.
+    pub fn things(&self) -> &[Thing] {
+        self.things.as_slice()
+    }
+
+    /// The thing of this number, which is put up at `start` if it is not there.
+    fn thing(&mut self, alloc: Global, d: DeviceNo, start: Value) -> Result<Thing, AllocError> {
+        if let Some(thing) = self.things.get(d.0 as usize) {
+            return thing.clone();
+        }
+        let thing = Rc::new(alloc, Cell::new(start))?;
+        self.things.push(thing.clone()?)?;
+        Ok(thing)
+    }
+}
 
 impl Bench for RadioBench {
     type Dev = RadioDevice;
 
     fn build(
         &mut self,
-        _alloc: Global,
+        alloc: Global,
         d: DeviceNo,
         start: Value,
         _downs: &[(u32, u32)],
     ) -> Result<RadioDevice, NoMemory> {
+        let Ok(thing) = self.thing(alloc, d, start) else {
+            return Err(NoMemory);
+        };
         Ok(RadioDevice {
             number: d,
             value: start,
+            thing,
             turns: 0,
             probes: 0,
             faults: 0,

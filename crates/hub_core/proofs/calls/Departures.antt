@@ -64,9 +64,9 @@ has_room stands turns probes faults s d device k at =
     let few = few_entries stands turns probes faults s k in
     let falls : told_falls (entries_of s.history) d ≤ length s.history = falls_most s.history d in
     let calls : told_calls s.setting.runs (entries_of s.history) d ≤ length s.history = told_most s.setting s.history d in
-    let had_turns : (device_at s.devices d).at_opening.turns ≤ s.opened * 131072 = (k.low d).few_turns in
-    let had_probes : (device_at s.devices d).at_opening.probes ≤ s.opened * 131072 = (k.low d).few_probes in
-    let had_faults : (device_at s.devices d).at_opening.faults ≤ s.opened * 131072 = (k.low d).few_faults in
+    let had_turns : (device_at s.devices d).at_opening.turns ≤ s.opened * 131072 + 1 = (k.low d).few_turns in
+    let had_probes : (device_at s.devices d).at_opening.probes ≤ s.opened * 131072 + 1 = (k.low d).few_probes in
+    let had_faults : (device_at s.devices d).at_opening.faults ≤ s.opened * 131072 + 1 = (k.low d).few_faults in
     (omega (arith, fits.turns_are, windows, few, calls, had_turns), omega (arith, fits.probes_are, windows, rounds, had_probes), omega (arith, fits.few_faults, windows, rounds, few, falls, had_faults))
   where
     length_entries : (h : List Kept) → length (entries_of h) ≡ length h

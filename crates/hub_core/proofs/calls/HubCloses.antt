@@ -113,7 +113,7 @@ few_calls stands turns probes faults s told kept =
     omega (arith, few, counted, same)
 
 -- so a count stays low
-still_low : (opened count then rise : ℕ) → then ≤ opened * 2 ^ 17 → count ≤ then + rise → rise ≤ 60004 → count ≤ (opened + 1) * 2 ^ 17
+still_low : (opened count then rise : ℕ) → then ≤ opened * 2 ^ 17 + 1 → count ≤ then + rise → rise ≤ 60004 → count ≤ (opened + 1) * 2 ^ 17 + 1
 still_low opened count then rise low is few = omega arith
 
 -- the lineage table leaves each device as the last state has it, and under the weak model what is known of each

@@ -73,3 +73,12 @@ new_home {D = D} tag plan stands turns probes faults script kinds world devices 
 
     value_at : (d : ℕ) → d < length world → IsTrue (has_value (kind_at kinds d) (stand_at world d).value)
     value_at d lt = (let text = at_place texts d (omega (arith, lt, size)) in rw (kind_of d text.0 text.1, stand_of d text.0 text.1) (starts_well d text.0 text.1))
+
+-- a script that is sound has few devices
+pub few_kinds : (script : Script) (kinds : List Kind) → IsSound (plain_script script) → kinds ≡ kinds_of script → length kinds ≤ 256
+few_kinds script kinds sound is =
+    let texts = script.devices.items in
+    let said = sound.few_devices in
+    let same : length (map plain_device texts) ≡ length texts = length-map texts plain_device in
+    let made : length kinds ≡ length texts = ap (λ l. length l) is ∙ length-map texts (λ t. t.kind) in
+    omega (arith, said, same, made)
