@@ -5,4 +5,6 @@ pub mod Named
 pub mod RunWords
 pub mod Passes
 pub mod Holding
+pub mod KeptWindows
 mod Worked
+pub mod RoomAnswers

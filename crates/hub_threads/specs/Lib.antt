@@ -4,4 +4,6 @@ pub mod Named
 pub mod Sleepers
 pub mod Passes
 pub mod Holding
+pub mod KeptWindows
 pub mod WorkedWindows
+pub mod WorkedRooms

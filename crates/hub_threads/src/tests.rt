@@ -1,19 +1,22 @@
 //! Windows with a known end, whoever steps their runs, and a worker over a fake of what lies under the lock.
-ghost use Rattle.std.specs.Prelude.{◌≡◌, IfSome};
+ghost use Rattle.std.specs.Prelude.{◌≡◌, ◌<◌, IfOk, IfSome};
 ghost use Rattle.hub_core.specs.OpenHubs.{configuration_of};
 ghost use Rattle.hub_core.specs.Steps.{opened};
+ghost use Rattle.routine_reader.specs.Rosters.{kinds_of};
 ghost use Rattle.routine_reader.specs.Scripts.{plain_script};
 ghost use Rattle.routine_reader.specs.Sound.{IsSound};
 
 use crate::bells::{Bells, Naps};
 use crate::fakes::work_fake;
+use crate::kept_windows::{KeepFault, run_kept_window};
 use crate::windows::{Means, run_window_by};
 use day_clock::SetClock;
-use device_states::{CalmBench, CalmDevice, Device};
+use device_states::{Bench, CalmBench, CalmDevice, Device};
 use grip_seats::Desk;
 use history_book::{End, Entry, Kept, WindowRecord};
-use home_types::{Item, List, Mode, Scheduler, Visibility};
-use hub_core::{Home, Hub};
+use home_journal::{Disk, Journal, MemoryDisk};
+use home_types::{Bytes, Item, List, Mode, NoMemory, Scheduler, Stand, Visibility};
+use hub_core::{Home, Hub, script_kinds};
 use routine_reader::{Script, read_script, roster};
 use std::alloc::Global;
 use std::sync::Wait;
@@ -32,6 +35,19 @@ const SCRIPT: &str = r#"{"safehome": 1, "devices": [
   {"name": "e", "commands": [{"on": "heat", "do": "set", "to": 22}, {"on": "fan", "do": "set", "to": "on"}, {"on": "lamp", "do": "set", "to": 5}]}],
  "windows": [{"at": "2021-04-26T18:30", "probes": 2,
     "runs": [{"routine": "a"}, {"routine": "b"}, {"routine": "c"}, {"routine": "d"}, {"routine": "e"}]}]}"#;
+
+/// A lamp, and two windows: in the first it is switched on, in the second off.
+const EVENING: &str =
+    r#"{"safehome": 1, "devices": [{"name": "lamp", "states": ["off", "on"], "start": "off"}],
+ "routines": [
+  {"name": "come", "commands": [{"on": "lamp", "do": "set", "to": "on"}]},
+  {"name": "sleep", "commands": [{"on": "lamp", "do": "set", "to": "off"}]}],
+ "windows": [
+  {"at": "2021-04-26T18:30", "runs": [{"routine": "come"}]},
+  {"at": "2021-04-26T22:30", "probes": 1, "runs": [{"routine": "sleep"}]}]}"#;
+
+/// As many bytes as the disk has room for.
+const ROOM: u64 = 100;
 
 const RUNS: u64 = 5;
 
@@ -69,6 +85,18 @@ fn a_worker_tells_what_was_answered(rt: HostRuntime) {
     assert!(rt;
         work_fake::<CalmDevice, HostRuntime, SetClock>(&rt, bells, desk, 7, &SetClock::new(5)) == 7
     );
+}
+
+/// A hub that begins again behind each window, on a disk that fails from this call on until the first kill. It makes four
+/// calls of an empty disk to open the journal, and four to keep a state.
+#[test]
+fn a_hub_goes_on_behind_what_is_kept(rt: HostRuntime) {
+    for k in 1..10 {
+        let lost = if k < 9 { 4 } else { 3 };
+        assert!(rt; lives(&rt, rt.alloc(), k, false) == Some(lost));
+        let left = if k < 7 { 4 } else { 3 };
+        assert!(rt; lives(&rt, rt.alloc(), k, true) == Some(left));
+    }
 }
 
 /// Whether the window ends as it should where at most so many threads are started, and nobody wakes without a bell.
@@ -126,15 +154,47 @@ fn fresh_hub(alloc: Global, scheduler: Scheduler) -> Option<Hub<CalmDevice>>
 fn open_first(alloc: Global, script: &Script, scheduler: Scheduler) -> Option<Hub<CalmDevice>>
     requires sound { IsSound (plain_script script.now) }
 {
-    let window = script.windows.get(0)?;
-    let roster = roster(alloc, script, 0).ok()?;
     let home = Home::build(alloc, &mut CalmBench, script).ok()?;
+    let (hub, _rounds) = open_window(alloc, script, 0, home, scheduler)?;
+    Some(hub)
+}
+
+/// Opens the script's window of this number, from 0, under this scheduler, on a home that has opened none. Answers the
+/// hub, and how often each device may be probed.
+fn open_window<D: Device>(
+    alloc: Global,
+    script: &Script,
+    number: u32,
+    home: Home<D>,
+    scheduler: Scheduler,
+) -> Option<(Hub<D>, u32)>
+    requires sound { IsSound (plain_script script.now) }
+    requires kinds { home.kinds ≡ kinds_of script.now }
+    requires new { home.opened ≡ 0 }
+    ensures kinds { IfSome result (λ hub. hub.0.setting.kinds ≡ kinds_of script.now) }
+    ensures fresh { IfSome result (λ hub. configuration_of hub.0 ≡ opened hub.0.setting hub.1) }
+    ensures rounds { IfSome result (λ hub. hub.0.rounds ≡ hub.1) }
+{
+    let Some(window) = script.windows.get(number as u64) else {
+        drop(home);
+        return None;
+    };
+    let Ok(roster) = roster(alloc, script, number) else {
+        drop(home);
+        return None;
+    };
     home.kept();
     let mode = Mode {
         model: Visibility::Eventual,
         scheduler,
     };
-    home.open_window(alloc, roster, mode, window.probes).ok()
+    match home.open_window(alloc, roster, mode, window.probes) {
+        Ok(hub) => Some((hub, window.probes)),
+        Err((home, NoMemory)) => {
+            drop(home);
+            None
+        }
+    }
 }
 
 /// Whether every run committed, the order has all of them, the lamp stands as the last of them leaves it, and each
@@ -164,5 +224,132 @@ fn last_of(order: &List<Item>) -> Option<u32> {
     match order.as_slice().last() {
         Some(Item::Ran(r)) => Some(r.0),
         _ => None,
+    }
+}
+
+/// How often a hub begins until it finds both windows kept, and the lamp off again. At each kill the disk has the writes
+/// since its last sync, or has lost them.
+fn lives<R: Threads + Wait + Sync>(
+    rt: &R,
+    alloc: Global,
+    fails_from: u64,
+    writes: bool,
+) -> Option<u32> {
+    let empty = Bytes::of(alloc, &[]).ok()?;
+    let disk = MemoryDisk::new(alloc, empty, ROOM, Some(fails_from)).ok()?;
+    match read_script(alloc, EVENING.as_bytes()) {
+        Ok(script) => lives_on(rt, alloc, &script, disk, writes),
+        Err(_) => None,
+    }
+}
+
+fn lives_on<R: Threads + Wait + Sync>(
+    rt: &R,
+    alloc: Global,
+    script: &Script,
+    disk: MemoryDisk,
+    writes: bool,
+) -> Option<u32>
+    requires sound { IsSound (plain_script script.now) }
+{
+    let mut disk = disk;
+    for begun in 1..6 {
+        let (left, over) = live(rt, alloc, script, disk);
+        if over {
+            return Some(begun);
+        }
+        disk = left.crashed(writes);
+    }
+    None
+}
+
+/// Begins behind what the disk keeps, and works the next window. Answers whether there is none, and the lamp is off.
+fn live<R: Threads + Wait + Sync>(
+    rt: &R,
+    alloc: Global,
+    script: &Script,
+    disk: MemoryDisk,
+) -> (MemoryDisk, bool)
+    requires sound { IsSound (plain_script script.now) }
+{
+    let Ok(kinds) = script_kinds(alloc, script) else {
+        return (disk, false);
+    };
+    let most = script.windows.len() as u32;
+    match Journal::open(alloc, disk, &kinds, most) {
+        Ok(journal) => {
+            if journal.kept() == most {
+                let off = is_off(&journal);
+                (journal.into_disk(), off)
+            } else {
+                (work_next(rt, alloc, &mut CalmBench, script, journal), false)
+            }
+        }
+        Err((disk, _fault)) => (disk, false),
+    }
+}
+
+/// Whether the last state that is kept has the first device up at 0.
+fn is_off<Q: Disk>(journal: &Journal<Q>) -> bool {
+    match journal.last() {
+        Some(world) => world.devices.get(0) == Some(&Stand { value: 0, up: true }),
+        None => false,
+    }
+}
+
+/// Works the window behind those that are kept, and keeps its state. Answers the disk, also where that fails.
+fn work_next<R: Threads + Wait + Sync, B: Bench, Q: Disk>(
+    rt: &R,
+    alloc: Global,
+    bench: &mut B,
+    script: &Script,
+    journal: Journal<Q>,
+) -> Q
+where
+    B::Dev: Send,
+    requires sound { IsSound (plain_script script.now) }
+    requires kinds { journal.kinds ≡ kinds_of script.now }
+    requires next { journal.kept < journal.most }
+{
+    let Ok(home) = home_of(alloc, bench, script, &journal) else {
+        return journal.into_disk();
+    };
+    let number = journal.kept();
+    let Some((hub, rounds)) = open_window(alloc, script, number, home, Scheduler::Fcfs) else {
+        return journal.into_disk();
+    };
+    match run_kept_window(rt, alloc, hub, rounds, &SetClock::new(7), journal) {
+        Ok((home, closed, journal)) => {
+            drop(home);
+            drop(closed);
+            journal.into_disk()
+        }
+        Err(KeepFault::Failed(home, closed, disk)) => {
+            drop(home);
+            drop(closed);
+            disk
+        }
+        Err(KeepFault::NoMemory(hub, journal)) => {
+            drop(hub);
+            journal.into_disk()
+        }
+    }
+}
+
+/// The home of the script: as the last state that is kept has it, or new where none is.
+fn home_of<B: Bench, Q: Disk>(
+    alloc: Global,
+    bench: &mut B,
+    script: &Script,
+    journal: &Journal<Q>,
+) -> Result<Home<B::Dev>, NoMemory>
+    requires sound { IsSound (plain_script script.now) }
+    requires kinds { journal.now.kinds ≡ kinds_of script.now }
+    ensures kinds { IfOk result (λ home. home.kinds ≡ kinds_of script.now) }
+    ensures new { IfOk result (λ home. home.opened ≡ 0) }
+{
+    match journal.last() {
+        Some(world) => Home::resume(alloc, bench, script, world),
+        None => Home::build(alloc, bench, script),
     }
 }

@@ -2,6 +2,7 @@
 use Rattle.command_rules.specs.Rosters.{Run, commands_of, plain_run, run_no}
 use Rattle.command_rules.specs.declared.rosters.RosterRun.{RosterRun}
 use Rattle.home_types.specs.declared.commands.Command.{Command}
+use Rattle.home_types.specs.declared.numbers.RunNo.{RunNo}
 use Rattle.room_hubs.specs.Numbers.{IsOwnRun, home_run, plain_room}
 use Rattle.room_hubs.specs.Splits.{cross_at, cross_fault, crosses, crosses_rooms}
 use Rattle.room_hubs.specs.declared.rosters.RoomRoster.{RoomRoster}
@@ -59,3 +60,16 @@ fault_is room_of runs place b at is =
 
 pub no_fault : (room_of : List ℕ) (runs : List Run) → None ≡ position (crosses room_of runs) runs → None ≡ cross_fault room_of runs
 no_fault room_of runs at = ap (option_map (cross_at room_of runs)) at
+
+within_of : (i n : ℕ) → true ≡ nat_lt i n → i < n
+within_of i n is = grind (arith, common_steps)
+
+-- the home's number of a run that is found in its place
+pub told_at : (runs seen : List RunNo) (r : ℕ) (n : RunNo) → seen ≡ runs → 1 ≤ r → true ≡ nat_lt (r - 1) (length seen) → n ≡ get_or seen (r - 1) n
+    → n ≡ run_no (home_run (record { number = 0; devices = []; runs = map (λ (x : RunNo). x.0) runs; own_runs = [] }) r)
+told_at runs seen zero n same low there at = absurd (omega (arith, low))
+told_at runs seen (suc i) n same low there at =
+    let e : suc i - 1 ≡ i = omega arith in
+    let within : i < length runs = within_of i (length runs) (there ∙ ap (λ j. nat_lt j (length seen)) e ∙ ap (λ l. nat_lt i (length l)) same) in
+    let found : n ≡ get_or runs i n = at ∙ ap (λ j. get_or seen j n) e ∙ ap (λ l. get_or l i n) same in
+    found ∙ ap run_no (ap (λ (x : RunNo). x.0) (refl) ∙ sym (get_or-map (λ (x : RunNo). x.0) runs i n 0 within))

@@ -6,3 +6,8 @@ pub mod Names
 pub mod Parts
 pub mod Sizes
 pub mod Steps
+pub mod RoomScripts
+pub mod SoundRuns
+pub mod JoinedHomes
+pub mod OwnSound
+pub mod OwnRuns

@@ -1,7 +1,7 @@
 //! The numbers of a room's devices and runs: its own, and those of the home.
 ghost use Rattle.command_rules.specs.Rosters.{device_no, run_no};
 ghost use Rattle.home_types.specs.Limits.{most_devices, most_runs};
-ghost use Rattle.room_hubs.specs.Numbers.{IsOwnDevice, IsOwnItem, IsOwnRun, device_numbers, home_device, home_item, home_run, own_command, own_device, own_run_no, plain_room, run_numbers};
+ghost use Rattle.room_hubs.specs.Numbers.{IsOwnDevice, IsOwnItem, IsOwnRun, device_numbers, home_device, home_item, home_run, own_command, own_device, own_run_no, place_in, plain_room, run_numbers};
 ghost use Rattle.std.specs.List.{position};
 ghost use Rattle.std.specs.Prelude.{◌≡◌, ◌<◌, ◌≤◌, ◌==◌, IfSome, length};
 
@@ -50,6 +50,16 @@ fn place_of_run(runs: &[RunNo], run: RunNo) -> Option<usize>
     ensures within { IfSome result (λ place. place < length runs.now) }
 {
     runs.iter().position(|known| known.0 == run.0)
+}
+
+/// The place of a device among these: how many they are, where it is none of them.
+pub(crate) fn place_in(devices: &[DeviceNo], device: DeviceNo) -> usize
+    ensures { result ≡ place_in (device_numbers devices.now) device.0 }
+{
+    match place_of_device(devices, device) {
+        Some(place) => place,
+        None => devices.len(),
+    }
 }
 
 /// A device of the home in the own numbers of a room with these devices: how many they are, where it is none of them.

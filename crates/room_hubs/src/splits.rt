@@ -28,7 +28,7 @@ pub enum SplitFault {
 }
 
 /// The room of a device.
-fn device_room(room_of: &[u32], device: DeviceNo) -> u32
+pub(crate) fn device_room(room_of: &[u32], device: DeviceNo) -> u32
     ensures { result ≡ device_room room_of.now device.0 }
 {
     match room_of.get(device.0 as usize) {
@@ -117,7 +117,11 @@ fn cross_fault(room_of: &[u32], runs: &[RosterRun]) -> Option<SplitFault>
 }
 
 /// The home's numbers of the devices of a room, in ascending order.
-fn devices_in(alloc: Global, room_of: &[u32], room: u32) -> Result<List<DeviceNo>, NoMemory>
+pub(crate) fn devices_in(
+    alloc: Global,
+    room_of: &[u32],
+    room: u32,
+) -> Result<List<DeviceNo>, NoMemory>
     requires { length room_of.now ≤ most_devices }
     ensures { IfOk result (λ devices. device_numbers devices.items ≡ devices_in room_of.now room) }
 {

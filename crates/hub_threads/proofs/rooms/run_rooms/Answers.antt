@@ -1,0 +1,19 @@
+use Rattle.home_types.specs.declared.memory.NoMemory.{NoMemory}
+use Rattle.hub_threads.proofs.RoomAnswers.{rooms_worked}
+use Rattle.hub_threads.proofs.rooms.run_rooms.Goals as goal
+use Rattle.hub_threads.specs.WorkedRooms.{IsRoomWorked}
+use Rattle.hub_threads.specs.declared.rooms.RoomDone.{RoomDone}
+use Rattle.hub_threads.specs.declared.rooms.RoomHub.{RoomHub}
+use Rattle.std.proofs.Common.{List, Result, ap, get_or, length, subst, ℕ, ◌<◌, ◌∙◌}
+use Rattle.std.specs.Prelude.{IfOk}
+
+pub returns-in-Ok-run_all : goal.returns-in-Ok-run_all
+returns-in-Ok-run_all g c =
+    let D = g.D.Device in
+    let earliest = g.C.Clock.earliest c.args.clock.now in
+    let latest = g.C.Clock.latest c.args.clock.now in
+    let answers = c.in-Ok-run_all.answers.items in
+    rooms_worked D.tag D.plan D.turns D.probes D.faults earliest latest c.args.hubs.items answers c.gather.result c.gather.ensures
+    (c.in-Ok-run_all.ensures.len ∙ ap (λ l. length l) c.in-Ok.ensures)
+    (subst (λ js. (i : ℕ) (d : _) (e : _) → i < length js → IfOk (get_or answers i d) (λ done. IsRoomWorked D.tag D.plan D.turns D.probes D.faults earliest latest (get_or js i e) done))
+    c.in-Ok.ensures c.in-Ok-run_all.ensures.each)

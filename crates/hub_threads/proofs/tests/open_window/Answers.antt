@@ -1,0 +1,20 @@
+use Rattle.command_rules.specs.Rosters.{runs_of}
+use Rattle.hub_core.proofs.SoundWindows.{may_open}
+use Rattle.hub_threads.proofs.tests.open_window.Goals as goal
+use Rattle.routine_reader.specs.Rosters.{script_runs}
+use Rattle.std.proofs.Common.{arith, refl, rules, ◌≡◌}
+use Rattle.std.specs.Prelude.{Some, slice_get, ◌≤◌}
+
+pub open_window-requires : goal.open_window-requires
+open_window-requires g c =
+    let script = c.args.script.now in
+    let window = c.in-Some.window.now in
+    let home = c.args.home in
+    let at : slice_get script.windows.items c.args.number ≡ Some window = search rules in
+    let runs : runs_of c.in-Ok.roster ≡ script_runs script c.args.number = search rules in
+    let new = c.requires.new in
+    let few : home.opened ≤ 288 = omega (arith, new) in
+    record {
+      may = may_open _ _ _ _ _ script _ c.args.number window home c.in-Ok.roster
+          (record { sound = c.requires.sound; goes = refl; at = at; runs = runs; kept = c.kept.ensures; kinds = c.requires.kinds; opened = few });
+    }
