@@ -89,6 +89,7 @@ words replay --
 words replay --help
 words check --trace
 words trial 007
+words keep --mod ev
 words "$(printf 'replay\377')"
 words replay "$(printf '\377')"
 
@@ -97,6 +98,8 @@ ends 7 'check: window 0 head'
 words run twice
 words watch twice
 words watch --progress
+words keep twice
+words keep --kept
 words run --model wv --model wv
 
 # zeros COUNT WORD..: calls the program with these words on so many bytes of zero
@@ -228,6 +231,35 @@ if env script --version >/dev/null 2>&1; then
     fi
 fi
 
+# keeps RECORD KEPT: the day is kept in a folder with this file, and ends with this record and status 0
+keeps() {
+    call="keep with $2 kept"
+    printf '%s' "$input" | (cd "$room/kept" && ../hub_main keep) >"$room/out" 2>"$room/err"
+    got=$?
+    if [ "$got" != 0 ] || [ -s "$room/err" ] || ! cmp -s "$1" "$room/out"; then
+        echo "edge: $call: status $got and '$(cat "$room/err")'" >&2
+        failed=1
+    fi
+}
+
+# a day is kept in the file of its folder, and goes on behind its window; a file whose slot is of another window is
+# damaged; and where a folder has the file's name the disk fails
+mkdir "$room/kept"
+sed 's/^model .*/&\nkept 0/' stdout >"$room/record"
+keeps "$room/record" 0
+printf '%s\n' 'safehome day' 'model ev fcfs' 'kept 1' 'total windows 0 runs 0 committed 0 aborted 0' >"$room/record"
+keeps "$room/record" 1
+printf '\001\002\000\000\000\001\000\001\000\000\000\001\000' >"$room/kept/home.journal"
+call='keep in a damaged file'
+printf '%s' "$input" | (cd "$room/kept" && ../hub_main keep) >"$room/out" 2>"$room/err"
+got=$?
+ends 10 'damaged 1'
+rm "$room/kept/home.journal" && mkdir "$room/kept/home.journal"
+call='keep in a folder'
+printf '%s' "$input" | (cd "$room/kept" && ../hub_main keep) >"$room/out" 2>"$room/err"
+got=$?
+ends 9 disk
+
 # moments are those of a clock that goes: in the last of sixty windows, behind some hundred threads, it is later than in
 # the first
 runs='{"routine":"light"}'
@@ -278,6 +310,25 @@ plays "$room/agrees" check
 script "$(block '{' | sed 's/"on": "lamp"/"on": "lmap"/; s/"at": "[^"]*"/"at": "tonight"/')" \
     'script: unknown name command 1.1'
 script '{' 'script: not json'
+
+
+# the second example of a kept day: its file is cut behind the first window, as a kill in the second one leaves it
+mkdir "$room/cut"
+cp ../../examples/valve.json "$room/cut/day.json"
+for kept_before in 0 1; do
+    call="keep of examples/valve.json behind $kept_before"
+    (cd "$room/cut" && exec ../hub_main keep) <"$room/cut/day.json" >"$room/out" 2>"$room/err"
+    got=$?
+    if [ "$kept_before" = 0 ]; then
+        head -c 18 "$room/cut/home.journal" >"$room/cut/short" && mv "$room/cut/short" "$room/cut/home.journal"
+    fi
+done
+awk '/^    kept 1/ { part++ } part == 2 { if (!/^    /) exit; print substr($0, 5) }' ../../docs/FORMATS.md >"$room/tail"
+tail -n +3 "$room/out" >"$room/came"
+if [ "$got" != 0 ] || [ -s "$room/err" ] || ! cmp -s "$room/tail" "$room/came"; then
+    echo "edge: $call: status $got and '$(cat "$room/err")'" >&2
+    failed=1
+fi
 
 plays "$room/trial" trial 2
 exit "$failed"

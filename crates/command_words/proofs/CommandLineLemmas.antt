@@ -1,7 +1,7 @@
 -- The command line by its command.
 use Rattle.command_words.specs.CommandLines.{command_line_of, command_of}
 use Rattle.command_words.specs.OptionGrammar.{options_by_words}
-use Rattle.command_words.specs.declared.command_lines.CommandLine.TheVariants.{Replay, Run, Watch}
+use Rattle.command_words.specs.declared.command_lines.CommandLine.TheVariants.{Keep, Replay, Run, Watch}
 use Rattle.command_words.specs.declared.command_lines.Options.{Options}
 use Rattle.std.proofs.Common.{List, Option, [], ap, ap₂, arith, codes, drop, length, map, option_map, refl, sym, take, ℕ, ◌-◌, ◌≡◌, ◌≤◌, ◌∙◌, ◌∷◌}
 use Rattle.std.proofs.lemmas.List.{take_rest}
@@ -27,6 +27,9 @@ module _ {X : Type 0} (bytes : X → List ℕ) where
   watch_read : (words : List (List ℕ)) → command_of (codes "watch") words ≡ option_map Watch (options_by_words words)
   watch_read words = refl
 
+  keep_read : (words : List (List ℕ)) → command_of (codes "keep") words ≡ option_map Keep (options_by_words words)
+  keep_read words = refl
+
   module _ (words : List X) (word : X) (said : List ℕ) (some : 1 ≤ length words) (is : word ≡ slice_index_or words 0 word)
       (told : said ≡ bytes word) (options : Option Options) (given : options_by_words (Rest words) ≡ options) where
     pub run_means : said ≡ codes "run" → command_line_of (map bytes words) ≡ option_map Run options
@@ -43,3 +46,8 @@ module _ {X : Type 0} (bytes : X → List ℕ) where
     watch_means watch =
         command_split words word some is ∙ ap (λ w. command_of w (Rest words)) (sym told ∙ watch)
         ∙ watch_read (Rest words) ∙ ap (option_map Watch) given
+
+    pub keep_means : said ≡ codes "keep" → command_line_of (map bytes words) ≡ option_map Keep options
+    keep_means keep =
+        command_split words word some is ∙ ap (λ w. command_of w (Rest words)) (sym told ∙ keep)
+        ∙ keep_read (Rest words) ∙ ap (option_map Keep) given

@@ -3,7 +3,7 @@ use Rattle.command_words.specs.CommandLines.{check_of, command_line_of, trial_of
 use Rattle.command_words.specs.OptionGrammar.{Given, Valued, nothing_given, options_after, options_by_words, options_given, with_word}
 use Rattle.command_words.specs.OptionWords.{goes_with, mode_of, model_of, paired, scheduler_of}
 use Rattle.command_words.specs.TrialNumbers.{number_of}
-use Rattle.command_words.specs.declared.command_lines.CommandLine.TheVariants.{Check, Replay, Run, Trial, Watch}
+use Rattle.command_words.specs.declared.command_lines.CommandLine.TheVariants.{Check, Keep, Replay, Run, Trial, Watch}
 use Rattle.command_words.specs.declared.command_lines.CommandLine.{CommandLine}
 use Rattle.command_words.specs.declared.command_lines.Options.{Options}
 use Rattle.home_types.specs.declared.modes.Mode.{Mode}
@@ -18,6 +18,7 @@ abbrev pub IsPaired : CommandLine → Type 0
 IsPaired (Run options) = goes_with options.mode.scheduler options.mode.model ≡ true
 IsPaired (Replay options) = goes_with options.mode.scheduler options.mode.model ≡ true
 IsPaired (Watch options) = goes_with options.mode.scheduler options.mode.model ≡ true
+IsPaired (Keep options) = goes_with options.mode.scheduler options.mode.model ≡ true
 IsPaired Check = ⊤
 IsPaired (Trial n) = ⊤
 
@@ -77,15 +78,16 @@ trial_goes (word ∷ []) line is = by_number (number_of word) is
     by_number (Some n) found = let same : Trial n ≡ line = cc in subst IsPaired same tt
 trial_goes (word ∷ next ∷ words) line is = absurd (cc)
 
-command_goes : (run replay watch check trial : Bool) (words : List (List ℕ)) (line : CommandLine)
-    → (if run then option_map Run (options_by_words words) else (if replay then option_map Replay (options_by_words words) else (if watch then option_map Watch (options_by_words words) else (if check then check_of words else (if trial then trial_of words else None))))) ≡ Some line → IsPaired line
-command_goes true replay watch check trial words line is = read_goes Run words line (λ options goes. goes) is
-command_goes false true watch check trial words line is = read_goes Replay words line (λ options goes. goes) is
-command_goes false false true check trial words line is = read_goes Watch words line (λ options goes. goes) is
-command_goes false false false true trial words line is = check_goes words line is
-command_goes false false false false true words line is = trial_goes words line is
-command_goes false false false false false words line is = absurd (cc)
+command_goes : (run replay watch keep check trial : Bool) (words : List (List ℕ)) (line : CommandLine)
+    → (if run then option_map Run (options_by_words words) else (if replay then option_map Replay (options_by_words words) else (if watch then option_map Watch (options_by_words words) else (if keep then option_map Keep (options_by_words words) else (if check then check_of words else (if trial then trial_of words else None)))))) ≡ Some line → IsPaired line
+command_goes true replay watch keep check trial words line is = read_goes Run words line (λ options goes. goes) is
+command_goes false true watch keep check trial words line is = read_goes Replay words line (λ options goes. goes) is
+command_goes false false true keep check trial words line is = read_goes Watch words line (λ options goes. goes) is
+command_goes false false false true check trial words line is = read_goes Keep words line (λ options goes. goes) is
+command_goes false false false false true trial words line is = check_goes words line is
+command_goes false false false false false true words line is = trial_goes words line is
+command_goes false false false false false false words line is = absurd (cc)
 
 pub line_is_paired : (words : List (List ℕ)) (line : CommandLine) → command_line_of words ≡ Some line → IsPaired line
 line_is_paired [] line is = absurd (cc)
-line_is_paired (command ∷ words) line is = command_goes (bytes_eq command (codes "run")) (bytes_eq command (codes "replay")) (bytes_eq command (codes "watch")) (bytes_eq command (codes "check")) (bytes_eq command (codes "trial")) words line is
+line_is_paired (command ∷ words) line is = command_goes (bytes_eq command (codes "run")) (bytes_eq command (codes "replay")) (bytes_eq command (codes "watch")) (bytes_eq command (codes "keep")) (bytes_eq command (codes "check")) (bytes_eq command (codes "trial")) words line is

@@ -10,6 +10,8 @@ pub enum CommandLine {
     Replay(Options),
     /// Runs the day of a script with threads, and tells how far it is while it runs.
     Watch(Options),
+    /// Replays the day of a script step by step, and keeps the state after each window in a journal.
+    Keep(Options),
     /// Checks a record against its script.
     Check,
     /// Replays and checks a day of this many windows, from 1 to `limits::WINDOWS`, that a generator makes.
@@ -29,6 +31,6 @@ pub struct Options {
 pub enum WordFault {
     /// The words are not of the format.
     Words,
-    /// Want of memory. It comes with `run`, `replay` and `watch` alone.
+    /// Want of memory. It comes with `run`, `replay`, `watch` and `keep` alone.
     NoMemory,
 }

@@ -12,7 +12,7 @@ use clap::{Arg, ArgAction, ArgMatches, Command};
 use home_types::{Mode, Scheduler, Visibility};
 use std::alloc::Global;
 
-/// Reads the options of `run`, `replay` and `watch`: the words after the command.
+/// Reads the options of `run`, `replay`, `watch` and `keep`: the words after the command.
 ///
 /// Answers `Words` where they are not of the format, and `NoMemory` where memory is wanted.
 pub fn read_options(alloc: Global, words: &[String]) -> Result<Options, WordFault>

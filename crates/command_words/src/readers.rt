@@ -9,8 +9,8 @@ use std::alloc::Global;
 
 /// Reads the words of a command line, which come without the program's name.
 ///
-/// Answers `Words` where they are not of the format. `NoMemory` comes with `run`, `replay` and `watch` alone,
-/// whose options take memory.
+/// Answers `Words` where they are not of the format. `NoMemory` comes with `run`, `replay`, `watch` and `keep`
+/// alone, whose options take memory.
 pub fn read_words(alloc: Global, words: &[String]) -> Result<CommandLine, WordFault>
     ensures meaning { IfOk result (λ line. command_line_of (map string_bytes words.now) ≡ Some line) }
     ensures memory { result ≡ Err WordFault.NoMemory → has_options (map string_bytes words.now) ≡ true }
@@ -23,6 +23,7 @@ pub fn read_words(alloc: Global, words: &[String]) -> Result<CommandLine, WordFa
         "run" => Ok(CommandLine::Run(read_options(alloc, rest)?)),
         "replay" => Ok(CommandLine::Replay(read_options(alloc, rest)?)),
         "watch" => Ok(CommandLine::Watch(read_options(alloc, rest)?)),
+        "keep" => Ok(CommandLine::Keep(read_options(alloc, rest)?)),
         "check" => read_check(rest).ok_or(WordFault::Words),
         "trial" => read_trial(rest).ok_or(WordFault::Words),
         _ => Err(WordFault::Words),

@@ -74,10 +74,22 @@ counts_line windows committed aborted =
 unfoldable pub total_text : List WindowRecord → List ℕ
 total_text windows = counts_line (length windows) (commit_count windows) (abort_count windows)
 
+-- the texts of these windows of the script, in order, the first of them with this number
+unfoldable pub window_texts_from : ℕ → Script → List WindowRecord → Mode → Bool → List ℕ
+window_texts_from before script windows mode trace = flat_map (λ (k, closed). window_text script k closed mode trace) (enumerate_from before windows)
+
 -- the texts of the windows, in order
-unfoldable pub window_texts : Script → List WindowRecord → Mode → Bool → List ℕ
-window_texts script windows mode trace = flat_map (λ (k, closed). window_text script k closed mode trace) (enumerate_from 0 windows)
+abbrev pub window_texts : Script → List WindowRecord → Mode → Bool → List ℕ
+window_texts script windows mode trace = window_texts_from 0 script windows mode trace
+
+-- the line that tells how many windows were kept before
+abbrev pub kept_line : ℕ → List ℕ
+kept_line kept = codes "kept " ++ decimal kept ++ codes "\n"
+
+-- the text of a day with these lines below the head, whose first window has this number in the script
+unfoldable pub day_text_from : List ℕ → ℕ → Script → List WindowRecord → Mode → Bool → List ℕ
+day_text_from above before script windows mode trace = head_text mode ++ (above ++ window_texts_from before script windows mode trace) ++ total_text windows
 
 -- the text of a day
-unfoldable pub day_text : Script → List WindowRecord → Mode → Bool → List ℕ
-day_text script windows mode trace = head_text mode ++ window_texts script windows mode trace ++ total_text windows
+abbrev pub day_text : Script → List WindowRecord → Mode → Bool → List ℕ
+day_text script windows mode trace = day_text_from [] 0 script windows mode trace

@@ -22,6 +22,19 @@ pub fn head_text(alloc: Global, mode: Mode) -> Result<Bytes, NoMemory>
     }
 }
 
+/// Writes the head of a day that goes on behind so many windows: that of a day, and a line with their number.
+#[tactic(auto, unfolding(crate::specs::Days::head_text))]
+pub fn kept_head_text(alloc: Global, mode: Mode, kept: u32) -> Result<Bytes, NoMemory>
+    ensures { IfOk result (λ b. b ≡ said.head_text mode ++ said.kept_line kept) }
+{
+    let model = model_word(mode.model);
+    let scheduler = scheduler_word(mode.scheduler);
+    match format!(in alloc; "safehome day\nmodel {model} {scheduler}\nkept {kept}\n") {
+        Ok(text) => Ok(Bytes::from_text(text)),
+        Err(_) => Err(NoMemory),
+    }
+}
+
 fn model_word(model: Visibility) -> &'static str
     ensures { result.now ≡ said.model_word model }
 {

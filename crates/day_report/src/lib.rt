@@ -9,5 +9,5 @@ mod run_entries;
 mod trials;
 mod words;
 
-pub use days::{Ends, ends_of, head_text, total_text, window_text};
+pub use days::{Ends, ends_of, head_text, kept_head_text, total_text, window_text};
 pub use trials::trial_text;

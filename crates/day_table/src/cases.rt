@@ -37,6 +37,8 @@ pub struct Before {
     pub kept: Vec<u8>,
     /// What the sink of the last call holds.
     pub record: Vec<u8>,
+    /// What the crash behind the last call that was to keep a day left of its disk.
+    pub file: Vec<u8>,
 }
 
 impl Before {
@@ -44,11 +46,25 @@ impl Before {
         Before {
             kept: Vec::new(alloc),
             record: Vec::new(alloc),
+            file: Vec::new(alloc),
         }
     }
 }
 
-/// A call: its words, its input, and how its source and its sink behave.
+/// From which call on a disk fails, 0 for none, and how many bytes it holds at most.
+#[derive(Clone, Copy, Debug, PartialEq, Eq)]
+pub struct Failing {
+    pub from: u64,
+    pub room: u64,
+}
+
+/// A disk that holds the greatest file of a home with a few devices, and fails in no call.
+const WHOLE: Failing = Failing {
+    from: 0,
+    room: ROOM,
+};
+
+/// A call: its words, its input, and how its source, its sink and its disk behave.
 #[derive(Drop)]
 pub struct Case {
     pub name: String,
@@ -57,6 +73,11 @@ pub struct Case {
     pub source: Behaviour,
     pub sink: Behaviour,
     pub room: u64,
+    pub disk: Failing,
+    /// What the disk holds before the call.
+    pub file: Vec<u8>,
+    /// Whether the crash behind the call loses what was written since the last sync.
+    pub loses: bool,
 }
 
 impl Case {
@@ -68,6 +89,9 @@ impl Case {
             source: CALM,
             sink: CALM,
             room: ROOM,
+            disk: WHOLE,
+            file: Vec::new(alloc),
+            loses: false,
         }
     }
 
@@ -81,6 +105,10 @@ impl Case {
             "sink" => self.sink = behaviour_of(rest)?,
             "room" => self.room = number_of(rest)?,
             "keep" => before.kept = copy_of(alloc, self.input.as_slice())?,
+            "disk" => self.disk = failing_of(rest)?,
+            "loses" => self.loses = true,
+            "file" => self.add_file(rest)?,
+            "found" => self.file.extend_from_slice(before.file.as_slice())?,
             _ => self.add_input(before, verb, rest)?,
         }
         Ok(())
@@ -116,6 +144,24 @@ impl Case {
         self.add_byte(b'\n')
     }
 
+    /// Adds these bytes to the file, whose numbers stand between blanks.
+    fn add_file(&mut self, rest: &str) -> Result<(), Unread> {
+        for byte in rest.split(' ') {
+            self.add_file_byte(byte.parse().map_err(|_| Unread::Line)?)?;
+        }
+        Ok(())
+    }
+
+    fn add_file_byte(&mut self, byte: u8) -> Result<(), AllocError> {
+        self.file.push(byte)?;
+        Ok(())
+    }
+
+    /// Whether the first word is this command.
+    pub fn asks_for(&self, command: &str) -> bool {
+        matches!(self.words.first(), Some(word) if word.as_str() == command)
+    }
+
     /// Adds the first bytes, so many.
     fn add_first(&mut self, bytes: &[u8], count: u64) -> Result<(), Unread> {
         let count = count.min(bytes.len() as u64) as usize;
@@ -145,6 +191,15 @@ fn behaviour_of(text: &str) -> Result<Behaviour, Unread> {
     Ok(Behaviour {
         fails: number_of(fails)?,
         most: number_of(most)?,
+    })
+}
+
+/// Reads the call from which on a disk fails and the bytes that it holds.
+fn failing_of(text: &str) -> Result<Failing, Unread> {
+    let (from, room) = text.split_once(" ").ok_or(Unread::Line)?;
+    Ok(Failing {
+        from: number_of(from)?,
+        room: number_of(room)?,
     })
 }
 

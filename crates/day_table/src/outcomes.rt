@@ -2,14 +2,16 @@
 use crate::cases::{Before, Behaviour, Case, copy_of};
 use day_clock::{BytesSink, BytesSource, Source};
 use device_states::{Device, SimBench};
+use home_journal::{Disk, MemoryDisk};
 use home_types::{Bytes, List, NoMemory};
-use hub_commands::{Finish, still_command};
+use hub_commands::{Finish, keep_command, still_command};
 use std::alloc::{AllocError, Global};
 use std::fmt::Write as _;
 use std::io::{self, Write};
 
-/// Makes the call of a case, and writes its end: the status, the fault's text, how many bytes of the input were left, how
-/// many windows and devices came back, and what the sink holds, which is kept for the next case.
+/// Makes the call of a case, and writes its end: the status, the fault's text, how many windows and devices came back, of a
+/// day that was to be kept what a crash leaves of the disk, how many bytes of the input were left, and what the sink holds.
+/// Disk and sink are kept for the next case.
 pub fn write_outcome<W: Write>(
     alloc: Global,
     case: &Case,
@@ -33,7 +35,7 @@ fn write_call<W: Write>(
     source: &mut BytesSource,
     sink: &mut BytesSink,
 ) -> io::Result<()> {
-    let text = end_text(alloc, case, source, sink)?;
+    let text = end_text(alloc, case, before, source, sink)?;
     before.record = copy_of(alloc, sink.held())?;
     let left = left_of(source);
     let held = sink.held();
@@ -51,13 +53,84 @@ fn write_all_of<W: Write>(out: &mut W, text: &str, held: &[u8], left: u64) -> io
 fn end_text(
     alloc: Global,
     case: &Case,
+    before: &mut Before,
     source: &mut BytesSource,
     sink: &mut BytesSink,
 ) -> Result<String, AllocError> {
     let mut text = format!(in alloc; "case {}\n", case.name)?;
-    let told = push_call(alloc, case, source, sink, &mut text);
+    let told = if case.asks_for("keep") {
+        push_kept(alloc, case, before, source, sink, &mut text)
+    } else {
+        push_call(alloc, case, source, sink, &mut text)
+    };
     told?;
     Ok(text)
+}
+
+/// Makes a call that is to keep a day. Behind it the disk crashes.
+fn push_kept(
+    alloc: Global,
+    case: &Case,
+    before: &mut Before,
+    source: &mut BytesSource,
+    sink: &mut BytesSink,
+    text: &mut String,
+) -> Result<(), AllocError> {
+    let Ok(disk) = disk_of(alloc, case) else {
+        return Err(AllocError);
+    };
+    let (finish, disk) = keep_command(
+        alloc,
+        case.words.as_slice(),
+        source,
+        sink,
+        &mut SimBench,
+        disk,
+    );
+    let told = push_end(text, &finish);
+    drop(finish);
+    before.file = left_on(alloc, disk.crashed(!case.loses))?;
+    told?;
+    push_file(text, before.file.as_slice())
+}
+
+/// The disk of a case.
+fn disk_of(alloc: Global, case: &Case) -> Result<MemoryDisk, NoMemory> {
+    let bytes = Bytes::of(alloc, case.file.as_slice())?;
+    let from = if case.disk.from == 0 {
+        None
+    } else {
+        Some(case.disk.from)
+    };
+    MemoryDisk::new(alloc, bytes, case.disk.room, from)
+}
+
+/// What stands on a disk.
+fn left_on(alloc: Global, mut disk: MemoryDisk) -> Result<Vec<u8>, AllocError> {
+    let file = whole_file(alloc, &mut disk);
+    drop(disk);
+    file
+}
+
+/// What a disk gives, up to the first call that fails.
+fn whole_file(alloc: Global, disk: &mut MemoryDisk) -> Result<Vec<u8>, AllocError> {
+    let mut piece = [0u8; 4096];
+    let mut file = Vec::new(alloc);
+    for _ in 0..u64::MAX {
+        match disk.read(file.len() as u64, &mut piece) {
+            Ok(0) | Err(_) => break,
+            Ok(count) => file.extend_from_slice(&piece[..count])?,
+        }
+    }
+    Ok(file)
+}
+
+fn push_file(text: &mut String, file: &[u8]) -> Result<(), AllocError> {
+    text.push_str("disk")?;
+    for byte in file {
+        write!(text, " {byte}")?;
+    }
+    text.push_str("\n")
 }
 
 fn push_call(

@@ -2,14 +2,14 @@
 use Rattle.command_words.proofs.PairedModes.{line_is_paired}
 use Rattle.command_words.specs.CommandLines.{command_line_of}
 use Rattle.command_words.specs.OptionWords.{goes_with}
-use Rattle.command_words.specs.declared.command_lines.CommandLine.TheVariants.{Check, Replay, Run, Trial, Watch}
+use Rattle.command_words.specs.declared.command_lines.CommandLine.TheVariants.{Check, Keep, Replay, Run, Trial, Watch}
 use Rattle.command_words.specs.declared.command_lines.CommandLine.{CommandLine}
 use Rattle.command_words.specs.declared.command_lines.Options.{Options}
 use Rattle.home_types.specs.declared.modes.Scheduler.TheVariants.{Fcfs, JustInTime, Timeline}
 use Rattle.home_types.specs.declared.modes.Scheduler.{Scheduler}
 use Rattle.home_types.specs.declared.modes.Visibility.TheVariants.{Eventual, Global, Partitioned, Weak}
 use Rattle.home_types.specs.declared.modes.Visibility.{Visibility}
-use Rattle.hub_commands.specs.CommandsTaken.{run_line, run_line_of, still_line, still_line_of, watch_line, watch_line_of}
+use Rattle.hub_commands.specs.CommandsTaken.{keep_line, keep_line_of, run_line, run_line_of, still_line, still_line_of, watch_line, watch_line_of}
 use Rattle.hub_core.specs.Openings.{is_mode}
 use Rattle.std.proofs.Common.{refl, subst, ◌≡◌}
 use Rattle.std.specs.Prelude.{IsTrue, List, None, Option, Some, option_and_then, true, ℕ}
@@ -39,6 +39,7 @@ still_goes words options is = by_line (command_line_of words) refl is
         let same : given ≡ options = cc in
         subst (λ (o : Options). IsTrue (is_mode o.mode)) same (pair_is_mode given.mode.scheduler given.mode.model (line_is_paired words (Replay given) some))
     by_line (Some (Watch given)) some found = absurd (cc)
+    by_line (Some (Keep given)) some found = absurd (cc)
     by_line (Some Check) some found = absurd (cc)
     by_line (Some (Trial n)) some found = absurd (cc)
 
@@ -53,6 +54,7 @@ run_goes words options is = by_line (command_line_of words) refl is
         subst (λ (o : Options). IsTrue (is_mode o.mode)) same (pair_is_mode given.mode.scheduler given.mode.model (line_is_paired words (Run given) some))
     by_line (Some (Replay given)) some found = absurd (cc)
     by_line (Some (Watch given)) some found = absurd (cc)
+    by_line (Some (Keep given)) some found = absurd (cc)
     by_line (Some Check) some found = absurd (cc)
     by_line (Some (Trial n)) some found = absurd (cc)
 
@@ -67,5 +69,21 @@ watch_goes words options is = by_line (command_line_of words) refl is
     by_line (Some (Watch given)) some found =
         let same : given ≡ options = cc in
         subst (λ (o : Options). IsTrue (is_mode o.mode)) same (pair_is_mode given.mode.scheduler given.mode.model (line_is_paired words (Watch given) some))
+    by_line (Some (Keep given)) some found = absurd (cc)
+    by_line (Some Check) some found = absurd (cc)
+    by_line (Some (Trial n)) some found = absurd (cc)
+
+-- and that of a replay that is kept
+pub keep_goes : (words : List (List ℕ)) (options : Options) → keep_line_of words ≡ Some (Keep options) → IsTrue (is_mode options.mode)
+keep_goes words options is = by_line (command_line_of words) refl is
+  where
+    by_line : (o : Option CommandLine) → command_line_of words ≡ o → option_and_then keep_line o ≡ Some (Keep options) → IsTrue (is_mode options.mode)
+    by_line None none found = absurd (cc)
+    by_line (Some (Run given)) some found = absurd (cc)
+    by_line (Some (Replay given)) some found = absurd (cc)
+    by_line (Some (Watch given)) some found = absurd (cc)
+    by_line (Some (Keep given)) some found =
+        let same : given ≡ options = cc in
+        subst (λ (o : Options). IsTrue (is_mode o.mode)) same (pair_is_mode given.mode.scheduler given.mode.model (line_is_paired words (Keep given) some))
     by_line (Some Check) some found = absurd (cc)
     by_line (Some (Trial n)) some found = absurd (cc)

@@ -2,7 +2,7 @@
 use Rattle.command_words.specs.CommandLines.{check_of, command_line_of, trial_of}
 use Rattle.command_words.specs.OptionGrammar.{options_by_words}
 use Rattle.command_words.specs.TrialNumbers.{is_numeral, number_of}
-use Rattle.command_words.specs.declared.command_lines.CommandLine.TheVariants.{Replay, Run, Trial, Watch}
+use Rattle.command_words.specs.declared.command_lines.CommandLine.TheVariants.{Keep, Replay, Run, Trial, Watch}
 use Rattle.command_words.specs.declared.command_lines.CommandLine.{CommandLine}
 use Rattle.command_words.specs.declared.command_lines.Options.{Options}
 use Rattle.home_types.specs.Limits.{most_windows}
@@ -43,16 +43,17 @@ trial_within (word ∷ []) n is = by_number (number_of word) refl is
     by_number (Some k) some found = let same : k ≡ n = cc in subst IsWithin same (number_within (is_numeral word) (digits_value 10 word) k some)
 trial_within (word ∷ next ∷ words) n is = absurd (cc)
 
-command_within : (run replay watch check trial : Bool) (words : List (List ℕ)) (n : ℕ)
-    → (if run then option_map Run (options_by_words words) else (if replay then option_map Replay (options_by_words words) else (if watch then option_map Watch (options_by_words words) else (if check then check_of words else (if trial then trial_of words else None))))) ≡ Some (Trial n) → IsWithin n
-command_within true replay watch check trial words n is = absurd (options_no_trial Run (options_by_words words) n (λ options same. absurd (cc)) is)
-command_within false true watch check trial words n is = absurd (options_no_trial Replay (options_by_words words) n (λ options same. absurd (cc)) is)
-command_within false false true check trial words n is = absurd (options_no_trial Watch (options_by_words words) n (λ options same. absurd (cc)) is)
-command_within false false false true trial words n is = absurd (check_no_trial words n is)
-command_within false false false false true words n is = trial_within words n is
-command_within false false false false false words n is = absurd (cc)
+command_within : (run replay watch keep check trial : Bool) (words : List (List ℕ)) (n : ℕ)
+    → (if run then option_map Run (options_by_words words) else (if replay then option_map Replay (options_by_words words) else (if watch then option_map Watch (options_by_words words) else (if keep then option_map Keep (options_by_words words) else (if check then check_of words else (if trial then trial_of words else None)))))) ≡ Some (Trial n) → IsWithin n
+command_within true replay watch keep check trial words n is = absurd (options_no_trial Run (options_by_words words) n (λ options same. absurd (cc)) is)
+command_within false true watch keep check trial words n is = absurd (options_no_trial Replay (options_by_words words) n (λ options same. absurd (cc)) is)
+command_within false false true keep check trial words n is = absurd (options_no_trial Watch (options_by_words words) n (λ options same. absurd (cc)) is)
+command_within false false false true check trial words n is = absurd (options_no_trial Keep (options_by_words words) n (λ options same. absurd (cc)) is)
+command_within false false false false true trial words n is = absurd (check_no_trial words n is)
+command_within false false false false false true words n is = trial_within words n is
+command_within false false false false false false words n is = absurd (cc)
 
 -- a trial that the words ask for
 pub asked_within : (words : List (List ℕ)) (n : ℕ) → command_line_of words ≡ Some (Trial n) → (1 ≤ n) × (n ≤ most_windows)
 asked_within [] n is = absurd (cc)
-asked_within (command ∷ words) n is = command_within (bytes_eq command (codes "run")) (bytes_eq command (codes "replay")) (bytes_eq command (codes "watch")) (bytes_eq command (codes "check")) (bytes_eq command (codes "trial")) words n is
+asked_within (command ∷ words) n is = command_within (bytes_eq command (codes "run")) (bytes_eq command (codes "replay")) (bytes_eq command (codes "watch")) (bytes_eq command (codes "keep")) (bytes_eq command (codes "check")) (bytes_eq command (codes "trial")) words n is

@@ -12,7 +12,7 @@ use Rattle.home_types.specs.declared.modes.Visibility.TheVariants.{Eventual, Glo
 use Rattle.home_types.specs.declared.modes.Visibility.{Visibility}
 use Rattle.home_types.specs.declared.worlds.Stand.{Stand}
 use Rattle.hub_commands.specs.Boards.{IsToldOf}
-use Rattle.hub_commands.specs.Days.{WindowsArePlayed}
+use Rattle.hub_commands.specs.Days.{WindowsArePlayed, new_course}
 use Rattle.hub_commands.specs.Finishes.{Shown}
 use Rattle.hub_commands.specs.Going.{IsNextToTell, NextIs}
 use Rattle.hub_commands.specs.declared.plays.DayUnderWay.{DayUnderWay}
@@ -84,7 +84,7 @@ runs_few works script mode records takes sound played =
 
 -- the next window, where it was played, is one more than was told of
 pub next_to_tell : {D : Type 0} (works : Setting → WindowText → WindowRecord → (ℕ → ℕ) → Type 0) (shown : Shown D) (script : Script) (mode : Mode) (records : List WindowRecord) (told : Option (List Counts)) (next : Result (DayUnderWay D) (Listed WindowRecord))
-    → IsSound (plain_script script) → IsToldOf told records → NextIs works shown script mode records next → IsNextToTell told next
+    → IsSound (plain_script script) → IsToldOf told records → NextIs works shown (new_course script) mode records next → IsNextToTell told next
 next_to_tell works shown script mode records told (Ok day) sound is gone =
     (record { before = records; closed = gone.closed; more = gone.more; told_of = is }, runs_few works script mode day.windows.items gone.under_way.takes sound gone.under_way.played)
 next_to_tell works shown script mode records told (Err windows) sound is same = subst (λ rs. IsToldOf told rs) (sym same) is

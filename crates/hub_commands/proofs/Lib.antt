@@ -16,3 +16,7 @@ mod PublishedDays
 mod CountedRuns
 mod WatchedDays
 mod KeptWindows
+mod KeptStates
+mod BegunBehind
+mod KeptDays
+mod KeptCalls

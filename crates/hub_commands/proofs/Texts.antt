@@ -1,11 +1,11 @@
 -- The text of a day, piece after piece, and what the sink got of it.
 use Rattle.day_clock.specs.Sinks.{AppendsPart}
 use Rattle.day_report.proofs.Growing.{enumerate_from-append}
-use Rattle.day_report.specs.Days.{day_text, head_text, total_text, window_text, window_texts}
+use Rattle.day_report.specs.Days.{day_text_from, head_text, total_text, window_text, window_texts_from}
 use Rattle.history_book.specs.declared.records.WindowRecord.{WindowRecord}
 use Rattle.home_types.specs.declared.modes.Mode.{Mode}
 use Rattle.hub_commands.specs.Boards.{board_text}
-use Rattle.hub_commands.specs.Days.{boarded, plain, text_due, text_so_far}
+use Rattle.hub_commands.specs.Days.{Course, boarded, plain, record_text_on, script_of, text_due, text_due_on, text_on, text_so_far}
 use Rattle.hub_commands.specs.Finishes.{AppendsFirst}
 use Rattle.routine_reader.specs.declared.scripts.Script.{Script}
 use Rattle.std.proofs.Common.{ap, append-nil, append_assoc, arith, refl, subst, sym, take-append-drop, ◌∙◌}
@@ -70,33 +70,32 @@ first_wider a b xs ys part =
     (length front, subst (λ zs. Appends a b zs) (sym (ap (take (length front)) all ∙ take-append_seam front rest)) part.1)
 
 -- the text with one window more
-pub text_more : (script : Script) (mode : Mode) (trace : Bool) (records : List WindowRecord) (closed : WindowRecord)
-    → text_so_far script mode trace (records ++ closed ∷ []) ≡ text_so_far script mode trace records ++ window_text script (length records) closed mode trace
-unfolding window_texts
-text_more script mode trace records closed =
-    ap (λ ks. head_text mode ++ flat_map (λ (k, c). window_text script k c mode trace) ks) (enumerate_from-append 0 records closed)
-    ∙ ap (λ k. head_text mode ++ flat_map (λ (k, c). window_text script k c mode trace) (enumerate_from 0 records ++ (k, closed) ∷ [])) none_before
-    ∙ sym (flat_map_more (λ (k, c). window_text script k c mode trace) (head_text mode) (enumerate_from 0 records) (length records, closed))
-  where
-    none_before : 0 + length records ≡ length records
-    none_before = omega (arith)
+pub text_more : (course : Course) (mode : Mode) (trace : Bool) (records : List WindowRecord) (closed : WindowRecord)
+    → text_on course mode trace (records ++ closed ∷ []) ≡ text_on course mode trace records ++ window_text course.begins.script (course.begins.before + length records) closed mode trace
+unfolding window_texts_from
+text_more course mode trace records closed =
+    let before = course.begins.before in
+    let f : ℕ × WindowRecord → List ℕ = λ ((k, c) : ℕ × WindowRecord). window_text course.begins.script k c mode trace in
+    ap (λ ks. head_text mode ++ (course.above ++ flat_map f ks)) (enumerate_from-append before records closed)
+    ∙ ap (λ t. head_text mode ++ t) (sym (flat_map_more f course.above (enumerate_from before records) (before + length records, closed)))
+    ∙ sym (append_assoc (head_text mode) (course.above ++ flat_map f (enumerate_from before records)) (f (before + length records, closed)))
 
--- before the first window it is the head
-pub text_starts : (script : Script) (mode : Mode) (trace : Bool) → text_so_far script mode trace [] ≡ head_text mode
-unfolding window_texts
-text_starts script mode trace = append-nil (head_text mode)
+-- before the first window it is the head, and the lines below it
+pub text_starts : (course : Course) (mode : Mode) (trace : Bool) → text_on course mode trace [] ≡ head_text mode ++ course.above
+unfolding window_texts_from
+text_starts course mode trace = ap (λ t. head_text mode ++ t) (append-nil course.above)
 
 -- with the total it is the text of the day
-pub text_whole : (script : Script) (mode : Mode) (trace : Bool) (records : List WindowRecord) → text_so_far script mode trace records ++ total_text records ≡ day_text script records mode trace
-unfolding day_text
-text_whole script mode trace records = refl
+pub text_whole : (course : Course) (mode : Mode) (trace : Bool) (records : List WindowRecord) → text_on course mode trace records ++ total_text records ≡ record_text_on plain course records mode trace
+unfolding day_text_from
+text_whole course mode trace records = refl
 
 -- where all windows are there the text due has the total
-pub due_whole : (script : Script) (mode : Mode) (trace : Bool) (records : List WindowRecord) → length records ≡ length script.windows.items
-    → text_due plain script mode trace records ≡ text_so_far script mode trace records ++ total_text records
-due_whole script mode trace records all =
-    let same : (length records == length script.windows.items) ≡ true = grind (arith, common_steps) in
-    ap (λ b. text_so_far script mode trace records ++ (if b then total_text records else [])) same
+pub due_whole : (course : Course) (mode : Mode) (trace : Bool) (records : List WindowRecord) → length records ≡ length (script_of course).windows.items
+    → text_due_on plain course mode trace records ≡ text_on course mode trace records ++ total_text records
+due_whole course mode trace records all =
+    let same : (length records == length (script_of course).windows.items) ≡ true = grind (arith, common_steps) in
+    ap (λ b. text_on course mode trace records ++ (if b then total_text records else [])) same
 
 under_test : (b : Bool) (xs ys : List ℕ) → (if b then xs ++ ys else []) ≡ (if b then xs else []) ++ (if b then ys else [])
 under_test true xs ys = refl

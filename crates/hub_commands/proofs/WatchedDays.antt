@@ -8,11 +8,11 @@ use Rattle.home_types.specs.Listed.{Listed}
 use Rattle.hub_commands.proofs.PlayedDays.{all_lead, keeps_same, lead_written, unbuilt}
 use Rattle.hub_commands.proofs.Texts.{appends_keeps, appends_more, board_due, board_there, due_boarded, due_whole, first_wider, part_more, part_wider, text_whole, whole_first}
 use Rattle.hub_commands.specs.Boards.{board_text}
-use Rattle.hub_commands.specs.Days.{boarded, plain, text_due, text_so_far}
+use Rattle.hub_commands.specs.Days.{boarded, new_course, plain, text_due, text_so_far}
 use Rattle.hub_commands.specs.Finishes.{AppendsFirst, DayEnds, IsCut, IsStarved, IsWhole, IsWrittenAsClosed, Shown, Writes, written}
 use Rattle.hub_commands.specs.LastLines.{LineEnds, LineIsWritten}
 use Rattle.hub_commands.specs.Watched.{IsPublished}
-use Rattle.hub_commands.specs.declared.faults.Fault.TheVariants.{Check, Memory, Read, Script as Refuses, Words, Write}
+use Rattle.hub_commands.specs.declared.faults.Fault.TheVariants.{Check, Damaged, Disk, Memory, Read, Script as Refuses, Words, Write}
 use Rattle.hub_commands.specs.declared.faults.Fault.{Fault}
 use Rattle.hub_commands.specs.declared.finishes.Day.{Day}
 use Rattle.routine_reader.specs.declared.scripts.Script.{Script}
@@ -75,14 +75,14 @@ module _ {D : Type 0} (works : Setting → WindowText → WindowRecord → (ℕ 
     all_due : text_due boarded script options.mode options.trace records ≡ text ++ line
     all_due =
         due_boarded script options.mode options.trace records
-        ∙ ap (λ t. t ++ board_due script records) (due_whole script options.mode options.trace records whole.legal.count ∙ text_whole script options.mode options.trace records)
+        ∙ ap (λ t. t ++ board_due script records) (due_whole (new_course script) options.mode options.trace records whole.legal.count ∙ text_whole (new_course script) options.mode options.trace records)
         ∙ ap (λ t. text ++ t) (board_there script records whole.legal.count ∙ sym is)
 
     -- the day's text leads with each window
     written_before : (more : List ℕ) → Appends held holds (text ++ more) → IsWrittenAsClosed script options (written held holds f f_after) records
     written_before more got =
-        lead_written script options held holds f f_after records (text_so_far script options.mode options.trace records) (total_text records ++ more) (all_lead script options records)
-        (subst (λ t. Appends held holds t) (ap (λ t. t ++ more) (sym (text_whole script options.mode options.trace records)) ∙ append_assoc (text_so_far script options.mode options.trace records) (total_text records) more) got)
+        lead_written (new_course script) options held holds f f_after records (text_so_far script options.mode options.trace records) (total_text records ++ more) (all_lead (new_course script) options records)
+        (subst (λ t. Appends held holds t) (ap (λ t. t ++ more) (sym (text_whole (new_course script) options.mode options.trace records)) ∙ append_assoc (text_so_far script options.mode options.trace records) (total_text records) more) got)
 
     behind_whole : (why : Option Fault) → LineIsWritten line (written mid holds f_mid f_after) day after why → DayEnds works shown boarded script options (written held holds f f_after) after why
     behind_whole None got = record {
@@ -125,6 +125,8 @@ module _ {D : Type 0} (works : Setting → WindowText → WindowRecord → (ℕ 
           calm = got.1.1 ∙ whole.calm;
         }
     behind_whole (Some (Check window place name)) got = got
+    behind_whole (Some Disk) got = got
+    behind_whole (Some (Damaged slot)) got = got
 
   -- the day ends with the line behind it
   pub line_ends : (day after : Option (Day D)) (fault why : Option Fault) (line : List ℕ) → DayEnds works shown plain script options (written held mid f f_mid) day fault
@@ -139,13 +141,15 @@ module _ {D : Type 0} (works : Setting → WindowText → WindowRecord → (ℕ 
   line_ends day after (Some Memory) why line ends got is =
       subst (λ (w : Option Fault). DayEnds works shown boarded script options (written held holds f f_after) after w) (sym got.1) (starved_before day after got.0 ends got.2.0 got.2.1)
   line_ends day after (Some (Check window place name)) why line ends got is = absurd ends
+  line_ends day after (Some Disk) why line ends got is = absurd ends
+  line_ends day after (Some (Damaged slot)) why line ends got is = absurd ends
 
 -- no memory for the board
 pub unbuilt_boarded : {D : Type 0} (works : Setting → WindowText → WindowRecord → (ℕ → ℕ) → Type 0) (shown : Shown D) (script : Script) (options : Options) (held : Option (List ℕ)) (f : ℕ) (windows : Listed WindowRecord) (day : Option (Day D)) (why : Option Fault)
     → windows.items ≡ [] → day ≡ Some (record { windows = windows; devices = None }) → why ≡ Some Memory
     → DayEnds works shown boarded script options (written held held f f) day why
 unbuilt_boarded works shown script options held f windows day why none given because =
-    let ends = unbuilt works shown script options held f windows day why none given because in
+    let ends = unbuilt works shown (new_course script) options held f windows day why none given because in
     subst (λ (w : Option Fault). DayEnds works shown boarded script options (written held held f f) day w) (sym because)
     (starved_before works shown script options held held held f f f day day refl (subst (λ (w : Option Fault). DayEnds works shown plain script options (written held held f f) day w) because ends) (keeps_same held) refl)
 
@@ -163,3 +167,5 @@ line_published {D = D} line sink list day after None (Some Memory) ends is = rec
   published = is.published;
 }
 line_published line sink list day after None (Some (Check window place name)) ends is = absurd ends
+line_published line sink list day after None (Some Disk) ends is = absurd ends
+line_published line sink list day after None (Some (Damaged slot)) ends is = absurd ends

@@ -1,14 +1,15 @@
--- Which commands each of the three calls takes.
+-- Which commands each of the four calls takes.
 use Rattle.command_words.specs.CommandLines.{command_line_of}
-use Rattle.command_words.specs.declared.command_lines.CommandLine.TheVariants.{Check, Replay, Run, Trial, Watch}
+use Rattle.command_words.specs.declared.command_lines.CommandLine.TheVariants.{Check, Keep, Replay, Run, Trial, Watch}
 use Rattle.command_words.specs.declared.command_lines.CommandLine.{CommandLine}
 use Rattle.std.specs.Prelude.{List, None, Option, Some, option_and_then, ℕ}
 
--- every command but `run` and `watch`
+-- every command but `run`, `watch` and `keep`
 abbrev pub still_line : CommandLine → Option CommandLine
 still_line (Run options) = None
 still_line (Replay options) = Some (Replay options)
 still_line (Watch options) = None
+still_line (Keep options) = None
 still_line Check = Some Check
 still_line (Trial n) = Some (Trial n)
 
@@ -17,6 +18,7 @@ abbrev pub run_line : CommandLine → Option CommandLine
 run_line (Run options) = Some (Run options)
 run_line (Replay options) = None
 run_line (Watch options) = None
+run_line (Keep options) = None
 run_line Check = None
 run_line (Trial n) = None
 
@@ -25,8 +27,18 @@ abbrev pub watch_line : CommandLine → Option CommandLine
 watch_line (Run options) = None
 watch_line (Replay options) = None
 watch_line (Watch options) = Some (Watch options)
+watch_line (Keep options) = None
 watch_line Check = None
 watch_line (Trial n) = None
+
+-- `keep` alone
+abbrev pub keep_line : CommandLine → Option CommandLine
+keep_line (Run options) = None
+keep_line (Replay options) = None
+keep_line (Watch options) = None
+keep_line (Keep options) = Some (Keep options)
+keep_line Check = None
+keep_line (Trial n) = None
 
 -- the command line that the words are, where the call takes it
 abbrev pub still_line_of : List (List ℕ) → Option CommandLine
@@ -37,3 +49,6 @@ run_line_of words = option_and_then run_line (command_line_of words)
 
 abbrev pub watch_line_of : List (List ℕ) → Option CommandLine
 watch_line_of words = option_and_then watch_line (command_line_of words)
+
+abbrev pub keep_line_of : List (List ℕ) → Option CommandLine
+keep_line_of words = option_and_then keep_line (command_line_of words)

@@ -1,5 +1,5 @@
 -- The texts of faults, and of places in a record.
-use Rattle.hub_commands.specs.declared.faults.Fault.TheVariants.{Check, Memory, Read, Script, Words, Write}
+use Rattle.hub_commands.specs.declared.faults.Fault.TheVariants.{Check, Damaged, Disk, Memory, Read, Script, Words, Write}
 use Rattle.hub_commands.specs.declared.faults.Fault.{Fault}
 use Rattle.order_checker.specs.declared.verdicts.Place.TheVariants.{Answer, Device, Head, Home, Order, Run, Total, Window}
 use Rattle.order_checker.specs.declared.verdicts.Place.{Place}
@@ -37,3 +37,5 @@ fault_text Read = codes "read"
 fault_text Write = codes "write"
 fault_text Memory = codes "memory"
 fault_text (Check window place name) = codes "check: window " ++ decimal window ++ codes " " ++ named_place place name
+fault_text Disk = codes "disk"
+fault_text (Damaged slot) = codes "damaged " ++ decimal slot

@@ -14,3 +14,5 @@ pub mod Pieces
 pub mod Going
 pub mod LastLines
 pub mod Watched
+pub mod KeptDays
+pub mod KeepCalls

@@ -9,7 +9,7 @@ use Rattle.home_types.specs.declared.modes.Mode.{Mode}
 use Rattle.hub_core.specs.Homes.{HomeState}
 use Rattle.hub_core.specs.LegalWindows.{IsLegalWindow}
 use Rattle.hub_core.specs.OpenHubs.{OpenHub, device_at}
-use Rattle.hub_commands.specs.Days.{IsPlayedOn, IsUnderWay}
+use Rattle.hub_commands.specs.Days.{Course, IsPlayedOn, IsUnderWayOn}
 use Rattle.routine_reader.specs.Rosters.{script_runs}
 use Rattle.routine_reader.specs.declared.scripts.Script.{Script}
 use Rattle.routine_reader.specs.declared.scripts.WindowText.{WindowText}
@@ -62,7 +62,7 @@ pub record IsPlayed {D : Type 0} (works : Setting → WindowText → WindowRecor
       → IsPlayedOn tag plan turns probes faults (slice_index_or closed.turns.items d 0) (slice_index_or closed.faults.items d 0) (taken d) x y
 
 -- the day has gone on by one window
-pub record HasGoneOn {D : Type 0} (works : Setting → WindowText → WindowRecord → (ℕ → ℕ) → Type 0) (tag : D → ℕ) (plan : D → Option (List (ℕ × ℕ))) (stands turns probes faults : D → ℕ) (script : Script) (mode : Mode) (before : List WindowRecord) (home : HomeState D) (records : List WindowRecord) : Type 0 where
+pub record HasGoneOn {D : Type 0} (works : Setting → WindowText → WindowRecord → (ℕ → ℕ) → Type 0) (tag : D → ℕ) (plan : D → Option (List (ℕ × ℕ))) (stands turns probes faults : D → ℕ) (course : Course) (mode : Mode) (before : List WindowRecord) (home : HomeState D) (records : List WindowRecord) : Type 0 where
   pub closed : WindowRecord
   pub more : records ≡ before ++ closed ∷ []
-  pub under_way : IsUnderWay works tag plan stands turns probes faults script mode home records
+  pub under_way : IsUnderWayOn works tag plan stands turns probes faults course mode home records

@@ -1,9 +1,10 @@
 //! A day, window after window: how it begins, goes on and ends, and what is written of it.
-ghost use Rattle.std.specs.Prelude.{◌≡◌, ◌<◌, ◌≤◌, ◌++◌, ◌∷◌, [], IfOk, None, Some, length};
-ghost use Rattle.day_report.specs.Days.{window_text as window_lines_of};
+ghost use Rattle.std.specs.Prelude.{◌≡◌, ◌+◌, ◌<◌, ◌≤◌, ◌++◌, ◌∷◌, [], IfOk, None, Some, length};
+ghost use Rattle.day_report.specs.Days.{head_text, window_text as window_lines_of};
 ghost use Rattle.home_types.specs.Limits.{most_windows};
+ghost use Rattle.hub_commands.specs.Days.{new_course};
 ghost use Rattle.hub_commands.specs.Finishes.{shown_by, written};
-ghost use Rattle.hub_commands.specs.Going.{GoesOn, HandsBack, HasEnded, HasWritten, KeepsWindows, windows_in};
+ghost use Rattle.hub_commands.specs.Going.{GoesOn, HandsBack, HasBegun, HasEnded, HasWritten, KeepsWindows, windows_in};
 ghost use Rattle.hub_commands.specs.LastLines.{LineIsWritten};
 ghost use Rattle.hub_commands.specs.Pieces.{StopEnds};
 ghost use Rattle.hub_commands.specs.Statuses.{status_of};
@@ -86,17 +87,19 @@ fn stop<Dev: Device>(day: DayUnderWay<Dev>, fault: PieceFault) -> Finish<Dev>
     }
 }
 
-/// The lines of the day's last window.
+/// The lines of the day's last window, before whose first one so many windows of the script went.
 fn last_lines(
     alloc: Global,
     script: &Script,
     options: Options,
+    before: u32,
     windows: &List<WindowRecord>,
 ) -> Result<Bytes, NoMemory>
     requires some { 0 < length windows.now.items }
-    requires few { length windows.now.items ≤ most_windows }
-    ensures { (before : _) (closed : _) → windows.now.items ≡ before ++ closed ∷ []
-        → IfOk result (λ lines. lines ≡ window_lines_of script.now (length before) closed options.mode options.trace) }
+    requires few { before + length windows.now.items ≤ most_windows }
+    ensures { (earlier : _) (closed : _) → windows.now.items ≡ earlier ++ closed ∷ []
+        → IfOk result (λ lines. lines
+        ≡ window_lines_of script.now (before + length earlier) closed options.mode options.trace) }
 {
     let number = windows.len() - 1;
     let Some(closed) = windows.get(number) else {
@@ -105,16 +108,41 @@ fn last_lines(
     window_text(
         alloc,
         script,
-        number as u32,
+        before + number as u32,
         closed,
         options.mode,
         options.trace,
     )
 }
 
+/// Begins a day on this home, on which no window was opened: writes the head of the record.
+pub fn begin_on<W: Way, D: Device, K: Sink>(
+    _way: &W,
+    alloc: Global,
+    options: Options,
+    home: Home<D>,
+    head: Result<Bytes, NoMemory>,
+    sink: &mut K,
+) -> Result<DayUnderWay<D>, Finish<D>>
+    ensures begun { HasBegun (W.works _way.now)
+        (shown_by D.tag D.plan D.stands D.turns D.probes D.faults) options
+        (written (K.holds sink.old) (K.holds sink.new) (K.faults sink.old) (K.faults sink.new))
+        home head result }
+    ensures kept { KeepsWindows result [] }
+{
+    let day = DayUnderWay {
+        home,
+        windows: List::new(alloc),
+    };
+    match write_piece(sink, head) {
+        Ok(()) => Ok(day),
+        Err(fault) => Err(stop(day, fault)),
+    }
+}
+
 /// Begins the script's day: has the devices built by the bench, and writes the head of the record.
 pub fn begin<W: Way, K: Sink, B: Bench>(
-    _way: &W,
+    way: &W,
     alloc: Global,
     script: &Script,
     options: Options,
@@ -122,9 +150,9 @@ pub fn begin<W: Way, K: Sink, B: Bench>(
     bench: &mut B,
 ) -> Result<DayUnderWay<B::Dev>, Finish<B::Dev>>
     requires sound { IsSound (plain_script script.now) }
-    ensures goes_on { GoesOn (W.works _way.now)
+    ensures goes_on { GoesOn (W.works way.now)
         (shown_by B.Dev.tag B.Dev.plan B.Dev.stands B.Dev.turns B.Dev.probes B.Dev.faults)
-        script.now options
+        (new_course script.now) options
         (written (K.holds sink.old) (K.holds sink.new) (K.faults sink.old) (K.faults sink.new))
         0 result }
     ensures kept { KeepsWindows result [] }
@@ -132,28 +160,30 @@ pub fn begin<W: Way, K: Sink, B: Bench>(
     let Ok(home) = Home::build(alloc, bench, script) else {
         return Err(end_without_devices(List::new(alloc), Fault::Memory));
     };
-    let day = DayUnderWay {
+    begin_on(
+        way,
+        alloc,
+        options,
         home,
-        windows: List::new(alloc),
-    };
-    match write_piece(sink, head_text(alloc, options.mode)) {
-        Ok(()) => Ok(day),
-        Err(fault) => Err(stop(day, fault)),
-    }
+        head_text(alloc, options.mode),
+        sink,
+    )
 }
 
-/// Goes on with what came of the next window: writes its lines.
+/// Goes on with what came of the next window: writes its lines. So many windows of the script went before the day.
 pub fn go_on<W: Way, D: Device, K: Sink>(
     _way: &W,
     alloc: Global,
     script: &Script,
     options: Options,
+    before: u32,
     next: Result<DayUnderWay<D>, List<WindowRecord>>,
     sink: &mut K,
 ) -> Result<DayUnderWay<D>, Finish<D>>
     requires some { IfOk next (λ day. 0 < length day.windows.items) }
-    requires few { IfOk next (λ day. length day.windows.items ≤ most_windows) }
-    ensures written { HasWritten (W.works _way.now) (shown_by D.tag D.plan D.stands D.turns D.probes D.faults) script.now options
+    requires few { IfOk next (λ day. before + length day.windows.items ≤ most_windows) }
+    ensures written { HasWritten (W.works _way.now)
+        (shown_by D.tag D.plan D.stands D.turns D.probes D.faults) script.now before options
         (written (K.holds sink.old) (K.holds sink.new) (K.faults sink.old) (K.faults sink.new))
         next result }
     ensures kept { KeepsWindows result (windows_in next) }
@@ -162,7 +192,7 @@ pub fn go_on<W: Way, D: Device, K: Sink>(
         Ok(day) => day,
         Err(windows) => return Err(end_without_devices(windows, Fault::Memory)),
     };
-    let lines = last_lines(alloc, script, options, &day.windows);
+    let lines = last_lines(alloc, script, options, before, &day.windows);
     match write_piece(sink, lines) {
         Ok(()) => Ok(day),
         Err(fault) => Err(stop(day, fault)),
@@ -173,13 +203,13 @@ pub fn go_on<W: Way, D: Device, K: Sink>(
 pub fn end<W: Way, D: Device, K: Sink>(
     _way: &W,
     alloc: Global,
-    script: &Script,
     options: Options,
     day: DayUnderWay<D>,
     sink: &mut K,
 ) -> Finish<D>
     ensures status { result.status ≡ status_of result.fault }
-    ensures ends { HasEnded (W.works _way.now) (shown_by D.tag D.plan D.stands D.turns D.probes D.faults) script.now options
+    ensures ends { HasEnded (W.works _way.now)
+        (shown_by D.tag D.plan D.stands D.turns D.probes D.faults) options
         (written (K.holds sink.old) (K.holds sink.new) (K.faults sink.old) (K.faults sink.new))
         day result.day result.fault }
     ensures kept { HandsBack result.day day.windows.items }

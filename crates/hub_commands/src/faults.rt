@@ -29,6 +29,10 @@ pub enum Fault {
         /// The name of the device in `place`, empty where there is none.
         name: Text,
     },
+    /// The disk failed.
+    Disk,
+    /// The journal on the disk is damaged: the first slot, from 1, that is open and tells no state of the script's home.
+    Damaged(u32),
 }
 
 /// A place in a record, as it is printed.
@@ -47,6 +51,8 @@ impl Fault {
             Fault::Write => 4,
             Fault::Memory => 5,
             Fault::Check { .. } => 7,
+            Fault::Disk => 9,
+            Fault::Damaged(_) => 10,
         }
     }
 }
@@ -64,6 +70,8 @@ impl fmt::Display for Fault {
             Fault::Read => write!(f, "read"),
             Fault::Write => write!(f, "write"),
             Fault::Memory => write!(f, "memory"),
+            Fault::Disk => write!(f, "disk"),
+            Fault::Damaged(slot) => write!(f, "damaged {slot}"),
             Fault::Check {
                 window,
                 place: Place::Device(_),

@@ -9,7 +9,7 @@ use home_types::List;
 pub struct Finish<Dev: Device> {
     /// The status with which the program ends.
     pub status: u8,
-    /// The day, once the script is read.
+    /// The day, once the script is read; of `keep` once the journal is open.
     pub day: Option<Day<Dev>>,
     /// Why the status is not 0; none exactly at 0.
     pub fault: Option<Fault>,
@@ -20,6 +20,6 @@ pub struct Finish<Dev: Device> {
 pub struct Day<Dev: Device> {
     /// The windows that were closed, in order.
     pub windows: List<WindowRecord>,
-    /// The devices of the home as they were left, by their numbers; there exactly at the statuses 0 and 4.
+    /// The devices of the home as they were left, by their numbers; there exactly at the statuses 0, 4 and 9.
     pub devices: Option<List<Dev>>,
 }

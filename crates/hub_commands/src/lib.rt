@@ -8,6 +8,8 @@ mod divisions;
 mod faults;
 mod finishes;
 mod inputs;
+mod keeps;
+mod kept_days;
 mod onlookers;
 mod pieces;
 mod plays;
@@ -20,6 +22,7 @@ mod ways;
 
 pub use faults::Fault;
 pub use finishes::{Day, Finish};
+pub use keeps::keep_command;
 pub use runs::run_command;
 pub use stills::still_command;
 pub use watches::{watch_command, watch_command_telling};

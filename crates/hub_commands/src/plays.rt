@@ -1,8 +1,9 @@
 //! A day under way: its home and records, the opening of the next window and its closing.
-ghost use Rattle.std.specs.Prelude.{◌≡◌, ◌<◌, ◌≤◌, ◌++◌, ◌∷◌, [], IfErr, IfOk, IsTrue, false, length};
+ghost use Rattle.std.specs.Prelude.{◌≡◌, ◌+◌, ◌<◌, ◌≤◌, ◌++◌, ◌∷◌, [], IfErr, IfOk, IsTrue, false, length};
 ghost use Rattle.home_types.specs.Limits.{most_windows};
 ghost use Rattle.hub_commands.specs.Played.{NextIsOpened};
 ghost use Rattle.hub_core.specs.Homes.{HomeIsKept};
+ghost use Rattle.hub_core.specs.LegalDays.{windows_behind};
 ghost use Rattle.hub_core.specs.Openings.{is_mode};
 ghost use Rattle.routine_reader.specs.Rosters.{kinds_of};
 ghost use Rattle.routine_reader.specs.Scripts.{plain_script};
@@ -22,21 +23,25 @@ pub struct DayUnderWay<Dev: Device> {
     pub windows: List<WindowRecord>,
 }
 
-/// Opens the next window of the script on the home, and takes the memory for its record.
+/// Opens the next window of the script on the home, and takes the memory for its record. So many windows of the script
+/// went before the day.
 ///
 /// The records of the windows before come back; where memory is wanted the home is dropped.
 pub fn open_next<Dev: Device>(
     alloc: Global,
     script: &Script,
     mode: Mode,
+    before: u32,
     day: DayUnderWay<Dev>,
 ) -> Result<(Hub<Dev>, List<WindowRecord>), List<WindowRecord>>
     requires sound { IsSound (plain_script script.now) }
     requires goes { IsTrue (is_mode mode) }
-    requires next { length day.windows.items < length script.now.windows.items }
+    requires next { before + length day.windows.items < length script.now.windows.items }
     requires kinds { day.home.kinds ≡ kinds_of script.now }
     requires few { day.home.opened ≤ most_windows }
-    ensures opened { IfOk result (λ opened. NextIsOpened Dev.tag Dev.turns Dev.probes Dev.faults script.now mode (length day.windows.items) day.home opened.0) }
+    ensures opened { IfOk result (λ opened.
+        NextIsOpened Dev.tag Dev.turns Dev.probes Dev.faults (windows_behind before script.now) mode
+        (length day.windows.items) day.home opened.0) }
     ensures records { IfOk result (λ opened. opened.1.items ≡ day.windows.items) }
     ensures room { IfOk result (λ opened. 0 < opened.1.spare) }
     ensures starved { IfErr result (λ windows. windows.items ≡ day.windows.items) }
@@ -46,7 +51,8 @@ pub fn open_next<Dev: Device>(
     if windows.reserve(left).is_err() {
         return Err(windows);
     }
-    match open_window(alloc, script, windows.len() as u32, mode, home) {
+    let count = windows.len() as u32;
+    match open_window(alloc, script, before + count, mode, home) {
         Ok(hub) => Ok((hub, windows)),
         Err(NoMemory) => Err(windows),
     }

@@ -1,13 +1,16 @@
 //! The replay of a script's day.
-ghost use Rattle.std.specs.Prelude.{◌≡◌, ◌<◌, Err, IfErr, IfOk, IsTrue, length};
-ghost use Rattle.hub_commands.specs.Days.{IsUnderWay, plain};
+ghost use Rattle.std.specs.Prelude.{◌≡◌, ◌+◌, ◌<◌, ◌≤◌, Err, IfErr, IfOk, IsTrue, length};
+ghost use Rattle.home_types.specs.Limits.{most_windows};
+ghost use Rattle.hub_commands.specs.Days.{plain};
 ghost use Rattle.hub_commands.specs.Finishes.{DayEnds, shown_by, written};
-ghost use Rattle.hub_commands.specs.Played.{HasGoneOn, IsWorkedAs};
+ghost use Rattle.hub_commands.specs.Going.{PlaysOneMore};
+ghost use Rattle.hub_commands.specs.Played.{IsWorkedAs};
 ghost use Rattle.hub_commands.specs.Statuses.{status_of};
 ghost use Rattle.hub_commands.specs.Ways.{IsReplayOf};
 ghost use Rattle.hub_core.specs.OpenHubs.{configuration_of};
 ghost use Rattle.hub_core.specs.Openings.{is_mode};
 ghost use Rattle.hub_core.specs.Steps.{opened};
+ghost use Rattle.routine_reader.specs.Rosters.{kinds_of};
 ghost use Rattle.routine_reader.specs.Scripts.{plain_script};
 ghost use Rattle.routine_reader.specs.Sound.{IsSound};
 
@@ -45,27 +48,33 @@ fn replay_opened<D: Device>(
     }
 }
 
-/// Replays the next window of the script, by its turns and its seed.
+/// Replays the next window of the script, by its turns and its seed. So many windows of the script went before the day.
 ///
 /// Where memory is wanted the records of the windows before come back; the home is dropped.
-fn replay_next<D: Device>(
+pub fn replay_next<D: Device>(
     alloc: Global,
     script: &Script,
     mode: Mode,
+    before: u32,
     day: DayUnderWay<D>,
 ) -> Result<DayUnderWay<D>, List<WindowRecord>>
     requires sound { IsSound (plain_script script.now) }
     requires goes { IsTrue (is_mode mode) }
-    requires next { length day.windows.items < length script.now.windows.items }
-    requires under_way { IsUnderWay IsReplayOf D.tag D.plan D.stands D.turns D.probes D.faults script.now mode day.home day.windows.items }
-    ensures played { IfOk result (λ next. HasGoneOn IsReplayOf D.tag D.plan D.stands D.turns D.probes D.faults script.now mode day.windows.items next.home next.windows.items) }
+    requires next { before + length day.windows.items < length script.now.windows.items }
+    requires kinds { day.home.kinds ≡ kinds_of script.now }
+    requires few { day.home.opened ≤ most_windows }
+    ensures played { IfOk result (λ next.
+        PlaysOneMore IsReplayOf D.tag D.plan D.stands D.turns D.probes D.faults
+        script.now before mode day next) }
+    ensures more { IfOk result (λ next. length next.windows.items ≡ length day.windows.items + 1) }
+    ensures kinds { IfOk result (λ next. next.home.kinds ≡ day.home.kinds) }
     ensures starved { IfErr result (λ windows. windows.items ≡ day.windows.items) }
 {
-    let (hub, windows) = match open_next(alloc, script, mode, day) {
+    let (hub, windows) = match open_next(alloc, script, mode, before, day) {
         Ok(opened) => opened,
         Err(windows) => return Err(windows),
     };
-    let number = windows.len() as usize;
+    let number = before as usize + windows.len() as usize;
     let window = &script.windows.as_slice()[number];
     match replay_opened(alloc, hub, window) {
         Ok(done) => Ok(close_next(windows, done.0, done.1)),
@@ -96,11 +105,11 @@ pub fn replay_day<K: Sink, B: Bench>(
         Err(finish) => return finish,
     };
     'windows: for _ in 0..script.windows.len() {
-        let next = replay_next(alloc, script, options.mode, day);
-        day = match go_on(&StepByStep, alloc, script, options, next, sink) {
+        let next = replay_next(alloc, script, options.mode, 0, day);
+        day = match go_on(&StepByStep, alloc, script, options, 0, next, sink) {
             Ok(day) => day,
             Err(finish) => return finish,
         };
     }
-    end(&StepByStep, alloc, script, options, day, sink)
+    end(&StepByStep, alloc, options, day, sink)
 }

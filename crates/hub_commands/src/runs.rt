@@ -2,7 +2,7 @@
 ghost use Rattle.std.specs.Prelude.{◌≡◌, ◌<◌, [], Err, IfErr, IfOk, IsTrue, None, Some, false, length, map, string_bytes};
 ghost use Rattle.hub_commands.specs.CommandsTaken.{run_line_of};
 ghost use Rattle.hub_commands.specs.Boards.{IsToldOf};
-ghost use Rattle.hub_commands.specs.Days.{IsUnderWay, plain};
+ghost use Rattle.hub_commands.specs.Days.{IsUnderWay, new_course, plain};
 ghost use Rattle.hub_commands.specs.Calls.{CallEnds, IsProbedInAll};
 ghost use Rattle.hub_commands.specs.Finishes.{DayEnds, read_off, shown_by, written};
 ghost use Rattle.hub_commands.specs.Going.{IsToldOfDay};
@@ -77,10 +77,10 @@ fn run_next<R: Threads + Wait + Sync, D: Device + Send, C: Clock + Sync>(
     ensures played { IfOk result (λ next.
         HasGoneOn (IsRunWithin (C.earliest clock.now) (C.latest clock.now))
         D.tag D.plan D.stands D.turns D.probes D.faults
-        script.now mode day.windows.items next.home next.windows.items) }
+        (new_course script.now) mode day.windows.items next.home next.windows.items) }
     ensures starved { IfErr result (λ windows. windows.items ≡ day.windows.items) }
 {
-    let (hub, windows) = match open_next(alloc, script, mode, day) {
+    let (hub, windows) = match open_next(alloc, script, mode, 0, day) {
         Ok(opened) => opened,
         Err(windows) => return Err(windows),
     };
@@ -128,12 +128,12 @@ where
     'windows: for _ in 0..script.windows.len() {
         let next = run_next(rt, alloc, script, options.mode, day, clock);
         tell_of(rt, onlooker, &next);
-        day = match go_on(&way, alloc, script, options, next, sink) {
+        day = match go_on(&way, alloc, script, options, 0, next, sink) {
             Ok(day) => day,
             Err(finish) => return finish,
         };
     }
-    end(&way, alloc, script, options, day, sink)
+    end(&way, alloc, options, day, sink)
 }
 
 /// Reads the words of `run`.
@@ -145,6 +145,7 @@ fn read_run_words(alloc: Global, words: &[String]) -> Result<Options, WordFault>
         Ok(CommandLine::Run(options)) => Ok(options),
         Ok(CommandLine::Replay(_)) => Err(WordFault::Words),
         Ok(CommandLine::Watch(_)) => Err(WordFault::Words),
+        Ok(CommandLine::Keep(_)) => Err(WordFault::Words),
         Ok(CommandLine::Check) => Err(WordFault::Words),
         Ok(CommandLine::Trial(_)) => Err(WordFault::Words),
         Err(fault) => Err(fault),

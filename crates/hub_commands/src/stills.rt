@@ -49,7 +49,7 @@ fn replay_input<S: Source, K: Sink, B: Bench>(
 /// seeds, and writes the record to the sink. `check` reads a script and a record, which a line `%%` divides, and writes
 /// `agrees` where the record is the serial execution of its orders. `trial` makes a script of its number, plays its
 /// day, checks the record and writes one line; it reads nothing. The words are those on the command line, without the
-/// program's name; `run` and `watch` are refused as words.
+/// program's name; `run`, `watch` and `keep` are refused as words.
 ///
 /// The status tells how the call ended: 0, all is written; 1, the script is refused; 2, the words are of no command
 /// that this call takes; 3, the source failed; 4, the sink failed, and holds a first part of what was due; 5, want of
@@ -75,6 +75,7 @@ pub fn still_command<S: Source, K: Sink, B: Bench>(
         Ok(CommandLine::Check) => check_input(alloc, source, sink),
         Ok(CommandLine::Trial(number)) => play_trial(alloc, number, sink, bench),
         Ok(CommandLine::Watch(_)) => refuse(Fault::Words),
+        Ok(CommandLine::Keep(_)) => refuse(Fault::Words),
         Ok(CommandLine::Run(_)) | Err(WordFault::Words) => refuse(Fault::Words),
         Err(WordFault::NoMemory) => refuse(Fault::Memory),
     }

@@ -187,6 +187,7 @@ fn read_watch_words(alloc: Global, words: &[String]) -> Result<Options, WordFaul
         Ok(CommandLine::Watch(options)) => Ok(options),
         Ok(CommandLine::Run(_)) => Err(WordFault::Words),
         Ok(CommandLine::Replay(_)) => Err(WordFault::Words),
+        Ok(CommandLine::Keep(_)) => Err(WordFault::Words),
         Ok(CommandLine::Check) => Err(WordFault::Words),
         Ok(CommandLine::Trial(_)) => Err(WordFault::Words),
         Err(fault) => Err(fault),

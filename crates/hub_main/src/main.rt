@@ -9,7 +9,10 @@ mod progress;
 
 use day_clock::{Clock, Sink, Source, StdClock, StdSink, StdSource};
 use device_states::{SimBench, SimDevice};
-use hub_commands::{Fault, Finish, run_command, still_command, watch_command_telling};
+use home_journal::{Disk, FileDisk};
+use hub_commands::{
+    Fault, Finish, keep_command, run_command, still_command, watch_command_telling,
+};
 use progress::{Progress, Showing, how_to_show};
 use status_board::Teller;
 use std::alloc::Global;
@@ -45,6 +48,7 @@ fn main(rt: HostRuntime) -> ExitCode {
         &mut sink,
         &clock,
         &mut teller,
+        FileDisk::new(&rt),
     );
     ExitCode::from(match &finish.fault {
         Some(fault) => tell(&rt, fault),
@@ -53,7 +57,14 @@ fn main(rt: HostRuntime) -> ExitCode {
 }
 
 /// Makes the call that takes the command: the first word tells which.
-fn call<R: Threads + Wait + Sync, S: Source, K: Sink, C: Clock + Sync, T: Teller + Send>(
+fn call<
+    R: Threads + Wait + Sync,
+    S: Source,
+    K: Sink,
+    C: Clock + Sync,
+    T: Teller + Send,
+    Q: Disk + Drop,
+>(
     rt: &R,
     alloc: Global,
     words: &[String],
@@ -61,6 +72,7 @@ fn call<R: Threads + Wait + Sync, S: Source, K: Sink, C: Clock + Sync, T: Teller
     sink: &mut K,
     clock: &C,
     teller: &mut T,
+    disk: Q,
 ) -> Finish<SimDevice>
     ensures status { result.status ≡ status_of result.fault }
 {
@@ -77,6 +89,10 @@ fn call<R: Threads + Wait + Sync, S: Source, K: Sink, C: Clock + Sync, T: Teller
             clock,
             teller,
         );
+        finish
+    } else if asks_for(words, "keep") {
+        let (finish, disk) = keep_command(alloc, words, source, sink, &mut SimBench, disk);
+        drop(disk);
         finish
     } else {
         still_command(alloc, words, source, sink, &mut SimBench)

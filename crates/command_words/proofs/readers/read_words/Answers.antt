@@ -1,4 +1,4 @@
-use Rattle.command_words.proofs.CommandLineLemmas.{replay_means, run_means, watch_means}
+use Rattle.command_words.proofs.CommandLineLemmas.{keep_means, replay_means, run_means, watch_means}
 use Rattle.command_words.proofs.readers.read_words.Goals as goal
 use Rattle.command_words.specs.declared.command_lines.WordFault.TheVariants.{Words}
 use Rattle.std.proofs.Common.{Err, None, Some, rules, string_bytes, ◌≡◌}
@@ -23,3 +23,8 @@ pub returns-in_ok-read_options-in-watch-clause-meaning :
     goal.returns-in_ok-read_options-in-watch-clause-meaning
 returns-in_ok-read_options-in-watch-clause-meaning c =
     watch_means string_bytes c.args.words.now c.command-item.result c.as_str.result.now c.in-len1-up.len_at_least c.command-item.is c.as_str.ensures.value (Some c.in_ok-read_options-in-watch.field-0) c.in_ok-read_options-in-watch.ensures.meaning c.in-watch.is
+
+pub returns-in_ok-read_options-in-keep-clause-meaning :
+    goal.returns-in_ok-read_options-in-keep-clause-meaning
+returns-in_ok-read_options-in-keep-clause-meaning c =
+    keep_means string_bytes c.args.words.now c.command-item.result c.as_str.result.now c.in-len1-up.len_at_least c.command-item.is c.as_str.ensures.value (Some c.in_ok-read_options-in-keep.field-0) c.in_ok-read_options-in-keep.ensures.meaning c.in-keep.is

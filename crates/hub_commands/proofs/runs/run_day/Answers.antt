@@ -3,6 +3,7 @@ use Rattle.hub_commands.proofs.NextWindows.{next_is}
 use Rattle.hub_commands.proofs.PublishedDays.{told_back}
 use Rattle.hub_commands.proofs.runs.run_day.Goals as goal
 use Rattle.hub_commands.specs.Boards.{IsToldOf}
+use Rattle.hub_commands.specs.Days.{new_course}
 use Rattle.hub_commands.specs.Finishes.{shown_by}
 use Rattle.hub_commands.specs.Ways.{IsRunWithin}
 use Rattle.std.proofs.Common.{arith, length, subst, sym, ◌∙◌, ◌≡◌}
@@ -11,8 +12,8 @@ pub returns-in-Err-go_on : goal.returns-in-Err-go_on
 returns-in-Err-go_on g c =
     let D = g.B.Dev.Device in
     let K = g.K.Sink in
-    let end = c.in-Err-go_on.ensures.written (K.holds c.args.sink.now) (K.faults c.args.sink.now) c.windows.day.home c.windows.day.windows.items c.windows.invariant.going
-    (next_is (IsRunWithin (g.C.Clock.earliest c.args.clock.now) (g.C.Clock.latest c.args.clock.now)) (shown_by D.tag D.plan D.stands D.turns D.probes D.faults) c.args.script.now c.args.options.mode c.windows.day.windows.items c.run_next-next.result c.run_next-next.ensures.played c.run_next-next.ensures.starved) in
+    let end = c.in-Err-go_on.ensures.written (new_course c.args.script.now) (K.holds c.args.sink.now) (K.faults c.args.sink.now) c.windows.day.home c.windows.day.windows.items c.windows.invariant.going
+    (next_is (IsRunWithin (g.C.Clock.earliest c.args.clock.now) (g.C.Clock.latest c.args.clock.now)) (shown_by D.tag D.plan D.stands D.turns D.probes D.faults) (new_course c.args.script.now) c.args.options.mode c.windows.day.windows.items c.run_next-next.result c.run_next-next.ensures.played c.run_next-next.ensures.starved) in
     record {
       status = end.0;
       ends = end.1;
@@ -25,8 +26,8 @@ pub windows-preserved : goal.windows-preserved
 windows-preserved g c =
     let D = g.B.Dev.Device in
     let K = g.K.Sink in
-    let on = c.in-Ok-go_on.ensures.written (K.holds c.args.sink.now) (K.faults c.args.sink.now) c.windows.day.home c.windows.day.windows.items c.windows.invariant.going
-    (next_is (IsRunWithin (g.C.Clock.earliest c.args.clock.now) (g.C.Clock.latest c.args.clock.now)) (shown_by D.tag D.plan D.stands D.turns D.probes D.faults) c.args.script.now c.args.options.mode c.windows.day.windows.items c.run_next-next.result c.run_next-next.ensures.played c.run_next-next.ensures.starved) in
+    let on = c.in-Ok-go_on.ensures.written (new_course c.args.script.now) (K.holds c.args.sink.now) (K.faults c.args.sink.now) c.windows.day.home c.windows.day.windows.items c.windows.invariant.going
+    (next_is (IsRunWithin (g.C.Clock.earliest c.args.clock.now) (g.C.Clock.latest c.args.clock.now)) (shown_by D.tag D.plan D.stands D.turns D.probes D.faults) (new_course c.args.script.now) c.args.options.mode c.windows.day.windows.items c.run_next-next.result c.run_next-next.ensures.played c.run_next-next.ensures.starved) in
     let counted = c.windows.invariant.counted in
     let more = on.0 in
     record {
@@ -46,7 +47,7 @@ returns-clause-ends g c =
     let end = c.len-end.ensures in
     let within = c.windows.invariant.going.under_way.played.count in
     let all : length c.windows.day.windows.items ≡ length c.args.script.now.windows.items = omega (arith, counted, at_end, end, within) in
-    c.end.ensures.ends (K.holds c.args.sink.now) (K.faults c.args.sink.now) c.windows.invariant.going all
+    c.end.ensures.ends (new_course c.args.script.now) (K.holds c.args.sink.now) (K.faults c.args.sink.now) c.windows.invariant.going all
 
 pub tell_of-requires-clause-next : goal.tell_of-requires-clause-next
 tell_of-requires-clause-next g c =
@@ -54,7 +55,7 @@ tell_of-requires-clause-next g c =
     let works = IsRunWithin (g.C.Clock.earliest c.args.clock.now) (g.C.Clock.latest c.args.clock.now) in
     let shown = shown_by D.tag D.plan D.stands D.turns D.probes D.faults in
     next_to_tell works shown c.args.script.now c.args.options.mode c.windows.day.windows.items _ c.run_next-next.result c.requires.sound c.windows.invariant.told
-    (next_is works shown c.args.script.now c.args.options.mode c.windows.day.windows.items c.run_next-next.result c.run_next-next.ensures.played c.run_next-next.ensures.starved)
+    (next_is works shown (new_course c.args.script.now) c.args.options.mode c.windows.day.windows.items c.run_next-next.result c.run_next-next.ensures.played c.run_next-next.ensures.starved)
 
 pub returns-in-Err-clause-told : goal.returns-in-Err-clause-told
 returns-in-Err-clause-told g c = told_back _ _ _ c.requires.new c.in-Err.ensures.kept

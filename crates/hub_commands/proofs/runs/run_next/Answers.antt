@@ -1,5 +1,6 @@
 use Rattle.hub_commands.proofs.NextWindows.{next_fresh, next_gone, next_rounds}
 use Rattle.hub_commands.proofs.runs.run_next.Goals as goal
+use Rattle.hub_commands.specs.Days.{new_course}
 use Rattle.hub_commands.specs.Played.{HasGoneOn}
 use Rattle.hub_commands.specs.Ways.{IsRunWithin}
 use Rattle.routine_reader.proofs.RosterLemmas.{window-there}
@@ -26,8 +27,8 @@ returns-in-Ok-run_opened-clause-played g c =
     let there = subst (λ n. n < length c.args.script.now.windows.items) (sym number) c.requires.next in
     let at = window-there c.args.script.now c.len-number.result c.as_slice.result.now c.index-as_slice-number.result there c.as_slice.ensures c.index-as_slice-number.is in
     let done = c.in-Ok-run_opened.done in
-    subst (λ h. HasGoneOn (IsRunWithin (g.C.Clock.earliest c.args.clock.now) (g.C.Clock.latest c.args.clock.now)) D.tag D.plan D.stands D.turns D.probes D.faults c.args.script.now c.args.mode c.args.day.windows.items h c.close_next.result.windows.items) (sym c.close_next.ensures.home)
-    (next_gone (IsRunWithin (g.C.Clock.earliest c.args.clock.now) (g.C.Clock.latest c.args.clock.now)) D.tag D.plan D.stands D.turns D.probes D.faults c.args.script.now c.args.mode c.index-as_slice-number.result
+    subst (λ h. HasGoneOn (IsRunWithin (g.C.Clock.earliest c.args.clock.now) (g.C.Clock.latest c.args.clock.now)) D.tag D.plan D.stands D.turns D.probes D.faults (new_course c.args.script.now) c.args.mode c.args.day.windows.items h c.close_next.result.windows.items) (sym c.close_next.ensures.home)
+    (next_gone (IsRunWithin (g.C.Clock.earliest c.args.clock.now) (g.C.Clock.latest c.args.clock.now)) D.tag D.plan D.stands D.turns D.probes D.faults (new_course c.args.script.now) c.args.mode c.index-as_slice-number.result
     c.args.day.home done.0 c.in-Ok.opened.0 c.args.day.windows.items c.close_next.result.windows.items done.1
     c.requires.under_way c.in-Ok.ensures.opened (ap (λ n. slice_get c.args.script.now.windows.items n) (sym number) ∙ at)
     c.in-Ok-run_opened.ensures c.close_next.ensures.kept (c.close_next.ensures.windows ∙ ap (λ ws. ws ++ done.1 ∷ []) c.in-Ok.ensures.records))

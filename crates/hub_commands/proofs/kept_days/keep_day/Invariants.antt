@@ -1,0 +1,20 @@
+use Rattle.hub_commands.proofs.kept_days.keep_day.Given as goal
+use Rattle.hub_commands.specs.Finishes.{shown_by, written}
+use Rattle.hub_commands.specs.KeptDays.{IsKeptSoFar, kept_course}
+use Rattle.hub_commands.specs.Ways.{IsReplayOf}
+use Rattle.hub_core.specs.LegalDays.{Beginning}
+use Rattle.hub_core.specs.ResumedDays.{GoesOnBehind}
+use Rattle.std.proofs.Common.{length, ◌≡◌}
+
+-- as many windows are played, kept and written as were counted, behind the states that were kept
+abbrev pub invariant-windows : goal.invariant-windows
+invariant-windows g l =
+    let D = g.B.Dev.Device in
+    let K = g.K.Sink in
+    let Q = g.Q.Disk in
+    record {
+      counted : length l.kept.day.windows.items ≡ l.counter;
+      so_far : (begins : Beginning) × GoesOnBehind l.script l.before l.fn.journal.last begins
+          × IsKeptSoFar IsReplayOf (shown_by D.tag D.plan D.stands D.turns D.probes D.faults) Q.told Q.seen Q.images Q.moment Q.images_since Q.faults l.script l.before (kept_course l.before begins) l.options
+          (written (K.holds l.fn.sink) (K.holds l.sink) (K.faults l.fn.sink) (K.faults l.sink)) l.fn.journal.disk l.kept.day.home l.kept.day.windows.items l.kept.journal;
+    }
