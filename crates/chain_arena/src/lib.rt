@@ -7,8 +7,6 @@ mod iter;
 mod knots;
 mod links;
 mod memory;
-#[cfg(test)]
-mod tests;
 
 // A crate names a chain in a contract only where the types of its fields are exported.
 #[doc(hidden)]

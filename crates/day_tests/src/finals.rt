@@ -2,11 +2,12 @@
 ghost use Rattle.routine_reader.specs.Scripts.{plain_script};
 ghost use Rattle.routine_reader.specs.Sound.{IsSound};
 
+use crate::hubs::open_first;
 use device_gate::{Grip, Ready};
 use device_states::{SimBench, SimDevice};
-use home_types::{DeviceNo, Item, List, Mode, RunNo, Scheduler, Visibility};
-use hub_core::{Home, Hub, Turn};
-use routine_reader::{Script, read_script, roster};
+use home_types::{DeviceNo, Item, List, RunNo, Scheduler};
+use hub_core::{Hub, Turn};
+use routine_reader::{Script, read_script};
 use seeded_draws::Draws;
 use std::alloc::Global;
 use std::process::Abort;
@@ -55,7 +56,9 @@ const B: RunNo = RunNo(2);
 #[test]
 fn the_released_lamp_is_final_with_its_first_run(rt: HostRuntime) {
     let script = read_script(rt.alloc(), SCRIPT.as_bytes()).expect(&rt, "the script");
-    let mut hub = open_first(rt.alloc(), &script, Scheduler::Fcfs).expect(&rt, "a hub");
+    let opened = open_first(rt.alloc(), &script, &mut SimBench, Scheduler::Fcfs);
+    drop(script);
+    let mut hub = opened.expect(&rt, "a hub");
     moves(&rt, &mut hub, A);
     moves(&rt, &mut hub, A);
     moves(&rt, &mut hub, B);
@@ -143,6 +146,7 @@ fn final_items_stay_through_drawn_steps(rt: HostRuntime) {
             draw_window(&rt, rt.alloc(), &script, scheduler, &mut draws, &mut seen);
         }
     }
+    drop(script);
     assert!(rt; seen.steps >= STEPS && seen.early > 200 && seen.windows > 50);
 }
 
@@ -158,7 +162,7 @@ fn draw_window(
     requires sound { IsSound (plain_script script.now) }
 {
     let mut course = Course {
-        hub: open_first(alloc, script, scheduler).expect(rt, "a hub"),
+        hub: open_first(alloc, script, &mut SimBench, scheduler).expect(rt, "a hub"),
         finals: List::new(alloc),
         steps: 0,
     };
@@ -265,19 +269,4 @@ fn look(rt: &impl Abort, course: &mut Course) {
         let item = course.hub.final_item(at as u32).expect(rt, "a final item");
         course.finals.push(item).expect(rt, "memory");
     }
-}
-
-/// Opens the script's first window on a new home.
-fn open_first(alloc: Global, script: &Script, scheduler: Scheduler) -> Option<Hub<SimDevice>>
-    requires sound { IsSound (plain_script script.now) }
-{
-    let mode = Mode {
-        model: Visibility::Eventual,
-        scheduler,
-    };
-    let window = script.windows.get(0)?;
-    let roster = roster(alloc, script, 0).ok()?;
-    let home = Home::build(alloc, &mut SimBench, script).ok()?;
-    home.kept();
-    home.open_window(alloc, roster, mode, window.probes).ok()
 }

@@ -2,7 +2,13 @@
 #![tactic(auto)]
 
 #[cfg(test)]
+mod boards;
+#[cfg(test)]
 mod finals;
+#[cfg(test)]
+mod hubs;
+#[cfg(test)]
+mod keeps;
 #[cfg(test)]
 mod replays;
 #[cfg(test)]

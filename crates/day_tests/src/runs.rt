@@ -128,7 +128,9 @@ fn shows_a_device_that_died_in_its_probe(rt: HostRuntime) {
         &rt, "memory",
     );
     assert_eq!(rt; finish.status, 0);
+    drop(finish);
     assert!(rt; has_line(sink.held(), b"home lamp=off! fan=on oven=off heat=18"));
+    drop(sink);
 }
 
 #[test]
@@ -138,7 +140,9 @@ fn writes_the_stored_record(rt: HostRuntime) {
         &rt, "memory",
     );
     assert_eq!(rt; finish.status, 0);
+    drop(finish);
     assert!(rt; sink.held() == LIGHT_RECORD.as_bytes());
+    drop(sink);
 }
 
 /// Calls `run` with these words on the script, and gives how it ended and the sink.

@@ -77,6 +77,7 @@ fn a_watched_day_has_the_line_of_its_board(rt: HostRuntime) {
     assert_eq!(rt; watched.told.windows, 1);
     assert_eq!(rt; watched.told.last, light(true));
     assert!(rt; !watched.told.fell);
+    drop(watched);
 }
 
 #[test]
@@ -97,9 +98,14 @@ fn a_watched_day_tells_nobody(rt: HostRuntime) {
         &mut SimBench,
         &clock,
     );
+    drop(source);
+    drop(words);
     assert_eq!(rt; finish.status, 0);
+    drop(finish);
     assert!(rt; is_light(sink.held(), 4096));
+    drop(sink);
     assert!(rt; publisher.is_some());
+    drop(publisher);
 }
 
 #[test]
@@ -118,6 +124,7 @@ fn a_day_whose_sink_is_full_is_over(rt: HostRuntime) {
         };
         assert_eq!(rt; watched.told.last, last);
         assert!(rt; !watched.told.fell);
+        drop(watched);
     }
 }
 
@@ -128,6 +135,7 @@ fn a_day_without_memory_is_over(rt: HostRuntime) {
     assert!(rt; watched.sink.held().is_empty());
     assert!(rt; watched.publisher.is_some());
     assert_eq!(rt; watched.told.last, light_before(true));
+    drop(watched);
 }
 
 #[test]
@@ -144,6 +152,7 @@ fn other_words_open_no_board(rt: HostRuntime) {
         assert!(rt; watched.sink.held().is_empty());
         assert!(rt; watched.publisher.is_none());
         assert_eq!(rt; watched.told.last, light_before(false));
+        drop(watched);
     }
 }
 

@@ -1,5 +1,5 @@
 -- The text of a day, read again.
-use Rattle.day_report.specs.Days.{abort_count, commit_count, counts_line, day_text, head_text, is_abort, is_commit, total_text, window_lines, window_text, window_texts}
+use Rattle.day_report.specs.Days.{abort_count, commit_count, counts_line, day_text, day_text_from, head_text, is_abort, is_commit, total_text, window_lines, window_text, window_texts_from}
 use Rattle.history_book.specs.declared.records.WindowRecord.{WindowRecord}
 use Rattle.home_types.specs.declared.modes.Mode.{Mode}
 use Rattle.home_types.specs.declared.modes.Scheduler.{Scheduler}
@@ -112,7 +112,7 @@ module _ (script : Script) (mode : Mode) (trace : Bool) (records : List WindowRe
 
   -- the text of a day whose windows fit agrees with the script
   pub day-agrees : length records ≡ length script.windows.items → verdict_of script (day_text script records mode trace) ≡ Agrees
-  unfolding verdict_of record_told day_text window_texts total_text
+  unfolding verdict_of record_told day_text_from window_texts_from total_text
   day-agrees same =
       let windows = script.windows.items in
       let head = head-printed mode has in

@@ -8,6 +8,7 @@ use home_journal::{Disk, FILE_NAME, FileDisk, Journal, MemoryDisk, OpenFault};
 use home_types::{Bytes, Kind, List, NoMemory, Stand, World};
 use std::alloc::{AllocError, Global};
 use std::fs;
+use std::process::Abort;
 use std::rt::Files;
 
 /// A file that keeps one state of a home with a lamp, which is on.
@@ -83,21 +84,32 @@ fn outcome(alloc: Global, disk: MemoryDisk, kinds: &List<Kind>, most: u32) -> u8
 
 /// Opens a journal for one window of a home with a lamp, on an empty disk that fails from this call on, and keeps a state.
 /// Answers the disk, and whether all went well.
-fn kept_one(alloc: Global, fails_from: u64) -> Result<(MemoryDisk, bool), NoMemory> {
-    let kinds = one_lamp(alloc)?;
-    let home = lamp_on(alloc)?;
-    let disk = disk_of(alloc, &[], Some(fails_from))?;
-    match Journal::open(alloc, disk, &kinds, 1) {
+fn kept_one(rt: &impl Abort, alloc: Global, fails_from: u64) -> (MemoryDisk, bool) {
+    let kinds = one_lamp(alloc).expect(rt, "memory");
+    let home = lamp_on(alloc).expect(rt, "memory");
+    let disk = disk_of(alloc, &[], Some(fails_from)).expect(rt, "memory");
+    let kept = keep_on(alloc, disk, &kinds, &home);
+    drop(home);
+    drop(kinds);
+    kept
+}
+
+/// The same on this disk, of a home of these kinds that stands so.
+fn keep_on(alloc: Global, disk: MemoryDisk, kinds: &List<Kind>, home: &World) -> (MemoryDisk, bool)
+    requires kinds { kinds.now.items ≡ Kind.States 2 ∷ [] }
+    requires home { IsStateOf (Kind.States 2 ∷ []) home.now.devices.items }
+{
+    match Journal::open(alloc, disk, kinds, 1) {
         Ok(journal) => {
             if journal.kept() > 0 {
-                return Ok((journal.into_disk(), false));
+                return (journal.into_disk(), false);
             }
-            match journal.keep(&home) {
-                Ok(journal) => Ok((journal.into_disk(), true)),
-                Err((disk, _)) => Ok((disk, false)),
+            match journal.keep(home) {
+                Ok(journal) => (journal.into_disk(), true),
+                Err((disk, _)) => (disk, false),
             }
         }
-        Err((disk, _)) => Ok((disk, false)),
+        Err((disk, _)) => (disk, false),
     }
 }
 
@@ -105,11 +117,11 @@ fn kept_one(alloc: Global, fails_from: u64) -> Result<(MemoryDisk, bool), NoMemo
 fn each_call_of_the_disk_fails_in_turn(rt: HostRuntime) {
     let kinds = one_lamp(rt.alloc()).expect(&rt, "memory");
     for k in 1..10 {
-        let (disk, well) = kept_one(rt.alloc(), k).expect(&rt, "memory");
+        let (disk, well) = kept_one(&rt, rt.alloc(), k);
         assert_eq!(rt; well, k == 9);
         let left = outcome(rt.alloc(), disk.crashed(false), &kinds, 1);
         assert_eq!(rt; left, if k == 9 { b'1' } else { b'0' });
-        let (disk, _) = kept_one(rt.alloc(), k).expect(&rt, "memory");
+        let (disk, _) = kept_one(&rt, rt.alloc(), k);
         let left = outcome(rt.alloc(), disk.crashed(true), &kinds, 1);
         assert_eq!(rt; left, if k >= 7 { b'1' } else { b'0' });
     }

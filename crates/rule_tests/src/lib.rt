@@ -2,6 +2,8 @@
 #![tactic(auto)]
 
 #[cfg(test)]
+mod chains;
+#[cfg(test)]
 mod clocks;
 #[cfg(test)]
 mod devices;
@@ -14,9 +16,7 @@ mod lines;
 #[cfg(test)]
 mod records;
 #[cfg(test)]
-mod rosters;
-#[cfg(test)]
-mod tables;
+mod rooms;
 #[cfg(test)]
 mod trials;
 #[cfg(test)]

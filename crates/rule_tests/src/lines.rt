@@ -1,7 +1,5 @@
-//! The calls that a hub makes on its line: the lamp's first call by a run dies, so the failure stands before the run,
-//! and the restart behind it; then the run leaves. And the labels of a line into which one item after another comes at
-//! the same place.
-use home_types::{DeviceNo, DeviceSet, Item, NoMemory, RunNo};
+//! How often the labels of a line are given anew, into which one item after another comes at the same place.
+use home_types::{DeviceNo, Item, NoMemory, RunNo};
 use serial_line::Line;
 
 const LAMP: DeviceNo = DeviceNo(0);
@@ -22,37 +20,6 @@ fn put(line: &mut Line, at: u32, item: Item) -> Result<(), NoMemory> {
     line.reserve(1)?;
     line.insert(at, item);
     Ok(())
-}
-
-#[test]
-fn restart_behind_the_run(rt: HostRuntime) {
-    let mut line = Line::new(rt.alloc());
-    put(&mut line, 0, Item::Ran(A)).expect(&rt, "the run");
-    put(&mut line, 0, Item::Failed(LAMP, 1)).expect(&rt, "the failure");
-    put(&mut line, 2, Item::Back(LAMP, 1)).expect(&rt, "the restart");
-    assert!(rt; line.place_of(Item::Ran(A)).is_some());
-    line.mark(A, LAMP);
-    assert!(rt; line.place_of(Item::Ran(A)).is_some());
-    assert!(rt; line.touched(A, LAMP));
-    let mut lamp = DeviceSet::none();
-    lamp.add(LAMP);
-    assert!(rt;
-        line.last_meeting(&lamp) == Some(2) && line.last_meeting(&DeviceSet::none()).is_none()
-    );
-    assert!(rt; line.front() == 1);
-    line.settle(A);
-    assert!(rt; line.front() == 3 && line.len() == 3);
-    assert!(rt; line.get(0) == Some(Item::Failed(LAMP, 1)));
-    assert!(rt; line.place_of(Item::Ran(A)) == Some(1));
-    assert!(rt; leave(&mut line, A) && line.len() == 2);
-    assert!(rt;
-        line.place_of(Item::Ran(A)).is_none() && line.place_of(Item::Back(LAMP, 1)) == Some(1)
-    );
-}
-
-/// Takes a run out of a line of which nothing is sealed; tells whether it was there.
-fn leave(line: &mut Line, run: RunNo) -> bool {
-    line.sealed() == 0 && line.remove(run)
 }
 
 /// The first item is sealed, and each failure comes right behind it, before the others. Between two labels a label is
@@ -82,6 +49,7 @@ fn labels_are_given_anew_behind_what_is_sealed(rt: HostRuntime) {
     assert!(rt; line.len() == FAILURES + 2);
     assert!(rt; FAILURES / 64 <= given_anew && given_anew <= FAILURES / 16);
     assert!(rt; line.label(Item::Failed(LAMP, FAILURES + 1)).is_none());
+    drop(line);
 }
 
 /// Whether each item has a label, greater than that of the one before it.

@@ -1,12 +1,10 @@
 //! A record of two windows, and what an independent program says of it and of records that differ from it in one place.
-ghost use Rattle.std.specs.Prelude.{IfOk};
-ghost use Rattle.routine_reader.specs.Scripts.{plain_script};
-ghost use Rattle.routine_reader.specs.Sound.{IsSound};
 
 use home_types::{DeviceNo, RunNo};
 use order_checker::{Place, Verdict, check_record};
 use routine_reader::read_script;
 use std::alloc::Global;
+use std::process::Abort;
 
 const SCRIPT: &str =
     "{\"safehome\":1,\"devices\":[{\"name\":\"lamp\",\"states\":[\"off\",\"on\"],\"start\":\"off\"},\
@@ -36,11 +34,24 @@ const RECORD: &str = "safehome day\n\
 
 /// What the check says of the record in which the one text is replaced by the other.
 fn edited(alloc: Global, old: &str, new: &str) -> Option<Verdict> {
-    let Ok(script) = read_script(alloc, SCRIPT.as_bytes()) else {
-        return None;
-    };
     let record = RECORD.replace(alloc, old, new).ok()?;
-    check_record(alloc, &script, record.as_bytes()).ok()
+    let verdict = judged(alloc, record.as_bytes());
+    drop(record);
+    verdict
+}
+
+fn judged(alloc: Global, record: &[u8]) -> Option<Verdict> {
+    let script = read_script(alloc, SCRIPT.as_bytes()).ok()?;
+    let verdict = check_record(alloc, &script, record).ok();
+    drop(script);
+    verdict
+}
+
+/// Each case is a text of the record, what stands in its place, and what is said then.
+fn try_all(rt: &impl Abort, alloc: Global, cases: &[(&str, &str, Verdict)]) {
+    for (old, new, verdict) in cases {
+        assert!(rt; edited(alloc, old, new) == Some(*verdict), "{old}");
+    }
 }
 
 fn at(window: u32, place: Place) -> Verdict {
@@ -78,9 +89,7 @@ fn judges_the_head(rt: HostRuntime) {
             Verdict::Agrees,
         ),
     ];
-    for (old, new, verdict) in cases {
-        assert!(rt; edited(rt.alloc(), old, new) == Some(verdict), "{old}");
-    }
+    try_all(&rt, rt.alloc(), &cases);
 }
 
 #[test]
@@ -92,9 +101,7 @@ fn judges_the_first_line_of_a_window(rt: HostRuntime) {
         ("08:05:09", "8:5:9", at(2, Place::Window)),
         ("window 2 2021-04-26T08:05:09\n", "", at(2, Place::Window)),
     ];
-    for (old, new, verdict) in cases {
-        assert!(rt; edited(rt.alloc(), old, new) == Some(verdict), "{old}");
-    }
+    try_all(&rt, rt.alloc(), &cases);
 }
 
 #[test]
@@ -111,9 +118,7 @@ fn judges_the_lines_of_runs(rt: HostRuntime) {
         ("committed . -", "ended . -", at(1, run(1))),
         ("run 2 warm committed 18 on .\n", "", at(1, run(2))),
     ];
-    for (old, new, verdict) in cases {
-        assert!(rt; edited(rt.alloc(), old, new) == Some(verdict), "{old}");
-    }
+    try_all(&rt, rt.alloc(), &cases);
 }
 
 #[test]
@@ -143,9 +148,7 @@ fn judges_the_form_of_causes(rt: HostRuntime) {
         ("lost fan", "lost", at(1, run(3))),
         ("lost fan", "denied fan", at(1, run(3))),
     ];
-    for (old, new, verdict) in cases {
-        assert!(rt; edited(rt.alloc(), old, new) == Some(verdict), "{old}");
-    }
+    try_all(&rt, rt.alloc(), &cases);
 }
 
 #[test]
@@ -185,9 +188,7 @@ fn judges_the_order(rt: HostRuntime) {
             at(2, Place::Order(1)),
         ),
     ];
-    for (old, new, verdict) in cases {
-        assert!(rt; edited(rt.alloc(), old, new) == Some(verdict), "{old}");
-    }
+    try_all(&rt, rt.alloc(), &cases);
 }
 
 #[test]
@@ -197,9 +198,7 @@ fn lets_a_run_stand_that_follows_an_aborted_one(rt: HostRuntime) {
         "run 1 light aborted lost fan\nrun 2 warm committed 18 on .\nrun 3 dark aborted lost fan\nrun 4 dark aborted must 1\norder fail(fan) 2 back(fan)",
         at(1, answer(2, 1)),
     )];
-    for (old, new, verdict) in cases {
-        assert!(rt; edited(rt.alloc(), old, new) == Some(verdict), "{old}");
-    }
+    try_all(&rt, rt.alloc(), &cases);
 }
 
 #[test]
@@ -220,9 +219,7 @@ fn judges_the_answers(rt: HostRuntime) {
         ),
         ("order 1 fail(fan)", "order 1 fail(lamp)", at(2, device(0))),
     ];
-    for (old, new, verdict) in cases {
-        assert!(rt; edited(rt.alloc(), old, new) == Some(verdict), "{old}");
-    }
+    try_all(&rt, rt.alloc(), &cases);
 }
 
 #[test]
@@ -232,9 +229,7 @@ fn refuses_another_value_than_the_printed(rt: HostRuntime) {
         "run 3 dark committed .\nrun 4 dark aborted must 1\norder fail(fan) 1 3 2 back(fan)",
         at(1, answer(2, 1)),
     )];
-    for (old, new, verdict) in cases {
-        assert!(rt; edited(rt.alloc(), old, new) == Some(verdict), "{old}");
-    }
+    try_all(&rt, rt.alloc(), &cases);
 }
 
 #[test]
@@ -244,9 +239,7 @@ fn refuses_a_must_command_that_fails(rt: HostRuntime) {
         "run 2 warm committed 18 off .\nrun 3 dark committed .\nrun 4 dark aborted must 1\norder fail(fan) 1 3 2 back(fan)",
         at(1, answer(2, 1)),
     )];
-    for (old, new, verdict) in cases {
-        assert!(rt; edited(rt.alloc(), old, new) == Some(verdict), "{old}");
-    }
+    try_all(&rt, rt.alloc(), &cases);
 }
 
 #[test]
@@ -284,9 +277,7 @@ fn judges_the_form_of_the_home_line(rt: HostRuntime) {
             at(1, Place::Home),
         ),
     ];
-    for (old, new, verdict) in cases {
-        assert!(rt; edited(rt.alloc(), old, new) == Some(verdict), "{old}");
-    }
+    try_all(&rt, rt.alloc(), &cases);
 }
 
 #[test]
@@ -309,9 +300,7 @@ fn judges_where_devices_stand(rt: HostRuntime) {
             at(1, device(2)),
         ),
     ];
-    for (old, new, verdict) in cases {
-        assert!(rt; edited(rt.alloc(), old, new) == Some(verdict), "{old}");
-    }
+    try_all(&rt, rt.alloc(), &cases);
 }
 
 #[test]
@@ -330,7 +319,5 @@ fn judges_the_total(rt: HostRuntime) {
         ("aborted 2\n", "aborted 2\n# the end", Verdict::Agrees),
         ("aborted 2\n", "aborted 2\nmore", at(2, Place::Total)),
     ];
-    for (old, new, verdict) in cases {
-        assert!(rt; edited(rt.alloc(), old, new) == Some(verdict), "{old}");
-    }
+    try_all(&rt, rt.alloc(), &cases);
 }

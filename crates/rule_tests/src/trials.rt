@@ -45,6 +45,7 @@ fn two_windows(rt: HostRuntime) {
     for (run, routine) in runs.iter().zip([15, 9, 27, 37, 22, 30, 27, 9]) {
         assert!(rt; run.routine == routine && run.follows.is_none());
     }
+    drop(script);
 }
 
 #[test]
@@ -62,6 +63,7 @@ fn three_windows(rt: HostRuntime) {
             ]
             .as_slice()
     );
+    drop(script);
 }
 
 #[test]
@@ -83,4 +85,5 @@ fn whole_day(rt: HostRuntime) {
     assert!(rt; window.seed == 288 && window.probes == 0 && window.turns.len() == 0);
     let run = window.runs.get(63).expect(&rt, "a run");
     assert!(rt; run.routine == 9);
+    drop(script);
 }

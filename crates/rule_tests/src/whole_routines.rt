@@ -85,4 +85,7 @@ fn runs_a_whole_routine(rt: HostRuntime) {
     ];
     assert!(rt; answers.is_some_and(|answers| answers.as_slice() == told.as_slice()));
     assert!(rt; world.devices.as_slice() == [up(1), up(2), up(18)].as_slice());
+    drop(world);
+    drop(first);
+    drop(kinds);
 }

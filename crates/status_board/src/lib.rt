@@ -11,6 +11,3 @@ pub use boards::{Board, Publisher, Watcher};
 pub use day_counts::Counts;
 pub use tellers::{Silent, Teller};
 pub use watches::{watch, watch_telling};
-
-#[cfg(test)]
-mod tests;

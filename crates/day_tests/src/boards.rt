@@ -2,8 +2,7 @@
 ghost use Rattle.status_board.specs.Publishings.{last_of};
 ghost use Rattle.std.specs.Prelude.{◌≡◌, ◌+◌, ◌<◌, ◌^◌, [], true};
 
-use crate::{Board, Counts, Publisher, Teller, Watcher, watch, watch_telling};
-use std::alloc::Global;
+use status_board::{Board, Counts, Publisher, Teller, Watcher, watch, watch_telling};
 use std::sync::Wait;
 use std::test::*;
 use std::thread::join;

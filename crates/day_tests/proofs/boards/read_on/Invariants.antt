@@ -1,4 +1,4 @@
-use Rattle.status_board.proofs.tests.read_on.Given as goal
+use Rattle.day_tests.proofs.boards.read_on.Given as goal
 use Rattle.std.proofs.Common.{◌≡◌}
 
 abbrev pub invariant-loop : goal.invariant-loop

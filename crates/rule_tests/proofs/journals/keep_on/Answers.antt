@@ -1,10 +1,10 @@
 use Rattle.home_journal.specs.Journals.{IsStateOf}
 use Rattle.home_types.specs.declared.kinds.Kind.{Kind}
 use Rattle.rule_tests.proofs.OneLamp.{lamp}
-use Rattle.rule_tests.proofs.journals.kept_one.Goals as goal
+use Rattle.rule_tests.proofs.journals.keep_on.Goals as goal
 use Rattle.std.proofs.Common.{List, rules, subst, sym, ◌≡◌}
 
 pub keep-requires-clause-home : goal.keep-requires-clause-home
 keep-requires-clause-home c =
     let kinds : c.in-Ok.journal.kinds ≡ lamp = search rules in
-    subst (λ (ks : List Kind). IsStateOf ks c.in_ok-home.home.devices.items) (sym kinds) c.in_ok-home.ensures
+    subst (λ (ks : List Kind). IsStateOf ks c.args.home.now.devices.items) (sym kinds) c.requires.home

@@ -1,4 +1,4 @@
-use Rattle.status_board.proofs.tests.publish_many.Given as goal
+use Rattle.day_tests.proofs.boards.publish_many.Given as goal
 use Rattle.status_board.specs.Publishings.{last_of}
 use Rattle.std.proofs.Common.{false, ◌+◌, ◌<◌, ◌≡◌, ◌≤◌}
 
