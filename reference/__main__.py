@@ -3,11 +3,13 @@
     python3 -m reference replay [--model M] [--scheduler S] [--trace] < SCRIPT      plays a day, the same record each time
     python3 -m reference run [--model M] [--scheduler S] [--trace] < SCRIPT         the same here; with threads in the program
     python3 -m reference watch [--model M] [--scheduler S] [--trace] < SCRIPT       and a line of counts behind it
+    python3 -m reference keep [--model M] [--scheduler S] [--trace] < SCRIPT        goes on behind the windows of home.journal
     python3 -m reference check < SCRIPT, a line %% and RECORD                       prints `agrees`, or tells where it does not
     python3 -m reference trial N                                                    makes up N windows, plays and checks them
 
 M is ev (the default), psv, gsv or wv; S goes with ev, and is fcfs (the default), jit or timeline. Script and record are read from
-standard input, and no file is named: `replay < examples/morning.json`. The check wants `%%` alone on its line:
+standard input, and no file is named: `replay < examples/morning.json`. `keep` keeps its windows in the file home.journal of the
+current folder. The check wants `%%` alone on its line:
 
     (cat day.json; echo; echo %%; cat day.record) | python3 -m reference check
 
@@ -18,6 +20,7 @@ import os
 import sys
 
 from reference.calls import Call
+from reference.disks import FileDisk
 
 HELP = (["-h"], ["--help"], ["help"])
 HINTS = {
@@ -40,7 +43,7 @@ def main():
     if sys.argv[1:] in HELP:
         print(__doc__.strip())
         return
-    call = Call(sys.argv[1:], StandardSource(), StandardSink())
+    call = Call(sys.argv[1:], StandardSource(), StandardSink(), FileDisk())
     if call.line is not None:
         print(call.line, *([HINTS[call.status]] if call.status in HINTS else []), sep="\n", file=sys.stderr)
     sys.exit(call.status)

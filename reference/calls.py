@@ -1,13 +1,16 @@
 """The calls of the program: a source of bytes is read, a sink is written, and a status and a line tell how it ended.
 
-A source has `read(most)`, a sink `write(data)`, which gives how many bytes went; both raise `OSError` where they fail.
+A source has `read(most)`, a sink `write(data)`, which gives how many bytes went; both raise `OSError` where they fail. What a
+disk has `disks` says.
 """
 from reference import days
 from reference.check import Differs, check_record
-from reference.record import board_text, head_text, total_text, window_text
+from reference.disks import BytesDisk
+from reference.journal import Damaged, Journal
+from reference.record import board_text, head_text, kept_text, total_text, window_text
 from reference.replay import Home
 from reference.script import LIMITS, Refusal, read_script
-from reference.words import read_words
+from reference.words import Words, read_words
 
 PIECE = 4096
 MOST_CHECKED = 67_108_864  # bytes of a script and its record
@@ -81,11 +84,29 @@ def read(data):
         raise Fault(1, f"script: {refusal}") from None
 
 
+def on_disk(call, *given):
+    try:
+        return call(*given)
+    except Damaged as damaged:
+        raise Fault(10, f"damaged {damaged.args[0] + 1}") from None
+    except OSError:
+        raise Fault(9, "disk") from None
+
+
+def resumed_records(script, homes, mode):
+    """Plays the windows behind those after which these states were kept."""
+    home, begin = Home(script), len(homes)
+    if homes:
+        home.resume(homes[-1])
+    for number, window in enumerate(script.windows[begin:], begin):
+        yield number, home.replay(window, mode)
+
+
 class Call:
     """A call that was made: its status, its line, and the records of its windows where it came to a day."""
 
-    def __init__(self, words, source, sink):
-        self.source, self.sink = source, sink
+    def __init__(self, words, source, sink, disk=None):
+        self.source, self.sink, self.disk = source, sink, disk or BytesDisk()
         self.records = self.script = None
         self.status, self.line = 0, None
         try:
@@ -103,17 +124,38 @@ class Call:
             case "trial":
                 self.trial(asked.windows)
             case _:
-                self.replay(read(read_to_end(self.source, LIMITS["bytes"])), asked.mode, asked.trace, self.sink)
+                self.play(asked, read(read_to_end(self.source, LIMITS["bytes"])))
+
+    def play(self, asked, script):
+        """Plays a day. That of `run` and `watch` is one of those which threads may come to."""
+        match asked.command:
+            case "keep":
+                self.keep(script, asked)
+            case _:
+                self.replay(script, asked, self.sink)
                 if asked.command == "watch":
                     write_all(self.sink, board_text(self.records))
 
-    def replay(self, script, mode, trace, sink):
-        """Plays a day. That of `run` and `watch` is one of those which threads may come to."""
-        self.script, self.records, home = script, [], Home(script)
-        write_all(sink, head_text(mode))
-        for number, window in enumerate(script.windows):
-            self.records.append(home.replay(window, mode))
-            write_all(sink, window_text(script, number, self.records[-1], mode, trace))
+    def replay(self, script, asked, sink):
+        home = Home(script)
+        records = (home.replay(window, asked.mode) for window in script.windows)
+        self.write_day(script, head_text(asked.mode), enumerate(records), asked, sink)
+
+    def keep(self, script, asked):
+        """Goes on behind the windows that the disk keeps. The state after each is kept before its text is written."""
+        journal = on_disk(Journal, self.disk, [device.kind for device in script.devices], len(script.windows))
+        head = head_text(asked.mode) + kept_text(len(journal.homes))
+        records = resumed_records(script, journal.homes, asked.mode)
+        self.write_day(script, head, records, asked, self.sink, lambda home: on_disk(journal.keep, home))
+
+    def write_day(self, script, head, records, asked, sink, keep=lambda home: None):
+        """Writes a day while its windows are played: each record comes with the number of its window, from 0."""
+        self.script, self.records = script, []
+        write_all(sink, head)
+        for number, record in records:
+            self.records.append(record)
+            keep(record.last)
+            write_all(sink, window_text(script, number, record, asked.mode, asked.trace))
         write_all(sink, total_text(self.records))
 
     def check(self):
@@ -127,7 +169,7 @@ class Call:
     def trial(self, windows):
         """A made-up day is played and checked."""
         held = BytesSink()
-        self.replay(days.trial(windows), days.TRIAL_MODE, False, held)
+        self.replay(days.trial(windows), Words("replay", days.TRIAL_MODE), held)
         agree = windows
         try:
             check_record(self.script, held.held)

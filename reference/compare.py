@@ -5,12 +5,13 @@
 
 By default 1000 days of the seed 1, and crates/hub_main/out/hub_main, which `rt run` and `rt ci` build there. Each day is
 replayed with its trace, in one mode after another; every fourth script is spoiled first, so that it is refused as a rule; and
-the record of every fourth day is checked, half of these with one word changed. Standard output, standard error and the status
-must be the same, byte for byte. Prints the first call that differs, with its script made as short as it still differs, and
-ends with 1.
+the record of every fourth day is checked, half of these with one word changed. Every second day is kept besides, in a file
+that is empty, or keeps its first windows, in some of them with one byte changed. Standard output, standard error, the status
+and the file must be the same, byte for byte. Prints the first call that differs, with its script made as short as it still
+differs, and ends with 1.
 
-With `--cases` nothing is played: the calls are written as cases into the folder, which is made. Before the program is proved
-and built, `rt try --cases FOLDER` in crates/hub_main plays them and compares standard output.
+With `--cases` nothing is played: the calls are written as cases into the folder, which is made, but for those with a file.
+Before the program is proved and built, `rt try --cases FOLDER` in crates/hub_main plays them and compares standard output.
 """
 import argparse
 import collections
@@ -23,30 +24,43 @@ import shlex
 import shutil
 import subprocess
 import sys
+import tempfile
 
 HERE = os.path.dirname(os.path.abspath(__file__))
 sys.path.insert(0, os.path.join(HERE, ".."))
 
 from reference import days
 from reference.calls import BytesSink, BytesSource, Call
+from reference.disks import NAME, BytesDisk
 
 PROGRAM = os.path.join(HERE, "..", "crates", "hub_main", "out", "hub_main")
 MODES = [("ev", "fcfs"), ("psv", "fcfs"), ("ev", "jit"), ("gsv", "fcfs"), ("wv", "fcfs"), ("ev", "timeline")]
 MINUTE = 60
 
 
-def wanted(words, data):
-    sink = BytesSink()
-    call = Call(words, BytesSource(data), sink)
-    return call.status, sink.held, f"{call.line}\n".encode() if call.line else b""
+def wanted(words, data, file=None):
+    """The status, the output, the line of the fault, and where there is a file what it holds afterwards."""
+    sink, disk = BytesSink(), BytesDisk(file or b"")
+    call = Call(words, BytesSource(data), sink, disk)
+    told = call.status, sink.held, f"{call.line}\n".encode() if call.line else b""
+    return told if file is None else (*told, disk.held)
 
 
-def given(program, words, data):
-    try:
-        done = subprocess.run([*program, *words], input=data, capture_output=True, timeout=MINUTE)
-        return done.returncode, done.stdout, done.stderr
-    except subprocess.TimeoutExpired:
-        return "none after a minute", b"", b""
+def given(program, words, data, file=None):
+    with tempfile.TemporaryDirectory() as folder:
+        path = os.path.join(folder, NAME)
+        if file:
+            with open(path, "wb") as out:
+                out.write(file)
+        try:
+            done = subprocess.run([*program, *words], input=data, capture_output=True, timeout=MINUTE, cwd=folder)
+        except subprocess.TimeoutExpired:
+            return "none after a minute", b"", b""
+        told = done.returncode, done.stdout, done.stderr
+        if file is None:
+            return told
+        with open(path, "rb") as stored:
+            return *told, stored.read()
 
 
 # A day that differs is made shorter.
@@ -111,32 +125,49 @@ def shortened(script, differs):
 
 # The calls of a day.
 
+def file_for(draw, words, script):
+    """A file that keeps the first windows of the day, if any, and in some cases has one byte changed."""
+    windows = script["windows"]
+    first = {**script, "windows": windows[: draw.randint(0, len(windows))]}
+    disk = BytesDisk()
+    Call(words, BytesSource(json.dumps(first).encode()), BytesSink(), disk)
+    file = bytearray(disk.held)
+    if file and draw.random() < 0.25:
+        file[draw.randrange(len(file))] = draw.choice([0, 1, 2, 255])
+    return bytes(file)
+
+
 def calls_of(draw, k):
-    """The words, the input and the script, where it can be shortened, of each call for the day with this number."""
+    """The words, the input, the file or none, and the script, where it can be shortened, of each call for the day."""
     model, scheduler = MODES[k % len(MODES)]
     words = ["replay", "--trace", "--model", model, "--scheduler", scheduler]
     script = days.with_picks(draw, days.day(draw))
     if k % 4 == 3:
-        yield words, days.spoiled(draw, script).encode(), None
+        yield words, days.spoiled(draw, script).encode(), None, None
         return
     data = json.dumps(script).encode()
-    yield words, data, script
+    yield words, data, None, script
     if k % 2:
         record = wanted(words, data)[1].decode()
         record = days.damaged(draw, record) if k % 8 == 1 else record
-        yield ["check"], data + b"\n%%\n" + record.encode(), None
+        yield ["check"], data + b"\n%%\n" + record.encode(), None, None
+    else:
+        words = ["keep", *words[1:]]
+        yield words, data, file_for(draw, words, script), script
 
 
-def show(program, words, data):
-    for name, (status, out, err) in [("wanted", wanted(words, data)), ("given", given(program, words, data))]:
-        print(f"{name}: status {status}\n{out.decode(errors='replace')}{err.decode(errors='replace')}")
+def show(program, words, data, file):
+    for name, (status, out, err, *left) in [("wanted", wanted(words, data, file)), ("given", given(program, words, data, file))]:
+        print(f"{name}: status {status}\n{out.decode(errors='replace')}{err.decode(errors='replace')}", *map(bytes.hex, left))
 
 
 def write_cases(folder, asked):
     os.makedirs(folder)
     draw = random.Random(asked.seed)
     for k in range(asked.days):
-        for words, data, _ in calls_of(draw, k):
+        for words, data, file, _ in calls_of(draw, k):
+            if file is not None:
+                continue
             name = os.path.join(folder, f"{k:05}-{words[0]}")
             for ending, content in [("", data), (".args", "\n".join(words).encode()), (".stdout", wanted(words, data)[1])]:
                 with open(name + ending, "wb") as out:
@@ -153,21 +184,22 @@ def main():
     if asked.cases:
         write_cases(asked.cases, asked)
         return
-    if shutil.which(shlex.split(asked.program)[0]) is None:
+    first, *rest = shlex.split(asked.program)
+    if shutil.which(first) is None:
         sys.exit("compare: there is no such program; `rt run` in crates/hub_main builds it")
-    program, draw, statuses = shlex.split(asked.program), random.Random(asked.seed), collections.Counter()
+    program, draw, statuses = [os.path.abspath(shutil.which(first)), *rest], random.Random(asked.seed), collections.Counter()
     for k in range(asked.days):
-        for words, data, script in calls_of(draw, k):
+        for words, data, file, script in calls_of(draw, k):
             def differs(data):
-                return wanted(words, data) != given(program, words, data)
+                return wanted(words, data, file) != given(program, words, data, file)
 
             if differs(data):
                 if script is not None:
                     data = json.dumps(shortened(script, differs)).encode()
                 print(f"day {k} of the seed {asked.seed}, {' '.join(words)}:\n{data.decode()}")
-                show(program, words, data)
+                show(program, words, data, file)
                 sys.exit(1)
-            statuses[wanted(words, data)[0]] += 1
+            statuses[wanted(words, data, file)[0]] += 1
     told = ", ".join(f"{count} with status {status}" for status, count in sorted(statuses.items()))
     print(f"{asked.days} days of the seed {asked.seed}: {told}; no difference")
 

@@ -61,6 +61,32 @@ def kept_states(kinds, most, data):
     return homes
 
 
+class Journal:
+    """The states that a disk keeps, of at most so many windows. `Damaged` and `OSError` come as it is opened."""
+
+    def __init__(self, disk, kinds, most):
+        self.disk, self.size = disk, 7 + 5 * len(kinds)
+        disk.sync()
+        length = min(disk.length(), most * self.size + 1)
+        data = disk.read(0, length) if length else b""
+        self.homes = kept_states(kinds, most, data)
+        if len(self.homes) < most and data[self.gate() :][:1] in (b"", OPEN):
+            disk.write_at(self.gate(), SHUT)
+            disk.sync()
+
+    def gate(self):
+        """Where the gate of the next slot is."""
+        return len(self.homes) * self.size
+
+    def keep(self, home):
+        """Keeps one state more. It is kept once the gate is on the disk."""
+        self.disk.write_at(self.gate() + 1, state_bytes(len(self.homes) + 1, home) + SHUT)
+        self.disk.sync()
+        self.disk.write_at(self.gate(), OPEN)
+        self.disk.sync()
+        self.homes.append(home)
+
+
 # The bytes that stand in the tests
 
 TESTS = os.path.join(os.path.dirname(os.path.abspath(__file__)), "..", "crates", "rule_tests", "src", "journals.rt")

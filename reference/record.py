@@ -8,6 +8,11 @@ def head_text(mode):
     return f"safehome day\nmodel {mode.model} {mode.scheduler}\n"
 
 
+def kept_text(count):
+    """The line behind the head of a day that is kept."""
+    return f"kept {count}\n"
+
+
 def time_text(at):
     return "{:04}-{:02}-{:02}T{:02}:{:02}:{:02}".format(*at)
 

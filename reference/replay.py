@@ -77,6 +77,10 @@ class Home:
         self.devices = [Device(device.start, device.downs) for device in script.devices]
         self.stands = [Stand(device.start, True) for device in script.devices]
 
+    def resume(self, stands):
+        """Goes on where another program left off: each device that was up is driven there, or else counted down."""
+        self.stands = [Stand(value, up and device.drive(value)) for device, (value, up) in zip(self.devices, stands)]
+
     def open_window(self, window, mode: Mode):
         runs = {r: Run(self.script.routines[run.routine].commands, run.follows) for r, run in enumerate(window.runs, 1)}
         kinds = [device.kind for device in self.script.devices]

@@ -29,6 +29,7 @@ sys.path.insert(0, os.path.join(HERE, ".."))
 from reference.calls import BytesSink, BytesSource, Call
 from reference.check import Differs, check_record
 from reference.devices import Grip
+from reference.disks import BytesDisk
 from reference.history import Mode
 from reference.hub import WAITS, Stranger
 from reference.record import head_text, window_text
@@ -109,16 +110,17 @@ def check_table(data):
 # day_table: a verb a line, a call a case
 
 class Before:
-    """What a case may take from those before it: the input that was kept last, and what the last sink held."""
+    """What a case may take from those before it: the input that was kept last, what the last sink held, and the last disk."""
 
     def __init__(self):
-        self.kept = self.record = b""
+        self.kept = self.record = self.file = b""
 
 
 class Case:
     def __init__(self, before):
         self.name, self.words, self.data, self.before = "", [], bytearray(), before
         self.source, self.sink, self.room = (0, 65_536), (0, 65_536), ROOM
+        self.disk, self.file, self.loses = (0, ROOM), b"", False
 
     def add(self, verb, rest):
         match verb:
@@ -126,12 +128,18 @@ class Case:
                 self.name = rest
             case "word":
                 self.words.append(rest)
-            case "source" | "sink":
+            case "source" | "sink" | "disk":
                 setattr(self, verb, tuple(map(int, rest.split(" "))))
             case "room":
                 self.room = int(rest)
             case "keep":
                 self.before.kept = bytes(self.data)
+            case "loses":
+                self.loses = True
+            case "file":
+                self.file += bytes(map(int, rest.split(" ")))
+            case "found":
+                self.file += self.before.file
             case _:
                 self.data += self.piece(verb, rest)
 
@@ -157,14 +165,18 @@ class Case:
 
     def outcome(self):
         source, sink = BytesSource(bytes(self.data), *self.source), BytesSink(self.room, *self.sink)
-        # the call behind the table does not take `run` and `watch`
-        call = Call([] if self.words[:1] in (["run"], ["watch"]) else self.words, source, sink)
+        disk = BytesDisk(self.file, *self.disk)
+        # these the call behind the table does not take
+        call = Call([] if self.words[:1] in (["run"], ["watch"]) else self.words, source, sink, disk)
         self.before.record = sink.held
         lines = [f"case {self.name}", f"status {call.status}", *([f"fault {call.line}"] if call.line else [])]
         if call.records is None:
             lines.append("no day")
         else:
             lines.append(f"day windows {len(call.records)} devices {len(call.script.devices)}")
+        if self.words[:1] == ["keep"]:
+            self.before.file = disk.crashed(not self.loses).held
+            lines.append(" ".join(["disk", *map(str, self.before.file)]))
         lines += [f"left {len(source.data)}", f"record {len(sink.held)}", ""]
         return "\n".join(lines).encode() + sink.held + b"\n"
 

@@ -9,7 +9,7 @@ MOST_WINDOWS = 288
 
 
 class Words(NamedTuple):
-    command: str  # run, replay, watch, check or trial
+    command: str  # run, replay, watch, keep, check or trial
     mode: Mode = Mode("ev", "fcfs")
     trace: bool = False
     windows: int = 0  # of a trial
@@ -35,7 +35,7 @@ def read_options(words):
 def read_words(words):
     """What the words ask for, or none."""
     match words:
-        case [("run" | "replay" | "watch") as command, *rest]:
+        case [("run" | "replay" | "watch" | "keep") as command, *rest]:
             options = read_options(rest)
             if options is None:
                 return None

@@ -31,8 +31,8 @@ NAME = re.compile(r"[^\W\d]\w*(?:(?:::|\.)[^\W\d]\w*)*")
 QUOTED = r"`[^`\n]+`"
 PLACED = re.compile(rf"((?:{QUOTED}(?:, | and |; )?(?:with )?)+) \((?:([a-z]+_[a-z_]+), )?(?:proofs/)?((?:\w+/)*[A-Z]\w+)\)")
 PATH = re.compile(r"(?<![\w/.<-])((?:crates|docs|examples|reference|tools|bench|proofs|specs|src)/[\w./-]*\w)")
-# a crate that is gone and some to come, names with a number to fill in, a device of a trial, and the toolchain and its like
-OUTSIDE = ("plain_rules room_hubs at_K clauses_K give_K d00 logic valgrind callgrind clang "
+# a crate that is gone, names with a number to fill in, a device of a trial, and the toolchain and its like
+OUTSIDE = ("plain_rules at_K clauses_K give_K d00 logic valgrind callgrind clang "
            "ulimit malloc NaN mypy")
 MADE = re.compile("CRATE|NAME|/out/")
 LINKED = re.compile(r"(^```.*?^```|^    [^\n]*$|`[^`\n]+`|!?\[[^\]\n]*\]\([^)\n]*\))", re.MULTILINE | re.DOTALL)  # or code

@@ -8,19 +8,20 @@
 The first form wants a C compiler, `cc`, and crates/hub_main/out/hub_main, which `rt run` and `rt ci` build. A few lines of C,
 loaded in front of the C library, count the program's requests for memory and for threads, and refuse some. Of each day,
 `one-light`, `undo-drives-live-writer` and `a-morning` by default, cases of crates/day_table, it makes the calls `replay`, `run`,
-`watch` and the `check` of the replay's record, and `trial 1` besides. First the Nth request for memory alone is refused, one N a call, up to
+`watch`, `keep` with no file, and the `check` of the replay's record, and `trial 1` besides. First the Nth request for memory alone is refused, one N a call, up to
 the first N to which the call does not come; then the Nth and all behind it; then the Nth thread alone, and all from the Nth on. Asked is
 
 - either status 0, all of the text and nothing on standard error,
 - or status 5, a first part of the text, and `memory` alone on standard error; this only where memory was refused.
 
-The text of a replay, a check and a trial is the reference's. With `run` and `watch` the threads choose, so the record is judged
-as the windows that it holds (bench/judge_runs.py), and the line behind a watched one by its total.
+The text of a replay, a kept day, a check and a trial is the reference's.
+With `run` and `watch` the threads choose, so the record is judged as the windows that it holds (bench/judge_runs.py), and the line
+behind a watched one by its total. The file of a kept day has to keep each window of which a line was written.
 
 The second form needs no proof: it has the Nth allocation of each replay refused by `rt try --fail-alloc N`, which also stops at a
 bad access, and asks the same. Each such call builds the program anew.
 
-The third form wants `cc` and what `rt test` builds in crates/chain_arena. Of each of its tests the Nth request is refused, one
+The third form wants `cc` and what `rt test` builds in crates/rule_tests. Of each test of a chain the Nth request is refused, one
 N a run. A `Chain::reserve` that is refused is called once more there, after a look at the list, so the test passes; where
 another request is refused it ends with want of memory. Asked is that it ends in one of these ways, and by no signal.
 
@@ -42,11 +43,14 @@ TOP = os.path.join(HERE, "..")
 sys.path[:0] = [TOP, os.path.join(TOP, "bench")]
 from judge_runs import Wrong, judge
 from reference.compare import PROGRAM, wanted
+from reference.disks import NAME
+from reference.journal import Damaged, kept_states
+from reference.script import read_script
 
 DAYS = ["one-light", "undo-drives-live-writer", "a-morning"]
 TABLE = os.path.join(TOP, "crates", "day_table", "stdin")
 MAIN = os.path.join(TOP, "crates", "hub_main")
-CHAIN_TESTS = os.path.join(TOP, "crates", "chain_arena", "out", "chain_arena_tests")
+RULE_TESTS = os.path.join(TOP, "crates", "rule_tests", "out", "rule_tests_tests")
 MINUTE = 60
 GREATEST = 2**62
 COUNTS = struct.Struct("@ll")
@@ -129,6 +133,9 @@ class Call:
     def is_part(self, out):
         return self.text.startswith(out)
 
+    def judge_file(self, file, out):
+        """That the file of the journal is as it should be behind this output."""
+
     def judge(self, came, may_be_part):
         """That the call has ended as it should. Answers its status."""
         status, out, err = came
@@ -137,6 +144,19 @@ class Call:
         if may_be_part and (status, err) == (5, b"memory\n") and self.is_part(out):
             return status
         raise Wrong(f"status {status}, {out.decode(errors='replace')!r}, {err.decode(errors='replace')!r}")
+
+
+class Keep(Call):
+    """A day that is kept, in a file that is not there before."""
+
+    def judge_file(self, file, out):
+        script = read_script(self.data)
+        try:
+            kept = len(kept_states([device.kind for device in script.devices], len(script.windows), file))
+        except Damaged:
+            raise Wrong("the file is damaged") from None
+        if kept < len(re.findall(rb"^window ", out, re.MULTILINE)):
+            raise Wrong("a window was written whose state is not kept")
 
 
 class Run(Call):
@@ -165,7 +185,7 @@ class Run(Call):
 
 
 class Test(Call):
-    """A test of chain_arena. It passes, or ends with want of memory, which the harness tells."""
+    """A test of a chain. It passes, or ends with want of memory, which the harness tells."""
 
     def __init__(self, name):
         self.name, self.words, self.data = name, [name], b""
@@ -193,6 +213,7 @@ def calls_of(name):
     yield replay
     yield Run(f"{name}, run", ["run", "--trace"], script)
     yield Watch(f"{name}, watch", ["watch", "--trace"], script)
+    yield Keep(f"{name}, keep", ["keep"], script)
     yield Call(f"{name}, check", ["check"], script + b"\n%%\n" + replay.text)
 
 
@@ -200,7 +221,7 @@ class Refuser:
     """The built program behind the lines of C, which are compiled into a folder."""
 
     def __init__(self, program, room):
-        self.program, self.told = program, os.path.join(room, "told")
+        self.program, self.told, self.room = program, os.path.join(room, "told"), room
         self.shim, source = os.path.join(room, "shim.so"), os.path.join(room, "shim.c")
         with open(source, "w") as lines:
             lines.write(SHIM)
@@ -211,12 +232,19 @@ class Refuser:
         with open(self.told, "wb") as told:
             told.write(COUNTS.pack(0, 0))
         asked = {"LD_PRELOAD": self.shim, "REFUSED": f"{kind} {first} {last}", "REFUSED_TOLD": self.told}
+        file = os.path.join(self.room, NAME)
+        if os.path.exists(file):
+            os.remove(file)
         try:
-            done = subprocess.run([self.program, *call.words], input=call.data, capture_output=True, env=asked, timeout=MINUTE)
+            done = subprocess.run(
+                [self.program, *call.words], input=call.data, capture_output=True, env=asked, timeout=MINUTE, cwd=self.room)
         except subprocess.TimeoutExpired:
             raise Wrong(f"no end after {MINUTE} s") from None
         if done.returncode < 0:
             raise Wrong(f"ended by the signal {-done.returncode}")
+        if os.path.exists(file):
+            with open(file, "rb") as stored:
+                call.judge_file(stored.read(), done.stdout)
         with open(self.told, "rb") as told:
             blocks, threads = COUNTS.unpack(told.read())
         return (done.returncode, done.stdout, done.stderr), blocks if kind == "m" else threads
@@ -225,8 +253,8 @@ class Refuser:
         """Refuses the Nth request, for each N to which the call comes: how many calls have ended with each status."""
         ends = collections.Counter()
         for number in itertools.count(1):
-            came, requests = self.play(call, kind, number, GREATEST if goes_on else number)
             try:
+                came, requests = self.play(call, kind, number, GREATEST if goes_on else number)
                 status = call.judge(came, kind == "m" and requests >= number)
             except Wrong as wrong:
                 raise Wrong(f"request {number} refused: {wrong}") from None
@@ -250,9 +278,9 @@ def sweep_program(program, calls, ways=WAYS):
 
 
 def sweep_tests():
-    listed = subprocess.run([CHAIN_TESTS, "--list"], capture_output=True, check=True).stdout.decode()
-    tests = [Test(name) for name in re.findall("^(.*): test$", listed, re.MULTILINE)]
-    sweep_program(CHAIN_TESTS, tests, {"memory": WAYS["memory"]})
+    listed = subprocess.run([RULE_TESTS, "--list"], capture_output=True, check=True).stdout.decode()
+    tests = [Test(name) for name in re.findall("^(.*chains::.*): test$", listed, re.MULTILINE)]
+    sweep_program(RULE_TESTS, tests, {"memory": WAYS["memory"]})
 
 
 def tried(call, number):
