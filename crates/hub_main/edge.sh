@@ -89,6 +89,8 @@ words replay --
 words replay --help
 words check --trace
 words trial 007
+words rooms --trace
+words rooms --model wv
 words keep --mod ev
 words "$(printf 'replay\377')"
 words replay "$(printf '\377')"
@@ -144,7 +146,7 @@ got=$?
 ends 3 read
 
 : >"$room/out"
-for word in replay run watch; do
+for word in replay run watch rooms; do
     call="$word to no standard output"
     printf '%s' "$input" | "$room/hub_main" "$word" >&- 2>"$room/err"
     got=$?
@@ -198,6 +200,44 @@ printf '%s\n' 'safehome day' 'model ev fcfs' 'window 1 2021-04-26T07:00:00' 'run
     'order fail(lamp)' 'home lamp=off!' 'total windows 1 runs 1 committed 0 aborted 1' >"$room/record"
 plays "$room/record" replay
 plays "$room/record" run
+
+# a day of one room has the record of its run; the devices of a room are down where the script says so
+plays "$room/record" rooms
+input=$kept
+plays stdout rooms
+
+# hubs of two rooms print one order, in which room stands behind room, and the home's numbers
+pair() {
+    printf '{"name":"hall_lamp","states":["off","on"],"start":"off"},{"name":"bed_lamp","states":["off","on"],"start":"off"}'
+}
+routine() {
+    printf '{"name":"%s","commands":[{"on":"%s","do":"set","to":"on"}]}' "$1" "$2"
+}
+two="$(routine a bed_lamp),$(routine b hall_lamp)"
+input=$(day "$(pair)" "$two" '{"at":"2021-04-26T07:00:00","runs":[{"routine":"a"},{"routine":"b"}]}')
+printf '%s\n' 'safehome day' 'model ev fcfs' 'window 1 2021-04-26T07:00:00' 'run 1 a committed .' 'run 2 b committed .' \
+    'order 2 1' 'home hall_lamp=on bed_lamp=on' 'total windows 1 runs 2 committed 2 aborted 0' >"$room/record"
+plays "$room/record" rooms
+sed 's/^model ev fcfs$/model gsv fcfs/' "$room/record" >"$room/strict"
+plays "$room/strict" rooms --model gsv
+printf 'agrees\n' >"$room/agrees"
+input="$input
+%%
+$(cat "$room/record")
+"
+plays "$room/agrees" check
+input=$(day "$(pair)" "$two" '{"at":"2021-04-26T07:00:00","runs":[{"routine":"a"},{"routine":"b","follows":1}]}')
+call rooms
+ends 11 'cross follow 1.2'
+input=$(day "$(pair)" \
+    '{"name":"a","commands":[{"on":"hall_lamp","do":"set","to":"on"},{"on":"bed_lamp","do":"set","to":"on"}]}' \
+    '{"at":"2021-04-26T07:00:00","runs":[]},{"at":"2021-04-26T07:05:00","runs":[{"routine":"a"}]}')
+call rooms
+ends 11 'cross room 2.1'
+input='{'
+call rooms
+ends 1 'script: not json'
+input=$kept
 
 # a watched day has the record of its run, and behind it the line of its board; what is read beside it is shown where
 # the environment asks for that, on a terminal in one line, and the record and the line of a fault stay as they are

@@ -4,7 +4,9 @@
 pub mod command_lines;
 mod option_words;
 mod readers;
+mod room_words;
 mod trial_numbers;
 
 pub use command_lines::{CommandLine, Options, WordFault};
 pub use readers::read_words;
+pub use room_words::read_room_words;

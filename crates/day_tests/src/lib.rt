@@ -12,6 +12,8 @@ mod keeps;
 #[cfg(test)]
 mod replays;
 #[cfg(test)]
+mod rooms;
+#[cfg(test)]
 mod runs;
 #[cfg(test)]
 mod watches;

@@ -72,10 +72,7 @@ const PATIENCE: u32 = 100_000_000;
 
 #[test]
 fn two_meet(rt: HostRuntime) {
-    let scene = Scene {
-        flags: [AtomicBool::new(false), AtomicBool::new(false)],
-        clock: StdClock::new(&rt),
-    };
+    let scene = Scene::new(&rt);
     let mut bench = PlayingBench {
         parts: [
             None,
@@ -97,10 +94,7 @@ fn two_meet(rt: HostRuntime) {
 fn a_lease_is_revoked_while_nobody_else_steps(rt: HostRuntime) {
     let mut least = u64::MAX;
     for _ in 0..ATTEMPTS {
-        let scene = Scene {
-            flags: [AtomicBool::new(false), AtomicBool::new(false)],
-            clock: StdClock::new(&rt),
-        };
+        let scene = Scene::new(&rt);
         let mut bench = PlayingBench {
             parts: [
                 Some(Part::waiting(0)),
@@ -146,7 +140,7 @@ fn writes_the_stored_record(rt: HostRuntime) {
 }
 
 /// Calls `run` with these words on the script, and gives how it ended and the sink.
-fn run<R: Threads + Wait + Sync, B: Bench, C: Clock + Sync>(
+pub fn run<R: Threads + Wait + Sync, B: Bench, C: Clock + Sync>(
     rt: &R,
     alloc: Global,
     words: &[&str],
@@ -191,7 +185,7 @@ fn commits<Dev: Device>(finish: &Finish<Dev>, r: RunNo) -> bool {
 }
 
 /// Whether one of the text's lines is this one.
-fn has_line(text: &[u8], line: &[u8]) -> bool {
+pub fn has_line(text: &[u8], line: &[u8]) -> bool {
     text.split(|byte| *byte == b'\n').any(|found| found == line)
 }
 
@@ -216,9 +210,19 @@ fn delay<Dev: Device>(finish: &Finish<Dev>) -> Option<u64> {
 
 /// What the devices of a home share: two flags, and a clock.
 #[derive(Drop)]
-struct Scene<C> {
+pub struct Scene<C> {
     flags: [AtomicBool; 2],
-    clock: C,
+    pub clock: C,
+}
+
+impl<T: std::time::Clock> Scene<StdClock<T>> {
+    /// A scene in which no flag is raised yet.
+    pub fn new(time: T) -> Scene<StdClock<T>> {
+        Scene {
+            flags: [AtomicBool::new(false), AtomicBool::new(false)],
+            clock: StdClock::new(time),
+        }
+    }
 }
 
 impl<C: Clock> Scene<C> {
@@ -247,14 +251,14 @@ impl<C: Clock> Scene<C> {
 /// What a device does in its first call, before it answers: it raises its own flag, works for so many ms, and waits for
 /// another's flag. Flags count from 0.
 #[derive(Clone, Copy)]
-struct Part {
+pub struct Part {
     raises: Option<usize>,
     awaits: Option<usize>,
     ms: u64,
 }
 
 impl Part {
-    fn meeting(own: usize, other: usize) -> Part {
+    pub fn meeting(own: usize, other: usize) -> Part {
         Part {
             raises: Some(own),
             awaits: Some(other),
@@ -282,7 +286,7 @@ impl Part {
 /// A device that plays its part in its first call, where it has one. It dies where the flag that it waits for is not
 /// raised in time.
 #[derive(Drop)]
-struct Playing<'a, C> {
+pub struct Playing<'a, C> {
     number: DeviceNo,
     value: Value,
     part: Option<Part>,
@@ -370,9 +374,9 @@ fn work_for<C: Clock>(clock: &C, ms: u64) {
 
 /// The bench of a home of four devices with these parts.
 #[derive(Drop)]
-struct PlayingBench<'a, C> {
-    parts: [Option<Part>; 4],
-    scene: &'a Scene<C>,
+pub struct PlayingBench<'a, C> {
+    pub parts: [Option<Part>; 4],
+    pub scene: &'a Scene<C>,
 }
 
 impl<'a, C: Clock> Bench for PlayingBench<'a, C> {

@@ -14,7 +14,7 @@ use Rattle.hub_core.specs.Openings.{is_mode}
 use Rattle.std.proofs.Common.{refl, subst, ◌≡◌}
 use Rattle.std.specs.Prelude.{IsTrue, List, None, Option, Some, option_and_then, true, ℕ}
 
-pair_is_mode : (scheduler : Scheduler) (model : Visibility) → goes_with scheduler model ≡ true → IsTrue (is_mode (record { model = model; scheduler = scheduler }))
+pub pair_is_mode : (scheduler : Scheduler) (model : Visibility) → goes_with scheduler model ≡ true → IsTrue (is_mode (record { model = model; scheduler = scheduler }))
 pair_is_mode Fcfs Weak goes = refl
 pair_is_mode Fcfs Global goes = refl
 pair_is_mode Fcfs Partitioned goes = refl

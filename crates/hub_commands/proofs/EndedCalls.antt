@@ -6,7 +6,7 @@ use Rattle.history_book.specs.declared.records.WindowRecord.{WindowRecord}
 use Rattle.hub_commands.specs.Calls.{AsksFor, CallEnds, EndsBefore}
 use Rattle.hub_commands.specs.Days.{Closing}
 use Rattle.hub_commands.specs.Finishes.{InputIsRead, IsUnwritten, Reads, Shown, Writes}
-use Rattle.hub_commands.specs.declared.faults.Fault.TheVariants.{Check, Damaged, Disk, Memory, Read, Script as Refuses, Words, Write}
+use Rattle.hub_commands.specs.declared.faults.Fault.TheVariants.{Check, Cross, Damaged, Disk, Memory, Read, Script as Refuses, Words, Write}
 use Rattle.hub_commands.specs.declared.faults.Fault.{Fault}
 use Rattle.hub_commands.specs.declared.finishes.Day.{Day}
 use Rattle.routine_reader.specs.declared.scripts.WindowText.{WindowText}
@@ -28,5 +28,6 @@ refused_call {D = D} works shown closing line options source sink day fault e as
     by_fault Write r = absurd r
     by_fault Memory r = inl (no_day, unwritten, r)
     by_fault (Check window place name) r = absurd r
+    by_fault (Cross window run follow) r = absurd r
     by_fault Disk r = absurd r
     by_fault (Damaged slot) r = absurd r

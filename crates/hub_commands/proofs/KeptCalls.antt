@@ -17,7 +17,7 @@ use Rattle.hub_commands.specs.Finishes.{InputIsRead, IsRead, IsUnwritten, Reads,
 use Rattle.hub_commands.specs.KeepCalls.{DayGoesOn, DayIsKept, IsOpened, IsUnkept, JournalIsOpened, KeepEnds, ScriptIsKept, opening_fault}
 use Rattle.hub_commands.specs.KeptDays.{HasEndedBehind, IsDiskLeft, last_states, windows_of}
 use Rattle.hub_commands.specs.Ways.{IsReplayOf}
-use Rattle.hub_commands.specs.declared.faults.Fault.TheVariants.{Check, Damaged, Disk, Memory, Read, Script as Refuses, Words, Write}
+use Rattle.hub_commands.specs.declared.faults.Fault.TheVariants.{Check, Cross, Damaged, Disk, Memory, Read, Script as Refuses, Words, Write}
 use Rattle.hub_commands.specs.declared.faults.Fault.{Fault}
 use Rattle.hub_commands.specs.declared.finishes.Day.{Day}
 use Rattle.routine_reader.specs.Rosters.{kinds_of}
@@ -76,6 +76,7 @@ module _ {D Q : Type 0} (shown : Shown D) (told : Bool) (seen : Q → List ℕ) 
         by_error Write o = absurd o
         by_error Memory o = inl (no_day, unwritten, o)
         by_error (Check window place name) o = absurd o
+        by_error (Cross window run follow) o = absurd o
         by_error Disk o = inl (no_day, unwritten, o)
         by_error (Damaged slot) o = (no_day, unwritten, o)
 
@@ -132,6 +133,7 @@ module _ {D Q : Type 0} (shown : Shown D) (told : Bool) (seen : Q → List ℕ) 
       opened_ends (Some Write) is = day_goes_on (Some Write) is
       opened_ends (Some Memory) is = inr (day_goes_on (Some Memory) is)
       opened_ends (Some (Check window place name)) is = absurd is.ended.ends
+      opened_ends (Some (Cross window run follow)) is = absurd is.ended.ends
       opened_ends (Some Disk) is = inr (day_goes_on (Some Disk) is)
       opened_ends (Some (Damaged slot)) is = absurd is.ended.ends
 
@@ -152,6 +154,7 @@ module _ {D Q : Type 0} (shown : Shown D) (told : Bool) (seen : Q → List ℕ) 
         by_error Write r = absurd r
         by_error Memory r = inl (no_day, unwritten, uncalled, r)
         by_error (Check window place name) r = absurd r
+        by_error (Cross window run follow) r = absurd r
         by_error Disk r = absurd r
         by_error (Damaged slot) r = absurd r
 
@@ -168,5 +171,6 @@ module _ {D Q : Type 0} (shown : Shown D) (told : Bool) (seen : Q → List ℕ) 
         by_fault (Some Write) is = is
         by_fault (Some Memory) is = inr is
         by_fault (Some (Check window place name)) is = absurd is.ends
+        by_fault (Some (Cross window run follow)) is = absurd is.ends
         by_fault (Some Disk) is = is
         by_fault (Some (Damaged slot)) is = is

@@ -17,7 +17,7 @@ use Rattle.hub_commands.specs.Finishes.{DayEndsOn, Shown, Writes}
 use Rattle.hub_commands.specs.Going.{IsGoingOn}
 use Rattle.hub_commands.specs.KeptDays.{HandsAllBack, HasEndedKept, IsDiskLeft, IsJournalSoFar, IsUnkeptOn, KeepsAtLeast, KeptDayEnds, last_states, windows_of}
 use Rattle.hub_commands.specs.Played.{HasGoneOn}
-use Rattle.hub_commands.specs.declared.faults.Fault.TheVariants.{Check, Damaged, Disk, Memory, Read, Script as Refuses, Words, Write}
+use Rattle.hub_commands.specs.declared.faults.Fault.TheVariants.{Check, Cross, Damaged, Disk, Memory, Read, Script as Refuses, Words, Write}
 use Rattle.hub_commands.specs.declared.faults.Fault.{Fault}
 use Rattle.hub_commands.specs.declared.finishes.Day.{Day}
 use Rattle.hub_core.specs.Homes.{HomeState}
@@ -39,6 +39,7 @@ day_kept works shown course options sink day (Some Read) ends = ends
 day_kept works shown course options sink day (Some Write) ends = ends
 day_kept works shown course options sink day (Some Memory) ends = ends
 day_kept works shown course options sink day (Some (Check window place name)) ends = ends
+day_kept works shown course options sink day (Some (Cross window run follow)) ends = ends
 day_kept works shown course options sink day (Some Disk) ends = absurd ends
 day_kept works shown course options sink day (Some (Damaged slot)) ends = ends
 

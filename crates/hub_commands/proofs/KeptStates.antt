@@ -6,7 +6,7 @@ use Rattle.home_journal.specs.Slots.{body_size, open_slots, state_of}
 use Rattle.home_types.specs.declared.kinds.Kind.{Kind}
 use Rattle.home_types.specs.declared.worlds.Stand.{Stand}
 use Rattle.hub_commands.specs.KeptDays.{KeepsAtLeast, last_states, surely_kept}
-use Rattle.hub_commands.specs.declared.faults.Fault.TheVariants.{Check, Damaged, Disk, Memory, Read, Script as Refuses, Words, Write}
+use Rattle.hub_commands.specs.declared.faults.Fault.TheVariants.{Check, Cross, Damaged, Disk, Memory, Read, Script as Refuses, Words, Write}
 use Rattle.hub_commands.specs.declared.faults.Fault.{Fault}
 use Rattle.std.proofs.Common.{ap, append-nil, append_assoc, arith, refl, sym, ◌∙◌}
 use Rattle.std.proofs.Math.Seq.{take-append_seam}
@@ -87,5 +87,6 @@ surely_few (Some Read) n = omega arith
 surely_few (Some Write) n = omega arith
 surely_few (Some Memory) n = omega arith
 surely_few (Some (Check window place name)) n = omega arith
+surely_few (Some (Cross window run follow)) n = omega arith
 surely_few (Some Disk) n = omega arith
 surely_few (Some (Damaged slot)) n = omega arith

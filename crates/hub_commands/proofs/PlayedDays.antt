@@ -30,7 +30,7 @@ use Rattle.std.specs.Prelude.{Err, IfOk, List, None, Ok, Option, Result, Some, [
 abbrev after_texts : Course → List WindowRecord → List ℕ
 after_texts course records = if length records == length (script_of course).windows.items then total_text records else []
 
-said : {M : Type 0} (piece : Result (List ℕ) M) (text bytes : List ℕ) → IfOk piece (λ b. b ≡ text) → piece ≡ Ok bytes → bytes ≡ text
+pub said : {M : Type 0} (piece : Result (List ℕ) M) (text bytes : List ℕ) → IfOk piece (λ b. b ≡ text) → piece ≡ Ok bytes → bytes ≡ text
 said {M} piece text bytes ok is = subst (λ (r : Result (List ℕ) M). IfOk r (λ b. b ≡ text)) is ok
 
 -- what is not written is kept
@@ -44,7 +44,7 @@ LeadWith course options records bytes = (before : List WindowRecord) (closed : W
     → (rest : List ℕ) × (bytes ≡ text_on course options.mode options.trace before ++ rest)
 
 -- with no window there is none to write
-none_leads : (course : Course) (options : Options) (records : List WindowRecord) (bytes : List ℕ) → records ≡ [] → LeadWith course options records bytes
+pub none_leads : (course : Course) (options : Options) (records : List WindowRecord) (bytes : List ℕ) → records ≡ [] → LeadWith course options records bytes
 none_leads course options records bytes none before closed is = absurd (no_snoc before closed (sym none ∙ is))
 
 -- the text of all windows does
@@ -55,7 +55,7 @@ all_lead course options records before closed is = (
 )
 
 -- the text of the windows but the last does
-rest_lead : (course : Course) (options : Options) (earlier : List WindowRecord) (last : WindowRecord) (records : List WindowRecord) → records ≡ earlier ++ last ∷ []
+pub rest_lead : (course : Course) (options : Options) (earlier : List WindowRecord) (last : WindowRecord) (records : List WindowRecord) → records ≡ earlier ++ last ∷ []
     → LeadWith course options records (text_on course options.mode options.trace earlier)
 rest_lead course options earlier last records all before closed is = (
   [],

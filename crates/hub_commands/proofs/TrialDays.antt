@@ -4,7 +4,7 @@ use Rattle.hub_commands.specs.Days.{plain}
 use Rattle.hub_commands.specs.Finishes.{DayEnds, IsWhole, Shown, Writes}
 use Rattle.hub_commands.specs.Trials.{HasJudged, IsTrialDay, TrialEnds, finding, trial_mode}
 use Rattle.hub_commands.specs.Ways.{IsReplayOf}
-use Rattle.hub_commands.specs.declared.faults.Fault.TheVariants.{Check, Damaged, Disk, Memory, Read, Script as Refuses, Words, Write}
+use Rattle.hub_commands.specs.declared.faults.Fault.TheVariants.{Check, Cross, Damaged, Disk, Memory, Read, Script as Refuses, Words, Write}
 use Rattle.hub_commands.specs.declared.faults.Fault.{Fault}
 use Rattle.hub_commands.specs.declared.finishes.Day.{Day}
 use Rattle.hub_core.specs.LegalDays.{RecordsAreLegal}
@@ -66,6 +66,7 @@ module _ {D : Type 0} (shown : Shown D) (n : ℕ) (script : Script) (made : plai
     }),
   )
   judged_whole o whole (Some (Check window place name)) agrees judged = judged
+  judged_whole o whole (Some (Cross window run follow)) agrees judged = absurd judged
   judged_whole o whole (Some Disk) agrees judged = judged
   judged_whole o whole (Some (Damaged slot)) agrees judged = judged
 

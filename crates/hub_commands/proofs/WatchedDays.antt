@@ -12,7 +12,7 @@ use Rattle.hub_commands.specs.Days.{boarded, new_course, plain, text_due, text_s
 use Rattle.hub_commands.specs.Finishes.{AppendsFirst, DayEnds, IsCut, IsStarved, IsWhole, IsWrittenAsClosed, Shown, Writes, written}
 use Rattle.hub_commands.specs.LastLines.{LineEnds, LineIsWritten}
 use Rattle.hub_commands.specs.Watched.{IsPublished}
-use Rattle.hub_commands.specs.declared.faults.Fault.TheVariants.{Check, Damaged, Disk, Memory, Read, Script as Refuses, Words, Write}
+use Rattle.hub_commands.specs.declared.faults.Fault.TheVariants.{Check, Cross, Damaged, Disk, Memory, Read, Script as Refuses, Words, Write}
 use Rattle.hub_commands.specs.declared.faults.Fault.{Fault}
 use Rattle.hub_commands.specs.declared.finishes.Day.{Day}
 use Rattle.routine_reader.specs.declared.scripts.Script.{Script}
@@ -125,6 +125,7 @@ module _ {D : Type 0} (works : Setting → WindowText → WindowRecord → (ℕ 
           calm = got.1.1 ∙ whole.calm;
         }
     behind_whole (Some (Check window place name)) got = got
+    behind_whole (Some (Cross window run follow)) got = got
     behind_whole (Some Disk) got = got
     behind_whole (Some (Damaged slot)) got = got
 
@@ -141,6 +142,7 @@ module _ {D : Type 0} (works : Setting → WindowText → WindowRecord → (ℕ 
   line_ends day after (Some Memory) why line ends got is =
       subst (λ (w : Option Fault). DayEnds works shown boarded script options (written held holds f f_after) after w) (sym got.1) (starved_before day after got.0 ends got.2.0 got.2.1)
   line_ends day after (Some (Check window place name)) why line ends got is = absurd ends
+  line_ends day after (Some (Cross window run follow)) why line ends got is = absurd ends
   line_ends day after (Some Disk) why line ends got is = absurd ends
   line_ends day after (Some (Damaged slot)) why line ends got is = absurd ends
 
@@ -167,5 +169,6 @@ line_published {D = D} line sink list day after None (Some Memory) ends is = rec
   published = is.published;
 }
 line_published line sink list day after None (Some (Check window place name)) ends is = absurd ends
+line_published line sink list day after None (Some (Cross window run follow)) ends is = absurd ends
 line_published line sink list day after None (Some Disk) ends is = absurd ends
 line_published line sink list day after None (Some (Damaged slot)) ends is = absurd ends

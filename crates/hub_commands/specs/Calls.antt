@@ -9,7 +9,7 @@ use Rattle.hub_commands.specs.Checks.{CheckEnds}
 use Rattle.hub_commands.specs.Days.{Closing, boarded, plain}
 use Rattle.hub_commands.specs.Finishes.{DayEnds, InputFails, InputIsStarved, IsRead, IsRefused, IsUnread, IsUnwritten, Reads, Shown, Writes}
 use Rattle.hub_commands.specs.Trials.{TrialEnds}
-use Rattle.hub_commands.specs.declared.faults.Fault.TheVariants.{Check, Damaged, Disk, Memory, Read, Script as Refuses, Words, Write}
+use Rattle.hub_commands.specs.declared.faults.Fault.TheVariants.{Check, Cross, Damaged, Disk, Memory, Read, Script as Refuses, Words, Write}
 use Rattle.hub_commands.specs.declared.faults.Fault.{Fault}
 use Rattle.hub_commands.specs.declared.finishes.Day.{Day}
 use Rattle.routine_reader.specs.declared.scripts.Script.{Script}
@@ -65,6 +65,7 @@ CallEnds works shown line source sink day (Some Memory) =
     ((day ≡ None) × IsUnwritten sink × InputIsStarved source)
     ⊎ (DayIsPlayed works shown line source sink day (Some Memory) ⊎ (RecordIsChecked line source sink day (Some Memory) ⊎ TrialIsMade shown line source sink day (Some Memory)))
 CallEnds works shown line source sink day (Some (Check window place name)) = RecordIsChecked line source sink day (Some (Check window place name))
+CallEnds works shown line source sink day (Some (Cross window run follow)) = ⊥
 CallEnds works shown line source sink day (Some Disk) = ⊥
 CallEnds works shown line source sink day (Some (Damaged slot)) = ⊥
 

@@ -4,7 +4,7 @@ use Rattle.day_clock.specs.Sources.{TakesCount, TakesUpTo}
 use Rattle.home_types.specs.Limits.{most_check_bytes}
 use Rattle.hub_commands.specs.Divisions.{division_of}
 use Rattle.hub_commands.specs.Finishes.{IsUnwritten, Reads, Writes}
-use Rattle.hub_commands.specs.declared.faults.Fault.TheVariants.{Check, Damaged, Disk, Memory, Read, Script as Refuses, Words, Write}
+use Rattle.hub_commands.specs.declared.faults.Fault.TheVariants.{Check, Cross, Damaged, Disk, Memory, Read, Script as Refuses, Words, Write}
 use Rattle.hub_commands.specs.declared.faults.Fault.{Fault}
 use Rattle.order_checker.specs.Records.{verdict_of}
 use Rattle.order_checker.specs.declared.verdicts.Place.TheVariants.{Answer, Device, Head, Home, Order, Run, Total, Window}
@@ -53,6 +53,7 @@ IsJudged script text (Err Read) = ⊥
 IsJudged script text (Err Write) = ⊥
 IsJudged script text (Err Memory) = ⊤
 IsJudged script text (Err (Check window place name)) = (verdict_of script text ≡ Differs window place) × (name ≡ place_name script place)
+IsJudged script text (Err (Cross window run follow)) = ⊥
 IsJudged script text (Err Disk) = ⊥
 IsJudged script text (Err (Damaged slot)) = ⊥
 
@@ -105,6 +106,7 @@ InputIsJudged source (Err Read) = CheckInputFails source
 InputIsJudged source (Err Write) = ⊥
 InputIsJudged source (Err Memory) = CheckIsStarved source
 InputIsJudged source (Err (Check window place name)) = RecordDiffers source window place name
+InputIsJudged source (Err (Cross window run follow)) = ⊥
 InputIsJudged source (Err Disk) = ⊥
 InputIsJudged source (Err (Damaged slot)) = ⊥
 
@@ -133,5 +135,6 @@ CheckEnds source sink (Some Read) = IsUnwritten sink × CheckInputFails source
 CheckEnds source sink (Some Write) = AgreementIsCut source sink
 CheckEnds source sink (Some Memory) = IsUnwritten sink × CheckIsStarved source
 CheckEnds source sink (Some (Check window place name)) = IsUnwritten sink × RecordDiffers source window place name
+CheckEnds source sink (Some (Cross window run follow)) = ⊥
 CheckEnds source sink (Some Disk) = ⊥
 CheckEnds source sink (Some (Damaged slot)) = ⊥

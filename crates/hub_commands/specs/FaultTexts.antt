@@ -1,11 +1,11 @@
 -- The texts of faults, and of places in a record.
-use Rattle.hub_commands.specs.declared.faults.Fault.TheVariants.{Check, Damaged, Disk, Memory, Read, Script, Words, Write}
+use Rattle.hub_commands.specs.declared.faults.Fault.TheVariants.{Check, Cross, Damaged, Disk, Memory, Read, Script, Words, Write}
 use Rattle.hub_commands.specs.declared.faults.Fault.{Fault}
 use Rattle.order_checker.specs.declared.verdicts.Place.TheVariants.{Answer, Device, Head, Home, Order, Run, Total, Window}
 use Rattle.order_checker.specs.declared.verdicts.Place.{Place}
 use Rattle.routine_reader.specs.Spots.{refusal_text}
 use Rattle.std.specs.Fmt.{decimal}
-use Rattle.std.specs.Prelude.{List, codes, ℕ, ◌+◌, ◌++◌}
+use Rattle.std.specs.Prelude.{List, codes, if◌then◌else◌, ℕ, ◌+◌, ◌++◌}
 
 -- a command counts from 1; a device is told by its number
 abbrev pub place_text : Place → List ℕ
@@ -37,5 +37,6 @@ fault_text Read = codes "read"
 fault_text Write = codes "write"
 fault_text Memory = codes "memory"
 fault_text (Check window place name) = codes "check: window " ++ decimal window ++ codes " " ++ named_place place name
+fault_text (Cross window run follow) = codes "cross " ++ (if follow then codes "follow" else codes "room") ++ codes " " ++ decimal window ++ codes "." ++ decimal run.0
 fault_text Disk = codes "disk"
 fault_text (Damaged slot) = codes "damaged " ++ decimal slot

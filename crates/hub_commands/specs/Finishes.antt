@@ -8,7 +8,7 @@ use Rattle.hub_core.specs.LegalDays.{IsLegalCutDayFrom, IsLegalDayFrom}
 use Rattle.history_book.specs.Settings.{Setting}
 use Rattle.history_book.specs.declared.records.WindowRecord.{WindowRecord}
 use Rattle.hub_commands.specs.Days.{Closing, Course, DevicesAreProbed, WindowsArePlayedOn, new_course, record_text_on, text_due_on, text_on}
-use Rattle.hub_commands.specs.declared.faults.Fault.TheVariants.{Check, Damaged, Disk, Memory, Read, Script as Refuses, Words, Write}
+use Rattle.hub_commands.specs.declared.faults.Fault.TheVariants.{Check, Cross, Damaged, Disk, Memory, Read, Script as Refuses, Words, Write}
 use Rattle.hub_commands.specs.declared.faults.Fault.{Fault}
 use Rattle.hub_commands.specs.declared.finishes.Day.{Day}
 use Rattle.routine_reader.specs.Readings.{script_reading}
@@ -86,6 +86,7 @@ InputIsRead source (Err Read) = InputFails source
 InputIsRead source (Err Write) = ⊥
 InputIsRead source (Err Memory) = InputIsStarved source
 InputIsRead source (Err (Check window place name)) = ⊥
+InputIsRead source (Err (Cross window run follow)) = ⊥
 InputIsRead source (Err Disk) = ⊥
 InputIsRead source (Err (Damaged slot)) = ⊥
 
@@ -166,6 +167,7 @@ DayEndsOn works shown closing course options sink day (Some Read) = ⊥
 DayEndsOn works shown closing course options sink day (Some Write) = IsCutOn works shown closing course options sink day
 DayEndsOn works shown closing course options sink day (Some Memory) = IsStarvedOn works closing course options sink day
 DayEndsOn works shown closing course options sink day (Some (Check window place name)) = ⊥
+DayEndsOn works shown closing course options sink day (Some (Cross window run follow)) = ⊥
 DayEndsOn works shown closing course options sink day (Some Disk) = ⊥
 DayEndsOn works shown closing course options sink day (Some (Damaged slot)) = ⊥
 

@@ -10,7 +10,7 @@ use Rattle.home_types.specs.declared.worlds.Stand.{Stand}
 use Rattle.hub_commands.specs.Finishes.{InputFails, InputIsStarved, IsRead, IsRefused, IsUnread, IsUnwritten, Reads, Shown, Writes}
 use Rattle.hub_commands.specs.KeptDays.{HasEndedBehind}
 use Rattle.hub_commands.specs.Ways.{IsReplayOf}
-use Rattle.hub_commands.specs.declared.faults.Fault.TheVariants.{Check, Damaged, Disk, Memory, Read, Script as Refuses, Words, Write}
+use Rattle.hub_commands.specs.declared.faults.Fault.TheVariants.{Check, Cross, Damaged, Disk, Memory, Read, Script as Refuses, Words, Write}
 use Rattle.hub_commands.specs.declared.faults.Fault.{Fault}
 use Rattle.hub_commands.specs.declared.finishes.Day.{Day}
 use Rattle.routine_reader.specs.Rosters.{kinds_of}
@@ -54,6 +54,7 @@ JournalIsOpened told seen images moment since failures script disk (Err (now, Re
 JournalIsOpened told seen images moment since failures script disk (Err (now, Write)) = ⊥
 JournalIsOpened told seen images moment since failures script disk (Err (now, Memory)) = now ≡ disk
 JournalIsOpened told seen images moment since failures script disk (Err (now, Check window place name)) = ⊥
+JournalIsOpened told seen images moment since failures script disk (Err (now, Cross window run follow)) = ⊥
 JournalIsOpened told seen images moment since failures script disk (Err (now, Disk)) = JournalFails told seen images moment since failures script disk now
 JournalIsOpened told seen images moment since failures script disk (Err (now, Damaged slot)) = JournalIsDamaged told seen images moment since script disk now slot
 
@@ -75,6 +76,7 @@ ScriptIsKept shown told seen images moment since failures script options sink di
 ScriptIsKept shown told seen images moment since failures script options sink disk now day (Some Memory) =
     ((day ≡ None) × IsUnwritten sink × (now ≡ disk)) ⊎ DayGoesOn shown told seen images moment since failures script options sink disk now day (Some Memory)
 ScriptIsKept shown told seen images moment since failures script options sink disk now day (Some (Check window place name)) = ⊥
+ScriptIsKept shown told seen images moment since failures script options sink disk now day (Some (Cross window run follow)) = ⊥
 ScriptIsKept shown told seen images moment since failures script options sink disk now day (Some Disk) =
     ((day ≡ None) × IsUnwritten sink × JournalFails told seen images moment since failures script disk now) ⊎ DayGoesOn shown told seen images moment since failures script options sink disk now day (Some Disk)
 ScriptIsKept shown told seen images moment since failures script options sink disk now day (Some (Damaged slot)) =
@@ -107,5 +109,6 @@ KeepEnds shown told seen images moment since failures line source sink disk now 
 KeepEnds shown told seen images moment since failures line source sink disk now day (Some Memory) =
     ((day ≡ None) × IsUnwritten sink × (now ≡ disk) × InputIsStarved source) ⊎ DayIsKept shown told seen images moment since failures line source sink disk now day (Some Memory)
 KeepEnds shown told seen images moment since failures line source sink disk now day (Some (Check window place name)) = ⊥
+KeepEnds shown told seen images moment since failures line source sink disk now day (Some (Cross window run follow)) = ⊥
 KeepEnds shown told seen images moment since failures line source sink disk now day (Some Disk) = DayIsKept shown told seen images moment since failures line source sink disk now day (Some Disk)
 KeepEnds shown told seen images moment since failures line source sink disk now day (Some (Damaged slot)) = DayIsKept shown told seen images moment since failures line source sink disk now day (Some (Damaged slot))

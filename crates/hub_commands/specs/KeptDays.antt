@@ -15,7 +15,7 @@ use Rattle.hub_commands.specs.Finishes.{IsCutOn, IsStarvedOn, IsWholeOn, Shown, 
 use Rattle.hub_commands.specs.Going.{GoesOn, IsGoingOn}
 use Rattle.hub_commands.specs.Played.{HasGoneOn}
 use Rattle.hub_commands.specs.Statuses.{status_of}
-use Rattle.hub_commands.specs.declared.faults.Fault.TheVariants.{Check, Damaged, Disk, Memory, Read, Script as Refuses, Words, Write}
+use Rattle.hub_commands.specs.declared.faults.Fault.TheVariants.{Check, Cross, Damaged, Disk, Memory, Read, Script as Refuses, Words, Write}
 use Rattle.hub_commands.specs.declared.faults.Fault.{Fault}
 use Rattle.hub_commands.specs.declared.finishes.Day.{Day}
 use Rattle.hub_commands.specs.declared.finishes.Finish.{Finish}
@@ -95,6 +95,7 @@ KeptDayEnds works shown course options sink day (Some Read) = ⊥
 KeptDayEnds works shown course options sink day (Some Write) = IsCutOn works shown plain course options sink day
 KeptDayEnds works shown course options sink day (Some Memory) = IsStarvedOn works plain course options sink day
 KeptDayEnds works shown course options sink day (Some (Check window place name)) = ⊥
+KeptDayEnds works shown course options sink day (Some (Cross window run follow)) = ⊥
 KeptDayEnds works shown course options sink day (Some Disk) = IsUnkeptOn works shown course options sink day
 KeptDayEnds works shown course options sink day (Some (Damaged slot)) = ⊥
 
@@ -107,6 +108,7 @@ surely_kept (Some Read) count = count
 surely_kept (Some Write) count = count
 surely_kept (Some Memory) count = count
 surely_kept (Some (Check window place name)) count = count
+surely_kept (Some (Cross window run follow)) count = count
 surely_kept (Some Disk) count = count - 1
 surely_kept (Some (Damaged slot)) count = count
 

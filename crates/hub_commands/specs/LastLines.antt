@@ -1,7 +1,7 @@
 -- How a call ends that writes one line behind a day.
 use Rattle.day_clock.specs.Sinks.{AppendsPart}
 use Rattle.hub_commands.specs.Finishes.{IsUnwritten, Writes}
-use Rattle.hub_commands.specs.declared.faults.Fault.TheVariants.{Check, Damaged, Disk, Memory, Read, Script as Refuses, Words, Write}
+use Rattle.hub_commands.specs.declared.faults.Fault.TheVariants.{Check, Cross, Damaged, Disk, Memory, Read, Script as Refuses, Words, Write}
 use Rattle.hub_commands.specs.declared.faults.Fault.{Fault}
 use Rattle.hub_commands.specs.declared.finishes.Day.{Day}
 use Rattle.std.specs.Io.KnownBytes.{Appends}
@@ -16,6 +16,7 @@ LineIsWritten line sink day after (Some Read) = ⊥
 LineIsWritten line sink day after (Some Write) = (after ≡ day) × AppendsPart sink.held sink.holds line × (sink.faults < sink.faults_after)
 LineIsWritten line sink day after (Some Memory) = (after ≡ option_map (λ d. record { windows = d.windows; devices = None }) day) × IsUnwritten sink
 LineIsWritten line sink day after (Some (Check window place name)) = ⊥
+LineIsWritten line sink day after (Some (Cross window run follow)) = ⊥
 LineIsWritten line sink day after (Some Disk) = ⊥
 LineIsWritten line sink day after (Some (Damaged slot)) = ⊥
 

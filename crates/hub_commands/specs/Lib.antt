@@ -14,5 +14,10 @@ pub mod Pieces
 pub mod Going
 pub mod LastLines
 pub mod Watched
+pub mod RoomDays
+pub mod RoomCalls
+pub mod RoomPlays
+pub mod RoomDevices
+pub mod RoomGoing
 pub mod KeptDays
 pub mod KeepCalls

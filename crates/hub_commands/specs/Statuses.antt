@@ -1,5 +1,5 @@
 -- The status with which the program ends.
-use Rattle.hub_commands.specs.declared.faults.Fault.TheVariants.{Check, Damaged, Disk, Memory, Read, Script, Words, Write}
+use Rattle.hub_commands.specs.declared.faults.Fault.TheVariants.{Check, Cross, Damaged, Disk, Memory, Read, Script, Words, Write}
 use Rattle.hub_commands.specs.declared.faults.Fault.{Fault}
 use Rattle.std.specs.Prelude.{None, Option, Some, ℕ}
 
@@ -10,6 +10,7 @@ fault_status Read = 3
 fault_status Write = 4
 fault_status Memory = 5
 fault_status (Check window place name) = 7
+fault_status (Cross window run follow) = 11
 fault_status Disk = 9
 fault_status (Damaged slot) = 10
 

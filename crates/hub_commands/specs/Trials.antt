@@ -10,7 +10,7 @@ use Rattle.hub_commands.specs.Days.{DevicesAreProbed, WindowsArePlayed}
 use Rattle.hub_commands.specs.Finishes.{IsUnwritten, Shown, Writes}
 use Rattle.hub_commands.specs.LastLines.{LineIsWritten}
 use Rattle.hub_commands.specs.Ways.{IsReplayOf}
-use Rattle.hub_commands.specs.declared.faults.Fault.TheVariants.{Check, Damaged, Disk, Memory, Read, Script as Refuses, Words, Write}
+use Rattle.hub_commands.specs.declared.faults.Fault.TheVariants.{Check, Cross, Damaged, Disk, Memory, Read, Script as Refuses, Words, Write}
 use Rattle.hub_commands.specs.declared.faults.Fault.{Fault}
 use Rattle.hub_commands.specs.declared.finishes.Day.{Day}
 use Rattle.hub_core.specs.LegalDays.{IsLegalDay}
@@ -92,6 +92,7 @@ TrialEnds shown n sink day (Some Read) = ⊥
 TrialEnds shown n sink day (Some Write) = TrialIsCut shown n sink day
 TrialEnds shown n sink day (Some Memory) = TrialIsStarved n sink day
 TrialEnds shown n sink day (Some (Check window place name)) = ⊥
+TrialEnds shown n sink day (Some (Cross window run follow)) = ⊥
 TrialEnds shown n sink day (Some Disk) = ⊥
 TrialEnds shown n sink day (Some (Damaged slot)) = ⊥
 

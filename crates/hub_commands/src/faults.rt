@@ -2,7 +2,7 @@
 ghost use Rattle.std.specs.Prelude.{◌≡◌};
 ghost use Rattle.hub_commands.specs.Statuses.{fault_status};
 
-use home_types::Text;
+use home_types::{RunNo, Text};
 use order_checker::Place;
 use routine_reader::ReadFault;
 use std::fmt;
@@ -29,6 +29,15 @@ pub enum Fault {
         /// The name of the device in `place`, empty where there is none.
         name: Text,
     },
+    /// A window is not split among the rooms of the home.
+    Cross {
+        /// The window, from 1.
+        window: u32,
+        /// Its first run that crosses rooms.
+        run: RunNo,
+        /// Whether the run crosses by the run that it follows alone; else it has commands in two rooms.
+        follow: bool,
+    },
     /// The disk failed.
     Disk,
     /// The journal on the disk is damaged: the first slot, from 1, that is open and tells no state of the script's home.
@@ -51,6 +60,7 @@ impl Fault {
             Fault::Write => 4,
             Fault::Memory => 5,
             Fault::Check { .. } => 7,
+            Fault::Cross { .. } => 11,
             Fault::Disk => 9,
             Fault::Damaged(_) => 10,
         }
@@ -79,6 +89,14 @@ impl fmt::Display for Fault {
             } => write!(f, "check: window {window} device {}", name.as_str()),
             Fault::Check { window, place, .. } => {
                 write!(f, "check: window {window} {}", Printed(*place))
+            }
+            Fault::Cross {
+                window,
+                run,
+                follow,
+            } => {
+                let what = if *follow { "follow" } else { "room" };
+                write!(f, "cross {what} {window}.{}", run.0)
             }
         }
     }

@@ -11,7 +11,8 @@ use day_clock::{Clock, Sink, Source, StdClock, StdSink, StdSource};
 use device_states::{SimBench, SimDevice};
 use home_journal::{Disk, FileDisk};
 use hub_commands::{
-    Fault, Finish, keep_command, run_command, still_command, watch_command_telling,
+    Fault, Finish, RoomFinish, keep_command, room_command, run_command, still_command,
+    watch_command_telling,
 };
 use progress::{Progress, Showing, how_to_show};
 use status_board::Teller;
@@ -90,12 +91,34 @@ fn call<
             teller,
         );
         finish
+    } else if asks_for(words, "rooms") {
+        without_day(room_command(rt, alloc, words, source, sink, &mut SimBench, clock))
     } else if asks_for(words, "keep") {
         let (finish, disk) = keep_command(alloc, words, source, sink, &mut SimBench, disk);
         drop(disk);
         finish
     } else {
         still_command(alloc, words, source, sink, &mut SimBench)
+    }
+}
+
+/// The end of a call that ran rooms, without their day.
+fn without_day(finish: RoomFinish<SimDevice>) -> Finish<SimDevice>
+    requires { finish.status ≡ status_of finish.fault }
+    ensures status { result.status ≡ status_of result.fault }
+{
+    let RoomFinish {
+        status,
+        windows,
+        devices,
+        fault,
+    } = finish;
+    drop(windows);
+    drop(devices);
+    Finish {
+        status,
+        day: None,
+        fault,
     }
 }
 

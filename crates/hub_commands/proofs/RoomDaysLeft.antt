@@ -1,0 +1,88 @@
+-- What a day of rooms is, from the homes of the rooms.
+use Rattle.home_types.specs.Listed.{Listed}
+use Rattle.home_types.specs.declared.modes.Mode.{Mode}
+use Rattle.history_book.specs.Settings.{is_weak}
+use Rattle.hub_commands.proofs.DaysUnderWay.{no_window, starts}
+use Rattle.hub_commands.proofs.RoomOrders.{each_order_agrees, own_windows}
+use Rattle.hub_commands.specs.Days.{new_course}
+use Rattle.hub_commands.specs.Finishes.{Shown}
+use Rattle.hub_commands.specs.RoomDays.{RoomsAreLeft, RoomsArePlayed, RoomsAreUnderWay, Windows, records_of, room_count}
+use Rattle.hub_commands.specs.RoomDevices.{AreAllPlaced, HasDevicesOf}
+use Rattle.hub_commands.specs.RoomGoing.{AreNewHomes}
+use Rattle.hub_commands.specs.Ways.{IsRunWithin}
+use Rattle.hub_core.proofs.calls.HubCloses.{at_place}
+use Rattle.hub_core.specs.Homes.{HomeState}
+use Rattle.hub_core.specs.LegalDays.{RecordsAreLegal}
+use Rattle.room_hubs.proofs.SoundRuns.{rooms_size}
+use Rattle.room_hubs.specs.Merges.{HasOwnOrder, room_order}
+use Rattle.room_hubs.specs.RoomScripts.{own_script}
+use Rattle.room_hubs.specs.Rooms.{rooms_of}
+use Rattle.room_hubs.specs.Splits.{devices_in}
+use Rattle.room_hubs.specs.declared.rosters.RoomWindow.{RoomWindow}
+use Rattle.routine_reader.specs.Scripts.{plain_script}
+use Rattle.routine_reader.specs.Sound.{IsSound}
+use Rattle.routine_reader.specs.declared.scripts.Script.{Script}
+use Rattle.std.proofs.Common.{All, List, Some, [], arith, false, get_or, length, ℕ, ◌<◌, ◌∙◌, ◌≡◌}
+use Rattle.std.proofs.lemmas.List.{length-map}
+use Rattle.std.proofs.lemmas.Option.{slice_get-get_or}
+use Rattle.std.specs.Prelude.{slice_get}
+
+module _ {D : Type 0} (earliest latest : ℕ) (shown : Shown D) (script : Script) (sound : IsSound (plain_script script)) (mode : Mode) (strong : is_weak mode ≡ false) (homes : List (HomeState D)) (windows : Windows)
+    (day : RoomsAreUnderWay earliest latest shown script mode homes windows) where
+  -- the home of a room
+  home_there : (k : ℕ) → k < room_count script → (home : HomeState D) × (slice_get homes k ≡ Some home)
+  home_there k within = at_place homes k (let n = day.homed in omega (arith, within, n))
+
+  legal : (k : ℕ) → k < room_count script → RecordsAreLegal (own_script script k) mode (records_of k windows)
+  legal k within = let home = home_there k within in (day.each k home.0 home.1).played.legal
+
+  pub rooms_played : RoomsArePlayed earliest latest script mode windows
+  rooms_played = record {
+    count = day.count;
+    split = day.split;
+    rooms = λ k within. let home = home_there k within in let is = day.each k home.0 home.1 in record { takes = is.takes; played = is.played };
+    orders = each_order_agrees script sound mode strong windows day.split legal;
+  }
+
+  pub rooms_left : (devices : List D) → length devices ≡ length (rooms_of script).room_of → AreAllPlaced (rooms_of script).room_of homes devices → RoomsAreLeft earliest latest shown script mode windows devices
+  rooms_left devices size placed = record {
+    played = rooms_played;
+    size = size ∙ rooms_size script;
+    rooms = λ k within. let home = home_there k within in let is = day.each k home.0 home.1 in record {
+      takes = is.takes;
+      played = is.played;
+      own = home.0.devices;
+      left = is.left;
+      probed = is.probed;
+      placed = λ a device at. placed k home.0 a device home.1 at;
+    };
+  }
+
+  -- each room's windows name their own runs and devices
+  pub own_orders : All (λ (ws : Listed RoomWindow). All (λ window. HasOwnOrder (room_order window)) ws.items) windows
+  own_orders k d within = own_windows script sound mode strong windows day.split legal k _ (there k d within)
+    where
+      there : (k : ℕ) (d : Listed RoomWindow) → k < length windows → slice_get windows k ≡ Some (get_or windows k d)
+      there k d within = slice_get-get_or windows k d within
+
+  pub has_devices : HasDevicesOf (rooms_of script).room_of homes
+  has_devices k home at = (day.each k home at).left.size ∙ length-map (devices_in (rooms_of script).room_of k) _
+
+-- the day before its first window
+pub rooms_begun : {D : Type 0} (earliest latest : ℕ) (shown : Shown D) (script : Script) (mode : Mode) (homes : List (HomeState D)) → AreNewHomes shown script homes → RoomsAreUnderWay earliest latest shown script mode homes []
+rooms_begun {D = D} earliest latest shown script mode homes are = record {
+  count = omega arith;
+  homed = are.count;
+  split = λ w ws at. absurd (cc);
+  each = λ k home at. let new = are.each k home at in
+      starts (IsRunWithin earliest latest) shown.tag shown.plan shown.stands shown.turns shown.probes shown.faults (own_script script k) mode home new.devices new.kinds new.world new.opened;
+}
+
+-- no window of it is worked
+pub none_played : (earliest latest : ℕ) (script : Script) (mode : Mode) → RoomsArePlayed earliest latest script mode []
+none_played earliest latest script mode = record {
+  count = omega arith;
+  split = λ w ws at. absurd (cc);
+  rooms = λ k within. record { takes = []; played = no_window (IsRunWithin earliest latest) (new_course (own_script script k)) mode };
+  orders = record { joined = λ w ws at. absurd (cc); merged = λ w ws at merge own. absurd (cc) };
+}

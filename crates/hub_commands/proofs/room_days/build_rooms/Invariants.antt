@@ -1,0 +1,15 @@
+use Rattle.hub_commands.proofs.room_days.build_rooms.Given as goal
+use Rattle.hub_commands.specs.Finishes.{shown_by}
+use Rattle.hub_commands.specs.RoomGoing.{IsNewHome}
+use Rattle.hub_core.specs.Homes.{HomeState}
+use Rattle.room_hubs.specs.RoomScripts.{room_devices}
+use Rattle.std.proofs.Common.{Some, length, ℕ, ◌≡◌}
+use Rattle.std.specs.Prelude.{slice_get}
+
+abbrev pub invariant-rooms : goal.invariant-rooms
+invariant-rooms g l =
+    let D = g.B.Dev.Device in
+    record {
+      count : length l.homes.items ≡ l.room;
+      each : (k : ℕ) (home : HomeState g.row.B-Dev.Denot) → slice_get l.homes.items k ≡ Some home → IsNewHome (shown_by D.tag D.plan D.stands D.turns D.probes D.faults) (room_devices l.script k) home;
+    }
