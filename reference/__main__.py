@@ -4,6 +4,7 @@
     python3 -m reference run [--model M] [--scheduler S] [--trace] < SCRIPT         the same here; with threads in the program
     python3 -m reference watch [--model M] [--scheduler S] [--trace] < SCRIPT       and a line of counts behind it
     python3 -m reference keep [--model M] [--scheduler S] [--trace] < SCRIPT        goes on behind the windows of home.journal
+    python3 -m reference rooms [--model M] [--scheduler S] < SCRIPT                 plays a hub for each room of the home
     python3 -m reference check < SCRIPT, a line %% and RECORD                       prints `agrees`, or tells where it does not
     python3 -m reference trial N                                                    makes up N windows, plays and checks them
 

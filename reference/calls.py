@@ -9,6 +9,7 @@ from reference.disks import BytesDisk
 from reference.journal import Damaged, Journal
 from reference.record import board_text, head_text, kept_text, total_text, window_text
 from reference.replay import Home
+from reference.rooms import Cross, joined_records, need_no_crossing
 from reference.script import LIMITS, Refusal, read_script
 from reference.words import Words, read_words
 
@@ -127,10 +128,12 @@ class Call:
                 self.play(asked, read(read_to_end(self.source, LIMITS["bytes"])))
 
     def play(self, asked, script):
-        """Plays a day. That of `run` and `watch` is one of those which threads may come to."""
+        """Plays a day. That of `run`, `watch` and `rooms` is one of those which threads may come to."""
         match asked.command:
             case "keep":
                 self.keep(script, asked)
+            case "rooms":
+                self.rooms(script, asked)
             case _:
                 self.replay(script, asked, self.sink)
                 if asked.command == "watch":
@@ -147,6 +150,13 @@ class Call:
         head = head_text(asked.mode) + kept_text(len(journal.homes))
         records = resumed_records(script, journal.homes, asked.mode)
         self.write_day(script, head, records, asked, self.sink, lambda home: on_disk(journal.keep, home))
+
+    def rooms(self, script, asked):
+        try:
+            need_no_crossing(script)
+        except Cross as cross:
+            raise Fault(11, str(cross)) from None
+        self.write_day(script, head_text(asked.mode), enumerate(joined_records(script, asked.mode)), asked, self.sink)
 
     def write_day(self, script, head, records, asked, sink, keep=lambda home: None):
         """Writes a day while its windows are played: each record comes with the number of its window, from 0."""

@@ -1,4 +1,5 @@
-"""Days that are drawn: small ones with much in them, the same with turns and times for a replay, spoiled ones, and trials.
+"""Days that are drawn: small ones with much in them, some of them in rooms, the same with turns and times for a replay,
+spoiled ones, and trials.
 
 What draws the first three is a `random.Random`, so that a seed gives the same days again.
 """
@@ -73,6 +74,40 @@ def day(draw):
         }
         for k in range(draw.randint(1, 3))
     ]
+    return {"safehome": 1, "devices": devices, "routines": routines, "windows": windows}
+
+
+def room_run(draw, routines, before):
+    """A run that follows, if any, one of its own room, but for few."""
+    made = run(draw, routines, 0)
+    room = made["routine"].partition("_")[0]
+    leaders = [r for r, earlier in enumerate(before, 1) if earlier["routine"].startswith(f"{room}_") or draw.random() < 0.01]
+    if leaders and draw.random() < 0.3:
+        made["follows"] = draw.choice(leaders)
+    return made
+
+
+def room_day(draw, most_rooms=8):
+    """A day of at least two rooms, each with routines of its own. In some days a run crosses rooms."""
+    homes = {f"r{r}": [device(draw, d) for d in range(draw.randint(1, 3))] for r in range(draw.randint(2, most_rooms))}
+    for room, devices in homes.items():
+        for made in devices:
+            made["name"] = f"{room}_{made['name']}"
+    devices = [made for devices in homes.values() for made in devices]
+    draw.shuffle(devices)
+    routines = []
+    for room, own in homes.items():
+        for r in range(draw.randint(1, 3)):
+            commands = [command(draw, own) for _ in range(draw.randint(1, 5))]
+            if draw.random() < 0.01:
+                commands.append(command(draw, devices))
+            routines.append({"name": f"{room}_{r}", "commands": commands})
+    windows = []
+    for k in range(draw.randint(1, 4)):
+        runs = []
+        for _ in range(draw.randint(1, 3 * len(homes))):
+            runs.append(room_run(draw, routines, runs))
+        windows.append({"at": f"2021-04-26T07:0{k}:00", "probes": draw.choice([0, 1, 2, 5]), "runs": runs})
     return {"safehome": 1, "devices": devices, "routines": routines, "windows": windows}
 
 

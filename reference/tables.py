@@ -167,7 +167,7 @@ class Case:
         source, sink = BytesSource(bytes(self.data), *self.source), BytesSink(self.room, *self.sink)
         disk = BytesDisk(self.file, *self.disk)
         # these the call behind the table does not take
-        call = Call([] if self.words[:1] in (["run"], ["watch"]) else self.words, source, sink, disk)
+        call = Call([] if self.words[:1] in (["run"], ["watch"], ["rooms"]) else self.words, source, sink, disk)
         self.before.record = sink.held
         lines = [f"case {self.name}", f"status {call.status}", *([f"fault {call.line}"] if call.line else [])]
         if call.records is None:

@@ -9,7 +9,7 @@ MOST_WINDOWS = 288
 
 
 class Words(NamedTuple):
-    command: str  # run, replay, watch, keep, check or trial
+    command: str  # run, replay, watch, keep, rooms, check or trial
     mode: Mode = Mode("ev", "fcfs")
     trace: bool = False
     windows: int = 0  # of a trial
@@ -32,16 +32,24 @@ def read_options(words):
     return options
 
 
+def has_mode(asked):
+    """Whether there are such a model and such a scheduler, and the command takes both; `rooms` has no trace and no weak model."""
+    model, scheduler = asked.mode
+    if asked.command == "rooms" and (asked.trace or model == "wv"):
+        return False
+    return model in MODELS and scheduler in SCHEDULERS and (model == "ev" or scheduler == "fcfs")
+
+
 def read_words(words):
     """What the words ask for, or none."""
     match words:
-        case [("run" | "replay" | "watch" | "keep") as command, *rest]:
+        case [("run" | "replay" | "watch" | "keep" | "rooms") as command, *rest]:
             options = read_options(rest)
             if options is None:
                 return None
             mode = Mode(options.get("--model", "ev"), options.get("--scheduler", "fcfs"))
-            good = mode.model in MODELS and mode.scheduler in SCHEDULERS and (mode.model == "ev" or mode.scheduler == "fcfs")
-            return Words(command, mode, "--trace" in options) if good else None
+            asked = Words(command, mode, "--trace" in options)
+            return asked if has_mode(asked) else None
         case ["check"]:
             return Words("check")
         case ["trial", number] if re.fullmatch("[1-9][0-9]{0,2}", number, re.ASCII) and int(number) <= MOST_WINDOWS:

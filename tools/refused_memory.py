@@ -8,13 +8,13 @@
 The first form wants a C compiler, `cc`, and crates/hub_main/out/hub_main, which `rt run` and `rt ci` build. A few lines of C,
 loaded in front of the C library, count the program's requests for memory and for threads, and refuse some. Of each day,
 `one-light`, `undo-drives-live-writer` and `a-morning` by default, cases of crates/day_table, it makes the calls `replay`, `run`,
-`watch`, `keep` with no file, and the `check` of the replay's record, and `trial 1` besides. First the Nth request for memory alone is refused, one N a call, up to
+`watch`, `keep` with no file, and the `check` of the replay's record, and `trial 1` and the `rooms` of `rooms-in-order` besides. First the Nth request for memory alone is refused, one N a call, up to
 the first N to which the call does not come; then the Nth and all behind it; then the Nth thread alone, and all from the Nth on. Asked is
 
 - either status 0, all of the text and nothing on standard error,
 - or status 5, a first part of the text, and `memory` alone on standard error; this only where memory was refused.
 
-The text of a replay, a kept day, a check and a trial is the reference's.
+The text of a replay, a kept day, a check and a trial is the reference's, and so is that of `rooms`, since each room has one run there.
 With `run` and `watch` the threads choose, so the record is judged as the windows that it holds (bench/judge_runs.py), and the line
 behind a watched one by its total. The file of a kept day has to keep each window of which a line was written.
 
@@ -305,7 +305,8 @@ def main():
         return
     if not asked.tries:
         days = [call for name in asked.day for call in calls_of(name)]
-        sweep_program(asked.program, [*days, Call("trial 1", ["trial", "1"], b"")])
+        rooms = Call("rooms-in-order, rooms", ["rooms"], worked_day("rooms-in-order"))
+        sweep_program(asked.program, [*days, Call("trial 1", ["trial", "1"], b""), rooms])
         return
     for name, number in itertools.product(asked.day, asked.tries):
         replay = next(calls_of(name))
