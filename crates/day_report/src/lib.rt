@@ -2,6 +2,7 @@
 #![tactic(auto)]
 
 mod days;
+mod entries;
 mod lines;
 mod lookups;
 mod numerals;
@@ -10,4 +11,5 @@ mod trials;
 mod words;
 
 pub use days::{Ends, ends_of, head_text, kept_head_text, total_text, window_text};
+pub use entries::entry_text;
 pub use trials::trial_text;

@@ -68,7 +68,7 @@ fn push_entry(
 
 /// Appends the line of an entry in the trace.
 #[tactic(auto, unfolding(crate::specs::Lines::trace_line))]
-fn push_trace_line(
+pub fn push_trace_line(
     text: &mut String,
     script: &Script,
     window: &WindowText,

@@ -4,4 +4,5 @@ pub mod kept
 pub mod waiting
 pub mod calls
 pub mod weak
+pub mod FoundDevices
 pub mod SoundWindows

@@ -26,6 +26,7 @@ pub mod Orders
 pub mod PlannedPlaces
 pub mod PlansInTurn
 pub mod ReadHistories
+pub mod Restandings
 pub mod ResumedDays
 pub mod Steps
 pub mod WeakKept

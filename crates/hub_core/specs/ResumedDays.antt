@@ -1,9 +1,7 @@
 -- Days that go on behind windows that were worked before: how the home is resumed, and where the day begins then.
-use Rattle.history_book.specs.declared.records.WindowRecord.{WindowRecord}
 use Rattle.home_types.specs.HomeStates.{stand_at}
-use Rattle.home_types.specs.declared.modes.Mode.{Mode}
 use Rattle.home_types.specs.declared.worlds.Stand.{Stand}
-use Rattle.hub_core.specs.LegalDays.{Beginning, IsDeviceOf, IsLegalCutDayFrom, IsLegalDayFrom, new_day}
+use Rattle.hub_core.specs.LegalDays.{Beginning, IsDeviceOf, new_day}
 use Rattle.routine_reader.specs.declared.scripts.DeviceText.{DeviceText}
 use Rattle.routine_reader.specs.declared.scripts.Script.{Script}
 use Rattle.std.specs.Prelude.{Bool, List, None, Option, Some, false, if◌then◌else◌, length, slice_get, true, ℕ, ◌<◌, ◌≡◌}
@@ -26,22 +24,10 @@ has_died before now = if now.up then false else before.up
 abbrev pub resumed_day : Script → ℕ → List Stand → List Stand → Beginning
 resumed_day script k before now = record { script = script; before = k; first = now; called = λ d. (stand_at now d).up; failed = λ d. has_died (stand_at before d) (stand_at now d) }
 
--- the day goes on behind so many kept states, of which this is the last: where there is none it begins as the script's day, else on a home that is resumed in the last one
+-- the day goes on behind so many kept states, of which this is the last: where there is none it begins as the script's day, else on a home that is resumed in the last one; a day that begins so is legal as each other day is (`IsLegalDayFrom`)
 abbrev pub GoesOnBehind : Script → ℕ → Option (List Stand) → Beginning → Type 0
 GoesOnBehind script kept None begins = begins ≡ new_day script
 GoesOnBehind script kept (Some before) begins = (now : List Stand) × IsStateResumed before now × (begins ≡ resumed_day script kept before now)
-
--- a whole day that goes on so: one record for each window behind the kept ones
-pub record IsLegalResumedDay {D : Type 0} (tag : D → ℕ) (plan : D → Option (List (ℕ × ℕ))) (stands turns faults : D → ℕ) (script : Script) (kept : ℕ) (last : Option (List Stand)) (mode : Mode) (records : List WindowRecord) (devices : List D) : Type 0 where
-  pub begins : Beginning
-  pub goes_on : GoesOnBehind script kept last begins
-  pub legal : IsLegalDayFrom tag plan stands turns faults begins mode records devices
-
--- one that goes on so and was cut short: the first of the windows behind the kept ones
-pub record IsLegalCutResumedDay {D : Type 0} (tag : D → ℕ) (plan : D → Option (List (ℕ × ℕ))) (stands turns faults : D → ℕ) (script : Script) (kept : ℕ) (last : Option (List Stand)) (mode : Mode) (records : List WindowRecord) (devices : List D) : Type 0 where
-  pub begins : Beginning
-  pub goes_on : GoesOnBehind script kept last begins
-  pub legal : IsLegalCutDayFrom tag plan stands turns faults begins mode records devices
 
 -- the script's device as the home is resumed: never probed, and driven once where it was up
 pub record IsDeviceResumed {D : Type 0} (tag : D → ℕ) (plan : D → Option (List (ℕ × ℕ))) (stands turns probes faults : D → ℕ) (text : DeviceText) (d : ℕ) (before now : Stand) (device : D) : Type 0 where
