@@ -1,0 +1,10 @@
+// Devices whose calls are made elsewhere, and the answers to them that are handed in.
+#![tactic(auto)]
+
+pub mod answers;
+pub mod devices;
+#[cfg(test)]
+mod tests;
+
+pub use answers::{hand_in, may_tell};
+pub use devices::{HandedBench, HandedDevice};

@@ -1,0 +1,16 @@
+use Rattle.command_rules.specs.Rosters.{runs_of}
+use Rattle.home_states.proofs.Windows.{may_open_ever}
+use Rattle.home_states.proofs.openings.open_on.Goals as goal
+use Rattle.routine_reader.specs.Rosters.{script_runs}
+use Rattle.std.proofs.Common.{rules, ◌≡◌}
+use Rattle.std.specs.Prelude.{Some, slice_get, ◌<◌, ◌^◌}
+
+pub open-requires : goal.open-requires
+open-requires c =
+    let script = c.args.script.now in
+    let window = c.in-Some.window.now in
+    let home = c.args.home in
+    let at : slice_get script.windows.items c.args.number ≡ Some window = search rules in
+    let runs : runs_of c.in-Ok.roster ≡ script_runs script c.args.number = search rules in
+    let few : home.opened < 2 ^ 31 = search rules in
+    record { may = may_open_ever _ _ _ _ _ script c.args.mode c.args.number window home c.in-Ok.roster c.script.ensures.sound c.requires.goes at runs c.kept.ensures c.requires.fits few }

@@ -1,0 +1,60 @@
+-- Windows of the moment, and devices that were found elsewhere, between two windows.
+use Rattle.day_clock.specs.Times.{time_of}
+use Rattle.day_clock.specs.declared.times.When.{When}
+use Rattle.handed_devices.specs.declared.devices.HandedDevice.{HandedDevice}
+use Rattle.home_states.specs.LiveHomes.{IsBetween, LiveState}
+use Rattle.home_states.specs.declared.homes.Phase.TheVariants.{Between, InWindow, Moving}
+use Rattle.home_states.specs.declared.homes.Phase.{Phase}
+use Rattle.home_states.specs.declared.refusals.NotRestood.TheVariants.{Absent, InWindow as IsInWindow, NoValue}
+use Rattle.home_states.specs.declared.refusals.NotRestood.{NotRestood}
+use Rattle.home_types.specs.Kinds.{has_value, kind_at}
+use Rattle.home_types.specs.declared.numbers.RunNo.{RunNo}
+use Rattle.hub_core.specs.Homes.{HomeState}
+use Rattle.hub_core.specs.Restandings.{restood}
+use Rattle.live_scripts.specs.Growth.{HasBegun, HasRun}
+use Rattle.routine_reader.specs.declared.scripts.Script.{Script}
+use Rattle.std.specs.Prelude.{List, None, Option, Some, false, length, slice_get, true, ℕ, ◌≡◌, ◌≤◌}
+
+-- a window without runs stands last in the script, at the time that the text tells
+pub record HasBegunWindow (s : LiveState) (text : List ℕ) (probes k : ℕ) (t : LiveState) : Type 0 where
+  pub at : When
+  pub script : Script
+  pub between : IsBetween s
+  pub time : time_of text ≡ Some at
+  pub begun : HasBegun s.script at probes k script
+  pub is : t ≡ record s { script = script; is_draft = true; closed = None }
+
+-- the window that was begun has one run more
+pub record HasAddedRun (s : LiveState) (routine : ℕ) (follows : Option RunNo) (r : ℕ) (t : LiveState) : Type 0 where
+  pub script : Script
+  pub draft : s.is_draft ≡ true
+  pub added : HasRun s.script routine follows r script
+  pub is : t ≡ record s { script = script }
+
+-- the device stands for the home where it was found, and is up
+pub record WasRestood (home : HomeState HandedDevice) (d value : ℕ) (after : HomeState HandedDevice) : Type 0 where
+  pub device : HandedDevice
+  pub stood : slice_get home.devices d ≡ Some device
+  pub has : has_value (kind_at home.kinds d) value ≡ true
+  pub is : after ≡ restood home d (record device { value = value }) value
+
+pub record HasRestood (s : LiveState) (d value : ℕ) (t : LiveState) : Type 0 where
+  pub home : HomeState HandedDevice
+  pub after : HomeState HandedDevice
+  pub was : s.phase ≡ Between home
+  pub restood_so : WasRestood home d value after
+  pub is : t ≡ record s { phase = Between after }
+
+-- why it is not told so
+abbrev pub CannotRestand : HomeState HandedDevice → ℕ → ℕ → NotRestood → Type 0
+CannotRestand home d value IsInWindow = ⊥
+CannotRestand home d value Absent = length home.world ≤ d
+CannotRestand home d value NoValue = has_value (kind_at home.kinds d) value ≡ false
+
+abbrev pub MayNotRestandIn : Phase → ℕ → ℕ → NotRestood → Type 0
+MayNotRestandIn (Between home) d value why = CannotRestand home d value why
+MayNotRestandIn (InWindow k hub) d value why = why ≡ IsInWindow
+MayNotRestandIn Moving d value why = ⊥
+
+abbrev pub MayNotRestand : LiveState → ℕ → ℕ → NotRestood → Type 0
+MayNotRestand s d value why = MayNotRestandIn s.phase d value why

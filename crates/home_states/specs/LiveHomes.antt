@@ -1,0 +1,75 @@
+-- A home that is stepped from outside, and what is kept of it.
+use Rattle.handed_devices.specs.declared.devices.HandedDevice.{HandedDevice}
+use Rattle.home_states.specs.declared.homes.ClosedWindow.{ClosedWindow}
+use Rattle.home_states.specs.declared.homes.Phase.TheVariants.{Between, InWindow, Moving}
+use Rattle.home_states.specs.declared.homes.Phase.{Phase}
+use Rattle.home_types.specs.declared.modes.Mode.{Mode}
+use Rattle.hub_core.specs.Homes.{HomeState}
+use Rattle.hub_core.specs.OpenHubs.{OpenHub}
+use Rattle.hub_core.specs.Openings.{is_mode}
+use Rattle.routine_reader.specs.Readings.{script_reading}
+use Rattle.routine_reader.specs.Rosters.{kinds_of, start_home}
+use Rattle.routine_reader.specs.Scripts.{plain_script}
+use Rattle.routine_reader.specs.Sound.{IsSound}
+use Rattle.routine_reader.specs.declared.scripts.Script.{Script}
+use Rattle.std.specs.Prelude.{Bool, IsTrue, List, None, Ok, Option, Some, [], false, ℕ, ⊤, ◌≡◌}
+
+-- what a live home shows: its script, the mode of its windows, what it is in, whether the last window was begun and none opened since, the window closed last, and the text made last
+pub record LiveState : Type 0 where
+  pub script : Script
+  pub mode : Mode
+  pub phase : Phase
+  pub is_draft : Bool
+  pub closed : Option ClosedWindow
+  pub text : List ℕ
+
+-- the home, or the window, is of the script's kinds of devices; one of both is there
+abbrev pub FitsScript : Script → Phase → Type 0
+FitsScript script (Between home) = home.kinds ≡ kinds_of script
+FitsScript script (InWindow k hub) = hub.setting.kinds ≡ kinds_of script
+FitsScript script Moving = ⊥
+
+-- what the type of a live home keeps
+pub record IsLive (s : LiveState) : Type 0 where
+  pub sound : IsSound (plain_script s.script)
+  pub goes : IsTrue (is_mode s.mode)
+  pub fits : FitsScript s.script s.phase
+
+-- the home is between two windows
+abbrev pub IsBetweenIn : Phase → Type 0
+IsBetweenIn (Between home) = ⊤
+IsBetweenIn (InWindow k hub) = ⊥
+IsBetweenIn Moving = ⊥
+
+abbrev pub IsBetween : LiveState → Type 0
+IsBetween s = IsBetweenIn s.phase
+
+-- a window is open
+abbrev pub IsOpenIn : Phase → Type 0
+IsOpenIn (Between home) = ⊥
+IsOpenIn (InWindow k hub) = ⊤
+IsOpenIn Moving = ⊥
+
+abbrev pub IsOpen : LiveState → Type 0
+IsOpen s = IsOpenIn s.phase
+
+-- the open window, where there is one
+abbrev pub hub_of : Phase → Option (OpenHub HandedDevice)
+hub_of (Between home) = None
+hub_of (InWindow k hub) = Some hub
+hub_of Moving = None
+
+abbrev pub hub_in : LiveState → Option (OpenHub HandedDevice)
+hub_in s = hub_of s.phase
+
+-- a live home as it begins: the bytes are read as its script, every device is up at its start, and no window was opened
+pub record BeginsAs (bytes : List ℕ) (mode : Mode) (s : LiveState) : Type 0 where
+  pub home : HomeState HandedDevice
+  pub reading : script_reading bytes ≡ Ok (plain_script s.script)
+  pub mode_is : s.mode ≡ mode
+  pub phase : s.phase ≡ Between home
+  pub world : home.world ≡ start_home s.script
+  pub opened : home.opened ≡ 0
+  pub draft : s.is_draft ≡ false
+  pub closed : s.closed ≡ None
+  pub text : s.text ≡ []

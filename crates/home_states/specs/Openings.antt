@@ -1,0 +1,87 @@
+-- A window is opened on a live home, and closed.
+use Rattle.handed_devices.specs.declared.devices.HandedDevice.{HandedDevice}
+use Rattle.history_book.specs.Sealed.{BeginsWithSealed}
+use Rattle.history_book.specs.Settings.{Setting, is_weak}
+use Rattle.history_book.specs.declared.records.WindowRecord.{WindowRecord}
+use Rattle.home_states.specs.LiveHomes.{LiveState}
+use Rattle.home_states.specs.declared.homes.Phase.TheVariants.{Between, InWindow, Moving}
+use Rattle.home_states.specs.declared.homes.Phase.{Phase}
+use Rattle.home_states.specs.declared.refusals.NotClosed.TheVariants.{NoWindow, NotQuiet}
+use Rattle.home_states.specs.declared.refusals.NotClosed.{NotClosed}
+use Rattle.home_states.specs.declared.refusals.NotOpened.TheVariants.{Absent, InWindow as IsInWindow, NoMemory, TooMany}
+use Rattle.home_states.specs.declared.refusals.NotOpened.{NotOpened}
+use Rattle.home_types.specs.declared.modes.Mode.{Mode}
+use Rattle.hub_core.specs.HubCalls.{IsClosed, IsOpened}
+use Rattle.hub_core.specs.Homes.{HomeState}
+use Rattle.hub_core.specs.LegalWindows.{history_of}
+use Rattle.hub_core.specs.OpenHubs.{OpenHub, configuration_of}
+use Rattle.hub_core.specs.Steps.{not_quiet}
+use Rattle.routine_reader.specs.Rosters.{script_runs}
+use Rattle.routine_reader.specs.declared.scripts.Script.{Script}
+use Rattle.routine_reader.specs.declared.scripts.WindowText.{WindowText}
+use Rattle.std.specs.Prelude.{None, Some, false, length, slice_get, ℕ, ⊤, ◌^◌, ◌≡◌, ◌≤◌}
+
+-- the counts of a device whose calls are made elsewhere
+abbrev pub turns_of : HandedDevice → ℕ
+turns_of device = device.turns
+
+abbrev pub probes_of : HandedDevice → ℕ
+probes_of device = device.probes
+
+abbrev pub faults_of : HandedDevice → ℕ
+faults_of device = device.faults
+
+-- the window of the script with this number, on the home as it is
+abbrev pub setting_on : Script → Mode → ℕ → HomeState HandedDevice → Setting
+setting_on script mode k home = record { runs = script_runs script k; mode = mode; kinds = home.kinds; first = home.world }
+
+-- that window was opened on the home, with the rounds of probes that the script says
+pub record IsOpenedOn (script : Script) (mode : Mode) (k : ℕ) (home : HomeState HandedDevice) (hub : OpenHub HandedDevice) : Type 0 where
+  pub window : WindowText
+  pub at : slice_get script.windows.items k ≡ Some window
+  pub opened : IsOpened turns_of probes_of faults_of (setting_on script mode k home) window.probes home hub
+
+-- why it cannot be
+abbrev pub CannotOpen : Script → ℕ → HomeState HandedDevice → NotOpened → Type 0
+CannotOpen script k home IsInWindow = ⊥
+CannotOpen script k home Absent = length script.windows.items ≤ k
+CannotOpen script k home TooMany = 2 ^ 31 ≤ home.opened
+CannotOpen script k home NoMemory = ⊤
+
+-- the live home is in the window of this number, which was opened on the home that it was
+pub record HasOpened (s : LiveState) (k : ℕ) (t : LiveState) : Type 0 where
+  pub home : HomeState HandedDevice
+  pub hub : OpenHub HandedDevice
+  pub was : s.phase ≡ Between home
+  pub opened : IsOpenedOn s.script s.mode k home hub
+  pub is : t ≡ record s { phase = InWindow k hub; is_draft = false; closed = None }
+
+abbrev pub MayNotOpenIn : Script → ℕ → Phase → NotOpened → Type 0
+MayNotOpenIn script k (Between home) why = CannotOpen script k home why
+MayNotOpenIn script k (InWindow n hub) why = why ≡ IsInWindow
+MayNotOpenIn script k Moving why = ⊥
+
+abbrev pub MayNotOpen : LiveState → ℕ → NotOpened → Type 0
+MayNotOpen s k why = MayNotOpenIn s.script k s.phase why
+
+-- the live home is between two windows again, and has the record of the one that was open
+pub record HasClosed (s t : LiveState) : Type 0 where
+  pub number : ℕ
+  pub hub : OpenHub HandedDevice
+  pub home : HomeState HandedDevice
+  pub closed : WindowRecord
+  pub was : s.phase ≡ InWindow number hub
+  pub is_closed : IsClosed turns_of probes_of faults_of hub home closed
+  pub quiet : not_quiet (configuration_of hub) ≡ None
+  pub sealed : is_weak hub.setting.mode ≡ false → BeginsWithSealed hub.setting (history_of closed) closed.order.items
+  pub is : t ≡ record s { phase = Between home; closed = Some (record { number = number; closed = closed }) }
+
+-- why it cannot be closed
+abbrev pub MayNotCloseIn : Phase → NotClosed → Type 0
+MayNotCloseIn (Between home) why = why ≡ NoWindow
+MayNotCloseIn (InWindow k hub) NoWindow = ⊥
+MayNotCloseIn (InWindow k hub) (NotQuiet left) = not_quiet (configuration_of hub) ≡ Some left
+MayNotCloseIn Moving why = ⊥
+
+abbrev pub MayNotClose : LiveState → NotClosed → Type 0
+MayNotClose s why = MayNotCloseIn s.phase why

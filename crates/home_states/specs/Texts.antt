@@ -1,0 +1,55 @@
+-- The texts that a live home makes.
+use Rattle.day_report.specs.Days.{window_text}
+use Rattle.day_report.specs.Lines.{trace_line}
+use Rattle.history_book.specs.declared.entries.Kept.{Kept}
+use Rattle.home_states.specs.LiveHomes.{LiveState}
+use Rattle.home_states.specs.declared.homes.ClosedWindow.{ClosedWindow}
+use Rattle.home_states.specs.declared.homes.Phase.TheVariants.{Between, InWindow, Moving}
+use Rattle.home_states.specs.declared.homes.Phase.{Phase}
+use Rattle.routine_reader.specs.declared.scripts.WindowText.{WindowText}
+use Rattle.std.specs.Prelude.{Bool, List, None, Option, Some, [], slice_get, ℕ, ◌≡◌}
+
+-- the text is that of the window closed last
+pub record HasToldWindow (s : LiveState) (trace : Bool) (t : LiveState) : Type 0 where
+  pub closed : ClosedWindow
+  pub was : s.closed ≡ Some closed
+  pub is : t ≡ record s { text = window_text s.script closed.number closed.closed s.mode trace }
+
+-- the entries of the window that is open, or of the one closed last
+abbrev pub closed_entries : Option ClosedWindow → List Kept
+closed_entries None = []
+closed_entries (Some closed) = closed.closed.history.items
+
+abbrev pub entries_in : Phase → Option ClosedWindow → List Kept
+entries_in (Between home) closed = closed_entries closed
+entries_in (InWindow k hub) closed = hub.history
+entries_in Moving closed = []
+
+abbrev pub entries_told : LiveState → List Kept
+entries_told s = entries_in s.phase s.closed
+
+-- the number of that window
+abbrev pub closed_number : Option ClosedWindow → Option ℕ
+closed_number None = None
+closed_number (Some closed) = Some closed.number
+
+abbrev pub number_in : Phase → Option ClosedWindow → Option ℕ
+number_in (Between home) closed = closed_number closed
+number_in (InWindow k hub) closed = Some k
+number_in Moving closed = None
+
+-- the text is the line of this entry in the trace of its window
+pub record IsEntryText (s : LiveState) (kept : Kept) (text : List ℕ) : Type 0 where
+  pub number : ℕ
+  pub window : WindowText
+  pub of : number_in s.phase s.closed ≡ Some number
+  pub its : slice_get s.script.windows.items number ≡ Some window
+  pub line : text ≡ trace_line s.script window kept
+
+-- the text is that of the entry at this place
+pub record HasToldEntry (s : LiveState) (at : ℕ) (t : LiveState) : Type 0 where
+  pub kept : Kept
+  pub text : List ℕ
+  pub entry : slice_get (entries_told s) at ≡ Some kept
+  pub its : IsEntryText s kept text
+  pub is : t ≡ record s { text = text }

@@ -1,0 +1,141 @@
+//! Windows of the moment: a window is begun, and runs are added to it, before it is opened.
+ghost use Rattle.std.specs.Prelude.{◌≡◌, IfErr, IfNone, IfOk, IfSome, IsUtf8, None, Some};
+ghost use Rattle.day_clock.specs.Times.{IsCivilTime, time_of};
+ghost use Rattle.home_states.specs.DraftRefusals.{MayNotAdd, MayNotBegin, added_why, begun_why};
+ghost use Rattle.home_states.specs.Drafts.{CannotRestand, HasAddedRun, HasBegunWindow, HasRestood, MayNotRestand, WasRestood};
+
+use crate::homes::{LiveHome, Phase, remember};
+use crate::refusals::{NotBegun, NotRestood};
+use day_clock::{When, read_time};
+use handed_devices::HandedDevice;
+use home_types::{DeviceNo, RunNo, Value};
+use hub_core::Home;
+use live_scripts::{NotAdded, NotBegun as NotAppended};
+use std::alloc::Global;
+use std::str;
+
+impl LiveHome {
+    /// Appends a window without runs to the script, at the time that the text tells and with so many rounds of probes,
+    /// and answers its number, from 0. The record of the window closed last cannot be asked for from then on.
+    ///
+    /// Refused in a window, where the text is no time or one that is not later than that of the window before, and where
+    /// the window would have too many rounds of probes. A script has at most the windows of a day: those of a full day
+    /// are dropped, and the new one is the first of the next.
+    pub fn begin_window(&mut self, alloc: Global, at: &[u8], probes: u32) -> Result<u32, NotBegun>
+        ensures begun { IfOk result (λ k. HasBegunWindow self.old at.now probes k self.new) }
+        ensures refused { IfErr result (λ why. MayNotBegin self.old at.now probes why) }
+        ensures same { IfErr result (λ _. self.new ≡ self.old) }
+    {
+        match &self.phase {
+            Phase::Between(_) => {}
+            Phase::InWindow(_, _) => return Err(NotBegun::InWindow),
+            Phase::Moving => unreachable!(),
+        }
+        let Some(time) = time_in(at) else {
+            return Err(NotBegun::BadTime);
+        };
+        match self.script.begin(alloc, time, probes) {
+            Ok(number) => {
+                // its contract says that the script is sound still
+                let _script = self.script.script();
+                self.is_draft = true;
+                remember(&mut self.closed, None);
+                Ok(number)
+            }
+            Err(why) => Err(not_begun(why)),
+        }
+    }
+
+    /// Appends a run of the routine, counted from 0, to the window that was begun last, and answers its number there,
+    /// from 1. It waits for the end of the run that it follows.
+    ///
+    /// Refused where no window was begun since one was opened, where there is no such routine, where the run that is
+    /// followed is not before it, and where the window has as many runs as it may.
+    pub fn add_run(&mut self, routine: u32, follows: Option<RunNo>) -> Result<RunNo, NotBegun>
+        ensures added { IfOk result (λ r. HasAddedRun self.old routine follows r.0 self.new) }
+        ensures refused { IfErr result (λ why. MayNotAdd self.old routine follows why) }
+        ensures same { IfErr result (λ _. self.new ≡ self.old) }
+    {
+        if !self.is_draft {
+            return Err(NotBegun::NoDraft);
+        }
+        match self.script.add_run(routine, follows) {
+            Ok(run) => {
+                // its contract says that the script is sound still
+                let _script = self.script.script();
+                Ok(run)
+            }
+            Err(why) => Err(not_added(why)),
+        }
+    }
+
+    /// Tells the home, between two windows, that the device was found up at this value, as somebody turned it by hand.
+    ///
+    /// Refused in a window, where the home has no such device, and where the device has no such value.
+    pub fn restand(&mut self, d: DeviceNo, value: Value) -> Result<(), NotRestood>
+        ensures restood { IfOk result (λ _. HasRestood self.old d.0 value self.new) }
+        ensures refused { IfErr result (λ why. MayNotRestand self.old d.0 value why) }
+        ensures same { IfErr result (λ _. self.new ≡ self.old) }
+    {
+        match &mut self.phase {
+            Phase::Between(home) => restand_in(home, d, value),
+            Phase::InWindow(_, _) => Err(NotRestood::InWindow),
+            Phase::Moving => unreachable!(),
+        }
+    }
+}
+
+/// The time that these bytes tell, `None` where they are none.
+fn time_in(bytes: &[u8]) -> Option<When>
+    ensures time { IfSome result (λ at. time_of bytes.now ≡ Some at) }
+    ensures civil { IfSome result IsCivilTime }
+    ensures none { IfNone result (IsUtf8 bytes.now → time_of bytes.now ≡ None) }
+{
+    match str::from_utf8(bytes) {
+        Ok(text) => match read_time(text) {
+            Ok(time) => Some(time),
+            Err(_) => None,
+        },
+        Err(_) => None,
+    }
+}
+
+fn not_begun(why: NotAppended) -> NotBegun
+    ensures { result ≡ begun_why why }
+{
+    match why {
+        NotAppended::NotLater => NotBegun::BadTime,
+        NotAppended::TooManyProbes => NotBegun::TooMany,
+        NotAppended::NoMemory => NotBegun::NoMemory,
+    }
+}
+
+fn not_added(why: NotAdded) -> NotBegun
+    ensures { result ≡ added_why why }
+{
+    match why {
+        NotAdded::NoWindow => NotBegun::NoDraft,
+        NotAdded::NoRoutine => NotBegun::Absent,
+        NotAdded::NotBefore => NotBegun::BadFollow,
+        NotAdded::TooManyRuns => NotBegun::TooMany,
+        NotAdded::NoMemory => NotBegun::NoMemory,
+    }
+}
+
+/// Tells the home that the device was found at this value.
+fn restand_in(home: &mut Home<HandedDevice>, d: DeviceNo, value: Value) -> Result<(), NotRestood>
+    ensures restood { IfOk result (λ _. WasRestood home.old d.0 value home.new) }
+    ensures refused { IfErr result (λ why. CannotRestand home.old d.0 value why) }
+    ensures same { IfErr result (λ _. home.new ≡ home.old) }
+{
+    home.kept();
+    let (Some(kind), Some(device)) = (home.kind(d), home.device(d)) else {
+        return Err(NotRestood::Absent);
+    };
+    if !kind.has(value) {
+        return Err(NotRestood::NoValue);
+    }
+    let found = HandedDevice { value, ..*device };
+    home.restand(d, found, value);
+    Ok(())
+}

@@ -1,0 +1,13 @@
+// A home that is stepped from outside, its device calls made elsewhere: between its windows, or in one.
+#![tactic(auto)]
+
+mod drafts;
+pub mod homes;
+mod openings;
+mod readings;
+pub mod refusals;
+mod steps;
+mod texts;
+
+pub use homes::{ClosedWindow, LiveHome, Phase};
+pub use refusals::{NotAnswered, NotBegun, NotClosed, NotOpened, NotRestood, NotStanding, NotTold};

@@ -1,0 +1,93 @@
+//! The steps of an open window, and what is asked of it.
+ghost use Rattle.std.specs.Prelude.{◌≡◌, IfErr, IfNone, IfOk, IfSome, IsTrue};
+ghost use Rattle.home_states.specs.LiveHomes.{IsBetween, hub_in};
+ghost use Rattle.home_states.specs.Steps.{HasAnswered, HasProbed, HasTaken, IsBlockedRun, IsNoAnswer, left_to_do};
+ghost use Rattle.std.specs.Prelude.{None};
+
+use crate::homes::{LiveHome, Phase};
+use crate::refusals::NotAnswered;
+use device_gate::{Slip, Task, Told};
+use history_book::Made;
+use home_types::{DeviceNo, RunNo};
+use hub_core::NotQuiet;
+use hub_table::Taken;
+
+impl LiveHome {
+    /// Makes the step of the run at this moment, in ms from the window's beginning, or at the last one where that is
+    /// later. `None` where no window is open, and then nothing has changed. Takes no memory.
+    pub fn take(&mut self, r: RunNo, moment: u64) -> Option<Taken>
+        ensures taken { IfSome result (λ taken. HasTaken self.old r.0 moment taken self.new) }
+        ensures none { IfNone result (IsBetween self.old) }
+        ensures same { IfNone result (self.new ≡ self.old) }
+    {
+        match &mut self.phase {
+            Phase::InWindow(_, table) => Some(table.take(r, moment)),
+            Phase::Between(_) => None,
+            Phase::Moving => unreachable!(),
+        }
+    }
+
+    /// Hands in what the device told elsewhere to the call with this ticket, at this moment, in ms, or at the last one
+    /// where that is later, and answers the entries that it makes.
+    ///
+    /// Where it is refused nothing has changed, and a device that is out stays out. Takes no memory.
+    pub fn answer(
+        &mut self,
+        d: DeviceNo,
+        ticket: u64,
+        told: Told,
+        moment: u64,
+    ) -> Result<Made, NotAnswered>
+        ensures answered { IfOk result (λ made. HasAnswered self.old d.0 ticket told moment made self.new) }
+        ensures refused { IfErr result (λ why. IsNoAnswer self.old d.0 ticket told why) }
+        ensures same { IfErr result (λ _. self.new ≡ self.old) }
+    {
+        match &mut self.phase {
+            Phase::InWindow(_, table) => match table.answer(d, ticket, told, moment) {
+                Ok(made) => Ok(made),
+                Err(why) => Err(NotAnswered::NotTaken(why)),
+            },
+            Phase::Between(_) => Err(NotAnswered::NoWindow),
+            Phase::Moving => unreachable!(),
+        }
+    }
+
+    /// Sends a probe to the device, where one may be sent, and tells its slip and its task. `None` where no window is
+    /// open, and then nothing has changed. Takes no memory.
+    pub fn probe(&mut self, d: DeviceNo) -> Option<Option<(Slip, Task)>>
+        ensures probed { IfSome result (λ probe. HasProbed self.old d.0 probe self.new) }
+        ensures none { IfNone result (IsBetween self.old) }
+        ensures same { IfNone result (self.new ≡ self.old) }
+    {
+        match &mut self.phase {
+            Phase::InWindow(_, table) => Some(table.probe(d)),
+            Phase::Between(_) => None,
+            Phase::Moving => unreachable!(),
+        }
+    }
+
+    /// Whether the run is known to wait, at every moment, until another step may free it. `None` where no window is open.
+    pub fn is_blocked(&self, r: RunNo) -> Option<bool>
+        ensures blocked { IfSome result (λ yes. IsTrue yes → IsBlockedRun self.now r.0) }
+        ensures none { IfNone result (IsBetween self.now) }
+    {
+        match &self.phase {
+            Phase::InWindow(_, table) => Some(table.hub().is_blocked(r)),
+            Phase::Between(_) => None,
+            Phase::Moving => unreachable!(),
+        }
+    }
+
+    /// Why the window cannot be closed yet: the smallest run that has not ended, else the smallest device that is out.
+    /// `None` where no window is open.
+    pub fn quiet(&self) -> Option<Option<NotQuiet>>
+        ensures quiet { result ≡ left_to_do (hub_in self.now) }
+        ensures none { IfNone result (hub_in self.now ≡ None) }
+    {
+        match &self.phase {
+            Phase::InWindow(_, table) => Some(table.hub().quiet()),
+            Phase::Between(_) => None,
+            Phase::Moving => unreachable!(),
+        }
+    }
+}

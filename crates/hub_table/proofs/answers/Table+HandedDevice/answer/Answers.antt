@@ -1,0 +1,26 @@
+use Rattle.device_gate.specs.Places.{kept_of}
+use Rattle.device_gate.specs.declared.gates.Place.TheVariants.{Home}
+use Rattle.device_gate.specs.declared.slips.Slip.{Slip}
+use Rattle.hub_table.proofs.Answering.{answered_kept}
+use Rattle.hub_table.proofs.Holding.{comes_home, out_held}
+use Rattle.hub_table.proofs.answers.Table+HandedDevice.answer.Goals as goal
+use Rattle.hub_table.specs.Answers.{refusal}
+use Rattle.std.proofs.Common.{ap, sym, ◌∙◌}
+use Rattle.std.specs.Prelude.{slice_get, slice_set}
+
+pub returns-in-Some-clause-refused : goal.returns-in-Some-clause-refused
+returns-in-Some-clause-refused c =
+    ap (λ s. refusal (kept_of (slice_get s.places c.args.d.0)) c.args.ticket c.args.told) (sym c.self.view_is)
+    ∙ ap (λ o. refusal o c.args.ticket c.args.told) (sym (out_held c.self.inside.hub.places c.self.inside.grips.items c.args.d.0 c.self.invariant))
+    ∙ ap (λ o. refusal o c.args.ticket c.args.told) (sym c.look.ensures)
+    ∙ sym c.refusal.ensures
+    ∙ c.in-Some.is
+
+pub take_home-requires : goal.take_home-requires
+take_home-requires c =
+    answered_kept c.self.inside.hub.places c.self.inside.grips.items c.args.d.0 c.in-Some-lift.grip c.in-Ok.done c.self.invariant c.in-Some-lift.ensures.found c.in-Ok.ensures.slip c.in-Ok.ensures.task
+
+pub invariant_of-self : goal.invariant_of-self
+invariant_of-self c =
+    comes_home c.self.inside.hub.places c.take_home.new.hub.places c.self.inside.grips.items c.lift.new.hands.items c.args.d.0 c.in-Some-lift.grip c.take_home.ensures.home.0 c.self.invariant c.in-Some-lift.ensures.found
+    (c.take_home.ensures.home.1 ∙ ap (λ (s : Slip). slice_set c.self.inside.hub.places s.device.0 (Home c.take_home.ensures.home.0)) c.in-Ok.ensures.slip) c.in-Some-lift.ensures.lifted

@@ -1,0 +1,18 @@
+use Rattle.hub_core.specs.HubCalls.{IsProbed}
+use Rattle.hub_table.proofs.Holding.{probe_free, probe_keeps}
+use Rattle.hub_table.proofs.tables.Table.probe.Goals as goal
+use Rattle.std.proofs.Common.{subst}
+use Rattle.std.specs.Prelude.{Some}
+
+pub put-requires : goal.put-requires
+put-requires g c = record { free = probe_free c.self.inside.hub c.take_probe.new.self c.args.d.0 c.in-Some.grip c.self.inside.grips.items c.self.invariant c.in-Some.ensures.probed }
+
+pub invariant_of-self : goal.invariant_of-self
+invariant_of-self g c = probe_keeps c.self.inside.hub c.take_probe.new.self c.args.d.0 c.in-Some.grip c.self.inside.grips.items c.put.new.hands.items c.self.invariant c.in-Some.ensures.probed c.put.ensures
+
+pub returns-in-Some-clause-probed : goal.returns-in-Some-clause-probed
+returns-in-Some-clause-probed g c = (
+  Some c.in-Some.grip,
+  subst (λ s. IsProbed s c.args.d.0 (Some c.in-Some.grip) c.take_probe.new.self) c.self.view_is c.in-Some.ensures.probed,
+  λ i. Some (c.slip-slip.ensures i, c.task-task.ensures i),
+)

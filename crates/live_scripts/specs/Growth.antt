@@ -1,0 +1,89 @@
+-- A script that grows by a window, or by a run of its last window.
+use Rattle.day_clock.specs.Times.{is_before}
+use Rattle.day_clock.specs.declared.times.When.{When}
+use Rattle.home_types.specs.Limits.{most_probes, most_runs, most_windows}
+use Rattle.home_types.specs.declared.numbers.RunNo.{RunNo}
+use Rattle.live_scripts.specs.declared.refusals.NotAdded.TheVariants.{NoMemory as NoRoom, NoRoutine, NoWindow, NotBefore, TooManyRuns}
+use Rattle.live_scripts.specs.declared.refusals.NotAdded.{NotAdded}
+use Rattle.live_scripts.specs.declared.refusals.NotBegun.TheVariants.{NoMemory, NotLater, TooManyProbes}
+use Rattle.live_scripts.specs.declared.refusals.NotBegun.{NotBegun}
+use Rattle.routine_reader.specs.declared.scripts.Script.{Script}
+use Rattle.routine_reader.specs.declared.scripts.WindowText.{WindowText}
+use Rattle.std.specs.Prelude.{Bool, List, None, Option, Some, [], false, if◌then◌else◌, length, nat_le, nat_lt, slice_get, true, ℕ, ⊤, ◌&&◌, ◌++◌, ◌+◌, ◌-◌, ◌<◌, ◌∷◌, ◌≡◌, ◌≤◌}
+
+-- what a script has of a window that is begun: its time, its rounds of probes, and neither turns nor runs
+pub record IsNewWindow (at : When) (probes : ℕ) (window : WindowText) : Type 0 where
+  pub time : window.at ≡ at
+  pub seed : window.seed ≡ 1
+  pub rounds : window.probes ≡ probes
+  pub turns : window.turns.items ≡ []
+  pub runs : window.runs.items ≡ []
+
+-- the windows before the one that is begun: those of the day so far, none where the day is full
+abbrev pub windows_before : List WindowText → List WindowText
+windows_before windows = if nat_lt (length windows) most_windows then windows else []
+
+-- whether a time is later than that of the window before, where there is one
+abbrev pub is_later_after : Option WindowText → When → Bool
+is_later_after None at = true
+is_later_after (Some window) at = is_before window.at at
+
+abbrev pub is_later_than_last : Script → When → Bool
+is_later_than_last script at = is_later_after (slice_get script.windows.items (length script.windows.items - 1)) at
+
+-- the script has one window more, the one with this number, and nothing else is changed but that a full day was dropped
+pub record HasBegun (before : Script) (at : When) (probes k : ℕ) (after : Script) : Type 0 where
+  pub window : WindowText
+  pub new : IsNewWindow at probes window
+  pub later : is_later_than_last before at ≡ true
+  pub number : k ≡ length (windows_before before.windows.items)
+  pub windows : after.windows.items ≡ windows_before before.windows.items ++ window ∷ []
+  pub devices : after.devices ≡ before.devices
+  pub routines : after.routines ≡ before.routines
+
+-- why no window is begun
+abbrev pub CannotBegin : Script → When → ℕ → NotBegun → Type 0
+CannotBegin script at probes NotLater = is_later_than_last script at ≡ false
+CannotBegin script at probes TooManyProbes = most_probes < probes
+CannotBegin script at probes NoMemory = ⊤
+
+-- whether a run behind so many others may follow this one
+abbrev pub is_earlier : Option RunNo → ℕ → Bool
+is_earlier None earlier = true
+is_earlier (Some run) earlier = nat_le 1 run.0 && nat_le run.0 earlier
+
+-- the last window has one run more, the one with this number
+pub record HasRun (before : Script) (routine : ℕ) (follows : Option RunNo) (r : ℕ) (after : Script) : Type 0 where
+  pub earlier : List WindowText
+  pub was : WindowText
+  pub is : WindowText
+  pub last_was : before.windows.items ≡ earlier ++ was ∷ []
+  pub last_is : after.windows.items ≡ earlier ++ is ∷ []
+  pub rest : is ≡ record was { runs = is.runs }
+  pub runs : is.runs.items ≡ was.runs.items ++ record { routine = routine; follows = follows } ∷ []
+  pub number : r ≡ length was.runs.items + 1
+  pub devices : after.devices ≡ before.devices
+  pub routines : after.routines ≡ before.routines
+
+-- why no run is added to this window
+abbrev pub CannotAppend : WindowText → Option RunNo → NotAdded → Type 0
+CannotAppend window follows NoWindow = ⊥
+CannotAppend window follows NoRoutine = ⊥
+CannotAppend window follows NotBefore = is_earlier follows (length window.runs.items) ≡ false
+CannotAppend window follows TooManyRuns = most_runs ≤ length window.runs.items
+CannotAppend window follows NoRoom = ⊤
+
+-- .. as it is the last one of the script
+pub record LastCannot (script : Script) (follows : Option RunNo) (why : NotAdded) : Type 0 where
+  pub earlier : List WindowText
+  pub window : WindowText
+  pub last : script.windows.items ≡ earlier ++ window ∷ []
+  pub refuses : CannotAppend window follows why
+
+-- why no run is added to the script
+abbrev pub CannotAdd : Script → ℕ → Option RunNo → NotAdded → Type 0
+CannotAdd script routine follows NoWindow = script.windows.items ≡ []
+CannotAdd script routine follows NoRoutine = length script.routines.items ≤ routine
+CannotAdd script routine follows NotBefore = LastCannot script follows NotBefore
+CannotAdd script routine follows TooManyRuns = LastCannot script follows TooManyRuns
+CannotAdd script routine follows NoRoom = ⊤
