@@ -3,7 +3,7 @@
 
     python3 tools/check_pages.py [--link]
 
-In the pages at the top, in docs, and in the READMEs of the crates, the examples and the reference:
+In the pages at the top, in docs, and in the READMEs of the crates, the examples, the reference and the library:
 
 - a link leads to a file, and behind a `#` to a heading of that page; one that leaves the repository is an https address, and is
   not followed;
@@ -24,9 +24,10 @@ import sys
 from collections.abc import Iterator
 
 os.chdir(os.path.join(os.path.dirname(os.path.abspath(__file__)), ".."))
-PAGES = ["*.md", "docs/*.md", "*/README.md", "crates/*/README.md", "examples/*/README.md"]
+PAGES = ["*.md", "docs/*.md", "*/README.md", "crates/*/README.md", "examples/*/README.md", "library/*/README.md"]
 SOURCES = ["crates/**/*.rt", "crates/**/*.antt", "crates/**/*.sh", "crates/**/*.edit", "reference/*.py", "tools/*.py", "bench/*.py",
-           "tools/*.sh", "tools/viewer_page/*", "examples/*", "examples/*/*", "docs/*.json", "crates.txt", "HANDLES"]
+           "tools/*.sh", "tools/viewer_page/*", "examples/*", "examples/*/*", "docs/*.json", "crates.txt", "HANDLES",
+           "library/*.h", "library/*.sh", "library/*/*", "library/*/*/*"]
 NAME = re.compile(r"[^\W\d]\w*(?:(?:::|\.)[^\W\d]\w*)*")
 QUOTED = r"`[^`\n]+`"
 PLACED = re.compile(rf"((?:{QUOTED}(?:, | and |; )?(?:with )?)+) \((?:([a-z]+_[a-z_]+), )?(?:proofs/)?((?:\w+/)*[A-Z]\w+)\)")

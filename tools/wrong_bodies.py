@@ -101,7 +101,7 @@ def functions_of(path, text):
     """Returns the functions of a file of src/, each with the place where it begins, in the file's order."""
     module = path[len("src/") : -len(".rt")].replace("/", "::")
     module, text = "" if module in ("lib", "main") else module, blanked(text)
-    begins = [it for it in re.finditer(r"^( *)(?:pub(?:\([^)]*\))? )?(?:const )?fn (\w+)", text, re.M)]
+    begins = [it for it in re.finditer(r"^( *)(?:pub(?:\([^)]*\))? )?(?:const )?(?:extern +)?fn (\w+)", text, re.M)]
     heads = [it for it in re.finditer(r"^(?:pub )?(?:impl|trait)\b[^{;]*", text, re.M)]
     found = []
     for it, after in zip(begins, [*begins[1:], None]):

@@ -1,0 +1,51 @@
+-- `of` keeps the block of its box, under the mark of an open handle.
+use Rattle.lazbendix_c.proofs.Grasps.{Held, big, both, held_good, held_out, words_made, words_own, words_typed, words_val}
+use Rattle.lazbendix_c.proofs.handles.Handle.of.Code as code
+use Rattle.lazbendix_c.proofs.handles.Handle.of.Statement.{statement}
+use Rattle.lazbendix_c.specs.Owned.{open_mark}
+use Rattle.lazbendix_c.specs.contracts.handles.Handle as handle
+use Rattle.lazbendix_c.specs.contracts.handles.Handle.of.Key.{name as #self}
+use Rattle.lazbendix_c.specs.contracts.handles.Handle.of.{clauses, ended}
+use Rattle.home_states.specs.contracts.homes.LiveHome as state
+use Rattle.std.proofs.Common.{List, Some, [], lit<, refl, sym, ◌++◌, ◌∷◌, ◌≡◌}
+use Rattle.std.proofs.alloc.Global.TheLaws as heap_laws
+use Rattle.std.proofs.raw_atomic.Walks.{leaves, proved_at}
+use Rattle.std.specs.contracts.alloc.Global as heap
+use Rattle.std.specs.contracts.impls.GlobalAllocator.TheImpl.{ghosts}
+use Rattle.std.specs.declared.alloc.Global.{Global}
+use Rattle.std_alloc.specs.Box.Ownership.{box_owns}
+use Rattle.core.proofs.alloc.Calls.{Goes-blank}
+use base.Fml.{ftrue}
+use base.Logic.{SProp, emp, ent, id⊢}
+use contract.Monad.{fact, fact_i}
+use contract.Running.{tables}
+use denote.RattleType.{RattleType, owns}
+use denote.RawPtr.{block_ptr}
+use denote.Signature.{plain, types_at}
+use denote.Steps.{nothing}
+use denote.Triple.Entry.{alive}
+use denote.Triple.Walked.{Stays, stay_dropped, walk_of}
+use mir.Val.{Val, vptr}
+use prog.Wp.{WpFn}
+use types.ByLocal.{alloc_all, env, free_all, get, get_in, look_at, pass_all, sets}
+use types.Kit.{ !, by, fjoin, fpack, fsplit, keep, move, qed, raw, split, suffices, use0, ‵, ◌$◌, ◌∵◌, ◌⊛◌}
+use types.Part.{agg, sub, whole}
+use types.Run.{and_then, enter, fld, no_more, of_opd, returns, stop}
+use Rattle.std.proofs.Common.{subst}
+
+pub of_spec : {M : Type 1} → statement M
+of_spec 𝓤 𝓛 𝓜 𝓡 wired =
+    let H = 𝓛.H in let 𝓣 = tables 𝓤 H 𝓜 𝓡 𝓡.env in let R : RattleType = state.the_row in let Z : RattleType = heap.the_row in let LZ = heap_laws.the_row_laws in
+    let En = ended in let c = clauses 𝓛 𝓜.mem 𝓡.returns in let fn = code.function in let hs : Stays En.signature.params En.kept = (stay_dropped (plain (λ _. Held R Z LZ ghosts)) En.kept.0, tt) in
+    proved_at 𝓛 En hs c 𝓜 𝓡 (Goes-blank 𝓛 0 (plain (λ _. Held R Z LZ ghosts)) En.kept.0 (λ κs x f. tt), tt) #self fn (code.unfolded 𝓤 H 𝓜 𝓡 wired) (λ z are.
+    let Post : Val → SProp 𝓤 = (walk_of 𝓛 En hs c).post z in let Run : List Val → SProp 𝓤 = λ ws. WpFn 𝓤 H 𝓣.C 𝓣.Λ fn ws Post in let v = z.0.3.0 in
+    qed 𝓛 ((raw (alive 𝓛 En.signature z.0.0 z.0.1) ⊛ ‵ (owns (types_at En.signature.params z.0.0) z.0.3 z.0.4)) ∷ raw ((c z.0.0 z.0.3).requires z.1) ∷ []) ∵ split ! $ move ! (1 ∷ []) $ fsplit ! $ held_out R Z LZ ghosts ! v z.0.4.0 (λ b o h e ws fits.
+    let w : Val = both (vptr b o) h in let typed = held_good R Z LZ ghosts b o h fits in
+    let r : handle.the_row.Denot = record { mark = open_mark; at = block_ptr b o; state = Some v.value } in let Told : Type 0 = r.state ≡ Some v.value in let Same : Type 0 = open_mark ≡ open_mark in
+    suffices ! (Run (w ∷ [])) (subst (λ (us : List Val). ent 𝓤 (Run (w ∷ [])) (Run us)) (sym (λ i. ws i ++ [])) (id⊢ 𝓤 (Run (w ∷ [])))) $
+    enter ! 𝓣.C 𝓣.Λ fn (w ∷ []) Post $ alloc_all ! (λ l. pass_all ! refl (typed, tt) $ let Ev = env fn.locals l in
+    sets ! (of_opd ! (get_in ! (fld ! refl (stop !)) (sub ! 0 refl (whole !)))) refl (tt, tt) $ sets ! (of_opd ! (get ! refl)) refl (tt, tt) $ sets ! (agg ! (and_then ! (big ! open_mark (lit< tt)) (and_then ! (get ! refl) (no_more !)))) refl (words_typed open_mark (block_ptr b o) (lit< tt)) $
+    returns ! (look_at ! 0 refl) $ free_all ! refl $
+    fpack ! Global (λ a. box_owns (ghosts.dealloc_token a) R (block_ptr b o) v.value) v.alloc $ nothing ! $ fpack ! Same (λ _. ftrue) refl $ fjoin ! $
+    use0 𝓛 (‵ (words_own open_mark (block_ptr b o) (words_val open_mark (block_ptr b o) ∷ []))) (words_made 𝓛 open_mark (block_ptr b o) (lit< tt)) $ fjoin ! $
+    use0 𝓛 (raw (fact 𝓤 Told)) (fact_i 𝓤 Told (emp 𝓤) refl) $ nothing ! $ nothing ! $ fjoin ! $ keep ! (5 ∷ 0 ∷ 2 ∷ 1 ∷ []) $ by ! (leaves 𝓛 En hs c z (words_val open_mark (block_ptr b o)) r (tt, tt) (tt, tt)))))

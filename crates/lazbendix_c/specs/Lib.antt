@@ -1,0 +1,9 @@
+pub mod Calls
+pub mod Faults
+pub mod Numbers
+pub mod Owned
+pub mod Readings
+pub mod Refusals
+pub mod Steps
+pub mod Texts
+pub mod Told

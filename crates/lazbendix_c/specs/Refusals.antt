@@ -1,0 +1,103 @@
+-- Why a call of a C program does nothing, and the status that tells it.
+use Rattle.home_states.specs.DraftRefusals.{MayNotAdd, MayNotBegin}
+use Rattle.home_states.specs.Drafts.{MayNotRestand}
+use Rattle.home_states.specs.LiveHomes.{IsBetween, LiveState}
+use Rattle.home_states.specs.Openings.{MayNotClose, MayNotOpen}
+use Rattle.home_states.specs.Readings.{MayNotStand}
+use Rattle.home_states.specs.Steps.{HasProbed, IsNoAnswer}
+use Rattle.home_states.specs.declared.refusals.NotAnswered.TheVariants.{NoWindow as NoWindowForAnswer, NotTaken as Refused}
+use Rattle.home_states.specs.declared.refusals.NotAnswered.{NotAnswered}
+use Rattle.home_states.specs.declared.refusals.NotBegun.TheVariants.{Absent as NoRoutine, BadFollow, BadTime, InWindow as InOpenWindow, NoDraft, NoMemory as NoRoom, TooMany as TooManyRuns}
+use Rattle.home_states.specs.declared.refusals.NotBegun.{NotBegun}
+use Rattle.home_states.specs.declared.refusals.NotClosed.TheVariants.{NoWindow, NotQuiet}
+use Rattle.home_states.specs.declared.refusals.NotClosed.{NotClosed}
+use Rattle.home_states.specs.declared.refusals.NotOpened.TheVariants.{Absent, InWindow, NoMemory, TooMany}
+use Rattle.home_states.specs.declared.refusals.NotOpened.{NotOpened}
+use Rattle.home_states.specs.declared.refusals.NotRestood.TheVariants.{Absent as NoDevice, InWindow as RestoodInWindow, NoValue}
+use Rattle.home_states.specs.declared.refusals.NotRestood.{NotRestood}
+use Rattle.home_states.specs.declared.refusals.NotStanding.TheVariants.{Absent as NoStand, InWindow as StandsInWindow}
+use Rattle.home_states.specs.declared.refusals.NotStanding.{NotStanding}
+use Rattle.home_types.specs.declared.numbers.RunNo.{RunNo}
+use Rattle.device_gate.specs.declared.slips.Told.{Told}
+use Rattle.hub_table.specs.declared.told.NotTaken.TheVariants.{Differs, NotOut, OtherKind}
+use Rattle.hub_table.specs.declared.told.NotTaken.{NotTaken}
+use Rattle.std.specs.Prelude.{List, None, Option, pos, ℕ, ℤ, ◌≡◌, ◌⊎◌}
+
+-- for this reason, which the status tells
+pub record Tells {W : Type 0} (status_of : W → ℤ) (is_so : W → Type 0) (status : ℤ) : Type 0 where
+  pub why : W
+  pub so : is_so why
+  pub told : status ≡ status_of why
+
+abbrev pub opening_status : NotOpened → ℤ
+opening_status InWindow = pos 6
+opening_status Absent = pos 8
+opening_status TooMany = pos 9
+opening_status NoMemory = pos 5
+
+abbrev pub closing_status : NotClosed → ℤ
+closing_status NoWindow = pos 7
+closing_status (NotQuiet left) = pos 14
+
+abbrev pub taking_status : NotTaken → ℤ
+taking_status NotOut = pos 10
+taking_status OtherKind = pos 11
+taking_status Differs = pos 12
+
+abbrev pub answer_status : NotAnswered → ℤ
+answer_status NoWindowForAnswer = pos 7
+answer_status (Refused why) = taking_status why
+
+abbrev pub draft_status : NotBegun → ℤ
+draft_status InOpenWindow = pos 6
+draft_status NoDraft = pos 7
+draft_status BadTime = pos 16
+draft_status NoRoutine = pos 8
+draft_status BadFollow = pos 17
+draft_status TooManyRuns = pos 9
+draft_status NoRoom = pos 5
+
+abbrev pub restanding_status : NotRestood → ℤ
+restanding_status RestoodInWindow = pos 6
+restanding_status NoDevice = pos 8
+restanding_status NoValue = pos 18
+
+abbrev pub standing_status : NotStanding → ℤ
+standing_status StandsInWindow = pos 6
+standing_status NoStand = pos 8
+
+-- the window of this number is not opened
+abbrev pub IsNotOpened : LiveState → ℕ → ℤ → Type 0
+IsNotOpened s k status = Tells opening_status (λ why. MayNotOpen s k why) status
+
+-- the window is not closed
+abbrev pub IsNotClosed : LiveState → ℤ → Type 0
+IsNotClosed s status = Tells closing_status (λ why. MayNotClose s why) status
+
+-- no step is made, and nothing is asked of a window, where none is open
+abbrev pub IsNotInWindow : LiveState → ℤ → Type 0
+IsNotInWindow s status = (status ≡ pos 7) × IsBetween s
+
+-- the answer is not taken
+abbrev pub IsNotAnswered : LiveState → ℕ → ℕ → Told → ℤ → Type 0
+IsNotAnswered s d ticket told status = Tells answer_status (λ why. IsNoAnswer s d ticket told why) status
+
+-- no probe goes out
+abbrev pub IsNotSent : LiveState → ℕ → ℤ → Type 0
+IsNotSent s d status = IsNotInWindow s status ⊎ ((status ≡ pos 13) × HasProbed s d None s)
+
+-- no window is begun
+abbrev pub IsNotBegun : LiveState → List ℕ → ℕ → ℤ → Type 0
+IsNotBegun s text probes status = Tells draft_status (λ why. MayNotBegin s text probes why) status
+
+-- no run is added
+abbrev pub IsNotAdded : LiveState → ℕ → Option RunNo → ℤ → Type 0
+IsNotAdded s routine follows status = Tells draft_status (λ why. MayNotAdd s routine follows why) status
+
+-- the home is not told where the device was found
+abbrev pub IsNotRestood : LiveState → ℕ → ℕ → ℤ → Type 0
+IsNotRestood s d value status = Tells restanding_status (λ why. MayNotRestand s d value why) status
+
+-- it is not told how the device stands
+abbrev pub IsNotStanding : LiveState → ℕ → ℤ → Type 0
+IsNotStanding s d status = Tells standing_status (λ why. MayNotStand s d why) status

@@ -1,0 +1,44 @@
+-- The steps of a window as a C program makes them.
+use Rattle.device_gate.specs.declared.slips.Told.{Told}
+use Rattle.history_book.specs.declared.entries.Made.{Made}
+use Rattle.home_states.specs.LiveHomes.{LiveState, hub_in}
+use Rattle.home_states.specs.Steps.{HasAnswered, HasProbed, HasTaken, IsBlockedRun, left_to_do}
+use Rattle.hub_core.specs.declared.refusals.NotQuiet.{NotQuiet}
+use Rattle.hub_table.specs.Tables.{Lent}
+use Rattle.hub_table.specs.declared.told.Taken.{Taken}
+use Rattle.lazbendix_c.specs.Numbers.{device_number, told_as}
+use Rattle.lazbendix_c.specs.Told.{left_of, made_of, out_turn, turn_of}
+use Rattle.lazbendix_c.specs.declared.told_entries.ToldMade.{ToldMade}
+use Rattle.lazbendix_c.specs.declared.told_turns.ToldLeft.{ToldLeft}
+use Rattle.lazbendix_c.specs.declared.told_turns.ToldTurn.{ToldTurn}
+use Rattle.std.specs.Prelude.{Option, Some, ℕ, ◌≡◌}
+
+-- the step of the run was made, and this is told of it
+pub record HasStepped (s : LiveState) (run now : ℕ) (told : ToldTurn) (t : LiveState) : Type 0 where
+  pub taken : Taken
+  pub step : HasTaken s run now taken t
+  pub told_is : told ≡ turn_of run taken
+
+-- the answer was taken, and these are the entries that it made
+pub record HasGiven (s : LiveState) (device ticket answer value now : ℕ) (told : ToldMade) (t : LiveState) : Type 0 where
+  pub heard : Told
+  pub made : Made
+  pub means : told_as answer value ≡ Some heard
+  pub answered : HasAnswered s (device_number device) ticket heard now made t
+  pub told_is : told ≡ made_of made
+
+-- a probe of the device went out, and this is told of it
+pub record HasSent (s : LiveState) (device : ℕ) (told : ToldTurn) (t : LiveState) : Type 0 where
+  pub out : Lent
+  pub probed : HasProbed s (device_number device) (Some out) t
+  pub told_is : told ≡ out_turn out.0 out.1
+
+-- where 1 is told, a window is open and the run waits in it at every moment, until another step
+abbrev pub IsKnownBlocked : LiveState → ℕ → ℕ → Type 0
+IsKnownBlocked s run told = told ≡ 1 → IsBlockedRun s run
+
+-- this is told of what is left to do in the window that is open
+pub record HasLeft (s : LiveState) (told : ToldLeft) : Type 0 where
+  pub why : Option NotQuiet
+  pub left : left_to_do (hub_in s) ≡ Some why
+  pub told_is : told ≡ left_of why

@@ -1,0 +1,34 @@
+// The proved hub for C: a home behind a handle, stepped from outside, its device calls made by the caller.
+#![tactic(auto)]
+
+mod draft_calls;
+mod handles;
+mod numbers;
+mod open_calls;
+mod read_calls;
+mod statuses;
+mod step_calls;
+mod text_calls;
+mod told_entries;
+mod told_faults;
+mod told_turns;
+mod window_calls;
+
+pub use draft_calls::{lazbendix_add_run, lazbendix_begin_window, lazbendix_restand};
+pub use handles::Handle;
+pub use open_calls::{lazbendix_end, lazbendix_open};
+pub use read_calls::{
+    lazbendix_counts, lazbendix_device_name, lazbendix_routine_name, lazbendix_run_count,
+    lazbendix_stand, lazbendix_value_name,
+};
+pub use step_calls::{
+    lazbendix_blocked, lazbendix_give, lazbendix_probe, lazbendix_quiet, lazbendix_take,
+};
+pub use text_calls::{
+    lazbendix_entry_at, lazbendix_entry_count, lazbendix_entry_text, lazbendix_head,
+    lazbendix_read, lazbendix_record,
+};
+pub use told_entries::{ToldEntry, ToldMade};
+pub use told_faults::ToldFault;
+pub use told_turns::{ToldCounts, ToldLeft, ToldStand, ToldTurn};
+pub use window_calls::{lazbendix_close_window, lazbendix_window};

@@ -1,0 +1,168 @@
+//! How a home stands between its windows, and the names and numbers of its script.
+ghost use Rattle.std.specs.Prelude.{◌≡◌, ◌≢◌, ◌↔◌, None, pos};
+ghost use Rattle.home_states.specs.Readings.{device_name, routine_name, run_count, value_name};
+ghost use Rattle.lazbendix_c.specs.Calls.{Shows};
+ghost use Rattle.lazbendix_c.specs.Numbers.{device_number};
+ghost use Rattle.lazbendix_c.specs.Readings.{AreCounts, HasNamed, IsToldStand};
+ghost use Rattle.lazbendix_c.specs.Refusals.{IsNotStanding};
+
+use crate::handles::Handle;
+use crate::numbers::{copy_from, device_number};
+use crate::statuses::{CLOSED, DONE, standing_status};
+use crate::told_turns::{ToldCounts, ToldStand, stand_of};
+use std::alloc::Global;
+
+/// Tells how the device stands between two windows.
+#[unsafe(no_mangle)]
+pub extern "C" fn lazbendix_stand(
+    alloc: Global,
+    h: &mut Handle,
+    device: u32,
+    stand: &mut ToldStand,
+) -> i32
+    ensures done { result ≡ pos 0 → Shows (λ s. IsToldStand s device stand.new) h.old.state }
+    ensures refused { result ≢ pos 0 → result ≢ pos 1 → Shows (λ s. IsNotStanding s (device_number device) result) h.old.state }
+    ensures same { h.new.state ≡ h.old.state }
+    ensures untold { result ≢ pos 0 → stand.new ≡ stand.old }
+    ensures closed { h.old.state ≡ None ↔ result ≡ pos 1 }
+{
+    match h.take(alloc) {
+        Some(state) => {
+            let status = match state.stand(device_number(device)) {
+                Ok(found) => {
+                    *stand = stand_of(found);
+                    DONE
+                }
+                Err(why) => standing_status(why),
+            };
+            h.put(alloc, state);
+            status
+        }
+        None => CLOSED,
+    }
+}
+
+/// Tells how many devices, routines and windows the script has, with the windows that were begun.
+#[unsafe(no_mangle)]
+pub extern "C" fn lazbendix_counts(alloc: Global, h: &mut Handle, counts: &mut ToldCounts) -> i32
+    ensures done { result ≡ pos 0 → Shows (λ s. AreCounts s counts.new) h.old.state }
+    ensures same { h.new.state ≡ h.old.state }
+    ensures closed { h.old.state ≡ None → (result ≡ pos 1) × (counts.new ≡ counts.old) }
+{
+    match h.take(alloc) {
+        Some(state) => {
+            *counts = ToldCounts {
+                devices: state.device_count(),
+                routines: state.routine_count(),
+                windows: state.window_count(),
+            };
+            h.put(alloc, state);
+            DONE
+        }
+        None => CLOSED,
+    }
+}
+
+/// Tells how many runs the script's window of this number has, counted from 0; 0 where there is none.
+#[unsafe(no_mangle)]
+pub extern "C" fn lazbendix_run_count(
+    alloc: Global,
+    h: &mut Handle,
+    window: u32,
+    count: &mut u64,
+) -> i32
+    ensures done { result ≡ pos 0 → Shows (λ s. count.new ≡ run_count s window) h.old.state }
+    ensures same { h.new.state ≡ h.old.state }
+    ensures closed { h.old.state ≡ None → (result ≡ pos 1) × (count.new ≡ count.old) }
+{
+    match h.take(alloc) {
+        Some(state) => {
+            *count = state.run_count(window);
+            h.put(alloc, state);
+            DONE
+        }
+        None => CLOSED,
+    }
+}
+
+/// Copies the name of the device into the room, as much as fits, and tells how long it is; 0 where there is no device.
+#[unsafe(no_mangle)]
+pub extern "C" fn lazbendix_device_name(
+    alloc: Global,
+    h: &mut Handle,
+    device: u32,
+    room: &mut [u8],
+    len: &mut usize,
+) -> i32
+    ensures done { result ≡ pos 0 → Shows (λ s. HasNamed (device_name s.script device) room.old room.new len.new) h.old.state }
+    ensures same { h.new.state ≡ h.old.state }
+    ensures open { h.old.state ≢ None → result ≡ pos 0 }
+    ensures closed { h.old.state ≡ None → (result ≡ pos 1) × (room.new ≡ room.old) × (len.new ≡ len.old) }
+{
+    match h.take(alloc) {
+        Some(state) => {
+            *len = name_into(state.device_name(device), room);
+            h.put(alloc, state);
+            DONE
+        }
+        None => CLOSED,
+    }
+}
+
+/// Copies the name of the routine, counted from 0, into the room, as much as fits, and tells how long it is; 0 where
+/// there is no routine.
+#[unsafe(no_mangle)]
+pub extern "C" fn lazbendix_routine_name(
+    alloc: Global,
+    h: &mut Handle,
+    routine: u32,
+    room: &mut [u8],
+    len: &mut usize,
+) -> i32
+    ensures done { result ≡ pos 0 → Shows (λ s. HasNamed (routine_name s.script routine) room.old room.new len.new) h.old.state }
+    ensures same { h.new.state ≡ h.old.state }
+    ensures open { h.old.state ≢ None → result ≡ pos 0 }
+    ensures closed { h.old.state ≡ None → (result ≡ pos 1) × (room.new ≡ room.old) × (len.new ≡ len.old) }
+{
+    match h.take(alloc) {
+        Some(state) => {
+            *len = name_into(state.routine_name(routine), room);
+            h.put(alloc, state);
+            DONE
+        }
+        None => CLOSED,
+    }
+}
+
+/// Copies the name of the device's value into the room, as much as fits, and tells how long it is; 0 where it has none.
+#[unsafe(no_mangle)]
+pub extern "C" fn lazbendix_value_name(
+    alloc: Global,
+    h: &mut Handle,
+    device: u32,
+    value: u32,
+    room: &mut [u8],
+    len: &mut usize,
+) -> i32
+    ensures done { result ≡ pos 0 → Shows (λ s. HasNamed (value_name s.script device value) room.old room.new len.new) h.old.state }
+    ensures same { h.new.state ≡ h.old.state }
+    ensures open { h.old.state ≢ None → result ≡ pos 0 }
+    ensures closed { h.old.state ≡ None → (result ≡ pos 1) × (room.new ≡ room.old) × (len.new ≡ len.old) }
+{
+    match h.take(alloc) {
+        Some(state) => {
+            *len = name_into(state.value_name(device, value), room);
+            h.put(alloc, state);
+            DONE
+        }
+        None => CLOSED,
+    }
+}
+
+/// Copies the name into the room, as much as fits, and answers how long it is.
+fn name_into(name: &str, room: &mut [u8]) -> usize
+    ensures { HasNamed name.now room.old room.new result }
+{
+    let _fits = copy_from(name.as_bytes(), 0, room);
+    name.len()
+}

@@ -1,0 +1,180 @@
+//! The texts of a home, and the entries of its window.
+ghost use Rattle.std.specs.Prelude.{◌≡◌, ◌≢◌, ◌↔◌, Err, IsErr, None, Ok, length, pos, slice_get};
+ghost use Rattle.home_states.specs.Texts.{HasToldEntry, entries_told};
+ghost use Rattle.lazbendix_c.specs.Calls.{Changes, Shows};
+ghost use Rattle.lazbendix_c.specs.Texts.{HasRead, HasToldHead, HasToldRecord, IsEntryAt};
+
+use crate::handles::Handle;
+use crate::numbers::copy_from;
+use crate::statuses::{ABSENT, CLOSED, DONE, NO_MEMORY, NO_RECORD};
+use crate::told_entries::{ToldEntry, tell_entry};
+use home_states::{LiveHome, NotTold};
+use std::alloc::Global;
+
+/// Makes the text of the window that was closed last, with its trace where `trace` is not 0, and tells how long it is.
+///
+/// Where the answer is not `DONE` nothing has changed; after `NO_MEMORY` it may be asked again.
+#[unsafe(no_mangle)]
+pub extern "C" fn lazbendix_record(
+    alloc: Global,
+    h: &mut Handle,
+    trace: u32,
+    len: &mut usize,
+) -> i32
+    ensures done { result ≡ pos 0 → Changes (λ s t. HasToldRecord s trace len.new t) h.old.state h.new.state }
+    ensures absent { result ≡ pos 15 → Shows (λ s. s.closed ≡ None) h.old.state }
+    ensures same { result ≢ pos 0 → h.new.state ≡ h.old.state }
+    ensures untold { result ≢ pos 0 → len.new ≡ len.old }
+    ensures closed { h.old.state ≡ None ↔ result ≡ pos 1 }
+{
+    match h.take(alloc) {
+        Some(mut state) => {
+            let told = state.tell_window(alloc, trace != 0);
+            let status = status_of(&state, told, NO_RECORD, len);
+            h.put(alloc, state);
+            status
+        }
+        None => CLOSED,
+    }
+}
+
+/// Makes the head of a record of this home's windows, and tells how long it is.
+///
+/// Where the answer is not `DONE` nothing has changed.
+#[unsafe(no_mangle)]
+pub extern "C" fn lazbendix_head(alloc: Global, h: &mut Handle, len: &mut usize) -> i32
+    ensures done { result ≡ pos 0 → Changes (λ s t. HasToldHead s len.new t) h.old.state h.new.state }
+    ensures same { result ≢ pos 0 → h.new.state ≡ h.old.state }
+    ensures untold { result ≢ pos 0 → len.new ≡ len.old }
+    ensures closed { h.old.state ≡ None ↔ result ≡ pos 1 }
+{
+    match h.take(alloc) {
+        Some(mut state) => {
+            let told = state.tell_head(alloc);
+            let status = status_of(&state, told, NO_RECORD, len);
+            h.put(alloc, state);
+            status
+        }
+        None => CLOSED,
+    }
+}
+
+/// Makes the line of the entry at this place, counted from 0, of the window that is open, or of the one closed last, and
+/// tells how long it is.
+///
+/// Where the answer is not `DONE` nothing has changed.
+#[unsafe(no_mangle)]
+pub extern "C" fn lazbendix_entry_text(
+    alloc: Global,
+    h: &mut Handle,
+    at: u64,
+    len: &mut usize,
+) -> i32
+    ensures done { result ≡ pos 0 → Changes (λ s t. HasToldEntry s at t × (len.new ≡ length t.text)) h.old.state h.new.state }
+    ensures same { result ≢ pos 0 → h.new.state ≡ h.old.state }
+    ensures untold { result ≢ pos 0 → len.new ≡ len.old }
+    ensures closed { h.old.state ≡ None ↔ result ≡ pos 1 }
+{
+    match h.take(alloc) {
+        Some(mut state) => {
+            let told = state.tell_entry(alloc, at);
+            let status = status_of(&state, told, ABSENT, len);
+            h.put(alloc, state);
+            status
+        }
+        None => CLOSED,
+    }
+}
+
+/// The status of a text that was asked for, and its length where it was made.
+fn status_of(state: &LiveHome, told: Result<(), NotTold>, absent: i32, len: &mut usize) -> i32
+    requires absent { (absent ≢ pos 0) × (absent ≢ pos 1) × (absent ≢ pos 5) }
+    ensures done { result ≡ pos 0 → (told ≡ Ok tt) × (len.new ≡ length state.now.text) }
+    ensures absent { result ≢ pos 0 → result ≢ pos 5 → told ≡ Err NotTold.Absent }
+    ensures open { result ≢ pos 1 }
+    ensures untold { result ≢ pos 0 → (IsErr told) × (len.new ≡ len.old) }
+{
+    match told {
+        Ok(()) => {
+            *len = state.text().len();
+            DONE
+        }
+        Err(NotTold::Absent) => absent,
+        Err(NotTold::NoMemory) => NO_MEMORY,
+    }
+}
+
+/// Copies the text that was made last into the room, from the byte at `from` on, as much as there is and fits, and tells
+/// how much. Before the first text it is empty.
+#[unsafe(no_mangle)]
+pub extern "C" fn lazbendix_read(
+    alloc: Global,
+    h: &mut Handle,
+    from: usize,
+    room: &mut [u8],
+    got: &mut usize,
+) -> i32
+    ensures done { result ≡ pos 0 → Shows (λ s. HasRead s.text from room.old room.new got.new) h.old.state }
+    ensures same { h.new.state ≡ h.old.state }
+    ensures open { h.old.state ≢ None → result ≡ pos 0 }
+    ensures closed { h.old.state ≡ None → (result ≡ pos 1) × (room.new ≡ room.old) × (got.new ≡ got.old) }
+{
+    match h.take(alloc) {
+        Some(state) => {
+            *got = copy_from(state.text(), from, room);
+            h.put(alloc, state);
+            DONE
+        }
+        None => CLOSED,
+    }
+}
+
+/// Tells how many entries the window that is open has so far, or the one closed last where none is open.
+#[unsafe(no_mangle)]
+pub extern "C" fn lazbendix_entry_count(alloc: Global, h: &mut Handle, count: &mut u64) -> i32
+    ensures done { result ≡ pos 0 → Shows (λ s. count.new ≡ length (entries_told s)) h.old.state }
+    ensures same { h.new.state ≡ h.old.state }
+    ensures closed { h.old.state ≡ None → (result ≡ pos 1) × (count.new ≡ count.old) }
+{
+    match h.take(alloc) {
+        Some(state) => {
+            *count = state.entry_count();
+            h.put(alloc, state);
+            DONE
+        }
+        None => CLOSED,
+    }
+}
+
+/// Tells the entry at this place, counted from 0, of the window that is open, or of the one closed last, and its maker:
+/// the run that made the step, or 0 for the detector.
+#[unsafe(no_mangle)]
+pub extern "C" fn lazbendix_entry_at(
+    alloc: Global,
+    h: &mut Handle,
+    at: u64,
+    entry: &mut ToldEntry,
+    maker: &mut u32,
+) -> i32
+    ensures done { result ≡ pos 0 → Shows (λ s. IsEntryAt s at entry.new maker.new) h.old.state }
+    ensures absent { result ≢ pos 0 → result ≢ pos 1 → Shows (λ s. (result ≡ pos 8) × (slice_get (entries_told s) at ≡ None)) h.old.state }
+    ensures same { h.new.state ≡ h.old.state }
+    ensures untold { result ≢ pos 0 → (entry.new ≡ entry.old) × (maker.new ≡ maker.old) }
+    ensures closed { h.old.state ≡ None ↔ result ≡ pos 1 }
+{
+    match h.take(alloc) {
+        Some(state) => {
+            let status = match state.entry(at) {
+                Some(kept) => {
+                    tell_entry(&kept.entry, entry);
+                    *maker = kept.maker;
+                    DONE
+                }
+                None => ABSENT,
+            };
+            h.put(alloc, state);
+            status
+        }
+        None => CLOSED,
+    }
+}

@@ -1,0 +1,73 @@
+#!/usr/bin/env python3
+"""Judges the journal of a live hub by the reference's check of records, which knows no hub.
+
+    python3 library/live/check.py FOLDER
+
+Behind a line `# opened` every device is up at its start; a line `# found lamp=on` puts a device there, up. A hub that was
+killed may have written a window of the script, and not its text. Prints how many windows and runs agree, or the first place
+where a record does not.
+"""
+import os
+import re
+import sys
+from typing import Any, Iterator
+
+HERE = os.path.dirname(os.path.abspath(__file__))
+sys.path.insert(0, os.path.join(HERE, "..", ".."))
+
+from reference.check import Differs, WindowChecker, lines_of, value_in
+from reference.script import read_script
+from reference.serial import Stand
+
+FOUND = re.compile(r"# found ([^=]*)=(.*)")
+
+
+def windows_of(text: str) -> Iterator[list[str]]:
+    """The lines of each window, with those that stand above it."""
+    held: list[str] = []
+    for line in text.splitlines()[2:]:
+        held.append(line)
+        if line.startswith("home "):
+            yield held
+            held = []
+
+
+def check_day(script: Any, text: str, stands: list[Any]) -> tuple[list[Any], int, int]:
+    """How the home stands after the day, its windows and their runs. Raises where the record does not agree."""
+    names = [device.name for device in script.devices]
+    windows = list(windows_of(text))
+    if not 0 <= len(script.windows) - len(windows) <= 1:
+        raise Differs(len(windows), "windows")
+    for number, lines in enumerate(windows):
+        if "# opened" in lines or not stands:
+            stands = [Stand(device.start, True) for device in script.devices]
+        for found in filter(None, map(FOUND.fullmatch, lines)):
+            device = names.index(found[1])
+            stands[device] = Stand(value_in(script.devices[device], found[2]), True)
+        checker = WindowChecker(script, number, stands, lines_of("".join(f"{line}\n" for line in lines).encode()))
+        stands, _ = checker.check()
+    return stands, len(windows), sum(len(window.runs) for window in script.windows[: len(windows)])
+
+
+def main() -> None:
+    if len(sys.argv) != 2 or not os.path.isdir(sys.argv[1]):
+        sys.exit("check: python3 library/live/check.py FOLDER")
+    folder = sys.argv[1]
+    days = sorted(int(name[:-5]) for name in os.listdir(folder) if name.endswith(".json"))
+    stands: list[Any] = []
+    windows = runs = 0
+    for day in days:
+        with open(os.path.join(folder, f"{day}.json"), "rb") as file:
+            script = read_script(file.read())
+        with open(os.path.join(folder, f"{day}.record"), encoding="utf-8") as record:
+            text = record.read()
+        try:
+            stands, of_day, more = check_day(script, text, stands)
+        except Differs as differs:
+            sys.exit(f"day {day}: {differs}")
+        windows, runs = windows + of_day, runs + more
+    print(f"{windows} windows with {runs} runs agree")
+
+
+if __name__ == "__main__":
+    main()

@@ -1,0 +1,156 @@
+//! What the crate adds to the library: typed statuses, the end of a hub, and its way between threads.
+
+use lazbendix::{
+    Answer, Cause, Counts, Entry, Fault, FaultKind, Go, Hub, Left, Mode, Part, Refused, Spot, Stand, Status, Task, Turn,
+    What, Why,
+};
+use std::sync::{Arc, Mutex};
+use std::thread;
+
+const LEAVING: &[u8] = include_bytes!("../../../examples/leaving.json");
+const LAMP: u32 = 0;
+const HEAT: u32 = 1;
+const WINDOW: u32 = 2;
+const SHUT: u32 = 0;
+const OPEN: u32 = 1;
+const LEAVE: u32 = 0;
+const READ: u32 = 1;
+
+fn open() -> Hub {
+    Hub::open(LEAVING, Mode::default()).unwrap()
+}
+
+fn refused<T>(status: Status) -> Result<T, Refused> {
+    Err(Refused(status))
+}
+
+/// Every device works; a sense of the window finds this value.
+fn play(hub: &mut Hub, number: u32, window: u32) {
+    hub.window(number).unwrap();
+    while hub.left().unwrap().is_some() {
+        for run in 1..=hub.run_count(number).unwrap() as u32 {
+            if let Turn::Go(go) = hub.take(run, 0).unwrap() {
+                let answer = if go.task == Task::Sense { Answer::Found(window) } else { Answer::Worked };
+                hub.give(go.device, go.ticket, answer, 0).unwrap();
+            }
+        }
+    }
+    hub.close_window().unwrap();
+}
+
+#[test]
+fn names_and_numbers() {
+    let mut hub = open();
+    assert_eq!(hub.counts(), Ok(Counts { devices: 4, routines: 2, windows: 1 }));
+    let names: Vec<String> = (0..5).map(|d| hub.device_name(d).unwrap()).collect();
+    assert_eq!(names, ["lamp", "heat", "window", "alarm", ""]);
+    assert_eq!(hub.routine_name(READ).unwrap(), "read");
+    assert_eq!(hub.value_name(WINDOW, OPEN).unwrap(), "open");
+    assert_eq!(hub.value_name(HEAT, 21).unwrap(), "");
+    assert_eq!(hub.stand(HEAT), Ok(Stand { value: 21, up: true }));
+    assert_eq!((hub.run_count(0), hub.run_count(1)), (Ok(2), Ok(0)));
+}
+
+#[test]
+fn a_script_is_refused_with_its_fault() {
+    let script = br#"{"safehome": 1, "devices": [], "routines": [], "windows": [{"at": "noon", "runs": []}]}"#;
+    let spot = Some(Spot { part: Part::Window, outer: 1, inner: 0 });
+    let fault = Fault { kind: FaultKind::BadTime, spot };
+    assert_eq!(Hub::open(script, Mode::Weak).err(), Some(Refused(Status::Refused(fault))));
+    let fault = Fault { kind: FaultKind::NotJson, spot: None };
+    assert_eq!(Hub::open(b"", Mode::Weak).err(), Some(Refused(Status::Refused(fault))));
+}
+
+#[test]
+fn a_window_of_the_script() {
+    let mut hub = open();
+    assert_eq!(hub.record(true), refused(Status::NoRecord));
+    play(&mut hub, 0, OPEN);
+    let text = hub.record(false).unwrap();
+    assert!(text.contains("\nrun 1 leave aborted refuted 3 found open\nrun 2 read committed ."));
+    let entries: Vec<Entry> = (0..hub.entry_count().unwrap()).map(|at| hub.entry(at).unwrap().0).collect();
+    assert_eq!(entries[0], Entry::Arrived { run: 1, moment: 0 });
+    let cause = Cause::Refuted { command: 2, value: OPEN };
+    assert!(entries.contains(&Entry::Doomed { run: 1, cause }));
+    assert!(entries.contains(&Entry::Ended { run: 2, end: What::Committed }));
+    assert!(hub.entry_text(0).unwrap().starts_with("# arrived 1 at 0"));
+    assert_eq!(hub.head().unwrap(), "safehome day\nmodel ev fcfs\n");
+}
+
+#[test]
+fn the_steps_of_a_run() {
+    let mut hub = open();
+    hub.window(0).unwrap();
+    assert_eq!(hub.window(0), refused(Status::InWindow));
+    assert_eq!(hub.left(), Ok(Some(Left::Run(1))));
+    assert_eq!(hub.take(3, 0), Ok(Turn::NoRun));
+    assert!(matches!(hub.take(1, 5), Ok(Turn::Moved(made)) if made.entries() == [Entry::Arrived { run: 1, moment: 5 }]));
+    assert!(matches!(hub.take(1, 5), Ok(Turn::Moved(_))));
+    let go = Go { device: HEAT, ticket: 1, run: 1, task: Task::Drive(15), stood: 21 };
+    assert_eq!(hub.take(1, 5), Ok(Turn::Go(go)));
+    assert_eq!(hub.take(1, 5), Ok(Turn::Waits(Why::Busy { device: HEAT })));
+    assert_eq!(hub.is_blocked(1), Ok(false)); // it has a device out
+    assert_eq!(hub.give(HEAT, 2, Answer::Worked, 5), refused(Status::NotOut));
+    assert_eq!(hub.give(HEAT, 1, Answer::Found(15), 5), refused(Status::Wrong));
+    let made = hub.give(HEAT, 1, Answer::Dead, 5).unwrap();
+    let cause = Cause::MustDown { command: 0 };
+    assert_eq!(made.entries().last(), Some(&Entry::Doomed { run: 1, cause }));
+    assert!(matches!(hub.take(1, 5), Ok(Turn::Over(Entry::Ended { run: 1, end: What::Aborted(_) }, _))));
+    assert_eq!(hub.close_window(), refused(Status::NotQuiet));
+    assert_eq!(hub.probe(LAMP), refused(Status::NoProbe));
+}
+
+#[test]
+fn a_window_of_the_moment() {
+    let mut hub = open();
+    hub.restand(WINDOW, SHUT).unwrap();
+    let number = hub.begin_window("2021-04-27T08:10:00", 0).unwrap();
+    assert_eq!(hub.add_run(LEAVE, None), Ok(1));
+    assert_eq!(hub.add_run(READ, Some(1)), Ok(2));
+    assert_eq!(hub.add_run(READ, Some(3)), refused(Status::BadFollow));
+    play(&mut hub, number, SHUT);
+    assert!(hub.record(false).unwrap().ends_with("\norder 1 2\nhome lamp=on heat=15 window=shut alarm=on\n"));
+    assert_eq!(hub.begin_window("2021-04-27T08:10:00", 0), refused(Status::BadTime));
+    assert_eq!(hub.add_run(LEAVE, None), refused(Status::NoWindow));
+    assert_eq!(hub.restand(HEAT, 31), refused(Status::NoValue));
+}
+
+#[test]
+fn a_hub_is_dropped_with_a_device_out() {
+    let mut hub = open();
+    hub.window(0).unwrap();
+    while !matches!(hub.take(1, 0), Ok(Turn::Go(_))) {}
+    drop(hub);
+}
+
+#[test]
+fn threads_step_one_hub() {
+    let mut hub = open();
+    let number = hub.begin_window("2021-04-27T08:10:00", 0).unwrap();
+    for _ in 0..16 {
+        hub.add_run(READ, None).unwrap();
+    }
+    hub.window(number).unwrap();
+    let hub = Arc::new(Mutex::new(hub));
+    let threads: Vec<_> = (0..4)
+        .map(|_| {
+            let hub = Arc::clone(&hub);
+            thread::spawn(move || {
+                while hub.lock().unwrap().left().unwrap().is_some() {
+                    for run in 1..=16 {
+                        let turn = hub.lock().unwrap().take(run, 0).unwrap();
+                        if let Turn::Go(go) = turn {
+                            hub.lock().unwrap().give(go.device, go.ticket, Answer::Worked, 0).unwrap();
+                        }
+                    }
+                }
+            })
+        })
+        .collect();
+    for thread in threads {
+        thread.join().unwrap();
+    }
+    let mut hub = hub.lock().unwrap();
+    hub.close_window().unwrap();
+    assert_eq!(hub.record(false).unwrap().matches("committed").count(), 16);
+}

@@ -1,0 +1,246 @@
+/* Calls of exports that are drawn, with arguments that are drawn, on four handles.
+
+       ./fuzz [CALLS [SEED [REFUSED]]]
+
+   Each call has to answer one of its own statuses, and where that is not DONE it may not have written anything. Where
+   REFUSED is not 0, one allocation of so many is refused. In the end no block of memory is left. Link it with
+   -Wl,--wrap=malloc,--wrap=realloc,--wrap=free. */
+#include "../lazbendix.h"
+#include "home.h"
+#include <inttypes.h>
+#include <stdio.h>
+#include <stdlib.h>
+#include <string.h>
+
+#define HANDLES 4
+#define MOST_SCRIPT 2048
+#define ROOM 64
+#define STATUSES 19
+
+/* Memory, counted and refused. */
+
+void *__real_malloc(size_t size);
+void *__real_realloc(void *at, size_t size);
+void __real_free(void *at);
+
+static uint64_t draws = 1, refused_one_of;
+static long blocks;
+
+static uint64_t drawn(void) {
+    uint64_t z = draws += 0x9e3779b97f4a7c15u;
+    z = (z ^ (z >> 30)) * 0xbf58476d1ce4e5b9u;
+    z = (z ^ (z >> 27)) * 0x94d049bb133111ebu;
+    return z ^ (z >> 31);
+}
+
+static int is_refused(void) {
+    return refused_one_of && drawn() % refused_one_of == 0;
+}
+
+void *__wrap_malloc(size_t size) {
+    void *at = is_refused() ? NULL : __real_malloc(size);
+    blocks += at != NULL;
+    return at;
+}
+
+void *__wrap_realloc(void *at, size_t size) {
+    return is_refused() ? NULL : __real_realloc(at, size);
+}
+
+void __wrap_free(void *at) {
+    blocks -= at != NULL;
+    __real_free(at);
+}
+
+/* What the calls write. */
+
+static struct {
+    lazbendix_fault fault;
+    lazbendix_turn turn;
+    lazbendix_made made;
+    lazbendix_entry entry;
+    lazbendix_left left;
+    lazbendix_stand_told stand;
+    lazbendix_counts_told counts;
+    uint64_t wide;
+    size_t len;
+    uint32_t number;
+    uint8_t room[ROOM];
+} out, untouched;
+
+static lazbendix_hub hubs[HANDLES];
+static lazbendix_turn last[HANDLES];
+
+/* Arguments: mostly small ones, and those at edges. */
+
+static uint64_t wide(void) {
+    static const uint64_t edges[] = { 255, 256, 65535, 65536, UINT32_MAX, 1ull << 32, 1ull << 63, UINT64_MAX };
+    return drawn() % 16 ? drawn() % 6 : edges[drawn() % (sizeof edges / sizeof *edges)];
+}
+
+static uint32_t small(void) {
+    return (uint32_t)wide();
+}
+
+/* The script of the home, as a rule with a byte or two changed, cut, or other bytes. */
+static size_t script(uint8_t *at) {
+    size_t len = strlen(HOME);
+    memcpy(at, HOME, len);
+    switch (drawn() % 8) {
+    case 0:
+        for (size_t i = 0; i < 1 + drawn() % 2; i++)
+            at[drawn() % len] = (uint8_t)drawn();
+        return len;
+    case 1:
+        return drawn() % len;
+    case 2:
+        for (size_t i = 0; i < ROOM; i++)
+            at[i] = (uint8_t)drawn();
+        return drawn() % ROOM;
+    default:
+        return len;
+    }
+}
+
+static int32_t open_hub(int h) {
+    static uint8_t text[MOST_SCRIPT];
+    size_t len = script(text);
+    return lazbendix_open(&hubs[h], text, len, drawn() % 4 ? 0 : small(), drawn() % 4 ? small() % 3 : small(), &out.fault);
+}
+
+static int32_t begin_window(int h) {
+    static unsigned seconds;
+    char text[ROOM];
+    unsigned at = seconds++;
+    int len = snprintf(text, sizeof text, "20%02u-04-26T%02u:%02u:%02u", 22 + at / 86400 % 70, at / 3600 % 24, at / 60 % 60, at % 60);
+    if (drawn() % 8 == 0)
+        text[drawn() % (unsigned)len] = (char)drawn();
+    return lazbendix_begin_window(&hubs[h], (uint8_t *)text, (size_t)len, small() % 128, &out.number);
+}
+
+static int32_t give(int h) {
+    const lazbendix_turn *turn = &last[h];
+    if (drawn() % 4 == 0)
+        return lazbendix_give(&hubs[h], small(), wide(), small(), small(), wide(), &out.made);
+    uint32_t answer = drawn() % 8 == 0 ? LAZBENDIX_DEAD : turn->task == LAZBENDIX_SENSE ? LAZBENDIX_FOUND_VALUE : LAZBENDIX_WORKED;
+    return lazbendix_give(&hubs[h], turn->device, turn->ticket, answer, turn->stood, wide(), &out.made);
+}
+
+enum call {
+    OPEN, END, WINDOW, TAKE, GIVE, PROBE, BLOCKED, QUIET, CLOSE_WINDOW, RECORD, HEAD, ENTRY_TEXT, READ, ENTRY_COUNT,
+    ENTRY_AT, BEGIN_WINDOW, ADD_RUN, RESTAND, STAND, COUNTS, RUN_COUNT, DEVICE_NAME, ROUTINE_NAME, VALUE_NAME, CALLS
+};
+
+#define BIT(status) (1u << LAZBENDIX_##status)
+
+/* What each call may answer beside DONE and CLOSED. */
+static const struct {
+    const char *name;
+    uint32_t statuses;
+} calls[CALLS] = {
+    [OPEN] = { "open", BIT(OPEN) | BIT(MODE) | BIT(REFUSED) | BIT(NO_MEMORY) },
+    [END] = { "end", 0 },
+    [WINDOW] = { "window", BIT(IN_WINDOW) | BIT(ABSENT) | BIT(TOO_MANY) | BIT(NO_MEMORY) },
+    [TAKE] = { "take", BIT(NO_WINDOW) },
+    [GIVE] = { "give", BIT(NO_WINDOW) | BIT(NOT_OUT) | BIT(WRONG) | BIT(DIFFERS) },
+    [PROBE] = { "probe", BIT(NO_WINDOW) | BIT(NO_PROBE) },
+    [BLOCKED] = { "blocked", BIT(NO_WINDOW) },
+    [QUIET] = { "quiet", BIT(NO_WINDOW) },
+    [CLOSE_WINDOW] = { "close_window", BIT(NO_WINDOW) | BIT(NOT_QUIET) },
+    [RECORD] = { "record", BIT(NO_RECORD) | BIT(NO_MEMORY) },
+    [HEAD] = { "head", BIT(NO_MEMORY) },
+    [ENTRY_TEXT] = { "entry_text", BIT(ABSENT) | BIT(NO_MEMORY) },
+    [READ] = { "read", 0 },
+    [ENTRY_COUNT] = { "entry_count", 0 },
+    [ENTRY_AT] = { "entry_at", BIT(ABSENT) },
+    [BEGIN_WINDOW] = { "begin_window", BIT(IN_WINDOW) | BIT(BAD_TIME) | BIT(TOO_MANY) | BIT(NO_MEMORY) },
+    [ADD_RUN] = { "add_run", BIT(NO_WINDOW) | BIT(ABSENT) | BIT(BAD_FOLLOW) | BIT(TOO_MANY) | BIT(NO_MEMORY) },
+    [RESTAND] = { "restand", BIT(IN_WINDOW) | BIT(ABSENT) | BIT(NO_VALUE) },
+    [STAND] = { "stand", BIT(IN_WINDOW) | BIT(ABSENT) },
+    [COUNTS] = { "counts", 0 },
+    [RUN_COUNT] = { "run_count", 0 },
+    [DEVICE_NAME] = { "device_name", 0 },
+    [ROUTINE_NAME] = { "routine_name", 0 },
+    [VALUE_NAME] = { "value_name", 0 },
+};
+
+static int32_t make(enum call call, int h) {
+    lazbendix_hub *hub = &hubs[h];
+    size_t len = drawn() % (ROOM + 1);
+    switch (call) {
+    case OPEN: return open_hub(h);
+    case END: return lazbendix_end(hub);
+    case WINDOW: return lazbendix_window(hub, drawn() % 2 ? small() : (uint32_t)(drawn() % 40));
+    case TAKE: return lazbendix_take(hub, small(), wide(), &out.turn);
+    case GIVE: return give(h);
+    case PROBE: return lazbendix_probe(hub, small(), &out.turn);
+    case BLOCKED: return lazbendix_blocked(hub, small(), &out.number);
+    case QUIET: return lazbendix_quiet(hub, &out.left);
+    case CLOSE_WINDOW: return lazbendix_close_window(hub);
+    case RECORD: return lazbendix_record(hub, small(), &out.len);
+    case HEAD: return lazbendix_head(hub, &out.len);
+    case ENTRY_TEXT: return lazbendix_entry_text(hub, wide(), &out.len);
+    case READ: return lazbendix_read(hub, (size_t)wide(), out.room, len, &out.len);
+    case ENTRY_COUNT: return lazbendix_entry_count(hub, &out.wide);
+    case ENTRY_AT: return lazbendix_entry_at(hub, wide(), &out.entry, &out.number);
+    case BEGIN_WINDOW: return begin_window(h);
+    case ADD_RUN: return lazbendix_add_run(hub, small(), small(), &out.number);
+    case RESTAND: return lazbendix_restand(hub, small(), small());
+    case STAND: return lazbendix_stand(hub, small(), &out.stand);
+    case COUNTS: return lazbendix_counts(hub, &out.counts);
+    case RUN_COUNT: return lazbendix_run_count(hub, small(), &out.wide);
+    case DEVICE_NAME: return lazbendix_device_name(hub, small(), out.room, len, &out.len);
+    case ROUTINE_NAME: return lazbendix_routine_name(hub, small(), out.room, len, &out.len);
+    case VALUE_NAME: return lazbendix_value_name(hub, small(), small(), out.room, len, &out.len);
+    case CALLS: break;
+    }
+    return -1;
+}
+
+/* A call that is drawn: those that take a window on come more often. */
+static enum call drawn_call(void) {
+    static const enum call often[] = { TAKE, TAKE, GIVE, GIVE, WINDOW, CLOSE_WINDOW, OPEN, ADD_RUN };
+    if (drawn() % 2)
+        return often[drawn() % (sizeof often / sizeof *often)];
+    enum call call = (enum call)(drawn() % CALLS);
+    return call == END && drawn() % 8 ? READ : call;
+}
+
+static void wrong(uint64_t number, enum call call, int32_t status, const char *what) {
+    printf("call %" PRIu64 ", %s, status %d: %s\n", number, calls[call].name, (int)status, what);
+    exit(1);
+}
+
+int main(int argc, char **argv) {
+    static uint64_t counts[CALLS][STATUSES];
+    uint64_t many = argc > 1 ? strtoull(argv[1], NULL, 10) : 100000;
+    uint64_t seed = draws = argc > 2 ? strtoull(argv[2], NULL, 10) : 1;
+    refused_one_of = argc > 3 ? strtoull(argv[3], NULL, 10) : 0;
+    memset(&untouched, 0x55, sizeof untouched);
+    for (uint64_t i = 1; i <= many; i++) {
+        enum call call = drawn_call();
+        int h = (int)(drawn() % HANDLES);
+        memcpy(&out, &untouched, sizeof out);
+        int32_t status = make(call, h);
+        if (status < 0 || status >= STATUSES || !((calls[call].statuses | BIT(DONE) | BIT(CLOSED)) >> status & 1))
+            wrong(i, call, status, "it is no status of this call");
+        if (status != LAZBENDIX_DONE && status != LAZBENDIX_REFUSED && memcmp(&out, &untouched, sizeof out) != 0)
+            wrong(i, call, status, "it has written");
+        if ((call == TAKE || call == PROBE) && status == LAZBENDIX_DONE && out.turn.kind == LAZBENDIX_GO)
+            last[h] = out.turn;
+        counts[call][status]++;
+    }
+    for (int h = 0; h < HANDLES; h++)
+        lazbendix_end(&hubs[h]);
+    refused_one_of = 0;
+    for (int call = 0; call < CALLS; call++)
+        for (int status = 0; status < STATUSES; status++)
+            if (counts[call][status] && argc > 4)
+                printf("%-14s status %2d: %" PRIu64 "\n", calls[call].name, status, counts[call][status]);
+    if (blocks) {
+        printf("%ld blocks of memory are left\n", blocks);
+        return 1;
+    }
+    printf("%" PRIu64 " calls of the seed %" PRIu64 ": a status each time, and no block is left\n", many, seed);
+    return 0;
+}

@@ -1,0 +1,300 @@
+/* Plays the days of cases.py through the library, and compares each record, byte for byte, with that of the reference.
+   It is C and C++ alike.
+
+       python3 cases.py | ./plays
+
+   The devices stand here: they fail as the script's `down` says. The actors of a window, its runs and the detector, are
+   stepped in the order of `replay`. Each answer is first given as it must not be, and all of these are refused; the
+   entries that the steps told are those of the history, and their lines those of the trace. */
+#include "../lazbendix.h"
+#include "cases.h"
+
+#define ACTORS 65  /* the detector, and the runs of a window */
+#define DEVICES 256
+#define DETECTOR 0
+
+static const day *now_played;
+
+#define WANT(it) ((it) ? (void)0 : wrong(__LINE__, #it))
+
+static void wrong(int line, const char *what) {
+    printf("%s, model %u, scheduler %u: line %d: %s\n", now_played->name, now_played->model, now_played->scheduler, line, what);
+    exit(1);
+}
+
+/* The devices of the caller. */
+
+typedef struct device {
+    const numbers *downs;
+    uint64_t calls;
+    uint32_t stands;
+} device;
+
+static int answers(device *it) {
+    it->calls++;
+    for (size_t i = 0; i + 1 < it->downs->len; i += 2)
+        if (it->downs->at[i] <= it->calls && it->calls < it->downs->at[i + 1])
+            return 0;
+    return 1;
+}
+
+/* Makes the call that the turn asks for, and answers what the device told. */
+static uint32_t call_device(device *it, const lazbendix_turn *turn, uint32_t *value) {
+    *value = 0;
+    if (!answers(it))
+        return LAZBENDIX_DEAD;
+    if (turn->task == LAZBENDIX_RESTORE && !answers(it))
+        return LAZBENDIX_DEAD;
+    if (turn->task == LAZBENDIX_DRIVE || turn->task == LAZBENDIX_RESTORE)
+        it->stands = turn->value;
+    if (turn->task == LAZBENDIX_SENSE)
+        *value = it->stands;
+    return turn->task == LAZBENDIX_SENSE ? LAZBENDIX_FOUND_VALUE : LAZBENDIX_WORKED;
+}
+
+/* The actors of a window. */
+
+typedef struct player {
+    lazbendix_hub *hub;
+    const day *played;
+    const played_window *window;
+    device *wall;
+    uint64_t moment, to_probe, draws;
+    size_t told_len;
+    lazbendix_entry *told; /* the entries of all steps */
+    int has_ended[ACTORS], is_doomed[ACTORS], is_out[ACTORS], is_undo[ACTORS];
+    uint64_t did[ACTORS];
+    lazbendix_turn out[ACTORS];
+} player;
+
+enum { PASSED, WAITED };
+
+static void note(player *p, const lazbendix_made *made) {
+    WANT(made->count <= 3);
+    for (uint64_t i = 0; i < made->count; i++) {
+        const lazbendix_entry *it = &made->entries[i];
+        p->told = (lazbendix_entry *)realloc(p->told, (p->told_len + 1) * sizeof *it);
+        WANT(p->told != NULL);
+        p->told[p->told_len++] = *it;
+        p->did[it->run] += it->kind == LAZBENDIX_DID;
+        p->is_doomed[it->run] |= it->kind == LAZBENDIX_DOOMED;
+        p->has_ended[it->run] |= it->kind == LAZBENDIX_COMMITTED || it->kind == LAZBENDIX_ABORTED;
+    }
+}
+
+/* Gives what the turn does not take, and looks that nothing comes of it. */
+static void give_wrongly(player *p, const lazbendix_turn *turn) {
+    lazbendix_made made;
+    uint32_t d = turn->device;
+    uint64_t ticket = turn->ticket;
+    WANT(lazbendix_give(p->hub, d, ticket + 1000, LAZBENDIX_DEAD, 0, p->moment, &made) == LAZBENDIX_NOT_OUT);
+    WANT(lazbendix_give(p->hub, d + 70000, ticket, LAZBENDIX_DEAD, 0, p->moment, &made) == LAZBENDIX_NOT_OUT);
+    WANT(lazbendix_give(p->hub, d, ticket, 0, 0, p->moment, &made) == LAZBENDIX_WRONG);
+    WANT(lazbendix_give(p->hub, d, ticket, 4, 0, p->moment, &made) == LAZBENDIX_WRONG);
+    if (turn->task == LAZBENDIX_SENSE) {
+        WANT(lazbendix_give(p->hub, d, ticket, LAZBENDIX_WORKED, 0, p->moment, &made) == LAZBENDIX_WRONG);
+        WANT(lazbendix_give(p->hub, d, ticket, LAZBENDIX_FOUND_VALUE, turn->stood + 1, p->moment, &made) == LAZBENDIX_DIFFERS);
+    } else {
+        WANT(lazbendix_give(p->hub, d, ticket, LAZBENDIX_FOUND_VALUE, turn->stood, p->moment, &made) == LAZBENDIX_WRONG);
+    }
+    WANT(lazbendix_close_window(p->hub) == LAZBENDIX_NOT_QUIET);
+}
+
+static void give(player *p, uint32_t actor) {
+    const lazbendix_turn *turn = &p->out[actor];
+    lazbendix_made made;
+    uint32_t value;
+    p->is_out[actor] = 0;
+    give_wrongly(p, turn);
+    if (actor != DETECTOR && !p->is_undo[actor])
+        p->moment += p->played->takes[p->window->routines.at[actor - 1]].at[p->did[actor]];
+    uint32_t answer = call_device(&p->wall[turn->device], turn, &value);
+    WANT(lazbendix_give(p->hub, turn->device, turn->ticket, answer, value, p->moment, &made) == LAZBENDIX_DONE);
+    note(p, &made);
+    WANT(lazbendix_give(p->hub, turn->device, turn->ticket, answer, value, p->moment, &made) == LAZBENDIX_NOT_OUT);
+}
+
+static int has_ended(const player *p, uint32_t actor) {
+    if (actor == DETECTOR)
+        return p->to_probe == p->window->probes * p->played->devices && !p->is_out[DETECTOR];
+    return p->has_ended[actor];
+}
+
+static void probe(player *p) {
+    uint32_t device = (uint32_t)(p->to_probe++ % p->played->devices);
+    int32_t status = lazbendix_probe(p->hub, device, &p->out[DETECTOR]);
+    if (status == LAZBENDIX_NO_PROBE)
+        return;
+    WANT(status == LAZBENDIX_DONE && p->out[DETECTOR].kind == LAZBENDIX_GO && p->out[DETECTOR].run == DETECTOR);
+    p->is_out[DETECTOR] = 1;
+}
+
+static int pick(player *p, uint32_t actor) {
+    lazbendix_turn turn;
+    if (has_ended(p, actor))
+        return PASSED;
+    if (p->is_out[actor])
+        return give(p, actor), PASSED;
+    if (actor == DETECTOR)
+        return probe(p), PASSED;
+    uint32_t blocked;
+    WANT(lazbendix_blocked(p->hub, actor, &blocked) == LAZBENDIX_DONE);
+    WANT(lazbendix_take(p->hub, actor, p->moment, &turn) == LAZBENDIX_DONE);
+    WANT(!blocked || turn.kind == LAZBENDIX_WAITS);
+    note(p, &turn.made);
+    if (turn.kind == LAZBENDIX_GO) {
+        WANT(turn.run == actor);
+        p->out[actor] = turn;
+        p->is_out[actor] = 1;
+        p->is_undo[actor] = p->is_doomed[actor];
+    }
+    return turn.kind == LAZBENDIX_WAITS ? WAITED : PASSED;
+}
+
+static uint64_t drawn_below(player *p, uint64_t bound) {
+    p->draws = p->draws * 6364136223846793005u + 1442695040888963407u;
+    return (p->draws >> 33) % bound;
+}
+
+/* Picks until every actor has ended: one is drawn, and from it on the first that does not wait. */
+static void finish(player *p) {
+    for (;;) {
+        uint32_t actors[ACTORS], count = 0;
+        for (uint32_t actor = 0; actor <= p->window->routines.len; actor++)
+            if (!has_ended(p, actor))
+                actors[count++] = actor;
+        if (!count)
+            return;
+        uint64_t first = drawn_below(p, count), i = 0;
+        while (i < count && pick(p, actors[(first + i) % count]) == WAITED)
+            i++;
+        WANT(i < count);
+    }
+}
+
+/* Texts. */
+
+static text text_made(lazbendix_hub *hub, size_t len) {
+    text made = { len, (uint8_t *)room(len + 1, 1) };
+    size_t from = 0, got;
+    do {
+        size_t most = len - from < 100 ? len - from + 1 : 100;
+        WANT(lazbendix_read(hub, from, made.at + from, most, &got) == LAZBENDIX_DONE);
+        from += got;
+    } while (got);
+    WANT(from == len);
+    return made;
+}
+
+/* Compares the text made last with the next bytes of the record, and answers how many they are. */
+static size_t compare(lazbendix_hub *hub, size_t len, const day *played, size_t at) {
+    text made = text_made(hub, len);
+    if (len > played->record.len - at || memcmp(made.at, played->record.at + at, len) != 0) {
+        printf("made:\n%s\nwanted:\n%s\n", (char *)made.at, (char *)played->record.at + at);
+        WANT(!"the record is that of the reference");
+    }
+    free(made.at);
+    return len;
+}
+
+/* The entries are those that were told, and their lines stand in the trace. */
+static void compare_entries(player *p, const char *trace) {
+    uint64_t count;
+    WANT(lazbendix_entry_count(p->hub, &count) == LAZBENDIX_DONE && count == p->told_len);
+    for (uint64_t i = 0; i < count; i++) {
+        lazbendix_entry entry;
+        uint32_t maker;
+        size_t len;
+        WANT(lazbendix_entry_at(p->hub, i, &entry, &maker) == LAZBENDIX_DONE);
+        WANT(memcmp(&entry, &p->told[i], sizeof entry) == 0 && maker <= p->window->routines.len);
+        WANT(lazbendix_entry_text(p->hub, i, &len) == LAZBENDIX_DONE);
+        text line = text_made(p->hub, len);
+        WANT(strncmp(trace, (char *)line.at, line.len) == 0);
+        trace += line.len;
+        trace += *trace == '\n';
+        free(line.at);
+    }
+    WANT(strncmp(trace, "# ", 2) != 0);
+}
+
+/* A window, from the place of its text in the record on. Counts the runs that committed. */
+static size_t play_window(lazbendix_hub *hub, const day *played, uint32_t k, device *wall, size_t at, uint64_t *committed) {
+    player p;
+    memset(&p, 0, sizeof p);
+    p.hub = hub;
+    p.played = played;
+    p.window = &played->window[k];
+    p.wall = wall;
+    p.draws = played->window[k].seed;
+    lazbendix_left left;
+    size_t len;
+    uint64_t runs;
+    WANT(lazbendix_run_count(hub, k, &runs) == LAZBENDIX_DONE && runs == p.window->routines.len);
+    WANT(lazbendix_window(hub, k) == LAZBENDIX_DONE);
+    WANT(lazbendix_window(hub, k) == LAZBENDIX_IN_WINDOW);
+    for (size_t i = 0; i < p.window->turns.len; i++)
+        pick(&p, (uint32_t)p.window->turns.at[i]);
+    finish(&p);
+    WANT(lazbendix_quiet(hub, &left) == LAZBENDIX_DONE && left.kind == 0 && left.number == 0);
+    WANT(lazbendix_record(hub, 1, &len) == LAZBENDIX_NO_RECORD);
+    WANT(lazbendix_close_window(hub) == LAZBENDIX_DONE);
+    const char *head_end = strchr((char *)played->record.at + at, '\n');
+    WANT(head_end != NULL);
+    compare_entries(&p, head_end + 1);
+    for (size_t i = 0; i < p.told_len; i++)
+        *committed += p.told[i].kind == LAZBENDIX_COMMITTED;
+    WANT(lazbendix_record(hub, 1, &len) == LAZBENDIX_DONE);
+    free(p.told);
+    return compare(hub, len, played, at);
+}
+
+static void play(const day *played) {
+#ifdef __cplusplus
+    lazbendix_hub hub;
+#else
+    lazbendix_hub hub = LAZBENDIX_HUB_CLOSED;
+#endif
+    lazbendix_fault fault;
+    lazbendix_counts_told counts;
+    device wall[DEVICES];
+    size_t len, at;
+    uint64_t runs = 0, committed = 0;
+    char total[128];
+    memset(wall, 0, sizeof wall);
+    WANT(lazbendix_open(&hub, played->script.at, played->script.len, played->model, played->scheduler, &fault) == LAZBENDIX_DONE);
+    WANT(lazbendix_counts(&hub, &counts) == LAZBENDIX_DONE);
+    WANT(counts.devices == played->devices && counts.routines == played->routines && counts.windows == played->windows);
+    for (uint32_t d = 0; d < played->devices; d++) {
+        lazbendix_stand_told stand;
+        WANT(lazbendix_stand(&hub, d, &stand) == LAZBENDIX_DONE && stand.up == 1);
+        wall[d].downs = &played->downs[d];
+        wall[d].stands = stand.value;
+    }
+    WANT(lazbendix_head(&hub, &len) == LAZBENDIX_DONE);
+    at = compare(&hub, len, played, 0);
+    for (uint32_t k = 0; k < played->windows; k++) {
+        at += play_window(&hub, played, k, wall, at, &committed);
+        runs += played->window[k].routines.len;
+    }
+    snprintf(total, sizeof total, "total windows %zu runs %" PRIu64 " committed %" PRIu64 " aborted %" PRIu64 "\n",
+             played->windows, runs, committed, runs - committed);
+    WANT(strcmp((char *)played->record.at + at, total) == 0);
+    WANT(lazbendix_end(&hub) == LAZBENDIX_DONE);
+    WANT(lazbendix_end(&hub) == LAZBENDIX_CLOSED);
+}
+
+int main(void) {
+    static day played;
+    size_t days = 0, windows = 0;
+    now_played = &played;
+    while (read_day(stdin, &played)) {
+        play(&played);
+        days++;
+        windows += played.windows;
+        free_day(&played);
+    }
+    if (!days)
+        bad_case("there is none");
+    printf("%zu days with %zu windows: each record is that of the reference\n", days, windows);
+    return 0;
+}

@@ -1,0 +1,258 @@
+/* Each export answers each of its statuses, and where it is not DONE it has written nothing. */
+#include "../lazbendix.h"
+#include "home.h"
+#include <stdio.h>
+#include <stdlib.h>
+#include <string.h>
+
+#define IS(status, call) is(LAZBENDIX_##status, (call), __LINE__, #call)
+#define WANT(it) ((it) ? (void)0 : wrong(__LINE__, #it))
+#define SCRIPT (const uint8_t *)HOME, strlen(HOME)
+#define ZEROS(it) all_are((const uint8_t *)&(it), sizeof(it), 0)
+
+/* As the other languages declare them. */
+_Static_assert(sizeof(lazbendix_hub) == 16 && sizeof(lazbendix_fault) == 40 && sizeof(lazbendix_entry) == 56, "sizes");
+_Static_assert(sizeof(lazbendix_made) == 176 && sizeof(lazbendix_turn) == 272 && sizeof(lazbendix_left) == 8, "sizes");
+_Static_assert(sizeof(lazbendix_stand_told) == 8 && sizeof(lazbendix_counts_told) == 24, "sizes");
+
+static lazbendix_hub hub = LAZBENDIX_HUB_CLOSED;
+
+static void wrong(int line, const char *what) {
+    printf("line %d: %s\n", line, what);
+    exit(1);
+}
+
+static void is(int32_t wanted, int32_t found, int line, const char *call) {
+    if (wanted != found) {
+        printf("line %d: %s answered %d, not %d\n", line, call, (int)found, (int)wanted);
+        exit(1);
+    }
+}
+
+static int all_are(const uint8_t *at, size_t len, uint8_t byte) {
+    for (size_t i = 0; i < len; i++)
+        if (at[i] != byte)
+            return 0;
+    return 1;
+}
+
+static int32_t open_home(const char *script, uint32_t model, uint32_t scheduler, lazbendix_fault *fault) {
+    return lazbendix_open(&hub, (const uint8_t *)script, strlen(script), model, scheduler, fault);
+}
+
+/* Every call on a closed handle, of zeros and of other bytes. */
+static void closed(void) {
+    lazbendix_fault fault = { 0 };
+    lazbendix_turn turn = { 0 };
+    lazbendix_made made = { 0 };
+    lazbendix_entry entry = { 0 };
+    lazbendix_left left = { 0 };
+    lazbendix_stand_told stand = { 0 };
+    lazbendix_counts_told counts = { 0 };
+    uint8_t room[8] = { 0 };
+    uint32_t number = 0;
+    uint64_t count = 0;
+    size_t len = 0;
+    IS(CLOSED, lazbendix_end(&hub));
+    IS(CLOSED, lazbendix_window(&hub, 0));
+    IS(CLOSED, lazbendix_take(&hub, 1, 0, &turn));
+    IS(CLOSED, lazbendix_give(&hub, 0, 1, LAZBENDIX_DEAD, 0, 0, &made));
+    IS(CLOSED, lazbendix_probe(&hub, 0, &turn));
+    IS(CLOSED, lazbendix_blocked(&hub, 1, &number));
+    IS(CLOSED, lazbendix_quiet(&hub, &left));
+    IS(CLOSED, lazbendix_close_window(&hub));
+    IS(CLOSED, lazbendix_record(&hub, 1, &len));
+    IS(CLOSED, lazbendix_head(&hub, &len));
+    IS(CLOSED, lazbendix_entry_text(&hub, 0, &len));
+    IS(CLOSED, lazbendix_read(&hub, 0, room, sizeof room, &len));
+    IS(CLOSED, lazbendix_entry_count(&hub, &count));
+    IS(CLOSED, lazbendix_entry_at(&hub, 0, &entry, &number));
+    IS(CLOSED, lazbendix_begin_window(&hub, room, 0, 0, &number));
+    IS(CLOSED, lazbendix_add_run(&hub, 0, 0, &number));
+    IS(CLOSED, lazbendix_restand(&hub, 0, 0));
+    IS(CLOSED, lazbendix_stand(&hub, 0, &stand));
+    IS(CLOSED, lazbendix_counts(&hub, &counts));
+    IS(CLOSED, lazbendix_run_count(&hub, 0, &count));
+    IS(CLOSED, lazbendix_device_name(&hub, 0, room, sizeof room, &len));
+    IS(CLOSED, lazbendix_routine_name(&hub, 0, room, sizeof room, &len));
+    IS(CLOSED, lazbendix_value_name(&hub, 0, 0, room, sizeof room, &len));
+    WANT(ZEROS(fault) && ZEROS(turn) && ZEROS(made) && ZEROS(entry) && ZEROS(left) && ZEROS(stand) && ZEROS(counts));
+    WANT(ZEROS(room) && number == 0 && count == 0 && len == 0);
+}
+
+static void openings(void) {
+    lazbendix_fault fault, before;
+    memset(&fault, 0x55, sizeof fault);
+    before = fault;
+    IS(MODE, open_home(HOME, 4, 0, &fault));
+    IS(MODE, open_home(HOME, LAZBENDIX_GLOBAL, LAZBENDIX_JIT, &fault));
+    IS(MODE, open_home(HOME, LAZBENDIX_EVENTUAL, 3, &fault));
+    WANT(memcmp(&fault, &before, sizeof fault) == 0);
+    IS(REFUSED, open_home("", 0, 0, &fault));
+    WANT(fault.kind == LAZBENDIX_FAULT_NOT_JSON);
+    IS(REFUSED, open_home("{\"safehome\": 2, \"devices\": [], \"routines\": [], \"windows\": []}", 0, 0, &fault));
+    WANT(fault.kind == LAZBENDIX_FAULT_BAD_VERSION && fault.count == 2);
+    IS(REFUSED, open_home("{\"safehome\": 1, \"devices\": [], \"routines\": [{\"name\": \"r\", \"commands\":"
+                          " [{\"on\": \"lamp\", \"do\": \"load\"}]}], \"windows\": []}", 0, 0, &fault));
+    WANT(fault.kind == LAZBENDIX_FAULT_UNKNOWN_NAME && fault.part == LAZBENDIX_PART_COMMAND);
+    WANT(fault.outer == 1 && fault.inner == 1 && fault.zero == 0);
+    IS(DONE, lazbendix_open(&hub, SCRIPT, LAZBENDIX_EVENTUAL, LAZBENDIX_FCFS, &fault));
+    before = fault;
+    IS(OPEN, lazbendix_open(&hub, SCRIPT, 9, 9, &fault));
+    WANT(memcmp(&fault, &before, sizeof fault) == 0);
+}
+
+static void names(void) {
+    lazbendix_counts_told counts;
+    uint8_t room[8];
+    uint64_t runs;
+    size_t len;
+    IS(DONE, lazbendix_counts(&hub, &counts));
+    WANT(counts.devices == DEVICES && counts.routines == ROUTINES && counts.windows == WINDOWS);
+    IS(DONE, lazbendix_run_count(&hub, 0, &runs));
+    WANT(runs == 3);
+    IS(DONE, lazbendix_run_count(&hub, WINDOWS, &runs));
+    WANT(runs == 0);
+    memset(room, 0x55, sizeof room);
+    IS(DONE, lazbendix_device_name(&hub, 1, room, sizeof room, &len));
+    WANT(len == 4 && memcmp(room, "heat", 4) == 0 && all_are(room + 4, 4, 0x55));
+    IS(DONE, lazbendix_device_name(&hub, DEVICES, room, sizeof room, &len));
+    WANT(len == 0);
+    IS(DONE, lazbendix_routine_name(&hub, 2, room, 3, &len));
+    WANT(len == 6 && memcmp(room, "wart", 4) == 0);
+    IS(DONE, lazbendix_value_name(&hub, 2, 1, room, sizeof room, &len));
+    WANT(len == 4 && memcmp(room, "open", 4) == 0);
+    IS(DONE, lazbendix_value_name(&hub, 1, 16, room, sizeof room, &len));
+    WANT(len == 0);
+}
+
+/* What a home answers between two windows. */
+static void between(void) {
+    lazbendix_turn turn;
+    lazbendix_made made;
+    lazbendix_left left;
+    lazbendix_stand_told stand;
+    uint32_t number;
+    uint64_t count;
+    size_t len;
+    IS(NO_WINDOW, lazbendix_take(&hub, 1, 0, &turn));
+    IS(NO_WINDOW, lazbendix_give(&hub, 0, 1, LAZBENDIX_DEAD, 0, 0, &made));
+    IS(NO_WINDOW, lazbendix_probe(&hub, 0, &turn));
+    IS(NO_WINDOW, lazbendix_blocked(&hub, 1, &number));
+    IS(NO_WINDOW, lazbendix_quiet(&hub, &left));
+    IS(NO_WINDOW, lazbendix_close_window(&hub));
+    IS(NO_RECORD, lazbendix_record(&hub, 0, &len));
+    IS(NO_WINDOW, lazbendix_add_run(&hub, 0, 0, &number));
+    IS(ABSENT, lazbendix_window(&hub, WINDOWS));
+    IS(ABSENT, lazbendix_stand(&hub, DEVICES, &stand));
+    IS(ABSENT, lazbendix_stand(&hub, 1u << 16, &stand));
+    IS(ABSENT, lazbendix_restand(&hub, DEVICES, 0));
+    IS(NO_VALUE, lazbendix_restand(&hub, 0, 2));
+    IS(NO_VALUE, lazbendix_restand(&hub, 1, 9));
+    IS(DONE, lazbendix_restand(&hub, 1, 19));
+    IS(DONE, lazbendix_stand(&hub, 1, &stand));
+    WANT(stand.value == 19 && stand.up == 1);
+    IS(DONE, lazbendix_entry_count(&hub, &count));
+    WANT(count == 0);
+}
+
+static void windows_of_the_moment(void) {
+    static const char *const bad[] = { "", "noon", "2021-04-26", "2021-04-26T08:00:00", "2021-04-25T09:00:00", "\xff" };
+    uint32_t number, run;
+    for (size_t i = 0; i < sizeof bad / sizeof *bad; i++)
+        IS(BAD_TIME, lazbendix_begin_window(&hub, (const uint8_t *)bad[i], strlen(bad[i]), 0, &number));
+    IS(TOO_MANY, lazbendix_begin_window(&hub, (const uint8_t *)"2021-04-26T09:00:00", 19, 101, &number));
+    IS(DONE, lazbendix_begin_window(&hub, (const uint8_t *)"2021-04-26T09:00:00", 19, 0, &number));
+    WANT(number == WINDOWS);
+    IS(ABSENT, lazbendix_add_run(&hub, ROUTINES, 0, &run));
+    IS(BAD_FOLLOW, lazbendix_add_run(&hub, 0, 1, &run));
+    IS(DONE, lazbendix_add_run(&hub, 0, 0, &run));
+    WANT(run == 1);
+    for (uint32_t r = 2; r <= 64; r++) {
+        IS(DONE, lazbendix_add_run(&hub, r % ROUTINES, r / 2, &run));
+        WANT(run == r);
+    }
+    IS(TOO_MANY, lazbendix_add_run(&hub, 0, 0, &run));
+}
+
+/* Makes what the turn asks for, every device as it stood. */
+static void give(const lazbendix_turn *turn) {
+    lazbendix_made made;
+    uint32_t answer = turn->task == LAZBENDIX_SENSE ? LAZBENDIX_FOUND_VALUE : LAZBENDIX_WORKED;
+    IS(NOT_OUT, lazbendix_give(&hub, turn->device, turn->ticket + 1, answer, turn->stood, 0, &made));
+    IS(WRONG, lazbendix_give(&hub, turn->device, turn->ticket, 0, 0, 0, &made));
+    if (turn->task == LAZBENDIX_SENSE)
+        IS(DIFFERS, lazbendix_give(&hub, turn->device, turn->ticket, answer, turn->stood + 1, 0, &made));
+    IS(DONE, lazbendix_give(&hub, turn->device, turn->ticket, answer, turn->stood, 0, &made));
+    IS(NOT_OUT, lazbendix_give(&hub, turn->device, turn->ticket, answer, turn->stood, 0, &made));
+}
+
+static void play(uint32_t window, uint32_t runs) {
+    lazbendix_turn turn;
+    lazbendix_left left;
+    IS(DONE, lazbendix_window(&hub, window));
+    do {
+        for (uint32_t run = 1; run <= runs; run++) {
+            IS(DONE, lazbendix_take(&hub, run, 0, &turn));
+            if (turn.kind == LAZBENDIX_GO)
+                give(&turn);
+        }
+        IS(DONE, lazbendix_quiet(&hub, &left));
+        if (left.kind)
+            IS(NOT_QUIET, lazbendix_close_window(&hub));
+    } while (left.kind);
+    IS(DONE, lazbendix_close_window(&hub));
+}
+
+static void in_a_window(void) {
+    lazbendix_turn turn;
+    lazbendix_stand_told stand;
+    lazbendix_entry entry;
+    lazbendix_left left;
+    uint32_t number;
+    size_t len;
+    IS(DONE, lazbendix_window(&hub, 0));
+    IS(IN_WINDOW, lazbendix_window(&hub, 1));
+    IS(IN_WINDOW, lazbendix_begin_window(&hub, (const uint8_t *)"2022-04-26T09:00:00", 19, 0, &number));
+    IS(NO_WINDOW, lazbendix_add_run(&hub, 0, 0, &number));
+    IS(IN_WINDOW, lazbendix_restand(&hub, 0, 0));
+    IS(IN_WINDOW, lazbendix_stand(&hub, 0, &stand));
+    IS(NO_RECORD, lazbendix_record(&hub, 0, &len));
+    IS(ABSENT, lazbendix_entry_at(&hub, 0, &entry, &number));
+    IS(ABSENT, lazbendix_entry_text(&hub, 0, &len));
+    IS(DONE, lazbendix_take(&hub, 4, 0, &turn));
+    WANT(turn.kind == LAZBENDIX_NO_RUN);
+    IS(DONE, lazbendix_probe(&hub, 2, &turn));
+    WANT(turn.kind == LAZBENDIX_GO && turn.task == LAZBENDIX_PROBE && turn.device == 2 && turn.run == 0 && turn.ticket == 1);
+    IS(NO_PROBE, lazbendix_probe(&hub, 2, &turn));
+    IS(NO_PROBE, lazbendix_probe(&hub, DEVICES, &turn));
+    IS(DONE, lazbendix_quiet(&hub, &left));
+    WANT(left.kind == 1 && left.number == 1);
+    IS(NOT_QUIET, lazbendix_close_window(&hub));
+    IS(DONE, lazbendix_end(&hub)); /* with a device out */
+    IS(CLOSED, lazbendix_end(&hub));
+}
+
+int main(void) {
+    size_t len;
+    lazbendix_fault fault;
+    closed();
+    memset(&hub, 0x5a, sizeof hub);
+    closed();
+    openings();
+    names();
+    between();
+    play(0, 3);
+    play(1, 1);
+    IS(DONE, lazbendix_record(&hub, 1, &len));
+    IS(DONE, lazbendix_record(&hub, 0, &len));
+    windows_of_the_moment();
+    IS(NO_RECORD, lazbendix_record(&hub, 0, &len));
+    play(WINDOWS, 64);
+    IS(DONE, lazbendix_end(&hub));
+    closed();
+    IS(DONE, lazbendix_open(&hub, SCRIPT, LAZBENDIX_PARTITIONED, LAZBENDIX_FCFS, &fault));
+    in_a_window();
+    puts("each export answers each of its statuses");
+    return 0;
+}
