@@ -151,7 +151,7 @@ enum {
 };
 enum {
     LAZBENDIX_DRIVE = 1, /* drive the device to `value`: WORKED or DEAD */
-    LAZBENDIX_SENSE,     /* sense it: FOUND with `stood`, or DEAD; another value found is DIFFERS */
+    LAZBENDIX_SENSE,     /* sense it: FOUND_VALUE with `stood`, or DEAD; another value is DIFFERS */
     LAZBENDIX_PROBE,     /* probe it: WORKED or DEAD */
     LAZBENDIX_RESTORE    /* probe it, and where it answers drive it to `value`: WORKED where both did, else DEAD */
 };
