@@ -163,14 +163,14 @@ def made(title, *work):
     return text.getvalue()
 
 
-def write(page, text):
+def write(page, text, marks=MARKS):
     path = os.path.join(TOP, "docs", page)
     with open(path, encoding="utf-8") as file:
-        parts = re.split("|".join(map(re.escape, MARKS)), file.read())
+        parts = re.split("|".join(map(re.escape, marks)), file.read())
     if len(parts) != 3:
         sys.exit(f"figures: docs/{page} has no place for a table")
     with open(path, "w", encoding="utf-8") as file:
-        file.write(f"{parts[0]}{MARKS[0]}\n{text}{MARKS[1]}{parts[2]}")
+        file.write(f"{parts[0]}{marks[0]}\n{text}{marks[1]}{parts[2]}")
 
 
 def main():

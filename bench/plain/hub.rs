@@ -1,0 +1,471 @@
+//! The home and its hub.
+use crate::devices::{Grip, Sim, Task};
+use crate::script::{Command, Device, Routine, Script, Window};
+
+/// What a live run has to do and has done on a device.
+struct Access {
+    run: usize,
+    left: u32,
+    touched: bool,
+    wrote: Option<u32>,
+}
+
+/// A device of the home, with the accesses of live runs in line order.
+pub struct Lineage<'a> {
+    accesses: Vec<Access>,
+    /// The last run of the line whose write here is not undone.
+    writer: Option<usize>,
+    pub committed: u32,
+    pub up: bool,
+    home: Option<Box<Sim<'a>>>,
+    /// The runs that wait for it.
+    waiting: u64,
+}
+
+#[derive(Clone, Copy)]
+pub enum Cause {
+    Must(usize),
+    Refuted(usize, u32),
+    Lost(usize),
+    DownAtEnd(usize),
+}
+
+#[derive(Clone, Copy, PartialEq)]
+pub enum Stage {
+    Away,
+    Arrived,
+    Placed,
+    Ended,
+}
+
+pub struct Run<'a> {
+    pub routine: &'a Routine<'a>,
+    pub stage: Stage,
+    pub doom: Option<Cause>,
+    /// What its reads found; `None` for a write.
+    pub answers: Vec<Option<u32>>,
+}
+
+#[derive(Clone, Copy, PartialEq)]
+pub enum Item {
+    Ran(usize),
+    Failed(usize),
+    Back(usize),
+}
+
+#[derive(Clone, Copy, PartialEq)]
+pub enum Model {
+    Eventual,
+    Partitioned,
+    Global,
+}
+
+pub enum Turn<'a> {
+    Go(Grip<'a>),
+    Moved,
+    /// For this device, or for the end of another run.
+    Waits(Option<usize>),
+    Over,
+}
+
+pub struct Hub<'a> {
+    model: Model,
+    pub lineages: Vec<Lineage<'a>>,
+    pub runs: Vec<Run<'a>>,
+    /// Runs that were placed and have not ended, in line order.
+    live: Vec<usize>,
+    pub line: Vec<Item>,
+    /// A bit for each run that is doomed.
+    doomed: u64,
+    /// Those that wait for no device but until another one ends, and those that may wait no more.
+    waiting: u64,
+    pub freed: u64,
+}
+
+impl Lineage<'_> {
+    fn last_writer(&self) -> Option<usize> {
+        self.accesses
+            .iter()
+            .rev()
+            .find(|access| access.wrote.is_some())
+            .map(|access| access.run)
+    }
+
+    fn standing(&self) -> u32 {
+        self.accesses
+            .iter()
+            .rev()
+            .find_map(|access| access.wrote)
+            .unwrap_or(self.committed)
+    }
+}
+
+impl<'a> Hub<'a> {
+    pub fn new(script: &'a Script, model: Model) -> Hub<'a> {
+        let lineage = |device: &'a Device| Lineage {
+            accesses: Vec::new(),
+            writer: None,
+            committed: device.start,
+            up: true,
+            home: Some(Box::new(Sim {
+                value: device.start,
+                calls: 0,
+                downs: &device.downs,
+            })),
+            waiting: 0,
+        };
+        let lineages = script.devices.iter().map(lineage).collect();
+        Hub {
+            model,
+            lineages,
+            runs: Vec::new(),
+            live: Vec::new(),
+            line: Vec::new(),
+            doomed: 0,
+            waiting: 0,
+            freed: 0,
+        }
+    }
+
+    pub fn open(&mut self, script: &'a Script, window: &Window) {
+        self.line.clear();
+        self.doomed = 0;
+        self.runs.clear();
+        self.runs.extend(window.runs.iter().map(|routine| {
+            let routine = &script.routines[*routine];
+            Run {
+                routine,
+                stage: Stage::Away,
+                doom: None,
+                answers: Vec::with_capacity(routine.commands.len()),
+            }
+        }));
+    }
+
+    pub fn is_doomed(&self, r: usize) -> bool {
+        self.doomed >> r & 1 == 1
+    }
+
+    fn go(&mut self, d: usize, task: Task) -> Turn<'a> {
+        let sim = self.lineages[d].home.take().unwrap();
+        Turn::Go(Grip {
+            device: d,
+            sim,
+            task,
+            worked: false,
+        })
+    }
+
+    /// The step of a run that holds no grip.
+    pub fn take(&mut self, r: usize) -> Turn<'a> {
+        let run = &mut self.runs[r];
+        match run.stage {
+            Stage::Ended => return Turn::Over,
+            Stage::Away => {
+                run.stage = Stage::Arrived;
+                return Turn::Moved;
+            }
+            Stage::Arrived => {
+                self.place(r);
+                return Turn::Moved;
+            }
+            Stage::Placed => {}
+        }
+        if run.doom.is_some() {
+            self.undo(r)
+        } else if run.answers.len() == run.routine.commands.len() {
+            self.commit(r)
+        } else {
+            self.command(r)
+        }
+    }
+
+    fn place(&mut self, r: usize) {
+        self.runs[r].stage = Stage::Placed;
+        for (d, left) in &self.runs[r].routine.devices {
+            self.lineages[*d].accesses.push(Access {
+                run: r,
+                left: *left,
+                touched: false,
+                wrote: None,
+            });
+        }
+        self.live.push(r);
+        self.line.push(Item::Ran(r));
+    }
+
+    fn command(&mut self, r: usize) -> Turn<'a> {
+        let run = &self.runs[r];
+        let c = run.answers.len();
+        let Command {
+            device: d,
+            value,
+            reads,
+        } = run.routine.commands[c];
+        let lineage = &self.lineages[d];
+        for access in &lineage.accesses {
+            if access.run == r {
+                if reads && access.wrote.is_none() && self.reads_dirty(r, d) {
+                    return Turn::Waits(Some(d));
+                }
+                break;
+            }
+            let holds = if self.is_doomed(access.run) {
+                lineage.writer == Some(access.run)
+            } else {
+                access.left > 0
+            };
+            if holds {
+                return Turn::Waits(Some(d));
+            }
+        }
+        if self.waits_strictly(r) {
+            return Turn::Waits(None);
+        }
+        if lineage.home.is_none() {
+            return Turn::Waits(Some(d));
+        }
+        if !lineage.up {
+            self.doom(r, Cause::Must(c));
+            return Turn::Moved;
+        }
+        self.go(
+            d,
+            if reads {
+                Task::Sense
+            } else {
+                Task::Drive(value)
+            },
+        )
+    }
+
+    /// Whether a live run before it has written what stands on the device.
+    fn reads_dirty(&self, r: usize, d: usize) -> bool {
+        let accesses = &self.lineages[d].accesses;
+        let own = accesses.iter().position(|access| access.run == r).unwrap();
+        let last = accesses.iter().rposition(|access| access.wrote.is_some());
+        last.is_some_and(|last| last < own)
+    }
+
+    fn waits_strictly(&self, r: usize) -> bool {
+        let shares = |x: usize| {
+            let others = &self.runs[x].routine.devices;
+            self.runs[r]
+                .routine
+                .devices
+                .iter()
+                .any(|(d, _)| others.binary_search_by_key(d, |other| other.0).is_ok())
+        };
+        match self.model {
+            Model::Eventual => false,
+            Model::Global => self.live[0] != r,
+            Model::Partitioned => self
+                .live
+                .iter()
+                .take_while(|x| **x != r)
+                .any(|x| shares(*x)),
+        }
+    }
+
+    fn doom(&mut self, r: usize, cause: Cause) {
+        if self.runs[r].doom.is_none() {
+            self.runs[r].doom = Some(cause);
+            self.doomed |= 1 << r;
+            self.free_of(r);
+        }
+    }
+
+    fn undo(&mut self, r: usize) -> Turn<'a> {
+        for (d, _) in &self.runs[r].routine.devices {
+            let lineage = &mut self.lineages[*d];
+            if lineage.writer == Some(r) {
+                if lineage.home.is_none() {
+                    return Turn::Waits(Some(*d));
+                }
+                lineage
+                    .accesses
+                    .iter_mut()
+                    .find(|access| access.run == r)
+                    .unwrap()
+                    .wrote = None;
+                lineage.writer = lineage.last_writer();
+                if !lineage.up {
+                    self.free_at(*d);
+                    return Turn::Moved;
+                }
+                let value = lineage.standing();
+                return self.go(*d, Task::Undo(value));
+            }
+        }
+        for (d, _) in &self.runs[r].routine.devices {
+            self.lineages[*d].accesses.retain(|access| access.run != r);
+        }
+        self.line.retain(|item| *item != Item::Ran(r));
+        self.end(r);
+        Turn::Moved
+    }
+
+    fn commit(&mut self, r: usize) -> Turn<'a> {
+        for (d, _) in &self.runs[r].routine.devices {
+            if self.model != Model::Eventual && !self.lineages[*d].up {
+                self.doom(r, Cause::DownAtEnd(*d));
+                return Turn::Moved;
+            }
+        }
+        for (d, _) in &self.runs[r].routine.devices {
+            let lineage = &mut self.lineages[*d];
+            if let Some(at) = lineage.accesses.iter().position(|access| access.run == r) {
+                match lineage.accesses[at].wrote {
+                    Some(value) => {
+                        lineage.committed = value;
+                        lineage.accesses.drain(..=at);
+                        lineage.writer = lineage.writer.filter(|x| *x != r);
+                    }
+                    None => _ = lineage.accesses.remove(at),
+                }
+            }
+        }
+        self.end(r);
+        Turn::Moved
+    }
+
+    fn end(&mut self, r: usize) {
+        self.runs[r].stage = Stage::Ended;
+        self.live.retain(|x| *x != r);
+        self.free_of(r);
+        self.freed |= std::mem::take(&mut self.waiting);
+    }
+
+    /// The event goes before the first run that is open on the device and has no answer there.
+    fn event(&mut self, d: usize, item: Item) {
+        self.lineages[d].up = matches!(item, Item::Back(_));
+        let next =
+            |access: &&Access| !access.touched && access.left > 0 && !self.is_doomed(access.run);
+        let place = match self.lineages[d].accesses.iter().find(next) {
+            Some(access) => self
+                .line
+                .iter()
+                .position(|item| *item == Item::Ran(access.run))
+                .unwrap(),
+            None => self.line.len(),
+        };
+        self.line.insert(place, item);
+    }
+
+    /// A run's grip comes back.
+    pub fn give(&mut self, r: usize, grip: Grip<'a>) {
+        let (d, found) = (grip.device, grip.sim.value);
+        self.lineages[d].home = Some(grip.sim);
+        match grip.task {
+            Task::Drive(value) => self.answer(r, d, grip.worked, None, value),
+            Task::Sense => self.answer(r, d, grip.worked, Some(found), 0),
+            _ => {
+                self.free_at(d);
+                if !grip.worked {
+                    self.event(d, Item::Failed(d));
+                }
+            }
+        }
+    }
+
+    fn answer(&mut self, r: usize, d: usize, worked: bool, found: Option<u32>, value: u32) {
+        let c = self.runs[r].answers.len();
+        if !worked {
+            self.event(d, Item::Failed(d));
+        }
+        let lineage = &mut self.lineages[d];
+        let access = lineage
+            .accesses
+            .iter_mut()
+            .find(|access| access.run == r)
+            .unwrap();
+        access.left -= 1;
+        let is_last = access.left == 0;
+        let was_touched = std::mem::replace(&mut access.touched, true);
+        if !worked {
+            self.doom(
+                r,
+                if was_touched {
+                    Cause::Lost(d)
+                } else {
+                    Cause::Must(c)
+                },
+            );
+            return;
+        }
+        if found.is_none() {
+            access.wrote = Some(value);
+            lineage.writer = if lineage.writer.is_none() {
+                Some(r)
+            } else {
+                lineage.last_writer()
+            };
+        }
+        if is_last || self.is_doomed(r) {
+            self.free_at(d);
+        }
+        let run = &mut self.runs[r];
+        run.answers.push(found);
+        match found {
+            Some(found) if found != run.routine.commands[c].value => {
+                self.doom(r, Cause::Refuted(c, found))
+            }
+            _ => {}
+        }
+    }
+
+    pub fn take_probe(&mut self, d: usize) -> Option<Grip<'a>> {
+        let restored = if self.lineages[d].up {
+            None
+        } else {
+            Some(self.lineages[d].standing())
+        };
+        let sim = self.lineages[d].home.take()?;
+        Some(Grip {
+            device: d,
+            sim,
+            task: Task::Probe(restored),
+            worked: false,
+        })
+    }
+
+    pub fn give_probe(&mut self, grip: Grip<'a>) {
+        let d = grip.device;
+        self.lineages[d].home = Some(grip.sim);
+        self.free_at(d);
+        match (self.lineages[d].up, grip.worked) {
+            (false, true) => self.event(d, Item::Back(d)),
+            (true, false) => {
+                self.event(d, Item::Failed(d));
+                let lost = |access: &&Access| {
+                    access.touched && access.left > 0 && !self.is_doomed(access.run)
+                };
+                if let Some(run) = self.lineages[d]
+                    .accesses
+                    .iter()
+                    .find(lost)
+                    .map(|access| access.run)
+                {
+                    self.doom(run, Cause::Lost(d));
+                }
+            }
+            _ => {}
+        }
+    }
+
+    pub fn wait(&mut self, r: usize, device: Option<usize>) {
+        *device.map_or(&mut self.waiting, |d| &mut self.lineages[d].waiting) |= 1 << r;
+    }
+
+    /// Those that wait for the device may go on: it is done with by a run, or home again.
+    fn free_at(&mut self, d: usize) {
+        self.freed |= std::mem::take(&mut self.lineages[d].waiting);
+    }
+
+    /// Those that wait for a device of the run may go on: it is doomed, or ends.
+    fn free_of(&mut self, r: usize) {
+        for (d, _) in &self.runs[r].routine.devices {
+            self.free_at(*d);
+        }
+    }
+}
