@@ -17,6 +17,10 @@ use hub_core::{Done, Grip, Ready, Turn};
 use std::sync::atomic::{AtomicU64, Ordering};
 use std::sync::ledger::Share;
 use std::sync::{Mutex, MutexGuard, Wait};
+use std::thread;
+
+/// How often a thread tries the lock before it sleeps.
+const TRIES: u32 = 64;
 
 /// The lock, and what stands beside it.
 #[derive(Drop)]
@@ -111,8 +115,9 @@ pub(crate) fn step<D: Device, N: Name, S: Steps<D, N, Grip<D, Done>>, R: Wait, C
     requires clock { IsTimedBy N.window (C.earliest clock.now) (C.latest clock.now) }
     ensures { share.new.parts ≡ share.old.parts }
 {
-    let mut guard = door.held.lock(rt);
-    let (turn, pass) = guard.take(share, r, clock.now());
+    let moment = clock.now();
+    let mut guard = enter(rt, &door.held);
+    let (turn, pass) = guard.take(share, r, moment);
     match turn {
         Turn::Go(grip) => {
             unlock::<D, N, S>(&door.bells, guard);
@@ -138,6 +143,18 @@ pub(crate) fn step<D: Device, N: Name, S: Steps<D, N, Grip<D, Done>>, R: Wait, C
     }
 }
 
+/// Enters the lock. A thread tries it for a while and lets others run in between, since one that sleeps before the lock is
+/// woken late.
+fn enter<'b, S, R: Wait>(rt: &R, held: &'b Mutex<S>) -> MutexGuard<'b, S> {
+    for _ in 0..TRIES {
+        if let Some(guard) = held.try_lock() {
+            return guard;
+        }
+        thread::yield_now();
+    }
+    held.lock(rt)
+}
+
 /// Leaves the lock, and wakes the runs that a step under it may have freed.
 fn unlock<D: Device, N: Name, S: Steps<D, N, Grip<D, Done>>>(bells: &Bells, guard: MutexGuard<S>) {
     let mut guard = guard;
@@ -161,8 +178,9 @@ fn give<D: Device, N: Name, S: Steps<D, N, Grip<D, Done>>, R: Wait, C: Clock>(
     requires pass { IsRunsPass N.desk (carried_by grip) pass }
     ensures { share.new.parts ≡ share.old.parts }
 {
-    let mut guard = door.held.lock(rt);
-    guard.give(share, grip, pass, clock.now());
+    let moment = clock.now();
+    let mut guard = enter(rt, &door.held);
+    guard.give(share, grip, pass, moment);
     unlock::<D, N, S>(&door.bells, guard);
 }
 
@@ -197,7 +215,7 @@ fn take_probe<D: Device, N: Name, S: Steps<D, N, Grip<D, Done>>, R: Wait>(
     ensures plan { IfSome result (λ probe. HasPlan D.plan N.window.plans probe.0) }
     ensures pass { IfSome result (λ probe. IsDetectorsPass N.desk (carried_by probe.0) probe.1) }
 {
-    let mut guard = door.held.lock(rt);
+    let mut guard = enter(rt, &door.held);
     let probe = guard.take_probe(share, d);
     unlock::<D, N, S>(&door.bells, guard);
     probe
@@ -216,7 +234,7 @@ fn give_probe<D: Device, N: Name, S: Steps<D, N, Grip<D, Done>>, R: Wait>(
     requires pass { IsDetectorsPass N.desk (carried_by grip) pass }
     ensures { share.new.parts ≡ share.old.parts }
 {
-    let mut guard = door.held.lock(rt);
+    let mut guard = enter(rt, &door.held);
     guard.give_probe(share, grip, pass);
     unlock::<D, N, S>(&door.bells, guard);
 }
