@@ -147,13 +147,20 @@ fn still_blocked<D: Device>(word: u64, hub: &Hub<D>) -> u64
     ensures fewer { (r : ℕ) → has_run result r ≡ true → has_run word r ≡ true }
 {
     let mut left = 0;
-    'runs: for number in 1..MOST + 1 {
-        let r = RunNo(number);
+    let mut rest = word;
+    'runs: for _ in 0..word.count_ones() {
+        let r = lowest(rest);
+        rest &= rest.wrapping_sub(1);
         if has(word, r) && hub.is_blocked(r) {
             left |= bit_of(r);
         }
     }
     left
+}
+
+/// The run of the word's lowest bit.
+fn lowest(word: u64) -> RunNo {
+    RunNo(word.trailing_zeros() + 1)
 }
 
 /// Whether the word has the run's bit.
