@@ -2,6 +2,7 @@
 use home_types::{NoMemory, RunNo};
 use std::alloc::Global;
 use std::sync::{Condvar, MutexGuard, Wait};
+use std::thread;
 use std::time::Duration;
 
 /// How long a run sleeps at most before it looks again, in ms.
@@ -12,6 +13,9 @@ pub(crate) struct Naps {
     /// Any other run: time alone may free it.
     pub(crate) restless: u64,
 }
+
+/// How often a blocked run looks whether its bell was rung before it sleeps.
+const LOOKS: u32 = 64;
 
 /// How long the calling thread sleeps, in ms, where each run that it steps waits.
 const CALLERS_NAP: u64 = 1;
@@ -37,7 +41,8 @@ impl Bells {
     }
 
     /// Sleeps until the bell of the run is rung, or its nap is over. The guard is the one under which the run was told
-    /// to wait, and noted as asleep: a ring after that ends the sleep at once.
+    /// to wait, and noted as asleep: a ring after that ends the sleep at once. A blocked run only lets others run for a
+    /// while, since most waits are shorter than it takes to fall asleep and to wake; that of another may end by time.
     pub(crate) fn sleep<R: Wait, S>(
         &self,
         rt: &R,
@@ -51,6 +56,9 @@ impl Bells {
         };
         let seen = bell.notifications();
         drop(guard);
+        if is_blocked && is_rung_soon(bell, seen) {
+            return;
+        }
         let longest = if is_blocked {
             self.naps.blocked
         } else {
@@ -77,4 +85,15 @@ impl Bells {
             bell.sleep(rt, bell.notifications(), Duration::from_millis(CALLERS_NAP));
         }
     }
+}
+
+/// Whether the bell is rung while its run looks some times and lets others run.
+fn is_rung_soon(bell: &Condvar, seen: u64) -> bool {
+    for _ in 0..LOOKS {
+        if bell.notifications() != seen {
+            return true;
+        }
+        thread::yield_now();
+    }
+    false
 }
