@@ -139,6 +139,7 @@ impl<D: Device> Gate<D> {
     }
 
     /// Whether the grip is the one with which its device is out.
+    #[inline(always)]
     pub fn is_kept<S: Stage>(&self, grip: &Grip<D, S>) -> bool
         ensures { IsTrue result ↔ IsKept self.now.places grip.now.slip grip.now.task }
     {
@@ -164,6 +165,7 @@ impl<D: Device> Gate<D> {
     ///
     /// The grip has the next ticket. Its slip says what is known of the device as it leaves: its counts, and the value
     /// at which it stands, which is `stood` where it is counted up.
+    #[inline(always)]
     pub fn hand_out(&mut self, d: DeviceNo, maker: u32, stood: Value, task: Task) -> Grip<D, Ready>
         requires home { IsHome self.old.places d.0 }
         requires room { (device : D) → slice_get self.old.places d.0 ≡ Some (Place.Home device) → HasRoom (D.turns device) (D.probes device + 1) (D.faults device) }
@@ -200,6 +202,7 @@ impl<D: Device> Gate<D> {
     }
 
     /// Takes the device of the grip in, which is the one that is out, and gives what the device told.
+    #[inline(always)]
     pub fn take_in(&mut self, grip: Grip<D, Done>) -> Told
         requires kept { IsKept self.old.places grip.slip grip.task }
         ensures places { self.new.places ≡ slice_set self.old.places grip.slip.device.0 (Place.Home grip.device) }
@@ -214,6 +217,7 @@ impl<D: Device> Gate<D> {
     }
 
     /// With what the device is out, `None` where it is home or none of the gate.
+    #[inline(always)]
     fn kept(&self, d: DeviceNo) -> Option<(Slip, Task)>
         ensures { result ≡ kept_of (slice_get self.now.places d.0) }
     {

@@ -75,6 +75,7 @@ impl<D: Device, S: Stage> Grip<D, S> {
 
 impl<D: Device> Grip<D, Ready> {
     /// A grip of a device that is as the slip says.
+    #[inline(always)]
     pub(crate) fn new(device: D, slip: Slip, task: Task) -> Grip<D, Ready>
         requires { IsAsLeft task slip (D.tag device) (D.stands device) (D.turns device) (D.probes device) (D.faults device) }
         ensures device { result.device ≡ device }
@@ -126,6 +127,7 @@ impl<D: Device> Grip<D, Ready> {
 
     /// Makes the device call: one, and for a probe that is answered by a device counted down also the drive that
     /// restores its value.
+    #[inline(always)]
     pub fn act(self) -> Grip<D, Done>
         ensures slip { result.slip ≡ self.slip }
         ensures task { result.task ≡ self.task }
@@ -172,6 +174,7 @@ impl<D: Device> Grip<D, Done> {
 }
 
 /// Does the task with the device.
+#[inline(always)]
 fn call<D: Device>(device: &mut D, task: Task) -> Told
     requires room { HasRoom (D.turns device.old) (D.probes device.old + 1) (D.faults device.old) }
     ensures told { IsTrue (may_tell task (D.stands device.old) result) }
@@ -193,6 +196,7 @@ fn call<D: Device>(device: &mut D, task: Task) -> Told
 }
 
 /// Drives the device to the value.
+#[inline(always)]
 fn drive<D: Device>(device: &mut D, value: Value) -> Told
     requires room { HasRoom (D.turns device.old) (D.probes device.old) (D.faults device.old) }
     ensures told { IsTrue (may_tell (Task.Drive value) (D.stands device.old) result) }

@@ -195,6 +195,7 @@ impl<D: Device> OpenWindow<D> {
     }
 
     /// The device goes out for the run.
+    #[inline(always)]
     pub(crate) fn hand_out(
         &mut self,
         r: RunNo,
@@ -219,6 +220,7 @@ impl<D: Device> OpenWindow<D> {
 
 /// The run, whose command with the number `k` was just answered so, notes that on the device, which stands at this value.
 /// Under the weak model it has no access there, and notes nothing.
+#[inline(always)]
 pub(crate) fn note_answer(
     history: &ReadHistory,
     order: &mut KeptOrder,

@@ -58,6 +58,7 @@ pub(crate) enum Chosen {
 impl<D: Device> OpenWindow<D> {
     /// What the step of the run `r` is to do at this moment, in ms, or at the last one where that is later, by the cases of a
     /// step in order. Where that is to be placed by the timeline, the scratch then holds the planned times.
+    #[inline(always)]
     pub(crate) fn decide(&self, r: RunNo, moment: u64, scratch: &mut Scratch) -> Chosen
         requires scratch { IsForHome self.now.setting scratch.old }
         ensures choice { told_choice r.0 (max self.now.moment moment) result ≡ choice_of (configuration_of self.now) r.0 moment }
@@ -136,6 +137,7 @@ impl<D: Device> OpenWindow<D> {
 
     /// What the next command of `r`, with the number `k`, is to do at this moment, in ms: it revokes a lease on its device that
     /// is overdue, or does what it may where none is.
+    #[inline(always)]
     fn decide_command(&self, r: RunNo, k: u32, command: Command, moment: u64) -> Chosen
         requires strong { is_weak self.now.setting.mode ≡ false }
         requires turn { IsAtCommand (configuration_of self.now) r.0 k }
@@ -150,6 +152,7 @@ impl<D: Device> OpenWindow<D> {
     }
 
     /// What the next command of `r`, with the number `k`, is to do, where no lease on its device is overdue.
+    #[inline(always)]
     fn decide_current(&self, r: RunNo, k: u32, command: Command) -> Chosen
         requires strong { is_weak self.now.setting.mode ≡ false }
         requires turn { IsAtCommand (configuration_of self.now) r.0 k }
@@ -172,6 +175,7 @@ impl<D: Device> OpenWindow<D> {
     ///
     /// A run that sees the device down is told so, whether it is home or not. Else the run waits until it is home, and
     /// is told that it is down where it is counted so.
+    #[inline(always)]
     fn decide_unbarred(&self, r: RunNo, k: u32, command: Command) -> Chosen
         requires strong { is_weak self.now.setting.mode ≡ false }
         requires turn { IsAtCommand (configuration_of self.now) r.0 k }

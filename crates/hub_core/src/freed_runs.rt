@@ -16,6 +16,7 @@ use home_types::{DeviceNo, RunNo};
 
 /// The run waits: it is marked at the device of its next command, if it is at a command. A lender is not: its wait may end
 /// as a lease falls due.
+#[inline(always)]
 pub(crate) fn mark_waiting<D: Device>(blocked: &mut BlockedRuns, window: &OpenWindow<D>, r: RunNo)
     ensures { MayBeMarked (configuration_of window.now) blocked.old r.0 blocked.new }
 {
@@ -48,6 +49,7 @@ pub(crate) fn free_weakly<D: Device>(
 }
 
 /// The device has gone out for a run. While it is out for a command, its run holds it, and who is blocked there stays so.
+#[inline(always)]
 pub(crate) fn free_going<D: Device>(blocked: &mut BlockedRuns, window: &OpenWindow<D>, d: DeviceNo)
     ensures { AreLeft blocked.old blocked.new (λ e. is_out_for_command (configuration_of window.now) d.0 ≡ false → e ≢ d.0) }
 {
@@ -58,6 +60,7 @@ pub(crate) fn free_going<D: Device>(blocked: &mut BlockedRuns, window: &OpenWind
 
 /// The device has come home, with these entries. A run that has been answered there and has a command left there holds
 /// it still, and who is blocked there stays so.
+#[inline(always)]
 pub(crate) fn free_back<D: Device>(
     blocked: &mut BlockedRuns,
     window: &OpenWindow<D>,
@@ -74,6 +77,7 @@ pub(crate) fn free_back<D: Device>(
 }
 
 /// Whether a step has answered a command on the device, and made no other entry, and its run holds the device still.
+#[inline(always)]
 fn is_answered_still<D: Device>(window: &OpenWindow<D>, d: DeviceNo, made: &Made) -> bool
     ensures { IsTrue result → IsAnsweredStill (configuration_of window.now) d.0 (entries_made made.now) }
 {
@@ -88,6 +92,7 @@ fn is_answered_still<D: Device>(window: &OpenWindow<D>, d: DeviceNo, made: &Made
 }
 
 /// A step has made these entries.
+#[inline(always)]
 pub(crate) fn free_made<D: Device>(blocked: &mut BlockedRuns, window: &OpenWindow<D>, made: &Made)
     ensures { AreLeft blocked.old blocked.new (λ d. list_all (is_quiet window.now.setting d) (entries_made made.now) ≡ true) }
 {
@@ -97,6 +102,7 @@ pub(crate) fn free_made<D: Device>(blocked: &mut BlockedRuns, window: &OpenWindo
 }
 
 /// A step has made this entry, where there is one.
+#[inline(always)]
 fn free_some<D: Device>(blocked: &mut BlockedRuns, window: &OpenWindow<D>, entry: Option<Entry>)
     ensures { AreLeft blocked.old blocked.new (λ d. list_all (is_quiet window.now.setting d) (option_to_list entry) ≡ true) }
 {
@@ -107,6 +113,7 @@ fn free_some<D: Device>(blocked: &mut BlockedRuns, window: &OpenWindow<D>, entry
 
 /// A step has made this entry. A placing, a doom and an end may free everybody, an entry on a device those that are
 /// blocked there.
+#[inline(always)]
 fn free_by<D: Device>(blocked: &mut BlockedRuns, window: &OpenWindow<D>, entry: Entry)
     ensures { AreLeft blocked.old blocked.new (λ d. is_quiet window.now.setting d entry ≡ true) }
 {

@@ -13,6 +13,7 @@ impl<D: Device> OpenWindow<D> {
     /// Answers the entries that it makes: the command's answer, for a read with the value found, and the doom of a run whose
     /// must `check` found another value; or that the run's write is undone. A grip that is not the one with which its device
     /// is out, or that is the detector's, comes back with a `Stranger`, and nothing changes. Takes no memory.
+    #[inline(always)]
     pub(crate) fn give(
         &mut self,
         grip: Grip<D, Done>,

@@ -98,6 +98,7 @@ impl KeptOrder {
 
     /// The device goes out to the run for this purpose: it has touched it where that is a command, and its write there
     /// is undone where that is an undo.
+    #[inline(always)]
     pub(crate) fn touch(&mut self, r: RunNo, d: DeviceNo, purpose: Purpose)
         requires run { stands (Ran r) self.old.line.marks ≡ true }
         requires device { d.0 < most_devices }
@@ -125,6 +126,7 @@ impl KeptOrder {
 
     /// The run notes an answer on the device. Where it is its first one there, the scheduled accesses before its own are
     /// passed.
+    #[inline(always)]
     pub(crate) fn note(&mut self, d: DeviceNo, r: RunNo, told: Noted)
         requires device { d.0 < length self.old.table }
         requires turn { MayNote r.0 (lineage_at self.old.table d.0) }

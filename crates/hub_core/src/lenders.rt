@@ -15,6 +15,7 @@ use lock_leasing::{lends, overdue};
 impl<D: Device> OpenWindow<D> {
     /// The run whose lease on the device is overdue for `r` at this moment, in ms, and its deadline. Where runs are served as
     /// they come none is, since each was placed before those behind it.
+    #[inline(always)]
     pub(crate) fn overdue_lease(&self, r: RunNo, d: DeviceNo, moment: u64) -> Option<(RunNo, u64)>
         requires strong { is_weak self.now.setting.mode ≡ false }
         requires turn { IsAsking (configuration_of self.now) r.0 d.0 }
@@ -29,6 +30,7 @@ impl<D: Device> OpenWindow<D> {
     }
 
     /// Whether a lease on the device of the run's next command may become overdue for it.
+    #[inline(always)]
     pub(crate) fn may_lend(&self, r: RunNo, d: DeviceNo) -> bool
         requires turn { next_device (configuration_of self.now) r.0 ≡ Some d.0 }
         ensures { result ≡ false → NeverRevokes (configuration_of self.now) r.0 d.0 }

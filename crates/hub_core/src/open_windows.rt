@@ -257,6 +257,7 @@ impl<D: Device> OpenWindow<D> {
     }
 
     /// The device of the run's next command, where the run is at one: it is live, not doomed, and holds no grip.
+    #[inline(always)]
     pub(crate) fn next_device(&self, r: RunNo) -> Option<DeviceNo>
         ensures { option_map (λ d. d.0) result ≡ next_device (configuration_of self.now) r.0 }
     {

@@ -149,6 +149,7 @@ impl ReadHistory {
     }
 
     /// The run's first command with no answer.
+    #[inline(always)]
     pub(crate) fn next_command(&self, r: RunNo) -> Option<Command>
         requires run { IsTrue (is_run self.now.setting.runs r.0) }
         ensures { result ≡ next_command self.now.setting (read_in self.now) r.0 }
@@ -306,6 +307,7 @@ impl ReadHistory {
     }
 
     /// The run's command with the number `k` is answered so.
+    #[inline(always)]
     pub(crate) fn answer(&mut self, r: RunNo, k: u32, answer: Answer) -> Entry
         requires run { IsTrue (is_run self.old.setting.runs r.0) }
         requires there { k < length (commands_of self.old.setting.runs r.0) }

@@ -65,6 +65,7 @@ fn value_after(task: Task, stood: Value) -> Value
 
 impl<D: Device> OpenWindow<D> {
     /// The device of a run's grip comes home.
+    #[inline(always)]
     pub(crate) fn come_home(&mut self, grip: Grip<D, Done>, moment: u64) -> Made
         requires kept { IsKept self.old.places grip.slip grip.task }
         requires maker { 0 < grip.slip.maker }
@@ -81,6 +82,7 @@ impl<D: Device> OpenWindow<D> {
     }
 
     /// The device of the run's command with the number `k` comes home.
+    #[inline(always)]
     fn answer(&mut self, grip: Grip<D, Done>, moment: u64, k: u32) -> Made
         requires kept { IsKept self.old.places grip.slip grip.task }
         requires maker { 0 < grip.slip.maker }
@@ -97,6 +99,7 @@ impl<D: Device> OpenWindow<D> {
 
     /// The call of the run's command with the number `k` worked: the command is answered, and where it is a must `check`
     /// that found another value the run is doomed.
+    #[inline(always)]
     fn answer_lived(&mut self, grip: Grip<D, Done>, moment: u64, k: u32) -> Made
         requires kept { IsKept self.old.places grip.slip grip.task }
         requires maker { 0 < grip.slip.maker }
@@ -253,6 +256,7 @@ pub(crate) struct Came {
 }
 
 /// The device of a run's grip comes home, and the run holds no grip.
+#[inline(always)]
 fn take_home<D: Device>(
     gate: &mut Gate<D>,
     devices: &mut List<DeviceProgress>,
@@ -277,6 +281,7 @@ fn take_home<D: Device>(
 }
 
 /// The device of a grip comes home: it is known where it stands, and how often it has failed and come back.
+#[inline(always)]
 pub(crate) fn bring_home<D: Device>(
     gate: &mut Gate<D>,
     devices: &mut List<DeviceProgress>,

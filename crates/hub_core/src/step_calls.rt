@@ -20,6 +20,7 @@ impl<D: Device> Hub<D> {
     /// Answers what the run does: hands out a device, makes entries, waits, or is over. `Wait` and `Absent` change
     /// nothing but the last moment. Takes no memory.
 
+    #[inline(always)]
     pub fn take(&mut self, r: RunNo, moment: u64) -> Turn<D>
         ensures turn { IsTurn self.old r.0 moment result self.new }
         ensures earliest { PlansEarliest (configuration_of self.old) r.0 result }
@@ -52,6 +53,7 @@ impl<D: Device> Hub<D> {
     /// must `check` found another value; or that the run's write is undone. A grip that is not the one with which its device
     /// is out, or that is the detector's, comes back with a `Stranger`, and nothing changes. Takes no memory.
     #[tactic(auto, using(crate::proofs::calls::FinalItems::given_sealed))]
+    #[inline(always)]
     pub fn give(
         &mut self,
         grip: Grip<D, Done>,

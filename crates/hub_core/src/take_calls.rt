@@ -17,6 +17,7 @@ impl<D: Device> OpenWindow<D> {
     ///
     /// Answers what the run does: hands out a device, makes entries, waits, or is over. `Wait` and `Absent` change
     /// nothing but the last moment. Places by the timeline are looked for in the scratch. Takes no memory.
+    #[inline(always)]
     pub(crate) fn take(&mut self, r: RunNo, moment: u64, scratch: &mut Scratch) -> Turn<D>
         requires scratch { IsForHome self.old.setting scratch.old }
         ensures turn { IsTurn self.old r.0 moment result self.new }

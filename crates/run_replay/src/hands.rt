@@ -70,6 +70,7 @@ impl<D: Device> Hands<D> {
     }
 
     /// Steps the actor, a run or 0 for the detector, and counts its pick where it moved.
+    #[inline(always)]
     pub(crate) fn pick(&mut self, actor: u32) -> Picked
         requires few { MovesAreFew self.old }
         ensures picked { (acts : ℕ) → (later : ℕ) × IsPicked self.old.rounds actor (play_of self.old acts) (picked_of result) (play_of self.new later) }
@@ -95,6 +96,7 @@ impl<D: Device> Hands<D> {
     }
 
     /// Counts a pick where it moved.
+    #[inline(always)]
     fn count(&mut self, picked: Picked)
         requires low { self.old.moves < 2 ^ 63 }
         ensures { self.new ≡ with_moves (moves_after (picked_of picked) self.old.moves) self.old }
@@ -105,6 +107,7 @@ impl<D: Device> Hands<D> {
     }
 
     /// Steps the actor, which has not ended.
+    #[inline(always)]
     fn step(&mut self, actor: u32) -> Picked
         requires going { is_ended self.old actor ≡ false }
         ensures stepped { (acts : ℕ) → (later : ℕ) × IsStepped self.old.rounds actor (play_of self.old acts) (picked_of result) (play_of self.new later) }
@@ -145,6 +148,7 @@ impl<D: Device> Hands<D> {
 
     /// Whether the actor has ended: the detector when its rounds are over and it holds no grip, a run when it has its
     /// end, and where it is none of the window.
+    #[inline(always)]
     pub(crate) fn has_ended(&self, actor: u32) -> bool
         ensures { result ≡ is_ended self.now actor }
     {
@@ -165,6 +169,7 @@ impl<D: Device> Hands<D> {
 
     /// Makes the call of the grip that the run holds, and gives the grip back. The hub's moment rises by the time that a
     /// command takes.
+    #[inline(always)]
     fn act(&mut self, actor: u32) -> Made
         requires run { 0 < actor }
         requires going { is_ended self.old actor ≡ false }
@@ -197,6 +202,7 @@ impl<D: Device> Hands<D> {
     }
 
     /// Takes the step of the run, which holds no grip.
+    #[inline(always)]
     fn run_takes(&mut self, r: RunNo) -> Picked
         requires run { 0 < r.0 }
         requires going { is_ended self.old r.0 ≡ false }
@@ -232,6 +238,7 @@ impl<D: Device> Hands<D> {
     }
 
     /// Steps the detector: where it holds a grip it gives it back, and else it comes to its next device.
+    #[inline(always)]
     fn probe(&mut self) -> Picked
         requires going { is_ended self.old 0 ≡ false }
         ensures stepped { (acts : ℕ) → (later : ℕ) × IsStepped self.old.rounds 0 (play_of self.old acts) (picked_of result) (play_of self.new later) }

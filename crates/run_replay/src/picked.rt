@@ -21,6 +21,7 @@ pub enum Picked {
 }
 
 /// Whether the actor that did this waits.
+#[inline(always)]
 pub(crate) fn has_waited(picked: Picked) -> bool
     ensures { result ≡ waits (picked_of picked) }
 {
@@ -28,6 +29,7 @@ pub(crate) fn has_waited(picked: Picked) -> bool
 }
 
 /// Whether the actor that did this took a device, gave one back or made entries.
+#[inline(always)]
 pub(crate) fn has_moved(picked: Picked) -> bool
     ensures { result ≡ has_moved (picked_of picked) }
 {

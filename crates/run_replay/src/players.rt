@@ -37,6 +37,7 @@ fn take_out(actors: &mut Vec<u32>, actor: u32)
 
 impl<D: Device> Player<D> {
     /// Steps the actor, a run or 0 for the detector.
+    #[inline(always)]
     pub fn pick(&mut self, actor: u32) -> Picked
         ensures picked { (acts : ℕ) → (later : ℕ) × IsPicked self.old.rounds actor (play_of self.old acts) (picked_of result) (play_of self.new later) }
         ensures packed { PickIsPacked result }
