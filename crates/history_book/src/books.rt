@@ -61,6 +61,7 @@ impl Book {
     /// Appends an entry. Takes no memory, and uses one place of the room.
     ///
     /// Asks for room.
+    #[inline(always)]
     pub fn push(&mut self, kept: Kept)
         requires { 0 < self.old.spare }
         ensures items { self.new.items ≡ self.old.items ++ kept ∷ [] }

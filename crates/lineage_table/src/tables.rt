@@ -84,6 +84,7 @@ impl Table {
     /// Marks that the run has its first answer on the device, and sees it so from then on.
     ///
     /// Its access is scheduled, none is acquired, and no scheduled one stands before it.
+    #[inline(always)]
     pub fn acquire(&mut self, d: DeviceNo, r: RunNo, view: View)
         requires device { d.0 < length self.old }
         requires scheduled { status_of r.0 (accesses_at self.old d.0) ≡ Some Status.Scheduled }
@@ -109,6 +110,7 @@ impl Table {
     /// wrote, where there is one; and with its last one it is done there.
     ///
     /// Answers false, and changes nothing, where a scheduled access stands before its own.
+    #[inline(always)]
     pub fn note(
         &mut self,
         d: DeviceNo,
@@ -159,6 +161,7 @@ impl Table {
     }
 
     /// The access of the run, where it has one.
+    #[inline(always)]
     pub fn access(&self, d: DeviceNo, r: RunNo) -> Option<Access>
         requires { d.0 < length self.now }
         ensures { result ≡ access_of r.0 (accesses_at self.now d.0) }

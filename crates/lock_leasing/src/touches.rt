@@ -29,6 +29,7 @@ pub enum Touch {
 ///
 /// The four parts belong to one window, whose model is not the weak one. `r` is placed, neither doomed nor ended, and
 /// `c` is its next command, counted from 0. Takes no memory, and reads of the history no more than its dooms.
+#[inline(always)]
 pub fn test_touch(s: &Standing, r: RunNo, c: u32) -> Touch
     requires { MayTouch s.now.table.now s.now.line.now.marks s.now.book.now.items (runs_of s.now.roster.now) r.0 c }
     ensures { IsTouchOf s.now.table.now s.now.line.now.marks s.now.book.now.items (runs_of s.now.roster.now) r.0 c result }
@@ -55,6 +56,7 @@ fn command_at(roster: &IndexedRoster, r: RunNo, c: u32) -> Command
 /// The first run that holds the device, among those with an access to it: before that of `r` where it has one.
 ///
 /// Takes no memory, and reads of the history no more than its dooms.
+#[inline(always)]
 pub fn first_holder(s: &Standing, d: DeviceNo, r: RunNo) -> Option<RunNo>
     requires { d.0 < length s.now.table.now }
     ensures { result ≡ holder_before s.now.book.now.items r.0 (accesses_at s.now.table.now d.0) }

@@ -16,6 +16,7 @@ use lock_leasing::Standing;
 /// Under the global model it is the first live run before `r` in the line, under the partitioned one the first that
 /// shares a device with `r`; there is none under the eventual and the weak model. The four parts belong to one window,
 /// and `r` is placed, neither doomed nor ended. Takes no memory, and reads of the history no more than the ends of runs.
+#[inline(always)]
 pub fn may_go(model: Visibility, s: &Standing, r: RunNo) -> Option<RunNo>
     requires { MayAsk model s.now.table.now s.now.line.now.marks s.now.book.now.items (runs_of s.now.roster.now) r.0 }
     ensures wait { IsStrictWaitOf model s.now.table.now s.now.line.now.marks s.now.book.now.items (runs_of s.now.roster.now) r.0 result }
