@@ -43,6 +43,13 @@ impl BlockedRuns {
         1 <= r.0 && r.0 <= 64 && (self.runs >> (r.0 - 1)) & 1 == 1
     }
 
+    /// The runs that are marked, the run r as the bit r - 1.
+    pub(crate) fn marked(&self) -> u64
+        ensures { result ≡ self.now.runs }
+    {
+        self.runs
+    }
+
     /// Marks the run at this device. A run above 64 and one at no device of the home stay as they are.
     pub(crate) fn mark(&mut self, r: RunNo, d: DeviceNo)
         ensures { HasMarked self.old r.0 d.0 self.new }

@@ -3,6 +3,7 @@ ghost use Rattle.std.specs.Prelude.{◌≡◌, ◌≤◌, ◌↔◌, IfErr, IfOk
 ghost use Rattle.history_book.specs.Histories.{entries_of, line_of};
 ghost use Rattle.history_book.specs.Sealed.{BeginsWithSealed, sealed_of};
 ghost use Rattle.history_book.specs.Settings.{is_weak};
+ghost use Rattle.hub_core.specs.BlockedMarks.{has_run};
 ghost use Rattle.hub_core.specs.BlockedRuns.{IsBlocked};
 ghost use Rattle.hub_core.specs.Bounds.{IsBounded};
 ghost use Rattle.hub_core.specs.HubCalls.{HubStands, IsClosed, SomeRunMoves, grip_takes, is_past};
@@ -88,6 +89,13 @@ impl<D: Device> Hub<D> {
         ensures { IsTrue result → IsBlocked (configuration_of self.now) r.0 }
     {
         self.blocked.is_marked(r)
+    }
+
+    /// The runs that are known to wait, as `is_blocked` tells it, the run r as the bit r - 1.
+    pub fn blocked_runs(&self) -> u64
+        ensures { (r : ℕ) → has_run result r ≡ true → IsBlocked (configuration_of self.now) r }
+    {
+        self.blocked.marked()
     }
 
     /// How many items of the line are final: those before the first live run, all where none is live. They stay in their

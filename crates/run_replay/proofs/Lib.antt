@@ -27,3 +27,5 @@ pub mod Progress
 pub mod Trying
 pub mod Finishing
 pub mod Passing
+pub mod Numbers
+pub mod LiveRuns

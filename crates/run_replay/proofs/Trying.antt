@@ -16,7 +16,7 @@ use Rattle.run_replay.proofs.Stepping.{same_most}
 use Rattle.run_replay.proofs.Tellings.{index_or_get}
 use Rattle.run_replay.specs.Players.{PlayerIsKept, PlayerStands, PlayerState, are_live, empty_places, first_is_full, is_ended, is_full, most_made, play_of, steps_left}
 use Rattle.run_replay.specs.Playing.{GoesOn, IsPicked, IsTried, Tells}
-use Rattle.run_replay.specs.Replays.{Course, Pick, Picked, Play, actors, from_place, gripped, pick, pick_first, waits}
+use Rattle.run_replay.specs.Replays.{Course, Pick, Picked, Play, actors, from_place, gripped, has_ended, pick, pick_first, waits}
 use Rattle.std.proofs.Common.{ap, arith, inl, inr, refl, subst, sym, ◌∙◌}
 use Rattle.std.proofs.lemmas.Bool.{not-true}
 use Rattle.std.proofs.lemmas.List.{length-append, take-append-drop}
@@ -100,6 +100,12 @@ same_live s t stays =
     ∙ ap (actors (record { rounds = s.rounds; told = λ k. Worked })) (stays.play 0)
     ∙ actors_are (record { rounds = s.rounds; told = λ k. Worked }) s 0 stays.before.kept stays.before.size refl
 
+same_end : {D : Type 0} (s t : PlayerState D) (a : ℕ) → Stays s t → is_ended t a ≡ is_ended s a
+same_end s t a stays =
+    sym (ended_is (record { rounds = s.rounds; told = λ k. Worked }) t 0 a stays.after.kept stays.after.size (sym stays.rounds))
+    ∙ ap (λ p. has_ended (record { rounds = s.rounds; told = λ k. Worked }) p a) (stays.play 0)
+    ∙ ended_is (record { rounds = s.rounds; told = λ k. Worked }) s 0 a stays.before.kept stays.before.size refl
+
 same_left : {D : Type 0} (s t : PlayerState D) → Stays s t → steps_left t ≡ steps_left s
 same_left s t stays =
     let most = same_most s t (ap (λ (x : Play). length x.configuration.setting.runs) (stays.play 0)) (ap (λ (x : Play). length x.configuration.setting.first) (stays.play 0)) stays.probes in
@@ -134,6 +140,7 @@ pub record HaveWaited {D : Type 0} (old now : PlayerState D) (all : List ℕ) (s
   pub rounds : now.rounds ≡ old.rounds
   pub live : are_live now ≡ are_live old
   pub left : steps_left now ≡ steps_left old
+  pub ends : (a : ℕ) → is_ended now a ≡ is_ended old a
   pub tried : (acts : ℕ) → (later : ℕ) × IsTried old.rounds all (drop step all) (play_of old acts) (play_of now later)
   pub each : (k a : ℕ) → k < step → slice_get all k ≡ Some a → (course : Course) → course.rounds ≡ old.rounds → (acts : ℕ) → waits (pick course (play_of now acts) a).picked ≡ true
 
@@ -157,6 +164,7 @@ one_more_waits old now next all step after a picked before stands rounds probes 
   rounds = rounds ∙ before.rounds;
   live = same_live now next stays ∙ before.live;
   left = same_left now next stays ∙ before.left;
+  ends = λ a. same_end now next a stays ∙ before.ends a;
   tried = λ acts.
       let tried = before.tried acts in
       let pick = picks tried.0 in
@@ -190,16 +198,13 @@ one_moves old now next all step a picked before at picks moved acts =
 pub goes_on_at : {D : Type 0} (s : PlayerState D) (i a : ℕ) → slice_get (are_live s) i ≡ Some a → (a < length s.grips) × (is_ended s a ≡ false)
 goes_on_at s i a at = let two = of_filter (λ b. not (is_ended s b)) 0 (length s.grips) i a at in let low = two.0 in (omega (arith, low), not-true (is_ended s a) two.1)
 
-pub one_moves_fewer : {D : Type 0} (old now next : PlayerState D) (all : List ℕ) (step a i : ℕ) → HaveWaited old now all step → slice_get (are_live now) i ≡ Some a → (is_ended now a ≡ false → steps_left next < steps_left now) → steps_left next < steps_left old
-one_moves_fewer old now next all step a i before at fewer = subst (λ n. steps_left next < n) before.left (fewer (goes_on_at now i a at).1)
-
 -- One of them moves
 
 each_of : (P : ℕ → Type 0) (xs : List ℕ) → ((k a : ℕ) → slice_get xs k ≡ Some a → P a) → Each P xs
 each_of P [] all = tt
 each_of P (x ∷ xs) all = (all 0 x refl, each_of P xs (λ k a at. all (suc k) a at))
 
-turned_length : (k : ℕ) (xs : List ℕ) → length (from_place k xs) ≡ length xs
+pub turned_length : (k : ℕ) (xs : List ℕ) → length (from_place k xs) ≡ length xs
 turned_length k xs =
     let one = length-append (drop k xs) (take k xs) in
     let two = length-append (take k xs) (drop k xs) in
@@ -242,8 +247,4 @@ same_window s t u one two = record { setting = two.setting ∙ one.setting; roun
 
 -- none has been picked
 pub none_waited : {D : Type 0} (s : PlayerState D) (all : List ℕ) → PlayerStands s → HaveWaited s s all 0
-none_waited s all stands = record { stands = stands; rounds = refl; live = refl; left = refl; tried = λ acts. (acts, none_tried s.rounds all (play_of s acts)); each = λ k a low. absurd (omega (arith, low)) }
-
--- the actor at this place of the list is the one that comes next
-pub next_is : {D : Type 0} (old now : PlayerState D) (place step at live a : ℕ) → HaveWaited old now (from_place place (are_live old)) step → live ≡ length (are_live old) → ((xs : List ℕ) → length xs ≡ live → slice_get (from_place place xs) step ≡ slice_get xs at) → slice_get (are_live now) at ≡ Some a → slice_get (from_place place (are_live old)) step ≡ Some a
-next_is old now place step at live a before size turned found = turned (are_live old) (sym size) ∙ ap (λ xs. slice_get xs at) (sym before.live) ∙ found
+none_waited s all stands = record { stands = stands; rounds = refl; live = refl; left = refl; ends = λ a. refl; tried = λ acts. (acts, none_tried s.rounds all (play_of s acts)); each = λ k a low. absurd (omega (arith, low)) }

@@ -7,6 +7,7 @@ use Rattle.device_gate.specs.declared.slips.Slip.{Slip}
 use Rattle.device_gate.specs.declared.slips.Task.{Task}
 use Rattle.history_book.specs.Histories.{entries_made}
 use Rattle.home_types.specs.Limits.{most_devices, most_runs}
+use Rattle.hub_core.specs.BlockedMarks.{has_run}
 use Rattle.hub_core.specs.Bounds.{IsBounded, most_entries}
 use Rattle.hub_core.specs.HubCalls.{IsPacked, SomeRunMoves}
 use Rattle.hub_core.specs.OpenHubs.{OpenHub, configuration_of}
@@ -118,6 +119,10 @@ MovesAreFew s = s.moves + steps_left s ≤ most_moves (length s.hub.setting.runs
 -- the actors that have not ended, ascending
 abbrev pub are_live : {D : Type 0} → PlayerState D → List ℕ
 are_live s = filter (λ a. not (is_ended s a)) (range_with_len 0 (length s.grips))
+
+-- the bits of the word are the runs that have not ended, the run r the bit r - 1
+abbrev pub AreLiveRuns : {D : Type 0} → ℕ → PlayerState D → Type 0
+AreLiveRuns word s = (r : ℕ) → 0 < r → has_run word r ≡ not (is_ended s r)
 
 -- none of these hands holds a thing
 abbrev pub HoldNothing : {A : Type 0} → List (Option A) → Type 0

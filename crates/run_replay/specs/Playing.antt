@@ -1,7 +1,7 @@
 -- How a play goes on, for what the devices tell meanwhile.
 use Rattle.device_gate.specs.declared.slips.Told.{Told}
-use Rattle.run_replay.specs.Replays.{Course, Picked, Play, actors, draw_times, pick, pick_first, pick_live, play}
-use Rattle.std.specs.Prelude.{List, Some, [], length, slice_get, ℕ, ◌+◌, ◌≡◌}
+use Rattle.run_replay.specs.Replays.{Course, Picked, Play, actors, draw_times, pick, pick_first, pick_live, play, waits}
+use Rattle.std.specs.Prelude.{Bool, List, Some, [], length, slice_get, ℕ, ◌+◌, ◌≡◌}
 
 -- the course tells these, act after act, from the act of this number on
 abbrev pub Tells : Course → ℕ → List Told → Type 0
@@ -18,6 +18,12 @@ pub record IsPicked (rounds a : ℕ) (p : Play) (picked : Picked) (q : Play) : T
   pub told : List Told
   pub acts : q.acts ≡ p.acts + length told
   pub leads : (course : Course) → course.rounds ≡ rounds → Tells course p.acts told → pick course p a ≡ record { picked = picked; next = q }
+
+-- the actor was picked in the play that it is by so many acts, and waited or did not
+pub record HasPicked (rounds a : ℕ) (before : ℕ → Play) (waited : Bool) (after : ℕ → Play) : Type 0 where
+  pub picked : Picked
+  pub waits_so : waits picked ≡ waited
+  pub picks : (acts : ℕ) → (later : ℕ) × IsPicked rounds a (before acts) picked (after later)
 
 -- the actor, which has not ended, was picked, and did this; the pick is not counted yet
 pub record IsStepped (rounds a : ℕ) (p : Play) (picked : Picked) (q : Play) : Type 0 where

@@ -1,29 +1,16 @@
 //! A play goes on to its end: which actor is tried next.
-ghost use Rattle.std.specs.Prelude.{◌≡◌, ◌<◌, List, Some, length, slice_get, ℕ};
+ghost use Rattle.std.specs.Prelude.{◌≡◌, ◌<◌, ◌≤◌, ◌⊎◌, Some, false, length, slice_get, true, ℕ};
+ghost use Rattle.hub_core.specs.BlockedRuns.{IsBlocked};
 ghost use Rattle.hub_core.specs.HubCalls.{SameWindow};
-ghost use Rattle.run_replay.specs.Players.{HavePlans, are_live, play_of, steps_left};
+ghost use Rattle.hub_core.specs.OpenHubs.{configuration_of};
+ghost use Rattle.run_replay.specs.Players.{HavePlans, are_live, is_ended, play_of, steps_left};
 ghost use Rattle.run_replay.specs.Playing.{GoesOn, IsFinished};
 ghost use Rattle.run_replay.specs.Replays.{from_place, pick_first};
 
-use crate::picked::has_waited;
+use crate::live_runs::{END, next_run};
 use crate::players::Player;
 use device_states::Device;
 use seeded_draws::Draws;
-
-/// The place that lies so many steps on from this one, in cyclic order.
-fn place_on(place: u64, step: u64, live: u64) -> u64
-    requires place { place < live }
-    requires step { step < live }
-    ensures place { (xs : List ℕ) → length xs ≡ live → slice_get (from_place place xs) step ≡ slice_get xs result }
-    ensures below { result < live }
-{
-    let ahead = live - place;
-    if step < ahead {
-        place + step
-    } else {
-        step - ahead
-    }
-}
 
 impl<D: Device> Player<D> {
     /// Picks actors until every one has ended: each time a place in the list of those that have not is drawn by the
@@ -60,6 +47,24 @@ impl<D: Device> Player<D> {
         self.actors[place as usize]
     }
 
+    /// The first actor from this number on that has not ended and is not known to wait; 65 where there is none.
+    fn next_free(&self, from: u32) -> u32
+        requires low { from ≤ 65 }
+        ensures ahead { from ≤ result }
+        ensures passed { (a : ℕ) → from ≤ a → a < result → (is_ended self.now a ≡ true) ⊎ IsBlocked (configuration_of self.now.hub) a }
+        ensures live { result < 65 → is_ended self.now result ≡ false }
+    {
+        let blocked = self.hands.blocked_runs();
+        if from != 0 {
+            return next_run(self.runs, blocked, from);
+        }
+        if self.hands.has_ended(0) {
+            next_run(self.runs, blocked, 1)
+        } else {
+            0
+        }
+    }
+
     /// Picks the actors that have not ended, from this place of their list on and in cyclic order, until one does not
     /// wait: there is always one. A run that is known to wait is passed over.
     fn pick_from(&mut self, place: u64, live: u64)
@@ -72,16 +77,22 @@ impl<D: Device> Player<D> {
         ensures fewer { steps_left self.new < steps_left self.old }
     {
         self.kept();
-        'actors: for step in 0..live {
-            let actor = self.live_at(place_on(place, step, live));
-            if self.hands.is_blocked(actor) {
-                continue;
-            }
-            let picked = self.pick(actor);
-            if !has_waited(picked) {
+        let first = self.live_at(place);
+        let mut at = self.next_free(first);
+        'ahead: while at < END {
+            if !self.waits_at(at) {
                 return;
             }
             self.kept();
+            at = self.next_free(at + 1);
+        }
+        at = self.next_free(0);
+        'behind: while at < first {
+            if !self.waits_at(at) {
+                return;
+            }
+            self.kept();
+            at = self.next_free(at + 1);
         }
         unreachable!()
     }

@@ -1,5 +1,6 @@
 //! A hub with the grips that its actors hold, and how one actor is stepped.
 ghost use Rattle.std.specs.Prelude.{◌≡◌, ◌≢◌, ◌<◌, ◌≤◌, ◌^◌, None, Some, IfErr, IfOk, IsTrue, false, length, true, vec_capacity, ℕ};
+ghost use Rattle.hub_core.specs.BlockedMarks.{has_run};
 ghost use Rattle.hub_core.specs.BlockedRuns.{IsBlocked};
 ghost use Rattle.hub_core.specs.HubCalls.{HubStands, IsClosed, IsPacked, SameWindow};
 ghost use Rattle.hub_core.specs.OpenHubs.{configuration_of};
@@ -165,6 +166,13 @@ impl<D: Device> Hands<D> {
         ensures { IsTrue result → IsBlocked (configuration_of self.now.hub) actor }
     {
         self.hub.is_blocked(RunNo(actor))
+    }
+
+    /// The runs that are known to wait, the run r as the bit r - 1.
+    pub(crate) fn blocked_runs(&self) -> u64
+        ensures { (r : ℕ) → has_run result r ≡ true → IsBlocked (configuration_of self.now.hub) r }
+    {
+        self.hub.blocked_runs()
     }
 
     /// Makes the call of the grip that the run holds, and gives the grip back. The hub's moment rises by the time that a

@@ -3,6 +3,7 @@
 
 mod finishes;
 mod hands;
+mod live_runs;
 pub mod picked;
 pub mod players;
 pub mod windows;

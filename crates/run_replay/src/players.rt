@@ -2,10 +2,11 @@
 ghost use Rattle.std.specs.Prelude.{◌≡◌, ◌<◌, ◌≤◌, ◌==◌, false, filter, length, not, ℕ};
 ghost use Rattle.hub_core.specs.HubCalls.{HubStands, SameWindow};
 ghost use Rattle.run_replay.specs.Players.{HavePlans, PickIsPacked, PlayerStands, is_ended, most_moves, picked_of, play_of, steps_left};
-ghost use Rattle.run_replay.specs.Playing.{IsPicked, IsPlayed};
+ghost use Rattle.run_replay.specs.Playing.{HasPicked, IsPicked, IsPlayed};
 ghost use Rattle.run_replay.specs.Replays.{moves_after, waits};
 
 use crate::hands::Hands;
+use crate::live_runs::without_run;
 use crate::picked::{Picked, has_waited};
 use device_states::Device;
 use std::marker::Model;
@@ -15,17 +16,19 @@ pub struct Player<D: Device> {
     pub(crate) hands: Hands<D>,
     /// The actors that have not ended, ascending.
     pub(crate) actors: Vec<u32>,
+    /// The runs among them, the run r as the bit r - 1.
+    pub(crate) runs: u64,
 }
 
 impl<D: Device> Model for Player<D> {
     ghost use Rattle.std.specs.Prelude.{◌≡◌};
-    ghost use Rattle.run_replay.specs.Players.{MovesAreFew, PlayerState, are_live};
+    ghost use Rattle.run_replay.specs.Players.{AreLiveRuns, MovesAreFew, PlayerState, are_live};
 
     ghost Value = { PlayerState D };
 
     ghost view = { λ p. p.hands };
 
-    ghost invariant = { λ p. (p.actors.items ≡ are_live p.hands) × MovesAreFew p.hands };
+    ghost invariant = { λ p. (p.actors.items ≡ are_live p.hands) × MovesAreFew p.hands × AreLiveRuns p.runs p.hands };
 }
 
 /// Takes an actor out of a list, where it stands there.
@@ -55,7 +58,20 @@ impl<D: Device> Player<D> {
             return picked;
         }
         take_out(&mut self.actors, actor);
+        self.runs = without_run(self.runs, actor);
         picked
+    }
+
+    /// Steps the actor as `pick` does, and tells whether it waits.
+    pub(crate) fn waits_at(&mut self, actor: u32) -> bool
+        ensures picked { HasPicked self.old.rounds actor (play_of self.old) result (play_of self.new) }
+        ensures window { SameWindow self.old.hub self.new.hub }
+        ensures rounds { self.new.rounds ≡ self.old.rounds }
+        ensures plans { (plans : ℕ → _) → HavePlans D.plan plans self.old → HavePlans D.plan plans self.new }
+        ensures fewer { result ≡ false → is_ended self.old actor ≡ false → steps_left self.new < steps_left self.old }
+    {
+        let picked = self.pick(actor);
+        has_waited(picked)
     }
 
     /// Steps each of these actors, one after another. A run that is known to wait is passed over: its step would change
@@ -70,7 +86,7 @@ impl<D: Device> Player<D> {
             if self.hands.is_blocked(*actor) {
                 continue;
             }
-            self.pick(*actor);
+            self.waits_at(*actor);
         }
     }
 

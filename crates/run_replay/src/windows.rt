@@ -7,6 +7,7 @@ ghost use Rattle.run_replay.specs.Players.{IsOpened};
 ghost use Rattle.run_replay.specs.ReplayedWindows.{IsReplayed};
 
 use crate::hands::Hands;
+use crate::live_runs::with_run;
 use crate::players::Player;
 use device_states::Device;
 use history_book::WindowRecord;
@@ -31,12 +32,18 @@ impl<D: Device> Player<D> {
         match Hands::open(alloc, hub, rounds) {
             Ok(hands) => {
                 hands.kept();
+                let mut runs = 0;
                 'actors: for actor in 0..count {
                     if !hands.has_ended(actor) {
                         actors.push_reserved(actor);
+                        runs = with_run(runs, actor);
                     }
                 }
-                Ok(Player { hands, actors })
+                Ok(Player {
+                    hands,
+                    actors,
+                    runs,
+                })
             }
             Err(refused) => {
                 actors.destroy_empty();
@@ -54,10 +61,21 @@ impl<D: Device> Player<D> {
         ensures same { IfErr result (λ refused. refused.0 ≡ self) }
         ensures refused { IfErr result (λ refused. not_quiet (configuration_of self.hub) ≡ Some refused.1) }
     {
-        let Player { hands, actors } = self;
+        let Player {
+            hands,
+            actors,
+            runs,
+        } = self;
         match hands.close() {
             Ok(closed) => Ok(closed),
-            Err((hands, why)) => Err((Player { hands, actors }, why)),
+            Err((hands, why)) => Err((
+                Player {
+                    hands,
+                    actors,
+                    runs,
+                },
+                why,
+            )),
         }
     }
 }

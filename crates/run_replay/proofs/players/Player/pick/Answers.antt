@@ -1,4 +1,5 @@
 use Rattle.run_replay.proofs.Leaving.{kept_in, picked_now, plans_now, taken_out}
+use Rattle.run_replay.proofs.LiveRuns.{run_leaves, runs_stay}
 use Rattle.run_replay.proofs.players.Player.pick.Goals as goal
 use Rattle.run_replay.specs.Players.{is_ended, picked_of}
 use Rattle.std.proofs.Common.{Bool, false, refl, sym, true, ◌≡◌, ◌∙◌}
@@ -7,6 +8,7 @@ pub invariant_of-self : goal.invariant_of-self
 invariant_of-self g c = (
   kept_in c.self.inside.hands c.pick-picked.new.self c.self.inside.actors.items c.args.actor c.self.invariant.0 c.pick-picked.ensures.hands c.pick-picked.ensures.others (c.pick-picked.ensures.waiting (sym c.has_waited.ensures ∙ c.if-has_waited.true)),
   c.pick-picked.ensures.few,
+  runs_stay c.self.inside.hands c.pick-picked.new.self c.self.inside.runs c.args.actor c.self.invariant.2 c.pick-picked.ensures.others (c.pick-picked.ensures.waiting (sym c.has_waited.ensures ∙ c.if-has_waited.true)),
 )
 
 pub returns-then-has_waited-clause-picked : goal.returns-then-has_waited-clause-picked
@@ -21,6 +23,8 @@ invariant_of-self-then-not-has_ended g c = (
   kept_in c.self.inside.hands c.pick-picked.new.self c.self.inside.actors.items c.args.actor c.self.invariant.0 c.pick-picked.ensures.hands c.pick-picked.ensures.others
       (going (is_ended c.self.inside.hands c.args.actor) (is_ended c.pick-picked.new.self c.args.actor) (sym c.has_ended.ensures ∙ c.if-not-has_ended.true) c.pick-picked.ensures.over),
   c.pick-picked.ensures.few,
+  runs_stay c.self.inside.hands c.pick-picked.new.self c.self.inside.runs c.args.actor c.self.invariant.2 c.pick-picked.ensures.others
+      (going (is_ended c.self.inside.hands c.args.actor) (is_ended c.pick-picked.new.self c.args.actor) (sym c.has_ended.ensures ∙ c.if-not-has_ended.true) c.pick-picked.ensures.over),
 )
   where
     going : (before after : Bool) → after ≡ false → (before ≡ true → after ≡ true) → after ≡ before
@@ -37,6 +41,7 @@ pub invariant_of-self-2 : goal.invariant_of-self-2
 invariant_of-self-2 g c = (
   taken_out c.self.inside.hands c.pick-picked.new.self c.self.inside.actors.items c.take_out.new.actors.items c.args.actor c.self.invariant.0 c.take_out.ensures c.pick-picked.ensures.hands c.pick-picked.ensures.others (sym c.has_ended.ensures ∙ c.if-not-has_ended.false),
   c.pick-picked.ensures.few,
+  run_leaves c.self.inside.hands c.pick-picked.new.self c.self.inside.runs c.without_run-self-inside.result c.args.actor c.self.invariant.2 c.without_run-self-inside.ensures c.pick-picked.ensures.others (sym c.has_ended.ensures ∙ c.if-not-has_ended.false),
 )
 
 pub returns-clause-picked : goal.returns-clause-picked

@@ -1,40 +1,72 @@
-use Rattle.run_replay.proofs.Passing.{blocked_now, one_more_passed}
-use Rattle.run_replay.proofs.Trying.{never_all, next_is, none_waited, one_more_waits, one_moves, one_moves_fewer, same_window, window_stays}
+use Rattle.run_replay.proofs.Numbers.{begins, few_actors, first_low, low_at, moves_fewer, never_through, number_moves, number_waits, numbers_passed, those, turns}
+use Rattle.run_replay.proofs.Trying.{same_window, window_stays}
 use Rattle.run_replay.proofs.players.Player.pick_from.Goals as goal
-use Rattle.run_replay.specs.Players.{are_live, picked_of}
+use Rattle.run_replay.specs.Players.{are_live}
 use Rattle.run_replay.specs.Replays.{from_place}
-use Rattle.std.proofs.Common.{arith, refl, sym, ◌∙◌}
+use Rattle.std.proofs.Common.{arith, ◌∙◌}
+use Rattle.std.specs.Prelude.{[], length, ◌+◌}
 
-pub actors-init : goal.actors-init
-actors-init g c = (none_waited c.args.self.now (from_place c.args.place (are_live c.args.self.now)) c.kept.ensures.player, window_stays c.args.self.now.hub, λ plans have. have)
+pub next_free-at-requires : goal.next_free-at-requires
+next_free-at-requires g c = record { low = first_low c.args.self.now c.args.place c.live_at-first.result c.kept.ensures.player c.live_at-first.ensures }
 
-pub actors-preserved : goal.actors-preserved
-actors-preserved g c =
-    let at = next_is c.args.self.now c.actors.self c.args.place c.actors.step c.place_on.result c.args.live c.live_at-actor.result c.actors.invariant.0 c.requires.live c.place_on.ensures.place c.live_at-actor.ensures in (
-      one_more_waits c.args.self.now c.actors.self c.pick-picked.new.self (from_place c.args.place (are_live c.args.self.now)) c.actors.step _ c.live_at-actor.result (picked_of c.pick-picked.result) c.actors.invariant.0 c.kept-in-actors.ensures.player c.pick-picked.ensures.rounds c.pick-picked.ensures.window.rounds at c.pick-picked.ensures.picked (sym c.has_waited.ensures ∙ c.if-not-has_waited.false) refl,
-      same_window c.args.self.now.hub c.actors.self.hub c.pick-picked.new.self.hub c.actors.invariant.1 c.pick-picked.ensures.window,
-      λ plans have. c.pick-picked.ensures.plans plans (c.actors.invariant.2 plans have),
+pub ahead-init : goal.ahead-init
+ahead-init g c = (
+  numbers_passed c.args.self.now c.args.self.now (from_place c.args.place (are_live c.args.self.now)) (those c.args.self.now 0 c.live_at-first.result) (length c.args.self.now.grips) c.live_at-first.result c.next_free-at.result c.next_free-at.ensures.ahead (begins c.args.self.now c.args.place c.live_at-first.result c.kept.ensures.player c.live_at-first.ensures) c.next_free-at.ensures.passed,
+  c.next_free-at.ensures.live,
+  window_stays c.args.self.now.hub,
+  λ plans have. have,
+)
+
+pub returns-then-not-waits_at-clause-picked : goal.returns-then-not-waits_at-clause-picked
+returns-then-not-waits_at-clause-picked g c = number_moves c.args.self.now c.ahead.self (from_place c.args.place (are_live c.args.self.now)) (those c.args.self.now 0 c.live_at-first.result) (length c.args.self.now.grips) c.waits_at.new.self c.ahead.at c.waits_at.ensures.picked.picked c.ahead.invariant.0 (low_at c.args.self.now c.ahead.self c.ahead.at _ _ c.kept.ensures.player c.ahead.invariant.0 (c.ahead.invariant.1 (omega (arith, c.ahead-test.true)))) (c.ahead.invariant.1 (omega (arith, c.ahead-test.true))) c.waits_at.ensures.picked.picks (c.waits_at.ensures.picked.waits_so ∙ c.if-not-waits_at.true)
+
+pub returns-then-not-waits_at-clause-plans : goal.returns-then-not-waits_at-clause-plans
+returns-then-not-waits_at-clause-plans g c plans have = c.waits_at.ensures.plans plans (c.ahead.invariant.3 plans have)
+
+pub returns-then-not-waits_at-clause-fewer : goal.returns-then-not-waits_at-clause-fewer
+returns-then-not-waits_at-clause-fewer g c = moves_fewer c.args.self.now c.ahead.self (from_place c.args.place (are_live c.args.self.now)) (those c.args.self.now 0 c.live_at-first.result) (length c.args.self.now.grips) c.waits_at.new.self _ c.ahead.invariant.0 (c.waits_at.ensures.fewer c.if-not-waits_at.true (c.ahead.invariant.1 (omega (arith, c.ahead-test.true))))
+
+pub ahead-preserved : goal.ahead-preserved
+ahead-preserved g c = (
+  numbers_passed c.args.self.now c.waits_at.new.self (from_place c.args.place (are_live c.args.self.now)) (those c.args.self.now 0 c.live_at-first.result) (length c.args.self.now.grips) (c.ahead.at + 1) c.next_free-at-in-ahead.result c.next_free-at-in-ahead.ensures.ahead
+      (number_waits c.args.self.now c.ahead.self (from_place c.args.place (are_live c.args.self.now)) (those c.args.self.now 0 c.live_at-first.result) (length c.args.self.now.grips) c.waits_at.new.self c.ahead.at c.waits_at.ensures.picked.picked c.ahead.invariant.0 (low_at c.args.self.now c.ahead.self c.ahead.at _ _ c.kept.ensures.player c.ahead.invariant.0 (c.ahead.invariant.1 (omega (arith, c.ahead-test.true)))) (c.ahead.invariant.1 (omega (arith, c.ahead-test.true))) c.kept-in-ahead.ensures.player c.waits_at.ensures.rounds c.waits_at.ensures.window.rounds c.waits_at.ensures.picked.picks (c.waits_at.ensures.picked.waits_so ∙ c.if-not-waits_at.false))
+      c.next_free-at-in-ahead.ensures.passed,
+  c.next_free-at-in-ahead.ensures.live,
+  same_window c.args.self.now.hub c.ahead.self.hub c.waits_at.new.self.hub c.ahead.invariant.2 c.waits_at.ensures.window,
+  λ plans have. c.waits_at.ensures.plans plans (c.ahead.invariant.3 plans have),
+)
+
+pub behind-init : goal.behind-init
+behind-init g c =
+    let few = few_actors c.args.self.now c.kept.ensures.player in (
+      numbers_passed c.args.self.now c.ahead.self (from_place c.args.place (are_live c.args.self.now)) [] c.live_at-first.result 0 c.next_free-at-2.result c.next_free-at-2.ensures.ahead
+          (turns c.args.self.now c.ahead.self (from_place c.args.place (are_live c.args.self.now)) c.ahead.at c.live_at-first.result (omega (arith, few, c.ahead-test.false)) c.ahead.invariant.0) c.next_free-at-2.ensures.passed,
+      c.next_free-at-2.ensures.live,
+      c.ahead.invariant.2,
+      c.ahead.invariant.3,
     )
 
-pub actors-preserved-then-is_blocked : goal.actors-preserved-then-is_blocked
-actors-preserved-then-is_blocked g c =
-    let at = next_is c.args.self.now c.actors.self c.args.place c.actors.step c.place_on.result c.args.live c.live_at-actor.result c.actors.invariant.0 c.requires.live c.place_on.ensures.place c.live_at-actor.ensures in (
-      one_more_passed c.args.self.now c.actors.self (from_place c.args.place (are_live c.args.self.now)) c.actors.step c.live_at-actor.result _ c.actors.invariant.0 at
-          (blocked_now c.actors.self c.self.inside.hands c.live_at-actor.result c.self.view_is (c.is_blocked.ensures c.if-is_blocked.true)) refl,
-      c.actors.invariant.1,
-      c.actors.invariant.2,
-    )
+pub returns-then-not-waits_at-2-clause-picked : goal.returns-then-not-waits_at-2-clause-picked
+returns-then-not-waits_at-2-clause-picked g c = number_moves c.args.self.now c.behind.self (from_place c.args.place (are_live c.args.self.now)) [] c.live_at-first.result c.waits_at-in-behind.new.self c.behind.at c.waits_at-in-behind.ensures.picked.picked c.behind.invariant.0 (omega (arith, c.behind-test.true)) (c.behind.invariant.1 (let few = first_low c.args.self.now c.args.place c.live_at-first.result c.kept.ensures.player c.live_at-first.ensures in omega (arith, few, c.behind-test.true))) c.waits_at-in-behind.ensures.picked.picks (c.waits_at-in-behind.ensures.picked.waits_so ∙ c.if-not-waits_at-2.true)
 
-pub returns-then-not-has_waited-clause-picked : goal.returns-then-not-has_waited-clause-picked
-returns-then-not-has_waited-clause-picked g c =
-    let at = next_is c.args.self.now c.actors.self c.args.place c.actors.step c.place_on.result c.args.live c.live_at-actor.result c.actors.invariant.0 c.requires.live c.place_on.ensures.place c.live_at-actor.ensures in
-    one_moves c.args.self.now c.actors.self c.pick-picked.new.self (from_place c.args.place (are_live c.args.self.now)) c.actors.step c.live_at-actor.result (picked_of c.pick-picked.result) c.actors.invariant.0 at c.pick-picked.ensures.picked (sym c.has_waited.ensures ∙ c.if-not-has_waited.true)
+pub returns-then-not-waits_at-2-clause-plans : goal.returns-then-not-waits_at-2-clause-plans
+returns-then-not-waits_at-2-clause-plans g c plans have = c.waits_at-in-behind.ensures.plans plans (c.behind.invariant.3 plans have)
 
-pub returns-then-not-has_waited-clause-plans : goal.returns-then-not-has_waited-clause-plans
-returns-then-not-has_waited-clause-plans g c plans have = c.pick-picked.ensures.plans plans (c.actors.invariant.2 plans have)
+pub returns-then-not-waits_at-2-clause-fewer : goal.returns-then-not-waits_at-2-clause-fewer
+returns-then-not-waits_at-2-clause-fewer g c = moves_fewer c.args.self.now c.behind.self (from_place c.args.place (are_live c.args.self.now)) [] c.live_at-first.result c.waits_at-in-behind.new.self _ c.behind.invariant.0 (c.waits_at-in-behind.ensures.fewer c.if-not-waits_at-2.true (c.behind.invariant.1 (let few = first_low c.args.self.now c.args.place c.live_at-first.result c.kept.ensures.player c.live_at-first.ensures in omega (arith, few, c.behind-test.true))))
 
-pub returns-then-not-has_waited-clause-fewer : goal.returns-then-not-has_waited-clause-fewer
-returns-then-not-has_waited-clause-fewer g c = one_moves_fewer c.args.self.now c.actors.self c.pick-picked.new.self (from_place c.args.place (are_live c.args.self.now)) c.actors.step c.live_at-actor.result c.place_on.result c.actors.invariant.0 c.live_at-actor.ensures (c.pick-picked.ensures.fewer (sym c.has_waited.ensures ∙ c.if-not-has_waited.true))
+pub next_free-at-requires-in-behind : goal.next_free-at-requires-in-behind
+next_free-at-requires-in-behind g c = let few = first_low c.args.self.now c.args.place c.live_at-first.result c.kept.ensures.player c.live_at-first.ensures in record { low = omega (arith, few, c.behind-test.true) }
+
+pub behind-preserved : goal.behind-preserved
+behind-preserved g c = (
+  numbers_passed c.args.self.now c.waits_at-in-behind.new.self (from_place c.args.place (are_live c.args.self.now)) [] c.live_at-first.result (c.behind.at + 1) c.next_free-at-in-behind.result c.next_free-at-in-behind.ensures.ahead
+      (number_waits c.args.self.now c.behind.self (from_place c.args.place (are_live c.args.self.now)) [] c.live_at-first.result c.waits_at-in-behind.new.self c.behind.at c.waits_at-in-behind.ensures.picked.picked c.behind.invariant.0 (omega (arith, c.behind-test.true)) (c.behind.invariant.1 (let few = first_low c.args.self.now c.args.place c.live_at-first.result c.kept.ensures.player c.live_at-first.ensures in omega (arith, few, c.behind-test.true))) c.kept-in-behind.ensures.player c.waits_at-in-behind.ensures.rounds c.waits_at-in-behind.ensures.window.rounds c.waits_at-in-behind.ensures.picked.picks (c.waits_at-in-behind.ensures.picked.waits_so ∙ c.if-not-waits_at-2.false))
+      c.next_free-at-in-behind.ensures.passed,
+  c.next_free-at-in-behind.ensures.live,
+  same_window c.args.self.now.hub c.behind.self.hub c.waits_at-in-behind.new.self.hub c.behind.invariant.2 c.waits_at-in-behind.ensures.window,
+  λ plans have. c.waits_at-in-behind.ensures.plans plans (c.behind.invariant.3 plans have),
+)
 
 pub unreachable-requires : goal.unreachable-requires
-unreachable-requires g c = never_all c.args.self.now c.actors.self c.args.place c.actors.step c.actors.invariant.0 (omega (arith, c.requires.live, c.actors-test.false)) (omega (arith, c.requires.live, c.requires.place))
+unreachable-requires g c = never_through c.args.self.now c.behind.self c.args.place c.behind.at c.live_at-first.result (omega (arith, c.behind-test.false)) c.behind.invariant.0 (omega (arith, c.requires.live, c.requires.place))

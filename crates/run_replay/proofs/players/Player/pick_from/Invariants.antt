@@ -1,13 +1,28 @@
 use Rattle.hub_core.specs.HubCalls.{SameWindow}
-use Rattle.run_replay.proofs.Trying.{HaveWaited}
+use Rattle.run_replay.proofs.Numbers.{HaveTried, those}
 use Rattle.run_replay.proofs.players.Player.pick_from.Given as goal
-use Rattle.run_replay.specs.Players.{HavePlans, are_live}
+use Rattle.run_replay.specs.Players.{HavePlans, are_live, is_ended}
 use Rattle.run_replay.specs.Replays.{from_place}
-use Rattle.std.specs.Prelude.{ℕ}
+use Rattle.std.specs.Prelude.{[], false, length, ℕ, ◌++◌, ◌-◌, ◌<◌, ◌≡◌}
 
--- so many actors were picked, and all of them waited
-abbrev pub invariant-actors : goal.invariant-actors
-invariant-actors g l =
-    HaveWaited l.initial.self l.self (from_place l.place (are_live l.initial.self)) l.step
+abbrev pub decreases-ahead : goal.decreases-ahead
+decreases-ahead g l = 65 - l.at
+
+-- those that are left stand from this number on, and before the first one
+abbrev pub invariant-ahead : goal.invariant-ahead
+invariant-ahead g l =
+    HaveTried l.initial.self l.self (from_place l.place (are_live l.initial.self)) (those l.initial.self l.at (length l.initial.self.grips) ++ those l.initial.self 0 l.first)
+    × (l.at < 65 → is_ended l.self l.at ≡ false)
     × SameWindow l.initial.self.hub l.self.hub
     × ((plans : ℕ → _) → HavePlans g.D.Device.plan plans l.initial.self → HavePlans g.D.Device.plan plans l.self)
+
+abbrev pub decreases-behind : goal.decreases-behind
+decreases-behind g l = l.first - l.at
+
+-- those that are left stand from this number on, before the first one
+abbrev pub invariant-behind : goal.invariant-behind
+invariant-behind g l =
+    HaveTried l.fn.self l.self (from_place l.place (are_live l.fn.self)) (those l.fn.self l.at l.first ++ [])
+    × (l.at < 65 → is_ended l.self l.at ≡ false)
+    × SameWindow l.fn.self.hub l.self.hub
+    × ((plans : ℕ → _) → HavePlans g.D.Device.plan plans l.fn.self → HavePlans g.D.Device.plan plans l.self)
