@@ -18,8 +18,8 @@ each model, served first come first, and under the eventual model just in time, 
 
 Where callgrind is installed, it counts the instructions of a day of four such windows, and of its parts, in each mode;
 of such a day whose routines have 8 devices of their own each, under psv; and, under gsv and ev, just in time and by the
-timeline, of days with fewer runs a window and with fewer devices. With each goes how many picks found that their run
-must wait, for each step that moved one.
+timeline, of days with fewer runs a window and with fewer devices. With each goes how many instructions of all but reading
+there are for each entry of the day's history, by the lines of its trace.
 """
 import argparse
 import collections
@@ -38,8 +38,6 @@ SCHEDULERS = ["jit", "timeline"]
 CALLS = {
     "whole": r"hub_main::main\b",
     "day": r"hub_commands::replays::replay_(day|next)\b",
-    # the compiler may have put the replay of a window into its caller: then its picks are what is left of it
-    "picks": r"run_replay::(windows::replay_window|players::Player::pick|hands::Hands::pick)\b",
 }
 
 
@@ -98,18 +96,10 @@ def calls_in(path):
     return calls
 
 
-def calls_of(calls, name):
-    return sum(n for (_, callee), n in calls.items() if name in callee)
-
-
-def steps_in(path):
-    """The picks, and the steps that moved an actor: a device that comes home went out before; all else makes entries."""
-    calls = calls_in(path)
-    # the compiler may have put the pick of the hands into that of the player
-    picks = calls_of(calls, "Hands::pick") or calls_of(calls, "Player::pick")
-    home = sum(n for (_, callee), n in calls.items() if "free_back" in callee)
-    made = sum(n for (caller, callee), n in calls.items() if "free_made" in callee and "free_back" not in caller)
-    return picks, made + 2 * home
+def entries_of(program, mode, script):
+    """How many entries the histories of the day's windows have."""
+    told = subprocess.run([program, *words(mode), "--trace"], input=script, stdout=subprocess.PIPE, check=True).stdout
+    return sum(line.startswith(b"# ") for line in told.splitlines())
 
 
 def counted(program, name, mode, script):
@@ -119,15 +109,13 @@ def counted(program, name, mode, script):
                        input=script, stdout=subprocess.DEVNULL, stderr=subprocess.DEVNULL, check=True)
         lines = subprocess.run(["callgrind_annotate", "--inclusive=yes", "--threshold=100", out],
                                stdout=subprocess.PIPE, check=True).stdout.decode().splitlines()
-        picks, moved = steps_in(out)
-    whole, day, picked = (
+    whole, day = (
         next(int(line.split()[0].replace(",", "")) for line in lines if re.search(called, line))
         for called in CALLS.values()
     )
-    print(f"{name}, {mode}: {whole:,} instructions, {whole - day:,} for words and script, {day - picked:,} for the home,"
-          f" the draws and the record, {picked:,} for the picks; {picks:,} picks for {moved:,} steps that moved:"
-          f" {(picks - moved) / moved:.2f} tries a step, {picked // moved:,} instructions of picks a step,"
-          f" {day // moved:,} of all but reading", flush=True)
+    entries = entries_of(program, mode, script)
+    print(f"{name}, {mode}: {whole:,} instructions, {whole - day:,} for words and script, {day:,} for all else;"
+          f" {entries:,} entries, {day // entries:,} instructions of all but reading for each", flush=True)
 
 
 def program_asked(about):
