@@ -36,8 +36,9 @@ PROGRAM = os.path.join(HERE, "..", "crates", "hub_main", "out", "hub_main")
 MODES = ["gsv", "psv", "ev", "jit", "timeline"]
 SCHEDULERS = ["jit", "timeline"]
 CALLS = {
-    "whole": r"hub_main::main\b",
+    "whole": r"PROGRAM TOTALS",
     "day": r"hub_commands::replays::replay_(day|next)\b",
+    "picks": r"run_replay::players::Player::(pick|waits_at)\b",
 }
 
 
@@ -109,13 +110,14 @@ def counted(program, name, mode, script):
                        input=script, stdout=subprocess.DEVNULL, stderr=subprocess.DEVNULL, check=True)
         lines = subprocess.run(["callgrind_annotate", "--inclusive=yes", "--threshold=100", out],
                                stdout=subprocess.PIPE, check=True).stdout.decode().splitlines()
-    whole, day = (
+    whole, day, picked = (
         next(int(line.split()[0].replace(",", "")) for line in lines if re.search(called, line))
         for called in CALLS.values()
     )
     entries = entries_of(program, mode, script)
-    print(f"{name}, {mode}: {whole:,} instructions, {whole - day:,} for words and script, {day:,} for all else;"
-          f" {entries:,} entries, {day // entries:,} instructions of all but reading for each", flush=True)
+    print(f"{name}, {mode}: {whole:,} instructions, {whole - day:,} for words and script, {day - picked:,} for the home,"
+          f" the draws and the record, {picked:,} for the picks; {entries:,} entries, {picked // entries:,} instructions of picks"
+          f" for each, {day // entries:,} of all but reading", flush=True)
 
 
 def program_asked(about):
