@@ -9,7 +9,7 @@ one that it follows; its serial execution, which knows nothing of the hub, gives
 state of the home. Under the weak model: a read finds what the last write left, `Down` is answered where the device is
 down, and the home is as the last writes left it. Only just in time and by the timeline is a lease revoked: of a device
 that both runs use, for a run that was placed before and has its next command there, past the deadline that the plan
-gives. By the timeline each place is one where the run fits (timeline.py).
+gives. By the timeline each place is the one that the history gives (timeline.py).
 """
 from timeline import Timeline
 
@@ -138,7 +138,7 @@ def walked(window, home, model, scheduler):
                 expect(leader is None or leader in ended, "a run is placed before the one that it follows has ended")
                 placed[int(entry[1])] = last
                 if scheduler == "timeline":
-                    expect(timeline.is_place(int(entry[1]), int(entry[3]), last), "a run is placed where it does not fit, or too late")
+                    expect(timeline.is_place(int(entry[1]), int(entry[3]), last), "a run is placed elsewhere than the timeline says")
         elif kind == "did":
             r, command = window.command(entry[1])
             answer, place = window.answer(command, entry[2]), home[command["on"]]

@@ -71,7 +71,7 @@ class Day:
         draw = random.Random(f"{seed} {k}")
         self.name, self.draw = f"{seed}-{k}", draw
         self.model, self.scheduler = MODES[k % len(MODES)]
-        self.script = days.with_picks(draw, wide_day(draw) if draw.random() < 0.25 else days.day(draw))
+        self.script = days.with_picks(draw, wide_day(draw)) if draw.random() < 0.25 else days.day_for(draw, self.scheduler)
         self.is_spoiled, self.is_traced = draw.random() < 0.125, draw.random() < 0.75
         self.text = (days.spoiled(draw, self.script) if self.is_spoiled else json.dumps(self.script)).encode()
 

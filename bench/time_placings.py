@@ -1,22 +1,33 @@
 #!/usr/bin/env python3
-"""Counts what it costs to place a run by the timeline, in windows of 8, 16, 32 and 64 runs.
+"""Counts what it costs to place a run by the timeline, in windows of 8, 16, 32 and 64 runs, and what gaps it finds.
 
-    time_placings.py [PROGRAM]
+    time_placings.py [--counts | PROGRAM]
 
-PROGRAM is crates/hub_main/out/hub_main by default, which `rt run` builds. It wants callgrind. Three days of four windows
+PROGRAM is crates/hub_main/out/hub_main by default, which `rt run` builds. It wants callgrind. Four days of four windows
 are replayed, all drawn by dense_day.py:
 
 - dense: runs of 64 commands on 256 devices;
 - contended: runs of 64 commands, each run on 8 of 16 devices;
-- small: runs of 4 commands on 32 devices.
+- small: runs of 4 commands on 32 devices;
+- sparse: runs of 2 commands on 64 devices.
 
-In each the runs of a window arrive and are placed first, and then go on by the seed. Of each size it prints how many
-runs were placed in front of others, the instructions of a placing, of the whole day, and of the same day served first
-come first.
+In each the runs of a window arrive and are placed first, and then go on by the seed. Of each size it prints
+
+- how many runs were placed, how many of them in front of others, and for how many the line was rearranged, since the set that
+  stands before them is no first part of it;
+- rounds: the plans that the least set takes, the mean and the most;
+- exchanges of two neighbours that bring the set to the front, the mean and the most of a placing;
+- planned end: the mean over the runs, in ms, and what it would be by one place for all devices, on the same line; how many runs
+  end earlier than so, and how many later;
+- the instructions of a placing, of the whole day, and of the same day served first come first.
+
+With --counts nothing is replayed and no program is asked: what is placed before any run begins follows from the rules alone
+(timeline.py), and the last line is left out. With a program each place of its record is compared with that of the rules.
 """
 import json
 import os
 import re
+import statistics
 import subprocess
 import sys
 import tempfile
@@ -26,7 +37,7 @@ from time_replay import calls_in, program_asked
 from timeline import Timeline
 
 SIZES = [8, 16, 32, 64]
-DAYS = {"dense": (64, 256, 0), "contended": (64, 16, 8), "small": (4, 32, 0)}
+DAYS = {"dense": (64, 256, 0), "contended": (64, 16, 8), "small": (4, 32, 0), "sparse": (2, 64, 0)}
 # the compiler may have put a placing into its caller, and that one into its own
 PLACINGS = [
     r"timeline_scheduler::places::place\b",
@@ -66,41 +77,98 @@ def counted(program, scheduler, script):
     return whole, None
 
 
-def in_front(record, script):
-    """How many runs the record has placed, and how many in front of others."""
+def rosters(script):
     routines = {r["name"]: r["commands"] for r in script["routines"]}
-    placed = before = 0
-    windows = iter(script["windows"])
-    for line in record.splitlines():
-        if line.startswith("window "):
-            runs = [routines[run["routine"]] for run in next(windows)["runs"]]
-            timeline = Timeline(runs, [None] * len(runs))
-        elif line.startswith("# "):
-            entry = line[2:].split(" ")
-            if entry[0] == "placed":
-                placed += 1
-                before += int(entry[3]) < len(timeline.line)
+    return [[routines[run["routine"]] for run in window["runs"]] for window in script["windows"]]
+
+
+def placings_told(record):
+    """The entries of each window of a record up to its last placing."""
+    windows = [[line[2:].split(" ") for line in part.splitlines() if line.startswith("# ")] for part in record.split("\nwindow ")[1:]]
+    lasts = (max((k for k, entry in enumerate(entries) if entry[0] == "placed"), default=-1) for entries in windows)
+    return [entries[: last + 1] for entries, last in zip(windows, lasts)]
+
+
+class Found:
+    """What placings were, one after another."""
+
+    def __init__(self):
+        self.in_front, self.rounds, self.exchanges, self.ends, self.by_places = 0, [], [], [], []
+
+    def place(self, timeline, r, moment):
+        """Counts the placing that comes next in the timeline; its place."""
+        before, rounds = timeline.places_before(r, moment)
+        self.in_front += len(before) < len(timeline.line)
+        self.rounds.append(rounds)
+        self.exchanges.append(sum(place - k for k, place in enumerate(before)))
+        self.ends.append(last_end(timeline.plan(r, timeline.items(before), moment)))
+        self.by_places.append(last_end(timeline.plan_by_places(r, moment)))
+        return len(before)
+
+    def lines(self):
+        placed, pairs = len(self.rounds), list(zip(self.ends, self.by_places))
+        earlier, later = sum(end < other for end, other in pairs), sum(end > other for end, other in pairs)
+        yield f"{placed} placed, {self.in_front} in front of others, {sum(map(bool, self.exchanges))} where the line is rearranged"
+        yield f"rounds {mean_and_most(self.rounds)}; exchanges {mean_and_most(self.exchanges)}"
+        yield (f"planned end {statistics.fmean(self.ends):,.0f} ms, by one place {statistics.fmean(self.by_places):,.0f} ms:"
+               f" {earlier} earlier, {later} later")
+
+
+def last_end(plan):
+    return max((end for _, end in plan.values()), default=0)
+
+
+def mean_and_most(numbers):
+    return f"{statistics.fmean(numbers):.2f}, at most {max(numbers)}"
+
+
+def found_by_rules(script):
+    """The placings of windows whose runs are all placed at the moment 0."""
+    found = Found()
+    for runs in rosters(script):
+        timeline = Timeline(runs, [None] * len(runs))
+        for r in timeline.commands:
+            timeline.place(r, found.place(timeline, r, 0), 0)
+    return found
+
+
+def found_in(record, script):
+    """The placings that a record tells, each of which is where the rules have it."""
+    found = Found()
+    for runs, entries in zip(rosters(script), placings_told(record)):
+        timeline = Timeline(runs, [None] * len(runs))
+        for entry in entries:
+            if entry[0] == "placed" and found.place(timeline, int(entry[1]), int(entry[5])) != int(entry[3]):
+                sys.exit(f"the record has `{' '.join(entry)}`, and the rules another place")
             timeline.follow(entry)
-    return placed, before
+    return found
+
+
+def instructions(program, script, placed):
+    whole, placings = counted(program, "timeline", script)
+    first, _ = counted(program, "fcfs", script)
+    if placings:
+        spent, found, number = placings
+        each = f"{spent / max(number, 1):,.0f} instructions a placing ({number} calls of {found})"
+    else:
+        each = f"{(whole - first) / placed:,.0f} instructions a run more than first come first served"
+    return f"{each}; {whole:,} for the day, {first:,} of it served first come first"
 
 
 def main():
-    program = program_asked(__doc__)
+    counts_alone = sys.argv[1:] == ["--counts"]
+    program = None if counts_alone else program_asked(__doc__)
     for name, (commands, devices, own) in DAYS.items():
         for runs in SIZES:
             drawn = day(4, runs, commands, devices, own)
-            script = arriving_first(drawn)
-            record = subprocess.run([program, *words("timeline")], input=script, capture_output=True, text=True, check=True)
-            placed, before = in_front(record.stdout, drawn)
-            whole, placings = counted(program, "timeline", script)
-            first, _ = counted(program, "fcfs", script)
-            if placings:
-                spent, found, number = placings
-                each = f"{spent / max(number, 1):,.0f} instructions a placing ({number} calls of {found})"
+            if counts_alone:
+                lines = list(found_by_rules(drawn).lines())
             else:
-                each = f"{(whole - first) / placed:,.0f} instructions a run more than first come first served"
-            print(f"{name}, {runs} runs a window: {placed} placed, {before} of them in front of others; {each};"
-                  f" {whole:,} for the day, {first:,} of it served first come first", flush=True)
+                script = arriving_first(drawn)
+                record = subprocess.run([program, *words("timeline")], input=script, capture_output=True, text=True, check=True)
+                found = found_in(record.stdout, drawn)
+                lines = [*found.lines(), instructions(program, script, len(found.rounds))]
+            print(f"{name}, {runs} runs a window:", *lines, sep="\n  ", flush=True)
 
 
 if __name__ == "__main__":

@@ -1,8 +1,9 @@
 """The timeline of a window: its line and the planned times of its runs, followed along the history of a record.
 
-It is written from the rules alone. Times are in ms. A record does not tell who has a device out, so a place
-is judged by the answers: it must fit, and each earlier place that fits too, behind all that has answered on a device of
-the run, must stand before a run whose next command is on one of these, and may be out.
+It is written from the rules alone. Times are in ms. What stands before a run that is placed follows from the history, and hangs
+on nobody's grip, so of each placing one place is right.
+
+`plan_by_places` plans by one place in the line for all devices of a run, to see what sets of items gain.
 """
 ESTIMATE = 100
 GREATEST = 2**64 - 1
@@ -13,6 +14,7 @@ class Timeline:
 
     def __init__(self, runs, follows):
         self.commands = dict(enumerate(runs, 1))
+        self.uses = {r: used_by(commands) for r, commands in self.commands.items()}
         self.leaders = dict(enumerate(follows, 1))
         self.answers = {r: [] for r in self.commands}
         self.line, self.plans = [], {}
@@ -22,10 +24,7 @@ class Timeline:
         """Goes one entry further."""
         kind, first = entry[0], entry[1]
         if kind == "placed":
-            r, place, moment = int(first), int(entry[3]), int(entry[5])
-            self.plans[r] = self.plan(r, self.line[:place], moment)
-            self.line.insert(place, r)
-            self.live.add(r)
+            self.place(int(first), int(entry[3]), int(entry[5]))
         elif kind == "did":
             self.answers[int(first.split(".")[0])].append(entry[2])
         elif kind in ("fell", "rose"):
@@ -40,34 +39,44 @@ class Timeline:
             else:
                 self.line.remove(r)
 
+    def place(self, r, place, moment):
+        """The items that are to stand before the run come to the front; it is planned behind them."""
+        before, _ = self.places_before(r, moment)
+        self.plans[r] = self.plan(r, self.items(before), moment)
+        self.line = self.items(before) + self.items(set(range(len(self.line))) - set(before))
+        self.line.insert(place, r)
+        self.live.add(r)
+
+    def items(self, places):
+        return [self.line[k] for k in sorted(places)]
+
     # What a run does on a device
 
-    def done(self, r, device):
-        """The answers of the run's commands on the device."""
-        return [(c, a) for c, a in zip(self.commands[r], self.answers[r]) if c["on"] == device]
-
-    def on(self, r, device):
-        return [c for c in self.commands[r] if c["on"] == device]
+    def is_touched(self, r, device):
+        """Whether a command of the run on the device is answered."""
+        return device in self.uses[r] and self.uses[r][device][0] < len(self.answers[r])
 
     def is_open(self, r, device):
-        return len(self.done(r, device)) < len(self.on(r, device))
+        """Whether one is not."""
+        return device in self.uses[r] and self.uses[r][device][-1] >= len(self.answers[r])
 
     def writes(self, r, device):
-        return any(c["do"] in ("set", "store") for c in self.on(r, device))
+        return any(self.commands[r][c]["do"] in ("set", "store") for c in self.uses[r].get(device, []))
 
     def has_written(self, r, device):
-        return any(a == "." for _, a in self.done(r, device))
+        return any(self.answers[r][c] == "." for c in self.uses[r].get(device, []) if c < len(self.answers[r]))
 
     def reads_first(self, r, device):
-        return self.on(r, device)[0]["do"] in ("check", "load")
+        return self.commands[r][self.uses[r][device][0]]["do"] in ("check", "load")
 
-    def devices(self, r):
-        return {c["on"] for c in self.commands[r]}
+    def devices(self, item):
+        """The devices of a run's commands, or that of a failure or restart."""
+        return {item} if isinstance(item, str) else self.uses[item].keys()
 
     def event_place(self, device):
         """Before the first live run that is not doomed and has yet to touch the device."""
         for k, x in enumerate(self.line):
-            if x in self.live and x not in self.doomed and self.on(x, device) and not self.done(x, device):
+            if x in self.live and x not in self.doomed and device in self.uses[x] and not self.is_touched(x, device):
                 return k
         return len(self.line)
 
@@ -78,54 +87,99 @@ class Timeline:
         counted = [d for d in self.plans[x] if not any(self.has_written(y, d) for y in behind)]
         return max((self.plans[x][d][1] for d in counted), default=0)
 
-    def free(self, r, device, front):
-        """When the device is free for the run behind these items."""
-        ends = [0]
-        for x in front:
-            if x in self.live and x not in self.doomed and self.is_open(x, device):
-                ends.append(self.plans[x][device][1])
-            if x in self.live and self.reads_first(r, device) and self.writes(x, device):
-                ends.append(self.whole_end(x))
-        return max(ends)
+    def wait_for(self, free, r, x):
+        """Raises when the run's devices are free by what the item has of them."""
+        if x in self.live:
+            for device in free.keys() & self.uses[x].keys():
+                if x not in self.doomed and self.is_open(x, device):
+                    free[device] = max(free[device], self.plans[x][device][1])
+                if self.reads_first(r, device) and self.writes(x, device):
+                    free[device] = max(free[device], self.whole_end(x))
 
     def plan(self, r, front, moment):
         """From when and to when the run is to use each device, behind these items."""
+        free = dict.fromkeys(self.uses[r], 0)
+        for x in front:
+            self.wait_for(free, r, x)
+        return self.plan_from(r, free, moment)
+
+    def plan_from(self, r, free, moment):
         planned = {}
         for c in self.commands[r]:
-            start = max(moment, self.free(r, c["on"], front))
+            start = max(moment, free[c["on"]])
             moment = min(start + c.get("ms", ESTIMATE), GREATEST)
             planned[c["on"]] = (planned.get(c["on"], (start,))[0], moment)
         return planned
 
-    # Places
+    # What stands before a run, as places in the line
 
-    def fits(self, r, place, moment):
-        planned = self.plan(r, self.line[:place], moment)
-        for device, (_, end) in planned.items():
-            behind = [x for x in self.line[place:] if x in self.live and self.on(x, device)]
-            if behind and self.plans[behind[0]][device][0] < end:
-                return False
-        return True
-
-    def first_place(self, r):
-        """Behind all that must stand before the run by the answers, and behind what stands before the first live run."""
-        places = [next((k for k, x in enumerate(self.line) if x in self.live), len(self.line))]
-        for k, x in enumerate(self.line, 1):
+    def bound(self, r):
+        """What has been answered on a device of the run or may be next, is its leader, or stands before the first live run."""
+        own = self.devices(r)
+        places = set(range(next((k for k, x in enumerate(self.line) if x in self.live), len(self.line))))
+        for k, x in enumerate(self.line):
             if isinstance(x, str):
-                binds = x in self.devices(r)
+                is_bound = x in own
             else:
-                binds = any(self.done(x, d) for d in self.devices(r)) or (x == self.leaders[r] and x in self.committed)
-            places += [k] if binds else []
-        return max(places)
+                is_leader = x == self.leaders[r] and x in self.committed
+                is_bound = is_leader or self.may_touch(x, own) or any(self.is_touched(x, d) for d in own)
+            places |= {k} if is_bound else set()
+        return places
 
     def may_touch(self, x, devices):
-        """Whether the next command of a live run is on one of the devices, which it may have out."""
-        return x in self.live and any(c["on"] in devices for c in self.commands[x][len(self.answers[x]):][:1])
+        """Whether the next command of a live run is on one of the devices."""
+        following = self.commands[x][len(self.answers[x]) :][:1]
+        return x in self.live and any(c["on"] in devices for c in following)
+
+    def closed(self, places):
+        """These places, and with each those of the items before it that share a device with it, or are its leader or follower."""
+        taken, used, runs, leaders = set(), set(), set(), set()
+        for k, item in reversed(list(enumerate(self.line))):
+            if k in places or used & self.devices(item) or item in leaders or self.leaders.get(item) in runs:
+                taken.add(k)
+                used |= self.devices(item)
+                runs.add(item)
+                leaders.add(self.leaders.get(item))
+        return taken
+
+    def places_before(self, r, moment):
+        """The places of the items that the timeline puts before the run, and how many plans that took."""
+        taken, plans = self.closed(self.bound(r)), 0
+        while True:
+            plans += 1
+            planned = self.plan(r, self.items(taken), moment)
+            early = {k for k, x in enumerate(self.line) if k not in taken and x in self.live and self.begins_within(x, planned)}
+            if not early:
+                return sorted(taken), plans
+            taken = self.closed(taken | early)
+
+    def begins_within(self, x, planned):
+        """Whether the run is planned to begin on a device before it is free of what is planned so."""
+        return any(self.plans[x][d][0] < end for d, (_, end) in planned.items() if d in self.plans[x])
 
     def is_place(self, r, place, moment):
         """Whether the run may have been placed there at this moment."""
-        first = self.first_place(r)
-        if not first <= place <= len(self.line) or not self.fits(r, place, moment):
-            return False
-        earlier = [k for k in range(first, place) if self.fits(r, k, moment)]
-        return all(any(self.may_touch(x, self.devices(r)) for x in self.line[k:place]) for k in earlier)
+        return place == len(self.places_before(r, moment)[0])
+
+    # One place for all devices
+
+    def plan_by_places(self, r, moment):
+        """The plan behind the first place that fits, from what has to stand before the run on: so one gap serves all its devices."""
+        free, first = dict.fromkeys(self.uses[r], 0), max(self.bound(r), default=-1) + 1
+        for place in range(len(self.line) + 1):
+            planned = self.plan_from(r, free, moment)
+            if place >= first and all(self.first_start(d, self.line[place:]) >= end for d, (_, end) in planned.items()):
+                return planned
+            self.wait_for(free, r, self.line[place])
+
+    def first_start(self, device, items):
+        """When the first live run among the items that uses the device is planned to begin there."""
+        return next((self.plans[x][device][0] for x in items if x in self.live and device in self.uses[x]), GREATEST)
+
+
+def used_by(commands):
+    """The numbers of the commands on each device."""
+    used = {}
+    for number, command in enumerate(commands):
+        used.setdefault(command["on"], []).append(number)
+    return used

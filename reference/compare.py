@@ -141,7 +141,7 @@ def calls_of(draw, k):
     """The words, the input, the file or none, and the script, where it can be shortened, of each call for the day."""
     model, scheduler = MODES[k % len(MODES)]
     words = ["replay", "--trace", "--model", model, "--scheduler", scheduler]
-    script = days.with_picks(draw, days.day(draw))
+    script = days.day_for(draw, scheduler)
     if k % 4 == 3:
         yield words, days.spoiled(draw, script).encode(), None, None
         return

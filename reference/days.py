@@ -77,6 +77,53 @@ def day(draw):
     return {"safehome": 1, "devices": devices, "routines": routines, "windows": windows}
 
 
+def day_for(draw, scheduler):
+    """A small day with turns and times; half of those for the timeline are such as it rearranges its line for."""
+    return gap_day(draw) if scheduler == "timeline" and draw.random() < 0.5 else with_picks(draw, day(draw))
+
+
+def gap_command(draw, device):
+    """A command with an estimate, which it does not keep as a rule."""
+    made = {"on": device["name"], "do": draw.choice(["set", "set", "set", "store", "load", "check"])}
+    if made["do"] in ("set", "check"):
+        made["to"] = draw.choice(values(device))
+    if draw.random() < 0.3:
+        made["must"] = False
+    made["ms"] = draw.choice([0, 20, 100, 100, 500, 2000])
+    if draw.random() < 0.6:
+        made["takes"] = draw.choice([0, 10, 100, 300])
+    return made
+
+
+def gap_turns(draw, actors):
+    """Most runs come before the others have gone far."""
+    turns = []
+    for actor in range(1, actors + 1):
+        turns += [actor, actor]
+        if draw.random() < 0.4:
+            turns += [draw.randint(0, actors) for _ in range(draw.randint(1, 5))]
+    return turns + [draw.randint(0, actors) for _ in range(draw.choice([0, 10, 40]))]
+
+
+def gap_day(draw, windows=1):
+    """A day of many small runs with estimates of all lengths, so that the timeline often rearranges its line for one."""
+    devices = [device(draw, d) for d in range(draw.randint(3, 6))]
+    for made in devices:
+        if draw.random() < 0.5:
+            made.pop("down", None)
+    routines = []
+    for r in range(draw.randint(4, 7)):
+        used = draw.sample(devices, draw.choice([1, 2, 2, 2, 3]))
+        used += [draw.choice(devices)] if draw.random() < 0.2 else []
+        routines.append({"name": f"r{r}", "commands": [gap_command(draw, on) for on in used]})
+    made = []
+    for k in range(windows):
+        runs = [run(draw, routines, before) for before in range(draw.randint(4, 8))]
+        made.append({"at": f"2021-04-26T07:0{k}:00", "seed": draw.getrandbits(32), "probes": draw.choice([0, 1, 2]),
+                     "turns": gap_turns(draw, len(runs)), "runs": runs})
+    return {"safehome": 1, "devices": devices, "routines": routines, "windows": made}
+
+
 def room_run(draw, routines, before):
     """A run that follows, if any, one of its own room, but for few."""
     made = run(draw, routines, 0)

@@ -6,6 +6,7 @@ from collections import Counter
 from dataclasses import dataclass
 from typing import NamedTuple
 
+from reference.gaps import Gap
 from reference.serial import DOWN, FINE, Back, Failed, Ran
 
 MOST = 2**64 - 1  # the greatest moment; sums stay at it
@@ -162,20 +163,21 @@ class History:
         ends = [end for device, (_, end) in self.plans[run].items() if not any(device in self.wrote[x] for x in committed)]
         return max(ends, default=0)
 
-    def free(self, run, device, place):
-        """From when on the device is free for a run at this place. Only the timeline heeds it."""
+    def free(self, run, device, items):
+        """From when on the device is free for a run behind these items. Only the timeline heeds it."""
         if self.mode.scheduler != "timeline":
             return 0
         times = [0]
-        for before in self.runs_of(self.line[:place]):
+        for before in self.runs_of(items):
             if self.is_open(before, device):
                 times.append(self.plans[before][device][1])
             if device in self.runs[run].reads_first and device in self.runs[before].writes:
                 times.append(self.whole_end(before))
         return max(times)
 
-    def planned_times(self, run, place, moment):
-        frees = {device: self.free(run, device, place) for device in self.runs[run].footprint}
+    def planned_times(self, run, items, moment):
+        """The planned start and end of the run on each of its devices, behind these items."""
+        frees = {device: self.free(run, device, items) for device in self.runs[run].footprint}
         plan, time = {}, moment
         for command in self.runs[run].commands:
             start = max(time, frees[command.device])
@@ -190,9 +192,7 @@ class History:
             case Arrived(run, moment):
                 self.arrived[run] = moment
             case Placed(run, place, moment):
-                self.plans[run] = self.planned_times(run, place, moment)
-                self.placed[run] = len(self.placed)
-                self.line.insert(place, Ran(run))
+                self.add_run(run, place, moment)
             case Did(run, c, answer):
                 self.add_answer(run, self.runs[run].commands[c], answer)
             case Undid(run, device, _):
@@ -210,6 +210,17 @@ class History:
                 if cause is not None:
                     self.line.remove(Ran(run))
         self.entries.append(entry)
+
+    def add_run(self, run, place, moment):
+        """The timeline first divides the line: what stands before the run, and what behind it."""
+        items, behind = self.line, []
+        if self.mode.scheduler == "timeline":
+            gap = Gap(self, run, moment)
+            items, behind = gap.before, gap.behind
+        self.plans[run] = self.planned_times(run, items, moment)
+        self.placed[run] = len(self.placed)
+        self.line = items + behind
+        self.line.insert(place, Ran(run))
 
     def add_answer(self, run, command, answer):
         self.answers[run].append(answer)

@@ -5,6 +5,7 @@ It keeps the history, as it is, and the grips that are out. All else it reads of
 from dataclasses import dataclass
 
 from reference.devices import Drive, Grip, Probe, Sense, Slip
+from reference.gaps import Gap
 from reference.history import (MOST, Arrived, Did, Doomed, DownAtEnd, Ended, Fell, History, Lost, MustDown, Placed, Refuted,
                                Revoked, Rose, Undid)
 from reference.serial import DOWN, FINE, Ran, Stand
@@ -156,23 +157,14 @@ class Hub:
                     return Denied(device, writer)
         return None
 
-    def fits(self, run, place, moment):
-        """Whether the run is planned to be done with each device before the first run behind the place begins there."""
-        behind = self.history.runs_of(self.history.line[place:])
-        for device, (_, end) in self.history.planned_times(run, place, moment).items():
-            starts = (self.history.plans[x][device][0] for x in behind if device in self.history.plans[x])
-            if next(starts, MOST) < end:
-                return False
-        return True
-
     def scheduled_place(self, run, moment):
         """The place that the scheduler gives the run, or why it is denied."""
         end = len(self.history.line)
         if self.mode.scheduler == "fcfs":
             return end
-        first = self.first_place(run)
         if self.mode.scheduler == "timeline":
-            return next(place for place in range(first, end + 1) if self.fits(run, place, moment))
+            return len(Gap(self.history, run, moment).before)
+        first = self.first_place(run)
         denied = self.denial(run, first)
         if denied is None:
             return first

@@ -3,10 +3,11 @@
 
     python3 tools/check_viewer.py [--days N] [--seed S] [--sample N] [--pictures FOLDER]
 
-Draws days (1000 of the seed 1), replays each by the reference in one mode after the other, and makes its picture and its page,
-with and without the record's trace. Of each page its data is asked: each line of the record stands in it, in its place; what is
-told of an entry is what the line's own words say; what holds between two entries is what is found anew there for each run and
-device; the line as it grew ends as the order; without the trace the same is told.
+Draws days (1000 of the seed 1), replays each by the reference in one mode after the other, and a tenth as many more by the
+timeline, for which it rearranges its line; and makes the picture and the page of each, with and without the record's trace. Of each
+page its data is asked: each line of the record stands in it, in its place; what is told of an entry is what the line's own words
+say; what holds between two entries is what is found anew there for each run and device; the line as it grew ends as the order;
+without the trace the same is told.
 
 Then in a headless Chromium: three days, one of them with 64 runs on 256 devices, wide and narrow, light and dark, and a sample of
 the drawn ones (20). Asked is that nothing is thrown, asked of the network or wider than the page; that no two texts overlap; that
@@ -213,6 +214,11 @@ def check_window(block: Facts, script: Facts, window: Facts, counts: Counts) -> 
         facts, _ = entry_facts(entry["line"], script, window)
         need(facts.items() <= entry.items(), facts, entry)
         counts["entries told as their lines say"] += 1
+        if "first" in entry:
+            first = entry["first"]
+            need(first == sorted(first) and len(first) == entry["into"] and entry["kind"] == "placed", entry)
+            line = [line[place] for place in first] + [item for place, item in enumerate(line) if place not in first]
+            counts["placings that rearrange the line"] += 1
         if "into" in entry:
             name = script["devices"][entry["device"]]["name"] if "device" in entry else ""
             items = {"placed": entry.get("run"), "fell": f"fail({name})", "rose": f"back({name})"}
@@ -275,11 +281,15 @@ def state_of(again: Retelling, run: int) -> Facts:
 
 
 def drawn(count: int, seed: int) -> Iterator[tuple[Facts, Script, Mode]]:
-    """Days that are drawn: the script, its text, and the mode."""
+    """Days that are drawn: the script, its text, and the mode. Behind them come a tenth as many for which the timeline often
+    rearranges its line."""
     draw = random.Random(seed)
     for k in range(count):
         script = days.with_picks(draw, days.day(draw))
         yield script, read_script(json.dumps(script).encode()), Mode(*MODES[k % len(MODES)])
+    for _ in range(count // 10):
+        script = days.gap_day(draw)
+        yield script, read_script(json.dumps(script).encode()), Mode("ev", "timeline")
 
 
 def check_drawn(count: int, seed: int, sample: int, counts: Counts) -> list[tuple[Facts, str, str]]:

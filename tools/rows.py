@@ -13,10 +13,12 @@ import subprocess
 import sys
 
 CRATE = pathlib.Path(__file__).resolve().parent.parent / "crates" / "worked_windows"
+# what a window of the timeline unfolds; the others need the last one alone
+UNFOLDED = ["chosen", "closure", "either_of", "gap_set", "others", "split_of"]
 HEAD = """-- The rows of {window}, one by one.
 use Rattle.std.specs.Prelude.{{drop, map, take}}
 use Rattle.worked_windows.proofs.Tables.{{clauses_hold, gives_along}}
-use Rattle.worked_windows.proofs.Words.{{points_from, refl, split_of, true, words_along, ◌≡◌}}
+use Rattle.worked_windows.proofs.Words.{{{unfolded}, points_from, refl, true, words_along, ◌≡◌}}
 use Rattle.worked_windows.proofs.{window}.{{history, table, window}}
 """
 POINT = "words_along window history (take 1 (drop {k} table.rows)) ≡ take 1 (drop {k} (points_from table.first table.rows))"
@@ -43,9 +45,9 @@ def main():
     text = (CRATE / "proofs" / f"{window}.antt").read_text()
     added, modules = CRATE / "proofs" / f"{window}Rows.antt", CRATE / "proofs" / "Lib.antt"
     kept = modules.read_text()
-    proved = [f"\n{name} : {says}\nunfolding split_of\n{name} = refl\n" for name, says in lemmas(text)]
+    proved = [f"\n{name} : {says}\nunfolding {' '.join(UNFOLDED)}\n{name} = refl\n" for name, says in lemmas(text)]
     try:
-        added.write_text(HEAD.format(window=window) + "".join(proved))
+        added.write_text(HEAD.format(window=window, unfolded=", ".join(UNFOLDED)) + "".join(proved))
         modules.write_text(kept + f"pub mod {added.stem}\n")
         told = subprocess.run(["rt", "check"], cwd=CRATE, capture_output=True, text=True)
     finally:

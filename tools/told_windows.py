@@ -95,13 +95,17 @@ class HistoryTeller:
     # The entry.
 
     def turn(self) -> Facts:
-        """Where the entry puts something into the line, or takes it out."""
+        """Where the entry puts something into the line, or takes it out; `first` has the places of the items that a placing brings
+        to the front, in their order, where it rearranges the line."""
         before, self.line = self.line, list(self.history.line)
+        if len(self.line) < len(before):
+            return {"outOf": next(place for place, item in enumerate(before) if item not in self.line)}
         if len(self.line) == len(before):
             return {}
-        longer, shorter = (self.line, before) if len(self.line) > len(before) else (before, self.line)
-        place = next((k for k, item in enumerate(shorter) if item != longer[k]), len(shorter))
-        return {"into" if longer is self.line else "outOf": place}
+        into = next(place for place, item in enumerate(self.line) if item not in before)
+        first = [before.index(item) for item in self.line[:into]]
+        is_as_before = [*self.line[:into], *self.line[into + 1 :]] == before
+        return {"into": into} if is_as_before else {"into": into, "first": first}
 
     def facts(self, entry: Entry) -> Facts:
         match entry:

@@ -55,12 +55,20 @@ class GrowingLine {
     if (entry.outOf !== undefined) this.changes.push({ step, outOf: entry.outOf });
     if (entry.into === undefined) return;
     const item = entry.kind === "placed" ? { run: entry.run } : { event: entry.kind, device: entry.device };
-    this.changes.push({ step, into: entry.into, item });
+    this.changes.push({ step, into: entry.into, first: entry.first, item });
   }
 
   static apply(change, line) {
+    if (change.first) GrowingLine.rearrange(change.first, line);
     if (change.item) line.splice(change.into, 0, change.item);
     else line.splice(change.outOf, 1);
+  }
+
+  /** The items at these places come to the front, in their order. */
+  static rearrange(first, line) {
+    const chosen = new Set(first);
+    const others = line.filter((_, place) => !chosen.has(place));
+    line.splice(0, line.length, ...first.map((place) => line[place]), ...others);
   }
 
   at(step) {

@@ -19,7 +19,7 @@ const MODEL_NOTES = {
 const SCHEDULER_NOTES = {
   fcfs: "A run is placed at the end of the line.",
   jit: "A run is placed as far in front as it may stand, and has the devices of those behind it on lease.",
-  timeline: "A run is placed where its planned times fit first, and has the devices of those behind it on lease.",
+  timeline: "A run comes into gaps that its planned times fit, behind as few as may be, and has the devices of those behind it on lease.",
 };
 
 function milliseconds(count) {
@@ -113,7 +113,18 @@ class Words {
 
   placed(entry, step) {
     const place = `the ${ordinal(entry.into + 1)}: ${this.neighbours(entry.into, step)}`;
-    return `${this.run(entry.run)} gets its place in the line, ${place}.`;
+    return `${this.run(entry.run)} gets its place in the line, ${place}.${this.passed(entry, step)}`;
+  }
+
+  /** Which items come past which, where the placing rearranges the line. */
+  passed(entry, step) {
+    if (!entry.first) return "";
+    const line = this.window.line.at(step - 1);
+    const outside = line.map((_, place) => place).filter((place) => !entry.first.includes(place));
+    const forward = entry.first.filter((place) => outside[0] < place);
+    const behind = outside.filter((place) => place < forward[forward.length - 1]);
+    const named = (places) => (places.length > 4 ? counted(places.length, "item") : listed(places.map((place) => this.item(line[place]))));
+    return ` For it ${named(forward)} ${forward.length > 1 ? "come" : "comes"} past ${named(behind)}, with no device in common.`;
   }
 
   did(entry, step) {

@@ -5,3 +5,9 @@ pub mod FirstUses
 pub mod FootprintBits
 pub mod Sharing
 pub mod Indexes
+pub mod ClosedParts
+pub mod ClosedSwaps
+pub mod ClosedLeasts
+pub mod Meeting
+pub mod ClosedBrought
+pub mod ClosedMoved

@@ -9,6 +9,10 @@ use Rattle.std.proofs.lemmas.Option.{slice_get-map}
 pub commands_at : (roster : Roster) (i : ℕ) (run : RosterRun) → slice_get roster.runs.items i ≡ Some run → commands_of (runs_of roster) (suc i) ≡ run.routine.commands.items
 commands_at roster i run found = rw (slice_get-map plain_run roster.runs.items i, found) refl
 
+-- .. and follows that run
+pub leader_at : (roster : Roster) (i : ℕ) (run : RosterRun) → slice_get roster.runs.items i ≡ Some run → followed_by (runs_of roster) (suc i) ≡ run.follows
+leader_at roster i run found = rw (slice_get-map plain_run roster.runs.items i, found) refl
+
 -- the run with the number r stands at the place before r
 pub commands_of-run : (roster : Roster) (r : ℕ) (run : RosterRun) → IsTrue (is_run (runs_of roster) r) → slice_get roster.runs.items (r - 1) ≡ Some run → commands_of (runs_of roster) r ≡ run.routine.commands.items
 commands_of-run roster zero run there at = cc

@@ -25,7 +25,7 @@ shared (c ∷ cs) others d here there = at (λ rest. shared cs others d rest the
         or_right (list_any (is_on c.device.0) others) (list_any (λ (e : Command). list_any (is_on e.device.0) others) cs) (later rest)
 
 -- .. is found
-found : (cs others : List Command) → list_any (λ (c : Command). list_any (is_on c.device.0) others) cs ≡ true → (d : ℕ) × (list_any (is_on d) cs ≡ true) × (list_any (is_on d) others ≡ true)
+pub found : (cs others : List Command) → list_any (λ (c : Command). list_any (is_on c.device.0) others) cs ≡ true → (d : ℕ) × (list_any (is_on d) cs ≡ true) × (list_any (is_on d) others ≡ true)
 found [] others any = absurd (grind (arith, common_steps))
 found (c ∷ cs) others any = at (λ rest. found cs others rest) (list_any (is_on c.device.0) others) refl
   where

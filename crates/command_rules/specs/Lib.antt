@@ -3,3 +3,5 @@ pub mod Searches
 pub mod Rosters
 pub mod Serial
 pub mod Footprints
+pub mod ClosedSets
+pub mod Apart

@@ -43,6 +43,7 @@ pub fn fell(
     ensures marks { line.new.marks ≡ with_item (event_place book.now.items first (accesses_at table.old d.0) line.old.marks) (Failed d n) line.old.marks }
     ensures spare { line.new.spare + 1 ≡ line.old.spare }
     ensures sealed { line.new.sealed ≡ line.old.sealed }
+    ensures kept { line.new.runs ≡ line.old.runs }
     ensures table { table.new ≡ with_lineage table.old d.0 (counted_up false) }
     ensures lost { result ≡ lost_run book.now.items (accesses_at table.old d.0) }
     ensures placed { IsEventOf table.old line.old.marks book.now.items first d (Failed d n) line.new.marks }
@@ -74,6 +75,7 @@ pub fn rose(line: &mut Line, table: &mut Table, book: &Book, d: DeviceNo, n: u32
     ensures marks { line.new.marks ≡ with_item (event_place book.now.items None (accesses_at table.old d.0) line.old.marks) (Back d n) line.old.marks }
     ensures spare { line.new.spare + 1 ≡ line.old.spare }
     ensures sealed { line.new.sealed ≡ line.old.sealed }
+    ensures kept { line.new.runs ≡ line.old.runs }
     ensures table { table.new ≡ with_lineage table.old d.0 (counted_up true) }
     ensures placed { IsEventOf table.old line.old.marks book.now.items None d (Back d n) line.new.marks }
 {

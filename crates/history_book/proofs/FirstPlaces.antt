@@ -12,7 +12,7 @@ use Rattle.std.proofs.lemmas.Grind.{common_steps, get_or-set_at}
 use Rattle.std.proofs.lemmas.List.{get_or-set_other}
 use Rattle.std.specs.List.{position, position_or_len}
 use Rattle.std.specs.Option.{option_and_then, option_or}
-use Rattle.std.specs.Prelude.{Bool, List, None, Option, Some, [], false, if◌then◌else◌, is_none, is_some, length, nat_lt, option_map, replicate, slice_index_or, slice_set, suc, true, zero, ℕ, ◌&&◌, ◌++◌, ◌+◌, ◌<◌, ◌==◌, ◌∷◌, ◌≡◌, ◌≢◌}
+use Rattle.std.specs.Prelude.{Bool, List, None, Option, Some, [], false, if◌then◌else◌, is_none, is_some, length, nat_lt, option_map, replicate, slice_index_or, slice_set, suc, true, zero, ℕ, ◌&&◌, ◌++◌, ◌+◌, ◌-◌, ◌<◌, ◌==◌, ◌∷◌, ◌≡◌, ◌≢◌}
 
 pub position_cons : {A : Type 0} (p : A → Bool) (x : A) (xs : List A) → position p (x ∷ xs) ≡ (if p x then Some 0 else option_map (λ k. k + 1) (position p xs))
 position_cons p x xs = by_cases (p x) refl
@@ -24,6 +24,10 @@ position_cons p x xs = by_cases (p x) refl
     by_cases : (b : Bool) → p x ≡ b → position p (x ∷ xs) ≡ (if b then Some 0 else option_map (λ k. k + 1) (position p xs))
     by_cases true e = rw e (grind (arith, common_steps))
     by_cases false e = rw e (further (nat_lt (position_or_len p xs) (length xs)) refl)
+
+-- the place of an item that was put at the end
+pub place_before : {A : Type 0} (xs ys : List A) (y : A) (n : ℕ) → ys ≡ xs ++ y ∷ [] → n ≡ length ys → n - 1 ≡ length xs
+place_before xs ys y n more long = let all : length ys ≡ length xs + 1 = rw more (grind (arith, common_steps)) in omega (arith, long, all)
 
 -- with one more item the first place is that of before, and else the new one
 position_more : {A : Type 0} (p : A → Bool) (xs : List A) (y : A) → position p (xs ++ y ∷ []) ≡ option_or (position p xs) (if p y then Some (length xs) else None)

@@ -7,9 +7,13 @@ pub mod Standing
 pub mod Shapes
 pub mod Counts
 pub mod Once
+pub mod OwnItems
 pub mod Searches
 pub mod Logs
 pub mod FirstTold
 pub mod FirstPlaces
+pub mod AnswerCounts
 pub mod Told
+pub mod Followers
+pub mod GapFronts
 pub mod Sealed

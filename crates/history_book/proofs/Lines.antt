@@ -8,7 +8,7 @@ use Rattle.std.proofs.lemmas.Grind.{common_steps}
 use Rattle.std.proofs.lemmas.List.{take-append-drop}
 use Rattle.std.proofs.lemmas.List.Folds.{list_any-append}
 use Rattle.std.specs.List.{list_any}
-use Rattle.std.specs.Prelude.{Bool, List, [], drop, false, filter, if◌then◌else◌, not, take, true, ℕ, ◌++◌, ◌||◌, ◌∷◌, ◌≡◌, ◌≢◌}
+use Rattle.std.specs.Prelude.{Bool, List, [], drop, false, filter, if◌then◌else◌, not, suc, take, true, ℕ, ◌++◌, ◌+◌, ◌||◌, ◌∷◌, ◌≡◌, ◌≢◌}
 
 pub any_put_before : (p t : Item → Bool) (x : Item) (line : List Item) → list_any p (put_before t x line) ≡ (p x || list_any p line)
 any_put_before p t x [] = refl
@@ -40,6 +40,10 @@ any_other r q (i ∷ is) other = elim (is_ran q i) as (λ b. is_ran q i ≡ b �
 ] refl
 
 -- a list in two parts
+
+-- one item more
+pub take_next : {A : Type 0} (k : ℕ) (x : A) (xs : List A) → take (k + 1) (x ∷ xs) ≡ x ∷ take k xs
+take_next k x xs = let next : k + 1 ≡ suc k = omega arith in ap (λ n. take n (x ∷ xs)) next
 
 pub any_parted : {A : Type 0} (p : A → Bool) (k : ℕ) (xs : List A) → list_any p xs ≡ (list_any p (take k xs) || list_any p (drop k xs))
 any_parted p k xs = ap (list_any p) (sym (take-append-drop k xs)) ∙ list_any-append p (take k xs) (drop k xs)

@@ -7,7 +7,8 @@ use Rattle.history_book.proofs.Splits.{split_count}
 use Rattle.history_book.proofs.Standing.{is_abort, stands_in}
 use Rattle.history_book.specs.Histories.{entry, reading, with_turn}
 use Rattle.history_book.specs.Lines.{Split, put_before, without}
-use Rattle.history_book.specs.Plans.{planned_times, split_of}
+use Rattle.history_book.specs.Gaps.{front_for, split_of}
+use Rattle.history_book.specs.Plans.{planned_times}
 use Rattle.history_book.specs.Readings.{OfRun, Reading, did, is_open, nothing_read, put}
 use Rattle.history_book.specs.Settings.{Setting, is_weak}
 use Rattle.history_book.specs.WellFormed.{IsWellFormed, along, may_follow}
@@ -91,7 +92,7 @@ placed_once w n r at m fresh going s q =
     split = split_of w n r.0 at m
 
     new : OfRun
-    new = record (n.run r.0) { placed = Some (record { place = at; moment = m; stamp = n.size }); planned = planned_times w n r.0 split.front m }
+    new = record (n.run r.0) { placed = Some (record { place = at; moment = m; stamp = n.size }); planned = planned_times w n r.0 (front_for w n r.0 at m) m }
 
     clean : (e : Option End) → is_none e ≡ true → unwrap_or (option_map is_abort e) false ≡ false
     clean None none = refl

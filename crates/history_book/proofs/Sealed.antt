@@ -1,12 +1,16 @@
 -- The items before the first live run stay as they are, and do not become fewer, with one entry more; and so along a history.
 use Rattle.command_rules.specs.Items.{is_ran, of_run}
 use Rattle.command_rules.specs.Rosters.{is_run}
+use Rattle.history_book.proofs.GapFronts.{line_front}
+use Rattle.history_book.proofs.Lines.{take_next}
 use Rattle.history_book.proofs.Shapes.{put_all}
 use Rattle.history_book.proofs.Snoc.{along_on, put_keeps, reading_on}
+use Rattle.history_book.proofs.Splits.{line_length}
 use Rattle.history_book.proofs.Standing.{Standing, standing, standing_step}
+use Rattle.history_book.specs.Gaps.{front_for, line_for, split_of}
 use Rattle.history_book.specs.Histories.{entry, line_of, reading}
 use Rattle.history_book.specs.Lines.{put_before, up_to_first, without}
-use Rattle.history_book.specs.Plans.{planned_times, split_of}
+use Rattle.history_book.specs.Plans.{planned_times}
 use Rattle.history_book.specs.Readings.{OfRun, PlacedAt, Reading, did, is_doomed, is_live, is_open, nothing_read, pends}
 use Rattle.history_book.specs.Sealed.{BeginsWithSealed, IsPlacedBehind, StaysSealed, sealed_in, sealed_of}
 use Rattle.history_book.specs.Settings.{Setting, is_weak}
@@ -23,10 +27,6 @@ use Rattle.std.specs.List.{list_any}
 use Rattle.std.specs.Prelude.{Bool, IsTrue, List, None, Option, Some, [], drop, false, fold, if◌then◌else◌, is_none, is_some, length, not, suc, take, true, zero, ℕ, ◌++◌, ◌+◌, ◌&&◌, ◌==◌, ◌||◌, ◌∷◌, ◌≡◌, ◌≤◌}
 
 -- Lists
-
--- one item more
-take_next : (k : ℕ) (i : Item) (is : List Item) → take (k + 1) (i ∷ is) ≡ i ∷ take k is
-take_next k i is = let next : k + 1 ≡ suc k = omega arith in ap (λ n. take n (i ∷ is)) next
 
 -- an event goes no further in front than the first live run
 before_event : (live test : Item → Bool) (x : Item) (line : List Item) → ((i : Item) → live i ≡ false → test i ≡ false) → take (up_to_first live line) (put_before test x line) ≡ take (up_to_first live line) line
@@ -116,7 +116,10 @@ dead_other n r live (Back e k) dead = refl
 sealed_first : (w : Setting) (n : Reading) (e : Entry) → may_follow w n e ≡ true → IsPlacedBehind n e → take (sealed_in n) (entry w n e).line ≡ take (sealed_in n) n.line
 unfolding split_of
 sealed_first w n (Arrived r m) may behind = refl
-sealed_first w n (Placed r at m) may behind = before_place n.line (Ran r) at (sealed_in n) behind (first_within (of_run (is_live n)) n.line)
+sealed_first w n (Placed r at m) may behind = before_place (line_for w n r.0 m) (Ran r) at (sealed_in n) behind within ∙ line_front w n r.0 m
+  where
+    within : sealed_in n ≤ length (line_for w n r.0 m)
+    within = let low = first_within (of_run (is_live n)) n.line in let same = line_length w n r.0 m in omega (arith, low, same)
 sealed_first w n (Did r c a) may behind = refl
 sealed_first w n (Undid r d drove) may behind = refl
 sealed_first w n (Fell d) may behind = before_event (of_run (is_live n)) _ (Failed d _) n.line (λ i e. dead_waits w n d.0 i e)
@@ -205,7 +208,7 @@ sealed_grows w n (Placed r at m) stands may behind =
     absent (Some x) b h = absurd cc
 
     new : OfRun
-    new = record (n.run r.0) { placed = Some (record { place = at; moment = m; stamp = n.size }); planned = planned_times w n r.0 (split_of w n r.0 at m).front m }
+    new = record (n.run r.0) { placed = Some (record { place = at; moment = m; stamp = n.size }); planned = planned_times w n r.0 (front_for w n r.0 at m) m }
 
     own : (a : Bool) (x : ℕ) → (a || (x == x)) ≡ false → ⊥
     own a x h = grind (arith, common_steps)

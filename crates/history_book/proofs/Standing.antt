@@ -4,7 +4,8 @@ use Rattle.history_book.proofs.Lines.{any_insert, any_other, any_put_before, any
 use Rattle.history_book.proofs.Snoc.{put_keeps}
 use Rattle.history_book.proofs.Splits.{split_any}
 use Rattle.history_book.specs.Histories.{entry, reading, with_turn}
-use Rattle.history_book.specs.Plans.{planned_times, split_of}
+use Rattle.history_book.specs.Gaps.{front_for, split_of}
+use Rattle.history_book.specs.Plans.{planned_times}
 use Rattle.history_book.specs.Readings.{OfRun, Reading, did, is_open, nothing_read, put}
 use Rattle.history_book.specs.Settings.{Setting, is_weak}
 use Rattle.history_book.specs.WellFormed.{along, is_well_formed, may_follow}
@@ -69,7 +70,7 @@ place_stands w n r at m fresh s =
     }
   where
     new : OfRun
-    new = record (n.run r.0) { placed = Some (record { place = at; moment = m; stamp = n.size }); planned = planned_times w n r.0 (split_of w n r.0 at m).front m }
+    new = record (n.run r.0) { placed = Some (record { place = at; moment = m; stamp = n.size }); planned = planned_times w n r.0 (front_for w n r.0 at m) m }
 
     at_run : (q : ℕ) → ((r.0 == q) || stands_in (n.run q)) ≡ stands_in (put n.run r.0 new q)
     at_run q = elim (q == r.0) as (λ b. (q == r.0) ≡ b → ((r.0 == q) || stands_in (n.run q)) ≡ stands_in (if b then new else n.run q)) [

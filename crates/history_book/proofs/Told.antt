@@ -1,8 +1,9 @@
--- What the book tells of the end, the doom and the placing of a run is what the history says.
+-- What the book tells of the end, the doom, the placing and the answers of a run is what the history says.
 use Rattle.history_book.proofs.FirstPlaces.{position_cons}
-use Rattle.history_book.specs.Books.{doom_in, doom_of, end_in, end_of, placing_in, placing_of}
+use Rattle.history_book.proofs.Snoc.{put_keeps}
+use Rattle.history_book.specs.Books.{answer_count, doom_in, doom_of, end_in, end_of, is_answer_of, placing_in, placing_of}
 use Rattle.history_book.specs.Histories.{entries_of, entry, reading}
-use Rattle.history_book.specs.Readings.{OfRun, PlacedAt, Reading, nothing_read, put}
+use Rattle.history_book.specs.Readings.{OfRun, PlacedAt, Reading, next_of, nothing_read, put}
 use Rattle.history_book.specs.Settings.{Setting}
 use Rattle.history_book.specs.WellFormed.{IsWellFormed, along, may_follow}
 use Rattle.history_book.specs.declared.entries.Cause.{Cause}
@@ -10,10 +11,13 @@ use Rattle.history_book.specs.declared.entries.End.TheVariants.{Aborted, Committ
 use Rattle.history_book.specs.declared.entries.Entry.TheVariants.{Arrived, Did, Doomed, Ended, Fell, Placed, Rose, Undid}
 use Rattle.history_book.specs.declared.entries.Entry.{Entry}
 use Rattle.history_book.specs.declared.entries.Kept.{Kept}
-use Rattle.std.proofs.Common.{ap, arith, refl, sym, ◌∙◌}
+use Rattle.home_types.specs.declared.commands.Answer.{Answer}
+use Rattle.std.proofs.Common.{ap, arith, cond, refl, sym, ◌∙◌}
 use Rattle.std.proofs.lemmas.Grind.{common_steps}
+use Rattle.std.proofs.lemmas.List.Sums.{sum_by-cons}
+use Rattle.std.proofs.lemmas.List.{length-append}
 use Rattle.std.specs.Option.{option_or}
-use Rattle.std.specs.Prelude.{Bool, IsTrue, List, None, Option, Some, [], false, fold, if◌then◌else◌, is_none, is_some, option_map, true, ℕ, ◌+◌, ◌==◌, ◌∷◌, ◌≡◌}
+use Rattle.std.specs.Prelude.{Bool, IsTrue, List, None, Option, Some, [], false, fold, if◌then◌else◌, is_none, is_some, length, option_map, true, ℕ, ◌++◌, ◌+◌, ◌==◌, ◌∷◌, ◌≡◌}
 
 or_none : {T : Type 0} (o : Option T) → o ≡ option_or o None
 or_none None = refl
@@ -26,6 +30,9 @@ or_or (Some x) b c = refl
 none_is : {T : Type 0} (o : Option T) → is_none o ≡ true → o ≡ None
 none_is None e = refl
 none_is (Some x) e = absurd (cc)
+
+no_more : (k : ℕ) → k ≡ k + 0
+no_more k = omega arith
 
 -- an entry that leaves this of its run
 kept_part : {T : Type 0} (part : OfRun → Option T) (f : ℕ → OfRun) (k r : ℕ) (v : OfRun) → part v ≡ part (f k) → part (put f k v r) ≡ option_or (part (f r)) None
@@ -144,3 +151,35 @@ placing_is w h r ok = counted (placing_of h r) ∙ sym (placing_from w (nothing_
     counted : (o : Option ℕ) → o ≡ option_map (λ i. 0 + i) o
     counted None = refl
     counted (Some i) = ap Some (omega arith)
+
+more_answers : (f : ℕ → OfRun) (k r : ℕ) (v : OfRun) (a : Answer) → v.answers ≡ (f k).answers ++ a ∷ [] → length (put f k v r).answers ≡ length (f r).answers + cond (k == r) 1 0
+more_answers f k r v a more = at (r == k) (k == r) refl (grind (arith, common_steps))
+  where
+    at : (b c : Bool) → (r == k) ≡ b → b ≡ c → length (if b then v else f r).answers ≡ length (f r).answers + cond c 1 0
+    at true true e same = let equal : k ≡ r = grind (arith, common_steps) in ap length more ∙ length-append (f k).answers (a ∷ []) ∙ ap (λ x. length (f x).answers + 1) equal
+    at false false e same = no_more (length (f r).answers)
+    at true false e same = absurd (cc)
+    at false true e same = absurd (cc)
+
+-- each answer is one more
+answer_told : (w : Setting) (n : Reading) (e : Entry) (r : ℕ) → next_of (entry w n e) r ≡ next_of n r + cond (is_answer_of r e) 1 0
+answer_told w n (Arrived q m) r = put_keeps (λ o. length o.answers) n.run q.0 _ refl r ∙ no_more (next_of n r)
+answer_told w n (Placed q at m) r = put_keeps (λ o. length o.answers) n.run q.0 _ refl r ∙ no_more (next_of n r)
+answer_told w n (Did q c a) r = more_answers n.run q.0 r _ a refl
+answer_told w n (Undid q d drove) r = put_keeps (λ o. length o.answers) n.run q.0 _ refl r ∙ no_more (next_of n r)
+answer_told w n (Fell d) r = no_more (next_of n r)
+answer_told w n (Rose d) r = no_more (next_of n r)
+answer_told w n (Doomed q cause) r = put_keeps (λ o. length o.answers) n.run q.0 _ refl r ∙ no_more (next_of n r)
+answer_told w n (Ended q e) r = put_keeps (λ o. length o.answers) n.run q.0 _ refl r ∙ no_more (next_of n r)
+
+answers_from : (w : Setting) (n : Reading) (h : List Kept) (r : ℕ) → next_of (fold (entry w) n (entries_of h)) r ≡ next_of n r + answer_count h r
+answers_from w n [] r = no_more (next_of n r)
+answers_from w n (k ∷ h) r =
+    let rest = answers_from w (entry w n k.entry) h r in
+    let more = answer_told w n k.entry r in
+    let all : answer_count (k ∷ h) r ≡ cond (is_answer_of r k.entry) 1 0 + answer_count h r = sum_by-cons (λ (x : Kept). cond (is_answer_of r x.entry) 1 0) k h in
+    omega (arith, rest, more, all)
+
+-- .. and the number of its next command
+pub answers_are : (w : Setting) (h : List Kept) (r : ℕ) → answer_count h r ≡ next_of (reading w (entries_of h)) r
+answers_are w h r = let counted = answers_from w (nothing_read w) h r in omega (arith, counted)

@@ -1,4 +1,4 @@
--- What a history tells of the placing, the doom and the end of a run.
+-- What a history tells of the placing, the answers, the doom and the end of a run.
 use Rattle.history_book.specs.declared.entries.Cause.{Cause}
 use Rattle.history_book.specs.declared.entries.End.{End}
 use Rattle.history_book.specs.declared.entries.Entry.TheVariants.{Arrived, Did, Doomed, Ended, Fell, Placed, Rose, Undid}
@@ -6,7 +6,7 @@ use Rattle.history_book.specs.declared.entries.Entry.{Entry}
 use Rattle.history_book.specs.declared.entries.Kept.{Kept}
 use Rattle.std.specs.List.{position}
 use Rattle.std.specs.Option.{option_or}
-use Rattle.std.specs.Prelude.{List, None, Option, Some, [], if◌then◌else◌, is_some, ℕ, ◌==◌, ◌∷◌}
+use Rattle.std.specs.Prelude.{Bool, List, None, Option, Some, [], count_by, false, if◌then◌else◌, is_some, ℕ, ◌==◌, ◌∷◌}
 
 -- what the first entry that tells something tells
 abbrev pub first_told : {T : Type 0} → (Entry → Option T) → List Kept → Option T
@@ -50,6 +50,17 @@ placing_in r (Rose d) = None
 placing_in r (Doomed q cause) = None
 placing_in r (Ended q end) = None
 
+-- the entry answers a command of the run
+abbrev pub is_answer_of : ℕ → Entry → Bool
+is_answer_of r (Arrived q m) = false
+is_answer_of r (Placed q place m) = false
+is_answer_of r (Did q c a) = q.0 == r
+is_answer_of r (Undid q d drove) = false
+is_answer_of r (Fell d) = false
+is_answer_of r (Rose d) = false
+is_answer_of r (Doomed q cause) = false
+is_answer_of r (Ended q end) = false
+
 -- the end of the run
 abbrev pub end_of : List Kept → ℕ → Option End
 end_of history r = first_told (end_in r) history
@@ -61,3 +72,7 @@ doom_of history r = first_told (doom_in r) history
 -- the number of entries before the run was placed
 abbrev pub placing_of : List Kept → ℕ → Option ℕ
 placing_of history r = first_place (placing_in r) history
+
+-- how many answers the run has
+abbrev pub answer_count : List Kept → ℕ → ℕ
+answer_count history r = count_by (λ k. is_answer_of r k.entry) history

@@ -3,8 +3,9 @@ use Rattle.command_rules.specs.Items.{of_run}
 use Rattle.command_rules.specs.Rosters.{command_at, touches_from}
 use Rattle.command_rules.specs.Serial.{SerialRun, Served, serial_execution}
 use Rattle.history_book.specs.Lines.{Split, put_before, with_run_in, without}
-use Rattle.history_book.specs.Plans.{planned_times, split_of}
-use Rattle.history_book.specs.Readings.{Event, First, Last, OfRun, OnDevice, Reading, did, is_access, is_fine, is_open, nothing_read, put, view_by}
+use Rattle.history_book.specs.Gaps.{front_for, split_of}
+use Rattle.history_book.specs.Plans.{planned_times}
+use Rattle.history_book.specs.Readings.{Event, First, Last, OfRun, OnDevice, Planned, Reading, did, is_access, is_fine, is_open, nothing_read, put, view_by}
 use Rattle.history_book.specs.Settings.{Setting, is_weak}
 use Rattle.history_book.specs.declared.entries.Cause.{Cause}
 use Rattle.history_book.specs.declared.entries.Cause.TheVariants.{DownAtEnd, Lost, MustDown, Refuted, Revoked}
@@ -71,9 +72,9 @@ moment_of (DownAtEnd d) moment = moment
 abbrev pub with_run : Reading → ℕ → OfRun → Reading
 with_run n r q = record n { run = put n.run r q; size = n.size + 1 }
 
-abbrev pub with_placed : Setting → Reading → RunNo → ℕ → ℕ → Split → Reading
-with_placed w n r at m s =
-    record (with_run n r.0 (record (n.run r.0) { placed = Some (record { place = at; moment = m; stamp = n.size }); planned = planned_times w n r.0 s.front m })) {
+abbrev pub with_placed : Reading → RunNo → ℕ → ℕ → List Planned → Split → Reading
+with_placed n r at m planned s =
+    record (with_run n r.0 (record (n.run r.0) { placed = Some (record { place = at; moment = m; stamp = n.size }); planned = planned })) {
       moment = max n.moment m;
       line = with_run_in s r;
     }
@@ -104,7 +105,7 @@ with_turn w n d x up = record n { up = put n.up d.0 up; line = with_event w n d 
 -- the reading with one entry more
 abbrev pub entry : Setting → Reading → Entry → Reading
 entry w n (Arrived r m) = record (with_run n r.0 (record (n.run r.0) { arrived = Some m })) { moment = max n.moment m }
-entry w n (Placed r at m) = with_placed w n r at m (split_of w n r.0 at m)
+entry w n (Placed r at m) = with_placed n r at m (planned_times w n r.0 (front_for w n r.0 at m) m) (split_of w n r.0 at m)
 entry w n (Did r c a) = with_answer w n r.0 (command_at w.runs r.0 c) c a
 entry w n (Undid r d drove) = with_undo n r d
 entry w n (Fell d) = record (with_turn w n d (Failed d (n.fell d.0 + 1)) false) { fell = put n.fell d.0 (n.fell d.0 + 1) }

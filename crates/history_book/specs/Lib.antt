@@ -2,6 +2,7 @@ pub mod Settings
 pub mod Lines
 pub mod Readings
 pub mod Plans
+pub mod Gaps
 pub mod Histories
 pub mod WellFormed
 pub mod Books

@@ -1,7 +1,7 @@
 -- Planned times, and where a run that is placed stands in the line.
 use Rattle.command_rules.specs.Items.{of_run}
 use Rattle.command_rules.specs.Rosters.{commands_of, reads_first, writes_on}
-use Rattle.history_book.specs.Lines.{Split, behind, split_at}
+use Rattle.history_book.specs.Lines.{behind}
 use Rattle.history_book.specs.Readings.{Planned, Reading, has_written, is_committed, is_live, is_open, passed_by}
 use Rattle.history_book.specs.Settings.{Setting, devices_of, scheduler_of}
 use Rattle.home_types.specs.declared.commands.Command.{Command}
@@ -70,7 +70,3 @@ planned_times w n r front m = (fold (plan_more (waits (scheduler_of w.mode))) (r
     waits Fcfs d = 0
     waits JustInTime d = 0
     waits Timeline d = free w n r front d
-
--- where a run stands that was placed at this place and moment
-unfoldable pub split_of : Setting → Reading → ℕ → ℕ → ℕ → Split
-split_of w n r at m = split_at n.line at

@@ -1,7 +1,8 @@
-//! The history of a window, a list that only grows, with each run's end, doom and placing found at once.
-ghost use Rattle.std.specs.Prelude.{◌≡◌, ◌+◌, ◌<◌, ◌≤◌, [], ◌∷◌, ◌++◌, is_some, length, max, OnOk, OnErr, slice_get};
-ghost use Rattle.history_book.specs.BookParts.{entry_at, noted};
-ghost use Rattle.history_book.specs.Books.{doom_in, doom_of, end_in, end_of, placing_in, placing_of};
+//! The history of a window, a list that only grows, with each run's end, doom and placing found at once, and the number of
+//! its answers.
+ghost use Rattle.std.specs.Prelude.{◌≡◌, ◌+◌, ◌<◌, ◌≤◌, ◌^◌, [], ◌∷◌, ◌++◌, is_some, length, max, OnOk, OnErr, slice_get, slice_index_or};
+ghost use Rattle.history_book.specs.BookParts.{counted, entry_at, noted};
+ghost use Rattle.history_book.specs.Books.{answer_count, doom_in, doom_of, end_in, end_of, is_answer_of, placing_in, placing_of};
 
 use crate::entries::{Cause, End, Entry, Kept};
 use home_types::{List, NoMemory, RunNo, limits};
@@ -19,6 +20,8 @@ pub struct Book {
     ends: [Option<u64>; PLACES],
     dooms: [Option<u64>; PLACES],
     placings: [Option<u64>; PLACES],
+    // how many `Did` entries each run has
+    answers: [u64; PLACES],
 }
 
 impl Model for Book {
@@ -44,6 +47,7 @@ impl Book {
             ends: [None; PLACES],
             dooms: [None; PLACES],
             placings: [None; PLACES],
+            answers: [0; PLACES],
         }
     }
 
@@ -67,15 +71,16 @@ impl Book {
         ensures items { self.new.items ≡ self.old.items ++ kept ∷ [] }
         ensures spare { self.new.spare + 1 ≡ self.old.spare }
     {
-        let place = self.kept.len();
+        let pushed = self.kept.push(kept);
+        pushed.unwrap();
+        let place = self.kept.len() - 1;
         match kept.entry {
+            Entry::Did(r, _, _) => count(&mut self.answers, r),
             Entry::Ended(r, _) => note(&mut self.ends, r, place),
             Entry::Doomed(r, _) => note(&mut self.dooms, r, place),
             Entry::Placed(r, _, _) => note(&mut self.placings, r, place),
             _ => {}
         }
-        let pushed = self.kept.push(kept);
-        pushed.unwrap();
     }
 
     /// How many entries the book has.
@@ -140,6 +145,16 @@ impl Book {
         }
     }
 
+    /// How many commands of the run `r` were answered: the number of its `Did` entries.
+    pub fn answered(&self, r: RunNo) -> u64
+        ensures { result ≡ answer_count self.now.items r.0 }
+    {
+        match self.answers.get(r.0 as usize) {
+            Some(count) => *count,
+            None => count_answers(self.kept.as_slice(), r) as u64,
+        }
+    }
+
     /// The entry at this place, where there is one.
     fn entry_at(&self, place: Option<u64>) -> Option<Entry>
         ensures { result ≡ entry_at self.now.items place }
@@ -156,6 +171,17 @@ fn note(places: &mut [Option<u64>], r: RunNo, place: u64)
     let r = r.0 as usize;
     if r < places.len() && places[r].is_none() {
         places[r] = Some(place);
+    }
+}
+
+/// The run `r` has one answer more.
+fn count(answers: &mut [u64], r: RunNo)
+    requires { r.0 < length answers.old → slice_index_or answers.old r.0 0 + 1 < 2 ^ 64 }
+    ensures { answers.new ≡ counted r.0 answers.old }
+{
+    let r = r.0 as usize;
+    if r < answers.len() {
+        answers[r] += 1;
     }
 }
 
@@ -178,6 +204,13 @@ fn first_placing(history: &[Kept], r: RunNo) -> Option<usize>
     ensures { result ≡ placing_of history.now r.0 }
 {
     history.iter().position(|kept| places(r, kept.entry))
+}
+
+/// How many commands of the run `r` were answered, by the entries that say so.
+fn count_answers(history: &[Kept], r: RunNo) -> usize
+    ensures { result ≡ answer_count history.now r.0 }
+{
+    history.iter().filter(|kept| answers(r, kept.entry)).count()
 }
 
 /// The end of the run `r`, where the entry is its end.
@@ -205,4 +238,11 @@ fn places(r: RunNo, entry: Entry) -> bool
     ensures { result ≡ is_some (placing_in r.0 entry) }
 {
     matches!(entry, Entry::Placed(run, _, _) if run == r)
+}
+
+/// Whether the entry answers a command of the run `r`.
+fn answers(r: RunNo, entry: Entry) -> bool
+    ensures { result ≡ is_answer_of r.0 entry }
+{
+    matches!(entry, Entry::Did(run, _, _) if run == r)
 }

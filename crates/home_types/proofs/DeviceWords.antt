@@ -7,7 +7,7 @@ use Rattle.std.proofs.lemmas.Nat.Bits.{bit_at-lt, bit_at-trailing_zeros, bit_at-
 use Rattle.std.proofs.lemmas.Nat.{shr-shr, shr_le}
 use Rattle.std.specs.FinSet as set
 use Rattle.std.specs.Int.{bit_at, trailing_zeros, w64}
-use Rattle.std.specs.Prelude.{Bool, IsTrue, List, Some, [], bit_and, bit_or, false, max, min, nat_lt, not, slice_index, suc, true, zero, ℕ, ◌%◌, ◌&&◌, ◌*◌, ◌+◌, ◌-◌, ◌/◌, ◌<◌, ◌==◌, ◌^◌, ◌∷◌, ◌≡◌, ◌≢◌, ◌≤◌}
+use Rattle.std.specs.Prelude.{Bool, IsTrue, List, Some, [], bit_and, bit_or, false, max, min, nat_lt, not, slice_index, suc, true, zero, ℕ, ◌%◌, ◌&&◌, ◌*◌, ◌+◌, ◌-◌, ◌/◌, ◌<◌, ◌==◌, ◌^◌, ◌||◌, ◌∷◌, ◌≡◌, ◌≢◌, ◌≤◌}
 
 -- a device by its word and its bit there
 contains_at : (words : List ℕ) (d k t : ℕ) → k < 4 → d / 64 ≡ k → d % 64 ≡ t → set.contains (devices_of_bits words) d ≡ (bit_at (slice_index words k) t == 1)
@@ -121,6 +121,46 @@ words_both a b d = contains_bits (both_words a b) d ∙ at (nat_lt d 256) refl �
     at true e =
         let small : d < 256 = grind (arith, common_steps) in
         ap (λ w. bit_at w (d % 64) == 1) (word (d / 64) (omega (arith, small))) ∙ and_bit (slice_index a (d / 64)) (slice_index b (d / 64)) (d % 64)
+
+-- a bit of a word is a bit of either word exactly where it is one of one of them
+either_bit : (m n t : ℕ) → (bit_at (bit_or m n) t == 1) ≡ ((bit_at m t == 1) || (bit_at n t == 1))
+either_bit m n t =
+    let small = bit_at-lt m t in
+    let little = bit_at-lt n t in
+    ap (λ b. b == 1) (bit_at_or m n t) ∙ at (bit_at m t) (bit_at n t) small little
+  where
+    at : (x y : ℕ) → x < 2 → y < 2 → (max x y == 1) ≡ ((x == 1) || (y == 1))
+    at zero zero small little = refl
+    at zero (suc zero) small little = refl
+    at (suc zero) zero small little = refl
+    at (suc zero) (suc zero) small little = refl
+    at (suc (suc x)) y small little = absurd (omega (arith, small))
+    at zero (suc (suc y)) small little = absurd (omega (arith, little))
+    at (suc zero) (suc (suc y)) small little = absurd (omega (arith, little))
+
+-- the words of either list, word by word
+abbrev pub word_of_either : List ℕ → List ℕ → ℕ → ℕ
+word_of_either a b k = bit_or (slice_index a k) (slice_index b k)
+
+abbrev pub either_words : List ℕ → List ℕ → List ℕ
+either_words a b = word_of_either a b 0 ∷ word_of_either a b 1 ∷ word_of_either a b 2 ∷ word_of_either a b 3 ∷ []
+
+-- they stand for the devices of one of them
+pub words_either : (a b : List ℕ) (d : ℕ) → set.contains (devices_of_bits (either_words a b)) d ≡ (set.contains (devices_of_bits a) d || set.contains (devices_of_bits b) d)
+words_either a b d = contains_bits (either_words a b) d ∙ at (nat_lt d 256) refl ∙ sym (ap₂ (λ x y. x || y) (contains_bits a d) (contains_bits b d))
+  where
+    word : (k : ℕ) → k < 4 → slice_index (either_words a b) k ≡ word_of_either a b k
+    word zero low = refl
+    word (suc zero) low = refl
+    word (suc (suc zero)) low = refl
+    word (suc (suc (suc zero))) low = refl
+    word (suc (suc (suc (suc k)))) low = absurd (omega (arith, low))
+
+    at : (i : Bool) → nat_lt d 256 ≡ i → (i && has_bit (either_words a b) d) ≡ ((i && has_bit a d) || (i && has_bit b d))
+    at false e = refl
+    at true e =
+        let small : d < 256 = grind (arith, common_steps) in
+        ap (λ w. bit_at w (d % 64) == 1) (word (d / 64) (omega (arith, small))) ∙ either_bit (slice_index a (d / 64)) (slice_index b (d / 64)) (d % 64)
 
 -- a word has a bit exactly where it is not 0
 pub has_some_bit : (word : ℕ) → word < 2 ^ 64 → (IsTrue (not (word == 0)) → HasBit word) × (HasBit word → IsTrue (not (word == 0)))

@@ -1,5 +1,5 @@
 //! A set of devices, as 256 bits.
-ghost use Rattle.std.specs.Prelude.{◌≡◌, ◌<◌, ◌↔◌, ◌&&◌, IsTrue, option_map, ℕ};
+ghost use Rattle.std.specs.Prelude.{◌≡◌, ◌<◌, ◌↔◌, ◌&&◌, ◌||◌, IsTrue, option_map, ℕ};
 ghost use Rattle.std.specs.FinSet as set;
 ghost use Rattle.home_types.specs.DeviceSets.{HasBit, IsFirstFrom, Meet};
 ghost use Rattle.home_types.specs.Limits.{most_devices};
@@ -83,6 +83,20 @@ impl DeviceSet {
                 self.words[1] & other.words[1],
                 self.words[2] & other.words[2],
                 self.words[3] & other.words[3],
+            ],
+        }
+    }
+
+    /// The devices that are in one of them. Looks at four words.
+    pub fn either(&self, other: &DeviceSet) -> DeviceSet
+        ensures { (d : ℕ) → set.contains result d ≡ (set.contains self.now d || set.contains other.now d) }
+    {
+        DeviceSet {
+            words: [
+                self.words[0] | other.words[0],
+                self.words[1] | other.words[1],
+                self.words[2] | other.words[2],
+                self.words[3] | other.words[3],
             ],
         }
     }

@@ -5,7 +5,7 @@ use Rattle.history_book.proofs.Lines.{any_insert, any_put_before}
 use Rattle.history_book.proofs.Splits.{split_any}
 use Rattle.history_book.specs.Histories.{entry, reading}
 use Rattle.history_book.specs.Lines.{without}
-use Rattle.history_book.specs.Plans.{split_of}
+use Rattle.history_book.specs.Gaps.{split_of}
 use Rattle.history_book.specs.Readings.{Reading, nothing_read}
 use Rattle.history_book.specs.Settings.{Setting, is_device}
 use Rattle.history_book.specs.WellFormed.{IsWellFormed, along, may_follow}

@@ -15,6 +15,7 @@ pub mod EndedOnce
 pub mod TableFits
 pub mod KeptByModel
 pub mod SealedOrders
+pub mod Arranged
 pub mod OrderSteps
 pub mod FallenOrders
 pub mod Finds

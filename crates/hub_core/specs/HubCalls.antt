@@ -6,6 +6,7 @@ use Rattle.device_gate.specs.declared.grips.Done.{Done}
 use Rattle.device_gate.specs.declared.grips.Ready.{Ready}
 use Rattle.device_gate.specs.declared.slips.Slip.{Slip}
 use Rattle.device_gate.specs.declared.strangers.Stranger.{Stranger}
+use Rattle.history_book.specs.Gaps.{gap_set}
 use Rattle.history_book.specs.Histories.{entries_made, entries_of, reading}
 use Rattle.history_book.specs.Settings.{Setting, is_weak, scheduler_of}
 use Rattle.history_book.specs.WellFormed.{IsWellFormed, each_entry}
@@ -30,7 +31,7 @@ use Rattle.hub_core.specs.declared.turns.Turn.{Turn}
 use Rattle.hub_core.specs.declared.waits.Why.{Why}
 use Rattle.lock_leasing.specs.Configurations.{Commands, Configuration, Grip, Probes, Purpose, Undoes, read_of}
 use Rattle.lock_leasing.specs.Order.{OrderStands}
-use Rattle.lock_leasing.specs.Places.{GripsFit, IsEarliestPlace, PlacesAreScheduled}
+use Rattle.lock_leasing.specs.Places.{GripsFit, IsEarliestSet, IsFittingSet, PlacesAreScheduled}
 use Rattle.lock_leasing.specs.Words.{standing_value}
 use Rattle.command_rules.specs.Rosters.{command_at, is_run, run_no}
 use Rattle.std.specs.Prelude.{Bool, Err, IsTrue, List, None, Ok, Option, Result, Some, [], false, is_some, length, max, not, slice_get, slice_index_or, slice_set, true, ℕ, ⊤, ◌+◌, ◌-◌, ◌<◌, ◌∷◌, ◌≡◌, ◌≢◌, ◌≤◌, ◌||◌}
@@ -76,10 +77,11 @@ IsTurn s r m (Wait why) t = Answers s r m (Waits why) t × (t ≡ record s { mom
 IsTurn s r m (Over end made) t = Answers s r m (IsOver end (entries_made made)) t × IsPacked made
 IsTurn s r m Absent t = Answers s r m IsAbsent t × (t ≡ record s { moment = max s.moment m })
 
--- where the step places the run by the timeline, no place that fits, from the first one on, plans an earlier end of it
+-- where the step places the run by the timeline, the set taken is closed, holds the base and fits, and no other one that does plans an earlier end of the run
 abbrev pub PlansEarliest : {D : Type 0} → Configuration → ℕ → Turn D → Type 0
 PlansEarliest s r (Go grip) = ⊤
-PlansEarliest s r (Moved made) = scheduler_of s.setting.mode ≡ Timeline → (at m : ℕ) → entries_made made ≡ Placed (run_no r) at m ∷ [] → IsEarliestPlace s.setting (read_of s) s.grips r m at
+PlansEarliest s r (Moved made) = scheduler_of s.setting.mode ≡ Timeline → (at m : ℕ) → entries_made made ≡ Placed (run_no r) at m ∷ []
+    → IsFittingSet s.setting (read_of s) r m (gap_set s.setting (read_of s) r m) × IsEarliestSet s.setting (read_of s) r m (gap_set s.setting (read_of s) r m)
 PlansEarliest s r (Wait why) = ⊤
 PlansEarliest s r (Over end made) = ⊤
 PlansEarliest s r Absent = ⊤

@@ -1,4 +1,6 @@
 -- What the line and the table of a window ask for, and what is kept of them.
+use Rattle.command_rules.specs.Apart.{meet}
+use Rattle.command_rules.specs.ClosedSets.{HoldsFirst, IsClosed, rearranged}
 use Rattle.command_rules.specs.Rosters.{Run, command_at, commands_of, is_run, run_no, touches}
 use Rattle.history_book.specs.Readings.{Reading, next_of}
 use Rattle.history_book.specs.Settings.{Setting, is_weak}
@@ -9,14 +11,17 @@ use Rattle.failure_serialization.specs.Events.{event_place}
 use Rattle.home_types.specs.declared.commands.View.{View}
 use Rattle.home_types.specs.declared.items.Item.TheVariants.{Back, Failed, Ran}
 use Rattle.home_types.specs.declared.items.Item.{Item}
+use Rattle.home_types.specs.declared.modes.Scheduler.TheVariants.{Fcfs, JustInTime, Timeline}
+use Rattle.home_types.specs.declared.modes.Scheduler.{Scheduler}
 use Rattle.home_types.specs.declared.numbers.DeviceNo.{DeviceNo}
 use Rattle.home_types.specs.declared.numbers.RunNo.{RunNo}
 use Rattle.lineage_table.specs.Accesses.{has_access, is_scheduled, status_of}
 use Rattle.lineage_table.specs.Lineages.{LineageState, accesses_at, counted_up, lineage_at, scheduled, with_lineage}
 use Rattle.lineage_table.specs.declared.accesses.Status.TheVariants.{Acquired, Scheduled}
 use Rattle.lock_leasing.specs.Configurations.{Grips}
+use Rattle.serial_line.specs.KeptRuns.{AreKeptOf}
 use Rattle.serial_line.specs.Labels.{is_sealed}
-use Rattle.serial_line.specs.Marks.{Marked, front_of, stands, with_item}
+use Rattle.serial_line.specs.Marks.{Marked, front_of, items_of, stands, with_item}
 use Rattle.std.specs.List.{list_any}
 use Rattle.std.specs.Prelude.{Bool, List, None, Option, Some, [], false, get_or, if◌then◌else◌, length, option_map, slice_index_or, true, unwrap_or, ℕ, ◌+◌, ◌-◌, ◌<◌, ◌≡◌, ◌≤◌}
 use Rattle.window_order.specs.MarksKept.{MarksAreKept}
@@ -26,6 +31,18 @@ use Rattle.window_order.specs.TableKept.{TableIsKept}
 -- sealed are the items before the first run that has not ended
 abbrev pub IsSealed : Marked → Type 0
 IsSealed line = line.sealed ≡ front_of line.marks
+
+-- the items of the set before the others, each part in its order, where runs are placed by the timeline; else as they stand
+abbrev pub arranged : {A : Type 0} → Scheduler → List Bool → List A → List A
+arranged Fcfs set items = items
+arranged JustInTime set items = items
+arranged Timeline set items = rearranged set items
+
+-- the items of the set may be brought before the others: it is closed, and has those that are sealed
+pub record MayArrange (set : List Bool) (line : Marked) : Type 0 where
+  pub size : length set ≡ length line.marks
+  pub closed : IsClosed (meet line.runs) set (items_of line.marks)
+  pub sealed : HoldsFirst line.sealed set
 
 -- the run has not touched the device: its access is scheduled
 abbrev pub is_first : ℕ → LineageState → Bool
@@ -77,6 +94,7 @@ pub record HasTurned (up : Bool) (event : Item) (h : HistoryState) (d : DeviceNo
   pub marks : after.marks ≡ with_item (event_place h.history first (accesses_at table d.0) line.marks) event line.marks
   pub spare : after.spare + 1 ≡ line.spare
   pub sealed : IsSealed after
+  pub runs : after.runs ≡ line.runs
   pub counted : later ≡ with_lineage table d.0 (counted_up up)
 
 -- the failure of this number ..
@@ -107,11 +125,12 @@ pub record TableFits (w : Setting) (n : Reading) (g : Grips) (table : List Linea
   pub ordered : is_weak w.mode ≡ false → TableIsKept w n g table
   pub weakly : is_weak w.mode ≡ true → (d : ℕ) → d < length w.first → LineageIsBare n d (lineage_at table d)
 
--- .. and the line is theirs too, each item with what it has touched, sealed up to the first live run; and it has room for all its items, where there are so many rounds of probes
+-- .. and the line is theirs too, each item with what it has touched, sealed up to the first live run; it keeps the devices of the runs, and whom they follow; and it has room for all its items, where there are so many rounds of probes
 pub record IsOrderOf (rounds : ℕ) (w : Setting) (n : Reading) (g : Grips) (line : Marked) (table : List LineageState) : Type 0 where
   pub table_is : TableFits w n g table
   pub line_is : MarksAreKept n g line.marks
   pub sealed : IsSealed line
+  pub runs : AreKeptOf w.runs line.runs
   pub room : most_items (length w.runs) (length w.first) rounds ≤ line.spare + length line.marks
 
 -- the line and the table of a history

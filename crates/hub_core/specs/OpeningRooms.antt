@@ -11,8 +11,10 @@ use Rattle.hub_core.specs.declared.known.DeviceProgress.{DeviceProgress}
 use Rattle.hub_core.specs.declared.known.RunProgress.{RunProgress}
 use Rattle.hub_core.specs.declared.purposes.Purpose.TheVariants.{Command}
 use Rattle.lineage_table.specs.Lineages.{IsOpened, LineageState}
+use Rattle.serial_line.specs.KeptRuns.{AreKeptOf}
 use Rattle.serial_line.specs.Marks.{Marked}
 use Rattle.std.specs.Prelude.{List, None, Some, [], length, replicate, slice_get, ℕ, ◌<◌, ◌≡◌}
+use Rattle.timeline_scheduler.specs.Scratches.{Room}
 
 -- nothing has happened to a run
 abbrev pub no_progress : RunProgress
@@ -32,8 +34,14 @@ pub record IsHistoryRoom (entries runs : ℕ) (book : Listed Kept) (progress : L
 pub record IsOrderRoom (items : ℕ) (runs : List Run) (first : List Stand) (line : Marked) (table : List LineageState) : Type 0 where
   pub no_item : line.marks ≡ []
   pub none_sealed : line.sealed ≡ 0
+  pub runs_kept : AreKeptOf runs line.runs
   pub room : line.spare ≡ items
   pub opened : IsOpened runs first table
+
+-- a scratch for so many devices and items
+pub record IsScratchFor (devices items : ℕ) (room : Room) : Type 0 where
+  pub devices_are : length room.slots ≡ devices
+  pub items_are : room.items ≡ items
 
 -- empty lists with room for so many items of the order and no more, and for so many devices
 pub record IsClosingRoom (items devices : ℕ) (closing : ClosingLists) : Type 0 where

@@ -1,5 +1,6 @@
 -- What a placing leaves in the scratch of a hub, and what the hub keeps of it.
 use Rattle.command_rules.specs.Rosters.{is_on}
+use Rattle.history_book.specs.Gaps.{front_for, gap_set}
 use Rattle.history_book.specs.Plans.{planned_times}
 use Rattle.history_book.specs.Readings.{Planned}
 use Rattle.history_book.specs.Settings.{Setting, scheduler_of}
@@ -7,33 +8,45 @@ use Rattle.home_types.specs.Limits.{most_devices}
 use Rattle.home_types.specs.declared.modes.Scheduler.TheVariants.{Timeline}
 use Rattle.home_types.specs.declared.commands.Command.{Command}
 use Rattle.hub_core.specs.BlockedMarks.{AreBlocked, BlockedState}
+use Rattle.hub_core.specs.Bounds.{most_items}
 use Rattle.hub_core.specs.PlansInTurn.{planned_use}
 use Rattle.hub_core.specs.declared.decisions.Chosen.TheVariants.{Aborts, Absent, AnswersDown, Arrives, Commits, Drops, FailsAtEnd, HandsOut, Joins, Over, Revokes, Waits}
 use Rattle.hub_core.specs.declared.decisions.Chosen.{Chosen}
 use Rattle.hub_core.specs.declared.plans.PlannedUse.{PlannedUse}
 use Rattle.lock_leasing.specs.Configurations.{Configuration, read_of}
 use Rattle.std.specs.List.{list_any}
-use Rattle.std.specs.Prelude.{List, None, Option, Some, if◌then◌else◌, length, option_map, slice_get, take, ℕ, ⊤, ◌<◌, ◌≡◌}
-use Rattle.timeline_scheduler.specs.Scratches.{HoldsTimes, planned_in}
-use Rattle.timeline_scheduler.specs.declared.scratches.Slot.{Slot}
+use Rattle.std.specs.Prelude.{List, None, Option, Some, if◌then◌else◌, length, option_map, slice_get, ℕ, ⊤, ◌<◌, ◌≡◌, ◌≤◌}
+use Rattle.timeline_scheduler.specs.Scratches.{HoldsTimes, Room, planned_in}
+use Rattle.timeline_scheduler.specs.declared.slots.Slot.{Slot}
 
--- the scratch is one for the devices of the home
-abbrev pub IsForHome : Setting → List Slot → Type 0
-IsForHome w slots = length slots ≡ length w.first
+-- the scratch is one for the devices of the home, and for the items that the line of a window with so many rounds of probes may have
+pub record IsForHome (w : Setting) (rounds : ℕ) (room : Room) : Type 0 where
+  pub devices : length room.slots ≡ length w.first
+  pub items : most_items (length w.runs) (length w.first) rounds ≤ room.items
 
--- where runs are placed by the timeline, the scratch holds the times of the run at this place and moment
-abbrev pub HoldsPlan : List Slot → Configuration → ℕ → ℕ → ℕ → Type 0
-HoldsPlan slots s r m at = scheduler_of s.setting.mode ≡ Timeline → HoldsTimes slots (planned_times s.setting (read_of s) r (take at (read_of s).line) m)
+-- the scratch has room for as much as before
+pub record HasSameRoom (before after : Room) : Type 0 where
+  pub devices : length after.slots ≡ length before.slots
+  pub items : after.items ≡ before.items
+
+-- the scratch holds the set of items that stand before the run at this moment, and its times at this place
+pub record HoldsGap (room : Room) (s : Configuration) (r m at : ℕ) : Type 0 where
+  pub set : room.before ≡ gap_set s.setting (read_of s) r m
+  pub times : HoldsTimes room.slots (planned_times s.setting (read_of s) r (front_for s.setting (read_of s) r at m) m)
+
+-- .. where runs are placed by the timeline
+abbrev pub HoldsPlan : Room → Configuration → ℕ → ℕ → ℕ → Type 0
+HoldsPlan room s r m at = scheduler_of s.setting.mode ≡ Timeline → HoldsGap room s r m at
 
 -- .. where the run, which has no place yet, is to be placed
-abbrev pub HoldsChosen : List Slot → Configuration → ℕ → ℕ → Chosen → Type 0
-HoldsChosen slots s r m chosen = ((read_of s).run r).placed ≡ None → by_chosen chosen
+abbrev pub HoldsChosen : Room → Configuration → ℕ → ℕ → Chosen → Type 0
+HoldsChosen room s r m chosen = ((read_of s).run r).placed ≡ None → by_chosen chosen
   where
     by_chosen : Chosen → Type 0
     by_chosen Absent = ⊤
     by_chosen (Over end) = ⊤
     by_chosen Arrives = ⊤
-    by_chosen (Joins at) = HoldsPlan slots s r m at
+    by_chosen (Joins at) = HoldsPlan room s r m at
     by_chosen Commits = ⊤
     by_chosen (Aborts cause) = ⊤
     by_chosen (Drops d) = ⊤
@@ -55,7 +68,7 @@ use_between (from, to) = record { from = from; to = to }
 abbrev pub held_use : List Slot → List Command → ℕ → Option PlannedUse
 held_use slots commands d = if list_any (is_on d) commands then option_map use_between (planned_in slots d) else None
 
--- what is kept of a hub besides its window: each run that is marked is blocked, and the scratch is for the devices of the home
-pub record PartsFit (s : Configuration) (blocked : BlockedState) (slots : List Slot) : Type 0 where
+-- what is kept of a hub besides its window, with so many rounds of probes: each run that is marked is blocked, and the scratch is for the home and the line
+pub record PartsFit (s : Configuration) (rounds : ℕ) (blocked : BlockedState) (room : Room) : Type 0 where
   pub marks : AreBlocked s blocked
-  pub scratch : IsForHome s.setting slots
+  pub scratch : IsForHome s.setting rounds room

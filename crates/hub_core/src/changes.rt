@@ -67,7 +67,8 @@ impl<D: Device> OpenWindow<D> {
         one_made(self.history.arrive(r, self.moment))
     }
 
-    /// The run is placed behind so many items of the line. Where that is by the timeline, the scratch holds its planned times.
+    /// The run is placed behind so many items of the line. Where that is by the timeline, the scratch holds their set, and its
+    /// planned times.
     pub(crate) fn join(&mut self, r: RunNo, moment: u64, at: u32, scratch: &Scratch) -> Made
         requires chosen { choice_of (configuration_of self.old) r.0 moment ≡ told_choice r.0 (max self.old.moment moment) (Chosen.Joins at) }
         requires planned { HoldsPlan scratch.now (configuration_of self.old) r.0 (max self.old.moment moment) at }
@@ -82,7 +83,8 @@ impl<D: Device> OpenWindow<D> {
         }
     }
 
-    /// The entry, the line and the table are told the place of the run, behind so many items of the line.
+    /// The entry, the line and the table are told the place of the run, behind so many items of the line. By the timeline
+    /// these are brought before the others first.
     fn place(&mut self, r: RunNo, moment: u64, at: u32, scratch: &Scratch) -> Made
         requires strong { is_weak self.old.setting.mode ≡ false }
         requires chosen { choice_of (configuration_of self.old) r.0 moment ≡ told_choice r.0 (max self.old.moment moment) (Chosen.Joins at) }
@@ -93,6 +95,8 @@ impl<D: Device> OpenWindow<D> {
     {
         self.moment = self.moment.max(moment);
         let uses = self.history.planned_uses(r, self.moment, scratch);
+        self.order
+            .arrange(self.history.scheduler(), scratch.flags());
         self.order.join(self.history.roster(), r, at, uses);
         one_made(self.history.place(r, at, self.moment))
     }

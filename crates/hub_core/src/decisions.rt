@@ -7,7 +7,7 @@ ghost use Rattle.hub_core.specs.Decisions.{current_command, strong_command, stro
 ghost use Rattle.hub_core.specs.HubSteps.{command_task, task_of};
 ghost use Rattle.hub_core.specs.OpenHubs.{configuration_of, purpose_of};
 ghost use Rattle.hub_core.specs.Steps.{choice_of, decide_answered};
-ghost use Rattle.hub_core.specs.PlannedPlaces.{HoldsChosen, IsForHome};
+ghost use Rattle.hub_core.specs.PlannedPlaces.{HasSameRoom, HoldsChosen, IsForHome};
 ghost use Rattle.lineage_table.specs.Accesses.{access_of};
 ghost use Rattle.lineage_table.specs.Lineages.{accesses_at};
 ghost use Rattle.lock_leasing.specs.Configurations.{Commands, is_out, read_of};
@@ -57,13 +57,13 @@ pub(crate) enum Chosen {
 
 impl<D: Device> OpenWindow<D> {
     /// What the step of the run `r` is to do at this moment, in ms, or at the last one where that is later, by the cases of a
-    /// step in order. Where that is to be placed by the timeline, the scratch then holds the planned times.
+    /// step in order. Where that is to be placed by the timeline, the scratch then holds the set and the planned times.
     #[inline(always)]
     pub(crate) fn decide(&self, r: RunNo, moment: u64, scratch: &mut Scratch) -> Chosen
-        requires scratch { IsForHome self.now.setting scratch.old }
+        requires scratch { IsForHome self.now.setting self.now.rounds scratch.old }
         ensures choice { told_choice r.0 (max self.now.moment moment) result ≡ choice_of (configuration_of self.now) r.0 moment }
         ensures planned { HoldsChosen scratch.new (configuration_of self.now) r.0 (max self.now.moment moment) result }
-        ensures size { length scratch.new ≡ length scratch.old }
+        ensures size { HasSameRoom scratch.old scratch.new }
     {
         if !self.history.has_run(r) {
             return Chosen::Absent;

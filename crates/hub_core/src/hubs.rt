@@ -30,7 +30,7 @@ use timeline_scheduler::Scratch;
 ///
 /// Contracts see what is fixed, its history, its last moment, what it knows of each device, and the places of the
 /// devices. The type keeps that these agree, that each run which is marked as blocked waits at
-/// every moment, and that the scratch is for the devices of the home.
+/// every moment, and that the scratch is for the devices of the home and for the items that the line may have.
 #[derive(Drop)]
 pub struct Hub<D: Device> {
     pub(crate) window: OpenWindow<D>,
@@ -47,7 +47,7 @@ impl<D: Device> Model for Hub<D> {
 
     ghost view = { λ h. h.window };
 
-    ghost invariant = { λ h. PartsFit (configuration_of h.window) h.blocked h.scratch };
+    ghost invariant = { λ h. PartsFit (configuration_of h.window) h.window.rounds h.blocked h.scratch };
 }
 
 impl<D: Device> Hub<D> {

@@ -2,15 +2,18 @@
 ghost use Rattle.std.specs.Prelude.{◌≡◌, ◌+◌, ◌<◌, ◌≤◌, ◌^◌, [], IfOk, IsTrue, None, Some, drop, false, if◌then◌else◌, length, true, ℕ, ◌∷◌};
 ghost use Rattle.std.specs.List.{All};
 ghost use Rattle.abort_rollback.specs.Undos.{next_undo};
+ghost use Rattle.command_rules.specs.Footprints.{FitsIndex};
 ghost use Rattle.command_rules.specs.Rosters.{commands_of, is_run, runs_of, touches};
 ghost use Rattle.history_book.specs.Readings.{is_fine, is_told};
 ghost use Rattle.home_types.specs.Limits.{most_devices};
 ghost use Rattle.home_types.specs.declared.items.Item.TheVariants.{Ran};
-ghost use Rattle.hub_core.specs.KeptOrders.{IsSealed, MayNote, is_first, noted_first, scheduled_with};
+ghost use Rattle.home_types.specs.declared.modes.Scheduler.TheVariants.{Timeline};
+ghost use Rattle.hub_core.specs.KeptOrders.{IsSealed, MayArrange, MayNote, arranged, is_first, noted_first, scheduled_with};
 ghost use Rattle.hub_core.specs.OpenHubs.{purpose_of};
 ghost use Rattle.lineage_table.specs.Lineages.{IsOpened, accesses_at, committed_lineage, lineage_at, removed, undone, with_lineage};
 ghost use Rattle.lock_leasing.specs.Configurations.{is_command, is_undo};
 ghost use Rattle.lock_leasing.specs.Tables.{view_when};
+ghost use Rattle.serial_line.specs.KeptRuns.{AreKeptOf};
 ghost use Rattle.serial_line.specs.Labels.{is_sealed};
 ghost use Rattle.serial_line.specs.Marks.{front_of, items_of, settling, stands, touching, with_item, without};
 ghost use Rattle.window_order.specs.TableChanges.{ChangesEach, IsNewOn, first_with_access, doomed_unless};
@@ -22,7 +25,7 @@ use crate::reschedules::wait_again;
 use abort_rollback::{Undo, withdraw};
 use command_rules::Roster;
 use commit_compaction::commit;
-use home_types::{Answer, DeviceNo, Item, NoMemory, RunNo, Value, View, World};
+use home_types::{Answer, DeviceNo, Item, NoMemory, RunNo, Scheduler, Value, View, World};
 use lineage_table::{Access, Status, Table};
 use serial_line::Line;
 use std::alloc::Global;
@@ -58,20 +61,41 @@ impl KeptOrder {
     ) -> Result<KeptOrder, NoMemory>
         requires devices { length world.now.devices.items ≤ most_devices }
         requires items { items < 2 ^ 32 }
+        requires runs { FitsIndex (runs_of roster.now) }
         ensures marks { IfOk result (λ order. order.line.marks ≡ []) }
         ensures room { IfOk result (λ order. order.line.spare ≡ items) }
         ensures none_sealed { IfOk result (λ order. order.line.sealed ≡ 0) }
+        ensures runs { IfOk result (λ order. AreKeptOf (runs_of roster.now) order.line.runs) }
         ensures table { IfOk result (λ order. IsOpened (runs_of roster.now) world.now.devices.items order.table) }
     {
-        let mut line = Line::new(alloc);
+        let mut line = Line::open(alloc, roster)?;
         line.reserve(items)?;
         let table = Table::open(alloc, world, roster)?;
         Ok(KeptOrder { line, table })
     }
 
+    /// Where runs are placed by the timeline, the items with a flag stand before the others, each part in its order. Takes no
+    /// memory.
+    pub(crate) fn arrange(&mut self, scheduler: Scheduler, before: &[bool])
+        requires flags { scheduler ≡ Timeline → MayArrange before.now self.old.line }
+        requires sealed { self.old.line.sealed ≤ front_of self.old.line.marks }
+        ensures marks { self.new.line.marks ≡ arranged scheduler before.now self.old.line.marks }
+        ensures spare { self.new.line.spare ≡ self.old.line.spare }
+        ensures sealed { self.new.line.sealed ≡ self.old.line.sealed }
+        ensures front { self.new.line.sealed ≤ front_of self.new.line.marks }
+        ensures runs { self.new.line.runs ≡ self.old.line.runs }
+        ensures table { self.new.table ≡ self.old.table }
+    {
+        match scheduler {
+            Scheduler::Fcfs | Scheduler::JustInTime => {}
+            Scheduler::Timeline => self.line.rearrange(before),
+        }
+    }
+
     /// The run stands at this place in the line, counted from 0, and has an access on each of its devices, with these uses
     /// of them. There it stands before the first access of a run behind it, which waits,
-    /// as do those behind it: those that were passed wait again. Takes no memory.
+    /// as do those behind it: those that were passed wait again. What stands before the first live run is sealed then. Takes
+    /// no memory.
     pub(crate) fn join(
         &mut self,
         roster: &Roster,
@@ -85,15 +109,19 @@ impl KeptOrder {
         requires room { 0 < self.old.line.spare }
         requires place { at ≤ length self.old.line.marks }
         requires behind { self.old.line.sealed ≤ at }
+        requires sealed { self.old.line.sealed ≤ front_of self.old.line.marks }
+        requires known { is_run self.old.line.runs r.0 ≡ true }
         requires absent { stands (Ran r) self.old.line.marks ≡ false }
         requires new { (d : ℕ) → d < length self.old.table → touches (runs_of roster.now) r.0 d ≡ true → IsNewOn r.0 (drop at (items_of self.old.line.marks)) (lineage_at self.old.table d) }
         ensures marks { self.new.line.marks ≡ with_item at (Ran r) self.old.line.marks }
         ensures spare { self.new.line.spare + 1 ≡ self.old.line.spare }
-        ensures sealed { self.new.line.sealed ≡ self.old.line.sealed }
+        ensures sealed { IsSealed self.new.line }
+        ensures kept { self.new.line.runs ≡ self.old.line.runs }
         ensures table { ChangesEach (scheduled_with (runs_of roster.now) r.0 uses (drop at (items_of self.old.line.marks))) self.old.table self.new.table }
     {
         schedule(&mut self.table, &self.line, at, roster, r, uses);
         self.line.insert(at, Item::Ran(r));
+        seal(&mut self.line);
     }
 
     /// The device goes out to the run for this purpose: it has touched it where that is a command, and its write there
@@ -106,6 +134,7 @@ impl KeptOrder {
         ensures marks { self.new.line.marks ≡ (if is_command (purpose_of purpose) then touching r.0 d.0 self.old.line.marks else self.old.line.marks) }
         ensures spare { self.new.line.spare ≡ self.old.line.spare }
         ensures sealed { self.new.line.sealed ≡ self.old.line.sealed }
+        ensures runs { self.new.line.runs ≡ self.old.line.runs }
         ensures table { self.new.table ≡ (if is_undo (purpose_of purpose) then with_lineage self.old.table d.0 (undone r.0) else self.old.table) }
     {
         match purpose {
@@ -170,6 +199,7 @@ impl KeptOrder {
         ensures marks { self.new.line.marks ≡ without r.0 self.old.line.marks }
         ensures spare { self.new.line.spare ≡ self.old.line.spare + 1 }
         ensures sealed { IsSealed self.new.line }
+        ensures runs { self.new.line.runs ≡ self.old.line.runs }
         ensures table { ChangesEach (λ d. removed r.0) self.old.table self.new.table }
     {
         withdraw(&mut self.table, r);
@@ -184,6 +214,7 @@ impl KeptOrder {
         ensures marks { self.new.line.marks ≡ settling r.0 self.old.line.marks }
         ensures spare { self.new.line.spare ≡ self.old.line.spare }
         ensures sealed { IsSealed self.new.line }
+        ensures runs { self.new.line.runs ≡ self.old.line.runs }
         ensures table { ChangesEach (λ d. committed_lineage r.0) self.old.table self.new.table }
     {
         commit(&mut self.table, r);

@@ -1,5 +1,6 @@
 //! Opening a window, which takes all of its memory.
 ghost use Rattle.std.specs.Prelude.{◌≡◌, ◌<◌, ◌≤◌, ◌^◌, IfErr, IfOk, None, [], length, replicate, slice_get, ℕ};
+ghost use Rattle.command_rules.specs.Footprints.{FitsIndex};
 ghost use Rattle.command_rules.specs.Rosters.{runs_of};
 ghost use Rattle.home_types.specs.HomeStates.{stand_at};
 ghost use Rattle.home_types.specs.Limits.{most_devices, most_probes, most_runs};
@@ -7,7 +8,7 @@ ghost use Rattle.hub_core.specs.BlockedMarks.{NoneMarked};
 ghost use Rattle.hub_core.specs.Bounds.{most_entries, most_items};
 ghost use Rattle.hub_core.specs.HubCalls.{IsOpened};
 ghost use Rattle.hub_core.specs.Homes.{setting_for};
-ghost use Rattle.hub_core.specs.OpeningRooms.{AreKnown, IsClosingRoom, IsHistoryRoom, IsOrderRoom, IsRoomFor, known_first, no_progress};
+ghost use Rattle.hub_core.specs.OpeningRooms.{AreKnown, IsClosingRoom, IsHistoryRoom, IsOrderRoom, IsRoomFor, IsScratchFor, known_first, no_progress};
 ghost use Rattle.hub_core.specs.Openings.{MayOpen};
 
 use crate::blocked_runs::BlockedRuns;
@@ -119,6 +120,7 @@ impl<D: Device> Home<D> {
     /// Takes the memory of a window of these runs.
     fn room(&self, alloc: Global, roster: &Roster, rounds: u32) -> Result<Room, NoMemory>
         requires few { length roster.now.runs.items ≤ most_runs }
+        requires runs { FitsIndex (runs_of roster.now) }
         requires devices { length self.now.world ≤ most_devices }
         requires rounds { rounds ≤ most_probes }
         ensures history { IfOk result (λ room. IsHistoryRoom (most_entries (length roster.now.runs.items) (length self.now.world) rounds) (length roster.now.runs.items) room.history.book room.history.progress.items) }
@@ -127,7 +129,7 @@ impl<D: Device> Home<D> {
         ensures hands { IfOk result (λ room. room.hands.items ≡ replicate (length roster.now.runs.items) None) }
         ensures closing { IfOk result (λ room. IsClosingRoom (most_items (length roster.now.runs.items) (length self.now.world) rounds) (length self.now.devices) room.closing) }
         ensures blocked { IfOk result (λ room. NoneMarked room.blocked) }
-        ensures scratch { IfOk result (λ room. length room.scratch ≡ length self.now.world) }
+        ensures scratch { IfOk result (λ room. IsScratchFor (length self.now.world) (most_items (length roster.now.runs.items) (length self.now.world) rounds) room.scratch) }
     {
         let runs = roster.runs.len();
         let bounds = bounds_of(runs, self.world.devices.len(), rounds);
@@ -177,7 +179,8 @@ impl<D: Device> Home<D> {
                 return Err(NoMemory);
             }
         };
-        let scratch = match Scratch::open(alloc, self.world.devices.len() as u32) {
+        let count = self.world.devices.len() as u32;
+        let scratch = match Scratch::open(alloc, count, bounds.items as u32) {
             Ok(scratch) => scratch,
             Err(NoMemory) => {
                 drop(history);

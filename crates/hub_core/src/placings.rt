@@ -4,7 +4,7 @@ ghost use Rattle.command_rules.specs.Rosters.{is_run};
 ghost use Rattle.history_book.specs.Settings.{is_weak};
 ghost use Rattle.hub_core.specs.Decisions.{told_choice};
 ghost use Rattle.hub_core.specs.OpenHubs.{configuration_of};
-ghost use Rattle.hub_core.specs.PlannedPlaces.{HoldsChosen, IsForHome};
+ghost use Rattle.hub_core.specs.PlannedPlaces.{HasSameRoom, HoldsChosen, IsForHome};
 ghost use Rattle.hub_core.specs.Steps.{decide_arrived, place_choice};
 ghost use Rattle.jit_scheduler.specs.Admissions.{IsToBePlaced};
 ghost use Rattle.lock_leasing.specs.Configurations.{read_of};
@@ -18,11 +18,12 @@ use fcfs_scheduler::place as last_place;
 use home_types::{RunNo, Scheduler};
 use jit_scheduler::{Admit, admit};
 use lock_leasing::Standing;
-use timeline_scheduler::{Scratch, place as earliest_place};
+use timeline_scheduler::{Scratch, place as least_place};
 
 impl<D: Device> OpenWindow<D> {
     /// What the run `r` is to do at this moment, which arrived at that one, both in ms, and is not placed: it waits for the run
-    /// that it follows, and is then placed. Where that is by the timeline, the scratch then holds the planned times.
+    /// that it follows, and is then placed. Where that is by the timeline, the scratch then holds the set of items that stand
+    /// before it, and the planned times.
     pub(crate) fn decide_arrived(
         &self,
         r: RunNo,
@@ -32,10 +33,10 @@ impl<D: Device> OpenWindow<D> {
     ) -> Chosen
         requires run { IsTrue (is_run self.now.setting.runs r.0) }
         requires turn { IsToBePlaced (read_of (configuration_of self.now)) r.0 arrived }
-        requires scratch { IsForHome self.now.setting scratch.old }
+        requires scratch { IsForHome self.now.setting self.now.rounds scratch.old }
         ensures choice { told_choice r.0 moment result ≡ decide_arrived self.now.setting (read_of (configuration_of self.now)) (configuration_of self.now).grips r.0 moment }
         ensures planned { HoldsChosen scratch.new (configuration_of self.now) r.0 moment result }
-        ensures size { length scratch.new ≡ length scratch.old }
+        ensures size { HasSameRoom scratch.old scratch.new }
     {
         match self.history.awaited_leader(r) {
             Some(leader) => Chosen::Waits(Why::Follow(leader)),
@@ -47,17 +48,17 @@ impl<D: Device> OpenWindow<D> {
     fn decide_place(&self, r: RunNo, arrived: u64, moment: u64, scratch: &mut Scratch) -> Chosen
         requires run { IsTrue (is_run self.now.setting.runs r.0) }
         requires turn { IsToBePlaced (read_of (configuration_of self.now)) r.0 arrived }
-        requires scratch { IsForHome self.now.setting scratch.old }
+        requires scratch { IsForHome self.now.setting self.now.rounds scratch.old }
         ensures choice { told_choice r.0 moment result ≡ place_choice r.0 moment (scheduled_place self.now.setting (read_of (configuration_of self.now)) (configuration_of self.now).grips r.0 moment) }
         ensures planned { HoldsChosen scratch.new (configuration_of self.now) r.0 moment result }
-        ensures size { length scratch.new ≡ length scratch.old }
+        ensures size { HasSameRoom scratch.old scratch.new }
     {
         match self.history.scheduler() {
             Scheduler::Fcfs => Chosen::Joins(self.end_of_line(r)),
             Scheduler::JustInTime => self.admit_in_time(r, arrived, moment),
             Scheduler::Timeline => {
                 let standing = self.standing();
-                Chosen::Joins(earliest_place(&standing, r, moment, scratch))
+                Chosen::Joins(least_place(&standing, r, moment, scratch))
             }
         }
     }

@@ -34,7 +34,7 @@ impl ReadHistory {
     ) -> [Option<PlannedUse>; 256]
         requires run { IsTrue (is_run self.now.setting.runs r.0) }
         requires homed { All (λ c. c.device.0 < most_devices) (commands_of self.now.setting.runs r.0) }
-        ensures { (front : List Item) → (scheduler_of self.now.setting.mode ≡ Timeline → HoldsTimes scratch.now (planned_times self.now.setting (read_in self.now) r.0 front moment)) → AreUsesOf result (planned_times self.now.setting (read_in self.now) r.0 front moment) }
+        ensures { (front : List Item) → (scheduler_of self.now.setting.mode ≡ Timeline → HoldsTimes scratch.now.slots (planned_times self.now.setting (read_in self.now) r.0 front moment)) → AreUsesOf result (planned_times self.now.setting (read_in self.now) r.0 front moment) }
     {
         let commands = self.roster().commands(r);
         match self.scheduler() {
@@ -77,7 +77,7 @@ fn used_again(used: Option<PlannedUse>, from: u64, to: u64) -> PlannedUse
 /// For how long a run with these commands is planned to use each device, as the scratch holds it.
 fn uses_held(commands: &[Command], scratch: &Scratch) -> [Option<PlannedUse>; 256]
     requires { All (λ c. c.device.0 < most_devices) commands.now }
-    ensures { (d : ℕ) → d < most_devices → slice_get result d ≡ Some (held_use scratch.now commands.now d) }
+    ensures { (d : ℕ) → d < most_devices → slice_get result d ≡ Some (held_use scratch.now.slots commands.now d) }
 {
     let mut uses = [None; 256];
     'commands: for command in commands {

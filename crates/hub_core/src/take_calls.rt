@@ -1,7 +1,7 @@
 //! A run takes its turn in its window.
-ghost use Rattle.std.specs.Prelude.{◌≡◌, length, ℕ};
+ghost use Rattle.std.specs.Prelude.{ℕ};
 ghost use Rattle.hub_core.specs.HubCalls.{IsTurn, SameWindow};
-ghost use Rattle.hub_core.specs.PlannedPlaces.{IsForHome};
+ghost use Rattle.hub_core.specs.PlannedPlaces.{HasSameRoom, IsForHome};
 
 use crate::changes::NONE_MADE;
 use crate::decisions::Chosen;
@@ -19,10 +19,10 @@ impl<D: Device> OpenWindow<D> {
     /// nothing but the last moment. Places by the timeline are looked for in the scratch. Takes no memory.
     #[inline(always)]
     pub(crate) fn take(&mut self, r: RunNo, moment: u64, scratch: &mut Scratch) -> Turn<D>
-        requires scratch { IsForHome self.old.setting scratch.old }
+        requires scratch { IsForHome self.old.setting self.old.rounds scratch.old }
         ensures turn { IsTurn self.old r.0 moment result self.new }
         ensures window { SameWindow self.old self.new }
-        ensures size { length scratch.new ≡ length scratch.old }
+        ensures size { HasSameRoom scratch.old scratch.new }
     {
         match self.decide(r, moment, scratch) {
             Chosen::Absent => {

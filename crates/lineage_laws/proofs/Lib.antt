@@ -1,3 +1,4 @@
 pub mod LineOrders
 pub mod Statuses
 pub mod Sweeps
+pub mod Exchanges

@@ -1,10 +1,18 @@
-//! Laws of a lineage table: the order of statuses and of the line, and what keeps the value that stands.
-ghost use Rattle.std.specs.Prelude.{◌≡◌, ◌≢◌, ◌<◌, ◌≤◌, ℕ, false, IsSome, Some, drop, insert, length};
-ghost use Rattle.lineage_laws.specs.Laws.{AreDifferent, AreInOrder, StandByStatus, is_among, next_with_access, stand_of};
+//! Laws of a lineage table: the order of statuses and of the line, and what keeps the value that stands. And the law of
+//! the line: neighbours that are apart may be exchanged.
+ghost use Rattle.std.specs.Prelude.{◌≡◌, ◌≢◌, ◌<◌, ◌≤◌, ℕ, false, All, IsSome, IsTrue, Some, drop, insert, length};
+ghost use Rattle.command_rules.specs.Apart.{meet};
+ghost use Rattle.command_rules.specs.ClosedSets.{are_apart};
+ghost use Rattle.command_rules.specs.Rosters.{runs_of};
+ghost use Rattle.device_order.specs.Exchanges.{SameOutcome};
+ghost use Rattle.lineage_laws.specs.Laws.{AreDifferent, AreInOrder, StandByStatus, is_among, next_with_access, stand_of, with_exchange};
 ghost use Rattle.lineage_table.specs.Accesses.{effective_writer, put_before, status_of, without, written_by};
 ghost use Rattle.lineage_table.specs.Lineages.{accesses_at, lineage_at, released, removed, settled};
+ghost use Rattle.serial_meaning.specs.Conditions.{HasKinds, HasRosterDevices, IsItemOf};
+ghost use Rattle.serial_meaning.specs.Executions.{order_in};
 
-use home_types::{DeviceNo, List, RunNo};
+use command_rules::Roster;
+use home_types::{DeviceNo, Item, Kind, List, RunNo, World};
 use lineage_table::{Access, Status, Table};
 
 /// Among the accesses of `d` the released ones stand before the acquired one and that before the scheduled ones, and
@@ -49,4 +57,18 @@ pub fn compaction_keeps(table: &Table, d: DeviceNo, r: RunNo)
     requires device { d.0 < length table.now }
     requires wrote { IsSome (written_by r.0 (accesses_at table.now d.0)) }
     ensures { stand_of (settled r.0 (lineage_at table.now d.0)) ≡ stand_of (lineage_at table.now d.0) }
+{}
+
+/// The items at `at` and the next place, which are apart, may be exchanged: the serial execution of the items is then refused
+/// exactly where it was, gives each run the same answers, and leaves the same world.
+///
+/// Asks for a kind for each device of the world, that each command of the roster is on one of these devices, that each item
+/// is a run of the roster or an event of one of these devices, and that the two items are there and apart: they share no
+/// device, and neither is a run that follows the other.
+pub fn exchange(world: &World, items: &List<Item>, at: u32, roster: &Roster, kinds: &List<Kind>)
+    requires kinds { HasKinds world.now.devices.items kinds.now.items }
+    requires devices { HasRosterDevices world.now.devices.items roster.now }
+    requires items { All (IsItemOf world.now.devices.items roster.now) items.now.items }
+    requires apart { IsTrue (are_apart (meet (runs_of roster.now)) at items.now.items) }
+    ensures { SameOutcome (order_in world.now items.now roster.now kinds.now) (order_in world.now (with_exchange at items.now) roster.now kinds.now) }
 {}

@@ -67,7 +67,7 @@ both_ways false true to from = from refl
 both_ways false false to from = refl
 
 -- some device of the run is so where some command's device is
-devices_by_commands : (w : Setting) (r : ℕ) (p : ℕ → Bool) → IsRosterFor (length w.first) w.runs → list_any p (devices_of w r) ≡ list_any (λ (c : Command). p c.device.0) (commands_of w.runs r)
+pub devices_by_commands : (w : Setting) (r : ℕ) (p : ℕ → Bool) → IsRosterFor (length w.first) w.runs → list_any p (devices_of w r) ≡ list_any (λ (c : Command). p c.device.0) (commands_of w.runs r)
 devices_by_commands w r p allowed =
     any_filter p (touches w.runs r) (device_numbers w)
     ∙ both_ways (list_any (λ d. touches w.runs r d && p d) (device_numbers w)) (list_any (λ (c : Command). p c.device.0) (commands_of w.runs r)) to from

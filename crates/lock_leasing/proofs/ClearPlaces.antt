@@ -1,9 +1,13 @@
 -- The places behind which nothing must stand before a run: those of every scheduler are such places.
+use Rattle.command_rules.specs.ClosedSets.{chosen, others, rearranged}
 use Rattle.command_rules.specs.Items.{is_ran, of_run}
 use Rattle.command_rules.specs.Rosters.{follows, touches}
+use Rattle.history_book.proofs.GapFronts.{gaps_behind}
 use Rattle.history_book.proofs.Sealed.{first_within}
+use Rattle.history_book.proofs.Splits.{gap_holds, line_length}
+use Rattle.history_book.specs.Gaps.{gap_set, is_needed, line_for}
 use Rattle.history_book.specs.Lines.{Split, is_event_on, split_at}
-use Rattle.history_book.specs.Readings.{Reading, is_committed, is_live}
+use Rattle.history_book.specs.Readings.{Reading, did, is_committed, is_live, is_next_on, next_of}
 use Rattle.history_book.specs.Sealed.{sealed_in}
 use Rattle.history_book.specs.Settings.{Setting, devices_of, is_device, scheduler_of}
 use Rattle.home_types.specs.declared.items.Item.TheVariants.{Back, Failed, Ran}
@@ -12,21 +16,16 @@ use Rattle.home_types.specs.declared.modes.Scheduler.TheVariants.{Fcfs, JustInTi
 use Rattle.home_types.specs.declared.modes.Scheduler.{Scheduler}
 use Rattle.home_types.specs.declared.numbers.RunNo.{RunNo}
 use Rattle.lock_leasing.proofs.Bindings.{any_filter, any_range}
-use Rattle.lock_leasing.specs.Configurations.{Grips}
-use Rattle.lock_leasing.specs.Places.{At, Denial, DeniedBy, IsClear, Placing, at_end, binds, denial_of, first_place, fits, patience, scheduled_place, up_to_first, up_to_last}
+use Rattle.lock_leasing.proofs.Facts.{command_out}
+use Rattle.lock_leasing.specs.Configurations.{Grips, grips_command}
+use Rattle.lock_leasing.specs.Places.{At, Denial, DeniedBy, IsClear, MayBeOut, Placing, at_end, binds, denial_of, first_place, in_order, patience, scheduled_place, up_to_first, up_to_last}
 use Rattle.lock_leasing.specs.Words.{has_touched}
 use Rattle.std.proofs.Common.{ap, arith, refl, subst, sym, ◌∙◌}
 use Rattle.std.proofs.lemmas.Grind.{common_steps}
 use Rattle.std.proofs.lemmas.List.Folds.{list_any-append}
-use Rattle.std.proofs.lemmas.List.{take-append-drop}
+use Rattle.std.proofs.lemmas.List.{length-append, take-append-drop}
 use Rattle.std.specs.List.{list_any, range_with_len}
-use Rattle.std.specs.Prelude.{Bool, List, None, Option, Some, [], drop, false, find, if◌then◌else◌, length, max, nat_le, option_map, suc, take, true, unwrap_or, zero, ℕ, ◌&&◌, ◌+◌, ◌-◌, ◌<◌, ◌==◌, ◌||◌, ◌∷◌, ◌≡◌, ◌≤◌}
-
--- a place of the line for the run, behind what is sealed, with nothing behind it that must stand before
-pub record IsPlaceFor (w : Setting) (n : Reading) (g : Grips) (r at : ℕ) : Type 0 where
-  pub clear : IsClear w n g r at
-  pub sealed : sealed_in n ≤ at
-  pub within : at ≤ length n.line
+use Rattle.std.specs.Prelude.{Bool, IsTrue, List, None, Option, Some, [], drop, false, if◌then◌else◌, length, max, nat_le, suc, take, true, unwrap_or, zero, ℕ, ◌&&◌, ◌++◌, ◌+◌, ◌<◌, ◌==◌, ◌||◌, ◌∷◌, ◌≡◌, ◌≤◌}
 
 -- The first place
 
@@ -85,77 +84,154 @@ behind_sealed w n g r at from = last (up_to_last (binds w n g r) n.line) (sealed
 pub clear_at_end : (w : Setting) (n : Reading) (g : Grips) (r : ℕ) → IsClear w n g r (length n.line)
 clear_at_end w n g r = clear_from w n g r (length n.line) (place_within w n g r)
 
+-- where one test holds of none of these items, neither does one that fails wherever it does
+pub none_beside : (test : Item → Bool) (p : Item → Bool) (is : List Item) → ((i : Item) → test i ≡ false → p i ≡ false) → list_any test is ≡ false → list_any p is ≡ false
+none_beside test p [] each none = refl
+none_beside test p (i ∷ is) each none = λ j. each i (first (test i) (list_any test is) none) j || none_beside test p is each (last (test i) (list_any test is) none) j
+  where
+    first : (a b : Bool) → (a || b) ≡ false → a ≡ false
+    first a b h = grind (arith, common_steps)
+
+    last : (a b : Bool) → (a || b) ≡ false → b ≡ false
+    last a b h = grind (arith, common_steps)
+
+-- The set of the timeline
+
+-- what binds is needed
+bound_needed : (w : Setting) (n : Reading) (g : Grips) (r : ℕ) → MayBeOut w n g → (i : Item) → is_needed w n r i ≡ false → binds w n g r i ≡ false
+bound_needed w n g r out (Ran x) none =
+    let parts = neither (list_any (λ d. did n x.0 d || (is_live n x.0 && is_next_on w n x.0 d)) (devices_of w r)) (follows w.runs r x.0 && is_committed n x.0) none in
+    λ k. none_touched (devices_of w r) parts.0 k || parts.1 k
+  where
+    neither : (a b : Bool) → (a || b) ≡ false → (a ≡ false) × (b ≡ false)
+    neither a b h = (grind (arith, common_steps), grind (arith, common_steps))
+
+    held : (d : ℕ) → grips_command g x.0 d ≡ true → (is_live n x.0 && is_next_on w n x.0 d) ≡ true
+    held d at = let found = command_out g x.0 d at in three (is_live n x.0) (is_next_on w n x.0 d) (found.0 == next_of n x.0) (out.commands d x.0 found.0 found.1)
+      where
+        three : (a b c : Bool) → IsTrue (a && b && c) → (a && b) ≡ true
+        three a b c h = grind (arith, common_steps)
+
+    touched : (d : ℕ) (a b c : Bool) → (c ≡ true → b ≡ true) → (a || b) ≡ false → (a || c) ≡ false
+    touched d a b c h e = grind (arith, common_steps)
+
+    none_touched : (ds : List ℕ) → list_any (λ d. did n x.0 d || (is_live n x.0 && is_next_on w n x.0 d)) ds ≡ false → list_any (has_touched n g x.0) ds ≡ false
+    none_touched [] e = refl
+    none_touched (d ∷ ds) e =
+        let parts = neither (did n x.0 d || (is_live n x.0 && is_next_on w n x.0 d)) (list_any (λ d. did n x.0 d || (is_live n x.0 && is_next_on w n x.0 d)) ds) e in
+        λ k. touched d (did n x.0 d) (is_live n x.0 && is_next_on w n x.0 d) (grips_command g x.0 d) (held d) parts.0 k || none_touched ds parts.1 k
+bound_needed w n g r out (Failed d k) none = none
+bound_needed w n g r out (Back d k) none = none
+
 -- The schedulers
 
--- the run stands at a place for it
-abbrev pub StandsAt : Setting → Reading → Grips → ℕ → Split → Type 0
-StandsAt w n g r s = (s ≡ split_at n.line (length s.front)) × IsPlaceFor w n g r (length s.front)
+-- the run stands at a place of the line, in the order that it has for the run, behind what is sealed
+pub record StandsAt (w : Setting) (n : Reading) (r m : ℕ) (s : Split) : Type 0 where
+  pub parted : s ≡ split_at (line_for w n r m) (length s.front)
+  pub sealed : sealed_in n ≤ length s.front
+  pub within : length s.front ≤ length n.line
 
-stands_at : (w : Setting) (n : Reading) (g : Grips) (r at : ℕ) (s : Split) → first_place w n g r ≤ at → at ≤ length n.line → At (split_at n.line at) ≡ At s → StandsAt w n g r s
-stands_at w n g r at s from within is = subst (StandsAt w n g r) same (ap (split_at n.line) (sym size), subst (IsPlaceFor w n g r) (sym size) (record { clear = clear_from w n g r at from; sealed = behind_sealed w n g r at from; within = within }))
+-- .. and where only such grips are out as may be, nothing behind it must stand before
+abbrev IsPlaceFor : Setting → Reading → Grips → ℕ → ℕ → Split → Type 0
+IsPlaceFor w n g r m s = StandsAt w n r m s × (MayBeOut w n g → IsClear w (in_order n (line_for w n r m)) g r (length s.front))
+
+-- a place from the first one on, where the line stays as it is
+stands_at : (w : Setting) (n : Reading) (g : Grips) (r at m : ℕ) (s : Split) → line_for w n r m ≡ n.line → first_place w n g r ≤ at → at ≤ length n.line → At (split_at n.line at) ≡ At s → IsPlaceFor w n g r m s
+stands_at w n g r at m s stays from within is = subst (IsPlaceFor w n g r m) (ap placed is) (stands, clear)
   where
     placed : Placing → Split
     placed (At s) = s
     placed (DeniedBy d x) = split_at n.line at
 
-    same : split_at n.line at ≡ s
-    same = ap placed is
-
     size : length (take at n.line) ≡ at
     size = grind (arith, common_steps)
 
--- the place that is found among these
-found_within : (test : ℕ → Bool) (a k at : ℕ) → find test (range_with_len a k) ≡ Some at → (a ≤ at) × (at < a + k)
-found_within test a zero at found = absurd (cc)
-found_within test a (suc k) at found = by_test (test a) found (λ next. found_within test (a + 1) k at next)
-  where
-    by_test : (b : Bool) → (if b then Some a else find test (range_with_len (a + 1) k)) ≡ Some at → (find test (range_with_len (a + 1) k) ≡ Some at → (a + 1 ≤ at) × (at < a + 1 + k)) → (a ≤ at) × (at < a + suc k)
-    by_test true is rest = let here : a ≡ at = ap (λ o. unwrap_or o a) is in (omega (arith, here), omega (arith, here))
-    by_test false is rest = let later = rest is in (omega (arith, later.0), omega (arith, later.1))
+    stands : StandsAt w n r m (split_at n.line at)
+    stands = record {
+      parted = sym (ap (split_at n.line) size) ∙ sym (ap (λ l. split_at l (length (take at n.line))) stays);
+      sealed = subst (λ k. sealed_in n ≤ k) (sym size) (behind_sealed w n g r at from);
+      within = subst (λ k. k ≤ length n.line) (sym size) within;
+    }
 
--- where a scheduler places a run is a place for it
-pub scheduled_is_clear : (w : Setting) (n : Reading) (g : Grips) (r m : ℕ) (s : Split) → scheduled_place w n g r m ≡ At s → StandsAt w n g r s
-scheduled_is_clear w n g r m s is = by_scheduler (scheduler_of w.mode) is
+    clear : MayBeOut w n g → IsClear w (in_order n (line_for w n r m)) g r (length (take at n.line))
+    clear out = subst (IsClear w (in_order n (line_for w n r m)) g r) (sym size) (subst (λ l. IsClear w (in_order n l) g r at) (sym stays) (clear_from w n g r at from))
+
+-- behind the set of the timeline, where its items come first in the line
+stands_in_gaps : (w : Setting) (n : Reading) (g : Grips) (r m : ℕ) (s : Split) → line_for w n r m ≡ rearranged (gap_set w n r m) n.line → At (record { front = chosen (gap_set w n r m) n.line; back = others (gap_set w n r m) n.line }) ≡ At s → IsPlaceFor w n g r m s
+stands_in_gaps w n g r m s parts is = subst (IsPlaceFor w n g r m) (ap placed is) (stands, clear)
+  where
+    ahead : List Item
+    ahead = chosen (gap_set w n r m) n.line
+
+    rest : List Item
+    rest = others (gap_set w n r m) n.line
+
+    placed : Placing → Split
+    placed (At s) = s
+    placed (DeniedBy d x) = record { front = ahead; back = rest }
+
+    front_is : take (length ahead) (ahead ++ rest) ≡ ahead
+    front_is = grind (arith, common_steps)
+
+    back_is : drop (length ahead) (ahead ++ rest) ≡ rest
+    back_is = grind (arith, common_steps)
+
+    long : length (ahead ++ rest) ≡ length n.line
+    long = ap length (sym parts) ∙ line_length w n r m
+
+    stands : StandsAt w n r m (record { front = ahead; back = rest })
+    stands = record {
+      parted = (λ k. record { front = sym front_is k; back = sym back_is k }) ∙ ap (λ l. split_at l (length ahead)) (sym parts);
+      sealed = gaps_behind w n r m;
+      within = let sum = length-append ahead rest in omega (arith, sum, long);
+    }
+
+    clear : MayBeOut w n g → IsClear w (in_order n (line_for w n r m)) g r (length ahead)
+    clear out = subst (λ l. IsClear w (in_order n l) g r (length ahead)) (sym parts) (ap (list_any (binds w n g r)) back_is ∙ none_beside (is_needed w n r) (binds w n g r) rest (bound_needed w n g r out) (gap_holds w n r m))
+
+scheduled : (w : Setting) (n : Reading) (g : Grips) (r m : ℕ) (s : Split) → scheduled_place w n g r m ≡ At s → IsPlaceFor w n g r m s
+scheduled w n g r m s is = by_scheduler (scheduler_of w.mode) refl is
   where
     admitted : Option Denial → Placing
     admitted None = At (split_at n.line (first_place w n g r))
     admitted (Some x) = if nat_le (unwrap_or (n.run r).arrived 0 + patience) m then at_end n else DeniedBy x.device x.run
 
-    found : Option ℕ → Placing
-    found o = unwrap_or (option_map (λ at. At (split_at n.line at)) o) (at_end n)
-
-    places : List ℕ
-    places = range_with_len (first_place w n g r) (length n.line - first_place w n g r)
-
     placed : Scheduler → Placing
     placed Fcfs = at_end n
     placed JustInTime = admitted (denial_of w n g r)
-    placed Timeline = found (find (λ at. fits w n r m (split_at n.line at)) places)
+    placed Timeline = At (record { front = chosen (gap_set w n r m) n.line; back = others (gap_set w n r m) n.line })
+
+    line : Scheduler → List Item
+    line Fcfs = n.line
+    line JustInTime = n.line
+    line Timeline = rearranged (gap_set w n r m) n.line
 
     whole : first_place w n g r ≤ length n.line
     whole = place_within w n g r
 
-    last : at_end n ≡ At s → StandsAt w n g r s
-    last = stands_at w n g r (length n.line) s whole (omega arith)
+    last : line_for w n r m ≡ n.line → at_end n ≡ At s → IsPlaceFor w n g r m s
+    last stays = stands_at w n g r (length n.line) m s stays whole (omega arith)
 
-    by_denial : (o : Option Denial) → admitted o ≡ At s → StandsAt w n g r s
-    by_denial None is = stands_at w n g r (first_place w n g r) s (omega arith) whole is
-    by_denial (Some x) is = by_time (nat_le (unwrap_or (n.run r).arrived 0 + patience) m) is
+    by_denial : line_for w n r m ≡ n.line → (o : Option Denial) → admitted o ≡ At s → IsPlaceFor w n g r m s
+    by_denial stays None is = stands_at w n g r (first_place w n g r) m s stays (omega arith) whole is
+    by_denial stays (Some x) is = by_time (nat_le (unwrap_or (n.run r).arrived 0 + patience) m) is
       where
-        by_time : (b : Bool) → (if b then at_end n else DeniedBy x.device x.run) ≡ At s → StandsAt w n g r s
-        by_time true is = last is
+        by_time : (b : Bool) → (if b then at_end n else DeniedBy x.device x.run) ≡ At s → IsPlaceFor w n g r m s
+        by_time true is = last stays is
         by_time false is = absurd (cc)
 
-    by_place : (o : Option ℕ) → find (λ at. fits w n r m (split_at n.line at)) places ≡ o → found o ≡ At s → StandsAt w n g r s
-    by_place None there is = last is
-    by_place (Some at) there is =
-        let among = found_within (λ at. fits w n r m (split_at n.line at)) (first_place w n g r) (length n.line - first_place w n g r) at there in
-        stands_at w n g r at s among.0 (omega (arith, among.1, whole)) is
+    by_scheduler : (scheduler : Scheduler) → line_for w n r m ≡ line scheduler → placed scheduler ≡ At s → IsPlaceFor w n g r m s
+    by_scheduler Fcfs same is = last same is
+    by_scheduler JustInTime same is = by_denial same (denial_of w n g r) is
+    by_scheduler Timeline same is = stands_in_gaps w n g r m s same is
 
-    by_scheduler : (scheduler : Scheduler) → placed scheduler ≡ At s → StandsAt w n g r s
-    by_scheduler Fcfs is = last is
-    by_scheduler JustInTime is = by_denial (denial_of w n g r) is
-    by_scheduler Timeline is = by_place (find (λ at. fits w n r m (split_at n.line at)) places) refl is
+-- where a scheduler places a run is a place of the line
+pub scheduled_stands : (w : Setting) (n : Reading) (g : Grips) (r m : ℕ) (s : Split) → scheduled_place w n g r m ≡ At s → StandsAt w n r m s
+scheduled_stands w n g r m s is = (scheduled w n g r m s is).0
+
+-- .. and a clear one
+pub scheduled_is_clear : (w : Setting) (n : Reading) (g : Grips) (r m : ℕ) (s : Split) → MayBeOut w n g → scheduled_place w n g r m ≡ At s → IsClear w (in_order n (line_for w n r m)) g r (length s.front)
+scheduled_is_clear w n g r m s out is = (scheduled w n g r m s is).1 out
 
 -- What stands behind a clear place
 
@@ -182,17 +258,6 @@ unbound_touch w n g r d q unbound device used = by_touch (has_touched n g q.0 d)
         below : is_device w d ≡ true → d < 0 + length w.first
         below h = grind (arith, common_steps)
     by_touch false e = refl
-
--- where one test holds of none of these items, neither does one that fails wherever it does
-pub none_beside : (test : Item → Bool) (p : Item → Bool) (is : List Item) → ((i : Item) → test i ≡ false → p i ≡ false) → list_any test is ≡ false → list_any p is ≡ false
-none_beside test p [] each none = refl
-none_beside test p (i ∷ is) each none = λ j. each i (first (test i) (list_any test is) none) j || none_beside test p is each (last (test i) (list_any test is) none) j
-  where
-    first : (a b : Bool) → (a || b) ≡ false → a ≡ false
-    first a b h = grind (arith, common_steps)
-
-    last : (a b : Bool) → (a || b) ≡ false → b ≡ false
-    last a b h = grind (arith, common_steps)
 
 -- no run behind the place has touched a device of the run
 pub clear_touch : (w : Setting) (n : Reading) (g : Grips) (r at d : ℕ) → IsClear w n g r at → is_device w d ≡ true → touches w.runs r d ≡ true → list_any (of_run (λ x. has_touched n g x d)) (drop at n.line) ≡ false

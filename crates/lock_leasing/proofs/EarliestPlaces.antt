@@ -1,40 +1,51 @@
--- No place of the line plans an earlier end of a run than that of the timeline does.
-use Rattle.command_rules.specs.Rosters.{commands_of, reads_first, writes_on}
-use Rattle.history_book.specs.Lines.{split_at}
-use Rattle.history_book.specs.Plans.{Planning, free, greatest, plan_more, planned_end, planned_times, whole_end}
-use Rattle.history_book.specs.Readings.{Planned, Reading, is_live, is_open}
-use Rattle.history_book.specs.Settings.{Setting, scheduler_of}
+-- No set of items plans an earlier end of a run than that of the timeline does.
+use Rattle.command_rules.proofs.ClosedLeasts.{grown_least}
+use Rattle.command_rules.specs.Apart.{meet}
+use Rattle.command_rules.specs.ClosedSets.{IsLeast, IsPart, Rises, chosen}
+use Rattle.command_rules.specs.Rosters.{commands_of, reads_first, touches, writes_on}
+use Rattle.history_book.proofs.Splits.{base_length}
+use Rattle.history_book.specs.Gaps.{bars, base_of, gap_set}
+use Rattle.history_book.specs.Plans.{Planning, free, greatest, plan_more, planned_end, planned_start, planned_times, whole_end}
+use Rattle.history_book.specs.Readings.{Planned, Reading, is_live, is_open, passed_by}
+use Rattle.history_book.specs.Settings.{Setting, devices_of, scheduler_of}
 use Rattle.home_types.specs.declared.commands.Command.{Command}
 use Rattle.home_types.specs.declared.items.Item.TheVariants.{Back, Failed, Ran}
 use Rattle.home_types.specs.declared.items.Item.{Item}
 use Rattle.home_types.specs.declared.modes.Scheduler.TheVariants.{Fcfs, JustInTime, Timeline}
 use Rattle.home_types.specs.declared.modes.Scheduler.{Scheduler}
-use Rattle.lock_leasing.specs.Configurations.{Grips}
-use Rattle.lock_leasing.specs.Places.{At, DeniedBy, IsEarliestPlace, Placing, at_end, first_place, fits, plan_end, timeline}
-use Rattle.std.proofs.Common.{ap, arith, refl, sym, ◌∙◌}
+use Rattle.lock_leasing.specs.Places.{IsEarliestSet, plan_end}
+use Rattle.std.proofs.Common.{arith, refl, subst₂, sym}
 use Rattle.std.proofs.lemmas.Grind.{common_steps}
 use Rattle.std.proofs.lemmas.List.Folds.{fold_along}
 use Rattle.std.proofs.lemmas.List.Sums.{fold-append}
-use Rattle.std.specs.List.{range_with_len}
-use Rattle.std.specs.Prelude.{Bool, List, Option, Some, [], false, find, fold, if◌then◌else◌, length, max, min, option_map, suc, take, true, unwrap_or, zero, ℕ, ◌&&◌, ◌++◌, ◌+◌, ◌-◌, ◌<◌, ◌==◌, ◌∷◌, ◌≡◌, ◌≤◌}
+use Rattle.std.specs.List.{list_any}
+use Rattle.std.specs.Prelude.{Bool, List, [], false, fold, if◌then◌else◌, max, min, nat_lt, not, true, ℕ, ◌&&◌, ◌++◌, ◌+◌, ◌==◌, ◌||◌, ◌∷◌, ◌≡◌, ◌≤◌}
 
--- More items in front
+-- A larger set in front
 
--- the largest of these numbers, from this one on, is not below it
-from_start : {A : Type 0} (f : A → ℕ) (xs : List A) (t : ℕ) → t ≤ fold (λ s x. max s (f x)) t xs
-from_start f [] t = omega arith
-from_start f (x ∷ xs) t = omega (arith, from_start f xs (max t (f x)))
+-- the largest of these numbers, from this one on, is not below it, nor below one from a smaller start
+from_start : {A : Type 0} (f : A → ℕ) (xs : List A) (t u : ℕ) → t ≤ u → fold (λ s x. max s (f x)) t xs ≤ fold (λ s x. max s (f x)) u xs
+from_start f [] t u le = le
+from_start f (x ∷ xs) t u le = from_start f xs (max t (f x)) (max u (f x)) (omega (arith, le))
 
--- the largest number of more items is not smaller
-more_items : {A : Type 0} (f : A → ℕ) (xs : List A) (a b t : ℕ) → a ≤ b → fold (λ s x. max s (f x)) t (take a xs) ≤ fold (λ s x. max s (f x)) t (take b xs)
-more_items f xs zero b t le = from_start f (take b xs) t
-more_items f xs (suc a) zero t le = absurd (omega (arith, le))
-more_items f [] (suc a) (suc b) t le = omega arith
-more_items f (x ∷ xs) (suc a) (suc b) t le = more_items f xs a b (max t (f x)) (omega (arith, le))
+-- the largest number of a larger set is not smaller
+more_items : {A : Type 0} (f : A → ℕ) (bs cs : List Bool) (xs : List A) (t u : ℕ) → t ≤ u → IsPart bs cs → fold (λ s x. max s (f x)) t (chosen bs xs) ≤ fold (λ s x. max s (f x)) u (chosen cs xs)
+unfolding chosen IsPart
+more_items f bs cs [] t u le p = le
+more_items f [] [] (x ∷ xs) t u le p = le
+more_items f [] (c ∷ cs) xs t u le p = elim p [ ]
+more_items f (b ∷ bs) [] xs t u le p = elim p [ ]
+more_items f (true ∷ bs) (true ∷ cs) (x ∷ xs) t u le p = more_items f bs cs xs (max t (f x)) (max u (f x)) (omega (arith, le)) p.1
+more_items f (true ∷ bs) (false ∷ cs) (x ∷ xs) t u le p = absurd (clash (p.0 refl))
+  where
+    clash : false ≡ true → ⊥
+    clash h = cc
+more_items f (false ∷ bs) (true ∷ cs) (x ∷ xs) t u le p = more_items f bs cs xs t (max u (f x)) (omega (arith, le)) p.1
+more_items f (false ∷ bs) (false ∷ cs) (x ∷ xs) t u le p = more_items f bs cs xs t u le p.1
 
--- behind more of the line, no device is free earlier
-free_later : (w : Setting) (n : Reading) (r d a b : ℕ) → a ≤ b → free w n r (take a n.line) d ≤ free w n r (take b n.line) d
-free_later w n r d a b le = more_items end_of n.line a b 0 le
+-- behind a larger set no device is free earlier
+free_later : (w : Setting) (n : Reading) (r d : ℕ) (bs cs : List Bool) → IsPart bs cs → free w n r (chosen bs n.line) d ≤ free w n r (chosen cs n.line) d
+free_later w n r d bs cs p = more_items end_of bs cs n.line 0 0 (omega arith) p
   where
     end_of : Item → ℕ
     end_of (Ran x) =
@@ -77,82 +88,97 @@ one_more early late each p q c before = record {
     larger : (x y : ℕ) → x ≡ max (plan_end p.planned) one.to → y ≡ max (plan_end q.planned) other.to → x ≤ y
     larger x y is that = omega (arith, is, that, clock, before.ends)
 
--- behind more of the line, no run is planned to end earlier
-plan_later : (w : Setting) (n : Reading) (r m a b : ℕ) → a ≤ b → plan_end (planned_times w n r (take a n.line) m) ≤ plan_end (planned_times w n r (take b n.line) m)
-plan_later w n r m a b le = by_scheduler (scheduler_of w.mode)
+-- the plan ends on the device no later than the other one
+record EndsBefore (p q : Planning) : Type 0 where
+  clock : p.clock ≤ q.clock
+  ends : (d : ℕ) → planned_end p.planned d ≤ planned_end q.planned d
+
+end_on : (planned : List Planned) (p : Planned) (d : ℕ) → planned_end (planned ++ p ∷ []) d ≡ (if p.device == d then p.to else planned_end planned d)
+end_on planned p d = fold-append (λ t q. if q.device == d then q.to else t) 0 planned (p ∷ [])
+
+one_more_on : (early late : ℕ → ℕ) → ((d : ℕ) → early d ≤ late d) → (p q : Planning) (c : Command) → EndsBefore p q → EndsBefore (plan_more early p c) (plan_more late q c)
+one_more_on early late each p q c before = record {
+  clock = clock;
+  ends = λ d. subst₂ (λ x y. x ≤ y) (sym (end_on p.planned one d)) (sym (end_on q.planned other d)) (by_device d (c.device.0 == d));
+}
   where
-    waits : ℕ → Scheduler → ℕ → ℕ
-    waits at Fcfs d = 0
-    waits at JustInTime d = 0
-    waits at Timeline d = free w n r (take at n.line) d
+    one : Planned
+    one = record { device = c.device.0; from = max p.clock (early c.device.0); to = min (max p.clock (early c.device.0) + c.ms) greatest }
+
+    other : Planned
+    other = record { device = c.device.0; from = max q.clock (late c.device.0); to = min (max q.clock (late c.device.0) + c.ms) greatest }
+
+    clock : one.to ≤ other.to
+    clock = sum_before p.clock q.clock (early c.device.0) (late c.device.0) c.ms before.clock (each c.device.0)
+
+    by_device : (d : ℕ) (b : Bool) → (if b then one.to else planned_end p.planned d) ≤ (if b then other.to else planned_end q.planned d)
+    by_device d true = clock
+    by_device d false = before.ends d
+
+-- behind a larger set no command ends earlier
+record PlansLater (early late : List Planned) : Type 0 where
+  whole : plan_end early ≤ plan_end late
+  each : (d : ℕ) → planned_end early d ≤ planned_end late d
+
+plan_later : (w : Setting) (n : Reading) (r m : ℕ) (bs cs : List Bool) → IsPart bs cs → PlansLater (planned_times w n r (chosen bs n.line) m) (planned_times w n r (chosen cs n.line) m)
+plan_later w n r m bs cs p = by_scheduler (scheduler_of w.mode)
+  where
+    waits : List Bool → Scheduler → ℕ → ℕ
+    waits set Fcfs d = 0
+    waits set JustInTime d = 0
+    waits set Timeline d = free w n r (chosen set n.line) d
 
     start : Planning
     start = record { clock = m; planned = [] }
 
-    plan : Scheduler → ℕ → Planning
-    plan scheduler at = fold (plan_more (waits at scheduler)) start (commands_of w.runs r)
+    plan : Scheduler → List Bool → Planning
+    plan scheduler set = fold (plan_more (waits set scheduler)) start (commands_of w.runs r)
 
-    along : (scheduler : Scheduler) → ((d : ℕ) → waits a scheduler d ≤ waits b scheduler d) → plan_end (plan scheduler a).planned ≤ plan_end (plan scheduler b).planned
+    along : (scheduler : Scheduler) → ((d : ℕ) → waits bs scheduler d ≤ waits cs scheduler d) → PlansLater (plan scheduler bs).planned (plan scheduler cs).planned
     along scheduler each =
-        (fold_along (plan_more (waits a scheduler)) (plan_more (waits b scheduler)) RunsBefore (one_more (waits a scheduler) (waits b scheduler) each) start start (commands_of w.runs r)
-        (record { clock = omega arith; ends = omega arith })).ends
+        record {
+          whole = (fold_along (plan_more (waits bs scheduler)) (plan_more (waits cs scheduler)) RunsBefore (one_more (waits bs scheduler) (waits cs scheduler) each) start start (commands_of w.runs r) (record { clock = omega arith; ends = omega arith })).ends;
+          each = (fold_along (plan_more (waits bs scheduler)) (plan_more (waits cs scheduler)) EndsBefore (one_more_on (waits bs scheduler) (waits cs scheduler) each) start start (commands_of w.runs r) (record { clock = omega arith; ends = λ d. omega arith })).ends;
+        }
 
-    by_scheduler : (scheduler : Scheduler) → plan_end (plan scheduler a).planned ≤ plan_end (plan scheduler b).planned
+    by_scheduler : (scheduler : Scheduler) → PlansLater (plan scheduler bs).planned (plan scheduler cs).planned
     by_scheduler Fcfs = along Fcfs (λ d. omega arith)
     by_scheduler JustInTime = along JustInTime (λ d. omega arith)
-    by_scheduler Timeline = along Timeline (λ d. free_later w n r d a b le)
+    by_scheduler Timeline = along Timeline (λ d. free_later w n r d bs cs p)
 
--- The least place
+-- The least set
 
--- the first number of a range that passes is at or before each one of it that passes
-first_found : (test : ℕ → Bool) (a k x : ℕ) → a ≤ x → x < a + k → test x ≡ true → (y : ℕ) × (find test (range_with_len a k) ≡ Some y) × (y ≤ x)
-first_found test a zero x from below passes = absurd (omega (arith, from, below))
-first_found test a (suc k) x from below passes = by_test (test a) refl (λ next. first_found test (a + 1) k x next (omega (arith, below)) passes)
+-- a larger set bars more
+pub bars_rise : (w : Setting) (n : Reading) (r m : ℕ) → Rises (bars w n r m)
+bars_rise w n r m bs cs (Ran x) p barred = by_live (is_live n x.0) barred
   where
-    by_test : (b : Bool) → test a ≡ b → (a + 1 ≤ x → (y : ℕ) × (find test (range_with_len (a + 1) k) ≡ Some y) × (y ≤ x)) → (y : ℕ) × ((if b then Some a else find test (range_with_len (a + 1) k)) ≡ Some y) × (y ≤ x)
-    by_test true is rest = (a, refl, from)
-    by_test false is rest = rest (later from differ)
-      where
-        later : a ≤ x → (a ≡ x → ⊥) → a + 1 ≤ x
-        later le off = omega (arith, le, off)
+    later : (d : ℕ) → planned_end (planned_times w n r (chosen bs n.line) m) d ≤ planned_end (planned_times w n r (chosen cs n.line) m) d
+    later = (plan_later w n r m bs cs p).each
 
-        differ : a ≡ x → ⊥
-        differ same = let clash : false ≡ true = sym is ∙ ap test same ∙ passes in cc
+    test : List Bool → ℕ → Bool
+    test set d = touches w.runs x.0 d && not (passed_by w n x.0 d) && nat_lt (planned_start (n.run x.0).planned d) (planned_end (planned_times w n r (chosen set n.line) m) d)
 
--- a place of the line is told by what stands before it
-same_place : (n : Reading) (at place : ℕ) → at ≤ length n.line → place ≤ length n.line → At (split_at n.line at) ≡ At (split_at n.line place) → at ≡ place
-same_place n at place within known is = sym (size at within) ∙ ap (λ p. length (placed p)) is ∙ size place known
-  where
-    placed : Placing → List Item
-    placed (At s) = s.front
-    placed (DeniedBy d x) = []
+    more : (a b : Bool) (s e f : ℕ) → e ≤ f → (a && b && nat_lt s e) ≡ true → (a && b && nat_lt s f) ≡ true
+    more a b s e f le h = grind (arith, common_steps)
 
-    size : (k : ℕ) → k ≤ length n.line → length (take k n.line) ≡ k
-    size k le = grind (arith, common_steps)
+    either : (a b c d : Bool) → (a ≡ true → c ≡ true) → (b ≡ true → d ≡ true) → (a || b) ≡ true → (c || d) ≡ true
+    either a b c d h k e = grind (arith, common_steps)
 
--- the place of the timeline plans no later end of the run than any other that fits, from the first place on
-pub timeline_is_earliest : (w : Setting) (n : Reading) (g : Grips) (r m place : ℕ) → place ≤ length n.line → timeline w n g r m ≡ At (split_at n.line place) → IsEarliestPlace w n g r m place
-timeline_is_earliest w n g r m place known is at from within fitting = plan_later w n r m place at (by_end (at == length n.line) refl)
-  where
-    found : Option ℕ → Placing
-    found o = unwrap_or (option_map (λ k. At (split_at n.line k)) o) (at_end n)
+    some : (ds : List ℕ) → list_any (test bs) ds ≡ true → list_any (test cs) ds ≡ true
+    some [] e = e
+    some (d ∷ ds) e = either (test bs d) (list_any (test bs) ds) (test cs d) (list_any (test cs) ds) (more (touches w.runs x.0 d) (not (passed_by w n x.0 d)) (planned_start (n.run x.0).planned d) _ _ (later d)) (some ds) e
 
-    searched : Option ℕ
-    searched = find (λ k. fits w n r m (split_at n.line k)) (range_with_len (first_place w n g r) (length n.line - first_place w n g r))
+    by_live : (b : Bool) → (b && list_any (test bs) (devices_of w r)) ≡ true → (b && list_any (test cs) (devices_of w r)) ≡ true
+    by_live true e = some (devices_of w r) e
+    by_live false e = e
+bars_rise w n r m bs cs (Failed d k) p barred = barred
+bars_rise w n r m bs cs (Back d k) p barred = barred
 
-    here : (k : ℕ) → searched ≡ Some k → k ≤ at → place ≤ at
-    here k there le =
-        let same : k ≡ place = same_place n k place (omega (arith, le, within)) known (sym (ap found there) ∙ is) in
-        omega (arith, le, same)
+-- the set of the timeline is the least one
+pub gap_least : (w : Setting) (n : Reading) (r m : ℕ) → IsLeast (meet w.runs) (base_of w n r) (bars w n r m) n.line (gap_set w n r m)
+unfolding gap_set
+gap_least w n r m = grown_least (meet w.runs) (base_of w n r) (bars w n r m) n.line (base_length w n r) (bars_rise w n r m)
 
-    less : (a b : ℕ) → a ≤ b → (a == b) ≡ false → a < b
-    less a b le off = grind (arith, common_steps)
-
-    by_end : (b : Bool) → (at == length n.line) ≡ b → place ≤ at
-    by_end true last =
-        let end : at ≡ length n.line = grind (arith, common_steps) in
-        omega (arith, end, known)
-    by_end false before =
-        let inside : at < length n.line = less at (length n.line) within before in
-        let one = first_found (λ k. fits w n r m (split_at n.line k)) (first_place w n g r) (length n.line - first_place w n g r) at from (omega (arith, inside, from)) fitting in
-        here one.0 one.1 one.2
+-- .. and plans the earliest end
+pub gap_is_earliest : (w : Setting) (n : Reading) (r m : ℕ) → IsEarliestSet w n r m (gap_set w n r m)
+gap_is_earliest w n r m other fitting = (plan_later w n r m (gap_set w n r m) other ((gap_least w n r m).least other fitting)).whole

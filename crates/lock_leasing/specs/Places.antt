@@ -2,9 +2,12 @@
 use Rattle.command_rules.specs.Items.{of_run}
 use Rattle.command_rules.specs.Rosters.{follows, reads_first, touches}
 use Rattle.history_book.specs.Lines.{Split, split_at}
+use Rattle.command_rules.specs.Apart.{meet}
+use Rattle.command_rules.specs.ClosedSets.{IsFitting, chosen, others}
+use Rattle.history_book.specs.Gaps.{bars, base_of, gap_set, split_of}
 pub use Rattle.history_book.specs.Lines.{up_to_first}
-use Rattle.history_book.specs.Plans.{planned_end, planned_start, planned_times, split_of}
-use Rattle.history_book.specs.Readings.{Planned, Reading, has_written, is_committed, is_doomed, is_live, is_next_on, next_of, nothing_read, passed_by}
+use Rattle.history_book.specs.Plans.{planned_times}
+use Rattle.history_book.specs.Readings.{Planned, Reading, has_written, is_committed, is_doomed, is_live, is_next_on, next_of, nothing_read}
 use Rattle.history_book.specs.Settings.{Setting, devices_of, is_device, scheduler_of}
 use Rattle.history_book.specs.WellFormed.{Along}
 use Rattle.history_book.specs.declared.entries.Entry.{Entry}
@@ -15,9 +18,9 @@ use Rattle.home_types.specs.declared.modes.Scheduler.{Scheduler}
 use Rattle.home_types.specs.declared.modes.Scheduler.TheVariants.{Fcfs, JustInTime, Timeline}
 use Rattle.lock_leasing.specs.Configurations.{Commands, Grips, Probes, Purpose, Undoes, is_out}
 use Rattle.lock_leasing.specs.Words.{effective_writer_of, has_touched, holds_device, live_runs}
-use Rattle.std.specs.List.{list_all, list_any, range_with_len}
+use Rattle.std.specs.List.{list_any}
 use Rattle.std.specs.Option.{option_or}
-use Rattle.std.specs.Prelude.{Bool, IsTrue, List, None, Option, Some, [], drop, false, find, fold, if◌then◌else◌, length, max, nat_le, not, option_map, suc, take, true, unwrap_or, ℕ, ⊤, ◌&&◌, ◌+◌, ◌-◌, ◌==◌, ◌||◌, ◌∷◌, ◌≡◌, ◌≤◌}
+use Rattle.std.specs.Prelude.{Bool, IsTrue, List, None, Option, Some, [], drop, false, find, fold, if◌then◌else◌, length, max, nat_le, not, option_map, suc, take, true, unwrap_or, ℕ, ⊤, ◌&&◌, ◌+◌, ◌==◌, ◌||◌, ◌∷◌, ◌≡◌, ◌≤◌}
 
 -- the number of items up to and with the last one of which the test holds
 abbrev pub up_to_last : (Item → Bool) → List Item → ℕ
@@ -33,6 +36,10 @@ binds w n g r (Back d k) = touches w.runs r d.0
 -- the first place: right behind the floor, which is the last item that binds, or the last one before the first live run
 abbrev pub first_place : Setting → Reading → Grips → ℕ → ℕ
 first_place w n g r = max (up_to_last (binds w n g r) n.line) (up_to_first (of_run (is_live n)) n.line)
+
+-- the reading with its line in this order
+abbrev pub in_order : Reading → List Item → Reading
+in_order n line = record n { line = line }
 
 -- no item behind the place must stand before the run
 abbrev pub IsClear : Setting → Reading → Grips → ℕ → ℕ → Type 0
@@ -84,29 +91,22 @@ just_in_time w n g r m = admit (denial_of w n g r)
 
 -- Timeline
 
--- planned so, the run is off the device before the first live run of the back that uses it is planned to start on it
-abbrev pub fits_on : Setting → Reading → List Planned → List Item → ℕ → Bool
-fits_on w n planned back d =
-    unwrap_or (option_map (λ x. nat_le (planned_end planned d) (planned_start (n.run x).planned d))
-    (find (λ x. touches w.runs x d && not (passed_by w n x d)) (live_runs n back))) true
-
-abbrev pub fits : Setting → Reading → ℕ → ℕ → Split → Bool
-fits w n r m s = list_all (fits_on w n (planned_times w n r s.front m) s.back) (devices_of w r)
-
--- the least place that fits, from the first place on; the end always fits
-abbrev pub timeline : Setting → Reading → Grips → ℕ → ℕ → Placing
-timeline w n g r m =
-    unwrap_or (option_map (λ at. At (split_at n.line at))
-    (find (λ at. fits w n r m (split_at n.line at)) (range_with_len (first_place w n g r) (length n.line - first_place w n g r)))) (at_end n)
+-- where the set of the timeline ends: its items stand before the run, in their order, the others behind it
+abbrev pub timeline : Setting → Reading → ℕ → ℕ → Placing
+timeline w n r m = At (record { front = chosen (gap_set w n r m) n.line; back = others (gap_set w n r m) n.line })
 
 -- when a run that is planned so is done: the largest planned end of its commands, 0 where it has none
 abbrev pub plan_end : List Planned → ℕ
 plan_end planned = fold (λ t p. max t p.to) 0 planned
 
--- no place that fits, from the first place on, plans an earlier end of the run than this one
-abbrev pub IsEarliestPlace : Setting → Reading → Grips → ℕ → ℕ → ℕ → Type 0
-IsEarliestPlace w n g r m place =
-    (at : ℕ) → first_place w n g r ≤ at → at ≤ length n.line → fits w n r m (split_at n.line at) ≡ true → plan_end (planned_times w n r (take place n.line) m) ≤ plan_end (planned_times w n r (take at n.line) m)
+-- a closed set that holds the base, and outside of which each live run is planned to start on each device when the run, planned with this set, is off it
+abbrev pub IsFittingSet : Setting → Reading → ℕ → ℕ → List Bool → Type 0
+IsFittingSet w n r m set = IsFitting (meet w.runs) (base_of w n r) (bars w n r m) n.line set
+
+-- no such set plans an earlier end of the run than this one
+abbrev pub IsEarliestSet : Setting → Reading → ℕ → ℕ → List Bool → Type 0
+IsEarliestSet w n r m set =
+    (other : List Bool) → IsFittingSet w n r m other → plan_end (planned_times w n r (chosen set n.line) m) ≤ plan_end (planned_times w n r (chosen other n.line) m)
 
 -- where the scheduler places the run at this moment
 abbrev pub scheduled_place : Setting → Reading → Grips → ℕ → ℕ → Placing
@@ -115,7 +115,7 @@ scheduled_place w n g r m = by_scheduler (scheduler_of w.mode)
     by_scheduler : Scheduler → Placing
     by_scheduler Fcfs = at_end n
     by_scheduler JustInTime = just_in_time w n g r m
-    by_scheduler Timeline = timeline w n g r m
+    by_scheduler Timeline = timeline w n r m
 
 -- Scheduled places of a history
 

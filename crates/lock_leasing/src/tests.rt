@@ -30,6 +30,7 @@ fn run(alloc: Global, command: Command) -> Result<RosterRun, NoMemory>
 
 /// Two runs that drive the lamp.
 fn roster(alloc: Global) -> Result<Roster, NoMemory>
+    ensures one { IfOk result (λ roster. IsTrue (is_run (runs_of roster) 1)) }
     ensures two { IfOk result (λ roster. IsTrue (is_run (runs_of roster) 2)) }
     ensures fits { IfOk result (λ roster. FitsIndex (runs_of roster)) }
 {
@@ -47,8 +48,11 @@ fn roster(alloc: Global) -> Result<Roster, NoMemory>
 }
 
 /// A line with run 1 alone, which has touched the lamp and has ended.
-fn line(alloc: Global) -> Result<Line, NoMemory> {
-    let mut line = Line::new(alloc);
+fn line(alloc: Global, roster: &Roster) -> Result<Line, NoMemory>
+    requires fits { FitsIndex (runs_of roster.now) }
+    requires there { IsTrue (is_run (runs_of roster.now) 1) }
+{
+    let mut line = Line::open(alloc, roster)?;
     line.reserve(1)?;
     line.insert(0, Item::Ran(A));
     if line.place_of(Item::Ran(A)).is_some() {
@@ -78,7 +82,7 @@ fn floor_counts_ended_runs(rt: HostRuntime) -> Result<(), NoMemory> {
         devices: List::of(alloc, &[stand])?,
     };
     let table = Table::open(alloc, &world, &roster)?;
-    let line = line(alloc)?;
+    let line = line(alloc, &roster)?;
     let book = book(alloc)?;
     let roster = IndexedRoster::open(alloc, roster)?;
     let s = Standing {
@@ -154,7 +158,7 @@ fn lease_is_overdue_past_its_deadline(rt: HostRuntime) -> Result<(), NoMemory> {
     if table.devices() == 0 {
         return Err(NoMemory);
     }
-    let line = Line::new(alloc);
+    let line = Line::open(alloc, &roster)?;
     let book = placings(alloc)?;
     let roster = IndexedRoster::open(alloc, roster)?;
     let s = Standing {

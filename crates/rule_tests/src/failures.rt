@@ -1,5 +1,7 @@
 //! A lamp fails at a run's first access and comes back, and a fan fails between two accesses of the run, which is lost.
-ghost use Rattle.std.specs.Prelude.{◌≡◌, ◌<◌, IsTrue, Some, false, length};
+ghost use Rattle.std.specs.Prelude.{◌≡◌, ◌<◌, IfOk, IsTrue, Some, false, length};
+ghost use Rattle.command_rules.specs.Footprints.{FitsIndex};
+ghost use Rattle.command_rules.specs.Rosters.{is_run, runs_of};
 ghost use Rattle.lineage_table.specs.Accesses.{before, has_access, some_acquired, some_scheduled, status_of};
 ghost use Rattle.lineage_table.specs.Lineages.{accesses_at};
 
@@ -17,29 +19,52 @@ const FAN: DeviceNo = DeviceNo(1);
 
 const A: RunNo = RunNo(1);
 
-fn switch(device: DeviceNo) -> Command {
-    Command {
-        device,
+/// A run that drives a lamp and a fan.
+fn roster(alloc: Global) -> Result<Roster, NoMemory>
+    ensures one { IfOk result (λ roster. IsTrue (is_run (runs_of roster) 1)) }
+    ensures fits { IfOk result (λ roster. FitsIndex (runs_of roster)) }
+{
+    let lamp = Command {
+        device: LAMP,
         job: Job::Set(1),
         must: false,
         ms: 100,
         takes: 100,
-    }
-}
-
-/// The table of a home with a lamp and a fan, for a run that drives both.
-fn table(alloc: Global) -> Result<Table, NoMemory> {
-    let stand = Stand { value: 0, up: true };
-    let world = World {
-        devices: List::of(alloc, &[stand, stand])?,
     };
-    let commands = List::of(alloc, &[switch(LAMP), switch(FAN)])?;
+    let fan = Command {
+        device: FAN,
+        job: Job::Set(1),
+        must: false,
+        ms: 100,
+        takes: 100,
+    };
+    let commands = List::of(alloc, &[lamp, fan])?;
     let mut runs = List::new(alloc);
     runs.push(RosterRun {
         routine: Routine::new(alloc, commands)?,
         follows: None,
     })?;
-    Table::open(alloc, &world, &Roster { runs })
+    Ok(Roster { runs })
+}
+
+/// The table of a home with a lamp and a fan.
+fn table(alloc: Global, roster: &Roster) -> Result<Table, NoMemory> {
+    let stand = Stand { value: 0, up: true };
+    let world = World {
+        devices: List::of(alloc, &[stand, stand])?,
+    };
+    Table::open(alloc, &world, roster)
+}
+
+/// A line with the run alone.
+fn line(alloc: Global, roster: &Roster) -> Result<Line, NoMemory>
+    requires fits { FitsIndex (runs_of roster.now) }
+    requires there { IsTrue (is_run (runs_of roster.now) 1) }
+{
+    let mut line = Line::open(alloc, roster)?;
+    line.reserve(1)?;
+    line.insert(0, Item::Ran(A));
+    Ok(line)
 }
 
 /// The run has an access on the device.
@@ -143,13 +168,12 @@ fn some_scheduled_before(table: &Table, d: DeviceNo) -> bool
 #[test]
 fn events_of_two_devices(rt: HostRuntime) {
     let alloc = rt.alloc();
-    let mut table = table(alloc).expect(&rt, "memory");
+    let roster = roster(alloc).expect(&rt, "memory");
+    let mut table = table(alloc, &roster).expect(&rt, "memory");
     schedule(&mut table, LAMP).expect(&rt, "the lamp");
     schedule(&mut table, FAN).expect(&rt, "the fan");
     let book = Book::new(alloc);
-    let mut line = Line::new(alloc);
-    line.reserve(1).expect(&rt, "memory");
-    line.insert(0, Item::Ran(A));
+    let mut line = line(alloc, &roster).expect(&rt, "memory");
     let lost = fail(&mut line, &mut table, &book, LAMP, Some(A)).expect(&rt, "the lamp fails");
     assert!(rt; lost.is_none());
     acquire(&mut table, LAMP, View::Down).expect(&rt, "the lamp is seen down");

@@ -1,6 +1,6 @@
 -- The replay of the case undo-dies: given what its devices told, it is the history that was worked out for it.
 use Rattle.command_rules.specs.Rosters.{device_no, run_no}
-use Rattle.history_book.specs.Plans.{split_of}
+use Rattle.history_book.specs.Gaps.{split_of}
 use Rattle.history_book.specs.Settings.{Setting}
 use Rattle.history_book.specs.declared.entries.Cause.TheVariants.{Refuted}
 use Rattle.history_book.specs.declared.entries.End.TheVariants.{Aborted}

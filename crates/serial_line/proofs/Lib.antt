@@ -1,8 +1,11 @@
 pub mod Searches
 pub mod Once
+pub mod Exchanged
+pub mod Neighbours
 pub mod RunPlaces
 pub mod Fronts
 pub mod Labels
 pub mod Sealed
 pub mod Meetings
+pub mod KeptRuns
 pub mod Ties

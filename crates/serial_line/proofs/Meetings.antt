@@ -27,13 +27,13 @@ carried {A} number p (x ∷ xs) d there passes = at (number x == d) refl there (
     at true e there behind = let same : number x ≡ d = grind (arith, common_steps) in let here : p (number x) ≡ true = ap p same ∙ passes in rw here refl
     at false e there behind = rw (behind there) (grind (arith, common_steps))
 
-both_ways : (a b : Bool) → (a ≡ true → b ≡ true) → (b ≡ true → a ≡ true) → a ≡ b
+pub both_ways : (a b : Bool) → (a ≡ true → b ≡ true) → (b ≡ true → a ≡ true) → a ≡ b
 both_ways true b to from = sym (to refl)
 both_ways false true to from = from refl
 both_ways false false to from = refl
 
 -- a device is in a set where it is among its items
-listed : (s : Devices) (d : ℕ) → set.contains s d ≡ list_any (λ x. x == d) (set.items s)
+pub listed : (s : Devices) (d : ℕ) → set.contains s d ≡ list_any (λ x. x == d) (set.items s)
 listed s d = set.contains-items s d ∙ alike (set.items s)
   where
     turned : (x : ℕ) → (d == x) ≡ (x == d)

@@ -26,7 +26,7 @@ like (Back d k) (Ran r) z e = absurd (cc)
 like (Back d k) (Failed f n) z e = absurd (cc)
 like (Back d k) (Back f n) z e = let device : d.0 ≡ f.0 = grind (arith, common_steps) in let number : k ≡ n = grind (arith, common_steps) in ap₂ (λ a b. is_restart a b z) device number
 
-item_back : (x y : Item) → is_item x y ≡ is_item y x
+pub item_back : (x y : Item) → is_item x y ≡ is_item y x
 item_back (Ran r) (Ran q) = grind (arith, common_steps)
 item_back (Ran r) (Failed d k) = refl
 item_back (Ran r) (Back d k) = refl

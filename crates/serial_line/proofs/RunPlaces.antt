@@ -3,6 +3,8 @@ use Rattle.command_rules.specs.Items.{is_ran}
 use Rattle.home_types.specs.declared.items.Item.TheVariants.{Back, Failed, Ran}
 use Rattle.home_types.specs.declared.items.Item.{Item}
 use Rattle.home_types.specs.declared.numbers.RunNo.{RunNo}
+use Rattle.command_rules.specs.ClosedSets.{exchanged}
+use Rattle.serial_line.proofs.Exchanged.{any_exchanged, differ_exchanged, get_else, get_first, get_second, length_exchanged}
 use Rattle.serial_line.proofs.Once.{place_is, place_told, untold_stands}
 use Rattle.serial_line.proofs.Searches.{any_at}
 use Rattle.serial_line.specs.Marks.{Mark, all_differ, items_of, stands, untouched}
@@ -11,7 +13,7 @@ use Rattle.std.proofs.Common.{ap, arith, refl, subst, sym, ◌∙◌}
 use Rattle.std.proofs.lemmas.Grind.{common_steps, get_or-set_at}
 use Rattle.std.proofs.lemmas.List.{get_or-map, get_or-set_other, length-map}
 use Rattle.std.proofs.lemmas.List.Edits.{get_or-insert_above, get_or-insert_below, get_or-remove_above, get_or-remove_below, length-insert, length-remove}
-use Rattle.std.specs.Prelude.{Bool, List, None, Option, Some, [], false, get_or, if◌then◌else◌, insert, length, nat_lt, position, remove, replicate, slice_index_or, slice_set, suc, true, zero, ℕ, ◌+◌, ◌-◌, ◌<◌, ◌≡◌, ◌≢◌, ◌≤◌}
+use Rattle.std.specs.Prelude.{Bool, List, None, Option, Some, [], false, get_or, if◌then◌else◌, insert, length, nat_lt, position, remove, replicate, slice_index_or, slice_set, suc, true, zero, ℕ, ◌+◌, ◌-◌, ◌<◌, ◌∷◌, ◌≡◌, ◌≢◌, ◌≤◌}
 
 abbrev the_run : ℕ → Item
 the_run r = Ran (record { 0 = r })
@@ -171,3 +173,47 @@ before_removed ms q k places differ told rest are r within here = by_cases (is_r
 -- the items stay: so do the places
 pub places_stay : (ms ns : List Mark) (places : List (Option ℕ)) → items_of ns ≡ items_of ms → ArePlaces ms places → ArePlaces ns places
 places_stay ms ns places same are r within = are r within ∙ ap (λ is. position (is_ran r) is) (sym same)
+
+-- two neighbours are exchanged: both are told their places
+pub places_exchanged : (ms : List Mark) (at : ℕ) (i j : Item) (d e : Mark) (places : List (Option ℕ)) → all_differ (items_of ms) ≡ true → suc at < length ms → i ≡ (get_or (exchanged at ms) at d).item → j ≡ (get_or (exchanged at ms) (suc at) e).item → ArePlaces ms places
+    → ArePlaces (exchanged at ms) (with_place j (Some (suc at)) (with_place i (Some at) places))
+places_exchanged ms at i j d e places differ inside first second' are r within = by_second (is_ran r j) refl
+  where
+    default : (xs : List Mark) (k : ℕ) → k < length xs → get_or xs k e ≡ get_or xs k d
+    default [] k less = absurd (omega (arith, less))
+    default (x ∷ xs) zero less = refl
+    default (x ∷ xs) (suc k) less = default xs k (omega (arith, less))
+
+    second : j ≡ (get_or (exchanged at ms) (suc at) d).item
+    second = second' ∙ ap (λ (m : Mark). m.item) (default (exchanged at ms) (suc at) (subst (λ n. suc at < n) (sym (length_exchanged ms at)) inside))
+
+    long : length (exchanged at ms) ≡ length ms
+    long = length_exchanged ms at
+
+    kept : r < length places
+    kept = subst (λ n. r < n) (length_placed j (Some (suc at)) (with_place i (Some at) places) ∙ length_placed i (Some at) places) within
+
+    between : r < length (with_place i (Some at) places)
+    between = subst (λ n. r < n) (length_placed j (Some (suc at)) (with_place i (Some at) places)) within
+
+    differs : all_differ (items_of (exchanged at ms)) ≡ true
+    differs = differ_exchanged ms at differ
+
+    new : (k : ℕ) → k < length ms → is_ran r (get_or (exchanged at ms) k d).item ≡ true → run_place r (exchanged at ms) ≡ Some k
+    new k less is = place_is (the_run r) (exchanged at ms) k d differs (subst (λ n. k < n) (sym long) less) is
+
+    by_old : is_ran r j ≡ false → is_ran r i ≡ false → (o : Option ℕ) → run_place r ms ≡ o → run_place r ms ≡ run_place r (exchanged at ms)
+    by_old f e None is = is ∙ sym (none_from r (exchanged at ms) ms d (λ k less there. sym (any_exchanged (is_ran r) ms at) ∙ stands_at r (exchanged at ms) k d less there) is)
+    by_old f e (Some k) is =
+        let found = place_told (the_run r) ms k d is in
+        let one : k ≢ at = λ same. cc (sym (ap (is_ran r) second ∙ ap (λ (m : Mark). is_ran r m.item) (get_second ms at d inside) ∙ ap (λ n. is_ran r (get_or ms n d).item) (sym same) ∙ found.1) ∙ f) in
+        let two : k ≢ suc at = λ same. cc (sym (ap (is_ran r) first ∙ ap (λ (m : Mark). is_ran r m.item) (get_first ms at d inside) ∙ ap (λ n. is_ran r (get_or ms n d).item) (sym same) ∙ found.1) ∙ e) in
+        is ∙ sym (new k found.0 (ap (λ (m : Mark). is_ran r m.item) (get_else ms at k d one two) ∙ found.1))
+
+    by_first : is_ran r j ≡ false → (b : Bool) → is_ran r i ≡ b → slice_index_or (with_place j (Some (suc at)) (with_place i (Some at) places)) r None ≡ run_place r (exchanged at ms)
+    by_first f true e = placed_other r j (Some (suc at)) (with_place i (Some at) places) f ∙ placed_here r i (Some at) places e kept ∙ sym (new at (omega (arith, inside)) (ap (is_ran r) (sym first) ∙ e))
+    by_first f false e = placed_other r j (Some (suc at)) (with_place i (Some at) places) f ∙ placed_other r i (Some at) places e ∙ are r kept ∙ by_old f e (run_place r ms) refl
+
+    by_second : (b : Bool) → is_ran r j ≡ b → slice_index_or (with_place j (Some (suc at)) (with_place i (Some at) places)) r None ≡ run_place r (exchanged at ms)
+    by_second true e = placed_here r j (Some (suc at)) (with_place i (Some at) places) e between ∙ sym (new (suc at) inside (ap (is_ran r) (sym second) ∙ e))
+    by_second false e = by_first e (is_ran r i) refl

@@ -1,5 +1,6 @@
 -- How each call of a line keeps it the line that a layer above means, and what its answers then say.
 -- The words on items are those of the reading of a history, written alike, so that these lemmas are about its words too.
+use Rattle.command_rules.specs.ClosedSets.{chosen, others, rearranged}
 use Rattle.command_rules.specs.Items.{is_ran, of_run}
 use Rattle.home_types.specs.declared.items.Item.TheVariants.{Back, Failed, Ran}
 use Rattle.home_types.specs.declared.items.Item.{Item}
@@ -238,3 +239,44 @@ front_in_line {line} {touched} {ended} {marks} is = along marks is.ends ∙ ap (
     along : (ms : List Mark) → Each (EndsAs ended) ms → front_of ms ≡ up_to_first (of_run (λ r. not (ended r))) (items_of ms)
     along [] all = refl
     along (m ∷ ms) all = (λ i. if lives m.item m.ended all.0 i then 0 else along ms all.1 i + 1)
+
+-- the items of a set before the others
+
+chosen_items : (bs : List Bool) (marks : List Mark) → items_of (chosen bs marks) ≡ chosen bs (items_of marks)
+unfolding chosen
+chosen_items bs [] = refl
+chosen_items [] (m ∷ ms) = refl
+chosen_items (true ∷ bs) (m ∷ ms) = ap (λ is. m.item ∷ is) (chosen_items bs ms)
+chosen_items (false ∷ bs) (m ∷ ms) = chosen_items bs ms
+
+others_items : (bs : List Bool) (marks : List Mark) → items_of (others bs marks) ≡ others bs (items_of marks)
+unfolding others
+others_items bs [] = refl
+others_items [] (m ∷ ms) = refl
+others_items (true ∷ bs) (m ∷ ms) = others_items bs ms
+others_items (false ∷ bs) (m ∷ ms) = ap (λ is. m.item ∷ is) (others_items bs ms)
+
+each_of_both : {A : Type 0} (P : A → Type 0) (xs ys : List A) → Each P xs → Each P ys → Each P (xs ++ ys)
+each_of_both P [] ys all more = more
+each_of_both P (x ∷ xs) ys all more = (all.0, each_of_both P xs ys all.1 more)
+
+each_chosen : {A : Type 0} (P : A → Type 0) (bs : List Bool) (xs : List A) → Each P xs → Each P (chosen bs xs)
+unfolding chosen
+each_chosen P bs [] all = tt
+each_chosen P [] (x ∷ xs) all = tt
+each_chosen P (true ∷ bs) (x ∷ xs) all = (all.0, each_chosen P bs xs all.1)
+each_chosen P (false ∷ bs) (x ∷ xs) all = each_chosen P bs xs all.1
+
+each_others : {A : Type 0} (P : A → Type 0) (bs : List Bool) (xs : List A) → Each P xs → Each P (others bs xs)
+unfolding others
+each_others P bs [] all = tt
+each_others P [] (x ∷ xs) all = all
+each_others P (true ∷ bs) (x ∷ xs) all = each_others P bs xs all.1
+each_others P (false ∷ bs) (x ∷ xs) all = (all.0, each_others P bs xs all.1)
+
+pub line_rearranged : {line : List Item} {touched : Item → ℕ → Bool} {ended : ℕ → Bool} {marks : List Mark} (bs : List Bool) → IsLineOf line touched ended marks → IsLineOf (rearranged bs line) touched ended (rearranged bs marks)
+line_rearranged {marks} bs old = record {
+  items = map-append (λ m. m.item) (chosen bs marks) (others bs marks) ∙ (λ i. chosen_items bs marks i ++ others_items bs marks i) ∙ ap (rearranged bs) old.items;
+  touches = each_of_both _ (chosen bs marks) (others bs marks) (each_chosen _ bs marks old.touches) (each_others _ bs marks old.touches);
+  ends = each_of_both _ (chosen bs marks) (others bs marks) (each_chosen _ bs marks old.ends) (each_others _ bs marks old.ends);
+}

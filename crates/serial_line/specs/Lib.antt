@@ -1,3 +1,4 @@
+pub mod KeptRuns
 pub mod Marks
 pub mod Labels
 pub mod RunPlaces

@@ -1,10 +1,13 @@
 -- The items of a line, each with the devices that it has touched, and the runs with whether they have ended.
+use Rattle.command_rules.specs.Apart.{meet}
 use Rattle.command_rules.specs.Items.{is_ran, of_run}
+use Rattle.command_rules.specs.Rosters.{Run}
 use Rattle.home_types.specs.declared.items.Item.{Item}
 use Rattle.home_types.specs.declared.items.Item.TheVariants.{Back, Failed, Ran}
 use Rattle.home_types.specs.contracts.items.Item as the_item
 use Rattle.command_rules.specs.Searches.{last_place}
 use Rattle.home_types.specs.DeviceSets.{Devices}
+use Rattle.serial_line.specs.KeptRuns.{run_code}
 use Rattle.std.specs.Coded.{Coded, code_by, coded_bool, coded_list, coded×, coded_ℕ}
 use Rattle.std.specs.FinSet as set
 use Rattle.std.specs.List.{list_any}
@@ -16,19 +19,20 @@ pub record Mark : Type 0 where
   pub touched : Devices
   pub ended : Bool
 
--- the line, the labels of its items in their order, how many more items it takes with no memory, and how many of its first items are sealed
+-- the line, the labels of its items in their order, how many more items it takes with no memory, how many of its first items are sealed, and the runs of its window, with one command for each of their devices
 pub record Marked : Type 0 where
   pub marks : List Mark
   pub labels : List ℕ
   pub spare : ℕ
   pub sealed : ℕ
+  pub runs : List Run
 
 -- a mark is stored as the tuple of its fields, and a line too
 abbrev pub mark_code : Coded Mark
 mark_code = code_by (Item × (Devices × Bool)) (coded× the_item.the_row.coded (coded× (set.code coded_ℕ) coded_bool)) (λ m. (m.item, (m.touched, m.ended))) (λ p. record { item = p.0; touched = p.1.0; ended = p.1.1 }) (λ m. refl)
 
 abbrev pub marked_code : Coded Marked
-marked_code = code_by (List Mark × (List ℕ × (ℕ × ℕ))) (coded× (coded_list mark_code) (coded× (coded_list coded_ℕ) (coded× coded_ℕ coded_ℕ))) (λ l. (l.marks, (l.labels, (l.spare, l.sealed)))) (λ p. record { marks = p.0; labels = p.1.0; spare = p.1.1.0; sealed = p.1.1.1 }) (λ l. refl)
+marked_code = code_by (List Mark × (List ℕ × (ℕ × (ℕ × List Run)))) (coded× (coded_list mark_code) (coded× (coded_list coded_ℕ) (coded× coded_ℕ (coded× coded_ℕ (coded_list run_code))))) (λ l. (l.marks, (l.labels, (l.spare, (l.sealed, l.runs))))) (λ p. record { marks = p.0; labels = p.1.0; spare = p.1.1.0; sealed = p.1.1.1.0; runs = p.1.1.1.1 }) (λ l. refl)
 
 abbrev pub items_of : List Mark → List Item
 items_of marks = map (λ m. m.item) marks
@@ -117,3 +121,7 @@ meets devices m = list_any (set.contains m.touched) (set.items devices)
 -- the last place that has touched one of these devices
 abbrev pub last_meeting : Devices → List Mark → Option ℕ
 last_meeting devices marks = last_place (meets devices) marks
+
+-- the items of the marks meet
+abbrev pub meet_marks : List Run → Mark → Mark → Bool
+meet_marks runs m n = meet runs m.item n.item

@@ -2,6 +2,7 @@
 #![tactic(auto)]
 
 mod entries;
+mod kept_runs;
 mod lines;
 mod order_labels;
 

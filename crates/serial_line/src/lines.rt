@@ -1,12 +1,19 @@
-ghost use Rattle.std.specs.Prelude.{◌≡◌, true, false, if◌then◌else◌, ◌+◌, ◌<◌, ◌≤◌, ◌^◌, [], is_some, length, max, remove, slice_get, take, IfSome, OnOk, OnErr};
+ghost use Rattle.std.specs.Prelude.{◌≡◌, true, false, if◌then◌else◌, ◌++◌, ◌+◌, ◌-◌, ◌<◌, ◌≤◌, ◌^◌, [], drop, is_some, length, max, option_map, remove, slice_get, take, unwrap_or, IfOk, IfSome, IsTrue, OnOk, OnErr};
+ghost use Rattle.command_rules.specs.Apart.{meet};
+ghost use Rattle.command_rules.specs.ClosedSets.{HoldsFirst, IsClosed, are_apart, brought, exchanged, may_pass, rearranged};
+ghost use Rattle.command_rules.specs.Footprints.{FitsIndex};
+ghost use Rattle.command_rules.specs.Rosters.{runs_of};
 ghost use Rattle.home_types.specs.Limits.{most_devices};
 ghost use Rattle.home_types.specs.declared.items.Item.TheVariants.{Ran};
+ghost use Rattle.serial_line.specs.KeptRuns.{AreKeptOf, is_known};
 ghost use Rattle.serial_line.specs.Labels.{LabelsAreInOrder, has_free, is_sealed, label_of};
-ghost use Rattle.serial_line.specs.Marks.{all_differ, front_of, has_touched, items_of, last_meeting, place_of, settling, stands, touching, with_item, without};
+ghost use Rattle.serial_line.specs.Marks.{all_differ, front_of, has_touched, items_of, last_meeting, meet_marks, meets, place_of, settling, stands, touching, with_item, without};
 ghost use Rattle.serial_line.specs.RunPlaces.{ArePlaces, ArePlacesBefore, with_place};
 
 use crate::entries::Entry;
+use crate::kept_runs::KeptRuns;
 use crate::order_labels::{insert_label, remove_label};
+use command_rules::Roster;
 use home_types::{DeviceNo, DeviceSet, Item, NoMemory, RunNo, limits};
 use std::alloc::Global;
 use std::marker::Model;
@@ -17,8 +24,12 @@ const PLACES: usize = limits::RUNS as usize + 1;
 /// The line of a window: its items in their order, each with a label, by which two of them are compared. The first items
 /// may be sealed: no item comes between them any more, and none of them leaves.
 ///
+/// The line keeps the devices of each run of its window, and whom it follows. So it tells of two neighbours whether they are
+/// apart: they share no device, and neither follows the other. These may be exchanged.
+///
 /// Contracts see each item with the devices that it has touched and whether it is a run that has ended, the labels in the
-/// same order, how many more items the line takes with no memory, and how many are sealed.
+/// same order, how many more items the line takes with no memory, how many are sealed, and the runs of the window, with one
+/// command for each of their devices.
 #[derive(Drop)]
 pub struct Line {
     entries: Vec<Entry>,
@@ -31,6 +42,7 @@ pub struct Line {
     front: u32,
     // how many of the first items are sealed
     sealed: u32,
+    runs: KeptRuns,
 }
 
 impl Model for Line {
@@ -42,28 +54,35 @@ impl Model for Line {
 
     ghost use Rattle.serial_line.specs.Lines.{IsSound};
 
-    ghost view = { λ l. record { marks = l.entries.items; labels = l.labels.items; spare = l.spare; sealed = l.sealed } };
+    ghost view = { λ l. record { marks = l.entries.items; labels = l.labels.items; spare = l.spare; sealed = l.sealed; runs = l.runs } };
 
     ghost invariant = { IsSound };
 }
 
 impl Line {
-    /// Makes an empty line. Takes no memory.
-    pub fn new(alloc: Global) -> Line
-        ensures empty { result.marks ≡ [] }
-        ensures no_label { result.labels ≡ [] }
-        ensures no_room { result.spare ≡ 0 }
-        ensures none_sealed { result.sealed ≡ 0 }
-        ensures few { length result.marks + result.spare < 2 ^ 32 }
+    /// Makes an empty line for the runs of this roster, and keeps their devices and whom they follow. Answers `NoMemory`
+    /// where there is none to be had.
+    ///
+    /// Asks that each command is on one of the 256 devices that a home may have, and that there are no more of a run than
+    /// a routine may have.
+    pub fn open(alloc: Global, roster: &Roster) -> Result<Line, NoMemory>
+        requires { FitsIndex (runs_of roster.now) }
+        ensures empty { IfOk result (λ line. line.marks ≡ []) }
+        ensures no_label { IfOk result (λ line. line.labels ≡ []) }
+        ensures no_room { IfOk result (λ line. line.spare ≡ 0) }
+        ensures none_sealed { IfOk result (λ line. line.sealed ≡ 0) }
+        ensures runs { IfOk result (λ line. AreKeptOf (runs_of roster.now) line.runs) }
     {
-        Line {
+        let runs = KeptRuns::of(alloc, roster)?;
+        Ok(Line {
             entries: Vec::new(alloc),
             labels: Vec::new(alloc),
             spare: 0,
             places: [None; PLACES],
             front: 0,
             sealed: 0,
-        }
+            runs,
+        })
     }
 
     /// Makes room for `n` more items and for no more than these, or answers `NoMemory`. The items and their labels stay in
@@ -75,6 +94,7 @@ impl Line {
         ensures marks { self.new.marks ≡ self.old.marks }
         ensures labels { self.new.labels ≡ self.old.labels }
         ensures sealed { self.new.sealed ≡ self.old.sealed }
+        ensures runs { self.new.runs ≡ self.old.runs }
         ensures room { OnOk result (self.new.spare ≡ max self.old.spare n) }
         ensures kept { self.old.spare ≤ self.new.spare }
         ensures refused { OnErr result (self.new ≡ self.old) }
@@ -98,15 +118,17 @@ impl Line {
     /// of the items that are not sealed are given anew. Takes no memory, and uses one place of the room.
     ///
     /// Asks for room, for a place up to the end and behind the items that are sealed, and for an item that is not in the
-    /// line.
+    /// line; a run is one of the window.
     pub fn insert(&mut self, at: u32, item: Item)
         requires room { 0 < self.old.spare }
         requires place { at ≤ length self.old.marks }
         requires unsealed { self.old.sealed ≤ at }
         requires absent { stands item self.old.marks ≡ false }
+        requires known { IsTrue (is_known self.old.runs item) }
         ensures marks { self.new.marks ≡ with_item at item self.old.marks }
         ensures spare { self.new.spare + 1 ≡ self.old.spare }
         ensures sealed { self.new.sealed ≡ self.old.sealed }
+        ensures runs { self.new.runs ≡ self.old.runs }
         ensures final_labels { take self.old.sealed self.new.labels ≡ take self.old.sealed self.old.labels }
         ensures labels { has_free 0 at self.old.labels ≡ true → remove self.new.labels at ≡ self.old.labels }
     {
@@ -129,6 +151,7 @@ impl Line {
         ensures marks { self.new.marks ≡ without run.0 self.old.marks }
         ensures spare { self.new.spare ≡ (if result then self.old.spare + 1 else self.old.spare) }
         ensures sealed { self.new.sealed ≡ self.old.sealed }
+        ensures runs { self.new.runs ≡ self.old.runs }
         ensures final_labels { take self.old.sealed self.new.labels ≡ take self.old.sealed self.old.labels }
     {
         match self.place_of(Item::Ran(run)) {
@@ -155,6 +178,7 @@ impl Line {
         ensures labels { self.new.labels ≡ self.old.labels }
         ensures spare { self.new.spare ≡ self.old.spare }
         ensures sealed { self.new.sealed ≡ self.old.sealed }
+        ensures runs { self.new.runs ≡ self.old.runs }
     {
         if let Some(at) = self.place_of(Item::Ran(run)) {
             self.entries[at as usize].touch(run, device);
@@ -167,10 +191,90 @@ impl Line {
         ensures labels { self.new.labels ≡ self.old.labels }
         ensures spare { self.new.spare ≡ self.old.spare }
         ensures sealed { self.new.sealed ≡ self.old.sealed }
+        ensures runs { self.new.runs ≡ self.old.runs }
     {
         if let Some(at) = self.place_of(Item::Ran(run)) {
             self.entries[at as usize].settle();
             self.front = front_from(self.entries.as_slice(), self.front);
+        }
+    }
+
+    /// Whether items stand at this place, counted from 0, and the next one, and are apart: they share no device, and neither
+    /// is a run that follows the other.
+    pub fn apart(&self, at: u32) -> bool
+        ensures { result ≡ are_apart (meet self.now.runs) at (items_of self.now.marks) }
+    {
+        let first = self.entries.get(at as usize);
+        let second = self.entries.get(at as usize + 1);
+        match (first, second) {
+            (Some(first), Some(second)) => !self.runs.meet(first.item(), second.item()),
+            _ => false,
+        }
+    }
+
+    /// Exchanges the item at this place, counted from 0, and the next one, each with its touches. All else stays, and so do
+    /// the labels in their places. Takes no memory.
+    ///
+    /// Asks that the two are there and apart, and that neither is sealed.
+    pub fn swap(&mut self, at: u32)
+        requires apart { IsTrue (are_apart (meet self.old.runs) at (items_of self.old.marks)) }
+        requires unsealed { self.old.sealed ≤ at }
+        ensures marks { self.new.marks ≡ exchanged at self.old.marks }
+        ensures labels { self.new.labels ≡ self.old.labels }
+        ensures spare { self.new.spare ≡ self.old.spare }
+        ensures sealed { self.new.sealed ≡ self.old.sealed }
+        ensures runs { self.new.runs ≡ self.old.runs }
+    {
+        self.entries.swap(at as usize, at as usize + 1);
+        let entries = self.entries.as_slice();
+        tell_place(&mut self.places, entries[at as usize].item(), Some(at));
+        tell_place(
+            &mut self.places,
+            entries[at as usize + 1].item(),
+            Some(at + 1),
+        );
+        self.front = front_from(entries, self.front.min(at));
+    }
+
+    /// The item at the place `from` comes to the place `to`, which is not behind it; those between stand behind it.
+    fn bring(&mut self, to: u32, from: u32)
+        requires order { to ≤ from }
+        requires apart { IsTrue (may_pass (meet_marks self.old.runs) to from self.old.marks) }
+        requires unsealed { to < from → self.old.sealed ≤ to }
+        ensures marks { self.new.marks ≡ take to self.old.marks ++ brought (from - to) (drop to self.old.marks) }
+        ensures labels { self.new.labels ≡ self.old.labels }
+        ensures spare { self.new.spare ≡ self.old.spare }
+        ensures sealed { self.new.sealed ≡ self.old.sealed }
+        ensures runs { self.new.runs ≡ self.old.runs }
+    {
+        let mut at = from;
+        'past: while at > to {
+            self.swap(at - 1);
+            at -= 1;
+        }
+    }
+
+    /// The items with a flag stand before the others, each part in its order, with their touches. The labels stay in their
+    /// places. Takes no memory.
+    ///
+    /// Asks for a flag for each item. Each item that is sealed has one, and with each item that has one also each item before
+    /// it that is not apart from it.
+    pub fn rearrange(&mut self, before: &[bool])
+        requires size { length before.now ≡ length self.old.marks }
+        requires closed { IsClosed (meet self.old.runs) before.now (items_of self.old.marks) }
+        requires sealed { HoldsFirst self.old.sealed before.now }
+        ensures marks { self.new.marks ≡ rearranged before.now self.old.marks }
+        ensures labels { self.new.labels ≡ self.old.labels }
+        ensures spare { self.new.spare ≡ self.old.spare }
+        ensures sealed { self.new.sealed ≡ self.old.sealed }
+        ensures runs { self.new.runs ≡ self.old.runs }
+    {
+        let mut done = 0;
+        'items: for at in 0..self.len() {
+            if before[at as usize] {
+                self.bring(done, at);
+                done += 1;
+            }
         }
     }
 
@@ -280,6 +384,17 @@ impl Line {
             }
         }
         None
+    }
+
+    /// Whether the item at the place `at`, counted from 0, has touched one of the devices. From the end of the line on none
+    /// has.
+    pub fn meets(&self, at: u32, devices: &DeviceSet) -> bool
+        ensures { result ≡ unwrap_or (option_map (meets devices.now) (slice_get self.now.marks at)) false }
+    {
+        match self.entries.get(at as usize) {
+            Some(entry) => entry.meets(devices),
+            None => false,
+        }
     }
 
     /// Whether the run has touched the device.

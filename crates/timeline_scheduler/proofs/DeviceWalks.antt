@@ -1,8 +1,8 @@
 -- The devices of which a test holds, found by a walk from one to the next.
 use Rattle.home_types.specs.DeviceSets.{IsFirstFrom}
 use Rattle.std.proofs.Common.{ap, ap₂, arith, cond, sym, ◌∙◌}
-use Rattle.std.specs.List.{list_all, range_with_len}
-use Rattle.std.specs.Prelude.{Bool, List, None, Some, [], false, filter, fold, suc, true, zero, ℕ, ◌&&◌, ◌+◌, ◌-◌, ◌<◌, ◌∷◌, ◌≡◌, ◌≤◌}
+use Rattle.std.specs.List.{list_any, range_with_len}
+use Rattle.std.specs.Prelude.{Bool, List, None, Some, [], false, filter, fold, suc, true, zero, ℕ, ◌+◌, ◌-◌, ◌<◌, ◌||◌, ◌∷◌, ◌≡◌, ◌≤◌}
 
 -- those of so many devices that are left from this one on
 abbrev pub rest : (ℕ → Bool) → ℕ → ℕ → List ℕ
@@ -55,19 +55,19 @@ module _ {S : Type 0} (step : S → ℕ → S) (p : ℕ → Bool) (total : S) wh
   pub fold_done : (n from : ℕ) (s : S) → ((e : ℕ) → from ≤ e → p e ≡ false) → fold step s (rest p n from) ≡ total → s ≡ total
   fold_done n from s none was = sym (ap (fold step s) (rest_none p n from none)) ∙ was
 
--- A test of all of them
+-- A test of some of them
 
 module _ (test p : ℕ → Bool) (total : Bool) where
-  -- it holds of this one too
-  pub all_next : (n from d : ℕ) → from ≤ d → d < n → p d ≡ true → ((e : ℕ) → from ≤ e → e < d → p e ≡ false) → test d ≡ true → list_all test (rest p n from) ≡ total → list_all test (rest p n (d + 1)) ≡ total
-  all_next n from d further within on between holds was =
-      sym (ap (λ b. b && list_all test (rest p n (d + 1))) holds) ∙ sym (ap (list_all test) (rest_next p n from d further within on between)) ∙ was
-
   -- it does not hold of this one
-  pub all_fails : (n from d : ℕ) → from ≤ d → d < n → p d ≡ true → ((e : ℕ) → from ≤ e → e < d → p e ≡ false) → test d ≡ false → list_all test (rest p n from) ≡ total → false ≡ total
-  all_fails n from d further within on between fails was =
-      sym (ap (λ b. b && list_all test (rest p n (d + 1))) fails) ∙ sym (ap (list_all test) (rest_next p n from d further within on between)) ∙ was
+  pub any_next : (n from d : ℕ) → from ≤ d → d < n → p d ≡ true → ((e : ℕ) → from ≤ e → e < d → p e ≡ false) → test d ≡ false → list_any test (rest p n from) ≡ total → list_any test (rest p n (d + 1)) ≡ total
+  any_next n from d further within on between fails was =
+      sym (ap (λ b. b || list_any test (rest p n (d + 1))) fails) ∙ sym (ap (list_any test) (rest_next p n from d further within on between)) ∙ was
 
-  -- it holds of each
-  pub all_done : (n from : ℕ) → ((e : ℕ) → from ≤ e → p e ≡ false) → list_all test (rest p n from) ≡ total → true ≡ total
-  all_done n from none was = sym (ap (list_all test) (rest_none p n from none)) ∙ was
+  -- it holds of this one
+  pub any_found : (n from d : ℕ) → from ≤ d → d < n → p d ≡ true → ((e : ℕ) → from ≤ e → e < d → p e ≡ false) → test d ≡ true → list_any test (rest p n from) ≡ total → true ≡ total
+  any_found n from d further within on between holds was =
+      sym (ap (λ b. b || list_any test (rest p n (d + 1))) holds) ∙ sym (ap (list_any test) (rest_next p n from d further within on between)) ∙ was
+
+  -- it holds of none
+  pub any_done : (n from : ℕ) → ((e : ℕ) → from ≤ e → p e ≡ false) → list_any test (rest p n from) ≡ total → false ≡ total
+  any_done n from none was = sym (ap (list_any test) (rest_none p n from none)) ∙ was

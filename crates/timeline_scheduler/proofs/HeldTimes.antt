@@ -13,8 +13,8 @@ use Rattle.std.specs.List.{list_any}
 use Rattle.std.specs.Prelude.{Bool, List, None, Option, Some, [], drop, false, find, fold, if◌then◌else◌, length, max, min, option_map, slice_index_or, slice_set, suc, true, unwrap_or, zero, ℕ, ◌++◌, ◌+◌, ◌<◌, ◌==◌, ◌||◌, ◌∷◌, ◌≡◌, ◌≢◌, ◌≤◌}
 use Rattle.timeline_scheduler.proofs.SlotSets.{set_here, set_other, slot_read}
 use Rattle.timeline_scheduler.specs.Scratches.{HoldsTimes, planned_in, planned_span}
-use Rattle.timeline_scheduler.specs.Slots.{AreHomed, LeavesPassed, plan_behind, slot_at, used_again}
-use Rattle.timeline_scheduler.specs.declared.scratches.Slot.{Slot}
+use Rattle.timeline_scheduler.specs.Slots.{AreHomed, plan_behind, slot_at, used_again}
+use Rattle.timeline_scheduler.specs.declared.slots.Slot.{Slot}
 
 -- the times are those of the slot
 pub planned_in_slot : (slots : List Slot) (d : ℕ) → planned_in slots d ≡ (slot_at slots d).planned
@@ -74,21 +74,20 @@ holds_more slots q p s within holds is d = planned_in_slot (slice_set slots p.de
 
 -- What was passed stays
 
+-- what was passed is as it was
+pub record LeavesPassed (slots left : List Slot) : Type 0 where
+  pub size : length left ≡ length slots
+  pub free : (d : ℕ) → (slot_at left d).free ≡ (slot_at slots d).free
+
 pub leaves_all : (slots : List Slot) → LeavesPassed slots slots
-leaves_all slots = record { size = refl; last = λ d. refl; free = λ d. refl }
+leaves_all slots = record { size = refl; free = λ d. refl }
 
 pub leaves_then : (a b c : List Slot) → LeavesPassed a b → LeavesPassed b c → LeavesPassed a c
-leaves_then a b c first second = record { size = second.size ∙ first.size; last = λ d. second.last d ∙ first.last d; free = λ d. second.free d ∙ first.free d }
+leaves_then a b c first second = record { size = second.size ∙ first.size; free = λ d. second.free d ∙ first.free d }
 
-pub leaves_set : (slots : List Slot) (d : ℕ) (s : Slot) → d < length slots → s.last ≡ (slot_at slots d).last → s.free ≡ (slot_at slots d).free → LeavesPassed slots (slice_set slots d s)
-leaves_set slots d s within last free = record { size = length-set slots d s; last = λ e. kept_last e (e == d) refl; free = λ e. kept_free e (e == d) refl }
+pub leaves_set : (slots : List Slot) (d : ℕ) (s : Slot) → d < length slots → s.free ≡ (slot_at slots d).free → LeavesPassed slots (slice_set slots d s)
+leaves_set slots d s within free = record { size = length-set slots d s; free = λ e. kept_free e (e == d) refl }
   where
-    kept_last : (e : ℕ) (b : Bool) → (e == d) ≡ b → (slot_at (slice_set slots d s) e).last ≡ (slot_at slots e).last
-    kept_last e true own =
-        let same : d ≡ e = grind (arith, common_steps) in
-        subst (λ k. (slot_at (slice_set slots d s) k).last ≡ (slot_at slots k).last) same (ap (λ (x : Slot). x.last) (set_here slots d s within) ∙ last)
-    kept_last e false other = let apart : e ≢ d = grind (arith, common_steps) in ap (λ (x : Slot). x.last) (set_other slots d e s apart)
-
     kept_free : (e : ℕ) (b : Bool) → (e == d) ≡ b → (slot_at (slice_set slots d s) e).free ≡ (slot_at slots e).free
     kept_free e true own =
         let same : d ≡ e = grind (arith, common_steps) in
@@ -103,23 +102,21 @@ own_device [] k c within = absurd (omega (arith, within))
 own_device (x ∷ cs) zero c within = or_left (x.device.0 == x.device.0) (list_any (is_on x.device.0) cs) (eq-eqb x.device.0 x.device.0 refl)
 own_device (x ∷ cs) (suc k) c within = or_right (x.device.0 == (slice_index_or cs k c).device.0) (list_any (is_on (slice_index_or cs k c).device.0) cs) (own_device cs k c (omega (arith, within)))
 
--- the times of the first k commands are held, of no other device any, and those that are left make the plan
+-- the times of the first k commands are held, and those that are left make the plan
 pub record IsPlannedTo (start slots : List Slot) (cs : List Command) (m k clock : ℕ) : Type 0 where
   pub left : LeavesPassed start slots
   pub times : (q : List Planned) × HoldsTimes slots q × ((fold (plan_more (λ d. (slot_at start d).free)) (record { clock = clock; planned = q }) (drop k cs)).planned ≡ plan_behind start cs m)
-  pub only : (d : ℕ) → list_any (is_on d) cs ≡ false → (slot_at slots d).planned ≡ None
 
 -- none is planned yet
 pub planned_none : (slots : List Slot) (cs : List Command) (m : ℕ) → ((d : ℕ) → (slot_at slots d).planned ≡ None) → IsPlannedTo slots slots cs m 0 m
-planned_none slots cs m none = record { left = leaves_all slots; times = ([], (λ d. planned_in_slot slots d ∙ none d), refl); only = λ d off. none d }
+planned_none slots cs m none = record { left = leaves_all slots; times = ([], (λ d. planned_in_slot slots d ∙ none d), refl) }
 
 -- one more is planned
 pub planned_next : (start slots : List Slot) (cs : List Command) (m k clock from to : ℕ) (c : Command) (s x : Slot) (span : ℕ × ℕ) → IsPlannedTo start slots cs m k clock → k < length cs → slice_index_or cs k c ≡ c → c.device.0 < length slots
     → s ≡ slice_index_or slots c.device.0 s → from ≡ max clock s.free → to ≡ min (from + c.ms) greatest → span ≡ used_again s.planned from to → x ≡ record s { planned = Some span } → IsPlannedTo start (slice_set slots c.device.0 x) cs m (k + 1) to
 planned_next start slots cs m k clock from to c s x span was more own within read starts ends used is = record {
-  left = leaves_then start slots (slice_set slots c.device.0 x) was.left (leaves_set slots c.device.0 x within (ap (λ (y : Slot). y.last) is ∙ ap (λ (y : Slot). y.last) (sym slot)) (ap (λ (y : Slot). y.free) is ∙ ap (λ (y : Slot). y.free) (sym slot)));
+  left = leaves_then start slots (slice_set slots c.device.0 x) was.left (leaves_set slots c.device.0 x within (ap (λ (y : Slot). y.free) is ∙ ap (λ (y : Slot). y.free) (sym slot)));
   times = (was.times.0 ++ p ∷ [], holds_more slots was.times.0 p x within was.times.1 (ap (λ (y : Slot). y.planned) is ∙ ap Some (used ∙ ap (λ (y : Slot). used_again y.planned from to) (sym slot))), sym planned ∙ was.times.2);
-  only = λ d off. others d (d == c.device.0) refl off;
 }
   where
     p : Planned
@@ -144,14 +141,6 @@ planned_next start slots cs m k clock from to c s x span was more own within rea
         ap (λ l. (fold (plan_more F) (record { clock = clock; planned = was.times.0 }) l).planned) (drop_more cs k c more ∙ ap (λ y. y ∷ drop (k + 1) cs) own)
         ∙ ap (λ y. (fold (plan_more F) y (drop (k + 1) cs)).planned) step
 
-    others : (d : ℕ) (b : Bool) → (d == c.device.0) ≡ b → list_any (is_on d) cs ≡ false → (slot_at (slice_set slots c.device.0 x) d).planned ≡ None
-    others d true same off =
-        let equal : c.device.0 ≡ d = grind (arith, common_steps) in
-        let on : list_any (is_on (slice_index_or cs k c).device.0) cs ≡ true = own_device cs k c more in
-        let clash : true ≡ false = sym on ∙ ap (λ (y : Command). list_any (is_on y.device.0) cs) own ∙ ap (λ e. list_any (is_on e) cs) equal ∙ off in
-        absurd (cc)
-    others d false other off = let apart : d ≢ c.device.0 = grind (arith, common_steps) in ap (λ (y : Slot). y.planned) (set_other slots c.device.0 d x apart) ∙ was.only d off
-
 -- all are planned
 pub planned_all : (start slots : List Slot) (cs : List Command) (m k clock : ℕ) → IsPlannedTo start slots cs m k clock → length cs ≤ k → HoldsTimes slots (plan_behind start cs m)
 planned_all start slots cs m k clock was all =
@@ -168,30 +157,3 @@ command_within n runs r cs k c homed its within = homed r (slice_index_or cs k c
 -- the command at a place within, whatever else is told
 pub command_told : (cs : List Command) (k : ℕ) (c e : Command) → k < length cs → slice_index_or cs k e ≡ slice_index_or cs k c
 command_told cs k c e within = get_or_default cs k e c within
-
--- Clearing
-
--- no time is held but for devices of the commands that are left
-pub record IsClearedTo (start slots : List Slot) (cs : List Command) (k : ℕ) : Type 0 where
-  pub left : LeavesPassed start slots
-  pub none : (d : ℕ) → list_any (is_on d) (drop k cs) ≡ false → (slot_at slots d).planned ≡ None
-
-pub cleared_next : (start slots : List Slot) (cs : List Command) (k : ℕ) (c : Command) (x : Slot) → IsClearedTo start slots cs k → k < length cs → slice_index_or cs k c ≡ c → c.device.0 < length slots → x ≡ record (slot_at slots c.device.0) { planned = None }
-    → IsClearedTo start (slice_set slots c.device.0 x) cs (k + 1)
-cleared_next start slots cs k c x was more own within is = record {
-  left = leaves_then start slots (slice_set slots c.device.0 x) was.left (leaves_set slots c.device.0 x within (ap (λ (y : Slot). y.last) is) (ap (λ (y : Slot). y.free) is));
-  none = λ d off. by_device d (d == c.device.0) refl off;
-}
-  where
-    by_device : (d : ℕ) (b : Bool) → (d == c.device.0) ≡ b → list_any (is_on d) (drop (k + 1) cs) ≡ false → (slot_at (slice_set slots c.device.0 x) d).planned ≡ None
-    by_device d true same off =
-        let equal : c.device.0 ≡ d = grind (arith, common_steps) in
-        subst (λ e. (slot_at (slice_set slots c.device.0 x) e).planned ≡ None) equal (ap (λ (y : Slot). y.planned) (set_here slots c.device.0 x within) ∙ ap (λ (y : Slot). y.planned) is)
-    by_device d false other off =
-        let apart : d ≢ c.device.0 = grind (arith, common_steps) in
-        let miss : (c.device.0 == d) ≡ false = grind (arith, common_steps) in
-        ap (λ (y : Slot). y.planned) (set_other slots c.device.0 d x apart)
-        ∙ was.none d (ap (list_any (is_on d)) (drop_more cs k c more ∙ ap (λ y. y ∷ drop (k + 1) cs) own) ∙ ap (λ b. b || list_any (is_on d) (drop (k + 1) cs)) miss ∙ off)
-
-pub cleared_all : (start slots : List Slot) (cs : List Command) (k : ℕ) → IsClearedTo start slots cs k → length cs ≤ k → (d : ℕ) → (slot_at slots d).planned ≡ None
-cleared_all start slots cs k was all d = was.none d (ap (list_any (is_on d)) (drop_all k cs all))

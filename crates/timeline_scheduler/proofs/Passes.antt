@@ -1,8 +1,8 @@
 -- What the slots tell behind a front of the line, item by item.
-use Rattle.command_rules.specs.Items.{is_ran}
+use Rattle.command_rules.specs.ClosedSets.{chosen}
 use Rattle.command_rules.specs.Rosters.{Run, commands_of, is_on, reads_first, touches, writes_on}
 use Rattle.history_book.specs.Books.{doom_of}
-use Rattle.history_book.specs.Plans.{whole_end}
+use Rattle.history_book.specs.Plans.{free, whole_end}
 use Rattle.history_book.specs.Readings.{Reading, is_doomed, is_live}
 use Rattle.history_book.specs.Settings.{Setting}
 use Rattle.history_book.specs.declared.entries.Kept.{Kept}
@@ -17,17 +17,17 @@ use Rattle.lineage_table.specs.declared.accesses.Access.{Access}
 use Rattle.lock_leasing.proofs.AccessRuns.{Alone, EachTail, HasAccess, alone, workers_have_access}
 use Rattle.lock_leasing.proofs.Facts.{Facts}
 use Rattle.lock_leasing.specs.Configurations.{Grips}
-use Rattle.std.proofs.Common.{ap, arith, cond, refl, subst, sym, ◌∙◌}
+use Rattle.std.proofs.Common.{ap, ap₂, append-nil, append_assoc, arith, cond, refl, subst, sym, ◌∙◌}
 use Rattle.std.proofs.lemmas.Bool.{or_right}
 use Rattle.std.proofs.lemmas.Grind.{common_steps}
-use Rattle.std.proofs.lemmas.List.{drop_more, take-append-drop, take_more}
+use Rattle.std.proofs.lemmas.List.{length-map, take_all}
 use Rattle.std.specs.List.{list_any}
-use Rattle.std.specs.Prelude.{Bool, List, None, Option, Some, [], drop, false, find, if◌then◌else◌, is_some, length, nat_lt, option_map, slice_get, slice_index_or, slice_set, suc, take, true, unwrap_or, zero, ℕ, ◌&&◌, ◌++◌, ◌+◌, ◌<◌, ◌==◌, ◌||◌, ◌∷◌, ◌≡◌}
-use Rattle.timeline_scheduler.proofs.Reached.{AreOfLine, IsReached, back_reached, failed_reached, lacks_access, none_of, run_reached}
+use Rattle.std.specs.Prelude.{Bool, List, None, Option, Some, [], false, find, fold, if◌then◌else◌, is_some, length, nat_lt, option_map, slice_set, suc, take, true, unwrap_or, zero, ℕ, ◌&&◌, ◌++◌, ◌<◌, ◌==◌, ◌||◌, ◌∷◌, ◌≡◌, ◌≤◌}
+use Rattle.timeline_scheduler.proofs.Frees.{AreOfLine, back_free, failed_free, found_in, none_of, run_free}
 use Rattle.timeline_scheduler.proofs.SlotSets.{changed_at, changed_length, chosen_at}
 use Rattle.timeline_scheduler.proofs.Wholes.{whole_is}
-use Rattle.timeline_scheduler.specs.Slots.{changed, changed_on, devices_among, devices_passed, is_followed, is_passed, passed_item, reads_some, slot_at, slot_behind, slot_passed, slot_waiting, whole_passed}
-use Rattle.timeline_scheduler.specs.declared.scratches.Slot.{Slot}
+use Rattle.timeline_scheduler.specs.Slots.{changed, changed_on, devices_among, devices_passed, cleared, is_followed, is_passed, no_slot, passed_item, passed_set, reads_some, slot_at, slot_behind, slot_passed, slot_waiting, whole_passed}
+use Rattle.timeline_scheduler.specs.declared.slots.Slot.{Slot}
 
 -- Slots of an item
 
@@ -59,7 +59,7 @@ no_whole runs r x whole d s none = at (nat_lt s.free whole) refl
 
 -- what passing a run makes of the slot of a device that is followed
 run_slot : (table : List LineageState) (history : List Kept) (runs : List Run) (r : ℕ) (q : RunNo) (slots : List Slot) (d : ℕ) → length slots ≡ length table → d < length table → is_followed runs r d ≡ true
-    → slot_at (passed_item table history runs r (Some (Ran q)) slots) d ≡ slot_waiting runs r q.0 (whole_passed table runs r q.0) d (slot_passed table (is_some (doom_of history q.0)) q.0 d (slot_at slots d))
+    → slot_at (passed_item table history runs r (Ran q) slots) d ≡ slot_waiting runs r q.0 (whole_passed table runs r q.0) d (slot_passed table (is_some (doom_of history q.0)) q.0 d (slot_at slots d))
 run_slot table history runs r q slots d size within follows = by_whole (nat_lt 0 (whole_passed table runs r q.0)) refl
   where
     doomed : Bool
@@ -132,11 +132,10 @@ waiting_planned runs r x whole d s = at (nat_lt s.free whole && (reads_first run
 
 module _ (table : List LineageState) (history : List Kept) (runs : List Run) (r : ℕ) (slots : List Slot) where
   -- an item that is passed leaves the planned times
-  pub item_planned : (i : Option Item) (e : ℕ) → (slot_at (passed_item table history runs r i slots) e).planned ≡ (slot_at slots e).planned
-  item_planned None e = refl
-  item_planned (Some (Failed d k)) e = refl
-  item_planned (Some (Back d k)) e = refl
-  item_planned (Some (Ran q)) e = by_whole (nat_lt 0 whole)
+  pub item_planned : (i : Item) (e : ℕ) → (slot_at (passed_item table history runs r i slots) e).planned ≡ (slot_at slots e).planned
+  item_planned (Failed d k) e = refl
+  item_planned (Back d k) e = refl
+  item_planned (Ran q) e = by_whole (nat_lt 0 whole)
     where
       whole : ℕ
       whole = whole_passed table runs r q.0
@@ -152,11 +151,10 @@ module _ (table : List LineageState) (history : List Kept) (runs : List Run) (r 
       by_whole false = at_passed
 
   -- .. and there are as many slots
-  pub item_length : (i : Option Item) → length (passed_item table history runs r i slots) ≡ length slots
-  item_length None = refl
-  item_length (Some (Failed d k)) = refl
-  item_length (Some (Back d k)) = refl
-  item_length (Some (Ran q)) = by_whole (nat_lt 0 whole)
+  pub item_length : (i : Item) → length (passed_item table history runs r i slots) ≡ length slots
+  item_length (Failed d k) = refl
+  item_length (Back d k) = refl
+  item_length (Ran q) = by_whole (nat_lt 0 whole)
     where
       whole : ℕ
       whole = whole_passed table runs r q.0
@@ -171,51 +169,85 @@ module _ (table : List LineageState) (history : List Kept) (runs : List Run) (r 
       by_whole true = changed_length (slot_waiting runs r q.0 whole) (devices_among runs r (length passed)) passed ∙ long
       by_whole false = long
 
+-- All items of a set
+
+-- where nothing was passed nothing is known
+pub cleared_at : (slots : List Slot) (d : ℕ) → slot_at (cleared slots) d ≡ no_slot
+cleared_at [] d = refl
+cleared_at (s ∷ slots) zero = refl
+cleared_at (s ∷ slots) (suc d) = cleared_at slots d
+
+module _ (table : List LineageState) (history : List Kept) (runs : List Run) (r : ℕ) where
+  pub fold_length : (items : List Item) (slots : List Slot) → length (fold (λ ss i. passed_item table history runs r i ss) slots items) ≡ length slots
+  fold_length [] slots = refl
+  fold_length (i ∷ is) slots = fold_length is (passed_item table history runs r i slots) ∙ item_length table history runs r slots i
+
+  pub fold_planned : (items : List Item) (slots : List Slot) (e : ℕ) → (slot_at (fold (λ ss i. passed_item table history runs r i ss) slots items) e).planned ≡ (slot_at slots e).planned
+  fold_planned [] slots e = refl
+  fold_planned (i ∷ is) slots e = fold_planned is (passed_item table history runs r i slots) e ∙ item_planned table history runs r slots i e
+
+  -- there are as many slots
+  pub set_length : (items : List Item) (slots : List Slot) → length (passed_set table history runs r items slots) ≡ length slots
+  set_length items slots = fold_length items (cleared slots) ∙ length-map slots (λ s. no_slot)
+
+  -- .. and nothing is planned
+  pub set_planned_none : (items : List Item) (slots : List Slot) (e : ℕ) → (slot_at (passed_set table history runs r items slots) e).planned ≡ None
+  set_planned_none items slots e = fold_planned items (cleared slots) e ∙ ap (λ (s : Slot). s.planned) (cleared_at slots e)
+
+module _ (table : List LineageState) (history : List Kept) (runs : List Run) (r : ℕ) (before : List Bool) (items : List Item) (old slots : List Slot) (at : ℕ)
+    (is : slots ≡ fold (λ ss i. passed_item table history runs r i ss) (cleared old) (chosen (take at before) (take at items))) where
+  -- as many slots, with no plan
+  pub walk_length : length slots ≡ length old
+  walk_length = ap length is ∙ fold_length table history runs r (chosen (take at before) (take at items)) (cleared old) ∙ length-map old (λ s. no_slot)
+
+  pub walk_planned : (d : ℕ) → (slot_at slots d).planned ≡ None
+  walk_planned d = ap (λ ss. (slot_at ss d).planned) is ∙ fold_planned table history runs r (chosen (take at before) (take at items)) (cleared old) d ∙ ap (λ (s : Slot). s.planned) (cleared_at old d)
+
+  -- at the end the whole set is passed
+  pub walk_done : length before ≤ at → length items ≤ at → slots ≡ passed_set table history runs r (chosen before items) old
+  walk_done flags all = is ∙ ap₂ (λ bs js. fold (λ ss i. passed_item table history runs r i ss) (cleared old) (chosen bs js)) (take_all at before flags) (take_all at items all)
+
 -- Along the line
 
 each_behind : (P : Item → List Item → Type 0) (front is : List Item) → EachTail P (front ++ is) → EachTail P is
 each_behind P [] is all = all
 each_behind P (i ∷ front) is all = each_behind P front is all.1
 
-pub get_some : {A : Type 0} (xs : List A) (k : ℕ) (x : A) → k < length xs → slice_get xs k ≡ Some (slice_index_or xs k x)
-get_some [] k x within = absurd (omega (arith, within))
-get_some (y ∷ xs) zero x within = refl
-get_some (y ∷ xs) (suc k) x within = get_some xs k x (omega (arith, within))
+module _ (w : Setting) (n : Reading) (g : Grips) (f : Facts w n g) (r : ℕ) (table : List LineageState) (history : List Kept) (size : length table ≡ length w.first) (lines : (d : ℕ) → d < length w.first → AreOfLine w n g d (accesses_at table d)) (dooms : (q : ℕ) → is_some (doom_of history q) ≡ is_doomed n q) where
+  -- each device that is followed is free behind these items when its slot says so
+  abbrev pub AllFree : List Item → List Slot → Type 0
+  AllFree items slots = (d : ℕ) → d < length w.first → is_followed w.runs r d ≡ true → (slot_at slots d).free ≡ free w n r items d
 
-module _ (w : Setting) (n : Reading) (g : Grips) (f : Facts w n g) (r : ℕ) (table : List LineageState) (history : List Kept) (size : length table ≡ length w.first) (lines : (d : ℕ) → d < length w.first → AreOfLine w n d (accesses_at table d)) (dooms : (q : ℕ) → is_some (doom_of history q) ≡ is_doomed n q) where
-  -- each slot of a device that is followed tells of it behind the front
-  abbrev pub AllReached : List Item → List Item → List Slot → Type 0
-  AllReached front back slots = (d : ℕ) → d < length w.first → is_followed w.runs r d ≡ true → IsReached w n g r d front back (accesses_at table d) (slot_at slots d)
-
-  item_reached : (front is : List Item) (i : Item) (slots : List Slot) → n.line ≡ front ++ i ∷ is → length slots ≡ length table → AllReached front (i ∷ is) slots → AllReached (front ++ i ∷ []) is (passed_item table history w.runs r (Some i) slots)
-  item_reached front is (Failed e k) slots cut long was d within follows = failed_reached w n g f r d front is e k (accesses_at table d) (slot_at slots d) (was d within follows)
-  item_reached front is (Back e k) slots cut long was d within follows = back_reached w n g f r d front is e k (accesses_at table d) (slot_at slots d) (was d within follows)
-  item_reached front is (Ran q) slots cut long was d within follows =
-      subst (IsReached w n g r d (front ++ Ran q ∷ []) is (accesses_at table d)) (sym (run_slot table history w.runs r q slots d long (omega (arith, within, size)) follows))
-      (run_reached w n g f r d front is q (accesses_at table d) (slot_at slots d) (is_some (doom_of history q.0)) (whole_passed table w.runs r q.0) has (lines d within).apart
-      (lacks_access w n g d q front is (accesses_at table d) cut once (lines d within)) (dooms q.0) whole (was d within follows))
+  -- one item more is passed, which stands there in the line
+  item_free : (front is passed : List Item) (i : Item) (slots : List Slot) → n.line ≡ front ++ i ∷ is → length slots ≡ length table → AllFree passed slots → AllFree (passed ++ i ∷ []) (passed_item table history w.runs r i slots)
+  item_free front is passed (Failed e k) slots cut long was d within follows = was d within follows ∙ sym (failed_free w n g f r d passed e k)
+  item_free front is passed (Back e k) slots cut long was d within follows = was d within follows ∙ sym (back_free w n g f r d passed e k)
+  item_free front is passed (Ran q) slots cut long was d within follows =
+      ap (λ (s : Slot). s.free) (run_slot table history w.runs r q slots d long (omega (arith, within, size)) follows)
+      ∙ run_free w n g f r d passed is q (accesses_at table d) (slot_at slots d) (is_some (doom_of history q.0)) (whole_passed table w.runs r q.0) has (dooms q.0) whole
+      (found_in w n g d q front is (accesses_at table d) cut once (lines d within)) (was d within follows)
     where
       once : EachTail Alone (front ++ Ran q ∷ is)
       once = subst (EachTail Alone) cut (alone n f.once)
 
       -- whole runs are waited for only where all devices are followed
       whole : reads_first w.runs r d ≡ true → whole_passed table w.runs r q.0 ≡ (if is_live n q.0 then whole_end w n q.0 else 0)
-      whole reading =
-          let all : reads_some w.runs r ≡ true = read_some w.runs r d reading in
-          whole_is w n g r table slots q front is cut once size all lines (λ e inside. was e inside (ap (λ b. b || touches w.runs r e) all))
+      whole reading = whole_is w n g r table q front is cut once size (read_some w.runs r d reading) lines
 
       has : HasAccess w n g f d (Ran q) is
       has = (each_behind (HasAccess w n g f d) front (Ran q ∷ is) (subst (EachTail (HasAccess w n g f d)) cut (workers_have_access w n g f d))).0
 
-  -- one item further
-  pub pass_next : (at : ℕ) (slots : List Slot) → at < length n.line → length slots ≡ length table → AllReached (take at n.line) (drop at n.line) slots → AllReached (take (at + 1) n.line) (drop (at + 1) n.line) (passed_item table history w.runs r (slice_get n.line at) slots)
-  pass_next at slots within long was =
-      subst (λ o. AllReached (take (at + 1) n.line) (drop (at + 1) n.line) (passed_item table history w.runs r o slots)) (sym (get_some n.line at no_item within))
-      (subst (λ l. AllReached l (drop (at + 1) n.line) (passed_item table history w.runs r (Some i) slots)) (sym (take_more n.line at no_item within))
-      (item_reached (take at n.line) (drop (at + 1) n.line) i slots (sym (take-append-drop at n.line) ∙ ap (λ l. take at n.line ++ l) (drop_more n.line at no_item within)) long (subst (λ l. AllReached (take at n.line) l slots) (drop_more n.line at no_item within) was)))
-    where
-      no_item : Item
-      no_item = Failed (record { 0 = 0 }) 0
+  -- the items with a flag are passed, from here on
+  along_free : (front is passed : List Item) (bs : List Bool) (slots : List Slot) → n.line ≡ front ++ is → length slots ≡ length table → AllFree passed slots
+      → AllFree (passed ++ chosen bs is) (fold (λ ss i. passed_item table history w.runs r i ss) slots (chosen bs is))
+  unfolding chosen
+  along_free front [] passed bs slots cut long was = subst (λ l. AllFree l slots) (sym (append-nil passed)) was
+  along_free front (i ∷ is) passed [] slots cut long was = subst (λ l. AllFree l slots) (sym (append-nil passed)) was
+  along_free front (i ∷ is) passed (true ∷ bs) slots cut long was =
+      subst (λ l. AllFree l (fold (λ ss j. passed_item table history w.runs r j ss) (passed_item table history w.runs r i slots) (chosen bs is))) (append_assoc passed (i ∷ []) (chosen bs is))
+      (along_free (front ++ i ∷ []) is (passed ++ i ∷ []) bs (passed_item table history w.runs r i slots) (cut ∙ sym (append_assoc front (i ∷ []) is)) (item_length table history w.runs r slots i ∙ long) (item_free front is passed i slots cut long was))
+  along_free front (i ∷ is) passed (false ∷ bs) slots cut long was = along_free (front ++ i ∷ []) is passed bs slots (cut ∙ sym (append_assoc front (i ∷ []) is)) long was
 
-      i : Item
-      i = slice_index_or n.line at no_item
+  -- behind the items of the set each device that is followed is free when its slot says so
+  pub set_free : (bs : List Bool) (slots : List Slot) → length slots ≡ length table → AllFree (chosen bs n.line) (passed_set table history w.runs r (chosen bs n.line) slots)
+  set_free bs slots long = along_free [] n.line [] bs (cleared slots) refl (length-map slots (λ s. no_slot) ∙ long) (λ d within follows. ap (λ (s : Slot). s.free) (cleared_at slots d))

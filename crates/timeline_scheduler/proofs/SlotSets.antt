@@ -3,9 +3,9 @@ use Rattle.std.proofs.Common.{ap, arith, cond, refl, subst, sym, ◌∙◌}
 use Rattle.std.proofs.lemmas.Grind.{common_steps}
 use Rattle.std.proofs.lemmas.List.{get_or-set_other, get_or-set_same, get_or_default, length-set}
 use Rattle.std.specs.List.{range_with_len}
-use Rattle.std.specs.Prelude.{Bool, List, [], false, filter, length, slice_index_or, slice_set, suc, true, zero, ℕ, ◌+◌, ◌<◌, ◌==◌, ◌∷◌, ◌≡◌, ◌≢◌, ◌≤◌}
-use Rattle.timeline_scheduler.specs.Slots.{changed, changed_on, no_slot, slot_at}
-use Rattle.timeline_scheduler.specs.declared.scratches.Slot.{Slot}
+use Rattle.std.specs.Prelude.{Bool, List, [], drop, false, filter, length, slice_index_or, slice_set, suc, take, true, zero, ℕ, ◌++◌, ◌+◌, ◌<◌, ◌==◌, ◌∷◌, ◌≡◌, ◌≢◌, ◌≤◌}
+use Rattle.timeline_scheduler.specs.Slots.{changed, changed_on, cleared, no_slot, slot_at}
+use Rattle.timeline_scheduler.specs.declared.slots.Slot.{Slot}
 
 -- of the device itself it is the new slot
 pub set_here : (slots : List Slot) (d : ℕ) (x : Slot) → d < length slots → slot_at (slice_set slots d x) d ≡ x
@@ -109,3 +109,24 @@ module _ (change : ℕ → Slot → Slot) where
     -- those that would stay may be left out
     pub changed_fewer : (n : ℕ) (slots : List Slot) → length slots ≡ n → changed change (filter q (range_with_len 0 n)) slots ≡ changed change (filter p (range_with_len 0 n)) slots
     changed_fewer n slots size = fewer_in_range 0 n slots (omega (arith, size))
+
+-- Clearing
+
+-- one device more is cleared
+pub cleared_more : (slots : List Slot) (d : ℕ) → d < length slots → slice_set (cleared (take d slots) ++ drop d slots) d no_slot ≡ cleared (take (d + 1) slots) ++ drop (d + 1) slots
+cleared_more slots d within = along slots d within ∙ ap (λ k. cleared (take k slots) ++ drop k slots) (next d)
+  where
+    next : (k : ℕ) → suc k ≡ k + 1
+    next k = omega arith
+
+    along : (xs : List Slot) (k : ℕ) → k < length xs → slice_set (cleared (take k xs) ++ drop k xs) k no_slot ≡ cleared (take (suc k) xs) ++ drop (suc k) xs
+    along [] k inside = absurd (omega (arith, inside))
+    along (x ∷ xs) zero inside = refl
+    along (x ∷ xs) (suc k) inside = ap (λ l. no_slot ∷ l) (along xs k (omega (arith, inside)))
+
+-- all are
+pub cleared_all : (slots : List Slot) (d : ℕ) → length slots ≤ d → cleared (take d slots) ++ drop d slots ≡ cleared slots
+cleared_all [] zero all = refl
+cleared_all [] (suc d) all = refl
+cleared_all (x ∷ xs) zero all = absurd (omega (arith, all))
+cleared_all (x ∷ xs) (suc d) all = ap (λ l. no_slot ∷ l) (cleared_all xs d (omega (arith, all)))

@@ -15,13 +15,12 @@ use Rattle.lock_leasing.proofs.AccessRuns.{Alone, EachTail}
 use Rattle.lock_leasing.specs.Configurations.{Grips}
 use Rattle.lock_leasing.specs.Order.{covers}
 use Rattle.std.proofs.Common.{ap, arith, cond, refl, sym, ◌∙◌}
-use Rattle.std.proofs.lemmas.Bool.{eq-eqb, or_left, or_right}
+use Rattle.std.proofs.lemmas.Bool.{eq-eqb}
 use Rattle.std.proofs.lemmas.Grind.{common_steps}
 use Rattle.std.specs.List.{list_any, range_with_len}
-use Rattle.std.specs.Prelude.{Bool, List, Option, [], false, filter, fold, if◌then◌else◌, length, max, not, suc, true, zero, ℕ, ◌&&◌, ◌++◌, ◌+◌, ◌<◌, ◌==◌, ◌||◌, ◌∷◌, ◌≡◌}
-use Rattle.timeline_scheduler.proofs.Reached.{AreOfLine, IsReached, Next, Other, Own, any_behind, lacks_access, max_none, next_tells, none_of}
-use Rattle.timeline_scheduler.specs.Slots.{end_of_access, is_passed, reads_some, slot_at, whole_passed}
-use Rattle.timeline_scheduler.specs.declared.scratches.Slot.{Slot}
+use Rattle.std.specs.Prelude.{Bool, List, Option, [], false, filter, fold, if◌then◌else◌, length, max, not, suc, true, zero, ℕ, ◌&&◌, ◌++◌, ◌+◌, ◌<◌, ◌||◌, ◌∷◌, ◌≡◌}
+use Rattle.timeline_scheduler.proofs.Frees.{AreOfLine, Found, Other, Own, any_behind, found_in, max_none, none_of}
+use Rattle.timeline_scheduler.specs.Slots.{end_of_access, is_passed, reads_some, whole_passed}
 
 -- Folds
 
@@ -51,10 +50,9 @@ behind_is q (i ∷ front) is alone = by_test (is_ran q.0 i) refl (behind_is q fr
     by_test true e rest = absurd (cc (alone.0 q.0 e, any_behind q front is))
     by_test false e rest = rest
 
-module _ (w : Setting) (n : Reading) (g : Grips) (r : ℕ) (table : List LineageState) (slots : List Slot) (q : RunNo) (front is : List Item) (cut : n.line ≡ front ++ Ran q ∷ is)
+module _ (w : Setting) (n : Reading) (g : Grips) (r : ℕ) (table : List LineageState) (q : RunNo) (front is : List Item) (cut : n.line ≡ front ++ Ran q ∷ is)
     (alone : EachTail Alone (front ++ Ran q ∷ is)) (size : length table ≡ length w.first)
-    (reads : reads_some w.runs r ≡ true) (lines : (d : ℕ) → d < length w.first → AreOfLine w n d (accesses_at table d))
-    (reached : (d : ℕ) → d < length w.first → IsReached w n g r d front (Ran q ∷ is) (accesses_at table d) (slot_at slots d)) where
+    (reads : reads_some w.runs r ≡ true) (lines : (d : ℕ) → d < length w.first → AreOfLine w n g d (accesses_at table d)) where
   abbrev next : ℕ → Option Access
   next d = access_of q.0 (accesses_at table d)
 
@@ -77,10 +75,8 @@ module _ (w : Setting) (n : Reading) (g : Grips) (r : ℕ) (table : List Lineage
       by_test true e = refl
       by_test false e = sym (ap (λ o. max t (end_of_access o)) (none_of q.0 (accesses_at table d) e) ∙ max_none t)
 
-  tells : (d : ℕ) → d < length w.first → Next w n g d q.0 is (accesses_at table d) (slot_at slots d)
-  tells d within =
-      let all = lines d within in
-      next_tells w n g d q is (accesses_at table d) (slot_at slots d) all.apart (lacks_access w n g d q front is (accesses_at table d) cut alone all) (reached d within).accesses
+  tells : (d : ℕ) → d < length w.first → Found w n g d q.0 is (accesses_at table d)
+  tells d within = found_in w n g d q front is (accesses_at table d) cut alone (lines d within)
 
   one_live : is_live n q.0 ≡ true → (t d : ℕ) → d < length w.first → max t (end_of_access (next d)) ≡ (if touches w.runs q.0 d then (if counts d then max t (end_at d) else t) else t)
   one_live live t d within = by_next (tells d within)
@@ -100,12 +96,12 @@ module _ (w : Setting) (n : Reading) (g : Grips) (r : ℕ) (table : List Lineage
       uncounted true false false e h = absurd (grind (arith, common_steps))
       uncounted false b c e h = refl
 
-      by_next : Next w n g d q.0 is (accesses_at table d) (slot_at slots d) → max t (end_of_access (next d)) ≡ (if touches w.runs q.0 d then (if counts d then max t (end_at d) else t) else t)
-      by_next (Own x rest found its own tells left) =
+      by_next : Found w n g d q.0 is (accesses_at table d) → max t (end_of_access (next d)) ≡ (if touches w.runs q.0 d then (if counts d then max t (end_at d) else t) else t)
+      by_next (Own x rest found its own tells) =
           ap (λ o. max t (end_of_access o)) found ∙ ap (max t) (tells.to ∙ ap (λ k. planned_end (n.run k).planned d) own)
           ∙ counted (touches w.runs q.0 d) (counts d) refl refl (touched (touches w.runs q.0 d) (passed_by w n q.0 d) (list_any (covers n d) is) its)
           (ap (λ c. not (passed_by w n q.0 d) && not c) (overwritten d) ∙ unpassed (touches w.runs q.0 d) (passed_by w n q.0 d) (list_any (covers n d) is) its)
-      by_next (Other none lacks left) =
+      by_next (Other none lacks) =
           ap (λ o. max t (end_of_access o)) none ∙ max_none t ∙ uncounted (touches w.runs q.0 d) (passed_by w n q.0 d) (list_any (covers n d) is) lacks live
           ∙ ap (λ c. if touches w.runs q.0 d then (if not (passed_by w n q.0 d) && not c then max t (end_at d) else t) else t) (sym (overwritten d))
 
@@ -115,9 +111,9 @@ module _ (w : Setting) (n : Reading) (g : Grips) (r : ℕ) (table : List Lineage
       lives : (a b c : Bool) → (is_live n q.0 && a && not b && not c) ≡ true → is_live n q.0 ≡ true
       lives a b c e = grind (arith, common_steps)
 
-      by_next : Next w n g d q.0 is (accesses_at table d) (slot_at slots d) → max t (end_of_access (next d)) ≡ t
-      by_next (Own x rest found its own tells left) = absurd (cc (lives (touches w.runs q.0 d) (passed_by w n q.0 d) (list_any (covers n d) is) its, dead))
-      by_next (Other none lacks left) = ap (λ o. max t (end_of_access o)) none ∙ max_none t
+      by_next : Found w n g d q.0 is (accesses_at table d) → max t (end_of_access (next d)) ≡ t
+      by_next (Own x rest found its own tells) = absurd (cc (lives (touches w.runs q.0 d) (passed_by w n q.0 d) (list_any (covers n d) is) its, dead))
+      by_next (Other none lacks) = ap (λ o. max t (end_of_access o)) none ∙ max_none t
 
   by_devices : whole_passed table w.runs r q.0 ≡ fold (λ t d. max t (end_of_access (next d))) 0 (range_with_len 0 (length w.first))
   by_devices =

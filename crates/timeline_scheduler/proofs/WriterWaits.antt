@@ -10,7 +10,7 @@ use Rattle.std.specs.Prelude.{Bool, List, None, Some, false, filter, if◌then�
 use Rattle.timeline_scheduler.proofs.DeviceWalks.{rest}
 use Rattle.timeline_scheduler.proofs.SlotSets.{changed_fewer}
 use Rattle.timeline_scheduler.specs.Slots.{AreHomed, changed, devices_among, slot_waiting}
-use Rattle.timeline_scheduler.specs.declared.scratches.Slot.{Slot}
+use Rattle.timeline_scheduler.specs.declared.slots.Slot.{Slot}
 
 -- r reads the device first, and x writes it
 abbrev pub waits_for : List Run → ℕ → ℕ → ℕ → Bool

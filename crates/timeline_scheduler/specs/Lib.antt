@@ -1,3 +1,5 @@
+pub mod Bases
+pub mod Gathered
 pub mod Placings
 pub mod Scratches
 pub mod Slots

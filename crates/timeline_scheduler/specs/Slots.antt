@@ -1,5 +1,5 @@
--- What the slots of a scratch become as items of the line are passed, and as a run is planned behind them.
-use Rattle.command_rules.specs.Rosters.{Run, commands_of, is_on, is_run, reads_first, touches, writes_on}
+-- What the slots of a scratch become as items of the line are passed, and as a run is planned behind them; which runs outside do not fit.
+use Rattle.command_rules.specs.Rosters.{Run, commands_of, reads_first, touches, writes_on}
 use Rattle.history_book.specs.Books.{doom_of}
 use Rattle.history_book.specs.Plans.{plan_more}
 use Rattle.history_book.specs.Readings.{Planned}
@@ -9,38 +9,33 @@ use Rattle.home_types.specs.DeviceSets.{Devices}
 use Rattle.home_types.specs.declared.commands.Command.{Command}
 use Rattle.home_types.specs.declared.items.Item.TheVariants.{Back, Failed, Ran}
 use Rattle.home_types.specs.declared.items.Item.{Item}
-use Rattle.home_types.specs.declared.numbers.RunNo.{RunNo}
-use Rattle.lineage_table.specs.Accesses.{access_of, behind_run, has_access, is_released}
+use Rattle.lineage_table.specs.Accesses.{access_of, has_access, is_released}
 use Rattle.lineage_table.specs.Lineages.{LineageState, accesses_at}
 use Rattle.lineage_table.specs.declared.accesses.Access.{Access}
 use Rattle.std.specs.FinSet as set
 use Rattle.std.specs.List.{list_any, range_with_len}
-use Rattle.std.specs.Prelude.{Bool, IsTrue, List, None, Option, Some, [], false, filter, fold, if◌then◌else◌, is_some, length, max, nat_le, nat_lt, slice_get, slice_index_or, slice_set, true, ℕ, ◌&&◌, ◌<◌, ◌≡◌, ◌||◌}
-use Rattle.timeline_scheduler.specs.declared.scratches.Slot.{Slot}
+use Rattle.std.specs.Prelude.{Bool, List, None, Option, Some, [], false, filter, fold, if◌then◌else◌, is_some, length, map, max, nat_lt, slice_index_or, slice_set, true, ℕ, ◌&&◌, ◌<◌, ◌≡◌, ◌||◌}
+use Rattle.timeline_scheduler.specs.declared.slots.Slot.{Slot}
 
 -- Slots
 
 -- of a device nothing was passed, and nothing is planned
 abbrev pub no_slot : Slot
-no_slot = record { last = None; free = 0; planned = None }
+no_slot = record { free = 0; planned = None }
 
 -- what is known of the device
 abbrev pub slot_at : List Slot → ℕ → Slot
 slot_at slots d = slice_index_or slots d no_slot
 
--- nothing is known of any
-abbrev pub IsFresh : List Slot → Type 0
-IsFresh slots = (d : ℕ) → slot_at slots d ≡ no_slot
+-- nothing is known of any of so many
+abbrev pub cleared : List Slot → List Slot
+cleared slots = map (λ s. no_slot) slots
 
 -- The devices of a run
 
 -- each command is on a device of the home
 abbrev pub AreHomed : ℕ → List Run → Type 0
 AreHomed devices runs = (x d : ℕ) → touches runs x d ≡ true → d < devices
-
--- the runs of the line are of the roster
-abbrev pub AreRuns : List Run → List Item → Type 0
-AreRuns runs items = (at : ℕ) (x : RunNo) → slice_get items at ≡ Some (Ran x) → IsTrue (is_run runs x.0)
 
 -- the devices of so many that the run has in its footprint
 abbrev pub devices_among : List Run → ℕ → ℕ → List ℕ
@@ -80,7 +75,7 @@ devices_passed table runs r x = filter (is_passed table runs r x) (range_with_le
 -- behind this access the device is free at its planned end, unless its run is done with it, or is doomed
 abbrev pub slot_behind : Bool → Option Access → Slot → Slot
 slot_behind doomed None slot = slot
-slot_behind doomed (Some a) slot = record { last = Some a.run; free = if doomed || is_released a.status then slot.free else max slot.free a.to; planned = slot.planned }
+slot_behind doomed (Some a) slot = record { free = if doomed || is_released a.status then slot.free else max slot.free a.to; planned = slot.planned }
 
 -- the planned end of the access, where there is one
 abbrev pub end_of_access : Option Access → ℕ
@@ -107,18 +102,22 @@ changed change devices slots = fold (changed_on change) slots devices
 abbrev pub whole_passed : List LineageState → List Run → ℕ → ℕ → ℕ
 whole_passed table runs r x = fold (λ t d. max t (end_of_access (access_of x (accesses_at table d)))) 0 (devices_passed table runs r x)
 
--- the item stands before r
-abbrev pub passed_item : List LineageState → List Kept → List Run → ℕ → Option Item → List Slot → List Slot
-passed_item table history runs r item slots = by_item item
+-- the run stands before r
+abbrev pub passed_run : List LineageState → List Kept → List Run → ℕ → ℕ → List Slot → List Slot
+passed_run table history runs r x slots = waited (whole_passed table runs r x) (changed (slot_passed table (is_some (doom_of history x)) x) (devices_passed table runs r x) slots)
   where
-    waited : ℕ → ℕ → List Slot → List Slot
-    waited x whole passed = if nat_lt 0 whole then changed (slot_waiting runs r x whole) (devices_among runs r (length passed)) passed else passed
+    waited : ℕ → List Slot → List Slot
+    waited whole passed = if nat_lt 0 whole then changed (slot_waiting runs r x whole) (devices_among runs r (length passed)) passed else passed
 
-    by_item : Option Item → List Slot
-    by_item None = slots
-    by_item (Some (Ran x)) = waited x.0 (whole_passed table runs r x.0) (changed (slot_passed table (is_some (doom_of history x.0)) x.0) (devices_passed table runs r x.0) slots)
-    by_item (Some (Failed d k)) = slots
-    by_item (Some (Back d k)) = slots
+-- the item does
+abbrev pub passed_item : List LineageState → List Kept → List Run → ℕ → Item → List Slot → List Slot
+passed_item table history runs r (Ran x) slots = passed_run table history runs r x.0 slots
+passed_item table history runs r (Failed d k) slots = slots
+passed_item table history runs r (Back d k) slots = slots
+
+-- all of these items do, and no other
+abbrev pub passed_set : List LineageState → List Kept → List Run → ℕ → List Item → List Slot → List Slot
+passed_set table history runs r items slots = fold (λ ss i. passed_item table history runs r i ss) (cleared slots) items
 
 -- A plan
 
@@ -126,26 +125,22 @@ passed_item table history runs r item slots = by_item item
 abbrev pub plan_behind : List Slot → List Command → ℕ → List Planned
 plan_behind slots commands m = (fold (plan_more (λ d. (slot_at slots d).free)) (record { clock = m; planned = [] }) commands).planned
 
--- no time is held for a device of which none of the commands is
-abbrev pub PlansOnly : List Command → List Slot → Type 0
-PlansOnly commands slots = (d : ℕ) → list_any (is_on d) commands ≡ false → (slot_at slots d).planned ≡ None
-
--- what was passed is as it was
-pub record LeavesPassed (slots left : List Slot) : Type 0 where
-  pub size : length left ≡ length slots
-  pub last : (d : ℕ) → (slot_at left d).last ≡ (slot_at slots d).last
-  pub free : (d : ℕ) → (slot_at left d).free ≡ (slot_at slots d).free
-
--- the use of a device with one more command, planned from and to these times
+-- the use of the device with one more command, planned from and to these times
 abbrev pub used_again : Option (ℕ × ℕ) → ℕ → ℕ → ℕ × ℕ
 used_again None from to = (from, to)
 used_again (Some used) from to = (used.0, to)
 
--- the plan ends on the device before the next one of these accesses is planned to start
-abbrev pub fits_slot : List Access → Slot → Bool
-fits_slot accesses slot = by_plan slot.planned (slice_get (behind_run slot.last accesses) 0)
+-- What does not fit
+
+-- the access is planned to start before the plan ends on the device
+abbrev pub overlaps : Slot → Option Access → Bool
+overlaps slot None = false
+overlaps slot (Some a) = by_plan slot.planned
   where
-    by_plan : Option (ℕ × ℕ) → Option Access → Bool
-    by_plan None next = true
-    by_plan (Some used) None = true
-    by_plan (Some used) (Some next) = nat_le used.1 next.from
+    by_plan : Option (ℕ × ℕ) → Bool
+    by_plan None = false
+    by_plan (Some used) = nat_lt a.from used.1
+
+-- that is so of the access of the run x on some device of r
+abbrev pub is_misfit : List LineageState → List Run → ℕ → List Slot → ℕ → Bool
+is_misfit table runs r slots x = list_any (λ d. overlaps (slot_at slots d) (access_of x (accesses_at table d))) (devices_among runs r (length slots))

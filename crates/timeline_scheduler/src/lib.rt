@@ -1,8 +1,11 @@
-// The place in the line where the plan of a run ends earliest, and the times of that plan.
+// The set of items of the line behind which a run is placed so that its plan ends earliest, and the times of that plan.
 #![tactic(auto)]
 
+mod bases;
+mod gathered;
 mod places;
 mod scratches;
+mod slots;
 
 pub use places::place;
 pub use scratches::Scratch;

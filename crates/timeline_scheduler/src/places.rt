@@ -1,48 +1,46 @@
-//! The timeline's place of a run: the first one at which its plan fits.
+//! The timeline's place of a run: behind the least set of items with which its plan fits.
 ghost use Rattle.std.specs.Prelude.{◌≡◌, ◌≤◌, IsTrue, length, option_map};
 ghost use Rattle.command_rules.specs.Rosters.{is_run, runs_of};
-ghost use Rattle.timeline_scheduler.specs.Placings.{IsEarliestOf, IsPlaceOf, IsPlanOf, MayPlan};
+ghost use Rattle.timeline_scheduler.specs.Placings.{IsEarliestOf, IsLeastOf, IsPlaceOf, IsPlanOf, IsSetOf, MayPlan};
 ghost use Rattle.timeline_scheduler.specs.Slots.{AreFollowed, reads_some};
 
 use crate::scratches::Scratch;
 use command_rules::{IndexedRoster, reads};
 use home_types::{DeviceSet, RunNo};
-use lock_leasing::{Standing, first_place};
+use lock_leasing::Standing;
 
-/// The place in the line, counted from 0, where `r` is placed at this moment, in ms: the least one that fits, from the
-/// first place on. A place fits where, planned behind it, the run is off each of its devices before the first live run
-/// behind the place that uses the device is planned to start there. The end of the line always fits. The scratch then
-/// holds the times of that plan.
+/// The place in the line, counted from 0, where `r` is placed at this moment, in ms, once the items of a set stand before
+/// the others: the number of these items. The set is the least one that holds, with each item, those before it that meet it,
+/// and every item that must stand before `r`, and with which the run fits: planned behind it, the run is off each of its
+/// devices before a live run outside of it is planned to start there. All items are always such a set. The scratch then
+/// holds the set, and the times of that plan.
 ///
 /// The four parts belong to one window, whose model is not the weak one, and `r` is in its roster; the scratch was opened
-/// for the table's number of devices. Takes no memory, and goes over the line once: at each item over the devices of its
-/// run, and from the first place on over the commands and the devices of `r`.
+/// for the table's number of devices, and for no fewer items than the line has. Takes no memory, and goes over the line
+/// three times, and again each time that the set grows.
 pub fn place(s: &Standing, r: RunNo, moment: u64, scratch: &mut Scratch) -> u32
     requires may { MayPlan s.now.table.now s.now.line.now.marks s.now.book.now.items (runs_of s.now.roster.now) r.0 }
-    requires room { length scratch.old ≡ length s.now.table.now }
+    requires room { length scratch.old.slots ≡ length s.now.table.now }
+    requires items { length s.now.line.now.marks ≤ scratch.old.items }
     ensures exact { IsPlaceOf s.now.table.now s.now.line.now.marks s.now.book.now.items (runs_of s.now.roster.now) r.0 moment result }
     ensures within { result ≤ length s.now.line.now.marks }
-    ensures planned { IsPlanOf s.now.table.now s.now.line.now.marks s.now.book.now.items (runs_of s.now.roster.now) r.0 moment result scratch.new }
-    ensures earliest { IsEarliestOf s.now.table.now s.now.line.now.marks s.now.book.now.items (runs_of s.now.roster.now) r.0 moment result }
-    ensures size { length scratch.new ≡ length scratch.old }
+    ensures before { IsSetOf s.now.table.now s.now.line.now.marks s.now.book.now.items (runs_of s.now.roster.now) r.0 moment scratch.new.before }
+    ensures flags { length scratch.new.before ≡ length s.now.line.now.marks }
+    ensures planned { IsPlanOf s.now.table.now s.now.line.now.marks s.now.book.now.items (runs_of s.now.roster.now) r.0 moment scratch.new.slots }
+    ensures least { IsLeastOf s.now.table.now s.now.line.now.marks s.now.book.now.items (runs_of s.now.roster.now) r.0 moment scratch.new.before }
+    ensures earliest { IsEarliestOf s.now.table.now s.now.line.now.marks s.now.book.now.items (runs_of s.now.roster.now) r.0 moment scratch.new.before }
+    ensures size { length scratch.new.slots ≡ length scratch.old.slots }
+    ensures room_stays { scratch.new.items ≡ scratch.old.items }
 {
-    let first = first_place(s, r);
     let followed = followed(s.roster, r);
-    scratch.clear();
-    'front: for at in 0..first {
-        scratch.pass(s, r, followed, at);
+    scratch.seed(s, r);
+    scratch.close(s);
+    scratch.plan(s, r, followed, moment);
+    'rounds: while scratch.take_misfits(s, r) {
+        scratch.close(s);
+        scratch.plan(s, r, followed, moment);
     }
-    let mut at = first;
-    'places: while at < s.line.len() {
-        scratch.plan(s.roster, r, moment);
-        if scratch.fits(s, r) {
-            return at;
-        }
-        scratch.pass(s, r, followed, at);
-        at += 1;
-    }
-    scratch.plan(s.roster, r, moment);
-    at
+    scratch.count()
 }
 
 /// The devices that the plan of the run needs to know of: its own, or all, `None`, where it begins on one with a read.

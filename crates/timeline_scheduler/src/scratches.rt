@@ -1,290 +1,182 @@
-//! The room in which the timeline searches: for each device, when it is free, and the plan so far.
-ghost use Rattle.std.specs.FinSet as set;
-ghost use Rattle.std.specs.Prelude.{◌&&◌, ◌≡◌, ◌-◌, ◌<◌, IfOk, IfSome, IsTrue, Some, true, ℕ, is_some, length, max, option_map, slice_get};
-ghost use Rattle.std.specs.List.{list_all};
+//! The room in which the timeline looks for the set of items behind which a run is placed.
+ghost use Rattle.std.specs.Prelude.{◌≡◌, ◌<◌, ◌≤◌, ◌^◌, IfOk, IsTrue, count_by, false, length, map, not, option_map, slice_index_or, true};
+ghost use Rattle.command_rules.specs.Apart.{meet};
+ghost use Rattle.command_rules.specs.ClosedSets.{chosen, closure, either_of};
+ghost use Rattle.command_rules.specs.Items.{of_run};
 ghost use Rattle.command_rules.specs.Rosters.{commands_of, is_run, runs_of};
-ghost use Rattle.history_book.specs.Books.{doom_of};
-ghost use Rattle.chain_arena.specs.Chains.{values_of};
-ghost use Rattle.home_types.specs.DeviceSets.{IsFirstFrom};
-ghost use Rattle.home_types.specs.Limits.{most_devices};
-ghost use Rattle.lineage_table.specs.Accesses.{IsDisciplined, has_access};
-ghost use Rattle.lineage_table.specs.Lineages.{accesses_at};
 ghost use Rattle.serial_line.specs.Marks.{items_of};
+ghost use Rattle.timeline_scheduler.specs.Bases.{seeds};
+ghost use Rattle.timeline_scheduler.specs.Gathered.{AreKnown};
 ghost use Rattle.timeline_scheduler.specs.Scratches.{HoldsTimes, planned_in};
-ghost use Rattle.timeline_scheduler.specs.Slots.{AreFollowed, AreHomed, AreRuns, IsFresh, LeavesPassed, PlansOnly, changed, devices_among, devices_passed, fits_slot, is_among, is_with_access, passed_item, plan_behind, slot_at, slot_behind, slot_passed, slot_waiting, used_again, whole_passed};
+ghost use Rattle.timeline_scheduler.specs.Slots.{AreFollowed, AreHomed, is_misfit, passed_set, plan_behind};
 
-use chain_arena::{Chain, Knot};
-use command_rules::IndexedRoster;
-use home_types::{DeviceNo, DeviceSet, Item, NoMemory, RunNo};
-use lineage_table::{Access, Status, Table, knot_behind, knot_from};
+use crate::bases::is_needed;
+use crate::gathered::Gathered;
+use crate::slots::Slots;
+use home_types::{DeviceNo, DeviceSet, NoMemory, RunNo};
 use lock_leasing::Standing;
 use std::alloc::Global;
 use std::marker::Model;
 
-/// What is known of a device behind the items of the line that were passed.
-#[derive(Clone, Copy, Debug, PartialEq, Eq)]
-pub struct Slot {
-    /// The run of the last access to it that stands among them.
-    pub(crate) last: Option<RunNo>,
-    /// When it is free for the run behind them, in ms.
-    pub(crate) free: u64,
-    /// From when and to when the run is planned to use it, in ms. `None` where it does not.
-    pub(crate) planned: Option<(u64, u64)>,
-}
-
-/// A device of which nothing was passed, and for which nothing is planned.
-const FREE: Slot = Slot {
-    last: None,
-    free: 0,
-    planned: None,
-};
-
-/// The room in which places are looked for, for the devices of one home; it holds the times of the last plan.
+/// The room in which the timeline looks for the set of items behind which a run is placed, for the devices of one home and
+/// so many items of a line. It holds the last set, and the times of the last plan.
 #[derive(Drop)]
 pub struct Scratch {
-    slots: Vec<Slot>,
-    // for each device where the access that was passed last stands
-    nears: Vec<Option<Knot>>,
+    slots: Slots,
+    // for each item whether it is in the set
+    before: Vec<bool>,
+    items: u32,
 }
 
 impl Model for Scratch {
-    ghost use Rattle.std.specs.Prelude.{List, length, ◌≡◌};
-    ghost use Rattle.timeline_scheduler.specs.declared.scratches.Slot.{Slot};
+    ghost use Rattle.std.specs.Prelude.{length, vec_capacity, ◌≡◌, ◌≤◌};
+    ghost use Rattle.timeline_scheduler.specs.Scratches.{Room};
 
-    ghost Value = { List Slot };
+    ghost Value = { Room };
 
-    ghost view = { λ s. s.slots.items };
+    ghost view = { λ s. record { slots = s.slots; before = s.before.items; items = s.items } };
 
-    ghost invariant = { λ s. length s.nears.items ≡ length s.slots.items };
+    ghost invariant = { λ s. (length s.before.items ≤ s.items) × (s.items ≤ vec_capacity s.before) };
 }
 
 impl Scratch {
-    /// Makes the room for so many devices.
+    /// Makes the room for so many devices, and for so many items of the line.
     ///
     /// Answers `NoMemory` where there is none to be had.
-    pub fn open(alloc: Global, devices: u32) -> Result<Scratch, NoMemory>
-        ensures { IfOk result (λ scratch. length scratch ≡ devices) }
+    pub fn open(alloc: Global, devices: u32, items: u32) -> Result<Scratch, NoMemory>
+        ensures devices { IfOk result (λ scratch. length scratch.slots ≡ devices) }
+        ensures items { IfOk result (λ scratch. scratch.items ≡ items) }
     {
-        let Ok(mut slots) = Vec::with_capacity(alloc, devices as usize) else {
-            return Err(NoMemory);
-        };
-        let Ok(mut nears) = Vec::with_capacity(alloc, devices as usize) else {
-            return Err(NoMemory);
-        };
-        'devices: for _ in 0..devices {
-            slots.push_reserved(FREE);
-            nears.push_reserved(None);
+        let slots = Slots::open(alloc, devices)?;
+        match Vec::with_capacity(alloc, items as usize) {
+            Ok(before) => Ok(Scratch {
+                slots,
+                before,
+                items,
+            }),
+            Err(_) => {
+                drop(slots);
+                Err(NoMemory)
+            }
         }
-        Ok(Scratch { slots, nears })
     }
 
     /// From when and to when the run that was placed last is planned to use the device, in ms: from the start of its first
     /// command there to the end of its last one. `None` where it has no command there.
     pub fn planned(&self, d: DeviceNo) -> Option<(u64, u64)>
-        ensures { result ≡ planned_in self.now d.0 }
+        ensures { result ≡ planned_in self.now.slots d.0 }
     {
-        match self.slots.get(d.0 as usize) {
-            Some(slot) => slot.planned,
-            None => None,
+        self.slots.planned(d)
+    }
+
+    /// Whether the item that stood at this place, counted from 0, is in the set of the run that was placed last.
+    pub fn before(&self, at: u32) -> bool
+        ensures { result ≡ slice_index_or self.now.before at false }
+    {
+        match self.before.get(at as usize) {
+            Some(flag) => *flag,
+            None => false,
         }
     }
 
-    /// Nothing was passed, and nothing is planned.
-    pub(crate) fn clear(&mut self)
-        ensures fresh { IsFresh self.new }
-        ensures size { length self.new ≡ length self.old }
+    /// For each item, in the order in which they stood, whether it is in that set.
+    pub fn flags(&self) -> &[bool]
+        ensures { result.now ≡ self.now.before }
     {
-        'devices: for d in 0..self.slots.len() {
-            self.slots[d] = FREE;
-        }
+        self.before.as_slice()
     }
 
-    /// The item at this place of the line stands before the run `r`. These devices are followed, all where none are named.
-    pub(crate) fn pass(&mut self, s: &Standing, r: RunNo, followed: Option<&DeviceSet>, at: u32)
-        requires size { length self.old ≡ length s.now.table.now }
+    /// How many items are in the set.
+    pub(crate) fn count(&self) -> u32
+        requires { length self.now.before < 2 ^ 32 }
+        ensures { result ≡ count_by (λ flag. flag) self.now.before }
+    {
+        count_set(self.before.as_slice()) as u32
+    }
+
+    /// The set is that of the items of the line that must stand before the run `r` wherever it is placed.
+    pub(crate) fn seed(&mut self, s: &Standing, r: RunNo)
+        requires room { length s.now.line.now.marks ≤ self.old.items }
         requires run { IsTrue (is_run (runs_of s.now.roster.now) r.0) }
-        requires runs { AreRuns (runs_of s.now.roster.now) (items_of s.now.line.now.marks) }
+        requires known { AreKnown (runs_of s.now.roster.now) (items_of s.now.line.now.marks) }
+        ensures flags { self.new ≡ record self.old { before = seeds s.now.book.now.items (runs_of s.now.roster.now) r.0 s.now.line.now.marks } }
+        ensures few { length s.now.line.now.marks < 2 ^ 32 }
+    {
+        self.before.clear();
+        'items: for at in 0..s.line.len() {
+            self.before.push_reserved(is_needed(s, r, at));
+        }
+    }
+
+    /// The items that must stand before one of the set are put in.
+    pub(crate) fn close(&mut self, s: &Standing)
+        requires size { length self.old.before ≡ length s.now.line.now.marks }
+        requires known { AreKnown (runs_of s.now.roster.now) (items_of s.now.line.now.marks) }
+        ensures { self.new ≡ record self.old { before = closure (meet (runs_of s.now.roster.now)) self.old.before (items_of s.now.line.now.marks) } }
+    {
+        let mut gathered = Gathered::new();
+        let mut at = s.line.len();
+        'items: while at > 0 {
+            at -= 1;
+            let item = s.line.get(at).unwrap();
+            let flag = self.before[at as usize];
+            self.before[at as usize] = gathered.take_in(s.roster, item, flag);
+        }
+    }
+
+    /// Plans the run `r` behind the items of the set, its first command from this moment on, in ms. These devices are
+    /// followed, all where none are named.
+    pub(crate) fn plan(&mut self, s: &Standing, r: RunNo, followed: Option<&DeviceSet>, moment: u64)
+        requires size { length self.old.slots ≡ length s.now.table.now }
+        requires flags { length self.old.before ≡ length s.now.line.now.marks }
+        requires run { IsTrue (is_run (runs_of s.now.roster.now) r.0) }
+        requires known { AreKnown (runs_of s.now.roster.now) (items_of s.now.line.now.marks) }
         requires homed { AreHomed (length s.now.table.now) (runs_of s.now.roster.now) }
         requires followed { AreFollowed (runs_of s.now.roster.now) r.0 (option_map (λ b. b.now) followed) }
-        ensures { self.new ≡ passed_item s.now.table.now s.now.book.now.items (runs_of s.now.roster.now) r.0 (slice_get (items_of s.now.line.now.marks) at) self.old }
+        ensures times { HoldsTimes self.new.slots (plan_behind (passed_set s.now.table.now s.now.book.now.items (runs_of s.now.roster.now) r.0 (chosen self.old.before (items_of s.now.line.now.marks)) self.old.slots) (commands_of (runs_of s.now.roster.now) r.0) moment) }
+        ensures rest { self.new ≡ record self.old { slots = self.new.slots } }
+        ensures size { length self.new.slots ≡ length self.old.slots }
     {
-        let Some(Item::Ran(x)) = s.line.get(at) else {
-            return;
-        };
-        let whole = self.pass_accesses(s, r, followed, x);
-        if whole > 0 {
-            self.wait_for_writer(s.roster, r, x, whole);
-        }
-    }
-
-    /// The accesses of the run `x` to the devices that are followed are passed: each device is free at the planned end there,
-    /// unless the run is done with it, or is doomed. Answers the planned end of the run on these devices.
-    fn pass_accesses(
-        &mut self,
-        s: &Standing,
-        r: RunNo,
-        followed: Option<&DeviceSet>,
-        x: RunNo,
-    ) -> u64
-        requires size { length self.old ≡ length s.now.table.now }
-        requires followed { AreFollowed (runs_of s.now.roster.now) r.0 (option_map (λ b. b.now) followed) }
-        ensures slots { self.new ≡ changed (slot_passed s.now.table.now (is_some (doom_of s.now.book.now.items x.0)) x.0) (devices_passed s.now.table.now (runs_of s.now.roster.now) r.0 x.0) self.old }
-        ensures whole { result ≡ whole_passed s.now.table.now (runs_of s.now.roster.now) r.0 x.0 }
-    {
-        s.table.kept();
-        let doomed = s.book.is_doomed(x);
-        let devices = devices_to_pass(s.table, x, followed);
-        let mut whole = 0;
-        let mut from = DeviceNo(0);
-        'devices: while let Some(d) = next_device(s.table, x, &devices, from) {
-            let at = d.0 as usize;
-            let accesses = s.table.chain(d);
-            accesses.kept();
-            let k = knot_from(accesses, x, self.nears[at]).unwrap();
-            let access = *accesses.get(k);
-            self.nears[at] = Some(k);
-            self.slots[at].pass(access, doomed);
-            whole = whole.max(access.to);
-            from = DeviceNo(d.0 + 1);
-        }
-        whole
-    }
-
-    /// Where the run `r` begins with a read on a device that the run `x` writes, the device is free at the planned end of
-    /// the whole run `x`.
-    fn wait_for_writer(&mut self, roster: &IndexedRoster, r: RunNo, x: RunNo, whole: u64)
-        requires run { IsTrue (is_run (runs_of roster.now) r.0) }
-        requires writer { IsTrue (is_run (runs_of roster.now) x.0) }
-        requires homed { AreHomed (length self.old) (runs_of roster.now) }
-        ensures { self.new ≡ changed (slot_waiting (runs_of roster.now) r.0 x.0 whole) (devices_among (runs_of roster.now) r.0 (length self.old)) self.old }
-    {
-        roster.kept();
-        let waiting = roster.first_reads_of(r, x);
-        let mut from = DeviceNo(0);
-        'devices: while let Some(d) = waiting.next(from) {
-            let slot = self.slots[d.0 as usize];
-            self.slots[d.0 as usize] = slot.behind_writer(whole);
-            from = DeviceNo(d.0 + 1);
-        }
-    }
-
-    /// Plans the commands of the run `r` behind the items that were passed: each starts when the one before it ends, the
-    /// first at this moment, in ms, and when its device is free, and takes as long as its estimate.
-    pub(crate) fn plan(&mut self, roster: &IndexedRoster, r: RunNo, moment: u64)
-        requires run { IsTrue (is_run (runs_of roster.now) r.0) }
-        requires homed { AreHomed (length self.old) (runs_of roster.now) }
-        requires only { PlansOnly (commands_of (runs_of roster.now) r.0) self.old }
-        ensures times { HoldsTimes self.new (plan_behind self.old (commands_of (runs_of roster.now) r.0) moment) }
-        ensures left { LeavesPassed self.old self.new }
-        ensures only { PlansOnly (commands_of (runs_of roster.now) r.0) self.new }
-    {
-        let commands = roster.commands(r);
-        'cleared: for command in commands {
-            self.slots[command.device.0 as usize].planned = None;
-        }
-        let mut clock = moment;
-        'commands: for command in commands {
-            let slot = self.slots[command.device.0 as usize];
-            let start = clock.max(slot.free);
-            clock = start.saturating_add(command.ms as u64);
-            let planned = Some(used_again(slot.planned, start, clock));
-            self.slots[command.device.0 as usize] = Slot { planned, ..slot };
-        }
-    }
-
-    /// Whether the run `r`, planned so, is off each of its devices before the first run behind it that uses the device is
-    /// planned to start there.
-    pub(crate) fn fits(&self, s: &Standing, r: RunNo) -> bool
-        requires size { length self.now ≡ length s.now.table.now }
-        requires run { IsTrue (is_run (runs_of s.now.roster.now) r.0) }
-        requires homed { AreHomed (length s.now.table.now) (runs_of s.now.roster.now) }
-        ensures { result ≡ list_all (λ d. fits_slot (accesses_at s.now.table.now d) (slot_at self.now d)) (devices_among (runs_of s.now.roster.now) r.0 (length self.now)) }
-    {
-        s.roster.kept();
-        s.table.kept();
-        let mut from = DeviceNo(0);
-        'devices: while let Some(d) = s.roster.next_device(r, from) {
-            let slot = self.slots[d.0 as usize];
-            if !slot.fits(s.table.chain(d), self.nears[d.0 as usize]) {
-                return false;
+        self.slots.clear();
+        'items: for at in 0..s.line.len() {
+            if !self.before[at as usize] {
+                continue;
             }
-            from = DeviceNo(d.0 + 1);
+            let item = s.line.get(at).unwrap();
+            self.slots.pass(s, r, followed, item);
         }
-        true
+        self.slots.plan(s.roster, r, moment);
     }
-}
 
-impl Slot {
-    /// This access is passed: the device is free at its planned end, unless its run is done with it, or is doomed.
-    fn pass(&mut self, access: Access, doomed: bool)
-        ensures { self.new ≡ slot_behind doomed (Some access) self.old }
+    /// The runs outside of the set that are planned to start on a device before the run `r`, planned so, is off it are put
+    /// in. Answers whether there are some.
+    pub(crate) fn take_misfits(&mut self, s: &Standing, r: RunNo) -> bool
+        requires size { length self.old.slots ≡ length s.now.table.now }
+        requires flags { length self.old.before ≡ length s.now.line.now.marks }
+        requires run { IsTrue (is_run (runs_of s.now.roster.now) r.0) }
+        ensures flags { self.new ≡ record self.old { before = either_of self.old.before (map (of_run (is_misfit s.now.table.now (runs_of s.now.roster.now) r.0 self.old.slots)) (items_of s.now.line.now.marks)) } }
+        ensures none { result ≡ false → self.new.before ≡ self.old.before }
+        ensures more { result ≡ true → count_by not self.new.before < count_by not self.old.before }
     {
-        self.last = Some(access.run);
-        if !doomed && access.status != Status::Released {
-            self.free = self.free.max(access.to);
+        let mut some = false;
+        'items: for at in 0..s.line.len() {
+            if self.before[at as usize] {
+                continue;
+            }
+            let item = s.line.get(at).unwrap();
+            if !self.slots.is_misfit(s, r, item) {
+                continue;
+            }
+            self.before[at as usize] = true;
+            some = true;
         }
-    }
-
-    /// The slot behind a run that writes the device, whose whole plan ends at this moment: the device is free then.
-    fn behind_writer(self, whole: u64) -> Slot
-        ensures { result ≡ record self { free = max self.free whole } }
-    {
-        Slot {
-            free: self.free.max(whole),
-            ..self
-        }
-    }
-
-    /// Whether the plan ends on the device before the next one of these accesses to it is planned to start. The one that was
-    /// passed last stands at `near`, if anywhere.
-    fn fits(self, accesses: &Chain<Access>, near: Option<Knot>) -> bool
-        requires { IsDisciplined (values_of accesses.now.pairs) }
-        ensures { result ≡ fits_slot (values_of accesses.now.pairs) self }
-    {
-        let Some((_, to)) = self.planned else {
-            return true;
-        };
-        match knot_behind(accesses, self.last, near) {
-            Some(next) => to <= accesses.get(next).from,
-            None => true,
-        }
+        some
     }
 }
 
-/// The devices among these to which the run has an access. `None`, for all, where none are named.
-fn devices_to_pass(table: &Table, x: RunNo, among: Option<&DeviceSet>) -> Option<DeviceSet>
-    ensures devices { (d : ℕ) → is_with_access table.now x.0 result d ≡ (has_access x.0 (accesses_at table.now d) && is_among (option_map (λ b. b.now) among.entry) d) }
-    ensures homed { IfSome result (λ found. (d : ℕ) → set.contains found d ≡ true → (d < length table.now) × (d < most_devices)) }
+/// How many of these flags are set.
+fn count_set(flags: &[bool]) -> usize
+    ensures { result ≡ count_by (λ flag. flag) flags.now }
 {
-    match among {
-        Some(devices) => Some(table.devices_among(x, devices)),
-        None => None,
-    }
-}
-
-/// The smallest of these devices from `from` on, of those to which the run has an access where none are named.
-fn next_device(
-    table: &Table,
-    x: RunNo,
-    devices: &Option<DeviceSet>,
-    from: DeviceNo,
-) -> Option<DeviceNo>
-    requires { IfSome devices.now (λ found. (d : ℕ) → set.contains found d ≡ true → (d < length table.now) × (d < most_devices)) }
-    ensures next { IsFirstFrom (is_with_access table.now x.0 devices.now) from.0 (option_map (λ d. d.0) result) }
-    ensures homed { IfSome result (λ d. (d.0 < length table.now) × (d.0 < most_devices)) }
-{
-    match devices {
-        Some(devices) => devices.next(from),
-        None => table.next_device(x, from),
-    }
-}
-
-/// The use of a device with one more command, which is planned from and to these times, in ms.
-fn used_again(used: Option<(u64, u64)>, from: u64, to: u64) -> (u64, u64)
-    ensures { result ≡ used_again used from to }
-{
-    match used {
-        Some((first, _)) => (first, to),
-        None => (from, to),
-    }
+    flags.iter().filter(|flag| **flag).count()
 }

@@ -43,3 +43,5 @@ pub mod TurnedLines
 pub mod TurnedTables
 pub mod ToldTables
 pub mod LostReads
+pub mod Rearranged
+pub mod Joined

@@ -3,7 +3,7 @@ use Rattle.command_rules.specs.Items.{is_ran}
 use Rattle.history_book.proofs.Lines.{any_insert, any_put_before}
 use Rattle.history_book.proofs.Splits.{split_any}
 use Rattle.history_book.specs.Histories.{entry, reading}
-use Rattle.history_book.specs.Plans.{split_of}
+use Rattle.history_book.specs.Gaps.{split_of}
 use Rattle.history_book.specs.Readings.{Reading, nothing_read, put}
 use Rattle.history_book.specs.Settings.{Setting}
 use Rattle.history_book.specs.declared.entries.End.TheVariants.{Aborted, Committed}

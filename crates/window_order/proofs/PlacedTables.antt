@@ -7,8 +7,9 @@ use Rattle.history_book.proofs.Searches.{some_is}
 use Rattle.history_book.proofs.Shapes.{IsShaped}
 use Rattle.history_book.proofs.Snoc.{put_other, put_same}
 use Rattle.history_book.proofs.Standing.{aborted}
-use Rattle.history_book.specs.Histories.{entry}
-use Rattle.history_book.specs.Plans.{planned_end, planned_start, planned_times, split_of}
+use Rattle.history_book.specs.Histories.{entry, with_placed}
+use Rattle.history_book.specs.Lines.{split_at}
+use Rattle.history_book.specs.Plans.{planned_end, planned_start}
 use Rattle.history_book.specs.Readings.{OfRun, PlacedAt, Planned, Reading, did, is_committing, is_doomed, nothing_read, put, view_of}
 use Rattle.history_book.specs.Settings.{Setting, is_device}
 use Rattle.history_book.specs.WellFormed.{may_follow}
@@ -152,13 +153,12 @@ stands w (suc i) h = at_ (slice_get w.runs i) refl h
     at_ (Some run) e k = record { index = i; run = run; number = omega arith; at = e; commands = ap (λ o. unwrap_or (option_map (λ (x : Run). x.commands) o) []) e }
 
 -- each lineage is kept, with an access more on the run's devices, where the place is clear: the accesses behind it that were passed wait again
-pub placed_kept : (w : Setting) (n : Reading) (g : Grips) (r at m : ℕ) → IsRead w n → may_follow w n (Placed (run_no r) at m) ≡ true → IsClear w n g r at → (d : ℕ) → d < length w.first → (s : LineageState) → LineageIsKept w n g d s
-    → LineageIsKept w (entry w n (Placed (run_no r) at m)) g d (placed_change w n r at m d s)
-unfolding split_of
-placed_kept w n g r at m read may clear d below s kept = at_ (touches w.runs r d) refl
+pub placed_kept : (w : Setting) (n : Reading) (g : Grips) (r at m : ℕ) (planned : List Planned) → IsRead w n → may_follow w n (Placed (run_no r) at m) ≡ true → IsClear w n g r at → (d : ℕ) → d < length w.first → (s : LineageState) → LineageIsKept w n g d s
+    → LineageIsKept w (with_placed n (run_no r) at m planned (split_at n.line at)) g d (placed_change w n r at planned d s)
+placed_kept w n g r at m planned read may clear d below s kept = at_ (touches w.runs r d) refl
   where
     next : Reading
-    next = entry w n (Placed (run_no r) at m)
+    next = with_placed n (run_no r) at m planned (split_at n.line at)
 
     front : List Item
     front = take at n.line
@@ -166,14 +166,11 @@ placed_kept w n g r at m read may clear d below s kept = at_ (touches w.runs r d
     back : List Item
     back = drop at n.line
 
-    planned : List Planned
-    planned = planned_times w n r front m
-
     old : OfRun
     old = n.run r
 
     new : OfRun
-    new = record (n.run r) { placed = Some (record { place = at; moment = m; stamp = n.size }); planned = planned_times w n r (split_of w n r at m).front m }
+    new = record (n.run r) { placed = Some (record { place = at; moment = m; stamp = n.size }); planned = planned }
 
     own : next.run r ≡ new
     own = put_same n.run r new
@@ -438,7 +435,7 @@ placed_kept w n g r at m read may clear d below s kept = at_ (touches w.runs r d
     fewer : unplaced_on w n d ≡ cond (touches w.runs r d) 1 0 + unplaced_on w next d
     fewer = one_fewer n next d r 1 of_window.index w.runs of_window.run of_window.at of_window.number one ∙ ap (λ cs. cond (list_any (is_on d) cs) 1 0 + unplaced_on w next d) (sym of_window.commands)
 
-    at_ : (b : Bool) → touches w.runs r d ≡ b → LineageIsKept w next g d (placed_change w n r at m d s)
+    at_ : (b : Bool) → touches w.runs r d ≡ b → LineageIsKept w next g d (placed_change w n r at planned d s)
     at_ true on = subst (LineageIsKept w next g d) (λ i. if sym on i then scheduled (first_with_access s.accesses back) (waiting_access r planned d) (rescheduled (first_with_access s.accesses back) s) else s) (record {
       passed = left;
       may_pass = λ x passed. may_after x (kept.may_pass x (first (kept.passed x) (not (list_any (is_ran x) back)) passed));

@@ -18,9 +18,9 @@ use Rattle.history_book.proofs.Searches.{some_is}
 use Rattle.history_book.proofs.Shapes.{IsShaped}
 use Rattle.history_book.proofs.Snoc.{put_keeps, put_other, put_same}
 use Rattle.history_book.proofs.Standing.{aborted}
-use Rattle.history_book.specs.Histories.{answered, entry}
-use Rattle.history_book.specs.Plans.{planned_times, split_of}
-use Rattle.history_book.specs.Readings.{OfRun, OnDevice, PlacedAt, Reading, did, is_committed, is_committing, is_doomed, is_live, is_next_on, next_command, next_of, nothing_read, put, sees_down, view_of}
+use Rattle.history_book.specs.Histories.{answered, entry, with_placed}
+use Rattle.history_book.specs.Lines.{split_at}
+use Rattle.history_book.specs.Readings.{OfRun, OnDevice, PlacedAt, Planned, Reading, did, is_committed, is_committing, is_doomed, is_live, is_next_on, next_command, next_of, nothing_read, put, sees_down, view_of}
 use Rattle.history_book.specs.Settings.{Setting, is_device}
 use Rattle.history_book.specs.WellFormed.{may_follow}
 use Rattle.history_book.specs.declared.entries.Cause.{Cause}
@@ -124,10 +124,9 @@ unplaced_holds w n g r run dead f d (Probes v) at = clash (run_positive w r run)
         positive p h = omega (arith, h)
 
 -- placed with no touch and no event of its devices behind it, it leaves the order
-pub placed_at_kept : (w : Setting) (n : Reading) (g : Grips) (held : ℕ → ℕ) (r at m : ℕ) → IsRead w n → may_follow w n (Placed (run_no r) at m) ≡ true
-    → ((d : ℕ) → touches w.runs r d ≡ true → is_calm_line w.kinds (window_of w n g held).states d (drop at n.line) ≡ true) → OrderIsKept w n g held → OrderIsKept w (entry w n (Placed (run_no r) at m)) g held
-unfolding split_of
-placed_at_kept w n g held r at m read may calm kept = record {
+pub placed_at_kept : (w : Setting) (n : Reading) (g : Grips) (held : ℕ → ℕ) (r at m : ℕ) (planned : List Planned) → IsRead w n → may_follow w n (Placed (run_no r) at m) ≡ true
+    → ((d : ℕ) → touches w.runs r d ≡ true → is_calm_line w.kinds (window_of w n g held).states d (drop at n.line) ≡ true) → OrderIsKept w n g held → OrderIsKept w (with_placed n (run_no r) at m planned (split_at n.line at)) g held
+placed_at_kept w n g held r at m planned read may calm kept = record {
   grips = fits_other w n next g r (λ q ne. put_other n.run r new q ne) holds kept.grips;
   window = run_placed w.kinds (window_of w n g held) (window_of w next g held) r (record {
     front = take at n.line;
@@ -163,10 +162,10 @@ placed_at_kept w n g held r at m read may calm kept = record {
 }
   where
     next : Reading
-    next = entry w n (Placed (run_no r) at m)
+    next = with_placed n (run_no r) at m planned (split_at n.line at)
 
     new : OfRun
-    new = record (n.run r) { placed = Some (record { place = at; moment = m; stamp = n.size }); planned = planned_times w n r (split_of w n r at m).front m }
+    new = record (n.run r) { placed = Some (record { place = at; moment = m; stamp = n.size }); planned = planned }
 
     own : next.run r ≡ new
     own = put_same n.run r new
@@ -194,8 +193,8 @@ placed_at_kept w n g held r at m read may calm kept = record {
     lacks = lacks_parts r (take at n.line) (drop at n.line) (ap (count_by (is_ran r)) (take-append-drop at n.line) ∙ read.once r ∙ ap (λ b. cond b 1 0) (unplaced (n.run r).placed (not (aborted (n.run r))) none))
 
 -- .. as it does where the place is clear
-pub placed_kept : (w : Setting) (n : Reading) (g : Grips) (held : ℕ → ℕ) (r at m : ℕ) → IsRead w n → may_follow w n (Placed (run_no r) at m) ≡ true → IsClear w n g r at → OrderIsKept w n g held → OrderIsKept w (entry w n (Placed (run_no r) at m)) g held
-placed_kept w n g held r at m read may clear kept = placed_at_kept w n g held r at m read may (λ d used. calm_place w n g held r at d read clear (home d (uses_homed (length w.first) d (commands_of w.runs r) (kept.window.runs r).homed used)) used) kept
+pub placed_kept : (w : Setting) (n : Reading) (g : Grips) (held : ℕ → ℕ) (r at m : ℕ) (planned : List Planned) → IsRead w n → may_follow w n (Placed (run_no r) at m) ≡ true → IsClear w n g r at → OrderIsKept w n g held → OrderIsKept w (with_placed n (run_no r) at m planned (split_at n.line at)) g held
+placed_kept w n g held r at m planned read may clear kept = placed_at_kept w n g held r at m planned read may (λ d used. calm_place w n g held r at d read clear (home d (uses_homed (length w.first) d (commands_of w.runs r) (kept.window.runs r).homed used)) used) kept
   where
     home : (d : ℕ) → d < length w.first → is_device w d ≡ true
     home d below = grind (arith, common_steps)

@@ -3,8 +3,9 @@ use Rattle.command_rules.specs.Rosters.{command_at, commands_of, device_no, run_
 use Rattle.device_order.proofs.InPlace.{two_places}
 use Rattle.device_order.specs.LineWords.{CutAt}
 use Rattle.history_book.proofs.Snoc.{put_same}
-use Rattle.history_book.specs.Histories.{entry}
-use Rattle.history_book.specs.Readings.{Reading, did, is_doomed, next_of, pends, put}
+use Rattle.history_book.specs.Histories.{entry, with_placed}
+use Rattle.history_book.specs.Lines.{split_at}
+use Rattle.history_book.specs.Readings.{Planned, Reading, did, is_doomed, next_of, pends, put}
 use Rattle.history_book.specs.Settings.{Setting}
 use Rattle.history_book.specs.WellFormed.{may_follow}
 use Rattle.history_book.specs.declared.entries.Cause.{Cause}
@@ -48,11 +49,11 @@ pub same_table : (w : Setting) (n m : Reading) (g h : Grips) (table : List Linea
 same_table w n m g h table each kept = changed_table w n m g h (λ d s. s) table table each (record { devices = refl; each = λ d below. refl }) kept
 
 -- a run is placed, where the place is clear
-pub placed_table : (w : Setting) (n : Reading) (g : Grips) (r at m : ℕ) (old new : List LineageState) → IsRead w n → may_follow w n (Placed (run_no r) at m) ≡ true → IsClear w n g r at → ChangesEach (placed_change w n r at m) old new → TableIsKept w n g old
-    → TableIsKept w (entry w n (Placed (run_no r) at m)) g new
-placed_table w n g r at m old new read may clear changes kept = record {
+pub placed_table : (w : Setting) (n : Reading) (g : Grips) (r at m : ℕ) (planned : List Planned) (old new : List LineageState) → IsRead w n → may_follow w n (Placed (run_no r) at m) ≡ true → IsClear w n g r at → ChangesEach (placed_change w n r at planned) old new → TableIsKept w n g old
+    → TableIsKept w (with_placed n (run_no r) at m planned (split_at n.line at)) g new
+placed_table w n g r at m planned old new read may clear changes kept = record {
   devices = changes.devices ∙ kept.devices;
-  each = λ d below. subst (LineageIsKept w (entry w n (Placed (run_no r) at m)) g d) (sym (changes.each d (subst (λ x. d < x) (sym kept.devices) below))) (placed_kept w n g r at m read may clear d below (lineage_at old d) (kept.each d below));
+  each = λ d below. subst (LineageIsKept w (with_placed n (run_no r) at m planned (split_at n.line at)) g d) (sym (changes.each d (subst (λ x. d < x) (sym kept.devices) below))) (placed_kept w n g r at m planned read may clear d below (lineage_at old d) (kept.each d below));
 }
 
 -- a run commits

@@ -3,9 +3,9 @@ use Rattle.command_rules.specs.Items.{is_ran}
 use Rattle.command_rules.specs.Rosters.{command_at, device_no, is_run, run_no}
 use Rattle.history_book.proofs.Snoc.{put_keeps, put_other, put_same}
 use Rattle.history_book.proofs.Standing.{aborted, is_abort}
-use Rattle.history_book.specs.Histories.{answered, entry}
-use Rattle.history_book.specs.Plans.{planned_times, split_of}
-use Rattle.history_book.specs.Readings.{OfRun, OnDevice, PlacedAt, Reading, did, is_live, nothing_read, put, view_by}
+use Rattle.history_book.specs.Histories.{answered, entry, with_placed}
+use Rattle.history_book.specs.Lines.{split_at}
+use Rattle.history_book.specs.Readings.{OfRun, OnDevice, PlacedAt, Planned, Reading, did, is_live, nothing_read, put, view_by}
 use Rattle.history_book.specs.Settings.{Setting}
 use Rattle.history_book.specs.WellFormed.{may_follow}
 use Rattle.history_book.specs.declared.entries.Cause.{Cause}
@@ -79,16 +79,15 @@ marks_committed w n g r marks kept = line_settling r touches also
         at_ false = refl
 
 -- a run is placed: it has touched nothing
-pub marks_placed : (w : Setting) (n : Reading) (g : Grips) (r at m : ℕ) (marks : List Mark) → IsRead w n → GripsFit w n g → may_follow w n (Placed (run_no r) at m) ≡ true → MarksAreKept n g marks
-    → MarksAreKept (entry w n (Placed (run_no r) at m)) g (with_item at (Ran (run_no r)) marks)
-unfolding split_of
-marks_placed w n g r at m marks read fit may kept = line_inserted at (Ran (run_no r)) told (run_comes (item_has_touched next g) (run_no r) untouched) lives
+pub marks_placed : (w : Setting) (n : Reading) (g : Grips) (r at m : ℕ) (planned : List Planned) (marks : List Mark) → IsRead w n → GripsFit w n g → may_follow w n (Placed (run_no r) at m) ≡ true → MarksAreKept n g marks
+    → MarksAreKept (with_placed n (run_no r) at m planned (split_at n.line at)) g (with_item at (Ran (run_no r)) marks)
+marks_placed w n g r at m planned marks read fit may kept = line_inserted at (Ran (run_no r)) told (run_comes (item_has_touched next g) (run_no r) untouched) lives
   where
     next : Reading
-    next = entry w n (Placed (run_no r) at m)
+    next = with_placed n (run_no r) at m planned (split_at n.line at)
 
     new : OfRun
-    new = record (n.run r) { placed = Some (record { place = at; moment = m; stamp = n.size }); planned = planned_times w n r (split_of w n r at m).front m }
+    new = record (n.run r) { placed = Some (record { place = at; moment = m; stamp = n.size }); planned = planned }
 
     same : (q d : ℕ) → has_touched next g q d ≡ has_touched n g q d
     same q d = ap (λ b. b || grips_command g q d) (put_keeps (λ o. is_some (o.on d).view) n.run r new refl q)

@@ -1,6 +1,6 @@
 -- What the steps of a window make of its lineages.
 use Rattle.command_rules.specs.Rosters.{Run, command_at, run_no, touches, touches_from}
-use Rattle.history_book.specs.Plans.{planned_end, planned_start, planned_times}
+use Rattle.history_book.specs.Plans.{planned_end, planned_start}
 use Rattle.history_book.specs.Readings.{Planned, Reading, did, is_doomed, is_fine, is_told}
 use Rattle.history_book.specs.Settings.{Setting}
 use Rattle.home_types.specs.Commands.{driven}
@@ -19,7 +19,7 @@ use Rattle.lineage_table.specs.declared.accesses.Access.{Access}
 use Rattle.lineage_table.specs.declared.accesses.Status.TheVariants.{Released, Scheduled}
 use Rattle.lock_leasing.specs.Configurations.{Grips, grips_command}
 use Rattle.lock_leasing.specs.Tables.{view_when}
-use Rattle.std.specs.Prelude.{Bool, List, None, Option, Some, [], drop, false, if◌then◌else◌, length, map, not, option_map, take, unwrap_or, ℕ, ◌+◌, ◌<◌, ◌==◌, ◌||◌, ◌∷◌, ◌≡◌}
+use Rattle.std.specs.Prelude.{Bool, List, None, Option, Some, [], drop, false, if◌then◌else◌, length, map, not, option_map, unwrap_or, ℕ, ◌+◌, ◌<◌, ◌==◌, ◌||◌, ◌∷◌, ◌≡◌}
 
 -- the table has the same devices, and each has its lineage changed so
 pub record ChangesEach (change : ℕ → LineageState → LineageState) (old new : List LineageState) : Type 0 where
@@ -77,8 +77,8 @@ abbrev pub scheduled_on : List Run → ℕ → List Planned → List Item → �
 scheduled_on runs r planned back d s =
     if touches runs r d then scheduled (first_with_access s.accesses back) (waiting_access r planned d) (rescheduled (first_with_access s.accesses back) s) else s
 
-abbrev pub placed_change : Setting → Reading → ℕ → ℕ → ℕ → ℕ → LineageState → LineageState
-placed_change w n r at m = scheduled_on w.runs r (planned_times w n r (take at n.line) m) (drop at n.line)
+abbrev pub placed_change : Setting → Reading → ℕ → ℕ → List Planned → ℕ → LineageState → LineageState
+placed_change w n r at planned = scheduled_on w.runs r planned (drop at n.line)
 
 -- A command is answered
 

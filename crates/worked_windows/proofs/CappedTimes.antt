@@ -1,6 +1,7 @@
 -- Planned times and deadlines stay at the greatest number of 64 bits.
+use Rattle.history_book.specs.Gaps.{split_of}
 use Rattle.history_book.specs.Histories.{reading}
-use Rattle.history_book.specs.Plans.{planned_end, split_of}
+use Rattle.history_book.specs.Plans.{planned_end}
 use Rattle.history_book.specs.Readings.{Reading}
 use Rattle.lock_leasing.specs.Words.{lease_deadline}
 use Rattle.worked_windows.proofs.OneLight.{window}

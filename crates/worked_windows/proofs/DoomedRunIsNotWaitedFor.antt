@@ -1,5 +1,5 @@
 -- The window doomed-run-is-not-waited-for.
-use Rattle.worked_windows.proofs.Words.{Aborted, Absent, Arrived, At, Busy, Commands, Did, Died, Doomed, Down, Ended, Entry, Eventual, Failed, Fell, HandsOut, IsWorked, List, Moves, MustDown, None, Over, Placed, Ran, Range, Set, Setting, Table, Timeline, Waits, [], device_no, false, give, held, no_grips, refl, row, run_no, slice_set, split_at, split_of, still, true, ◌++◌, ◌∷◌}
+use Rattle.worked_windows.proofs.Words.{Aborted, Absent, Arrived, At, Busy, Commands, Did, Died, Doomed, Down, Ended, Entry, Eventual, Failed, Fell, HandsOut, IsWorked, List, Moves, MustDown, None, Over, Placed, Ran, Range, Set, Setting, Table, Timeline, Waits, [], chosen, closure, device_no, either_of, false, gap_set, give, held, no_grips, others, refl, row, run_no, slice_set, split_at, split_of, still, true, ◌++◌, ◌∷◌}
 
 abbrev pub window : Setting
 window = record {
@@ -34,5 +34,5 @@ table = record {
 }
 
 is_worked : IsWorked window history table
-unfolding split_of
+unfolding chosen closure either_of gap_set others split_of
 is_worked = record { points = refl; clauses = refl; gives = refl; calls = refl; ended = refl; allowed = refl; order = refl; answers = refl }

@@ -1,5 +1,5 @@
 -- The window doomed-writer-is-waited-for.
-use Rattle.worked_windows.proofs.Words.{Aborted, Absent, Arrived, At, Behind, Busy, Check, Commands, Did, Doomed, Ended, Entry, Eventual, Fine, Found, HandsOut, IsWorked, List, Moves, None, Over, Placed, Ran, Range, Refuted, Sensed, Set, Setting, Some, Table, Timeline, Undid, Undoes, Waits, Worked, [], device_no, give, held, no_grips, refl, row, run_no, slice_set, split_at, split_of, still, true, ◌∷◌}
+use Rattle.worked_windows.proofs.Words.{Aborted, Absent, Arrived, At, Behind, Busy, Check, Commands, Did, Doomed, Ended, Entry, Eventual, Fine, Found, HandsOut, IsWorked, List, Moves, None, Over, Placed, Ran, Range, Refuted, Sensed, Set, Setting, Some, Table, Timeline, Undid, Undoes, Waits, Worked, [], chosen, closure, device_no, either_of, gap_set, give, held, no_grips, others, refl, row, run_no, slice_set, split_at, split_of, still, true, ◌∷◌}
 
 abbrev pub window : Setting
 window = record {
@@ -50,5 +50,5 @@ table = record {
 }
 
 is_worked : IsWorked window history table
-unfolding split_of
+unfolding chosen closure either_of gap_set others split_of
 is_worked = record { points = refl; clauses = refl; gives = refl; calls = refl; ended = refl; allowed = refl; order = refl; answers = refl }

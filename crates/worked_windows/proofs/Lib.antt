@@ -59,6 +59,16 @@ pub mod EventsElsewhereDoNotBind
 pub mod FirstLiveRunBoundsTheFloor
 pub mod UndoWaitsForTheDevice
 pub mod SkippedWriteThenRead
+pub mod GapsOfTwoLineages
+pub mod BaseIsClosed
+pub mod TimelineEachRunBehindIsLookedAt
+pub mod TimelineFailurePassesLiveRuns
+pub mod TimelineLeaderComesWithItsFollower
+pub mod TimelineBehindADoomedRunWhoseCommandIsNext
+pub mod TimelineFailureComesWithTheRunBehindIt
+pub mod TimelineClosedThroughARunBetween
+pub mod TimelineBehindAllBeforeTheFirstLiveRun
+pub mod TimelineSecondRoundTakesOneMore
 pub mod SlipsAndStrangers
 pub mod AlteredHistories
 pub mod OtherRecords

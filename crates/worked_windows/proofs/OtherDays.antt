@@ -1,6 +1,6 @@
 -- Records and devices that are not those of the day.
 use Rattle.worked_windows.proofs.LegalWindow as first_window
-use Rattle.history_book.specs.Plans.{split_of}
+use Rattle.history_book.specs.Gaps.{split_of}
 use Rattle.history_book.specs.declared.records.WindowRecord.{WindowRecord}
 use Rattle.home_types.specs.HomeStates.{stand_at}
 use Rattle.hub_core.specs.LegalDays.{IsLegalDay}

@@ -1,5 +1,5 @@
 -- The window released-device-is-free.
-use Rattle.worked_windows.proofs.Words.{Absent, Arrived, At, Busy, Commands, Committed, Did, Ended, Entry, Eventual, Fine, Found, HandsOut, IsWorked, List, Load, Moves, None, Over, Placed, Ran, Range, Sensed, Setting, Some, Store, Table, Timeline, Waits, Worked, [], device_no, give, held, no_grips, refl, row, run_no, slice_set, split_at, split_of, still, true, ◌∷◌}
+use Rattle.worked_windows.proofs.Words.{Absent, Arrived, At, Busy, Commands, Committed, Did, Ended, Entry, Eventual, Fine, Found, HandsOut, IsWorked, List, Load, Moves, None, Over, Placed, Ran, Range, Sensed, Setting, Some, Store, Table, Timeline, Waits, Worked, [], chosen, closure, device_no, either_of, gap_set, give, held, no_grips, others, refl, row, run_no, slice_set, split_at, split_of, still, true, ◌∷◌}
 
 abbrev pub window : Setting
 window = record {
@@ -34,5 +34,5 @@ table = record {
 }
 
 is_worked : IsWorked window history table
-unfolding split_of
+unfolding chosen closure either_of gap_set others split_of
 is_worked = record { points = refl; clauses = refl; gives = refl; calls = refl; ended = refl; allowed = refl; order = refl; answers = refl }

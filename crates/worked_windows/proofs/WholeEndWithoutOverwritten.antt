@@ -1,5 +1,5 @@
 -- The window whole-end-without-overwritten: timeline: a device that a committed run behind it has written does not count in a whole planned end.
-use Rattle.worked_windows.proofs.Words.{Absent, Arrived, At, Busy, Check, Commands, Committed, Did, Dirty, Ended, Entry, Eventual, Fine, Found, HandsOut, IsWorked, List, Moves, None, Over, Placed, Ran, Range, Sensed, Set, Setting, Some, States, Table, Timeline, Waits, Worked, [], device_no, give, held, more, no_grips, refl, row, run_no, slice_set, split_at, split_of, still, true, ◌∷◌}
+use Rattle.worked_windows.proofs.Words.{Absent, Arrived, At, Busy, Check, Commands, Committed, Did, Dirty, Ended, Entry, Eventual, Fine, Found, HandsOut, IsWorked, List, Moves, None, Over, Placed, Ran, Range, Sensed, Set, Setting, Some, States, Table, Timeline, Waits, Worked, [], chosen, closure, device_no, either_of, gap_set, give, held, more, no_grips, others, refl, row, run_no, slice_set, split_at, split_of, still, true, ◌∷◌}
 
 abbrev pub window : Setting
 window = record {
@@ -48,5 +48,5 @@ table = record {
 }
 
 is_worked : IsWorked window history table
-unfolding split_of
+unfolding chosen closure either_of gap_set others split_of
 is_worked = record { points = refl; clauses = refl; gives = refl; calls = refl; ended = refl; allowed = refl; order = refl; answers = refl }

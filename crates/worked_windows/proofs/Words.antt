@@ -1,8 +1,9 @@
 -- The words that the worked windows are written in, passed on: a window names them in one line.
+unfoldable pub use Rattle.command_rules.specs.ClosedSets.{chosen, closure, either_of, others}
 pub use Rattle.command_rules.specs.Rosters.{device_no, run_no}
 pub use Rattle.device_gate.specs.declared.slips.Told.TheVariants.{Died, Sensed, Worked}
+unfoldable pub use Rattle.history_book.specs.Gaps.{gap_set, split_of}
 pub use Rattle.history_book.specs.Lines.{split_at}
-unfoldable pub use Rattle.history_book.specs.Plans.{split_of}
 pub use Rattle.history_book.specs.Settings.{Setting}
 pub use Rattle.history_book.specs.declared.entries.Cause.TheVariants.{DownAtEnd, Lost, MustDown, Refuted, Revoked}
 pub use Rattle.history_book.specs.declared.entries.End.TheVariants.{Aborted, Committed}

@@ -6,8 +6,9 @@ use Rattle.worked_windows.proofs.LostBetweenAccesses as lost_between_accesses
 use Rattle.worked_windows.proofs.SkippedUnderLiveUndo as skipped_under_live_undo
 use Rattle.worked_windows.proofs.UndoDies as undo_dies
 use Rattle.worked_windows.proofs.UndoDrivesLiveWriter as undo_drives_live_writer
+use Rattle.history_book.specs.Gaps.{split_of}
 use Rattle.history_book.specs.Histories.{reading}
-use Rattle.history_book.specs.Plans.{planned_end, planned_start, split_of}
+use Rattle.history_book.specs.Plans.{planned_end, planned_start}
 use Rattle.history_book.specs.Readings.{Reading, is_doomed, put, view_of}
 use Rattle.home_types.specs.declared.commands.View.TheVariants.{Down, Up}
 use Rattle.home_types.specs.declared.commands.View.{View}

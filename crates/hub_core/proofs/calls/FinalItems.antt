@@ -9,7 +9,7 @@ use Rattle.device_gate.specs.declared.strangers.Stranger.{Stranger}
 use Rattle.history_book.proofs.Sealed.{begins_with_sealed, sealed_on, stays_itself}
 use Rattle.history_book.proofs.Snoc.{entries_on}
 use Rattle.history_book.specs.Histories.{entries_of, entry, kept_by, line_of, reading}
-use Rattle.history_book.specs.Plans.{split_of}
+use Rattle.history_book.specs.Gaps.{split_of}
 use Rattle.history_book.specs.Readings.{Reading, did, is_doomed, next_of, nothing_read, put}
 use Rattle.history_book.specs.Sealed.{BeginsWithSealed, IsPlacedBehind, StaysSealed, sealed_of}
 use Rattle.history_book.specs.Settings.{Setting, is_weak}
@@ -38,7 +38,7 @@ use Rattle.hub_core.specs.Steps.{Absent, Choice, HandsOut, Moves, Over, Waits, a
 use Rattle.hub_core.specs.declared.open_windows.OpenWindow.TheInside.{Inside}
 use Rattle.hub_core.specs.declared.turns.Turn.TheVariants.{Absent as NoRun, Go, Moved, Over as Ending, Wait}
 use Rattle.hub_core.specs.declared.turns.Turn.{Turn}
-use Rattle.lock_leasing.proofs.ClearPlaces.{scheduled_is_clear}
+use Rattle.lock_leasing.proofs.ClearPlaces.{scheduled_stands}
 use Rattle.lock_leasing.specs.Configurations.{Commands, Configuration, Grip, Grips, Probes, Purpose, Undoes, read_of}
 use Rattle.lock_leasing.specs.Places.{IsScheduled}
 use Rattle.lock_leasing.specs.Waits.{lost_by}
@@ -92,7 +92,7 @@ take_behind w n g r m =
       over = λ e at. tt;
       waits = λ why. tt;
       arrives = λ run none. (tt, tt);
-      enters = λ s enters. ((scheduled_is_clear w n g r m s enters.place).1.sealed, tt);
+      enters = λ s enters. ((scheduled_stands w n g r m s enters.place).sealed, tt);
       aborted = λ cause act doomed over. (tt, tt);
       drops = λ cause d undoing down. (tt, tt);
       undoes = λ cause d undoing up. tt;
@@ -238,7 +238,7 @@ probed_sealed s t d None is = same_hub s t is.1
 scheduled_behind : (w : Setting) (n : Reading) (e : Entry) → IsScheduled w n e → IsPlacedBehind n e
 scheduled_behind w n (Arrived r m) is = tt
 scheduled_behind w n (Placed r at m) is =
-    let place = (scheduled_is_clear w n is.0 r.0 m (split_of w n r.0 at m) is.2).1.sealed in
+    let place = (scheduled_stands w n is.0 r.0 m (split_of w n r.0 at m) is.2).sealed in
     let size = is.3 in
     omega (arith, place, size)
 scheduled_behind w n (Did r c a) is = tt

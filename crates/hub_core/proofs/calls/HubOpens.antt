@@ -22,7 +22,9 @@ use Rattle.hub_core.specs.Openings.{MayOpen}
 use Rattle.hub_core.specs.Steps.{opened}
 use Rattle.hub_core.specs.declared.purposes.Purpose.{Purpose}
 use Rattle.hub_core.specs.Homes.{CountsAreLow, HomeIsKept, HomeState, setting_for}
-use Rattle.hub_core.specs.OpeningRooms.{AreKnown, IsClosingRoom, IsOrderRoom, known_first}
+use Rattle.hub_core.specs.OpeningRooms.{AreKnown, IsClosingRoom, IsOrderRoom, IsScratchFor, known_first}
+use Rattle.hub_core.specs.PlannedPlaces.{IsForHome}
+use Rattle.timeline_scheduler.specs.Scratches.{Room}
 use Rattle.home_types.specs.declared.worlds.Stand.{Stand}
 use Rattle.hub_core.specs.declared.open_windows.ClosingLists.{ClosingLists}
 use Rattle.hub_core.specs.declared.known.DeviceProgress.{DeviceProgress}
@@ -280,7 +282,18 @@ pub first_order : {D : Type 0} (tag stands turns probes faults : D → ℕ) (hom
     → Opens tag stands turns probes faults home roster mode rounds known → IsOrderRoom (most_items (length roster.runs.items) (length home.world) rounds) (runs_of roster) home.world line table → OrderIsBeside rounds (record { setting = setting_for home roster mode; history = []; spare = spare }) (configuration_of (first_hub home roster mode rounds known)).grips line table
 first_order tag stands turns probes faults home roster mode rounds spare known line table opens room =
     subst (λ (g : Grips). OrderIsBeside rounds (record { setting = setting_for home roster mode; history = []; spare = spare }) g line table) (sym (ap (λ (c : Configuration). c.grips) (first_configuration tag stands turns probes faults home roster mode rounds known opens)))
-    (order_begins rounds (setting_for home roster mode) line table room.no_item room.none_sealed (let same : length (runs_of roster) ≡ length roster.runs.items = length-map roster.runs.items plain_run in rw same (omega (arith, room.room))) room.opened)
+    (order_begins rounds (setting_for home roster mode) line table room.no_item room.none_sealed room.runs_kept (let same : length (runs_of roster) ≡ length roster.runs.items = length-map roster.runs.items plain_run in rw same (omega (arith, room.room))) room.opened)
+
+-- the scratch of a window that opens is for its home
+pub first_scratch : {D : Type 0} (home : HomeState D) (roster : Roster) (mode : Mode) (rounds : ℕ) (kinds : List Kind) (world : List Stand) (devices : List D) (opened' : ℕ) (setting : Setting) (room : Room)
+    → ◌≡◌ {A = HomeState D} (record { kinds = kinds; world = world; devices = devices; opened = opened' }) home
+    → ◌≡◌ {A = Setting} setting (record { runs = runs_of roster; mode = mode; kinds = kinds; first = world })
+    → IsScratchFor (length home.world) (most_items (length roster.runs.items) (length home.world) rounds) room → IsForHome setting rounds room
+first_scratch {D = D} home roster mode rounds kinds world devices opened' setting room seen fixed fits =
+    subst (λ (w : Setting). IsForHome w rounds room) (sym (fixed ∙ ap (λ (h : HomeState D). setting_for h roster mode) seen)) (record {
+      devices = fits.devices_are;
+      items = let same : length (runs_of roster) ≡ length roster.runs.items = length-map roster.runs.items plain_run in rw same (omega (arith, fits.items_are));
+    })
 
 -- no run holds a grip
 pub first_hands : {D : Type 0} (tag stands turns probes faults : D → ℕ) (home : HomeState D) (roster : Roster) (mode : Mode) (rounds : ℕ) (known : List DeviceProgress) (hands : List (Option DeviceNo))

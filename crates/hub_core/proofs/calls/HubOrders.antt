@@ -13,8 +13,10 @@ use Rattle.device_gate.specs.Grips.{Gripped}
 use Rattle.device_gate.specs.declared.gates.Place.TheVariants.{Home, Out}
 use Rattle.device_gate.specs.declared.grips.Ready.{Ready}
 use Rattle.device_gate.specs.declared.slips.Task.{Task}
+use Rattle.history_book.proofs.Splits.{line_length}
 use Rattle.history_book.specs.Histories.{entries_made, entries_of, entry}
-use Rattle.history_book.specs.Plans.{planned_times, split_of}
+use Rattle.history_book.specs.Gaps.{front_for, gap_set, line_for, split_of}
+use Rattle.history_book.specs.Plans.{planned_times}
 use Rattle.history_book.specs.Readings.{Planned, Reading, is_doomed, next_command, next_of, pends, put}
 use Rattle.history_book.specs.Settings.{Setting, is_device, is_weak, scheduler_of}
 use Rattle.history_book.specs.WellFormed.{may_follow}
@@ -30,6 +32,7 @@ use Rattle.home_types.specs.declared.commands.View.TheVariants.{Down as ViewedDo
 use Rattle.home_types.specs.declared.items.Item.TheVariants.{Ran}
 use Rattle.home_types.specs.declared.items.Item.{Item}
 use Rattle.home_types.specs.declared.modes.Scheduler.TheVariants.{Timeline}
+use Rattle.home_types.specs.declared.modes.Scheduler.{Scheduler}
 use Rattle.home_types.specs.declared.numbers.DeviceNo.{DeviceNo}
 use Rattle.hub_core.proofs.kept.Hands.{hand_goes}
 use Rattle.hub_core.proofs.calls.HubChanges.{Ending, Going, IsEntered, answer_entries, answered_more, entered_whole, entries_kept, has_places}
@@ -43,15 +46,17 @@ use Rattle.hub_core.proofs.kept.Kept.{enters_place}
 use Rattle.hub_core.proofs.windows.StrongChoices.{IsPlacing}
 use Rattle.hub_core.proofs.steps.Choices.{decide_is}
 use Rattle.hub_core.proofs.kept.Sizes.{line_fits}
+use Rattle.hub_core.proofs.kept.Arranged.{arranged_same, marks_arranged, marks_for, may_arrange}
 use Rattle.hub_core.proofs.kept.SealedOrders.{sealed_is}
 use Rattle.hub_core.proofs.kept.OrderSteps.{done_after, last_follows, may_note_down, none_commands, order_aborted, order_arrived, order_committed, order_doomed, order_doomed_if, order_dropped, order_joined, order_out, order_placed, order_told_down, order_told_weakly, order_undo_out, read_more}
 use Rattle.hub_core.proofs.steps.Takes.{live_run}
+use Rattle.hub_core.specs.Bounds.{most_items}
 use Rattle.hub_core.specs.HubKept.{ConfigurationIsKept}
 use Rattle.hub_core.specs.HubsKept.{HandsAre, HubIsKept, IsWhole, open_of}
-use Rattle.hub_core.specs.KeptOrders.{IsSealed, MayNote, OrderIsBeside, is_first, noted_first, scheduled_with}
+use Rattle.hub_core.specs.KeptOrders.{IsSealed, MayArrange, MayNote, OrderIsBeside, arranged, is_first, noted_first, scheduled_with}
 use Rattle.hub_core.specs.OpenHubs.{OpenHub, configuration_of, device_at, grip_in, held_in, progress_of, purpose_of}
 use Rattle.hub_core.specs.Openings.{MayOpen, names_values_of}
-use Rattle.hub_core.specs.PlannedPlaces.{AreUsesOf, HoldsPlan}
+use Rattle.hub_core.specs.PlannedPlaces.{AreUsesOf, HoldsPlan, IsForHome}
 use Rattle.hub_core.specs.Steps.{HandsOut, Moves, choice_of}
 use Rattle.hub_core.specs.declared.plans.PlannedUse.{PlannedUse}
 use Rattle.hub_core.specs.declared.open_windows.OpenWindow.TheInside.{Inside}
@@ -71,13 +76,14 @@ use Rattle.std.proofs.lemmas.List.{length-map, take-append-drop}
 use Rattle.std.proofs.lemmas.Option.{slice_get-get_or, slice_get_within}
 use Rattle.std.specs.List.{All, range_with_len}
 use Rattle.std.specs.Prelude.{Bool, IsSome, IsTrue, List, None, Option, Some, [], drop, false, get_or, if◌then◌else◌, is_none, length, max, nat_lt, not, option_map, slice_get, suc, take, true, unwrap_or, zero, ℕ, ◌&&◌, ◌++◌, ◌+◌, ◌-◌, ◌<◌, ◌==◌, ◌||◌, ◌∷◌, ◌≡◌, ◌≤◌}
-use Rattle.timeline_scheduler.specs.Scratches.{HoldsTimes}
-use Rattle.timeline_scheduler.specs.declared.scratches.Slot.{Slot}
+use Rattle.timeline_scheduler.specs.Scratches.{HoldsTimes, Room}
 use Rattle.window_order.proofs.FewAccesses.{few_accesses}
 use Rattle.window_order.proofs.Grips.{HoldsNone, fits_other, holds_none}
+use Rattle.window_order.proofs.Joined.{same_parts}
 use Rattle.window_order.proofs.PlacedTables.{new_on}
 use Rattle.window_order.proofs.Promises.{order_stands}
 use Rattle.window_order.proofs.ReadFacts.{IsRead, read_facts}
+use Rattle.window_order.proofs.Rearranged.{read_kept as read_rearranged, table_kept}
 use Rattle.window_order.proofs.Representing.{represents}
 use Rattle.window_order.specs.MarksKept.{MarksAreKept}
 use Rattle.window_order.proofs.TouchedLines.{live_stands, unplaced_absent}
@@ -86,7 +92,7 @@ use Rattle.window_order.specs.TableKept.{TableIsKept}
 use Rattle.history_book.proofs.Snoc.{put_other}
 use Rattle.hub_core.proofs.kept.Finds.{none_found, none_there}
 use Rattle.lock_leasing.proofs.Facts.{next_is_left}
-use Rattle.lock_leasing.specs.Places.{GripsFit, IsClear}
+use Rattle.lock_leasing.specs.Places.{GripsFit, IsClear, MayBeOut, in_order}
 use Rattle.std.proofs.lemmas.Bool.{and_parts, eq-eqb}
 use Rattle.window_order.proofs.Firsts.{below_home}
 
@@ -177,14 +183,14 @@ arrives_whole h t r m enters same k = entered_whole h t r m _ Going enters (λ f
 -- A run is placed
 
 -- the place of a run that the step of the hub places
-joining : (s : Configuration) (r at m : ℕ) → choice_of s r m ≡ Moves (Placed (run_no r) at (max s.moment m) ∷ []) → IsPlacing s.setting (read_of s) s.grips r at
-joining s r at m =
-    decide_is (λ c. c ≡ Moves (Placed (run_no r) at (max s.moment m) ∷ []) → IsPlacing s.setting (read_of s) s.grips r at) s.setting (read_of s) s.grips r (max s.moment m) (record {
+joining : (s : Configuration) (r at m : ℕ) → MayBeOut s.setting (read_of s) s.grips → choice_of s r m ≡ Moves (Placed (run_no r) at (max s.moment m) ∷ []) → IsPlacing s.setting (read_of s) s.grips r at (max s.moment m)
+joining s r at m out =
+    decide_is (λ c. c ≡ Moves (Placed (run_no r) at (max s.moment m) ∷ []) → IsPlacing s.setting (read_of s) s.grips r at (max s.moment m)) s.setting (read_of s) s.grips r (max s.moment m) (record {
       absent = λ none is. absurd (cc);
       over = λ e at is. absurd (cc);
       waits = λ why is. absurd (cc);
       arrives = λ run none is. absurd (cc);
-      enters = λ x enters is. subst (IsPlacing s.setting (read_of s) s.grips r) (same_place (length x.front) is) (enters_place s.setting (read_of s) s.grips r (max s.moment m) x enters);
+      enters = λ x enters is. subst (λ k. IsPlacing s.setting (read_of s) s.grips r k (max s.moment m)) (same_place (length x.front) is) (enters_place s.setting (read_of s) s.grips r (max s.moment m) x out enters);
       aborted = λ cause act doomed over is. absurd (cc);
       drops = λ cause d undoing down is. absurd (cc);
       undoes = λ cause d undoing up is. absurd (cc);
@@ -198,20 +204,20 @@ joining s r at m =
     same_place : (a : ℕ) → Moves (Placed (run_no r) a (max s.moment m) ∷ []) ≡ Moves (Placed (run_no r) at (max s.moment m) ∷ []) → a ≡ at
     same_place a e = cc
 
-pub joins_at : {D : Type 0} (h : Inside D) (r at m : ℕ) → choice_of (configuration_of (open_of h)) r m ≡ Moves (Placed (run_no r) at (max h.moment m) ∷ []) → IsPlacing h.history.setting (read_in h.history) (configuration_of (open_of h)).grips r at
-joins_at h r at m is = joining (configuration_of (open_of h)) r at m is
+pub joins_at : {D : Type 0} {stands turns probes faults : D → ℕ} (h : Inside D) (r at m : ℕ) → choice_of (configuration_of (open_of h)) r m ≡ Moves (Placed (run_no r) at (max h.moment m) ∷ []) → IsWhole stands turns probes faults h → IsPlacing h.history.setting (read_in h.history) (configuration_of (open_of h)).grips r at (max h.moment m)
+joins_at h r at m is k = joining (configuration_of (open_of h)) r at m k.shown.configuration.grips.runs is
 
 -- .. is one of the line
 pub joins_within : {D : Type 0} {stands turns probes faults : D → ℕ} (h : Inside D) (r at m : ℕ) → choice_of (configuration_of (open_of h)) r m ≡ Moves (Placed (run_no r) at (max h.moment m) ∷ []) → IsWhole stands turns probes faults h → at ≤ length h.order.line.marks
 joins_within h r at m is k =
-    let within = (joins_at h r at m is).within in
+    let within = (joins_at h r at m is k).within in
     let size = sym (length-map h.order.line.marks (λ (x : Mark). x.item)) ∙ ap length k.order.line_is.items in
     omega (arith, within, size)
 
 -- .. behind what is sealed
 pub joins_behind : {D : Type 0} {stands turns probes faults : D → ℕ} (h : Inside D) (r at m : ℕ) → choice_of (configuration_of (open_of h)) r m ≡ Moves (Placed (run_no r) at (max h.moment m) ∷ []) → IsWhole stands turns probes faults h → h.order.line.sealed ≤ at
 joins_behind h r at m is k =
-    let behind = (joins_at h r at m is).sealed in
+    let behind = (joins_at h r at m is k).sealed in
     let sealed = sealed_is h.history.setting (read_in h.history) (configuration_of (open_of h)).grips h.order.line (read_whole h k) k.order.line_is k.order.sealed in
     omega (arith, behind, sealed)
 
@@ -219,10 +225,13 @@ joins_behind h r at m is k =
 placed_size : (w : Setting) (n : Reading) (r at m : ℕ) → length (entry w n (Placed (run_no r) at m)).line ≡ length n.line + 1
 unfolding split_of
 placed_size w n r at m =
-    let after : length (take at n.line ++ Ran (run_no r) ∷ drop at n.line) ≡ length (take at n.line) + suc (length (drop at n.line)) = length-append (take at n.line) (Ran (run_no r) ∷ drop at n.line) in
-    let before : length (take at n.line ++ drop at n.line) ≡ length (take at n.line) + length (drop at n.line) = length-append (take at n.line) (drop at n.line) in
-    let whole : length (take at n.line ++ drop at n.line) ≡ length n.line = ap length (take-append-drop at n.line) in
+    let after : length (take at line ++ Ran (run_no r) ∷ drop at line) ≡ length (take at line) + suc (length (drop at line)) = length-append (take at line) (Ran (run_no r) ∷ drop at line) in
+    let before : length (take at line ++ drop at line) ≡ length (take at line) + length (drop at line) = length-append (take at line) (drop at line) in
+    let whole : length (take at line ++ drop at line) ≡ length n.line = ap length (take-append-drop at line) ∙ line_length w n r m in
     omega (arith, after, before, whole)
+  where
+    line : List Item
+    line = line_for w n r m
 
 -- the line has room for the run
 pub line_place : {D : Type 0} {stands turns probes faults : D → ℕ} (h : Inside D) (r at m : ℕ) → choice_of (configuration_of (open_of h)) r m ≡ Moves (Placed (run_no r) at (max h.moment m) ∷ []) → IsWhole stands turns probes faults h → 0 < h.order.line.spare
@@ -233,6 +242,31 @@ line_place h r at m is k =
     let size = sym (length-map h.order.line.marks (λ (x : Mark). x.item)) ∙ ap length k.order.line_is.items in
     omega (arith, fits, longer, size, k.order.room)
 
+-- the marks of the line as it stands when the run is placed
+abbrev pub marks_then : {D : Type 0} → Inside D → ℕ → ℕ → List Mark
+marks_then h r m = marks_for h.history.setting (read_in h.history) r (max h.moment m) h.order.line.marks
+
+-- by the timeline the scratch holds the set of the run
+pub joins_set : {D : Type 0} (h : Inside D) (s : OpenHub D) (r at m : ℕ) (room : Room) → open_of h ≡ s → HoldsPlan room (configuration_of s) r (max s.moment m) at → scheduler_of h.history.setting.mode ≡ Timeline → room.before ≡ gap_set h.history.setting (read_in h.history) r (max h.moment m)
+joins_set {D = D} h s r at m room seen holds timed = (subst (λ (x : OpenHub D). HoldsPlan room (configuration_of x) r (max x.moment m) at) (sym seen) holds timed).set
+
+-- .. which may be brought to the front
+pub hub_arranges : {D : Type 0} {stands turns probes faults : D → ℕ} (h : Inside D) (s : OpenHub D) (r at m : ℕ) (room : Room) → open_of h ≡ s → HoldsPlan room (configuration_of s) r (max s.moment m) at → scheduler_of h.history.setting.mode ≡ Timeline → IsWhole stands turns probes faults h → MayArrange room.before h.order.line
+hub_arranges h s r at m room seen holds timed k = may_arrange h.history.setting (read_in h.history) (configuration_of (open_of h)).grips r (max h.moment m) room.before h.order.line h.order.table (read_whole h k) (joins_set h s r at m room seen holds timed) k.order
+
+-- the line that was arranged by it stands as it should then
+pub hub_arranged : {D : Type 0} (h : Inside D) (s : OpenHub D) (r at m : ℕ) (room : Room) (scheduler : Scheduler) (flags : List Bool) (marks : List Mark) → open_of h ≡ s → HoldsPlan room (configuration_of s) r (max s.moment m) at
+    → scheduler ≡ scheduler_of h.history.setting.mode → flags ≡ room.before → marks ≡ arranged scheduler flags h.order.line.marks → marks ≡ marks_then h r m
+hub_arranged h s r at m room scheduler flags marks seen holds by same are =
+    are ∙ (λ i. arranged (by i) (same i) h.order.line.marks) ∙ arranged_same (scheduler_of h.history.setting.mode) room.before (gap_set h.history.setting (read_in h.history) r (max h.moment m)) h.order.line.marks (joins_set h s r at m room seen holds)
+
+-- the line keeps the run as one of the window
+pub hub_known : {D : Type 0} {stands turns probes faults : D → ℕ} (h : Inside D) (r at m : ℕ) → choice_of (configuration_of (open_of h)) r m ≡ Moves (Placed (run_no r) at (max h.moment m) ∷ []) → IsWhole stands turns probes faults h → is_run h.order.line.runs r ≡ true
+hub_known h r at m is k =
+    let may : may_follow h.history.setting (read_in h.history) (Placed (run_no r) at (max h.moment m)) ≡ true = last_follows h.history.setting h.history.history r (Placed (run_no r) at (max h.moment m)) (entries_kept _ _ _ _ (open_of h) r m _ Going is k.shown).configuration.history.well_formed in
+    let run : is_run h.history.setting.runs r ≡ true = grind (arith, common_steps) in
+    k.order.runs.there r ∙ run
+
 -- a run that may be placed here has its devices in the home, does not stand in the line, and is new on each of its devices
 pub record MayJoin (w : Setting) (r at : ℕ) (marks : List Mark) (table : List LineageState) : Type 0 where
   pub few : length table ≤ 256
@@ -240,38 +274,48 @@ pub record MayJoin (w : Setting) (r at : ℕ) (marks : List Mark) (table : List 
   pub absent : stands (Ran (run_no r)) marks ≡ false
   pub new : (d : ℕ) → d < length table → touches w.runs r d ≡ true → IsNewOn r (drop at (items_of marks)) (lineage_at table d)
 
--- .. as it may at a place behind which nothing must stand before it
-pub may_join : (w : Setting) (n : Reading) (g : Grips) (r at m : ℕ) (marks : List Mark) (table : List LineageState) → IsRead w n → IsRosterFor (length w.first) w.runs → may_follow w n (Placed (run_no r) at m) ≡ true → IsClear w n g r at → MarksAreKept n g marks → TableIsKept w n g table → MayJoin w r at marks table
+-- .. as it may at a place behind which nothing must stand before it, as the line stands then
+pub may_join : (w : Setting) (n : Reading) (g : Grips) (r at m : ℕ) (marks : List Mark) (table : List LineageState) → IsRead w n → IsRosterFor (length w.first) w.runs → may_follow w n (Placed (run_no r) at m) ≡ true → IsClear w (in_order n (line_for w n r m)) g r at → MarksAreKept n g marks → TableIsKept w n g table → MayJoin w r at (marks_for w n r m marks) table
 may_join w n g r at m marks table read allowed may clear line_is table_is = record {
   few = subst (λ k. k ≤ 256) (sym table_is.devices) allowed.few_devices;
   homed = λ k c within. subst (λ x. (get_or (commands_of w.runs r) k c).device.0 < x) (sym table_is.devices) (allowed.homed r k (get_or (commands_of w.runs r) k c) (slice_get-get_or (commands_of w.runs r) k c within));
-  absent = unplaced_absent w n g r marks read none line_is;
-  new = λ d lt used. let below : d < length w.first = subst (λ x. d < x) table_is.devices lt in subst (λ is. IsNewOn r (drop at is) (lineage_at table d)) (sym line_is.items) (new_on w n g r at m read may clear d below (lineage_at table d) used (table_is.each d below));
+  absent = unplaced_absent w later g r (marks_for w n r m marks) told none marks_are;
+  new = λ d lt used. let below : d < length w.first = subst (λ x. d < x) table_is.devices lt in subst (λ is. IsNewOn r (drop at is) (lineage_at table d)) (sym marks_are.items) (new_on w later g r at m told may clear d below (lineage_at table d) used ((table_kept w n g (line_for w n r m) table read (same_parts w n r m) table_is).each d below));
 }
   where
+    later : Reading
+    later = in_order n (line_for w n r m)
+
+    told : IsRead w later
+    told = read_rearranged w n (line_for w n r m) (same_parts w n r m) read
+
+    marks_are : MarksAreKept later g (marks_for w n r m marks)
+    marks_are = marks_arranged w n g r m marks line_is
+
     none : is_none (n.run r).placed ≡ true
     none = grind (arith, common_steps)
 
 -- .. as the step of the hub does
 pub hub_joins : {D : Type 0} {stands turns probes faults : D → ℕ} (h : Inside D) (r at m : ℕ) → choice_of (configuration_of (open_of h)) r m ≡ Moves (Placed (run_no r) at (max h.moment m) ∷ [])
-    → is_weak h.history.setting.mode ≡ false → IsWhole stands turns probes faults h → MayJoin h.history.setting r at h.order.line.marks h.order.table
+    → is_weak h.history.setting.mode ≡ false → IsWhole stands turns probes faults h → MayJoin h.history.setting r at (marks_then h r m) h.order.table
 hub_joins h r at m is strong k =
     may_join h.history.setting (read_in h.history) _ r at (max h.moment m) h.order.line.marks h.order.table (read_whole h k) (roster_allowed h.history.setting h.rounds h.opened k.shown.configuration.opens)
-    (last_follows h.history.setting h.history.history r (Placed (run_no r) at (max h.moment m)) (entries_kept _ _ _ _ (open_of h) r m _ Going is k.shown).configuration.history.well_formed) (joins_at h r at m is).clear k.order.line_is (k.order.table_is.ordered strong)
+    (last_follows h.history.setting h.history.history r (Placed (run_no r) at (max h.moment m)) (entries_kept _ _ _ _ (open_of h) r m _ Going is k.shown).configuration.history.well_formed) (joins_at h r at m is k).clear k.order.line_is (k.order.table_is.ordered strong)
 
--- the run stands at its place in the line, and is scheduled on its devices
+-- the run stands at its place in the line as it stood then, and is scheduled on its devices
 pub record IsJoined {D : Type 0} (h t : Inside D) (r at m : ℕ) : Type 0 where
-  pub marks : t.order.line.marks ≡ with_item at (Ran (run_no r)) h.order.line.marks
+  pub marks : t.order.line.marks ≡ with_item at (Ran (run_no r)) (marks_then h r m)
   pub spare : t.order.line.spare + 1 ≡ h.order.line.spare
-  pub sealed : t.order.line.sealed ≡ h.order.line.sealed
-  pub table : ChangesEach (scheduled_on h.history.setting.runs r (planned_times h.history.setting (read_in h.history) r (take at (read_in h.history).line) (max h.moment m)) (drop at (items_of h.order.line.marks))) h.order.table t.order.table
+  pub runs : t.order.line.runs ≡ h.order.line.runs
+  pub sealed : IsSealed t.order.line
+  pub table : ChangesEach (scheduled_on h.history.setting.runs r (planned_times h.history.setting (read_in h.history) r (front_for h.history.setting (read_in h.history) r at (max h.moment m)) (max h.moment m)) (drop at (items_of (marks_then h r m)))) h.order.table t.order.table
 
 -- .. with its planned uses, as the scratch has them where it is placed by the timeline
-pub joins_planned : {D : Type 0} (h : Inside D) (s : OpenHub D) (r at m now : ℕ) (slots : List Slot) (uses : List (Option PlannedUse)) (runs : List Run) (later : List LineageState) → open_of h ≡ s → HoldsPlan slots (configuration_of s) r (max s.moment m) at → now ≡ max h.moment m
-    → ((front : List Item) → (scheduler_of h.history.setting.mode ≡ Timeline → HoldsTimes slots (planned_times h.history.setting (read_in h.history) r front now)) → AreUsesOf uses (planned_times h.history.setting (read_in h.history) r front now)) → runs ≡ h.history.setting.runs → length h.order.table ≤ 256
-    → ChangesEach (scheduled_with runs r uses (drop at (items_of h.order.line.marks))) h.order.table later → ChangesEach (scheduled_on h.history.setting.runs r (planned_times h.history.setting (read_in h.history) r (take at (read_in h.history).line) (max h.moment m)) (drop at (items_of h.order.line.marks))) h.order.table later
-joins_planned {D = D} h s r at m now slots uses runs later seen holds is planned same few changes =
-    scheduled_as_planned w.runs r uses (times (max h.moment m)) back h.order.table later few are (λ d. planned_devices w n r (take at n.line) (max h.moment m) d) (subst (λ (x : List Run). ChangesEach (scheduled_with x r uses back) h.order.table later) same changes)
+pub joins_planned : {D : Type 0} (h : Inside D) (s : OpenHub D) (r at m now : ℕ) (room : Room) (uses : List (Option PlannedUse)) (runs : List Run) (back : List Item) (later : List LineageState) → open_of h ≡ s → HoldsPlan room (configuration_of s) r (max s.moment m) at → now ≡ max h.moment m
+    → ((front : List Item) → (scheduler_of h.history.setting.mode ≡ Timeline → HoldsTimes room.slots (planned_times h.history.setting (read_in h.history) r front now)) → AreUsesOf uses (planned_times h.history.setting (read_in h.history) r front now)) → runs ≡ h.history.setting.runs → length h.order.table ≤ 256
+    → ChangesEach (scheduled_with runs r uses back) h.order.table later → ChangesEach (scheduled_on h.history.setting.runs r (planned_times h.history.setting (read_in h.history) r (front_for h.history.setting (read_in h.history) r at (max h.moment m)) (max h.moment m)) back) h.order.table later
+joins_planned {D = D} h s r at m now room uses runs back later seen holds is planned same few changes =
+    scheduled_as_planned w.runs r uses (times (max h.moment m)) back h.order.table later few are (λ d. planned_devices w n r (front_for w n r at (max h.moment m)) (max h.moment m) d) (subst (λ (x : List Run). ChangesEach (scheduled_with x r uses back) h.order.table later) same changes)
   where
     w : Setting
     w = h.history.setting
@@ -279,28 +323,28 @@ joins_planned {D = D} h s r at m now slots uses runs later seen holds is planned
     n : Reading
     n = read_in h.history
 
-    back : List Item
-    back = drop at (items_of h.order.line.marks)
+    front : List Item
+    front = front_for w n r at (max h.moment m)
 
     times : ℕ → List Planned
-    times t = planned_times w n r (take at n.line) t
+    times t = planned_times w n r front t
 
-    holds_here : scheduler_of w.mode ≡ Timeline → HoldsTimes slots (times (max h.moment m))
-    holds_here = subst (λ (x : OpenHub D). HoldsPlan slots (configuration_of x) r (max x.moment m) at) (sym seen) holds
+    holds_here : scheduler_of w.mode ≡ Timeline → HoldsTimes room.slots (times (max h.moment m))
+    holds_here timed = (subst (λ (x : OpenHub D). HoldsPlan room (configuration_of x) r (max x.moment m) at) (sym seen) holds timed).times
 
     are : AreUsesOf uses (times (max h.moment m))
-    are = subst (λ t. AreUsesOf uses (times t)) is (planned (take at n.line) (subst (λ t. scheduler_of w.mode ≡ Timeline → HoldsTimes slots (times t)) (sym is) holds_here))
+    are = subst (λ t. AreUsesOf uses (times t)) is (planned front (subst (λ t. scheduler_of w.mode ≡ Timeline → HoldsTimes room.slots (times t)) (sym is) holds_here))
 
 pub joins_whole : {D : Type 0} {stands turns probes faults : D → ℕ} (h t : Inside D) (r at m : ℕ) → IsEntered h t r m (Placed (run_no r) at (max h.moment m) ∷ []) Going → IsJoined h t r at m → is_weak h.history.setting.mode ≡ false → IsWhole stands turns probes faults h → IsWhole stands turns probes faults t
 joins_whole h t r at m enters joined strong k = entered_whole h t r m _ Going enters (λ formed.
-    order_placed h.history _ _ r at (max h.moment m) h.order.line t.order.line h.order.table t.order.table (read_whole h k) k.shown.configuration.grips strong (joins_at h r at m enters.chosen).clear (joins_at h r at m enters.chosen).sealed refl formed joined.marks joined.spare joined.sealed joined.table k.order) k
+    order_placed h.history _ _ r at (max h.moment m) h.order.line t.order.line h.order.table t.order.table (read_whole h k) k.shown.configuration.grips strong (joins_at h r at m enters.chosen k).clear refl formed joined.marks joined.spare joined.runs joined.sealed joined.table k.order) k
 
 -- .. under the weak model it is scheduled on none
-pub enters_whole : {D : Type 0} {stands turns probes faults : D → ℕ} (h t : Inside D) (r at m : ℕ) → IsEntered h t r m (Placed (run_no r) at (max h.moment m) ∷ []) Going → t.order.line.marks ≡ with_item at (Ran (run_no r)) h.order.line.marks → t.order.line.spare + 1 ≡ h.order.line.spare → t.order.line.sealed ≡ h.order.line.sealed → t.order.table ≡ h.order.table
+pub enters_whole : {D : Type 0} {stands turns probes faults : D → ℕ} (h t : Inside D) (r at m : ℕ) → IsEntered h t r m (Placed (run_no r) at (max h.moment m) ∷ []) Going → t.order.line.marks ≡ with_item at (Ran (run_no r)) h.order.line.marks → t.order.line.spare + 1 ≡ h.order.line.spare → t.order.line.runs ≡ h.order.line.runs → t.order.line.sealed ≡ h.order.line.sealed → t.order.table ≡ h.order.table
     → is_weak h.history.setting.mode ≡ true → IsWhole stands turns probes faults h → IsWhole stands turns probes faults t
-enters_whole h t r at m enters marks spare sealed same weak k = entered_whole h t r m _ Going enters (λ formed.
+enters_whole h t r at m enters marks spare runs sealed same weak k = entered_whole h t r m _ Going enters (λ formed.
     subst (OrderIsBeside h.rounds (with_entry h.history r (Placed (run_no r) at (max h.moment m))) (configuration_of (open_of h)).grips t.order.line) (sym same)
-    (order_joined h.history _ _ r at (max h.moment m) h.order.line t.order.line h.order.table weak (read_whole h k) k.shown.configuration.grips (joins_at h r at m enters.chosen).sealed refl formed marks spare sealed k.order)) k
+    (order_joined h.history _ _ r at (max h.moment m) h.order.line t.order.line h.order.table weak (read_whole h k) k.shown.configuration.grips (joins_at h r at m enters.chosen k).sealed refl formed marks spare runs sealed k.order)) k
 
 -- the run is in no line before
 abbrev pub IsAbsent : ℕ → List Mark → Type 0
@@ -337,21 +381,22 @@ hub_downs {D = D} h s r p c seen known sound next home down k =
 
 -- A run ends
 
-pub commits_whole : {D : Type 0} {stands turns probes faults : D → ℕ} (h t : Inside D) (r m : ℕ) → IsEntered h t r m (Ended (run_no r) Committed ∷ []) (Ending Committed) → t.order.line.marks ≡ settling r h.order.line.marks → t.order.line.spare ≡ h.order.line.spare → IsSealed t.order.line → ChangesEach (λ d. committed_lineage r) h.order.table t.order.table
+pub commits_whole : {D : Type 0} {stands turns probes faults : D → ℕ} (h t : Inside D) (r m : ℕ) → IsEntered h t r m (Ended (run_no r) Committed ∷ []) (Ending Committed) → t.order.line.marks ≡ settling r h.order.line.marks → t.order.line.spare ≡ h.order.line.spare → t.order.line.runs ≡ h.order.line.runs → IsSealed t.order.line → ChangesEach (λ d. committed_lineage r) h.order.table t.order.table
     → IsWhole stands turns probes faults h → IsWhole stands turns probes faults t
-commits_whole h t r m enters marks spare sealed table k = entered_whole h t r m _ (Ending Committed) enters (λ formed.
-    order_committed h.history _ _ r h.order.line t.order.line h.order.table t.order.table (read_whole h k) k.shown.configuration.grips refl formed marks spare sealed table k.order) k
+commits_whole h t r m enters marks spare runs sealed table k = entered_whole h t r m _ (Ending Committed) enters (λ formed.
+    order_committed h.history _ _ r h.order.line t.order.line h.order.table t.order.table (read_whole h k) k.shown.configuration.grips refl formed marks spare runs sealed table k.order) k
 
 -- the run has left the line, and has no access any more
 pub record IsWithdrawn {D : Type 0} (h t : Inside D) (r : ℕ) : Type 0 where
   pub marks : t.order.line.marks ≡ without r h.order.line.marks
   pub spare : t.order.line.spare ≡ h.order.line.spare + 1
+  pub runs : t.order.line.runs ≡ h.order.line.runs
   pub sealed : IsSealed t.order.line
   pub table : ChangesEach (λ d. removed r) h.order.table t.order.table
 
 pub aborts_whole : {D : Type 0} {stands turns probes faults : D → ℕ} (h t : Inside D) (r m : ℕ) (cause : Cause) → IsEntered h t r m (Ended (run_no r) (Aborted cause) ∷ []) (Ending (Aborted cause)) → IsWithdrawn h t r → IsWhole stands turns probes faults h → IsWhole stands turns probes faults t
 aborts_whole h t r m cause enters left k = entered_whole h t r m _ (Ending (Aborted cause)) enters (λ formed.
-    order_aborted h.history _ _ r cause h.order.line t.order.line h.order.table t.order.table (read_whole h k) refl formed left.marks left.spare left.sealed left.table k.order) k
+    order_aborted h.history _ _ r cause h.order.line t.order.line h.order.table t.order.table (read_whole h k) refl formed left.marks left.spare left.runs left.sealed left.table k.order) k
 
 -- its undos are finished, as the table tells
 bare_beyond : (table : List LineageState) (k d : ℕ) → length table ≡ k → ((e : ℕ) → e < k → accesses_at table e ≡ []) → accesses_at table d ≡ []
@@ -448,6 +493,7 @@ pub record IsToldSo {D : Type 0} (h t : Inside D) (r k : ℕ) (must : Bool) (c :
   pub last_is : last ≡ (is_doomed (read_in mid) r || not (pends mid.setting (read_in mid) r c.device.0))
   pub marks : between.line.marks ≡ touching r c.device.0 h.order.line.marks
   pub spare : between.line.spare ≡ h.order.line.spare
+  pub runs : between.line.runs ≡ h.order.line.runs
   pub sealed : between.line.sealed ≡ h.order.line.sealed
   pub table : is_weak h.history.setting.mode ≡ false → between.table ≡ with_lineage h.order.table c.device.0 (noted_first r (is_first r (lineage_at h.order.table c.device.0)) ViewedDown None last)
   pub same_table : is_weak h.history.setting.mode ≡ true → between.table ≡ h.order.table
@@ -497,8 +543,8 @@ pub told_whole : {D : Type 0} {stands turns probes faults : D → ℕ} (h t : In
 told_whole {D = D} h t r m k must c cause mid last between is new told whole = entered_whole h t r m es Going enters (λ formed.
     order_doomed_if mid (with_more h.history r es) g r cause between.line t.order.line between.table t.order.table fit (none_commands w g r none) (sym history) formed told.line_after told.unchanged told.changed
     (either_model (OrderIsBeside h.rounds mid g between.line between.table) w
-    (λ weak. order_told_weakly h.history mid g r k h.order.line between.line h.order.table between.table weak told.answered marks told.spare told.sealed (told.same_table weak) whole.order)
-    (λ strong. order_told_down h.history mid g (held_in (open_of h)) r k last h.order.line between.line h.order.table between.table (down.told strong) below down.number told.answered last_is marks told.spare told.sealed (table strong) whole.order))) whole
+    (λ weak. order_told_weakly h.history mid g r k h.order.line between.line h.order.table between.table weak told.answered marks told.spare told.runs told.sealed (told.same_table weak) whole.order)
+    (λ strong. order_told_down h.history mid g (held_in (open_of h)) r k last h.order.line between.line h.order.table between.table (down.told strong) below down.number told.answered last_is marks told.spare told.runs told.sealed (table strong) whole.order))) whole
   where
     w : Setting
     w = h.history.setting
@@ -546,6 +592,13 @@ told_whole {D = D} h t r m k must c cause mid last between is new told whole = e
 pub standing_size : (s : Configuration) (table : List LineageState) (line : List Mark) (history : List Kept) (runs : List Run) → IsStandingOf s table line history runs → length line ≡ length (read_of s).line
 standing_size s table line history runs parts = sym (length-map line (λ (x : Mark). x.item)) ∙ ap length parts.its_line.items
 
+-- the line of a hub has no more items than the scratch has room for
+pub standing_fits : {D : Type 0} {stands turns probes faults : D → ℕ} (h : Inside D) (s : OpenHub D) (table : List LineageState) (line : List Mark) (history : List Kept) (runs : List Run) (room : Room) → open_of h ≡ s → IsStandingOf (configuration_of s) table line history runs → IsForHome s.setting s.rounds room → IsWhole stands turns probes faults h → length line ≤ room.items
+standing_fits {D = D} h s table line history runs room seen parts home k =
+    let size = standing_size (configuration_of s) table line history runs parts in
+    let fits = subst (λ (x : OpenHub D). length (read_of (configuration_of x)).line ≤ most_items (length x.setting.runs) (length x.setting.first) x.rounds) seen (line_fits _ h.rounds h.opened _ k.shown.configuration) in
+    omega (arith, size, fits, home.items)
+
 -- A device goes out
 
 -- the line's run that is handed the device out, one of the 256 that a home may have
@@ -569,16 +622,17 @@ may_mark s rounds opened held r m d purpose marks table k chose line_is size = r
 
 -- line and table when a device has gone out for this purpose
 went_for : {rounds : ℕ} (h : HistoryState) (s : Configuration) (g f : Grips) (r d : ℕ) (purpose : Purpose) (line after : Marked) (table later : List LineageState) → s.setting ≡ h.setting → read_of s ≡ read_in h → IsRead h.setting (read_in h) → g d ≡ None → d < length table → GoesFor s r d purpose → f ≡ put g d (Some (record { maker = r; purpose = purpose }))
-    → after.marks ≡ (if is_command purpose then touching r d line.marks else line.marks) → after.spare ≡ line.spare → after.sealed ≡ line.sealed → later ≡ (if is_undo purpose then with_lineage table d (undone r) else table) → OrderIsBeside rounds h g line table → OrderIsBeside rounds h f after later
-went_for h s g f r d (Commands k) line after table later setting same read home below for out marks spare stays changed order =
-    order_out h g f r d k line after table later home (ap (λ n. is_doomed n r) (sym same) ∙ for.sound) (ap₂ (λ w n. pends w n r d) (sym setting) (sym same) ∙ next_is_left d (commands_of s.setting.runs r) (next_of (read_of s) r) (ap (λ o. unwrap_or (option_map (is_on d) o) false) for.next ∙ eq-eqb for.command.device.0 d for.on)) out marks spare stays changed order
-went_for h s g f r d (Undoes v) line after table later setting same read home below for out marks spare stays changed order = order_undo_out h g f r d v line after table later read home below out marks spare stays changed order
-went_for h s g f r d (Probes v) line after table later setting same read home below for out marks spare stays changed order = absurd for
+    → after.marks ≡ (if is_command purpose then touching r d line.marks else line.marks) → after.spare ≡ line.spare → after.runs ≡ line.runs → after.sealed ≡ line.sealed → later ≡ (if is_undo purpose then with_lineage table d (undone r) else table) → OrderIsBeside rounds h g line table → OrderIsBeside rounds h f after later
+went_for h s g f r d (Commands k) line after table later setting same read home below for out marks spare runs stays changed order =
+    order_out h g f r d k line after table later home (ap (λ n. is_doomed n r) (sym same) ∙ for.sound) (ap₂ (λ w n. pends w n r d) (sym setting) (sym same) ∙ next_is_left d (commands_of s.setting.runs r) (next_of (read_of s) r) (ap (λ o. unwrap_or (option_map (is_on d) o) false) for.next ∙ eq-eqb for.command.device.0 d for.on)) out marks spare runs stays changed order
+went_for h s g f r d (Undoes v) line after table later setting same read home below for out marks spare runs stays changed order = order_undo_out h g f r d v line after table later read home below out marks spare runs stays changed order
+went_for h s g f r d (Probes v) line after table later setting same read home below for out marks spare runs stays changed order = absurd for
 
 -- .. as the step of the hub does
 pub record IsTouched {D : Type 0} (h t : Inside D) (r d : ℕ) (purpose : Purpose) : Type 0 where
   pub marks : t.order.line.marks ≡ (if is_command purpose then touching r d h.order.line.marks else h.order.line.marks)
   pub spare : t.order.line.spare ≡ h.order.line.spare
+  pub runs : t.order.line.runs ≡ h.order.line.runs
   pub sealed : t.order.line.sealed ≡ h.order.line.sealed
   pub table : t.order.table ≡ (if is_undo purpose then with_lineage h.order.table d (undone r) else h.order.table)
 
@@ -593,7 +647,7 @@ order_went : {D : Type 0} {stands turns probes faults : D → ℕ} (h t : Inside
     → IsWhole stands turns probes faults h → OrderIsBeside h.rounds h.history (configuration_of (open_of t)).grips t.order.line t.order.table
 order_went {D = D} h t r m d purpose known task grip handed touched k =
     went_for h.history s g (configuration_of (open_of t)).grips r d (purpose_of purpose) h.order.line t.order.line h.order.table t.order.table refl refl (read_whole h k) (none_there (g d) out.home)
-    (let first : d < length h.history.setting.first = below_home h.history.setting d out.device in let size : length h.order.table ≡ length h.history.setting.first = k.order.table_is.devices in omega (arith, first, size)) out.for gone touched.marks touched.spare touched.sealed touched.table k.order
+    (let first : d < length h.history.setting.first = below_home h.history.setting d out.device in let size : length h.order.table ≡ length h.history.setting.first = k.order.table_is.devices in omega (arith, first, size)) out.for gone touched.marks touched.spare touched.runs touched.sealed touched.table k.order
   where
     s : Configuration
     s = configuration_of (open_of h)

@@ -97,7 +97,7 @@ risen_whole {D = D} {stands = stands} {turns = turns} {probes = probes} {faults 
     probe_whole h t value events here.v tag grip (Rose grip.slip.device ∷ []) here.returned here.for (back_told h s tag grip sl before events known down lives more here) came
     (λ home. order_probe_home t.history.setting (read_in t.history) (configuration_of (open_of h)).grips (configuration_of (open_of t)).grips d.0 here.v t.order.line t.order.table here.for.grip home
     (order_rose h.history t.history (configuration_of (open_of h)).grips 0 d.0 events.rose (event_place h.history.history None (accesses_at h.order.table d.0) h.order.line.marks) h.order.line t.order.line h.order.table t.order.table (table_place h d.0 here.below k) own.history (place_told h d here.below k)
-    (ap (λ (e : Events). e.rose) more ∙ ap (λ (e : Events). e.rose + 1) here.before_is) own.rises.marks own.rises.spare own.rises.sealed own.rises.counted k.order)) k
+    (ap (λ (e : Events). e.rose) more ∙ ap (λ (e : Events). e.rose + 1) here.before_is) own.rises.marks own.rises.spare own.rises.runs own.rises.sealed own.rises.counted k.order)) k
   where
     d : DeviceNo
     d = grip.slip.device
@@ -364,7 +364,7 @@ order_fallen {rounds = rounds} w h fell t g held d v number lost hands line mid 
     next = entry h.setting (read_in h) (Fell d)
 
     fallen : OrderIsBeside rounds fell g mid between
-    fallen = order_fell h fell g 0 d.0 number (event_place h.history None (accesses_at table d.0) line.marks) line mid table between below told place number_is falls.marks falls.spare falls.sealed falls.counted beside
+    fallen = order_fell h fell g 0 d.0 number (event_place h.history None (accesses_at table d.0) line.marks) line mid table between below told place number_is falls.marks falls.spare falls.runs falls.sealed falls.counted beside
 
     reads : read_in fell ≡ next
     reads = ap read_in told ∙ read_more h.setting h.history 0 (Fell d)

@@ -26,7 +26,7 @@ use Rattle.std.specs.List.{list_any}
 use Rattle.std.specs.Option.{ForSome, option_or}
 use Rattle.std.specs.Prelude.{Bool, List, None, Option, Some, [], drop, false, get_or, if◌then◌else◌, is_some, length, nat_lt, option_map, option_to_list, slice_get, suc, take, true, zero, ℕ, ◌+◌, ◌<◌, ◌==◌, ◌||◌, ◌∷◌, ◌≡◌, ◌≢◌, ◌≤◌}
 use Rattle.timeline_scheduler.specs.Scratches.{HoldsTimes, planned_in}
-use Rattle.timeline_scheduler.specs.declared.scratches.Slot.{Slot}
+use Rattle.timeline_scheduler.specs.declared.slots.Slot.{Slot}
 use Rattle.window_order.proofs.AgainAccesses.{MayStand, may_stand}
 use Rattle.window_order.proofs.TableSteps.{with_both}
 use Rattle.window_order.specs.TableChanges.{ChangesEach, IsNewOn, first_with_access, rescheduled, scheduled_on, waiting_access}

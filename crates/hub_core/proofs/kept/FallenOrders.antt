@@ -27,6 +27,7 @@ use Rattle.hub_core.specs.ReadHistories.{HistoryState, read_in, with_entry}
 use Rattle.lineage_table.specs.Lineages.{LineageState, accesses_at, counted_up, lineage_at, with_lineage}
 use Rattle.lineage_table.specs.declared.accesses.Status.TheVariants.{Acquired, Scheduled}
 use Rattle.lock_leasing.specs.Configurations.{Commands, Grips, Undoes}
+use Rattle.serial_line.specs.KeptRuns.{AreKeptOf}
 use Rattle.serial_line.specs.Marks.{Mark, Marked, with_item}
 use Rattle.std.proofs.Common.{ap, arith, refl, subst, sym, ◌∙◌}
 use Rattle.std.specs.Prelude.{Bool, List, None, Some, [], false, if◌then◌else◌, length, not, option_map, true, unwrap_or, ℕ, ◌&&◌, ◌+◌, ◌<◌, ◌==◌, ◌≡◌}
@@ -78,6 +79,7 @@ order_died {rounds = rounds} h h₁ h₂ g f held d r k number first last line f
       table_is = fits_ordered w _ _ later strong (died_table w n g held d.0 r k d Down table later read order at changes (kept.table_is.ordered strong));
       line_is = subst (MarksAreKept (entry w (entry w n (Fell d)) (Did (run_no r) k Down)) (put g d.0 None)) (sym (fell.marks ∙ (λ i. with_item (place i) (Failed d (number_is i)) line.marks))) (marks_died w n g d.0 r k d Down line.marks out at kept.line_is);
       sealed = fell.sealed;
+      runs = subst (AreKeptOf w.runs) (sym fell.runs) kept.runs;
       room = let size = ap (λ (x : List Mark). length x) fell.marks ∙ length_with (event_place h.history (if first then Some (run_no r) else None) (accesses_at table d.0) line.marks) (Failed d number) line.marks in omega (arith, size, fell.spare, kept.room);
     })))))
   where
@@ -144,7 +146,7 @@ pub order_died_weakly : {rounds : ℕ} (h h₁ h₂ : HistoryState) (g f : Grips
     → after ≡ fallen → later ≡ between → OrderIsBeside rounds h g line table → OrderIsBeside rounds h₂ f after later
 order_died_weakly {rounds = rounds} h h₁ h₂ g f d r k number first line fallen after table between later weak fit at below one two home number_is first_is fell same still kept =
     order_answered_weakly h₁ h₂ g f d.0 r k Down fallen after between later (ap (λ (x : HistoryState). is_weak x.setting.mode) one ∙ weak) fit_then at two home same still
-    (order_fell h h₁ g r d.0 number (event_place h.history (if first then Some (run_no r) else None) (accesses_at table d.0) line.marks) line fallen table between (subst (λ x. d.0 < x) (sym kept.table_is.devices) below) one place number_is fell.marks fell.spare fell.sealed fell.counted kept)
+    (order_fell h h₁ g r d.0 number (event_place h.history (if first then Some (run_no r) else None) (accesses_at table d.0) line.marks) line fallen table between (subst (λ x. d.0 < x) (sym kept.table_is.devices) below) one place number_is fell.marks fell.spare fell.runs fell.sealed fell.counted kept)
   where
     w : Setting
     w = h.setting
@@ -178,6 +180,7 @@ order_undo_died {rounds = rounds} h h₁ h₂ g f held d r v number line after t
       line_is = subst (MarksAreKept (entry w (entry w n (Fell d)) (Undid (run_no r) d false)) (put g d.0 None)) (sym (fell.marks ∙ (λ i. with_item (place i) (Failed d (number_is i)) line.marks)))
           (marks_undone w (entry w n (Fell d)) (put g d.0 None) r d.0 false _ (marks_undo_home (entry w n (Fell d)) g r d.0 v _ at (marks_fell w n g d line.marks kept.line_is)));
       sealed = fell.sealed;
+      runs = subst (AreKeptOf w.runs) (sym fell.runs) kept.runs;
       room = let size = ap (λ (x : List Mark). length x) fell.marks ∙ length_with (event_place h.history None (accesses_at table d.0) line.marks) (Failed d number) line.marks in omega (arith, size, fell.spare, kept.room);
     }))))
   where

@@ -1,13 +1,16 @@
 -- A run that follows another is placed after the end of that one and stands behind it, with one entry more.
 use Rattle.command_rules.specs.Items.{is_ran}
 use Rattle.command_rules.specs.Rosters.{followed_by, follows, run_no}
+use Rattle.history_book.proofs.Followers.{line_follows}
 use Rattle.history_book.proofs.Lines.{any_insert, any_left, any_other, any_put_before, any_without}
 use Rattle.history_book.proofs.Shapes.{put_all}
 use Rattle.history_book.proofs.Snoc.{put_keeps, put_other}
+use Rattle.history_book.proofs.Splits.{line_any}
 use Rattle.history_book.proofs.Standing.{Standing, is_abort}
+use Rattle.history_book.specs.Gaps.{front_for, line_for, split_of}
 use Rattle.history_book.specs.Histories.{entry}
 use Rattle.history_book.specs.Lines.{behind, put_before, without}
-use Rattle.history_book.specs.Plans.{planned_times, split_of}
+use Rattle.history_book.specs.Plans.{planned_times}
 use Rattle.history_book.specs.Readings.{OfRun, PlacedAt, Reading, is_committed, is_committing, nothing_read, put}
 use Rattle.history_book.specs.Settings.{Setting}
 use Rattle.history_book.specs.declared.entries.End.{End}
@@ -21,7 +24,7 @@ use Rattle.hub_core.proofs.windows.StrongChoices.{IsPlacing}
 use Rattle.hub_core.specs.HubKept.{FollowersStand}
 use Rattle.lock_leasing.specs.Configurations.{Grips}
 use Rattle.lock_leasing.specs.Order.{is_in_line}
-use Rattle.lock_leasing.specs.Places.{binds}
+use Rattle.lock_leasing.specs.Places.{binds, in_order}
 use Rattle.lock_leasing.specs.Waits.{follow_wait}
 use Rattle.std.proofs.Common.{ap, arith, cond, refl, subst, sym, ◌∙◌}
 use Rattle.std.proofs.Math.Bool.{or-true}
@@ -176,7 +179,7 @@ unbound w n g r f (Ran x ∷ is) bound none = elim (x.0 == f) as (λ b. (x.0 == 
 unbound w n g r f (Failed d k ∷ is) bound none = unbound w n g r f is bound (grind (arith, common_steps))
 unbound w n g r f (Back d k ∷ is) bound none = unbound w n g r f is bound (grind (arith, common_steps))
 
-pub followed_placed : (w : Setting) (n : Reading) (g : Grips) (r at m : ℕ) → Standing n → is_none (n.run r).placed ≡ true → IsPlacing w n g r at → FollowersStand w n → FollowersStand w (entry w n (Placed (run_no r) at m))
+pub followed_placed : (w : Setting) (n : Reading) (g : Grips) (r at m : ℕ) → Standing n → is_none (n.run r).placed ≡ true → IsPlacing w n g r at m → FollowersStand w n → FollowersStand w (entry w n (Placed (run_no r) at m))
 unfolding split_of
 followed_placed w n g r at m stands unplaced place all = record { ended = ends; behind_it = stands_behind }
   where
@@ -184,16 +187,19 @@ followed_placed w n g r at m stands unplaced place all = record { ended = ends; 
     next = entry w n (Placed (run_no r) at m)
 
     new : OfRun
-    new = record (n.run r) { placed = Some (record { place = at; moment = m; stamp = n.size }); planned = planned_times w n r (split_of w n r at m).front m }
+    new = record (n.run r) { placed = Some (record { place = at; moment = m; stamp = n.size }); planned = planned_times w n r (front_for w n r at m) m }
+
+    line : List Item
+    line = line_for w n r m
 
     front : List Item
-    front = take at n.line
+    front = take at line
 
     back : List Item
-    back = drop at n.line
+    back = drop at line
 
-    parted : front ++ back ≡ n.line
-    parted = take-append-drop at n.line
+    parted : front ++ back ≡ line
+    parted = take-append-drop at line
 
     end_is : (q : ℕ) → is_some (next.run q).ended ≡ is_some (n.run q).ended
     end_is q = put_keeps (λ o. is_some o.ended) n.run r new refl q
@@ -213,7 +219,7 @@ followed_placed w n g r at m stands unplaced place all = record { ended = ends; 
     ] refl
 
     there_is : (q : ℕ) → is_in_line next q ≡ ((r == q) || is_in_line n q)
-    there_is q = any_insert (is_ran q) front back (Ran (run_no r)) ∙ ap (λ b. (r == q) || b) (ap (list_any (is_ran q)) parted)
+    there_is q = any_insert (is_ran q) front back (Ran (run_no r)) ∙ ap (λ b. (r == q) || b) (ap (list_any (is_ran q)) parted ∙ line_any w n r m (is_ran q))
 
     -- a run of the line that has ended is committed
     committed : (q : ℕ) → is_in_line n q ≡ true → is_some (n.run q).ended ≡ true → is_committed n q ≡ true
@@ -229,7 +235,8 @@ followed_placed w n g r at m stands unplaced place all = record { ended = ends; 
     behind_leader : (f : ℕ) → follows w.runs r f ≡ true → is_in_line n f ≡ true → is_some (n.run f).ended ≡ true → list_any (is_ran r) (behind f next.line) ≡ true
     behind_leader f leads here over =
         let done : is_committed n f ≡ true = committed f here over in
-        behind_front (is_ran r) f front (Ran (run_no r) ∷ back) (any_left (is_ran f) at n.line here (unbound w n g r f back (rw (leads, done) refl) place.clear)) (itself (list_any (is_ran r) back))
+        let bound : (follows w.runs r f && is_committed n f) ≡ true = rw (leads, done) refl in
+        behind_front (is_ran r) f front (Ran (run_no r) ∷ back) (any_left (is_ran f) at line (line_any w n r m (is_ran f) ∙ here) (unbound w (in_order n line) g r f back bound place.clear)) (itself (list_any (is_ran r) back))
       where
         itself : (b : Bool) → ((r == r) || b) ≡ true
         itself b = grind (arith, common_steps)
@@ -240,8 +247,8 @@ followed_placed w n g r at m stands unplaced place all = record { ended = ends; 
     placed_in : (q : ℕ) → is_in_line n q ≡ true → is_some (n.run q).placed ≡ true
     placed_in q here = (and_parts (is_some (n.run q).placed) (not (unwrap_or (option_map is_abort (n.run q).ended) false)) (sym (stands.line q) ∙ here)).0
 
-    leads_is : (f : RunNo) → followed_by w.runs r ≡ Some f → follows w.runs r f.0 ≡ true
-    leads_is f leads = ap (λ o. unwrap_or (option_map (λ q. q.0 == f.0) o) false) leads ∙ eq-eqb f.0 _ refl
+    leads_to : (q : ℕ) (f : RunNo) → followed_by w.runs q ≡ Some f → follows w.runs q f.0 ≡ true
+    leads_to q f leads = ap (λ o. unwrap_or (option_map (λ q. q.0 == f.0) o) false) leads ∙ eq-eqb f.0 _ refl
 
     stands_behind : (q : ℕ) (f : RunNo) → followed_by w.runs q ≡ Some f → is_in_line next q ≡ true → is_in_line next f.0 ≡ true → list_any (is_ran q) (behind f.0 next.line) ≡ true
     stands_behind q f leads here there = elim (r == f.0) as (λ b. (r == f.0) ≡ b → list_any (is_ran q) (behind f.0 next.line) ≡ true) [
@@ -259,8 +266,8 @@ followed_placed w n g r at m stands unplaced place all = record { ended = ends; 
         by_run was apart = elim (r == q) as (λ b. (r == q) ≡ b → list_any (is_ran q) (behind f.0 next.line) ≡ true) [
           | true ↦ (λ e. let same : r ≡ q = grind (arith, common_steps) in
               let of_r : followed_by w.runs r ≡ Some f = ap (followed_by w.runs) same ∙ leads in
-              subst (λ k. list_any (is_ran k) (behind f.0 next.line) ≡ true) same (behind_leader f.0 (leads_is f of_r) was (leader_ended w n r f place.leader of_r)))
-          | false ↦ (λ e. behind_insert (is_ran q) f.0 (Ran (run_no r)) front back apart (ap (λ l. list_any (is_ran q) (behind f.0 l)) parted ∙ all.behind_it q f leads (apart_in q e here) was))
+              subst (λ k. list_any (is_ran k) (behind f.0 next.line) ≡ true) same (behind_leader f.0 (leads_to r f of_r) was (leader_ended w n r f place.leader of_r)))
+          | false ↦ (λ e. behind_insert (is_ran q) f.0 (Ran (run_no r)) front back apart (ap (λ l. list_any (is_ran q) (behind f.0 l)) parted ∙ line_follows w n r m q f.0 (leads_to q f leads) (all.behind_it q f leads (apart_in q e here) was)))
         ] refl
 
 -- At the start, and at the end

@@ -8,7 +8,8 @@ use Rattle.history_book.proofs.Snoc.{Along_more, each_more, entries_on, put_keep
 use Rattle.history_book.proofs.Standing.{Standing, standing, stands_in}
 use Rattle.history_book.specs.Histories.{entries_of, entry, kept_by, moment_of, reading}
 use Rattle.history_book.specs.Lines.{before, without}
-use Rattle.history_book.specs.Plans.{planned_times, split_of}
+use Rattle.history_book.specs.Gaps.{front_for}
+use Rattle.history_book.specs.Plans.{planned_times}
 use Rattle.history_book.specs.Readings.{OfRun, PlacedAt, Reading, did, has_written, is_live, nothing_read, put}
 use Rattle.history_book.specs.Settings.{Setting, devices_of, is_strict, scheduler_of}
 use Rattle.history_book.specs.WellFormed.{each_entry, may_follow}
@@ -145,8 +146,8 @@ has_none g r none d = by_grip (g d) (none d)
     by_grip (Some p) e = grind (arith, common_steps)
 
 -- a run is placed at the end
-last_turn : (w : Setting) (n : Reading) (g : Grips) (r m : ℕ) → Standing n → is_none (n.run r).placed ≡ true → ((d : ℕ) → did n r d ≡ false) → ((d : ℕ) → has_grip g r d ≡ false) → ActsInTurn w n g → ActsInTurn w (entry w n (Placed (run_no r) (length n.line) m)) g
-last_turn w n g r m stands unplaced untouched' gripless turn q d acts = elim (q == r) as (λ b. (q == r) ≡ b → strict_wait w then' q ≡ None) [
+last_turn : (w : Setting) (n : Reading) (g : Grips) (r m : ℕ) → scheduler_of w.mode ≡ Fcfs → Standing n → is_none (n.run r).placed ≡ true → ((d : ℕ) → did n r d ≡ false) → ((d : ℕ) → has_grip g r d ≡ false) → ActsInTurn w n g → ActsInTurn w (entry w n (Placed (run_no r) (length n.line) m)) g
+last_turn w n g r m first stands unplaced untouched' gripless turn q d acts = elim (q == r) as (λ b. (q == r) ≡ b → strict_wait w then' q ≡ None) [
   | true ↦ (λ at. absurd (idle (grind (arith, common_steps))))
   | false ↦ (λ at. others (grind (arith, common_steps)))
 ] refl
@@ -155,7 +156,7 @@ last_turn w n g r m stands unplaced untouched' gripless turn q d acts = elim (q 
     then' = entry w n (Placed (run_no r) (length n.line) m)
 
     new : OfRun
-    new = record (n.run r) { placed = Some (record { place = length n.line; moment = m; stamp = n.size }); planned = planned_times w n r (split_of w n r (length n.line) m).front m }
+    new = record (n.run r) { placed = Some (record { place = length n.line; moment = m; stamp = n.size }); planned = planned_times w n r (front_for w n r (length n.line) m) m }
 
     did_is : (x e : ℕ) → did then' x e ≡ did n x e
     did_is x e = put_keeps (λ o. is_some (o.on e).view) n.run r new refl x
@@ -179,21 +180,21 @@ last_turn w n g r m stands unplaced untouched' gripless turn q d acts = elim (q 
     others apart =
         let acts' : IsTrue (is_live n q && (has_touched n g q d || has_grip g q d)) = acts_more _ _ _ _ _ _ _ _ (same_true (live q apart)) (same_true (did_is q d)) (λ e. e) (λ e. e) acts in
         let there : list_any (is_ran q) n.line ≡ true = live_stands n q stands (grind (arith, common_steps)) in
-        strict_fewer_by w.runs w.kinds w.first w.mode.model w.mode.scheduler n then' q (ap (live_runs then') (ap (before q) (end_line w n r m) ∙ before_more q n.line (Ran (run_no r)) there)) (λ x among now. same_true (live x (other x (any_taken (is_ran x) _ n.line among))) now) (turn q d acts')
+        strict_fewer_by w.runs w.kinds w.first w.mode.model w.mode.scheduler n then' q (ap (live_runs then') (ap (before q) (end_line w n r m first) ∙ before_more q n.line (Ran (run_no r)) there)) (λ x among now. same_true (live x (other x (any_taken (is_ran x) _ n.line among))) now) (turn q d acts')
 
 -- .. or anywhere, where no run waits for another one by its model
 placing_turn : (w : Setting) (n : Reading) (g : Grips) (r at m : ℕ) → Standing n → is_none (n.run r).placed ≡ true → ((d : ℕ) → did n r d ≡ false) → ((d : ℕ) → has_grip g r d ≡ false) → (scheduler_of w.mode ≡ Fcfs → at ≡ length n.line) → ActsInTurn w n g → ActsInTurn w (entry w n (Placed (run_no r) at m)) g
-placing_turn w n g r at m stands unplaced untouched' gripless last turn q d acts = by_model w.mode.model w.mode.scheduler last (λ end. subst (λ k. ActsInTurn w (entry w n (Placed (run_no r) k m)) g) (sym end) (last_turn w n g r m stands unplaced untouched' gripless turn) q d acts)
+placing_turn w n g r at m stands unplaced untouched' gripless last turn q d acts = by_model w.mode.model w.mode.scheduler last (λ first end. subst (λ k. ActsInTurn w (entry w n (Placed (run_no r) k m)) g) (sym end) (last_turn w n g r m first stands unplaced untouched' gripless turn) q d acts)
   where
     then' : Reading
     then' = entry w n (Placed (run_no r) at m)
 
     by_model : (model : Visibility) (scheduler : Scheduler) → (scheduler_of (record { model = model; scheduler = scheduler }) ≡ Fcfs → at ≡ length n.line)
-        → (at ≡ length n.line → strict_wait (record { runs = w.runs; mode = record { model = model; scheduler = scheduler }; kinds = w.kinds; first = w.first }) then' q ≡ None)
+        → (scheduler_of (record { model = model; scheduler = scheduler }) ≡ Fcfs → at ≡ length n.line → strict_wait (record { runs = w.runs; mode = record { model = model; scheduler = scheduler }; kinds = w.kinds; first = w.first }) then' q ≡ None)
         → strict_wait (record { runs = w.runs; mode = record { model = model; scheduler = scheduler }; kinds = w.kinds; first = w.first }) then' q ≡ None
     by_model Weak scheduler end waitless = refl
-    by_model Global scheduler end waitless = waitless (end refl)
-    by_model Partitioned scheduler end waitless = waitless (end refl)
+    by_model Global scheduler end waitless = waitless refl (end refl)
+    by_model Partitioned scheduler end waitless = waitless refl (end refl)
     by_model Eventual scheduler end waitless = refl
 
 -- one device less is out
@@ -301,11 +302,11 @@ arrival_may s r m follows later kept =
 
 -- A run is placed at the end
 
-placing_order : (w : Setting) (n : Reading) (r m : ℕ) → Standing n → StampsAreBelow n → is_none (n.run r).placed ≡ true → IsTrue (placed_in_order n n.line) → IsTrue (placed_in_order (entry w n (Placed (run_no r) (length n.line) m)) (entry w n (Placed (run_no r) (length n.line) m)).line)
-placing_order w n r m stands stamps unplaced ordered = subst (λ l. IsTrue (placed_in_order then' l)) (sym (end_line w n r m)) (order_at_end n then' r n.line same below ordered)
+placing_order : (w : Setting) (n : Reading) (r m : ℕ) → scheduler_of w.mode ≡ Fcfs → Standing n → StampsAreBelow n → is_none (n.run r).placed ≡ true → IsTrue (placed_in_order n n.line) → IsTrue (placed_in_order (entry w n (Placed (run_no r) (length n.line) m)) (entry w n (Placed (run_no r) (length n.line) m)).line)
+placing_order w n r m first stands stamps unplaced ordered = subst (λ l. IsTrue (placed_in_order then' l)) (sym (end_line w n r m first)) (order_at_end n then' r n.line same below ordered)
   where
     new : OfRun
-    new = record (n.run r) { placed = Some (record { place = length n.line; moment = m; stamp = n.size }); planned = planned_times w n r (split_of w n r (length n.line) m).front m }
+    new = record (n.run r) { placed = Some (record { place = length n.line; moment = m; stamp = n.size }); planned = planned_times w n r (front_for w n r (length n.line) m) m }
 
     then' : Reading
     then' = entry w n (Placed (run_no r) (length n.line) m)
@@ -338,7 +339,7 @@ first_served Global scheduler e = refl
 first_served Partitioned scheduler e = refl
 first_served Eventual scheduler e = e
 
-pub placing_may : (s : Configuration) (r at m : ℕ) → may_follow s.setting (read_of s) (Placed (run_no r) at m) ≡ true → (read_of s).moment ≤ m → IsScheduled s.setting (read_of s) (Placed (run_no r) at m) → IsPlacing s.setting (read_of s) s.grips r at
+pub placing_may : (s : Configuration) (r at m : ℕ) → may_follow s.setting (read_of s) (Placed (run_no r) at m) ≡ true → (read_of s).moment ≤ m → IsScheduled s.setting (read_of s) (Placed (run_no r) at m) → IsPlacing s.setting (read_of s) s.grips r at m
     → is_none ((read_of s).run r).placed ≡ true → ((d : ℕ) → has_grip s.grips r d ≡ false) → HistoryIsKept s → MayAdd s (Placed (run_no r) at m) m s.grips
 placing_may s r at m follows later scheduled place unplaced gripless kept =
     record {
@@ -349,7 +350,8 @@ placing_may s r at m follows later scheduled place unplaced gripless kept =
       isolated = λ strict. refl;
       unrevoked = λ first_come. refl;
       moment = omega (arith, later);
-      in_order = λ first_come. subst (λ k. IsTrue (placed_in_order (entry s.setting n (Placed (run_no r) k m)) (entry s.setting n (Placed (run_no r) k m)).line)) (sym (place.last (first_served s.setting.mode.model s.setting.mode.scheduler first_come))) (placing_order s.setting n r m stands (stamps_below s.setting (entries_of s.history)) unplaced (kept.in_order first_come));
+      in_order = λ first_come. let first = first_served s.setting.mode.model s.setting.mode.scheduler first_come in
+          subst (λ k. IsTrue (placed_in_order (entry s.setting n (Placed (run_no r) k m)) (entry s.setting n (Placed (run_no r) k m)).line)) (sym (place.last first)) (placing_order s.setting n r m first stands (stamps_below s.setting (entries_of s.history)) unplaced (kept.in_order first_come));
       followed = followed_placed s.setting n s.grips r at m stands unplaced place kept.followed;
       in_turn = placing_turn s.setting n s.grips r at m stands unplaced (λ d. ap (λ o. is_some o.view) ((shapes s.setting (entries_of s.history) kept.well_formed r).clear unplaced d)) gripless place.last kept.in_turn;
       first = first_less n (entry s.setting n (Placed (run_no r) at m)) s.grips s.grips (λ q. put_keeps (λ o. o.answered_doomed) n.run r _ refl q) (same_grips s.grips) kept.first;

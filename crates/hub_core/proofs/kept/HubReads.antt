@@ -3,7 +3,8 @@ use Rattle.command_rules.specs.Rosters.{Run, command_at, is_run}
 use Rattle.history_book.proofs.Counts.{size_is}
 use Rattle.history_book.proofs.Snoc.{entries_on, put_keeps, put_other, put_same, reading_more}
 use Rattle.history_book.specs.Histories.{answered, entries_of, entry, reading}
-use Rattle.history_book.specs.Plans.{planned_times, split_of}
+use Rattle.history_book.specs.Gaps.{front_for}
+use Rattle.history_book.specs.Plans.{planned_times}
 use Rattle.history_book.specs.Readings.{OfRun, Reading, put}
 use Rattle.history_book.specs.Settings.{Setting}
 use Rattle.history_book.specs.declared.entries.Cause.{Cause}
@@ -184,4 +185,4 @@ places_beside w h h₂ n n₂ maker at m r progress p k run here more left =
     stamp = sym (size_is w (entries_of h) ∙ length-map h (λ (x : Kept). x.entry))
 
     placed_run : OfRun
-    placed_run = record (read.run r.0) { placed = Some (record { place = at; moment = m; stamp = read.size }); planned = planned_times w read r.0 (split_of w read r.0 at m).front m }
+    placed_run = record (read.run r.0) { placed = Some (record { place = at; moment = m; stamp = read.size }); planned = planned_times w read r.0 (front_for w read r.0 at m) m }

@@ -3,7 +3,7 @@ use Rattle.command_rules.specs.Rosters.{device_no, is_run, run_no}
 use Rattle.history_book.proofs.Searches.{some_is}
 use Rattle.history_book.specs.Histories.{entries_of, entry, kept_by, reading}
 use Rattle.history_book.specs.Lines.{Split}
-use Rattle.history_book.specs.Plans.{split_of}
+use Rattle.history_book.specs.Gaps.{split_of}
 use Rattle.history_book.specs.Readings.{PlacedAt, Reading, has_written, is_doomed, is_live, is_next_on, next_of, put, sees_down}
 use Rattle.history_book.specs.Settings.{Setting, is_device, is_weak, scheduler_of}
 use Rattle.history_book.specs.WellFormed.{along, may_follow}
@@ -32,7 +32,7 @@ use Rattle.hub_core.specs.HubKept.{ActsInTurn, ConfigurationIsKept, EachOut, His
 use Rattle.hub_core.specs.JustifiedAborts.{abort_is_justified, shows}
 use Rattle.hub_core.specs.Openings.{MayOpen, names_values_of}
 use Rattle.hub_core.specs.Steps.{HandsOut, Moves, after_choice, after_take, answers_down, at_moment, down_entries, opened}
-use Rattle.lock_leasing.proofs.ClearPlaces.{scheduled_is_clear}
+use Rattle.lock_leasing.proofs.ClearPlaces.{scheduled_is_clear, scheduled_stands}
 use Rattle.lock_leasing.proofs.Effects.{effect_is}
 use Rattle.lock_leasing.specs.Configurations.{Commands, Configuration, Grip, Grips, Probes, Purpose, Undoes, has_grip, is_command, is_out, read_of}
 use Rattle.lock_leasing.specs.Places.{At, DeniedBy, GripsFit, IsScheduled, MayBeOut, Placing, at_end, scheduled_place}
@@ -45,7 +45,8 @@ use Rattle.window_order.proofs.AnsweredDowns.{IsToldDown, down_doomed_kept, down
 use Rattle.window_order.proofs.ReadFacts.{IsRead, read_facts}
 use Rattle.window_order.proofs.Rollbacks.{aborts_kept, doomed_kept, dropped_kept, undo_goes_kept}
 use Rattle.window_order.proofs.Runs.{both}
-use Rattle.window_order.proofs.Steps.{arrives_kept, commits_kept, goes_kept, placed_kept, starts_kept}
+use Rattle.window_order.proofs.Joined.{joined_order}
+use Rattle.window_order.proofs.Steps.{arrives_kept, commits_kept, goes_kept, starts_kept}
 use Rattle.window_order.specs.OrderKept.{OrderIsKept}
 
 -- Restarts and probes
@@ -169,8 +170,8 @@ gripless w n g r d fit run gone = by_grip (g d) refl
     ] refl
 
 -- a place that the scheduler gives to a run that enters
-pub enters_place : (w : Setting) (n : Reading) (g : Grips) (r m : ℕ) (x : Split) → Enters w n g r m x → IsPlacing w n g r (length x.front)
-enters_place w n g r m x enters = let is = scheduled_is_clear w n g r m x enters.place in record { leader = enters.leader; clear = is.1.clear; sealed = is.1.sealed; within = is.1.within; last = λ first. last first }
+pub enters_place : (w : Setting) (n : Reading) (g : Grips) (r m : ℕ) (x : Split) → MayBeOut w n g → Enters w n g r m x → IsPlacing w n g r (length x.front) m
+enters_place w n g r m x out enters = let is = scheduled_stands w n g r m x enters.place in record { leader = enters.leader; clear = scheduled_is_clear w n g r m x out enters.place; sealed = is.sealed; within = is.within; last = λ first. last first }
   where
     front_of : Placing → ℕ
     front_of (At s) = length s.front
@@ -185,7 +186,7 @@ enters_place w n g r m x enters = let is = scheduled_is_clear w n g r m x enters
 -- .. is the scheduler's
 entered_is_scheduled : (w : Setting) (n : Reading) (g : Grips) (r m : ℕ) (x : Split) → MayBeOut w n g → Enters w n g r m x → IsScheduled w n (Placed (run_no r) (length x.front) m)
 unfolding split_of
-entered_is_scheduled w n g r m x out enters = let is = scheduled_is_clear w n g r m x enters.place in (g, out, enters.place ∙ ap At is.0, ap (λ y. length y.front) (sym is.0))
+entered_is_scheduled w n g r m x out enters = let is = scheduled_stands w n g r m x enters.place in (g, out, enters.place ∙ ap At is.parted, ap (λ y. length y.front) (sym is.parted))
 
 -- commands name values of their devices, and so do the first values
 pub values_fit : (s : Configuration) (rounds opened : ℕ) (held : ℕ → ℕ) → ConfigurationIsKept s rounds opened held → ValuesFit s.setting
@@ -208,9 +209,9 @@ take_kept s rounds opened held r m kept =
       arrives = λ run none ok shown clean. let follows : may_follow w n (Arrived (run_no r) now) ≡ true = first_follows w n (Arrived (run_no r) now) ok in
           moves (Arrived (run_no r) now) refl (arrival_may s r now follows later kept.history) (arrives_kept w n s.grips held r now read follows kept.order);
       enters = λ x enters ok shown clean. let follows : may_follow w n (Placed (run_no r) (length x.front) now) ≡ true = first_follows w n (Placed (run_no r) (length x.front) now) ok in
-          let place = enters_place w n s.grips r now x enters in
+          let place = enters_place w n s.grips r now x kept.order.grips.runs enters in
           moves (Placed (run_no r) (length x.front) now) refl (placing_may s r (length x.front) now follows later (entered_is_scheduled w n s.grips r now x kept.order.grips.runs enters) place enters.unplaced (λ d. gripless w n s.grips r d kept.order.grips enters.run (unplaced (n.run r).placed enters.unplaced)) kept.history)
-          (placed_kept w n s.grips held r (length x.front) now read follows place.clear kept.order);
+          (joined_order w n s.grips held r (length x.front) now read follows place.clear kept.order);
       aborted = λ cause act doomed over ok shown clean. let follows : may_follow w n (Ended (run_no r) (Aborted cause)) ≡ true = first_follows w n (Ended (run_no r) (Aborted cause)) ok in
           moves (Ended (run_no r) (Aborted cause)) refl (aborted_may s r now cause follows later kept.history) (aborts_kept w n s.grips held r cause read follows act.free (over kept.strong) kept.order);
       drops = λ cause d undoing down ok shown clean. let follows : may_follow w n (Undid (run_no r) (device_no d) false) ≡ true = first_follows w n (Undid (run_no r) (device_no d) false) ok in

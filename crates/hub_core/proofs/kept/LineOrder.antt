@@ -1,17 +1,19 @@
 -- The order of a line in which each run was placed before the runs behind it.
+use Rattle.command_rules.specs.ClosedSets.{rearranged}
 use Rattle.command_rules.specs.Items.{is_ran}
 use Rattle.command_rules.specs.Rosters.{Run, run_no, shares}
 use Rattle.history_book.proofs.Shapes.{put_all}
+use Rattle.history_book.specs.Gaps.{gap_set, split_of}
 use Rattle.history_book.specs.Histories.{entry, reading}
 use Rattle.history_book.specs.Lines.{before, without}
-use Rattle.history_book.specs.Plans.{split_of}
 use Rattle.history_book.specs.Readings.{OfRun, PlacedAt, Reading, is_live, nothing_read, put}
-use Rattle.history_book.specs.Settings.{Setting}
+use Rattle.history_book.specs.Settings.{Setting, scheduler_of}
 use Rattle.history_book.specs.declared.entries.Entry.{Entry}
 use Rattle.history_book.specs.declared.entries.Entry.TheVariants.{Arrived, Did, Doomed, Ended, Fell, Placed, Rose, Undid}
 use Rattle.home_types.specs.declared.items.Item.{Item}
 use Rattle.home_types.specs.declared.items.Item.TheVariants.{Back, Failed, Ran}
 use Rattle.home_types.specs.declared.kinds.Kind.{Kind}
+use Rattle.home_types.specs.declared.modes.Scheduler.TheVariants.{Fcfs, JustInTime, Timeline}
 use Rattle.home_types.specs.declared.modes.Scheduler.{Scheduler}
 use Rattle.home_types.specs.declared.modes.Visibility.{Visibility}
 use Rattle.home_types.specs.declared.modes.Visibility.TheVariants.{Eventual, Global, Partitioned, Weak}
@@ -80,11 +82,16 @@ same_order n m (Ran r ∷ is) same = rw (same_order n m is same, same r.0, same_
 same_order n m (Failed d k ∷ is) same = same_order n m is same
 same_order n m (Back d k ∷ is) same = same_order n m is same
 
--- the run stands at the end
-pub end_line : (w : Setting) (n : Reading) (r m : ℕ) → (entry w n (Placed (run_no r) (length n.line) m)).line ≡ n.line ++ Ran (run_no r) ∷ []
+-- the run stands at the end, where runs are served as they come
+pub end_line : (w : Setting) (n : Reading) (r m : ℕ) → scheduler_of w.mode ≡ Fcfs → (entry w n (Placed (run_no r) (length n.line) m)).line ≡ n.line ++ Ran (run_no r) ∷ []
 unfolding split_of
-end_line w n r m = by_line n.line
+end_line w n r m first = ap (λ l. take (length n.line) l ++ Ran (run_no r) ∷ drop (length n.line) l) (ap line first) ∙ by_line n.line
   where
+    line : Scheduler → List Item
+    line Fcfs = n.line
+    line JustInTime = n.line
+    line Timeline = rearranged (gap_set w n r m) n.line
+
     by_line : (line : List Item) → take (length line) line ++ Ran (run_no r) ∷ drop (length line) line ≡ line ++ Ran (run_no r) ∷ []
     by_line [] = refl
     by_line (i ∷ is) = ap (λ l. i ∷ l) (by_line is)

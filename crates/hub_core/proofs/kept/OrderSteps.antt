@@ -6,10 +6,11 @@ use Rattle.device_order.specs.Usages.{is_command as holds_command}
 use Rattle.history_book.proofs.Standing.{stands_in}
 use Rattle.history_book.proofs.Snoc.{along_on, each_at, entries_on, put_same, reading_more}
 use Rattle.history_book.specs.Histories.{entries_of, entry, kept_by, reading}
+use Rattle.history_book.specs.Gaps.{front_for, gap_set, line_for}
 use Rattle.history_book.specs.Plans.{planned_times}
 use Rattle.history_book.specs.Readings.{OfRun, Reading, did, is_doomed, next_of, nothing_read, pends, put}
 use Rattle.history_book.specs.Sealed.{sealed_in}
-use Rattle.history_book.specs.Settings.{Setting, is_weak}
+use Rattle.history_book.specs.Settings.{Setting, is_weak, scheduler_of}
 use Rattle.history_book.specs.WellFormed.{IsWellFormed, along, cause_fits, is_well_formed, may_act, may_follow}
 use Rattle.history_book.specs.declared.entries.End.TheVariants.{Aborted, Committed}
 use Rattle.history_book.specs.declared.entries.Entry.TheVariants.{Arrived, Did, Doomed, Ended, Placed, Undid}
@@ -29,8 +30,10 @@ use Rattle.lineage_table.specs.Accesses.{is_scheduled, status_of}
 use Rattle.lineage_table.specs.Lineages.{IsOpened, LineageState, committed_lineage, lineage_at, removed, undone, with_lineage}
 use Rattle.lineage_table.specs.declared.accesses.Status.TheVariants.{Acquired, Scheduled}
 use Rattle.lock_leasing.specs.Configurations.{Commands, Grip, Grips, Purpose, Undoes, grips_command, is_command, no_grips}
+use Rattle.serial_line.specs.KeptRuns.{AreKeptOf}
 use Rattle.serial_line.specs.Marks.{Mark, Marked, front_of, items_of, settling, touching, untouched, with_end, with_item, with_touch, without}
 use Rattle.std.proofs.Common.{ap, arith, cond, length-append, refl, subst, sym, ◌∙◌}
+use Rattle.hub_core.proofs.kept.Arranged.{as_they_stand, long_arranged, marks_arranged, marks_for, marks_joined}
 use Rattle.hub_core.proofs.kept.SealedOrders.{placed_sealed, same_sealed, sealed_is, touched_sealed}
 use Rattle.hub_core.proofs.kept.Sizes.{count_cons, one_at_most}
 use Rattle.hub_core.proofs.kept.TableFits.{committed_bare, doomed_bare, fits_changed, fits_ordered, fits_still, fits_weakly, removed_bare, undone_change_bare}
@@ -38,23 +41,24 @@ use Rattle.std.proofs.lemmas.List.{length-map, take-append-drop}
 use Rattle.std.specs.Prelude.{Bool, IsSome, IsTrue, List, None, Option, Some, [], count_by, drop, false, if◌then◌else◌, is_some, length, not, option_map, suc, take, true, unwrap_or, ℕ, ◌&&◌, ◌++◌, ◌+◌, ◌<◌, ◌==◌, ◌||◌, ◌∷◌, ◌≡◌, ◌≤◌}
 use Rattle.window_order.proofs.AnsweredDowns.{IsToldDown}
 use Rattle.window_order.proofs.AnsweredTables.{TouchesNow, answered_run, left_after}
+use Rattle.window_order.proofs.Joined.{joined_table}
 use Rattle.window_order.proofs.PlacedTables.{arrived_table, opened_table}
 use Rattle.window_order.proofs.PromisedWords.{command_held}
 use Rattle.window_order.proofs.ReadFacts.{IsRead, read_facts}
 use Rattle.window_order.proofs.Runs.{cut_live, run_positive}
 use Rattle.window_order.proofs.Steps.{IsOut, out_is}
 use Rattle.window_order.proofs.TableCalls.{status_there, touches_now, waits_there}
-use Rattle.window_order.proofs.TableSteps.{aborted_table, answered_table, changes_one, command_out_table, committed_table, doomed_each, doomed_table, placed_table, undid_table, undo_dropped_table, undo_out_table}
+use Rattle.window_order.proofs.TableSteps.{aborted_table, answered_table, changes_one, command_out_table, committed_table, doomed_each, doomed_table, undid_table, undo_dropped_table, undo_out_table}
 use Rattle.window_order.proofs.ToldTables.{told_table, told_touches_now}
 use Rattle.window_order.specs.MarksKept.{MarksAreKept}
-use Rattle.window_order.proofs.TouchedLines.{marks_aborted, marks_answered, marks_arrived, marks_begin, marks_committed, marks_doomed, marks_out, marks_placed, marks_undo_home, marks_undo_out, marks_undone}
+use Rattle.window_order.proofs.TouchedLines.{marks_aborted, marks_answered, marks_arrived, marks_begin, marks_committed, marks_doomed, marks_out, marks_undo_home, marks_undo_out, marks_undone}
 use Rattle.window_order.specs.OrderKept.{OrderIsKept}
 use Rattle.window_order.specs.TableChanges.{ChangesEach, answered_change, answered_lineage, doomed_lineage, is_done_there, placed_change, scheduled_on, told_write, undone_change}
 use Rattle.window_order.specs.TableKept.{LineageIsKept, TableIsKept}
 use Rattle.lock_leasing.specs.Tables.{view_when}
 use Rattle.history_book.specs.Readings.{is_told}
 use Rattle.history_book.specs.declared.entries.Cause.{Cause}
-use Rattle.lock_leasing.specs.Places.{GripsFit, IsClear}
+use Rattle.lock_leasing.specs.Places.{GripsFit, IsClear, in_order}
 use Rattle.std.proofs.lemmas.Bool.{and_parts, eqb-true, not-true}
 use Rattle.std.proofs.lemmas.Grind.{common_steps}
 use Rattle.window_order.proofs.Grips.{HoldsNone, held_none, none_left}
@@ -77,8 +81,8 @@ entry_kept {rounds = rounds} h h₂ g maker e line table new kept =
 
 -- The start
 
-pub order_begins : (rounds : ℕ) (w : Setting) (line : Marked) (table : List LineageState) → line.marks ≡ [] → line.sealed ≡ 0 → most_items (length w.runs) (length w.first) rounds ≤ line.spare → IsOpened w.runs w.first table → IsOrderOf rounds w (nothing_read w) no_grips line table
-order_begins rounds w line table none none_sealed room opened = record {
+pub order_begins : (rounds : ℕ) (w : Setting) (line : Marked) (table : List LineageState) → line.marks ≡ [] → line.sealed ≡ 0 → AreKeptOf w.runs line.runs → most_items (length w.runs) (length w.first) rounds ≤ line.spare → IsOpened w.runs w.first table → IsOrderOf rounds w (nothing_read w) no_grips line table
+order_begins rounds w line table none none_sealed runs room opened = record {
   table_is = record {
     devices = opened.devices;
     ordered = λ strong. opened_table w no_grips table opened;
@@ -86,6 +90,7 @@ order_begins rounds w line table none none_sealed room opened = record {
   };
   line_is = subst (MarksAreKept (nothing_read w) no_grips) (sym none) (marks_begin w);
   sealed = none_sealed ∙ ap front_of (sym none);
+  runs = runs;
   room = omega (arith, room);
 }
 
@@ -96,6 +101,7 @@ order_arrived {rounds = rounds} h h₂ g r m line table new kept = entry_kept h 
   table_is = fits_still h.setting (read_in h) _ g g table (λ d. refl) (λ own. arrived_table h.setting (read_in h) g r m table own) kept.table_is;
   line_is = marks_arrived h.setting (read_in h) g r m line.marks kept.line_is;
   sealed = kept.sealed;
+  runs = kept.runs;
   room = omega (arith, kept.room);
 })
 
@@ -108,16 +114,18 @@ length_with at x marks =
     let whole : length (take at marks ++ drop at marks) ≡ length marks = ap length (take-append-drop at marks) in
     omega (arith, after, before, whole)
 
--- .. at a clear place
-pub order_placed : {rounds : ℕ} (h h₂ : HistoryState) (g : Grips) (r at m : ℕ) (line after : Marked) (table later : List LineageState) → IsRead h.setting (read_in h) → GripsFit h.setting (read_in h) g → is_weak h.setting.mode ≡ false → IsClear h.setting (read_in h) g r at → sealed_in (read_in h) ≤ at
+-- .. at a place that is clear as the line stands then
+pub order_placed : {rounds : ℕ} (h h₂ : HistoryState) (g : Grips) (r at m : ℕ) (line after : Marked) (table later : List LineageState) → IsRead h.setting (read_in h) → GripsFit h.setting (read_in h) g → is_weak h.setting.mode ≡ false → IsClear h.setting (in_order (read_in h) (line_for h.setting (read_in h) r m)) g r at
     → h₂ ≡ with_entry h r (Placed (run_no r) at m) → IsWellFormed h₂.setting (entries_of h₂.history)
-    → after.marks ≡ with_item at (Ran (run_no r)) line.marks → after.spare + 1 ≡ line.spare → after.sealed ≡ line.sealed → ChangesEach (scheduled_on h.setting.runs r (planned_times h.setting (read_in h) r (take at (read_in h).line) m) (drop at (items_of line.marks))) table later
+    → after.marks ≡ with_item at (Ran (run_no r)) (marks_for h.setting (read_in h) r m line.marks) → after.spare + 1 ≡ line.spare → after.runs ≡ line.runs → IsSealed after
+    → ChangesEach (scheduled_on h.setting.runs r (planned_times h.setting (read_in h) r (front_for h.setting (read_in h) r at m) m) (drop at (items_of (marks_for h.setting (read_in h) r m line.marks)))) table later
     → OrderIsBeside rounds h g line table → OrderIsBeside rounds h₂ g after later
-order_placed {rounds = rounds} h h₂ g r at m line after table later read fit strong clear behind new formed marks spare stays changes kept = entry_kept h h₂ g r (Placed (run_no r) at m) after later new (record {
-  table_is = fits_ordered w _ g later strong (placed_table w n g r at m table later read may clear changed (kept.table_is.ordered strong));
-  line_is = subst (MarksAreKept (entry w n (Placed (run_no r) at m)) g) (sym marks) (marks_placed w n g r at m line.marks read fit may kept.line_is);
-  sealed = placed_sealed (run_no r) at line after (let is = sealed_is w n g line read kept.line_is kept.sealed in omega (arith, behind, is)) marks stays kept.sealed;
-  room = let size = ap (λ (x : List Mark). length x) marks ∙ length_with at (Ran (run_no r)) line.marks in omega (arith, size, spare, kept.room);
+order_placed {rounds = rounds} h h₂ g r at m line after table later read fit strong clear new formed marks spare runs sealed changes kept = entry_kept h h₂ g r (Placed (run_no r) at m) after later new (record {
+  table_is = fits_ordered w _ g later strong (joined_table w n g r at m table later read may clear changed (kept.table_is.ordered strong));
+  line_is = subst (MarksAreKept (entry w n (Placed (run_no r) at m)) g) (sym marks) (marks_joined w n g r at m line.marks read fit may kept.line_is);
+  sealed = sealed;
+  runs = subst (AreKeptOf w.runs) (sym runs) kept.runs;
+  room = let size = ap (λ (x : List Mark). length x) marks ∙ length_with at (Ran (run_no r)) (marks_for w n r m line.marks) ∙ ap (λ k. k + 1) (long_arranged (scheduler_of w.mode) (gap_set w n r m) line.marks) in omega (arith, size, spare, kept.room);
 })
   where
     w : Setting
@@ -129,16 +137,17 @@ order_placed {rounds = rounds} h h₂ g r at m line after table later read fit s
     may : may_follow w n (Placed (run_no r) at m) ≡ true
     may = last_follows w h.history r (Placed (run_no r) at m) (subst (λ (x : HistoryState). IsWellFormed x.setting (entries_of x.history)) new formed)
 
-    changed : ChangesEach (placed_change w n r at m) table later
-    changed = subst (λ is. ChangesEach (scheduled_on w.runs r (planned_times w n r (take at n.line) m) (drop at is)) table later) kept.line_is.items changes
+    changed : ChangesEach (placed_change w (in_order n (line_for w n r m)) r at (planned_times w n r (front_for w n r at m) m)) table later
+    changed = subst (λ is. ChangesEach (scheduled_on w.runs r (planned_times w n r (front_for w n r at m) m) (drop at is)) table later) (marks_arranged w n g r m line.marks kept.line_is).items changes
 
 -- .. under the weak model, where it has no access
 pub order_joined : {rounds : ℕ} (h h₂ : HistoryState) (g : Grips) (r at m : ℕ) (line after : Marked) (table : List LineageState) → is_weak h.setting.mode ≡ true → IsRead h.setting (read_in h) → GripsFit h.setting (read_in h) g → sealed_in (read_in h) ≤ at → h₂ ≡ with_entry h r (Placed (run_no r) at m) → IsWellFormed h₂.setting (entries_of h₂.history)
-    → after.marks ≡ with_item at (Ran (run_no r)) line.marks → after.spare + 1 ≡ line.spare → after.sealed ≡ line.sealed → OrderIsBeside rounds h g line table → OrderIsBeside rounds h₂ g after table
-order_joined {rounds = rounds} h h₂ g r at m line after table weak read fit behind new formed marks spare stays kept = entry_kept h h₂ g r (Placed (run_no r) at m) after table new (record {
+    → after.marks ≡ with_item at (Ran (run_no r)) line.marks → after.spare + 1 ≡ line.spare → after.runs ≡ line.runs → after.sealed ≡ line.sealed → OrderIsBeside rounds h g line table → OrderIsBeside rounds h₂ g after table
+order_joined {rounds = rounds} h h₂ g r at m line after table weak read fit behind new formed marks spare runs stays kept = entry_kept h h₂ g r (Placed (run_no r) at m) after table new (record {
   table_is = fits_weakly w n _ g g table weak (λ d. refl) kept.table_is;
-  line_is = subst (MarksAreKept (entry w n (Placed (run_no r) at m)) g) (sym marks) (marks_placed w n g r at m line.marks read fit may kept.line_is);
+  line_is = subst (MarksAreKept (entry w n (Placed (run_no r) at m)) g) (sym marks) (subst (λ ms. MarksAreKept (entry w n (Placed (run_no r) at m)) g (with_item at (Ran (run_no r)) ms)) (as_they_stand w n r m line.marks weak) (marks_joined w n g r at m line.marks read fit may kept.line_is));
   sealed = placed_sealed (run_no r) at line after (let is = sealed_is w n g line read kept.line_is kept.sealed in omega (arith, behind, is)) marks stays kept.sealed;
+  runs = subst (AreKeptOf w.runs) (sym runs) kept.runs;
   room = let size = ap (λ (x : List Mark). length x) marks ∙ length_with at (Ran (run_no r)) line.marks in omega (arith, size, spare, kept.room);
 })
   where
@@ -154,11 +163,12 @@ order_joined {rounds = rounds} h h₂ g r at m line after table weak read fit be
 -- A run commits
 
 pub order_committed : {rounds : ℕ} (h h₂ : HistoryState) (g : Grips) (r : ℕ) (line after : Marked) (table later : List LineageState) → IsRead h.setting (read_in h) → GripsFit h.setting (read_in h) g → h₂ ≡ with_entry h r (Ended (run_no r) Committed) → IsWellFormed h₂.setting (entries_of h₂.history)
-    → after.marks ≡ settling r line.marks → after.spare ≡ line.spare → IsSealed after → ChangesEach (λ d. committed_lineage r) table later → OrderIsBeside rounds h g line table → OrderIsBeside rounds h₂ g after later
-order_committed {rounds = rounds} h h₂ g r line after table later read fit new formed marks spare sealed changes kept = entry_kept h h₂ g r (Ended (run_no r) Committed) after later new (record {
+    → after.marks ≡ settling r line.marks → after.spare ≡ line.spare → after.runs ≡ line.runs → IsSealed after → ChangesEach (λ d. committed_lineage r) table later → OrderIsBeside rounds h g line table → OrderIsBeside rounds h₂ g after later
+order_committed {rounds = rounds} h h₂ g r line after table later read fit new formed marks spare runs sealed changes kept = entry_kept h h₂ g r (Ended (run_no r) Committed) after later new (record {
   table_is = fits_changed w n _ g g (λ d. committed_lineage r) table later (λ d. refl) (λ d. committed_bare r) changes (λ own. committed_table w n g r table later read fit may changes own) kept.table_is;
   line_is = subst (MarksAreKept (entry w n (Ended (run_no r) Committed)) g) (sym marks) (marks_committed w n g r line.marks kept.line_is);
   sealed = sealed;
+  runs = subst (AreKeptOf w.runs) (sym runs) kept.runs;
   room = let size = ap (λ (x : List Mark). length x) marks ∙ length-map line.marks (with_end r) in omega (arith, size, spare, kept.room);
 })
   where
@@ -177,11 +187,12 @@ length_touching : (r d : ℕ) (marks : List Mark) → length (touching r d marks
 length_touching r d marks = length-map marks (with_touch r d)
 
 pub order_out : {rounds : ℕ} (h : HistoryState) (g f : Grips) (r d k : ℕ) (line after : Marked) (table later : List LineageState) → g d ≡ None → is_doomed (read_in h) r ≡ false → pends h.setting (read_in h) r d ≡ true → f ≡ put g d (Some (record { maker = r; purpose = Commands k }))
-    → after.marks ≡ touching r d line.marks → after.spare ≡ line.spare → after.sealed ≡ line.sealed → later ≡ table → OrderIsBeside rounds h g line table → OrderIsBeside rounds h f after later
-order_out {rounds = rounds} h g f r d k line after table later home sound pending out marks spare stays same kept = subst (λ (x : Grips). IsOrderOf rounds w n x after later) (sym out) (record {
+    → after.marks ≡ touching r d line.marks → after.spare ≡ line.spare → after.runs ≡ line.runs → after.sealed ≡ line.sealed → later ≡ table → OrderIsBeside rounds h g line table → OrderIsBeside rounds h f after later
+order_out {rounds = rounds} h g f r d k line after table later home sound pending out marks spare runs stays same kept = subst (λ (x : Grips). IsOrderOf rounds w n x after later) (sym out) (record {
   table_is = subst (TableFits w n (put g d (Some (record { maker = r; purpose = Commands k })))) (sym same) (fits_still w n n g _ table (λ e. refl) (λ own. command_out_table w n g d r k table home sound pending own) kept.table_is);
   line_is = subst (MarksAreKept n (put g d (Some (record { maker = r; purpose = Commands k })))) (sym marks) (marks_out n g r d k line.marks home kept.line_is);
   sealed = touched_sealed r d line after marks stays kept.sealed;
+  runs = subst (AreKeptOf w.runs) (sym runs) kept.runs;
   room = let size = ap (λ (x : List Mark). length x) marks ∙ length_touching r d line.marks in omega (arith, size, spare, kept.room);
 })
   where
@@ -194,11 +205,12 @@ order_out {rounds = rounds} h g f r d k line after table later home sound pendin
 -- An undo goes out
 
 pub order_undo_out : {rounds : ℕ} (h : HistoryState) (g f : Grips) (r d v : ℕ) (line after : Marked) (table later : List LineageState) → IsRead h.setting (read_in h) → g d ≡ None → d < length table → f ≡ put g d (Some (record { maker = r; purpose = Undoes v }))
-    → after.marks ≡ line.marks → after.spare ≡ line.spare → after.sealed ≡ line.sealed → later ≡ with_lineage table d (undone r) → OrderIsBeside rounds h g line table → OrderIsBeside rounds h f after later
-order_undo_out {rounds = rounds} h g f r d v line after table later read home below out marks spare stays changed kept = subst (λ (x : Grips). IsOrderOf rounds w n x after later) (sym out) (record {
+    → after.marks ≡ line.marks → after.spare ≡ line.spare → after.runs ≡ line.runs → after.sealed ≡ line.sealed → later ≡ with_lineage table d (undone r) → OrderIsBeside rounds h g line table → OrderIsBeside rounds h f after later
+order_undo_out {rounds = rounds} h g f r d v line after table later read home below out marks spare runs stays changed kept = subst (λ (x : Grips). IsOrderOf rounds w n x after later) (sym out) (record {
   table_is = fits_changed w n n g _ (undone_change r d) table later (λ e. refl) (λ e. undone_change_bare r d e) changes (λ own. undo_out_table w n g d r v table later read home changes own) kept.table_is;
   line_is = subst (MarksAreKept n (put g d (Some (record { maker = r; purpose = Undoes v })))) (sym marks) (marks_undo_out n g r d v line.marks home kept.line_is);
   sealed = same_sealed line after marks stays kept.sealed;
+  runs = subst (AreKeptOf w.runs) (sym runs) kept.runs;
   room = let size = ap (λ (x : List Mark). length x) marks in omega (arith, size, spare, kept.room);
 })
   where
@@ -257,6 +269,7 @@ order_answered {rounds = rounds} h h₂ g f held d r k a view wrote last line af
       table_is = fits_ordered w _ _ later strong (answered_table w n g held d r k a table later read order at changes (kept.table_is.ordered strong));
       line_is = marks_answered w n g d r k a line.marks out at kept.line_is;
       sealed = kept.sealed;
+      runs = kept.runs;
       room = omega (arith, kept.room);
     })))
   where
@@ -300,6 +313,7 @@ order_answered_weakly {rounds = rounds} h h₂ g f d r k a line after table late
       table_is = fits_weakly w n m g (put g d None) table weak (λ e. refl) kept.table_is;
       line_is = marks_answered w n g d r k a line.marks (out_is w n g d r k fit at) at kept.line_is;
       sealed = kept.sealed;
+      runs = kept.runs;
       room = omega (arith, kept.room);
     }))))
   where
@@ -330,13 +344,14 @@ done_after w n r k a d number on = (λ i. ap (λ (o : OfRun). is_some o.doomed) 
     left = ap (λ (o : OfRun). touches_from w.runs r d (length o.answers)) (put_same n.run r (answered_run w n r k a)) ∙ left_after w n r k a d number
 
 pub order_told_down : {rounds : ℕ} (h h₂ : HistoryState) (g : Grips) (held : ℕ → ℕ) (r k : ℕ) (last : Bool) (line after : Marked) (table later : List LineageState) → IsToldDown h.setting (read_in h) g held r (command_at h.setting.runs r k) → (command_at h.setting.runs r k).device.0 < length h.setting.first → k ≡ next_of (read_in h) r
-    → h₂ ≡ with_entry h r (Did (run_no r) k Down) → last ≡ is_done_there h.setting (read_in h) r k → after.marks ≡ touching r (command_at h.setting.runs r k).device.0 line.marks → after.spare ≡ line.spare → after.sealed ≡ line.sealed
+    → h₂ ≡ with_entry h r (Did (run_no r) k Down) → last ≡ is_done_there h.setting (read_in h) r k → after.marks ≡ touching r (command_at h.setting.runs r k).device.0 line.marks → after.spare ≡ line.spare → after.runs ≡ line.runs → after.sealed ≡ line.sealed
     → later ≡ with_lineage table (command_at h.setting.runs r k).device.0 (noted_first r (is_first r (lineage_at table (command_at h.setting.runs r k).device.0)) ViewedDown None last)
     → OrderIsBeside rounds h g line table → OrderIsBeside rounds h₂ g after later
-order_told_down {rounds = rounds} h h₂ g held r k last line after table later told below number new last_is marks spare stays changed kept = entry_kept h h₂ g r (Did (run_no r) k Down) after later new (record {
+order_told_down {rounds = rounds} h h₂ g held r k last line after table later told below number new last_is marks spare runs stays changed kept = entry_kept h h₂ g r (Did (run_no r) k Down) after later new (record {
   table_is = fits_ordered w _ g later told.strong (subst (λ j. TableIsKept w (entry w n (Did (run_no r) j Down)) g later) (sym number) (told_table w n g held r c table later told (subst (λ j. ChangesEach (answered_change w n r j Down) table later) number changes) (kept.table_is.ordered told.strong)));
   line_is = subst (MarksAreKept (entry w n (Did (run_no r) k Down)) g) (sym marks) (marks_told w n g r k Down line.marks kept.line_is);
   sealed = touched_sealed r c.device.0 line after marks stays kept.sealed;
+  runs = subst (AreKeptOf w.runs) (sym runs) kept.runs;
   room = let size = ap (λ (x : List Mark). length x) marks ∙ length_touching r c.device.0 line.marks in omega (arith, size, spare, kept.room);
 })
   where
@@ -369,12 +384,13 @@ order_told_down {rounds = rounds} h h₂ g held r k last line after table later 
 
 -- .. under the weak model
 pub order_told_weakly : {rounds : ℕ} (h h₂ : HistoryState) (g : Grips) (r k : ℕ) (line after : Marked) (table later : List LineageState)
-    → is_weak h.setting.mode ≡ true → h₂ ≡ with_entry h r (Did (run_no r) k Down) → after.marks ≡ touching r (command_at h.setting.runs r k).device.0 line.marks → after.spare ≡ line.spare → after.sealed ≡ line.sealed → later ≡ table
+    → is_weak h.setting.mode ≡ true → h₂ ≡ with_entry h r (Did (run_no r) k Down) → after.marks ≡ touching r (command_at h.setting.runs r k).device.0 line.marks → after.spare ≡ line.spare → after.runs ≡ line.runs → after.sealed ≡ line.sealed → later ≡ table
     → OrderIsBeside rounds h g line table → OrderIsBeside rounds h₂ g after later
-order_told_weakly {rounds = rounds} h h₂ g r k line after table later weak new marks spare stays still kept = entry_kept h h₂ g r (Did (run_no r) k Down) after later new (subst (IsOrderOf rounds w (entry w n (Did (run_no r) k Down)) g after) (sym still) (record {
+order_told_weakly {rounds = rounds} h h₂ g r k line after table later weak new marks spare runs stays still kept = entry_kept h h₂ g r (Did (run_no r) k Down) after later new (subst (IsOrderOf rounds w (entry w n (Did (run_no r) k Down)) g after) (sym still) (record {
   table_is = fits_weakly w n _ g g table weak (λ d. refl) kept.table_is;
   line_is = subst (MarksAreKept (entry w n (Did (run_no r) k Down)) g) (sym marks) (marks_told w n g r k Down line.marks kept.line_is);
   sealed = touched_sealed r (command_at w.runs r k).device.0 line after marks stays kept.sealed;
+  runs = subst (AreKeptOf w.runs) (sym runs) kept.runs;
   room = let size = ap (λ (x : List Mark). length x) marks ∙ length_touching r (command_at w.runs r k).device.0 line.marks in omega (arith, size, spare, kept.room);
 }))
   where
@@ -392,6 +408,7 @@ order_doomed {rounds = rounds} h h₂ g r cause line after table later read fit 
   table_is = fits_changed w n _ g g (λ d. doomed_lineage r) table later (λ d. refl) (λ d. doomed_bare r) changes (λ own. doomed_table w n g r cause table later read fit sound (doomed_each g r None table later none changes) own) kept.table_is;
   line_is = marks_doomed w n g r cause line.marks kept.line_is;
   sealed = kept.sealed;
+  runs = kept.runs;
   room = omega (arith, kept.room);
 }))
   where
@@ -447,6 +464,7 @@ order_undone {rounds = rounds} h h₂ g f r d v line table new out home kept = e
   table_is = fits_still w n _ g _ table (λ e. refl) (λ own. undid_table w n g d r v table out own) kept.table_is;
   line_is = marks_undone w n (put g d None) r d true line.marks (marks_undo_home n g r d v line.marks out kept.line_is);
   sealed = kept.sealed;
+  runs = kept.runs;
   room = omega (arith, kept.room);
 }))
   where
@@ -463,6 +481,7 @@ order_dropped {rounds = rounds} h h₂ g r d line after table later read below n
   table_is = fits_changed w n _ g g (undone_change r d) table later (λ e. refl) (λ e. undone_change_bare r d e) changes (λ own. undo_dropped_table w n g d r false table later read changes own) kept.table_is;
   line_is = marks_undone w n g r d false line.marks kept.line_is;
   sealed = kept.sealed;
+  runs = kept.runs;
   room = omega (arith, kept.room);
 }))
   where
@@ -488,11 +507,12 @@ length_without r (m ∷ marks) = at_ (length_without r marks) (is_ran r m.item) 
     at_ ih false counted = omega (arith, ih, counted)
 
 pub order_aborted : {rounds : ℕ} (h h₂ : HistoryState) (g : Grips) (r : ℕ) (cause : Cause) (line after : Marked) (table later : List LineageState) → IsRead h.setting (read_in h) → h₂ ≡ with_entry h r (Ended (run_no r) (Aborted cause)) → IsWellFormed h₂.setting (entries_of h₂.history)
-    → after.marks ≡ without r line.marks → after.spare ≡ line.spare + 1 → IsSealed after → ChangesEach (λ d. removed r) table later → OrderIsBeside rounds h g line table → OrderIsBeside rounds h₂ g after later
-order_aborted {rounds = rounds} h h₂ g r cause line after table later read new formed marks spare sealed changes kept = entry_kept h h₂ g r (Ended (run_no r) (Aborted cause)) after later new (record {
+    → after.marks ≡ without r line.marks → after.spare ≡ line.spare + 1 → after.runs ≡ line.runs → IsSealed after → ChangesEach (λ d. removed r) table later → OrderIsBeside rounds h g line table → OrderIsBeside rounds h₂ g after later
+order_aborted {rounds = rounds} h h₂ g r cause line after table later read new formed marks spare runs sealed changes kept = entry_kept h h₂ g r (Ended (run_no r) (Aborted cause)) after later new (record {
   table_is = fits_changed w n _ g g (λ d. removed r) table later (λ d. refl) (λ d. removed_bare r) changes (λ own. aborted_table w n g r cause table later read may changes own) kept.table_is;
   line_is = subst (MarksAreKept (entry w n (Ended (run_no r) (Aborted cause))) g) (sym marks) (marks_aborted w n g r cause line.marks kept.line_is);
   sealed = sealed;
+  runs = subst (AreKeptOf w.runs) (sym runs) kept.runs;
   room =
       let size = ap (λ (x : List Mark). length x) marks in
       let left = length_without r line.marks in

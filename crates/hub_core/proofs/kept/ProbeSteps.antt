@@ -15,6 +15,7 @@ use Rattle.hub_core.specs.ReadHistories.{HistoryState, read_in, with_entry}
 use Rattle.lineage_table.specs.Lineages.{LineageState, counted_up, with_lineage}
 use Rattle.lock_leasing.specs.Configurations.{Grips, Probes, grips_command}
 use Rattle.lock_leasing.specs.Places.{GripsFit}
+use Rattle.serial_line.specs.KeptRuns.{AreKeptOf}
 use Rattle.serial_line.specs.Marks.{Mark, Marked, with_item}
 use Rattle.std.proofs.Common.{ap, arith, refl, subst, sym, ◌∙◌}
 use Rattle.std.specs.Prelude.{Bool, List, None, Option, Some, false, if◌then◌else◌, length, true, ℕ, ◌+◌, ◌<◌, ◌==◌, ◌≡◌, ◌≤◌}
@@ -32,6 +33,7 @@ order_probe_out {rounds = rounds} w n g f d v line table home gone kept = subst 
   table_is = fits_still w n n g _ table (λ e. refl) (λ own. probe_out_table w n g d 0 v table home own) kept.table_is;
   line_is = marks_probe_out n g d 0 v line.marks home kept.line_is;
   sealed = kept.sealed;
+  runs = kept.runs;
   room = kept.room;
 })
 
@@ -41,6 +43,7 @@ order_probe_home {rounds = rounds} w n g f d v line table out home kept = subst 
   table_is = fits_still w n n g _ table (λ e. refl) (λ own. probe_home_table w n g d 0 v table out own) kept.table_is;
   line_is = marks_probe_home n g d 0 v line.marks out kept.line_is;
   sealed = kept.sealed;
+  runs = kept.runs;
   room = kept.room;
 })
 
@@ -58,11 +61,12 @@ room_behind at most x line after marks spare room = let size = ap (λ (l : List 
 
 -- a device fails
 pub order_fell : {rounds : ℕ} (h h₂ : HistoryState) (g : Grips) (maker d number place : ℕ) (line after : Marked) (table later : List LineageState) → d < length table → h₂ ≡ with_entry h maker (Fell (device_no d)) → place ≡ event_place_of h.setting (read_in h) d → number ≡ (read_in h).fell d + 1
-    → after.marks ≡ with_item place (Failed (device_no d) number) line.marks → after.spare + 1 ≡ line.spare → IsSealed after → later ≡ with_lineage table d (counted_up false) → OrderIsBeside rounds h g line table → OrderIsBeside rounds h₂ g after later
-order_fell {rounds = rounds} h h₂ g maker d number place line after table later below new at counted marks spare sealed changed kept = entry_kept h h₂ g maker (Fell (device_no d)) after later new (record {
+    → after.marks ≡ with_item place (Failed (device_no d) number) line.marks → after.spare + 1 ≡ line.spare → after.runs ≡ line.runs → IsSealed after → later ≡ with_lineage table d (counted_up false) → OrderIsBeside rounds h g line table → OrderIsBeside rounds h₂ g after later
+order_fell {rounds = rounds} h h₂ g maker d number place line after table later below new at counted marks spare runs sealed changed kept = entry_kept h h₂ g maker (Fell (device_no d)) after later new (record {
   table_is = fits_turned w n (entry w n (Fell (device_no d))) g g (turned_change d false) table later (turned_bare n (entry w n (Fell (device_no d))) d false (λ e. refl)) changes (λ own. fell_table w n g (device_no d) table later changes own) kept.table_is;
   line_is = subst (MarksAreKept (entry w n (Fell (device_no d))) g) (sym (marks ∙ (λ i. with_item (at i) (Failed (device_no d) (counted i)) line.marks))) (marks_fell w n g (device_no d) line.marks kept.line_is);
   sealed = sealed;
+  runs = subst (AreKeptOf w.runs) (sym runs) kept.runs;
   room = room_behind place _ (Failed (device_no d) number) line after marks spare kept.room;
 })
   where
@@ -77,11 +81,12 @@ order_fell {rounds = rounds} h h₂ g maker d number place line after table late
 
 -- it is back
 pub order_rose : {rounds : ℕ} (h h₂ : HistoryState) (g : Grips) (maker d number place : ℕ) (line after : Marked) (table later : List LineageState) → d < length table → h₂ ≡ with_entry h maker (Rose (device_no d)) → place ≡ event_place_of h.setting (read_in h) d → number ≡ (read_in h).rose d + 1
-    → after.marks ≡ with_item place (Back (device_no d) number) line.marks → after.spare + 1 ≡ line.spare → IsSealed after → later ≡ with_lineage table d (counted_up true) → OrderIsBeside rounds h g line table → OrderIsBeside rounds h₂ g after later
-order_rose {rounds = rounds} h h₂ g maker d number place line after table later below new at counted marks spare sealed changed kept = entry_kept h h₂ g maker (Rose (device_no d)) after later new (record {
+    → after.marks ≡ with_item place (Back (device_no d) number) line.marks → after.spare + 1 ≡ line.spare → after.runs ≡ line.runs → IsSealed after → later ≡ with_lineage table d (counted_up true) → OrderIsBeside rounds h g line table → OrderIsBeside rounds h₂ g after later
+order_rose {rounds = rounds} h h₂ g maker d number place line after table later below new at counted marks spare runs sealed changed kept = entry_kept h h₂ g maker (Rose (device_no d)) after later new (record {
   table_is = fits_turned w n (entry w n (Rose (device_no d))) g g (turned_change d true) table later (turned_bare n (entry w n (Rose (device_no d))) d true (λ e. refl)) changes (λ own. rose_table w n g (device_no d) table later changes own) kept.table_is;
   line_is = subst (MarksAreKept (entry w n (Rose (device_no d))) g) (sym (marks ∙ (λ i. with_item (at i) (Back (device_no d) (counted i)) line.marks))) (marks_rose w n g (device_no d) line.marks kept.line_is);
   sealed = sealed;
+  runs = subst (AreKeptOf w.runs) (sym runs) kept.runs;
   room = room_behind place _ (Back (device_no d) number) line after marks spare kept.room;
 })
   where
@@ -101,6 +106,7 @@ order_lost {rounds = rounds} h h₂ g maker r cause out line after table later r
   table_is = fits_changed w n _ g g (doomed_unless out r) table later (λ d. refl) (λ d. unless_bare out r d) changes (λ own. doomed_unless_table w n g r cause out table later read fit sound same changes own) kept.table_is;
   line_is = marks_doomed w n g r cause line.marks kept.line_is;
   sealed = kept.sealed;
+  runs = kept.runs;
   room = kept.room;
 }))
   where

@@ -9,7 +9,7 @@ use Rattle.history_book.proofs.Splits.{split_count}
 use Rattle.history_book.proofs.Standing.{stands_in}
 use Rattle.history_book.specs.Histories.{answered, entries_of, entry, reading}
 use Rattle.history_book.specs.Lines.{without}
-use Rattle.history_book.specs.Plans.{split_of}
+use Rattle.history_book.specs.Gaps.{split_of}
 use Rattle.history_book.specs.Readings.{OfRun, OnDevice, Reading, nothing_read, put, unread}
 use Rattle.history_book.specs.Settings.{Setting}
 use Rattle.history_book.specs.WellFormed.{IsWellFormed, along, may_follow}

@@ -31,16 +31,16 @@ use Rattle.hub_core.specs.declared.waits.Why.TheVariants.{Behind, Busy, Dirty, F
 use Rattle.lock_leasing.proofs.FirstRuns.{first_live, waits_for_none}
 use Rattle.lock_leasing.specs.Configurations.{Commands, Configuration, Grips, Undoes, has_grip, is_out, read_of}
 use Rattle.lock_leasing.specs.FirstRuns.{IsFirstLive, WaitsForNone}
-use Rattle.lock_leasing.specs.Places.{At, Denial, DeniedBy, Placing, at_end, denied_by, first_place, first_some, fits, just_in_time, patience, scheduled_place, timeline}
+use Rattle.lock_leasing.specs.Places.{At, Denial, DeniedBy, Placing, at_end, denied_by, first_place, first_some, just_in_time, patience, scheduled_place, timeline}
 use Rattle.lock_leasing.specs.Waits.{behind_wait, busy_wait, dirty_wait, down_at_end, follow_wait, grip_wait, strict_wait}
 use Rattle.lock_leasing.specs.Words.{effective_writer_of, holds_device, is_overdue, live_before, live_runs, next_undo_of, value_without}
 use Rattle.std.proofs.Common.{ap, arith, cond, refl, sym, ◌∙◌}
 use Rattle.std.proofs.Math.Bool.{and-false}
 use Rattle.std.proofs.lemmas.Bool.{both_ways}
 use Rattle.std.proofs.lemmas.Grind.{common_steps}
-use Rattle.std.specs.List.{cons_option, range_with_len}
+use Rattle.std.specs.List.{cons_option}
 use Rattle.std.specs.Option.{option_or}
-use Rattle.std.specs.Prelude.{Bool, IsTrue, List, None, Option, Some, [], false, find, if◌then◌else◌, is_none, is_some, length, max, nat_le, nat_lt, not, option_map, take, true, unwrap_or, ℕ, ◌&&◌, ◌+◌, ◌-◌, ◌<◌, ◌==◌, ◌||◌, ◌∷◌, ◌≡◌, ◌≤◌}
+use Rattle.std.specs.Prelude.{Bool, IsTrue, List, None, Option, Some, [], false, find, if◌then◌else◌, is_none, is_some, length, max, nat_le, nat_lt, not, option_map, take, true, unwrap_or, ℕ, ◌&&◌, ◌+◌, ◌<◌, ◌==◌, ◌||◌, ◌∷◌, ◌≡◌, ◌≤◌}
 use Rattle.window_order.proofs.WindowEnds.{NoneIsLive}
 
 -- Where no run is live
@@ -75,7 +75,7 @@ placed_at_once w n g r m over = by_scheduler (scheduler_of w.mode)
     place_by : Scheduler → Placing
     place_by Fcfs = at_end n
     place_by JustInTime = just_in_time w n g r m
-    place_by Timeline = timeline w n g r m
+    place_by Timeline = timeline w n r m
 
     denial : ℕ → Option Denial
     denial d = option_map (λ x. record { device = d; run = x }) (denied_by w n g r d)
@@ -84,14 +84,10 @@ placed_at_once w n g r m over = by_scheduler (scheduler_of w.mode)
     none_denies [] = refl
     none_denies (d ∷ ds) = ap (λ o. option_or {T = Denial} (option_map (λ x. record { device = d; run = x }) o) (first_some denial ds)) (not_denied w n g r d over) ∙ none_denies ds
 
-    fits_or_last : (o : Option ℕ) → is_wait (place_choice r m (unwrap_or (option_map (λ at. At (split_at n.line at)) o) (at_end n))) ≡ false
-    fits_or_last None = refl
-    fits_or_last (Some at) = refl
-
     by_scheduler : (scheduler : Scheduler) → is_wait (place_choice r m (place_by scheduler)) ≡ false
     by_scheduler Fcfs = refl
     by_scheduler JustInTime = ap (λ o. is_wait (place_choice r m (admit o))) (none_denies (devices_of w r))
-    by_scheduler Timeline = fits_or_last (find (λ at. fits w n r m (split_at n.line at)) (range_with_len (first_place w n g r) (length n.line - first_place w n g r)))
+    by_scheduler Timeline = refl
 
 -- The least run that has not ended
 

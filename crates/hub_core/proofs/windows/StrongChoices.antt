@@ -3,6 +3,7 @@ use Rattle.command_rules.specs.Items.{is_ran}
 use Rattle.command_rules.specs.Rosters.{commands_of, run_no}
 use Rattle.history_book.proofs.Searches.{Each}
 use Rattle.history_book.proofs.Standing.{Standing, is_abort, standing}
+use Rattle.history_book.specs.Gaps.{line_for}
 use Rattle.history_book.specs.Histories.{entries_of}
 use Rattle.history_book.specs.Lines.{before}
 use Rattle.history_book.specs.Readings.{PlacedAt, Reading, is_live}
@@ -24,7 +25,7 @@ use Rattle.hub_core.specs.Decisions.{current_command, strong_command, strong_doo
 use Rattle.hub_core.specs.Steps.{HandsOut, Moves, aborts, command_cases, decide_command, decide_doomed, first_case, undo_cases}
 use Rattle.lock_leasing.specs.Configurations.{Commands, Configuration, Grips, read_of}
 use Rattle.lock_leasing.specs.Leases.{NeverOverdue}
-use Rattle.lock_leasing.specs.Places.{IsClear}
+use Rattle.lock_leasing.specs.Places.{IsClear, in_order}
 use Rattle.lock_leasing.specs.Waits.{follow_wait}
 use Rattle.lock_leasing.specs.Words.{is_overdue, lease_deadline, live_before, live_runs, overdue_for, stamp_of}
 use Rattle.std.proofs.Common.{ap, arith, cond, refl, subst, sym, ◌∙◌}
@@ -45,10 +46,10 @@ pub record StrongSteps (w : Setting) (n : Reading) : Type 0 where
   pub homed : (r k : ℕ) (c : Command) → slice_get (commands_of w.runs r) k ≡ Some c → is_device w c.device.0 ≡ true
   pub standing : (r : ℕ) → is_live n r ≡ true → list_any (is_ran r) n.line ≡ true
 
--- what is known of the place of a run that is placed: the run waits for no other, the place is behind what is sealed, nothing behind the place must stand before it, and where runs are served as they come it is the end of the line
-pub record IsPlacing (w : Setting) (n : Reading) (g : Grips) (r at : ℕ) : Type 0 where
+-- what is known of the place of a run that is placed at this moment: the run waits for no other, the place is behind what is sealed, nothing behind the place must stand before it as the line stands then, and where runs are served as they come it is the end of the line
+pub record IsPlacing (w : Setting) (n : Reading) (g : Grips) (r at m : ℕ) : Type 0 where
   pub leader : follow_wait w n r ≡ None
-  pub clear : IsClear w n g r at
+  pub clear : IsClear w (in_order n (line_for w n r m)) g r at
   pub sealed : sealed_in n ≤ at
   pub within : at ≤ length n.line
   pub last : scheduler_of w.mode ≡ Fcfs → at ≡ length n.line

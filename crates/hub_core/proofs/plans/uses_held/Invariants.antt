@@ -3,4 +3,4 @@ use Rattle.hub_core.proofs.plans.uses_held.Given as goal
 
 -- the uses on the devices of the commands up to here
 abbrev pub invariant-commands : goal.invariant-commands
-invariant-commands l = AreHeldTo l.command-index l.commands l.scratch l.uses
+invariant-commands l = AreHeldTo l.command-index l.commands l.scratch.slots l.uses

@@ -1,5 +1,5 @@
 use Rattle.command_rules.specs.Rosters.{runs_of, touches}
-use Rattle.std.proofs.Common.{ap, sym, ◌∙◌}
+use Rattle.std.proofs.Common.{ap, ◌∙◌}
 use Rattle.std.specs.Prelude.{◌||◌}
 use Rattle.timeline_scheduler.proofs.places.followed.Goals as goal
 

@@ -1,72 +1,126 @@
 use Rattle.command_rules.specs.Rosters.{runs_of}
-use Rattle.std.proofs.Common.{arith, refl, subst, sym, ◌∙◌, ◌≡◌}
-use Rattle.timeline_scheduler.proofs.Searched.{IsPassedTo, earliest_told, first_within, may_pass, may_reach, passed_next, place_at_end, place_found, plan_told, searched_next, searched_none}
+use Rattle.std.proofs.Common.{ap, arith, length, refl, subst, sym, ◌∙◌}
+use Rattle.std.specs.Prelude.{count_by}
+use Rattle.timeline_scheduler.proofs.KnownItems.{all_homed, all_known}
+use Rattle.timeline_scheduler.proofs.Needs.{seeds_length}
+use Rattle.timeline_scheduler.proofs.Rounds.{closed_flags, earliest_told, first_of, least_told, next_fewer, next_of, place_told, place_within, planned_told, set_told, taken_flags}
 use Rattle.timeline_scheduler.proofs.places.place.Goals as goal
+use Rattle.timeline_scheduler.specs.Placings.{IsEarliestOf, IsLeastOf, IsPlanOf, IsSetOf}
+use Rattle.timeline_scheduler.specs.Scratches.{Room}
 
-pub pass-requires-clause-runs : goal.pass-requires-clause-runs
-pass-requires-clause-runs c = may_pass c.args.s.now.table.now c.args.s.now.line.now.marks c.args.s.now.book.now.items (runs_of c.args.s.now.roster.now) c.args.r.0 c.requires.may
+pub seed-requires-clause-known : goal.seed-requires-clause-known
+seed-requires-clause-known c = all_known c.args.s.now.table.now c.args.s.now.line.now.marks c.args.s.now.book.now.items (runs_of c.args.s.now.roster.now) c.args.r.0 c.requires.may
 
-pub pass-requires-clause-homed : goal.pass-requires-clause-homed
-pass-requires-clause-homed c = may_reach c.args.s.now.table.now c.args.s.now.line.now.marks c.args.s.now.book.now.items (runs_of c.args.s.now.roster.now) c.args.r.0 c.requires.may
+pub close-requires-clause-size : goal.close-requires-clause-size
+close-requires-clause-size c = ap (λ (s : Room). length s.before) c.seed.ensures.flags ∙ seeds_length c.args.s.now.book.now.items (runs_of c.args.s.now.roster.now) c.args.r.0 c.args.s.now.line.now.marks
 
-pub front-preserved : goal.front-preserved
-front-preserved c =
-    let all = first_within c.args.s.now.table.now c.args.s.now.line.now.marks c.args.s.now.book.now.items (runs_of c.args.s.now.roster.now) c.args.r.0 c.first_place-first.result c.requires.may c.first_place-first.ensures in
-    passed_next c.args.s.now.table.now c.args.s.now.line.now.marks c.args.s.now.book.now.items (runs_of c.args.s.now.roster.now) c.args.r.0 c.front.scratch c.pass.new.self c.front.at (omega (arith, all, c.front-test.true)) c.pass.ensures c.front.invariant
+pub close-requires-clause-known : goal.close-requires-clause-known
+close-requires-clause-known c = all_known c.args.s.now.table.now c.args.s.now.line.now.marks c.args.s.now.book.now.items (runs_of c.args.s.now.roster.now) c.args.r.0 c.requires.may
 
-pub places-init : goal.places-init
-places-init c =
-    let all : c.front.at ≡ c.first_place-first.result = omega (arith, c.front-test.false, c.front.auto.at-end) in
-    searched_none c.args.s.now.table.now c.args.s.now.line.now.marks c.args.s.now.book.now.items (runs_of c.args.s.now.roster.now) c.args.r.0 c.args.moment c.first_place-first.result c.first_place-first.result c.front.scratch refl (first_within c.args.s.now.table.now c.args.s.now.line.now.marks c.args.s.now.book.now.items (runs_of c.args.s.now.roster.now) c.args.r.0 c.first_place-first.result c.requires.may c.first_place-first.ensures)
-    (subst (IsPassedTo c.args.s.now.table.now c.args.s.now.line.now.marks c.args.s.now.book.now.items (runs_of c.args.s.now.roster.now) c.args.r.0 c.front.scratch) all c.front.invariant)
+pub plan-requires-clause-size : goal.plan-requires-clause-size
+plan-requires-clause-size c = ap (λ (s : Room). length s.slots) c.close.ensures ∙ ap (λ (s : Room). length s.slots) c.seed.ensures.flags ∙ c.requires.room
+
+pub plan-requires-clause-flags : goal.plan-requires-clause-flags
+plan-requires-clause-flags c = closed_flags c.args.s.now.table.now c.args.s.now.line.now.marks c.args.s.now.book.now.items (runs_of c.args.s.now.roster.now) c.args.r.0 c.args.moment c.seed.new.self c.close.new.self c.close.ensures
+
+pub plan-requires-clause-known : goal.plan-requires-clause-known
+plan-requires-clause-known c = all_known c.args.s.now.table.now c.args.s.now.line.now.marks c.args.s.now.book.now.items (runs_of c.args.s.now.roster.now) c.args.r.0 c.requires.may
 
 pub plan-requires-clause-homed : goal.plan-requires-clause-homed
-plan-requires-clause-homed c = λ x d on. let size = c.places.invariant.passed.size in let below = may_reach c.args.s.now.table.now c.args.s.now.line.now.marks c.args.s.now.book.now.items (runs_of c.args.s.now.roster.now) c.args.r.0 c.requires.may x d on in omega (arith, size, below)
+plan-requires-clause-homed c = all_homed c.args.s.now.table.now c.args.s.now.line.now.marks c.args.s.now.book.now.items (runs_of c.args.s.now.roster.now) c.args.r.0 c.requires.may
 
-pub fits-requires-clause-homed : goal.fits-requires-clause-homed
-fits-requires-clause-homed c = may_reach c.args.s.now.table.now c.args.s.now.line.now.marks c.args.s.now.book.now.items (runs_of c.args.s.now.roster.now) c.args.r.0 c.requires.may
+pub rounds-init : goal.rounds-init
+rounds-init c = (
+  first_of c.args.s.now.table.now c.args.s.now.line.now.marks c.args.s.now.book.now.items (runs_of c.args.s.now.roster.now) c.args.r.0 c.args.moment
+      c.args.scratch.now c.seed.new.self c.close.new.self c.plan.new.self c.seed.ensures.flags c.close.ensures c.plan.ensures.rest c.requires.room c.plan.ensures.size c.plan.ensures.times,
+  refl,
+)
 
-pub returns-then-fits-clause-exact : goal.returns-then-fits-clause-exact
-returns-then-fits-clause-exact c =
-    let size = c.len.ensures.len in
-    place_found c.args.s.now.table.now c.args.s.now.line.now.marks c.args.s.now.book.now.items (runs_of c.args.s.now.roster.now) c.args.r.0 c.args.moment c.first_place-first.result c.places.at c.places.scratch c.plan.new.self c.first_place-first.ensures c.places.invariant (omega (arith, size, c.places-test.true))
-    c.plan.ensures.left c.plan.ensures.only c.plan.ensures.times (sym c.if-fits.true ∙ c.fits.ensures)
+pub close-requires-in-rounds-clause-size : goal.close-requires-in-rounds-clause-size
+close-requires-in-rounds-clause-size c =
+    taken_flags c.args.s.now.table.now c.args.s.now.line.now.marks c.args.s.now.book.now.items (runs_of c.args.s.now.roster.now) c.args.r.0 c.args.moment c.rounds.scratch c.take_misfits.new.self c.rounds.invariant.0 c.take_misfits.ensures.flags
 
-pub returns-then-fits-clause-planned : goal.returns-then-fits-clause-planned
-returns-then-fits-clause-planned c = plan_told c.args.s.now.table.now c.args.s.now.line.now.marks c.args.s.now.book.now.items (runs_of c.args.s.now.roster.now) c.args.r.0 c.places.scratch c.plan.new.self c.args.moment c.places.at c.places.invariant.passed c.plan.ensures.times
+pub close-requires-in-rounds-clause-known : goal.close-requires-in-rounds-clause-known
+close-requires-in-rounds-clause-known c = all_known c.args.s.now.table.now c.args.s.now.line.now.marks c.args.s.now.book.now.items (runs_of c.args.s.now.roster.now) c.args.r.0 c.requires.may
 
-pub returns-then-fits-clause-earliest : goal.returns-then-fits-clause-earliest
-returns-then-fits-clause-earliest c =
-    let size = c.len.ensures.len in
-    earliest_told c.args.s.now.table.now c.args.s.now.line.now.marks c.args.s.now.book.now.items (runs_of c.args.s.now.roster.now) c.args.r.0 c.args.moment c.places.at c.places.invariant.within
-    (place_found c.args.s.now.table.now c.args.s.now.line.now.marks c.args.s.now.book.now.items (runs_of c.args.s.now.roster.now) c.args.r.0 c.args.moment c.first_place-first.result c.places.at c.places.scratch c.plan.new.self c.first_place-first.ensures c.places.invariant (omega (arith, size, c.places-test.true))
-    c.plan.ensures.left c.plan.ensures.only c.plan.ensures.times (sym c.if-fits.true ∙ c.fits.ensures))
+pub plan-requires-in-rounds-clause-size : goal.plan-requires-in-rounds-clause-size
+plan-requires-in-rounds-clause-size c = ap (λ (s : Room). length s.slots) c.close-in-rounds.ensures ∙ ap (λ (s : Room). length s.slots) c.take_misfits.ensures.flags ∙ c.rounds.invariant.0.size
 
-pub pass-requires-in-places-clause-runs : goal.pass-requires-in-places-clause-runs
-pass-requires-in-places-clause-runs c = may_pass c.args.s.now.table.now c.args.s.now.line.now.marks c.args.s.now.book.now.items (runs_of c.args.s.now.roster.now) c.args.r.0 c.requires.may
+pub plan-requires-in-rounds-clause-flags : goal.plan-requires-in-rounds-clause-flags
+plan-requires-in-rounds-clause-flags c =
+    closed_flags c.args.s.now.table.now c.args.s.now.line.now.marks c.args.s.now.book.now.items (runs_of c.args.s.now.roster.now) c.args.r.0 c.args.moment c.take_misfits.new.self c.close-in-rounds.new.self c.close-in-rounds.ensures
 
-pub pass-requires-in-places-clause-homed : goal.pass-requires-in-places-clause-homed
-pass-requires-in-places-clause-homed c = may_reach c.args.s.now.table.now c.args.s.now.line.now.marks c.args.s.now.book.now.items (runs_of c.args.s.now.roster.now) c.args.r.0 c.requires.may
+pub plan-requires-in-rounds-clause-known : goal.plan-requires-in-rounds-clause-known
+plan-requires-in-rounds-clause-known c = all_known c.args.s.now.table.now c.args.s.now.line.now.marks c.args.s.now.book.now.items (runs_of c.args.s.now.roster.now) c.args.r.0 c.requires.may
 
-pub places-preserved : goal.places-preserved
-places-preserved c =
-    let size = c.len.ensures.len in
-    searched_next c.args.s.now.table.now c.args.s.now.line.now.marks c.args.s.now.book.now.items (runs_of c.args.s.now.roster.now) c.args.r.0 c.args.moment c.first_place-first.result c.places.at c.places.scratch c.plan.new.self c.pass-in-places.new.self c.first_place-first.ensures c.places.invariant (omega (arith, size, c.places-test.true))
-    c.plan.ensures.left c.plan.ensures.only c.plan.ensures.times (sym c.if-fits.false ∙ c.fits.ensures) c.pass-in-places.ensures
+pub plan-requires-in-rounds-clause-homed : goal.plan-requires-in-rounds-clause-homed
+plan-requires-in-rounds-clause-homed c = all_homed c.args.s.now.table.now c.args.s.now.line.now.marks c.args.s.now.book.now.items (runs_of c.args.s.now.roster.now) c.args.r.0 c.requires.may
 
-pub plan-requires-2-clause-homed : goal.plan-requires-2-clause-homed
-plan-requires-2-clause-homed c = λ x d on. let size = c.places.invariant.passed.size in let below = may_reach c.args.s.now.table.now c.args.s.now.line.now.marks c.args.s.now.book.now.items (runs_of c.args.s.now.roster.now) c.args.r.0 c.requires.may x d on in omega (arith, size, below)
+pub rounds-smaller : goal.rounds-smaller
+rounds-smaller c =
+    next_fewer c.args.s.now.table.now c.args.s.now.line.now.marks c.args.s.now.book.now.items (runs_of c.args.s.now.roster.now) c.args.r.0 c.args.moment
+    c.rounds.scratch c.take_misfits.new.self c.close-in-rounds.new.self c.plan-in-rounds.new.self c.rounds.invariant.0 c.take_misfits.ensures.flags c.close-in-rounds.ensures c.plan-in-rounds.ensures.rest (c.take_misfits.ensures.more c.rounds-test.true)
+
+pub rounds-preserved : goal.rounds-preserved
+rounds-preserved c = (
+  next_of c.args.s.now.table.now c.args.s.now.line.now.marks c.args.s.now.book.now.items (runs_of c.args.s.now.roster.now) c.args.r.0 c.args.moment
+      c.rounds.scratch c.take_misfits.new.self c.close-in-rounds.new.self c.plan-in-rounds.new.self c.rounds.invariant.0 c.take_misfits.ensures.flags c.close-in-rounds.ensures c.plan-in-rounds.ensures.rest c.plan-in-rounds.ensures.size c.plan-in-rounds.ensures.times,
+  ap (λ (s : Room). s.items) c.plan-in-rounds.ensures.rest ∙ ap (λ (s : Room). s.items) c.close-in-rounds.ensures ∙ ap (λ (s : Room). s.items) c.take_misfits.ensures.flags ∙ c.rounds.invariant.1,
+)
 
 pub returns-clause-exact : goal.returns-clause-exact
 returns-clause-exact c =
-    let size = c.len.ensures.len in
-    place_at_end c.args.s.now.table.now c.args.s.now.line.now.marks c.args.s.now.book.now.items (runs_of c.args.s.now.roster.now) c.args.r.0 c.args.moment c.first_place-first.result c.places.at c.places.scratch c.first_place-first.ensures c.places.invariant (omega (arith, size, c.places-test.false))
+    let none = c.take_misfits.ensures.none c.rounds-test.false in
+    place_told c.args.s.now.table.now c.args.s.now.line.now.marks c.args.s.now.book.now.items (runs_of c.args.s.now.roster.now) c.args.r.0 c.args.moment
+    c.rounds.scratch.before c.take_misfits.new.self.before c.rounds.scratch.slots c.rounds.invariant.0 (ap (λ (s : Room). s.before) c.take_misfits.ensures.flags) none c.count.result (c.count.ensures ∙ ap (count_by (λ flag. flag)) none)
+
+pub returns-clause-within : goal.returns-clause-within
+returns-clause-within c =
+    let none = c.take_misfits.ensures.none c.rounds-test.false in
+    place_within c.args.s.now.table.now c.args.s.now.line.now.marks c.args.s.now.book.now.items (runs_of c.args.s.now.roster.now) c.args.r.0 c.args.moment
+    c.rounds.scratch.before c.take_misfits.new.self.before c.rounds.scratch.slots c.rounds.invariant.0 (ap (λ (s : Room). s.before) c.take_misfits.ensures.flags) none c.count.result (c.count.ensures ∙ ap (count_by (λ flag. flag)) none)
+
+pub returns-clause-before : goal.returns-clause-before
+returns-clause-before c =
+    let none = c.take_misfits.ensures.none c.rounds-test.false in
+    subst (IsSetOf c.args.s.now.table.now c.args.s.now.line.now.marks c.args.s.now.book.now.items (runs_of c.args.s.now.roster.now) c.args.r.0 c.args.moment) (sym none)
+    (set_told c.args.s.now.table.now c.args.s.now.line.now.marks c.args.s.now.book.now.items (runs_of c.args.s.now.roster.now) c.args.r.0 c.args.moment
+    c.rounds.scratch.before c.take_misfits.new.self.before c.rounds.scratch.slots c.rounds.invariant.0 (ap (λ (s : Room). s.before) c.take_misfits.ensures.flags) none)
+
+pub returns-clause-flags : goal.returns-clause-flags
+returns-clause-flags c =
+    taken_flags c.args.s.now.table.now c.args.s.now.line.now.marks c.args.s.now.book.now.items (runs_of c.args.s.now.roster.now) c.args.r.0 c.args.moment c.rounds.scratch c.take_misfits.new.self c.rounds.invariant.0 c.take_misfits.ensures.flags
 
 pub returns-clause-planned : goal.returns-clause-planned
-returns-clause-planned c = plan_told c.args.s.now.table.now c.args.s.now.line.now.marks c.args.s.now.book.now.items (runs_of c.args.s.now.roster.now) c.args.r.0 c.places.scratch c.plan-2.new.self c.args.moment c.places.at c.places.invariant.passed c.plan-2.ensures.times
+returns-clause-planned c =
+    let none = c.take_misfits.ensures.none c.rounds-test.false in
+    subst (IsPlanOf c.args.s.now.table.now c.args.s.now.line.now.marks c.args.s.now.book.now.items (runs_of c.args.s.now.roster.now) c.args.r.0 c.args.moment) (sym (ap (λ (s : Room). s.slots) c.take_misfits.ensures.flags))
+    (planned_told c.args.s.now.table.now c.args.s.now.line.now.marks c.args.s.now.book.now.items (runs_of c.args.s.now.roster.now) c.args.r.0 c.args.moment
+    c.rounds.scratch.before c.take_misfits.new.self.before c.rounds.scratch.slots c.rounds.invariant.0 (ap (λ (s : Room). s.before) c.take_misfits.ensures.flags) none)
+
+pub returns-clause-least : goal.returns-clause-least
+returns-clause-least c =
+    let none = c.take_misfits.ensures.none c.rounds-test.false in
+    subst (IsLeastOf c.args.s.now.table.now c.args.s.now.line.now.marks c.args.s.now.book.now.items (runs_of c.args.s.now.roster.now) c.args.r.0 c.args.moment) (sym none)
+    (least_told c.args.s.now.table.now c.args.s.now.line.now.marks c.args.s.now.book.now.items (runs_of c.args.s.now.roster.now) c.args.r.0 c.args.moment
+    c.rounds.scratch.before c.take_misfits.new.self.before c.rounds.scratch.slots c.rounds.invariant.0 (ap (λ (s : Room). s.before) c.take_misfits.ensures.flags) none)
 
 pub returns-clause-earliest : goal.returns-clause-earliest
 returns-clause-earliest c =
-    let size = c.len.ensures.len in
-    earliest_told c.args.s.now.table.now c.args.s.now.line.now.marks c.args.s.now.book.now.items (runs_of c.args.s.now.roster.now) c.args.r.0 c.args.moment c.places.at c.places.invariant.within
-    (place_at_end c.args.s.now.table.now c.args.s.now.line.now.marks c.args.s.now.book.now.items (runs_of c.args.s.now.roster.now) c.args.r.0 c.args.moment c.first_place-first.result c.places.at c.places.scratch c.first_place-first.ensures c.places.invariant (omega (arith, size, c.places-test.false)))
+    let none = c.take_misfits.ensures.none c.rounds-test.false in
+    subst (IsEarliestOf c.args.s.now.table.now c.args.s.now.line.now.marks c.args.s.now.book.now.items (runs_of c.args.s.now.roster.now) c.args.r.0 c.args.moment) (sym none)
+    (earliest_told c.args.s.now.table.now c.args.s.now.line.now.marks c.args.s.now.book.now.items (runs_of c.args.s.now.roster.now) c.args.r.0 c.args.moment
+    c.rounds.scratch.before c.take_misfits.new.self.before c.rounds.scratch.slots c.rounds.invariant.0 (ap (λ (s : Room). s.before) c.take_misfits.ensures.flags) none)
+
+pub returns-clause-size : goal.returns-clause-size
+returns-clause-size c = ap (λ (s : Room). length s.slots) c.take_misfits.ensures.flags ∙ c.rounds.invariant.0.size ∙ sym c.requires.room
+
+pub count-requires : goal.count-requires
+count-requires c =
+    let few = c.seed.ensures.few in
+    let size = taken_flags c.args.s.now.table.now c.args.s.now.line.now.marks c.args.s.now.book.now.items (runs_of c.args.s.now.roster.now) c.args.r.0 c.args.moment c.rounds.scratch c.take_misfits.new.self c.rounds.invariant.0 c.take_misfits.ensures.flags in
+    omega (arith, few, size)
+
+pub returns-clause-room_stays : goal.returns-clause-room_stays
+returns-clause-room_stays c =
+    ap (λ (s : Room). s.items) c.take_misfits.ensures.flags ∙ c.rounds.invariant.1 ∙ ap (λ (s : Room). s.items) c.plan.ensures.rest ∙ ap (λ (s : Room). s.items) c.close.ensures ∙ ap (λ (s : Room). s.items) c.seed.ensures.flags

@@ -1,8 +1,7 @@
-use Rattle.hub_core.proofs.calls.HubOpens.{Opens, first_order, first_hands, first_kept, first_opened, first_room, is_first_hub, setting_of_indexed}
+use Rattle.hub_core.proofs.calls.HubOpens.{Opens, first_order, first_hands, first_kept, first_opened, first_room, first_scratch, is_first_hub, setting_of_indexed}
 use Rattle.hub_core.proofs.calls.HubOrders.{index_fits}
 use Rattle.hub_core.proofs.homes.Home.open_window.Goals as goal
 use Rattle.hub_core.proofs.kept.BlockedMarks.{none_blocked}
-use Rattle.history_book.specs.Settings.{Setting}
 use Rattle.hub_core.specs.Homes.{HomeIsKept, HomeState, setting_for}
 use Rattle.hub_core.specs.Bounds.{most_entries}
 use Rattle.hub_core.specs.HubCalls.{IsOpened}
@@ -10,6 +9,9 @@ use Rattle.hub_core.specs.HubsKept.{HandsAre, HasRoomLeft, HubIsKept}
 use Rattle.hub_core.specs.KeptOrders.{OrderIsBeside}
 use Rattle.hub_core.specs.OpenHubs.{OpenHub, configuration_of}
 use Rattle.std.proofs.Common.{ap, arith, length, subst, sym, ◌∙◌, ◌≤◌}
+
+pub room-requires-clause-runs : goal.room-requires-clause-runs
+room-requires-clause-runs g c = index_fits (setting_for c.args.self c.args.roster c.args.mode) c.args.rounds c.args.self.opened c.requires.may
 
 pub open-requires : goal.open-requires
 open-requires g c = index_fits (setting_for c.args.self c.args.roster c.args.mode) c.args.rounds c.args.self.opened c.requires.may
@@ -31,7 +33,10 @@ invariant_of-result g c =
 
 -- no run is marked as blocked
 pub invariant_of-result-in-Ok-open-2 : goal.invariant_of-result-in-Ok-open-2
-invariant_of-result-in-Ok-open-2 g c = record { marks = none_blocked _ _ c.in-Ok.ensures.blocked; scratch = c.in-Ok.ensures.scratch ∙ sym (ap (λ (w : Setting). length w.first) c.empty_history.ensures.setting ∙ ap (λ (h : HomeState g.row.D.Denot). length h.world) c.self.view_is) }
+invariant_of-result-in-Ok-open-2 g c = record {
+  marks = none_blocked _ _ c.in-Ok.ensures.blocked;
+  scratch = first_scratch c.args.self c.args.roster c.args.mode c.args.rounds _ _ _ _ _ c.in-Ok.room.scratch c.self.view_is (setting_of_indexed _ _ _ _ _ _ c.empty_history.ensures.setting c.in-Ok-open.ensures) c.in-Ok.ensures.scratch;
+}
 
 pub returns-in-Ok-open-2-clause-opened : goal.returns-in-Ok-open-2-clause-opened
 returns-in-Ok-open-2-clause-opened g c =

@@ -1,9 +1,9 @@
-use Rattle.history_book.specs.Settings.{Setting}
 use Rattle.device_gate.specs.declared.slips.Slip.{Slip}
 use Rattle.hub_core.proofs.kept.BlockedMarks.{none_blocked}
 use Rattle.history_book.specs.Histories.{entries_made}
 use Rattle.hub_core.proofs.calls.FinalItems.{given_sealed, seen_so}
 use Rattle.hub_core.proofs.calls.HubMarks.{marks_given, model_before}
+use Rattle.hub_core.proofs.calls.Placings.{kept_for}
 use Rattle.hub_core.proofs.hubs.Hub.give.Goals as goal
 use Rattle.hub_core.proofs.hubs.Hub.give.Goals.{then-is_weak, else-is_weak}
 use Rattle.hub_core.specs.BlockedMarks.{AreLeft}
@@ -11,20 +11,20 @@ use Rattle.hub_core.specs.BlockedRuns.{is_quiet}
 use Rattle.hub_core.specs.HubCalls.{IsGiven}
 use Rattle.hub_core.specs.MarkedRuns.{IsAnsweredStill}
 use Rattle.hub_core.specs.OpenHubs.{configuration_of}
-use Rattle.std.proofs.Common.{ap, false, length, subst, sym, ◌∙◌}
+use Rattle.std.proofs.Common.{false, subst, sym}
 use Rattle.std.specs.List.{list_all}
 use Rattle.std.specs.Prelude.{true, ◌≡◌, ◌≢◌, ◌⊎◌}
 
 pub invariant_of-self-else-is_weak : goal.invariant_of-self-else-is_weak
 invariant_of-self-else-is_weak g c = record {
   marks = marks_given g.D.Device.stands g.D.Device.turns g.D.Device.probes g.D.Device.faults c.self.inside.window c.give.new.self c.args.moment c.args.grip c.in-Ok.made _ _ (model_before c.self.inside.window c.give.new.self false c.give.ensures.window (sym c.if-is_weak.ensures)) (sym c.if-is_weak.ensures) c.whole.ensures c.whole-in-Ok.ensures (subst (λ made. IsGiven c.self.inside.window c.args.grip c.args.moment made c.give.new.self) c.in-Ok.is c.give.ensures.given) c.self.invariant.marks (subst (λ (x : Slip). AreLeft c.self.inside.blocked c.free_back.new.blocked (λ e. IsAnsweredStill (configuration_of c.give.new.self) x.device.0 (entries_made c.in-Ok.made) ⊎ ((e ≢ x.device.0) × (list_all (is_quiet c.give.new.self.setting e) (entries_made c.in-Ok.made) ≡ true)))) c.slip.ensures c.free_back.ensures);
-  scratch = c.self.invariant.scratch ∙ sym (ap (λ (w : Setting). length w.first) c.give.ensures.window.setting);
+  scratch = kept_for c.self.inside.window c.give.new.self c.self.inside.scratch c.give.ensures.window c.self.invariant.scratch;
 }
 
 pub invariant_of-self : goal.invariant_of-self
 invariant_of-self g c = record {
   marks = none_blocked _ _ c.unmark_all.ensures;
-  scratch = c.self.invariant.scratch ∙ sym (ap (λ (w : Setting). length w.first) c.give.ensures.window.setting);
+  scratch = kept_for c.self.inside.window c.give.new.self c.self.inside.scratch c.give.ensures.window c.self.invariant.scratch;
 }
 
 pub returns-after-is_weak-clause-sealed : goal.returns-after-is_weak-clause-sealed

@@ -1,50 +1,49 @@
 use Rattle.hub_core.proofs.calls.HubMarks.{marks_absent, marks_goes, marks_moved, marks_over, marks_wait, marks_weakly, model_before}
 use Rattle.hub_core.proofs.calls.FinalItems.{seen_so, turn_sealed}
-use Rattle.hub_core.proofs.calls.Placings.{turn_earliest}
+use Rattle.hub_core.proofs.calls.Placings.{still_for, turn_earliest}
 use Rattle.hub_core.proofs.hubs.Hub.take.Goals as goal
 use Rattle.hub_core.specs.HubCalls.{IsTurn, PlansEarliest}
 use Rattle.device_gate.specs.declared.slips.Slip.{Slip}
 use Rattle.hub_core.specs.BlockedMarks.{AreLeft}
 use Rattle.hub_core.specs.MarkedRuns.{is_out_for_command}
 use Rattle.hub_core.specs.OpenHubs.{OpenHub, configuration_of}
-use Rattle.history_book.specs.Settings.{Setting}
-use Rattle.std.proofs.Common.{ap, false, length, subst, sym, ◌∙◌}
+use Rattle.std.proofs.Common.{false, subst, sym}
 use Rattle.std.specs.Prelude.{◌≡◌, ◌≢◌}
 
 pub invariant_of-self-in-Go : goal.invariant_of-self-in-Go
 invariant_of-self-in-Go g c = record {
   marks = marks_goes g.D.Device.stands g.D.Device.turns g.D.Device.probes g.D.Device.faults c.self.inside.window c.take-turn.new.self c.args.r.0 c.args.moment _ _ _ (model_before c.self.inside.window c.take-turn.new.self false c.take-turn.ensures.window (sym c.if-is_weak.ensures)) (sym c.if-is_weak.ensures) c.whole.ensures c.whole-2.ensures (subst (λ t. IsTurn c.self.inside.window c.args.r.0 c.args.moment t c.take-turn.new.self) c.in-Go.is c.take-turn.ensures.turn) c.self.invariant.marks (subst (λ (x : Slip). AreLeft c.self.inside.blocked c.free_going.new.blocked (λ e. is_out_for_command (configuration_of c.take-turn.new.self) x.device.0 ≡ false → e ≢ x.device.0)) c.slip.ensures c.free_going.ensures);
-  scratch = c.take-turn.ensures.size ∙ c.self.invariant.scratch ∙ sym (ap (λ (w : Setting). length w.first) c.take-turn.ensures.window.setting);
+  scratch = still_for c.self.inside.window c.take-turn.new.self c.self.inside.scratch c.take-turn.new.scratch c.take-turn.ensures.size c.take-turn.ensures.window c.self.invariant.scratch;
 }
 
 pub invariant_of-self-in-Moved : goal.invariant_of-self-in-Moved
 invariant_of-self-in-Moved g c = record {
   marks = marks_moved g.D.Device.stands g.D.Device.turns g.D.Device.probes g.D.Device.faults c.self.inside.window c.take-turn.new.self c.args.r.0 c.args.moment _ _ _ (model_before c.self.inside.window c.take-turn.new.self false c.take-turn.ensures.window (sym c.if-is_weak.ensures)) (sym c.if-is_weak.ensures) c.whole.ensures c.whole-2.ensures (subst (λ t. IsTurn c.self.inside.window c.args.r.0 c.args.moment t c.take-turn.new.self) c.in-Moved.is c.take-turn.ensures.turn).0 c.self.invariant.marks c.free_made.ensures;
-  scratch = c.take-turn.ensures.size ∙ c.self.invariant.scratch ∙ sym (ap (λ (w : Setting). length w.first) c.take-turn.ensures.window.setting);
+  scratch = still_for c.self.inside.window c.take-turn.new.self c.self.inside.scratch c.take-turn.new.scratch c.take-turn.ensures.size c.take-turn.ensures.window c.self.invariant.scratch;
 }
 
 pub invariant_of-self-in-Over : goal.invariant_of-self-in-Over
 invariant_of-self-in-Over g c = record {
   marks = marks_over g.D.Device.stands g.D.Device.turns g.D.Device.probes g.D.Device.faults c.self.inside.window c.take-turn.new.self c.args.r.0 c.args.moment _ _ _ _ (model_before c.self.inside.window c.take-turn.new.self false c.take-turn.ensures.window (sym c.if-is_weak.ensures)) (sym c.if-is_weak.ensures) c.whole.ensures c.whole-2.ensures (subst (λ t. IsTurn c.self.inside.window c.args.r.0 c.args.moment t c.take-turn.new.self) c.in-Over.is c.take-turn.ensures.turn).0 c.self.invariant.marks c.free_made-in-Over.ensures;
-  scratch = c.take-turn.ensures.size ∙ c.self.invariant.scratch ∙ sym (ap (λ (w : Setting). length w.first) c.take-turn.ensures.window.setting);
+  scratch = still_for c.self.inside.window c.take-turn.new.self c.self.inside.scratch c.take-turn.new.scratch c.take-turn.ensures.size c.take-turn.ensures.window c.self.invariant.scratch;
 }
 
 pub invariant_of-self-in-Wait : goal.invariant_of-self-in-Wait
 invariant_of-self-in-Wait g c = record {
   marks = marks_wait g.D.Device.stands g.D.Device.turns g.D.Device.probes g.D.Device.faults c.self.inside.window c.take-turn.new.self c.args.r.0 c.args.moment _ _ _ (model_before c.self.inside.window c.take-turn.new.self false c.take-turn.ensures.window (sym c.if-is_weak.ensures)) (sym c.if-is_weak.ensures) c.whole.ensures c.whole-2.ensures (subst (λ t. IsTurn c.self.inside.window c.args.r.0 c.args.moment t c.take-turn.new.self) c.in-Wait.is c.take-turn.ensures.turn).0 c.self.invariant.marks c.mark_waiting.ensures;
-  scratch = c.take-turn.ensures.size ∙ c.self.invariant.scratch ∙ sym (ap (λ (w : Setting). length w.first) c.take-turn.ensures.window.setting);
+  scratch = still_for c.self.inside.window c.take-turn.new.self c.self.inside.scratch c.take-turn.new.scratch c.take-turn.ensures.size c.take-turn.ensures.window c.self.invariant.scratch;
 }
 
 pub invariant_of-self-in-Absent : goal.invariant_of-self-in-Absent
 invariant_of-self-in-Absent g c = record {
   marks = marks_absent g.D.Device.stands g.D.Device.turns g.D.Device.probes g.D.Device.faults c.self.inside.window c.take-turn.new.self c.args.r.0 c.args.moment _ (model_before c.self.inside.window c.take-turn.new.self false c.take-turn.ensures.window (sym c.if-is_weak.ensures)) (sym c.if-is_weak.ensures) c.whole.ensures c.whole-2.ensures (subst (λ t. IsTurn c.self.inside.window c.args.r.0 c.args.moment t c.take-turn.new.self) c.in-Absent.is c.take-turn.ensures.turn).0 c.self.invariant.marks;
-  scratch = c.take-turn.ensures.size ∙ c.self.invariant.scratch ∙ sym (ap (λ (w : Setting). length w.first) c.take-turn.ensures.window.setting);
+  scratch = still_for c.self.inside.window c.take-turn.new.self c.self.inside.scratch c.take-turn.new.scratch c.take-turn.ensures.size c.take-turn.ensures.window c.self.invariant.scratch;
 }
 
 pub invariant_of-self : goal.invariant_of-self
 invariant_of-self g c = record {
   marks = marks_weakly g.D.Device.stands g.D.Device.turns g.D.Device.probes g.D.Device.faults c.self.inside.window c.take-turn.new.self c.args.r.0 c.args.moment _ _ (sym c.if-is_weak.ensures) c.whole-2.ensures c.take-turn.ensures.turn c.free_weakly.ensures;
-  scratch = c.take-turn.ensures.size ∙ c.self.invariant.scratch ∙ sym (ap (λ (w : Setting). length w.first) c.take-turn.ensures.window.setting);
+  scratch = still_for c.self.inside.window c.take-turn.new.self c.self.inside.scratch c.take-turn.new.scratch c.take-turn.ensures.size c.take-turn.ensures.window c.self.invariant.scratch;
 }
 
 pub returns-in-Moved-clause-earliest : goal.returns-in-Moved-clause-earliest

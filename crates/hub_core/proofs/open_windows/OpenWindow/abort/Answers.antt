@@ -38,4 +38,4 @@ invariant_of-self g c =
     aborts_whole c.self.inside _ c.args.r.0 c.args.moment c.args.cause (record {
       chosen = chosen_here c.self.inside c.args.self.now c.args.r.0 c.args.moment (Aborts c.args.cause) c.self.view_is c.requires;
       new = λ i. record c.self.inside { history = new i; moment = c.max-self-inside.ensures i; order = c.withdraw.new.self };
-    }) (record { marks = c.withdraw.ensures.marks; spare = c.withdraw.ensures.spare; sealed = c.withdraw.ensures.sealed; table = c.withdraw.ensures.table }) c.self.invariant
+    }) (record { marks = c.withdraw.ensures.marks; spare = c.withdraw.ensures.spare; runs = c.withdraw.ensures.runs; sealed = c.withdraw.ensures.sealed; table = c.withdraw.ensures.table }) c.self.invariant

@@ -18,4 +18,4 @@ invariant_of-self g c =
     commits_whole c.self.inside _ c.args.r.0 c.args.moment (record {
       chosen = chosen_here c.self.inside c.args.self.now c.args.r.0 c.args.moment Commits c.self.view_is c.requires;
       new = λ i. record c.self.inside { history = new i; moment = c.max-self-inside.ensures i; order = c.settle.new.self };
-    }) c.settle.ensures.marks c.settle.ensures.spare c.settle.ensures.sealed c.settle.ensures.table c.self.invariant
+    }) c.settle.ensures.marks c.settle.ensures.spare c.settle.ensures.runs c.settle.ensures.sealed c.settle.ensures.table c.self.invariant

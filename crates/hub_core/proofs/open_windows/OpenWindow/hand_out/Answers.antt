@@ -53,7 +53,7 @@ invariant_of-self g c =
       hands_are = c.set-2.ensures.items;
       new = refl;
     } in
-    handed_whole c.self.inside t c.args.r.0 c.args.moment c.args.d.0 c.args.purpose _ _ _ handed (record { marks = c.touch.ensures.marks; spare = c.touch.ensures.spare; sealed = c.touch.ensures.sealed; table = c.touch.ensures.table }) c.self.invariant
+    handed_whole c.self.inside t c.args.r.0 c.args.moment c.args.d.0 c.args.purpose _ _ _ handed (record { marks = c.touch.ensures.marks; spare = c.touch.ensures.spare; runs = c.touch.ensures.runs; sealed = c.touch.ensures.sealed; table = c.touch.ensures.table }) c.self.invariant
 
 pub returns : goal.returns
 returns g c =

@@ -1,6 +1,6 @@
 use Rattle.history_book.specs.declared.entries.Entry.TheVariants.{Placed}
 use Rattle.hub_core.proofs.calls.HubChanges.{Going, chosen_here, has_place, strong_here}
-use Rattle.hub_core.proofs.calls.HubOrders.{enters_whole, hub_absent, joins_behind, joins_within, line_place}
+use Rattle.hub_core.proofs.calls.HubOrders.{enters_whole, hub_absent, hub_known, joins_behind, joins_within, line_place}
 use Rattle.hub_core.proofs.open_windows.OpenWindow.place_weakly.Goals as goal
 use Rattle.hub_core.specs.ReadHistories.{with_entry}
 use Rattle.hub_core.specs.declared.decisions.Chosen.TheVariants.{Joins}
@@ -19,6 +19,9 @@ insert-requires-clause-unsealed g c = joins_behind c.self.inside c.args.r.0 c.ar
 pub insert-requires-clause-absent : goal.insert-requires-clause-absent
 insert-requires-clause-absent g c = hub_absent c.self.inside c.args.r.0 c.args.at c.args.moment (chosen_here c.self.inside c.args.self.now c.args.r.0 c.args.moment (Joins c.args.at) c.self.view_is c.requires.chosen) c.self.invariant
 
+pub insert-requires-clause-known : goal.insert-requires-clause-known
+insert-requires-clause-known g c = hub_known c.self.inside c.args.r.0 c.args.at c.args.moment (chosen_here c.self.inside c.args.self.now c.args.r.0 c.args.moment (Joins c.args.at) c.self.view_is c.requires.chosen) c.self.invariant
+
 pub place-requires-clause-room : goal.place-requires-clause-room
 place-requires-clause-room g c = has_place c.self.inside c.args.r.0 c.args.moment _ Going (chosen_here c.self.inside c.args.self.now c.args.r.0 c.args.moment (Joins c.args.at) c.self.view_is c.requires.chosen) c.self.invariant
 
@@ -28,4 +31,4 @@ invariant_of-self g c =
     enters_whole c.self.inside _ c.args.r.0 c.args.at c.args.moment (record {
       chosen = chosen_here c.self.inside c.args.self.now c.args.r.0 c.args.moment (Joins c.args.at) c.self.view_is c.requires.chosen;
       new = λ i. record c.self.inside { history = new i; moment = c.max-self-inside.ensures i; order = record { line = c.insert.new.self; table = c.self.inside.order.table } };
-    }) c.insert.ensures.marks c.insert.ensures.spare c.insert.ensures.sealed refl (strong_here c.self.inside c.args.self.now true c.self.view_is c.requires.weak) c.self.invariant
+    }) c.insert.ensures.marks c.insert.ensures.spare c.insert.ensures.runs c.insert.ensures.sealed refl (strong_here c.self.inside c.args.self.now true c.self.view_is c.requires.weak) c.self.invariant

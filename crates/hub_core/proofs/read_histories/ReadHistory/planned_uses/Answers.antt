@@ -27,5 +27,5 @@ returns-in-Fcfs c = λ front holds d lt.
     ]
 
 pub returns-in-Timeline : goal.returns-in-Timeline
-returns-in-Timeline c = λ front holds. held_is_planned c.commands-commands.result.now c.args.scratch.now c.uses_held.result (planned_times c.args.self.now.setting (read_in c.args.self.now) c.args.r.0 front c.args.moment) (holds (sym c.scheduler.ensures ∙ c.in-Timeline.is))
+returns-in-Timeline c = λ front holds. held_is_planned c.commands-commands.result.now c.args.scratch.now.slots c.uses_held.result (planned_times c.args.self.now.setting (read_in c.args.self.now) c.args.r.0 front c.args.moment) (holds (sym c.scheduler.ensures ∙ c.in-Timeline.is))
     (λ d. planned_devices c.args.self.now.setting (read_in c.args.self.now) c.args.r.0 front c.args.moment d ∙ ap (λ (cs : List Command). list_any (is_on d) cs) (sym (c.commands-commands.ensures ∙ ap (λ (runs : List Run). commands_of runs c.args.r.0) c.roster.ensures))) c.uses_held.ensures

@@ -1,99 +1,115 @@
-use Rattle.command_rules.specs.Rosters.{is_on, runs_of}
-use Rattle.std.proofs.Common.{ap, arith, false, length, refl, slice_index_or, subst, sym, ◌<◌, ◌∙◌}
-use Rattle.home_types.specs.declared.commands.Command.{Command}
-use Rattle.home_types.specs.declared.commands.Job.TheVariants.{Set}
-use Rattle.std.specs.Prelude.{None}
-use Rattle.std.specs.List.{list_any}
-use Rattle.timeline_scheduler.proofs.HeldTimes.{cleared_all, cleared_next, command_told, command_within, leaves_all, leaves_then, plan_same, planned_all, planned_next, planned_none}
-use Rattle.timeline_scheduler.proofs.SlotSets.{slot_read}
+use Rattle.command_rules.specs.ClosedSets.{chosen}
+use Rattle.command_rules.specs.Rosters.{commands_of, runs_of}
+use Rattle.home_types.specs.declared.items.Item.{Item}
+use Rattle.serial_line.specs.Marks.{Mark, items_of}
+use Rattle.std.proofs.Common.{List, ap, arith, false, length, refl, subst, sym, take, true, ◌<◌, ◌∙◌, ◌≡◌}
+use Rattle.std.proofs.lemmas.List.{get_or_default, length-map}
+use Rattle.std.proofs.lemmas.List.Sums.{fold-append}
+use Rattle.std.specs.Prelude.{fold, slice_index_or}
+use Rattle.timeline_scheduler.proofs.Closing.{chosen_more, chosen_same, first_chosen}
+use Rattle.timeline_scheduler.proofs.ItemPlaces.{item_there, told_at}
+use Rattle.timeline_scheduler.proofs.Passes.{walk_done, walk_length, walk_planned}
 use Rattle.timeline_scheduler.proofs.scratches.Scratch.plan.Goals as goal
-use Rattle.timeline_scheduler.specs.Scratches.{planned_span}
-use Rattle.timeline_scheduler.specs.Slots.{LeavesPassed, plan_behind, slot_at}
-use Rattle.timeline_scheduler.specs.declared.scratches.Slot.{Slot}
+use Rattle.timeline_scheduler.specs.Scratches.{HoldsTimes, Room}
+use Rattle.timeline_scheduler.specs.Slots.{passed_item, passed_set, plan_behind}
+use Rattle.timeline_scheduler.specs.declared.slots.Slot.{Slot}
 
--- what is told of a place that is none
-abbrev none_there : Command
-none_there = record { device = record { 0 = 0 }; job = Set 0; must = false; ms = 0; takes = 0 }
+-- as many items as marks
+items_length : (marks : List Mark) → length (items_of marks) ≡ length marks
+items_length marks = length-map marks (λ (m : Mark). m.item)
 
-pub cleared-init : goal.cleared-init
-cleared-init c = (
-  record {
-    left = leaves_all c.self.inside.slots.items;
-    none = λ d off. ap (λ xs. (slot_at xs d).planned) c.self.view_is ∙ c.requires.only d (ap (list_any (is_on d)) (sym c.commands-commands.ensures) ∙ off);
-  },
-  refl,
-)
+pub items-init : goal.items-init
+items-init c = record {
+  slots = sym (ap (fold (λ ss i. passed_item c.args.s.now.table.now c.args.s.now.book.now.items (runs_of c.args.s.now.roster.now) c.args.r.0 i ss) c.clear.new.self) (first_chosen c.self.inside.before.items (items_of c.args.s.now.line.now.marks)));
+  before = refl;
+  items = refl;
+}
 
-pub index_mut-requires : goal.index_mut-requires
-index_mut-requires c =
-    let there = command_within (length c.args.self.now) (runs_of c.args.roster.now) c.args.r.0 c.commands-commands.result.now c.cleared.command-index none_there c.requires.homed c.commands-commands.ensures c.cleared-test.true in
-    let old = ap length c.self.view_is in
-    let size = c.cleared.invariant.0.left.size in
-    omega (arith, there, old, size)
+pub items-preserved-then-not-index : goal.items-preserved-then-not-index
+items-preserved-then-not-index c =
+    let start = c.self.inside.before.items in
+    let own : length start ≡ length c.args.s.now.line.now.marks = ap (λ (s : Room). length s.before) c.self.view_is ∙ c.requires.flags in
+    let end = c.len-at-end.ensures.len in
+    let within : c.items.at < length start = omega (arith, own, end, c.items-test.true) in
+    let same : length c.items.self-inside.before.items ≡ length start = ap (λ v. length v.items) c.items.invariant.before in
+    let flag : slice_index_or start c.items.at false ≡ false =
+    ap (λ v. slice_index_or v.items c.items.at false) (sym c.items.invariant.before) ∙ get_or_default c.items.self-inside.before.items c.items.at false c.index.result.now (omega (arith, within, same)) ∙ sym c.index.ensures ∙ c.if-not-index.true in
+    record {
+      slots = c.items.invariant.slots
+          ∙ sym (ap (fold (λ ss i. passed_item c.args.s.now.table.now c.args.s.now.book.now.items (runs_of c.args.s.now.roster.now) c.args.r.0 i ss) c.clear.new.self) (chosen_same start (items_of c.args.s.now.line.now.marks) c.items.at within flag));
+      before = c.items.invariant.before;
+      items = c.items.invariant.items;
+    }
 
-pub cleared-preserved : goal.cleared-preserved
-cleared-preserved c =
-    let there = command_within (length c.args.self.now) (runs_of c.args.roster.now) c.args.r.0 c.commands-commands.result.now c.cleared.command-index none_there c.requires.homed c.commands-commands.ensures c.cleared-test.true in
-    let old = ap length c.self.view_is in
-    let size = c.cleared.invariant.0.left.size in
-    let device = (slice_index_or c.commands-commands.result.now c.cleared.command-index none_there).device.0 in
-    let within : (slice_index_or c.commands-commands.result.now c.cleared.command-index none_there).device.0 < length c.cleared.self-inside.slots.items = omega (arith, there, old, size) in (
-      cleared_next c.self.inside.slots.items c.cleared.self-inside.slots.items c.commands-commands.result.now c.cleared.command-index (slice_index_or c.commands-commands.result.now c.cleared.command-index none_there) _ c.cleared.invariant.0 c.cleared-test.true
-          (command_told c.commands-commands.result.now c.cleared.command-index none_there _ c.cleared-test.true) within
-          (ap (λ (s : Slot). record s { planned = None }) (sym (slot_read c.cleared.self-inside.slots.items device c.index_mut.result.now within c.index_mut.ensures.value))),
-      c.cleared.invariant.1,
-    )
+pub unwrap-item-requires : goal.unwrap-item-requires
+unwrap-item-requires c =
+    let end = c.len-at-end.ensures.len in
+    item_there c.args.s.now.line.now.marks c.items.at c.get.result c.get.ensures (omega (arith, end, c.items-test.true))
 
-pub commands-init : goal.commands-init
-commands-init c = (
-  planned_none c.cleared.self-inside.slots.items c.commands-commands.result.now c.args.moment
-      (cleared_all c.self.inside.slots.items c.cleared.self-inside.slots.items c.commands-commands.result.now c.cleared.command-index c.cleared.invariant.0 c.cleared-test.false),
-  refl,
-)
+pub pass-requires-clause-size : goal.pass-requires-clause-size
+pass-requires-clause-size c =
+    walk_length c.args.s.now.table.now c.args.s.now.book.now.items (runs_of c.args.s.now.roster.now) c.args.r.0 c.self.inside.before.items (items_of c.args.s.now.line.now.marks) c.self.inside.slots c.items.self-inside.slots c.items.at
+    (c.items.invariant.slots
+    ∙ ap (λ (start : List Slot). fold (λ ss i. passed_item c.args.s.now.table.now c.args.s.now.book.now.items (runs_of c.args.s.now.roster.now) c.args.r.0 i ss) start (chosen (take c.items.at c.self.inside.before.items) (take c.items.at (items_of c.args.s.now.line.now.marks)))) c.clear.ensures)
+    ∙ ap (λ (s : Room). length s.slots) c.self.view_is ∙ c.requires.size
 
-pub index-slot-requires : goal.index-slot-requires
-index-slot-requires c =
-    let there = command_within (length c.args.self.now) (runs_of c.args.roster.now) c.args.r.0 c.commands-commands.result.now c.commands.command-index none_there c.requires.homed c.commands-commands.ensures c.commands-test.true in
-    let old = ap length c.self.view_is in
-    let size = c.cleared.invariant.0.left.size in
-    let now = c.commands.invariant.0.left.size in
-    omega (arith, there, old, size, now)
+pub items-preserved : goal.items-preserved
+items-preserved c =
+    let start = c.self.inside.before.items in
+    let items : List Item = items_of c.args.s.now.line.now.marks in
+    let own : length start ≡ length c.args.s.now.line.now.marks = ap (λ (s : Room). length s.before) c.self.view_is ∙ c.requires.flags in
+    let many = items_length c.args.s.now.line.now.marks in
+    let end = c.len-at-end.ensures.len in
+    let within : c.items.at < length start = omega (arith, own, end, c.items-test.true) in
+    let same : length c.items.self-inside.before.items ≡ length start = ap (λ v. length v.items) c.items.invariant.before in
+    let flag : slice_index_or start c.items.at false ≡ true =
+    ap (λ v. slice_index_or v.items c.items.at false) (sym c.items.invariant.before) ∙ get_or_default c.items.self-inside.before.items c.items.at false c.index.result.now (omega (arith, within, same)) ∙ sym c.index.ensures ∙ c.if-not-index.false in
+    let more = chosen_more start items c.items.at c.unwrap-item.result within (omega (arith, within, own, many)) flag (told_at items c.items.at c.unwrap-item.result (sym c.get.ensures ∙ c.unwrap-item.ensures)) in
+    let step = λ (ss : List Slot) (i : Item). passed_item c.args.s.now.table.now c.args.s.now.book.now.items (runs_of c.args.s.now.roster.now) c.args.r.0 i ss in
+    record {
+      slots = c.pass.ensures ∙ ap (λ ss. step ss c.unwrap-item.result) c.items.invariant.slots
+          ∙ sym (ap (fold step c.clear.new.self) more ∙ fold-append step c.clear.new.self (chosen (take c.items.at start) (take c.items.at items)) _);
+      before = c.items.invariant.before;
+      items = c.items.invariant.items;
+    }
 
-pub index_mut-requires-in-commands : goal.index_mut-requires-in-commands
-index_mut-requires-in-commands c =
-    let there = command_within (length c.args.self.now) (runs_of c.args.roster.now) c.args.r.0 c.commands-commands.result.now c.commands.command-index none_there c.requires.homed c.commands-commands.ensures c.commands-test.true in
-    let old = ap length c.self.view_is in
-    let size = c.cleared.invariant.0.left.size in
-    let now = c.commands.invariant.0.left.size in
-    omega (arith, there, old, size, now)
+pub plan-requires-clause-homed : goal.plan-requires-clause-homed
+plan-requires-clause-homed c = λ x d on.
+    let size = walk_length c.args.s.now.table.now c.args.s.now.book.now.items (runs_of c.args.s.now.roster.now) c.args.r.0 c.self.inside.before.items (items_of c.args.s.now.line.now.marks) c.self.inside.slots c.items.self-inside.slots c.items.at
+    (c.items.invariant.slots
+    ∙ ap (λ (start : List Slot). fold (λ ss i. passed_item c.args.s.now.table.now c.args.s.now.book.now.items (runs_of c.args.s.now.roster.now) c.args.r.0 i ss) start (chosen (take c.items.at c.self.inside.before.items) (take c.items.at (items_of c.args.s.now.line.now.marks)))) c.clear.ensures) in
+    let own = ap (λ (s : Room). length s.slots) c.self.view_is in
+    let table = c.requires.size in
+    let below = c.requires.homed x d on in
+    omega (arith, size, own, table, below)
 
-pub commands-preserved : goal.commands-preserved
-commands-preserved c =
-    let there = command_within (length c.args.self.now) (runs_of c.args.roster.now) c.args.r.0 c.commands-commands.result.now c.commands.command-index none_there c.requires.homed c.commands-commands.ensures c.commands-test.true in
-    let old = ap length c.self.view_is in
-    let size = c.cleared.invariant.0.left.size in
-    let now = c.commands.invariant.0.left.size in (
-      planned_next c.cleared.self-inside.slots.items c.commands.self-inside.slots.items c.commands-commands.result.now c.args.moment c.commands.command-index c.commands.clock c.max-start.result c.saturating_add-clock.result
-          (slice_index_or c.commands-commands.result.now c.commands.command-index none_there) c.index-slot.result.now _ c.used_again.result c.commands.invariant.0 c.commands-test.true
-          (command_told c.commands-commands.result.now c.commands.command-index none_there _ c.commands-test.true) (omega (arith, there, old, size, now))
-          c.index-slot.ensures c.max-start.ensures c.saturating_add-clock.ensures c.used_again.ensures refl,
-      c.commands.invariant.1,
-    )
+pub plan-requires-clause-none : goal.plan-requires-clause-none
+plan-requires-clause-none c =
+    walk_planned c.args.s.now.table.now c.args.s.now.book.now.items (runs_of c.args.s.now.roster.now) c.args.r.0 c.self.inside.before.items (items_of c.args.s.now.line.now.marks) c.self.inside.slots c.items.self-inside.slots c.items.at
+    (c.items.invariant.slots
+    ∙ ap (λ (start : List Slot). fold (λ ss i. passed_item c.args.s.now.table.now c.args.s.now.book.now.items (runs_of c.args.s.now.roster.now) c.args.r.0 i ss) start (chosen (take c.items.at c.self.inside.before.items) (take c.items.at (items_of c.args.s.now.line.now.marks)))) c.clear.ensures)
 
 pub returns-clause-times : goal.returns-clause-times
-returns-clause-times c = λ d.
-    planned_all c.cleared.self-inside.slots.items c.commands.self-inside.slots.items c.commands-commands.result.now c.args.moment c.commands.command-index c.commands.clock c.commands.invariant.0 c.commands-test.false d
-    ∙ ap (λ q. planned_span q d) (plan_same c.self.inside.slots.items c.cleared.self-inside.slots.items c.commands-commands.result.now c.args.moment c.cleared.invariant.0.left
-    ∙ ap (λ xs. plan_behind xs c.commands-commands.result.now c.args.moment) c.self.view_is
-    ∙ ap (λ cs. plan_behind c.args.self.now cs c.args.moment) c.commands-commands.ensures)
+returns-clause-times c =
+    let own : length c.self.inside.before.items ≡ length c.args.s.now.line.now.marks = ap (λ (s : Room). length s.before) c.self.view_is ∙ c.requires.flags in
+    let many = items_length c.args.s.now.line.now.marks in
+    let end = c.len-at-end.ensures.len in
+    let done = walk_done c.args.s.now.table.now c.args.s.now.book.now.items (runs_of c.args.s.now.roster.now) c.args.r.0 c.self.inside.before.items (items_of c.args.s.now.line.now.marks) c.self.inside.slots c.items.self-inside.slots c.items.at
+    (c.items.invariant.slots
+    ∙ ap (λ (start : List Slot). fold (λ ss i. passed_item c.args.s.now.table.now c.args.s.now.book.now.items (runs_of c.args.s.now.roster.now) c.args.r.0 i ss) start (chosen (take c.items.at c.self.inside.before.items) (take c.items.at (items_of c.args.s.now.line.now.marks)))) c.clear.ensures)
+    (omega (arith, own, end, c.items-test.false)) (omega (arith, many, end, c.items-test.false)) in
+    subst (λ (ss : List Slot). HoldsTimes c.plan.new.self (plan_behind ss (commands_of (runs_of c.args.s.now.roster.now) c.args.r.0) c.args.moment))
+    (done ∙ ap (λ (s : Room). passed_set c.args.s.now.table.now c.args.s.now.book.now.items (runs_of c.args.s.now.roster.now) c.args.r.0 (chosen s.before (items_of c.args.s.now.line.now.marks)) s.slots) c.self.view_is)
+    c.plan.ensures.times
 
-pub returns-clause-left : goal.returns-clause-left
-returns-clause-left c =
-    subst (λ xs. LeavesPassed xs c.commands.self-inside.slots.items) c.self.view_is
-    (leaves_then c.self.inside.slots.items c.cleared.self-inside.slots.items c.commands.self-inside.slots.items c.cleared.invariant.0.left c.commands.invariant.0.left)
+pub returns-clause-rest : goal.returns-clause-rest
+returns-clause-rest c =
+    (λ i. record { slots = c.plan.new.self; before = (c.items.invariant.before i).items; items = c.items.invariant.items i }) ∙ ap (λ (s : Room). record s { slots = c.plan.new.self }) c.self.view_is
 
-pub returns-clause-only : goal.returns-clause-only
-returns-clause-only c = λ d off. c.commands.invariant.0.only d (ap (list_any (is_on d)) c.commands-commands.ensures ∙ off)
-
-pub invariant_of-self : goal.invariant_of-self
-invariant_of-self c = c.commands.invariant.1 ∙ c.cleared.invariant.1 ∙ c.self.invariant ∙ sym (c.commands.invariant.0.left.size ∙ c.cleared.invariant.0.left.size)
+pub returns-clause-size : goal.returns-clause-size
+returns-clause-size c =
+    c.plan.ensures.size
+    ∙ walk_length c.args.s.now.table.now c.args.s.now.book.now.items (runs_of c.args.s.now.roster.now) c.args.r.0 c.self.inside.before.items (items_of c.args.s.now.line.now.marks) c.self.inside.slots c.items.self-inside.slots c.items.at
+    (c.items.invariant.slots
+    ∙ ap (λ (start : List Slot). fold (λ ss i. passed_item c.args.s.now.table.now c.args.s.now.book.now.items (runs_of c.args.s.now.roster.now) c.args.r.0 i ss) start (chosen (take c.items.at c.self.inside.before.items) (take c.items.at (items_of c.args.s.now.line.now.marks)))) c.clear.ensures)
+    ∙ ap (λ (s : Room). length s.slots) c.self.view_is

@@ -1,9 +1,16 @@
-use Rattle.std.proofs.Common.{length, ◌≡◌}
-use Rattle.timeline_scheduler.proofs.HeldTimes.{IsClearedTo, IsPlannedTo}
+use Rattle.command_rules.specs.ClosedSets.{chosen}
+use Rattle.command_rules.specs.Rosters.{runs_of}
+use Rattle.serial_line.specs.Marks.{items_of}
+use Rattle.std.proofs.Common.{take, ◌≡◌}
+use Rattle.std.specs.Prelude.{fold}
 use Rattle.timeline_scheduler.proofs.scratches.Scratch.plan.Given as goal
+use Rattle.timeline_scheduler.specs.Slots.{passed_item}
 
-abbrev pub invariant-cleared : goal.invariant-cleared
-invariant-cleared l = IsClearedTo l.initial.self-inside.slots.items l.self-inside.slots.items l.commands l.command-index × (length l.self-inside.nears.items ≡ length l.initial.self-inside.nears.items)
-
-abbrev pub invariant-commands : goal.invariant-commands
-invariant-commands l = IsPlannedTo l.initial.self-inside.slots.items l.self-inside.slots.items l.commands l.moment l.command-index l.clock × (length l.self-inside.nears.items ≡ length l.initial.self-inside.nears.items)
+-- the items of the set so far are passed
+abbrev pub invariant-items : goal.invariant-items
+invariant-items l = record {
+  slots : l.self-inside.slots
+      ≡ fold (λ ss i. passed_item l.s.table.now l.s.book.now.items (runs_of l.s.roster.now) l.r.0 i ss) l.initial.self-inside.slots (chosen (take l.at l.initial.self-inside.before.items) (take l.at (items_of l.s.line.now.marks)));
+  before : l.self-inside.before ≡ l.initial.self-inside.before;
+  items : l.self-inside.items ≡ l.initial.self-inside.items;
+}

@@ -1,0 +1,190 @@
+-- What a line keeps of the runs of its window tells which items meet.
+use Rattle.command_rules.proofs.Meeting.{both_touch}
+use Rattle.command_rules.proofs.Sharing.{found}
+use Rattle.command_rules.specs.Apart.{are_tied, meet, share_device}
+use Rattle.command_rules.specs.Rosters.{Run, commands_of, followed_by, follows, is_on, is_run, run_at, shares, touches}
+use Rattle.home_types.proofs.DeviceBits.{contains_insert}
+use Rattle.home_types.proofs.Snocs.{snoc_get}
+use Rattle.home_types.specs.DeviceSets.{Devices, Meet}
+use Rattle.home_types.specs.declared.commands.Command.{Command}
+use Rattle.home_types.specs.declared.items.Item.TheVariants.{Back, Failed, Ran}
+use Rattle.home_types.specs.declared.items.Item.{Item}
+use Rattle.home_types.specs.declared.numbers.RunNo.{RunNo}
+use Rattle.serial_line.proofs.Meetings.{both_ways, listed, meets_told}
+use Rattle.serial_line.specs.KeptRuns.{AreKeptOf, kept_run, on_device}
+use Rattle.serial_line.specs.declared.kept_runs.KeptRun.{KeptRun}
+use Rattle.std.proofs.Common.{ap, arith, inl, inr, refl, subst, sym, ◌∙◌, ◌⊎◌}
+use Rattle.std.proofs.lemmas.Grind.{common_steps}
+use Rattle.std.proofs.lemmas.List.{at_drop_more, drop_all, length-append, length-map}
+use Rattle.std.proofs.lemmas.Option.{slice_get-map}
+use Rattle.std.specs.FinSet as set
+use Rattle.std.specs.List.{list_any}
+use Rattle.std.specs.Ordering.{nat_cmp}
+use Rattle.std.specs.Prelude.{Bool, IsTrue, List, None, Option, Some, [], drop, false, get_or, is_some, length, map, option_and_then, option_map, slice_get, suc, true, unwrap_or, zero, ℕ, ◌++◌, ◌+◌, ◌-◌, ◌<◌, ◌==◌, ◌||◌, ◌↔◌, ◌∷◌, ◌≡◌, ◌≢◌, ◌≤◌}
+
+-- The devices of some commands
+
+-- no command is passed
+pub none_passed : (cs : List Command) (d : ℕ) → (set.contains (set.empty {R = nat_cmp}) d || list_any (is_on d) (drop 0 cs)) ≡ list_any (is_on d) cs
+none_passed cs d = rw (set.contains-empty nat_cmp d) refl
+
+-- one command more is passed
+pub one_passed : (devices : Devices) (cs : List Command) (at : ℕ) (e : Command) → at < length cs → ((d : ℕ) → (set.contains devices d || list_any (is_on d) (drop at cs)) ≡ list_any (is_on d) cs)
+    → (d : ℕ) → (set.contains (set.insert devices (get_or cs at e).device.0) d || list_any (is_on d) (drop (at + 1) cs)) ≡ list_any (is_on d) cs
+one_passed devices cs at e within old d =
+    ap (λ b. b || list_any (is_on d) (drop (at + 1) cs)) (contains_insert devices (get_or cs at e).device.0 d)
+    ∙ turn (d == (get_or cs at e).device.0) ((get_or cs at e).device.0 == d) (set.contains devices d) (list_any (is_on d) (drop (at + 1) cs)) (back d (get_or cs at e).device.0)
+    ∙ ap (λ b. set.contains devices d || b) (sym (at_drop_more (list_any (is_on d)) cs at e within)) ∙ old d
+  where
+    back : (x y : ℕ) → (x == y) ≡ (y == x)
+    back x y = grind (arith, common_steps)
+
+    turn : (a b s r : Bool) → a ≡ b → ((a || s) || r) ≡ (s || (b || r))
+    turn a b s r same = grind (arith, common_steps)
+
+-- all are passed
+pub all_passed : (devices : Devices) (cs : List Command) (at : ℕ) → length cs ≤ at → ((d : ℕ) → (set.contains devices d || list_any (is_on d) (drop at cs)) ≡ list_any (is_on d) cs) → (d : ℕ) → set.contains devices d ≡ list_any (is_on d) cs
+all_passed devices cs at whole old d = last (set.contains devices d) ∙ ap (λ l. set.contains devices d || list_any (is_on d) l) (sym (drop_all at cs whole)) ∙ old d
+  where
+    last : (b : Bool) → b ≡ (b || false)
+    last b = grind (arith, common_steps)
+
+-- What is kept of a run
+
+on_these : (d : ℕ) (xs : List ℕ) → list_any (λ x. x == d) xs ≡ list_any (is_on d) (map on_device xs)
+on_these d [] = refl
+on_these d (x ∷ xs) = ap (λ b. (x == d) || b) (on_these d xs)
+
+of_these : (p : ℕ → Bool) (xs : List ℕ) → list_any p xs ≡ list_any (λ (c : Command). p c.device.0) (map on_device xs)
+of_these p [] = refl
+of_these p (x ∷ xs) = ap (λ b. p x || b) (of_these p xs)
+
+commands_at : (rs : List Run) (r : ℕ) (kept : KeptRun) → run_at rs r ≡ Some (kept_run kept) → commands_of rs r ≡ map on_device (set.items kept.devices)
+commands_at rs r kept told = ap (λ (o : Option Run). unwrap_or (option_map (λ (run : Run). run.commands) o) []) told
+
+no_commands : (rs : List Run) (r : ℕ) → run_at rs r ≡ None → commands_of rs r ≡ []
+no_commands rs r told = ap (λ (o : Option Run). unwrap_or (option_map (λ (run : Run). run.commands) o) []) told
+
+pub touches_kept : (rs : List Run) (r d : ℕ) (kept : KeptRun) → run_at rs r ≡ Some (kept_run kept) → set.contains kept.devices d ≡ touches rs r d
+touches_kept rs r d kept told = listed kept.devices d ∙ on_these d (set.items kept.devices) ∙ ap (list_any (is_on d)) (sym (commands_at rs r kept told))
+
+-- .. of which some are among these
+pub touches_some : (rs : List Run) (r : ℕ) (kept : KeptRun) (devices : Devices) (result : Bool) → run_at rs r ≡ Some (kept_run kept) → (IsTrue result ↔ Meet kept.devices devices) → result ≡ list_any (touches rs r) (set.items devices)
+touches_some rs r kept devices result told met = meets_told devices kept.devices result met ∙ (λ i. list_any (λ d. touches_kept rs r d kept told i) (set.items devices))
+
+pub touches_none : (rs : List Run) (r : ℕ) (devices : Devices) → run_at rs r ≡ None → false ≡ list_any (touches rs r) (set.items devices)
+touches_none rs r devices told = none (set.items devices)
+  where
+    none : (xs : List ℕ) → false ≡ list_any (touches rs r) xs
+    none [] = refl
+    none (x ∷ xs) = none xs ∙ ap (λ cs. list_any (is_on x) cs || list_any (touches rs r) xs) (sym (no_commands rs r told))
+
+pub shares_kept : (rs : List Run) (a b : ℕ) (kept : KeptRun) → run_at rs a ≡ Some (kept_run kept) → list_any (touches rs b) (set.items kept.devices) ≡ shares rs a b
+shares_kept rs a b kept told = of_these (touches rs b) (set.items kept.devices) ∙ ap (list_any (λ (c : Command). touches rs b c.device.0)) (sym (commands_at rs a kept told))
+
+-- a run by its number
+pub run_kept : (ks : List KeptRun) (r : ℕ) → r ≢ 0 → option_map kept_run (slice_get ks (r - 1)) ≡ run_at (map kept_run ks) r
+run_kept ks zero some = absurd (some refl)
+run_kept ks (suc i) some = let same : suc i - 1 ≡ i = omega arith in ap (λ k. option_map kept_run (slice_get ks k)) same ∙ sym (slice_get-map kept_run ks i)
+
+-- What is kept of the runs of a roster
+
+-- the run's devices, and whom it follows
+pub record IsKept (runs : List Run) (r : ℕ) (kept : KeptRun) : Type 0 where
+  pub devices : (d : ℕ) → set.contains kept.devices d ≡ touches runs r d
+  pub leader : kept.follows ≡ followed_by runs r
+
+-- this is kept of the first n runs
+pub record AreFirstKept (n : ℕ) (runs : List Run) (kept : List KeptRun) : Type 0 where
+  pub size : length kept ≡ n
+  pub each : (i : ℕ) (k : KeptRun) → slice_get kept i ≡ Some k → IsKept runs (suc i) k
+
+pub one_kept : (n : ℕ) (runs : List Run) (ks : List KeptRun) (k : KeptRun) → AreFirstKept n runs ks → IsKept runs (suc n) k → AreFirstKept (n + 1) runs (ks ++ k ∷ [])
+one_kept n runs ks k old one = record {
+  size = length-append ks (k ∷ []) ∙ ap (λ m. m + 1) old.size;
+  each = λ i g there. at i g (snoc_get ks k g i there);
+}
+  where
+    at : (i : ℕ) (g : KeptRun) → (slice_get ks i ≡ Some g) ⊎ ((i ≡ length ks) × (k ≡ g)) → IsKept runs (suc i) g
+    at i g (inl there) = old.each i g there
+    at i g (inr last) = subst (λ h. IsKept runs (suc i) h) last.1 (subst (λ m. IsKept runs (suc m) k) (sym (last.0 ∙ old.size)) one)
+
+-- lists of one length have an item at the same places
+same_there : {A B : Type 0} (xs : List A) (ys : List B) (i : ℕ) → length xs ≡ length ys → is_some (slice_get xs i) ≡ is_some (slice_get ys i)
+same_there [] [] zero size = refl
+same_there [] [] (suc i) size = refl
+same_there [] (y ∷ ys) i size = let e : 0 ≡ suc (length ys) = size in absurd (omega (arith, e))
+same_there (x ∷ xs) [] i size = let e : suc (length xs) ≡ 0 = size in absurd (omega (arith, e))
+same_there (x ∷ xs) (y ∷ ys) zero size = refl
+same_there (x ∷ xs) (y ∷ ys) (suc i) size = let e : suc (length xs) ≡ suc (length ys) = size in same_there xs ys i (omega (arith, e))
+
+none_of : {A : Type 0} (o : Option A) → is_some o ≡ false → o ≡ None
+none_of None none = refl
+none_of (Some x) none = absurd cc
+
+pub all_kept : (runs : List Run) (ks : List KeptRun) → AreFirstKept (length runs) runs ks → AreKeptOf runs (map kept_run ks)
+all_kept runs ks all = record { there = is_there; touched = λ r d. same_devices r d; followed = λ r f. ap (λ (o : Option RunNo). unwrap_or (option_map (λ (q : RunNo). q.0 == f) o) false) (same_leader r) }
+  where
+    long : length (map kept_run ks) ≡ length runs
+    long = length-map ks kept_run ∙ all.size
+
+    is_there : (r : ℕ) → is_run (map kept_run ks) r ≡ is_run runs r
+    is_there zero = refl
+    is_there (suc i) = same_there (map kept_run ks) runs i long
+
+    gone : (i : ℕ) → slice_get ks i ≡ None → slice_get runs i ≡ None
+    gone i none = none_of (slice_get runs i) (sym (same_there ks runs i all.size) ∙ ap is_some none)
+
+    at : (i : ℕ) (o : Option KeptRun) → slice_get ks i ≡ o → slice_get (map kept_run ks) i ≡ option_map kept_run o
+    at i o is = slice_get-map kept_run ks i ∙ ap (option_map kept_run) is
+
+    same_devices : (r d : ℕ) → touches (map kept_run ks) r d ≡ touches runs r d
+    same_devices zero d = refl
+    same_devices (suc i) d = by_cases (slice_get ks i) refl
+      where
+        by_cases : (o : Option KeptRun) → slice_get ks i ≡ o → touches (map kept_run ks) (suc i) d ≡ touches runs (suc i) d
+        by_cases (Some k) is = sym (touches_kept (map kept_run ks) (suc i) d k (at i (Some k) is)) ∙ (all.each i k is).devices d
+        by_cases None is = ap (list_any (is_on d)) (no_commands (map kept_run ks) (suc i) (at i None is)) ∙ sym (ap (list_any (is_on d)) (no_commands runs (suc i) (gone i is)))
+
+    same_leader : (r : ℕ) → followed_by (map kept_run ks) r ≡ followed_by runs r
+    same_leader zero = refl
+    same_leader (suc i) = by_cases (slice_get ks i) refl
+      where
+        by_cases : (o : Option KeptRun) → slice_get ks i ≡ o → followed_by (map kept_run ks) (suc i) ≡ followed_by runs (suc i)
+        by_cases (Some k) is = ap (λ (q : Option Run). option_and_then (λ (run : Run). run.follows) q) (at i (Some k) is) ∙ (all.each i k is).leader
+        by_cases None is = ap (λ (q : Option Run). option_and_then (λ (run : Run). run.follows) q) (at i None is) ∙ sym (ap (λ (q : Option Run). option_and_then (λ (run : Run). run.follows) q) (gone i is))
+
+-- Which items meet
+
+shared_by : (one two : List Run) (a b : ℕ) → ((r d : ℕ) → touches one r d ≡ touches two r d) → shares one a b ≡ true → shares two a b ≡ true
+shared_by one two a b same share =
+    let device = found (commands_of one a) (commands_of one b) share in
+    both_touch two a b device.0 (sym (same a device.0) ∙ device.1) (sym (same b device.0) ∙ device.2)
+
+pub kept_meets : (runs kept : List Run) → AreKeptOf runs kept → (i j : Item) → meet kept i j ≡ meet runs i j
+kept_meets runs kept are i j = λ k. share i j k || tied i j k
+  where
+    shared : (a b : ℕ) → shares kept a b ≡ shares runs a b
+    shared a b = both_ways (shares kept a b) (shares runs a b) (shared_by kept runs a b are.touched) (shared_by runs kept a b (λ r d. sym (are.touched r d)))
+
+    share : (i j : Item) → share_device kept i j ≡ share_device runs i j
+    share (Ran r) (Ran q) = shared r.0 q.0
+    share (Ran r) (Failed d l) = are.touched r.0 d.0
+    share (Ran r) (Back d l) = are.touched r.0 d.0
+    share (Failed d l) (Ran q) = are.touched q.0 d.0
+    share (Failed d l) (Failed e m) = refl
+    share (Failed d l) (Back e m) = refl
+    share (Back d l) (Ran q) = are.touched q.0 d.0
+    share (Back d l) (Failed e m) = refl
+    share (Back d l) (Back e m) = refl
+
+    tied : (i j : Item) → are_tied kept i j ≡ are_tied runs i j
+    tied (Ran r) (Ran q) = λ k. are.followed r.0 q.0 k || are.followed q.0 r.0 k
+    tied (Ran r) (Failed e l) = refl
+    tied (Ran r) (Back e l) = refl
+    tied (Failed d l) j = refl
+    tied (Back d l) j = refl
+
+-- .. as one word
+pub kept_meet : (runs kept : List Run) → AreKeptOf runs kept → meet kept ≡ meet runs
+kept_meet runs kept are = λ k i j. kept_meets runs kept are i j k

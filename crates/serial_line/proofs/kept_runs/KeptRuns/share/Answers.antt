@@ -1,0 +1,10 @@
+use Rattle.serial_line.proofs.KeptRuns.{shares_kept}
+use Rattle.serial_line.proofs.kept_runs.KeptRuns.share.Goals as goal
+use Rattle.serial_line.specs.KeptRuns.{kept_run}
+use Rattle.std.proofs.Common.{ap, sym, ◌∙◌}
+use Rattle.std.specs.Prelude.{option_copied, option_map}
+
+pub returns-in-Some : goal.returns-in-Some
+returns-in-Some c =
+    let told = sym c.run.ensures ∙ ap (λ o. option_map kept_run (option_copied o)) c.in-Some.is in
+    c.touches_one_of.ensures ∙ shares_kept c.args.self.now c.args.one.0 c.args.other.0 c.in-Some.kept.now told

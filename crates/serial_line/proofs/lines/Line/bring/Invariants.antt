@@ -1,0 +1,12 @@
+use Rattle.command_rules.specs.ClosedSets.{brought}
+use Rattle.serial_line.proofs.lines.Line.bring.Given as goal
+use Rattle.std.proofs.Common.{drop, take, ◌++◌, ◌-◌, ◌≡◌, ◌≤◌}
+
+-- the item is brought up to the place, and all else is as it was
+abbrev pub invariant-past : goal.invariant-past
+invariant-past l =
+    (l.to ≤ l.at) × (l.at ≤ l.from) × (l.self.marks ≡ take l.at l.fn.self.marks ++ brought (l.from - l.at) (drop l.at l.fn.self.marks)) × (l.self.spare ≡ l.fn.self.spare)
+    × (l.self.labels ≡ l.fn.self.labels) × (l.self.sealed ≡ l.fn.self.sealed) × (l.self.runs ≡ l.fn.self.runs)
+
+abbrev pub decreases-past : goal.decreases-past
+decreases-past l = l.at

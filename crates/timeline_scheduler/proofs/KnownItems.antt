@@ -1,0 +1,73 @@
+-- The items of a line are runs of the roster and events of the home's devices.
+use Rattle.command_rules.proofs.Indexes.{device_below}
+use Rattle.command_rules.specs.Rosters.{Run, commands_of, is_run, touches}
+use Rattle.history_book.proofs.OwnItems.{is_stray, none_strays}
+use Rattle.history_book.specs.Histories.{entries_of}
+use Rattle.history_book.specs.Settings.{Setting}
+use Rattle.history_book.specs.declared.entries.Kept.{Kept}
+use Rattle.home_types.specs.declared.items.Item.TheVariants.{Back, Failed, Ran}
+use Rattle.home_types.specs.declared.items.Item.{Item}
+use Rattle.lineage_table.specs.Lineages.{LineageState}
+use Rattle.lock_leasing.specs.Configurations.{Configuration, read_of}
+use Rattle.lock_leasing.specs.Standings.{IsRosterFor, IsStandingOf}
+use Rattle.serial_line.specs.Marks.{Mark, items_of}
+use Rattle.std.proofs.Common.{ap, arith, subst, sym, ◌∙◌}
+use Rattle.std.proofs.lemmas.Grind.{common_steps}
+use Rattle.std.specs.List.{list_any}
+use Rattle.std.specs.Prelude.{Bool, IsTrue, List, Some, [], false, is_some, length, slice_get, suc, true, zero, ℕ, ◌<◌, ◌||◌, ◌∷◌, ◌≡◌, ◌≤◌}
+use Rattle.timeline_scheduler.specs.Gathered.{AreKnown, IsKnown}
+use Rattle.timeline_scheduler.specs.Placings.{MayPlan, Planning}
+use Rattle.timeline_scheduler.specs.Slots.{AreHomed}
+
+-- what none of a list is, the one at a place is not
+not_at : {A : Type 0} (p : A → Bool) (xs : List A) (k : ℕ) (x : A) → list_any p xs ≡ false → slice_get xs k ≡ Some x → p x ≡ false
+not_at p [] k x none there = absurd (cc)
+not_at p (y ∷ xs) zero x none there = let same : y ≡ x = cc in ap p (sym same) ∙ first (p y) (list_any p xs) none
+  where
+    first : (a b : Bool) → (a || b) ≡ false → a ≡ false
+    first a b e = grind (arith, common_steps)
+not_at p (y ∷ xs) (suc k) x none there = not_at p xs k x (last (p y) (list_any p xs) none) there
+  where
+    last : (a b : Bool) → (a || b) ≡ false → b ≡ false
+    last a b e = grind (arith, common_steps)
+
+-- a run's number is not greater than the number of runs
+pub run_within : (runs : List Run) (x : ℕ) → is_run runs x ≡ true → x ≤ length runs
+run_within runs zero known = omega arith
+run_within runs (suc i) known = let inside = below runs i known in omega (arith, inside)
+  where
+    below : (rs : List Run) (k : ℕ) → is_some (slice_get rs k) ≡ true → k < length rs
+    below [] k some = absurd (cc)
+    below (r ∷ rs) zero some = omega arith
+    below (r ∷ rs) (suc k) some = let rest = below rs k some in omega (arith, rest)
+
+module _ (w : Setting) (allowed : IsRosterFor (length w.first) w.runs) where
+  known_item : (i : Item) → is_stray w i ≡ false → IsKnown w.runs i
+  known_item (Ran x) own =
+      let known : is_run w.runs x.0 ≡ true = grind (arith, common_steps) in
+      let few = allowed.few_runs in
+      let inside = run_within w.runs x.0 known in
+      (is_true (is_run w.runs x.0) known, omega (arith, few, inside), λ f leads. let earlier = allowed.follows_earlier x.0 f leads in omega (arith, few, inside, earlier))
+    where
+      is_true : (b : Bool) → b ≡ true → IsTrue b
+      is_true b e = grind (arith, common_steps)
+  known_item (Failed d k) own = let few = allowed.few_devices in let homed : d.0 < length w.first = grind (arith, common_steps) in omega (arith, few, homed)
+  known_item (Back d k) own = let few = allowed.few_devices in let homed : d.0 < length w.first = grind (arith, common_steps) in omega (arith, few, homed)
+
+module _ (table : List LineageState) (line : List Mark) (history : List Kept) (runs : List Run) (r : ℕ) where
+  -- the items of the line are known
+  pub all_known : MayPlan table line history runs r → AreKnown runs (items_of line)
+  all_known (Planning s parts run) at i there =
+      subst (λ rs. IsKnown rs i) parts.its_roster
+      (known_item s.setting parts.allowed i
+      (not_at (is_stray s.setting) (read_of s).line at i (none_strays s.setting (entries_of s.history) parts.well_formed) (ap (λ is. slice_get is at) (sym parts.its_line.items) ∙ there)))
+
+  pub device_within : (s : Configuration) → IsStandingOf s table line history runs → (x d : ℕ) → touches s.setting.runs x d ≡ true → d < length s.setting.first
+  device_within s parts x d on = device_below d (length s.setting.first) (commands_of s.setting.runs x) (λ k c there. parts.allowed.homed x k c there) on
+
+  -- each command is on a device of the table
+  pub all_homed : MayPlan table line history runs r → AreHomed (length table) runs
+  all_homed (Planning s parts run) x d on =
+      let size = parts.its_table.devices in
+      let below = device_within s parts x d (ap (λ rs. touches rs x d) parts.its_roster ∙ on) in
+      omega (arith, size, below)

@@ -1,0 +1,231 @@
+-- The rounds in which the set of a run grows: in each configuration to which the parts belong the last one is the timeline's.
+use Rattle.command_rules.proofs.ClosedLeasts.{closure_holds, closure_least, closure_size, either_first, either_in, either_second, either_size, map_part, part_of_part, same_least}
+use Rattle.command_rules.proofs.ClosedParts.{closure_closed}
+use Rattle.command_rules.specs.Apart.{meet}
+use Rattle.command_rules.specs.ClosedSets.{IsClosed, IsLeast, IsPart, chosen, closure, either_of}
+use Rattle.command_rules.specs.Items.{of_run}
+use Rattle.command_rules.specs.Rosters.{Run, commands_of, touches}
+use Rattle.history_book.proofs.Told.{doom_is}
+use Rattle.history_book.specs.Books.{doom_of}
+use Rattle.history_book.specs.Gaps.{bars, base_of, gap_set, is_needed}
+use Rattle.history_book.specs.Plans.{free, planned_times}
+use Rattle.history_book.specs.Readings.{is_doomed, is_live}
+use Rattle.history_book.specs.Settings.{scheduler_of}
+use Rattle.history_book.specs.declared.entries.Kept.{Kept}
+use Rattle.home_types.specs.declared.modes.Scheduler.TheVariants.{Timeline}
+use Rattle.lineage_table.specs.Lineages.{LineageState, accesses_at}
+use Rattle.lock_leasing.proofs.EarliestPlaces.{bars_rise, gap_is_earliest, gap_least}
+use Rattle.lock_leasing.proofs.Facts.{facts_of}
+use Rattle.lock_leasing.specs.Configurations.{Configuration, read_of}
+use Rattle.lock_leasing.specs.Places.{IsEarliestSet}
+use Rattle.lock_leasing.specs.Standings.{IsStandingOf}
+use Rattle.serial_line.specs.Marks.{Mark, items_of}
+use Rattle.std.proofs.Common.{ap, arith, refl, subst, sym, ◌∙◌}
+use Rattle.std.proofs.lemmas.Bool.{or_right}
+use Rattle.std.proofs.lemmas.List.{length-map}
+use Rattle.std.specs.Prelude.{Bool, List, count_by, is_some, length, map, not, true, ℕ, ◌<◌, ◌≡◌, ◌≤◌}
+use Rattle.timeline_scheduler.proofs.Counting.{count_chosen, count_within, outside_part}
+use Rattle.timeline_scheduler.proofs.Frees.{AreOfLine}
+use Rattle.timeline_scheduler.proofs.KnownItems.{device_within}
+use Rattle.timeline_scheduler.proofs.Misfits.{misfits_are, needed_based, times_held, times_told}
+use Rattle.timeline_scheduler.proofs.Needs.{base_is, seeds_length}
+use Rattle.timeline_scheduler.proofs.Passes.{set_free}
+use Rattle.timeline_scheduler.specs.Bases.{seeds}
+use Rattle.timeline_scheduler.specs.Placings.{InEach, IsEarliestOf, IsLeastOf, IsPlaceOf, IsPlanOf, IsSetOf}
+use Rattle.timeline_scheduler.specs.Scratches.{HoldsTimes, Room}
+use Rattle.timeline_scheduler.specs.Slots.{is_misfit, passed_set, plan_behind, reads_some, slot_at}
+use Rattle.timeline_scheduler.specs.declared.slots.Slot.{Slot}
+
+module _ (table : List LineageState) (line : List Mark) (history : List Kept) (runs : List Run) (r m : ℕ) where
+  of_line : (s : Configuration) → IsStandingOf s table line history runs → (d : ℕ) → d < length s.setting.first → AreOfLine s.setting (read_of s) s.grips d (accesses_at table d)
+  of_line s parts d within = record { runs = (parts.its_table.each d within).runs; each = (parts.its_table.each d within).each }
+
+  -- the run is planned behind the items of the set
+  abbrev pub IsPlannedBehind : List Bool → List Slot → Type 0
+  IsPlannedBehind before slots = InEach table line history runs (λ s. HoldsTimes slots (planned_times s.setting (read_of s) r (chosen before (read_of s).line) m))
+
+  pub plan_told : (before : List Bool) (slots planned : List Slot) → length slots ≡ length table → HoldsTimes planned (plan_behind (passed_set table history runs r (chosen before (items_of line)) slots) (commands_of runs r) m) → IsPlannedBehind before planned
+  plan_told before slots planned size holds s parts timed =
+      subst (HoldsTimes planned)
+      (ap (λ is. plan_behind (passed_set table history runs r (chosen before is) slots) (commands_of runs r) m) parts.its_line.items
+      ∙ ap (λ rs. plan_behind (passed_set table history rs r (chosen before (read_of s).line) slots) (commands_of rs r) m) (sym parts.its_roster)
+      ∙ times_told s.setting (read_of s) r m (chosen before (read_of s).line) (passed_set table history s.setting.runs r (chosen before (read_of s).line) slots) timed free_told)
+      holds
+    where
+      dooms : (q : ℕ) → is_some (doom_of history q) ≡ is_doomed (read_of s) q
+      dooms q = ap is_some (ap (λ h. doom_of h q) (sym parts.its_history) ∙ doom_is s.setting s.history q parts.well_formed)
+
+      free_told : (d : ℕ) → touches s.setting.runs r d ≡ true → (slot_at (passed_set table history s.setting.runs r (chosen before (read_of s).line) slots) d).free ≡ free s.setting (read_of s) r (chosen before (read_of s).line) d
+      free_told d on =
+          set_free s.setting (read_of s) s.grips (facts_of s table line history runs parts) r table history parts.its_table.devices (of_line s parts) dooms before slots size
+          d (device_within table line history runs r s parts r d on) (or_right (reads_some s.setting.runs r) (touches s.setting.runs r d) on)
+
+  -- what is taken in for a configuration
+  pub record IsGrown (before : List Bool) (s : Configuration) : Type 0 where
+    pub holds : IsPart (base_of s.setting (read_of s) r) before
+    pub part : IsPart before (gap_set s.setting (read_of s) r m)
+
+  -- a closed set, that holds the base and is part of the timeline's, and the plan behind it
+  pub record IsRound (before : List Bool) (slots : List Slot) : Type 0 where
+    pub size : length slots ≡ length table
+    pub flags : length before ≡ length line
+    pub closed : IsClosed (meet runs) before (items_of line)
+    pub grown : InEach table line history runs (IsGrown before)
+    pub planned : IsPlannedBehind before slots
+
+  items_length : length (items_of line) ≡ length line
+  items_length = length-map line (λ (k : Mark). k.item)
+
+  -- the first one
+  pub first_round : (before : List Bool) (slots planned : List Slot) → before ≡ closure (meet runs) (seeds history runs r line) (items_of line) → length slots ≡ length table → length planned ≡ length slots
+      → HoldsTimes planned (plan_behind (passed_set table history runs r (chosen before (items_of line)) slots) (commands_of runs r) m) → IsRound before planned
+  first_round before slots planned is size long holds = record {
+    size = long ∙ size;
+    flags = ap length is ∙ closure_size (meet runs) (seeds history runs r line) (items_of line) ∙ items_length;
+    closed = subst (λ bs. IsClosed (meet runs) bs (items_of line)) (sym is) (closure_closed (meet runs) (seeds history runs r line) (items_of line));
+    grown = λ s parts timed. subst (λ bs. IsGrown bs s) (sym is) (grows s parts);
+    planned = plan_told before slots planned size holds;
+  }
+    where
+      fits : length (seeds history runs r line) ≡ length (items_of line)
+      fits = seeds_length history runs r line ∙ sym items_length
+
+      grows : (s : Configuration) → IsStandingOf s table line history runs → IsGrown (closure (meet runs) (seeds history runs r line) (items_of line)) s
+      grows s parts = record {
+        holds = subst (λ bs. IsPart bs (closure (meet runs) (seeds history runs r line) (items_of line))) based (closure_holds (meet runs) (seeds history runs r line) (items_of line) fits);
+        part =
+            closure_least (meet runs) (seeds history runs r line) (items_of line) (gap_set s.setting (read_of s) r m) fits
+            (subst (λ is'. IsClosed (meet runs) (gap_set s.setting (read_of s) r m) is') (sym parts.its_line.items) (subst (λ rs. IsClosed (meet rs) (gap_set s.setting (read_of s) r m) (read_of s).line) parts.its_roster least.fitting.closed))
+            (subst (λ bs. IsPart bs (gap_set s.setting (read_of s) r m)) (sym based) least.fitting.holds);
+      }
+        where
+          based : seeds history runs r line ≡ base_of s.setting (read_of s) r
+          based = base_is table line history runs r s parts
+
+          least : IsLeast (meet s.setting.runs) (base_of s.setting (read_of s) r) (bars s.setting (read_of s) r m) (read_of s).line (gap_set s.setting (read_of s) r m)
+          least = gap_least s.setting (read_of s) r m
+
+  abbrev misfits : List Slot → List Bool
+  misfits slots = map (of_run (is_misfit table runs r slots)) (items_of line)
+
+  -- those that do not fit are those that the set bars
+  barred : (before : List Bool) (slots : List Slot) → IsRound before slots → (s : Configuration) → IsStandingOf s table line history runs → scheduler_of s.setting.mode ≡ Timeline
+      → either_of before (misfits slots) ≡ either_of before (map (bars s.setting (read_of s) r m before) (read_of s).line)
+  barred before slots was s parts timed =
+      ap (λ is. either_of before (map (of_run (is_misfit table runs r slots)) is)) parts.its_line.items
+      ∙ ap (λ rs. either_of before (map (of_run (is_misfit table rs r slots)) (read_of s).line)) (sym parts.its_roster)
+      ∙ misfits_are s.setting (read_of s) s.grips (facts_of s table line history runs parts) r table slots (planned_times s.setting (read_of s) r (chosen before (read_of s).line) m) (was.size ∙ parts.its_table.devices) (of_line s parts)
+      (times_held s.setting (read_of s) r m (chosen before (read_of s).line) slots (was.planned s parts timed)) before
+      (subst (λ is. IsClosed (meet s.setting.runs) before is) parts.its_line.items (subst (λ rs. IsClosed (meet rs) before (items_of line)) (sym parts.its_roster) was.closed))
+      (part_of_part (map (is_needed s.setting (read_of s) r) (read_of s).line) (base_of s.setting (read_of s) r) before (needed_based (of_run (is_live (read_of s))) (is_needed s.setting (read_of s) r) (read_of s).line) (was.grown s parts timed).holds)
+
+  barred_length : (before : List Bool) (slots : List Slot) → IsRound before slots → length before ≡ length (misfits slots)
+  barred_length before slots was = was.flags ∙ sym (length-map (items_of line) (of_run (is_misfit table runs r slots)) ∙ items_length)
+
+  -- .. and the next one, where some do not fit
+  pub next_round : (before found after : List Bool) (slots planned : List Slot) → IsRound before slots → found ≡ either_of before (misfits slots) → after ≡ closure (meet runs) found (items_of line) → length planned ≡ length slots
+      → HoldsTimes planned (plan_behind (passed_set table history runs r (chosen after (items_of line)) slots) (commands_of runs r) m) → IsRound after planned
+  next_round before found after slots planned was found_is is long holds = record {
+    size = long ∙ was.size;
+    flags = ap length is ∙ closure_size (meet runs) found (items_of line) ∙ items_length;
+    closed = subst (λ bs. IsClosed (meet runs) bs (items_of line)) (sym is) (closure_closed (meet runs) found (items_of line));
+    grown = λ s parts timed. subst (λ bs. IsGrown bs s) (sym is) (grows s parts timed);
+    planned = plan_told after slots planned was.size holds;
+  }
+    where
+      fits : length found ≡ length (items_of line)
+      fits = ap length found_is ∙ either_size before (misfits slots) (barred_length before slots was) ∙ was.flags ∙ sym items_length
+
+      grows : (s : Configuration) → IsStandingOf s table line history runs → scheduler_of s.setting.mode ≡ Timeline → IsGrown (closure (meet runs) found (items_of line)) s
+      grows s parts timed = record {
+        holds = part_of_part (base_of s.setting (read_of s) r) before (closure (meet runs) found (items_of line)) (was.grown s parts timed).holds
+            (part_of_part before found (closure (meet runs) found (items_of line)) (subst (IsPart before) (sym found_is) (either_first before (misfits slots) (barred_length before slots was))) (closure_holds (meet runs) found (items_of line) fits));
+        part =
+            closure_least (meet runs) found (items_of line) gap fits
+            (subst (λ is'. IsClosed (meet runs) gap is') (sym parts.its_line.items) (subst (λ rs. IsClosed (meet rs) gap (read_of s).line) parts.its_roster least.fitting.closed))
+            (subst (λ bs. IsPart bs gap) (sym (found_is ∙ barred before slots was s parts timed))
+            (either_in before (map (bars s.setting (read_of s) r m before) (read_of s).line) gap (was.grown s parts timed).part
+            (part_of_part (map (bars s.setting (read_of s) r m before) (read_of s).line) (map (bars s.setting (read_of s) r m gap) (read_of s).line) gap
+            (map_part (bars s.setting (read_of s) r m before) (bars s.setting (read_of s) r m gap) (read_of s).line (λ i. bars_rise s.setting (read_of s) r m before gap i (was.grown s parts timed).part)) least.fitting.fits)));
+      }
+        where
+          gap : List Bool
+          gap = gap_set s.setting (read_of s) r m
+
+          least : IsLeast (meet s.setting.runs) (base_of s.setting (read_of s) r) (bars s.setting (read_of s) r m) (read_of s).line gap
+          least = gap_least s.setting (read_of s) r m
+
+  abbrev Times : List Bool → List Slot → List Slot → Type 0
+  Times before slots planned = HoldsTimes planned (plan_behind (passed_set table history runs r (chosen before (items_of line)) slots) (commands_of runs r) m)
+
+  -- the first round, as the scratch passes through it
+  pub first_of : (old seeded closed planned : Room) → seeded ≡ record old { before = seeds history runs r line } → closed ≡ record seeded { before = closure (meet runs) seeded.before (items_of line) } → planned ≡ record closed { slots = planned.slots }
+      → length old.slots ≡ length table → length planned.slots ≡ length closed.slots → Times closed.before closed.slots planned.slots → IsRound planned.before planned.slots
+  first_of old seeded closed planned seeded_is closed_is planned_is size long holds =
+      first_round planned.before closed.slots planned.slots
+      (ap (λ (s : Room). s.before) planned_is ∙ ap (λ (s : Room). s.before) closed_is ∙ ap (λ (s : Room). closure (meet runs) s.before (items_of line)) seeded_is)
+      (ap (λ (s : Room). length s.slots) closed_is ∙ ap (λ (s : Room). length s.slots) seeded_is ∙ size) long
+      (subst (λ bs. Times bs closed.slots planned.slots) (sym (ap (λ (s : Room). s.before) planned_is)) holds)
+
+  -- the flags that were taken in are as many as the items
+  pub taken_flags : (was taken : Room) → IsRound was.before was.slots → taken ≡ record was { before = either_of was.before (misfits was.slots) } → length taken.before ≡ length line
+  taken_flags was taken round taken_is = ap (λ (s : Room). length s.before) taken_is ∙ either_size was.before (misfits was.slots) (barred_length was.before was.slots round) ∙ round.flags
+
+  -- .. and those of a closed set are
+  pub closed_flags : (seeded closed : Room) → closed ≡ record seeded { before = closure (meet runs) seeded.before (items_of line) } → length closed.before ≡ length line
+  closed_flags seeded closed closed_is = ap (λ (s : Room). length s.before) closed_is ∙ closure_size (meet runs) seeded.before (items_of line) ∙ items_length
+
+  -- .. and each further one
+  module _ (was taken closed planned : Room) (round : IsRound was.before was.slots) (taken_is : taken ≡ record was { before = either_of was.before (misfits was.slots) }) (closed_is : closed ≡ record taken { before = closure (meet runs) taken.before (items_of line) }) (planned_is : planned ≡ record closed { slots = planned.slots }) where
+    pub next_of : length planned.slots ≡ length closed.slots → Times closed.before closed.slots planned.slots → IsRound planned.before planned.slots
+    next_of long holds =
+        next_round was.before taken.before planned.before was.slots planned.slots round (ap (λ (s : Room). s.before) taken_is) (ap (λ (s : Room). s.before) planned_is ∙ ap (λ (s : Room). s.before) closed_is)
+        (long ∙ ap length slots_stay)
+        (subst (λ ss. Times planned.before ss planned.slots) slots_stay (subst (λ bs. Times bs closed.slots planned.slots) (sym (ap (λ (s : Room). s.before) planned_is)) holds))
+      where
+        slots_stay : closed.slots ≡ was.slots
+        slots_stay = ap (λ (s : Room). s.slots) closed_is ∙ ap (λ (s : Room). s.slots) taken_is
+
+    -- fewer items are outside
+    pub next_fewer : count_by not taken.before < count_by not was.before → count_by not planned.before < count_by not was.before
+    next_fewer less =
+        let most : count_by not planned.before ≤ count_by not taken.before = subst (λ bs. count_by not bs ≤ count_by not taken.before) (sym (ap (λ (s : Room). s.before) planned_is ∙ ap (λ (s : Room). s.before) closed_is))
+        (outside_part taken.before (closure (meet runs) taken.before (items_of line)) (closure_holds (meet runs) taken.before (items_of line) (ap (λ (s : Room). length s.before) taken_is ∙ either_size was.before (misfits was.slots) (barred_length was.before was.slots round) ∙ round.flags ∙ sym items_length))) in
+        omega (arith, less, most)
+
+  -- The last one: none does not fit
+
+  module _ (before found : List Bool) (slots : List Slot) (was : IsRound before slots) (found_is : found ≡ either_of before (misfits slots)) (none : found ≡ before) where
+    line_length : (s : Configuration) → IsStandingOf s table line history runs → length line ≡ length (read_of s).line
+    line_length s parts = sym items_length ∙ ap length parts.its_line.items
+
+    pub least_told : IsLeastOf table line history runs r m before
+    least_told s parts timed = record {
+      fitting = record {
+        closed = subst (λ is. IsClosed (meet s.setting.runs) before is) parts.its_line.items (subst (λ rs. IsClosed (meet rs) before (items_of line)) (sym parts.its_roster) was.closed);
+        holds = (was.grown s parts timed).holds;
+        fits = subst (IsPart (map (bars s.setting (read_of s) r m before) (read_of s).line)) (sym (barred before slots was s parts timed) ∙ sym found_is ∙ none) (either_second before (map (bars s.setting (read_of s) r m before) (read_of s).line) long);
+      };
+      least = λ other fitting. part_of_part before (gap_set s.setting (read_of s) r m) other (was.grown s parts timed).part ((gap_least s.setting (read_of s) r m).least other fitting);
+    }
+      where
+        long : length before ≡ length (map (bars s.setting (read_of s) r m before) (read_of s).line)
+        long = was.flags ∙ line_length s parts ∙ sym (length-map (read_of s).line (bars s.setting (read_of s) r m before))
+
+    pub set_told : IsSetOf table line history runs r m before
+    set_told s parts timed =
+        same_least (meet s.setting.runs) (base_of s.setting (read_of s) r) (bars s.setting (read_of s) r m) (read_of s).line before (gap_set s.setting (read_of s) r m) (least_told s parts timed) (gap_least s.setting (read_of s) r m)
+
+    pub earliest_told : IsEarliestOf table line history runs r m before
+    earliest_told s parts timed =
+        ((least_told s parts timed).fitting, subst (IsEarliestSet s.setting (read_of s) r m) (sym (set_told s parts timed)) (gap_is_earliest s.setting (read_of s) r m))
+
+    pub planned_told : IsPlanOf table line history runs r m slots
+    planned_told s parts timed = subst (λ bs. HoldsTimes slots (planned_times s.setting (read_of s) r (chosen bs (read_of s).line) m)) (set_told s parts timed) (was.planned s parts timed)
+
+    pub place_told : (place : ℕ) → place ≡ count_by (λ c. c) before → IsPlaceOf table line history runs r m place
+    place_told place is s parts timed =
+        (refl, ap (λ bs. length (chosen bs (read_of s).line)) (sym (set_told s parts timed)) ∙ count_chosen before (read_of s).line (was.flags ∙ line_length s parts) ∙ sym is)
+
+    pub place_within : (place : ℕ) → place ≡ count_by (λ c. c) before → place ≤ length line
+    place_within place is = let most = count_within before in let long = was.flags in omega (arith, is, most, long)

@@ -1,0 +1,22 @@
+use Rattle.command_rules.specs.Rosters.{runs_of}
+use Rattle.lineage_table.specs.Accesses.{access_of}
+use Rattle.lineage_table.specs.Lineages.{accesses_at}
+use Rattle.std.proofs.Common.{length, ◌-◌, ◌≡◌}
+use Rattle.std.specs.Prelude.{fold, max}
+use Rattle.timeline_scheduler.proofs.DeviceWalks.{rest}
+use Rattle.timeline_scheduler.proofs.slots.Slots.pass_accesses.Given as goal
+use Rattle.timeline_scheduler.specs.Slots.{changed, devices_passed, end_of_access, is_passed, slot_passed, whole_passed}
+
+-- the devices that are left make the slots and the end what they must be
+abbrev pub invariant-devices : goal.invariant-devices
+invariant-devices l = record {
+  size : length l.self-inside.slots.items ≡ length l.s.table.now;
+  nears : length l.self-inside.nears.items ≡ length l.s.table.now;
+  slots : changed (slot_passed l.s.table.now l.doomed l.x.0) (rest (is_passed l.s.table.now (runs_of l.s.roster.now) l.fn.r.0 l.x.0) (length l.s.table.now) l.from.0) l.self-inside.slots.items
+      ≡ changed (slot_passed l.s.table.now l.doomed l.x.0) (devices_passed l.s.table.now (runs_of l.s.roster.now) l.fn.r.0 l.x.0) l.initial.self-inside.slots.items;
+  whole : fold (λ t d. max t (end_of_access (access_of l.x.0 (accesses_at l.s.table.now d)))) l.whole (rest (is_passed l.s.table.now (runs_of l.s.roster.now) l.fn.r.0 l.x.0) (length l.s.table.now) l.from.0)
+      ≡ whole_passed l.s.table.now (runs_of l.s.roster.now) l.fn.r.0 l.x.0;
+}
+
+abbrev pub decreases-devices : goal.decreases-devices
+decreases-devices l = length l.s.table.now - l.from.0

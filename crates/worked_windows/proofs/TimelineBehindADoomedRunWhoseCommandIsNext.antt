@@ -1,0 +1,39 @@
+-- The window timeline-behind-a-doomed-run-whose-command-is-next: timeline: a doomed run whose next command is on a device of the run is in its base.
+use Rattle.worked_windows.proofs.Words.{Aborted, Absent, Arrived, At, Busy, Check, Commands, Committed, Did, Doomed, Ended, Entry, Eventual, Fine, Found, HandsOut, IsWorked, List, Moves, None, Over, Placed, Ran, Refuted, Sensed, Set, Setting, Some, States, Table, Timeline, Waits, Worked, [], chosen, closure, device_no, either_of, gap_set, give, held, no_grips, others, refl, row, run_no, slice_set, split_at, split_of, still, true, ◌∷◌}
+
+abbrev pub window : Setting
+window = record {
+  runs = record { commands = record { device = device_no 1; job = Check 1; must = true; ms = 100; takes = 0 } ∷ record { device = device_no 0; job = Set 1; must = true; ms = 100; takes = 100 } ∷ []; follows = None }
+      ∷ record { commands = record { device = device_no 0; job = Set 0; must = true; ms = 10; takes = 10 } ∷ []; follows = None } ∷ [];
+  mode = record { model = Eventual; scheduler = Timeline };
+  kinds = States 2 ∷ States 2 ∷ [];
+  first = record { value = 0; up = true } ∷ record { value = 0; up = true } ∷ [];
+}
+
+abbrev pub history : List Entry
+history = Arrived (run_no 1) 0 ∷ Placed (run_no 1) 0 0 ∷ Did (run_no 1) 0 (Found 0) ∷ Doomed (run_no 1) (Refuted 0 0) ∷ Arrived (run_no 2) 0
+    ∷ Placed (run_no 2) 1 0 ∷ Ended (run_no 1) (Aborted (Refuted 0 0)) ∷ Did (run_no 2) 0 Fine ∷ Ended (run_no 2) Committed ∷ []
+
+abbrev pub table : Table
+table = record {
+  first = record { line = []; up = true ∷ true ∷ []; writers = None ∷ None ∷ []; values = 0 ∷ 0 ∷ []; holders = [] ∷ [] ∷ []; touched = [] ∷ [] ∷ []; first_places = []; places = []; overdue = []; starts = []; ends = []; whole_ends = []; choices = Absent ∷ Moves (Arrived (run_no 1) 0 ∷ []) ∷ Moves (Arrived (run_no 2) 0 ∷ []) ∷ [] };
+  rows = still 0 no_grips 0
+      ∷ row 1 no_grips 0 (λ p. record p { first_places = 0 ∷ []; places = At (split_at [] 0) ∷ []; choices = slice_set p.choices 1 (Moves (Placed (run_no 1) 0 0 ∷ [])) })
+      ∷ row 2 no_grips 0 (λ p. record p { line = Ran (run_no 1) ∷ []; holders = (1 ∷ []) ∷ (1 ∷ []) ∷ []; first_places = []; places = []; overdue = (None ∷ None ∷ []) ∷ []; starts = (100 ∷ 0 ∷ []) ∷ []; ends = (200 ∷ 100 ∷ []) ∷ []; whole_ends = 200 ∷ []; choices = slice_set p.choices 1 (HandsOut 1 (Commands 0)) })
+      ∷ row 2 (held 1 1 (Commands 0) no_grips) 0 (λ p. record p { touched = [] ∷ (1 ∷ []) ∷ []; choices = slice_set p.choices 1 (Waits (Busy (device_no 1))) })
+      ∷ row 4 no_grips 0 (λ p. record p { holders = [] ∷ [] ∷ []; choices = slice_set p.choices 1 (Over (Aborted (Refuted 0 0)) (Ended (run_no 1) (Aborted (Refuted 0 0)) ∷ [])) })
+      ∷ row 5 no_grips 0 (λ p. record p { first_places = 0 ∷ []; places = At (split_at (Ran (run_no 1) ∷ []) 1) ∷ []; choices = slice_set p.choices 2 (Moves (Placed (run_no 2) 1 0 ∷ [])) })
+      ∷ row 6 no_grips 0 (λ p. record p { line = Ran (run_no 1) ∷ Ran (run_no 2) ∷ []; holders = (2 ∷ []) ∷ [] ∷ []; first_places = []; places = []; overdue = (None ∷ None ∷ []) ∷ (None ∷ None ∷ []) ∷ []; starts = (100 ∷ 0 ∷ []) ∷ (0 ∷ []) ∷ []; ends = (200 ∷ 100 ∷ []) ∷ (10 ∷ []) ∷ []; whole_ends = 200 ∷ 10 ∷ []; choices = slice_set p.choices 2 (HandsOut 0 (Commands 0)) })
+      ∷ row 7 no_grips 0 (λ p. record p { line = Ran (run_no 2) ∷ []; overdue = (None ∷ None ∷ []) ∷ []; starts = (0 ∷ []) ∷ []; ends = (10 ∷ []) ∷ []; whole_ends = 10 ∷ []; choices = slice_set p.choices 1 (Over (Aborted (Refuted 0 0)) []) })
+      ∷ row 7 (held 0 2 (Commands 0) no_grips) 0 (λ p. record p { touched = (2 ∷ []) ∷ (1 ∷ []) ∷ []; choices = slice_set p.choices 2 (Waits (Busy (device_no 0))) })
+      ∷ row 8 no_grips 10 (λ p. record p { writers = Some 2 ∷ None ∷ []; holders = [] ∷ [] ∷ []; choices = slice_set p.choices 2 (Over Committed (Ended (run_no 2) Committed ∷ [])) })
+      ∷ row 9 no_grips 10 (λ p. record p { overdue = []; starts = []; ends = []; whole_ends = []; choices = slice_set p.choices 2 (Over Committed []) }) ∷ [];
+  gives = give 2 1 1 (Commands 0) (Sensed 0) (Did (run_no 1) 0 (Found 0) ∷ Doomed (run_no 1) (Refuted 0 0) ∷ [])
+      ∷ give 7 0 2 (Commands 0) Worked (Did (run_no 2) 0 Fine ∷ []) ∷ [];
+  calls = 1 ∷ 1 ∷ [];
+  outcome = record { order = Ran (run_no 2) ∷ []; home = record { value = 0; up = true } ∷ record { value = 0; up = true } ∷ []; answers = record { run = run_no 2; answers = Fine ∷ [] } ∷ [] };
+}
+
+is_worked : IsWorked window history table
+unfolding chosen closure either_of gap_set others split_of
+is_worked = record { points = refl; clauses = refl; gives = refl; calls = refl; ended = refl; allowed = refl; order = refl; answers = refl }

@@ -1,0 +1,72 @@
+"""The gaps of a line: which of its items stand before a run that the timeline places, and how they come there.
+
+An item must stand before each one behind it from which it is not apart. A set of items is told by their places in the line as
+it stands. It is closed where it has, with each item, all that must stand before it.
+"""
+from reference.serial import Ran
+
+
+class Gap:
+    """Where a run comes into the line of a history, planned from this moment on."""
+
+    def __init__(self, history, run, moment):
+        self.history, self.run, self.moment = history, run, moment
+        self.line = list(history.line)
+        needed = {place for place, item in enumerate(self.line) if self.needs(item)}
+        self.chosen = self.closed(needed | set(range(self.first_live())))
+        while misfits := self.misfits():
+            self.chosen = self.closed(self.chosen | misfits)
+
+    @property
+    def before(self):
+        """The items that stand before the run, in their order."""
+        return [item for place, item in enumerate(self.line) if place in self.chosen]
+
+    @property
+    def behind(self):
+        return [item for place, item in enumerate(self.line) if place not in self.chosen]
+
+    def devices(self, item):
+        return set(self.history.runs[item.run].footprint) if isinstance(item, Ran) else {item.device}
+
+    def follows(self, item, other):
+        return isinstance(item, Ran) and isinstance(other, Ran) and self.history.runs[item.run].follows == other.run
+
+    def are_apart(self, item, other):
+        """Whether two neighbours may change places: no device is used by both, and neither follows the other."""
+        shared = self.devices(item) & self.devices(other)
+        return not (shared or self.follows(item, other) or self.follows(other, item))
+
+    def closed(self, places):
+        """The least closed set with these places. What an item brings in stands before it, so once from the end on is enough."""
+        chosen = set()
+        for place in reversed(range(len(self.line))):
+            if place in places or any(not self.are_apart(self.line[place], self.line[later]) for later in chosen):
+                chosen.add(place)
+        return chosen
+
+    def first_live(self):
+        """The place of the first live run, or the end."""
+        lives = [place for place, item in enumerate(self.line) if isinstance(item, Ran) and self.history.is_live(item.run)]
+        return min(lives, default=len(self.line))
+
+    def needs(self, item):
+        """Whether the item stands before the run whatever is planned: it has used a device of the run, or may do so next."""
+        own = set(self.history.runs[self.run].footprint)
+        if not isinstance(item, Ran):
+            return item.device in own
+        following = self.history.next_command(item.run)
+        is_next = self.history.is_live(item.run) and following is not None and following.device in own
+        is_followed = self.history.is_committed(item.run) and self.history.runs[self.run].follows == item.run
+        return is_next or is_followed or not own.isdisjoint(self.history.sees_up[item.run])
+
+    def misfits(self):
+        """The places of the live runs, outside of the set, that are to begin on a device before the run is done there."""
+        plan = self.history.planned_times(self.run, self.before, self.moment)
+        places = set()
+        for place, item in enumerate(self.line):
+            if place not in self.chosen and isinstance(item, Ran) and self.history.is_live(item.run):
+                planned = self.history.plans[item.run]
+                if any(planned[device][0] < end for device, (_, end) in plan.items() if device in planned):
+                    places.add(place)
+        return places
