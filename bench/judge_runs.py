@@ -48,7 +48,22 @@ def fails(device, command, answer):
     """Whether the answer is that of a must command that has failed."""
     if not command.get("must", True):
         return False
-    return answer == "-" or (command["do"] == "check" and answer != wanted(device, command))
+    return answer == "-" or (command["do"] == "check" and answer not in ("/", wanted(device, command)))
+
+
+def is_done(command, register):
+    """Whether the command's guard holds."""
+    when = command.get("when", {})
+    return register == when.get("is", register) and register < when.get("below", register + 1)
+
+
+def loaded(commands, answers):
+    """The register of a run with these answers."""
+    register = 0
+    for command, answer in zip(commands, answers):
+        if command["do"] == "load" and answer not in ("-", "/"):
+            register = answer
+    return register
 
 
 def executed(home, devices, commands):
@@ -56,7 +71,9 @@ def executed(home, devices, commands):
     register, answers = 0, []
     for command in commands:
         device, place = devices[command["on"]], home[command["on"]]
-        if not place["up"]:
+        if not is_done(command, register):
+            answers.append("/")
+        elif not place["up"]:
             answers.append("-")
         elif command["do"] in ("set", "store"):
             place["value"] = wanted(device, command) if command["do"] == "set" else nearest(device, register)
@@ -93,7 +110,7 @@ class Window:
         return r, self.runs[r - 1][c - 1]
 
     def answer(self, command, word):
-        return word if word in (".", "-") else value_of(self.devices[command["on"]], word)
+        return word if word in (".", "-", "/") else value_of(self.devices[command["on"]], word)
 
 
 def deadline(commands, placed, device, timeline):
@@ -111,7 +128,9 @@ def expect_overdue(window, borrower, words, placed, live, answers, planned):
     expect(borrower in live and lender in live and lender != borrower, "a lease is revoked of or for a run that is not live")
     expect(list(placed).index(lender) < list(placed).index(borrower), "a lease is revoked for a run that was placed later")
     asked = window.runs[lender - 1][len(answers[lender]):]
-    expect(asked and asked[0]["on"] == device, "a lease is revoked of a device that is not asked for")
+    register = loaded(window.runs[lender - 1], answers[lender])
+    is_asked = asked and asked[0]["on"] == device and is_done(asked[0], register)
+    expect(is_asked, "a lease is revoked of a device that is not asked for")
     held = window.runs[borrower - 1][len(answers[borrower]):]
     expect(any(command["on"] == device for command in held), "a lease is revoked of a run that is done on the device")
     commands = window.runs[borrower - 1]
@@ -143,10 +162,13 @@ def walked(window, home, model, scheduler):
             r, command = window.command(entry[1])
             answer, place = window.answer(command, entry[2]), home[command["on"]]
             expect(r not in ended and command is window.runs[r - 1][len(answers[r])], "a command is answered out of turn")
+            skips = not is_done(command, loaded(window.runs[r - 1], answers[r]))
+            expect((answer == "/") == skips, "a command is skipped whose guard holds, or done though it does not")
+            expect(not skips or str(r) not in doomed, "a doomed run skips a command")
             answers[r].append(answer)
-            seen = [a for c, a in zip(window.runs[r - 1], answers[r][:-1]) if c["on"] == command["on"]]
+            seen = [a for c, a in zip(window.runs[r - 1], answers[r][:-1]) if c["on"] == command["on"] and a != "/"]
             expect(answer != "-" or not place["up"] or (not weak and "-" in seen[:1]), "Down is answered where the device is up")
-            if weak and answer not in (".", "-"):
+            if weak and answer not in (".", "-", "/"):
                 expect(answer == place["value"], "a read finds another value than the last write left")
             if weak and answer == ".":
                 place["value"] = written(window.devices[command["on"]], command, window.runs[r - 1], answers[r])
@@ -179,13 +201,7 @@ def walked(window, home, model, scheduler):
 
 def written(device, command, commands, answers):
     """What a store or a set writes whose run has these answers."""
-    if command["do"] == "set":
-        return wanted(device, command)
-    register = 0
-    for before, answer in zip(commands, answers):
-        if before["do"] == "load" and answer != "-":
-            register = answer
-    return nearest(device, register)
+    return wanted(device, command) if command["do"] == "set" else nearest(device, loaded(commands, answers))
 
 
 def judged(window, home, model, scheduler):

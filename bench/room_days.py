@@ -1,11 +1,11 @@
 #!/usr/bin/env python3
 """Has drawn days of two to eight rooms played by `rooms`, and judges each record.
 
-    python3 bench/room_days.py [--program P] [--days N] [--seed S] [--merges M]
+    python3 bench/room_days.py [--program P] [--days N] [--seed S] [--merges M] [--guards]
 
 By default 100 days of the seed 1, with crates/hub_main/out/hub_main, which `rt run` and `rt ci` build. Devices fail and are probed,
-runs follow others, and each day is played in one mode after another, but for the weak model. Which threads step first is not
-the day's to say, so no record is expected:
+runs follow others, and each day is played in one mode after another, but for the weak model; with `--guards` many commands have
+guards. Which threads step first is not the day's to say, so no record is expected:
 
 - a day in which a run crosses rooms is refused as the reference refuses it, and nothing is written;
 - every other one ends with 0, and `check` finds that its record agrees;
@@ -61,10 +61,11 @@ def thinned(script):
 
 
 class Day:
-    def __init__(self, program, draw, number):
+    def __init__(self, program, draw, number, has_guards):
         self.program, self.draw = program, draw
         self.is_thin = number % 3 == 2
         made = days.with_picks(draw, days.room_day(draw))
+        made = days.guarded(draw, made) if has_guards else made
         self.data = json.dumps(thinned(made) if self.is_thin else made).encode()
         self.script = read_script(self.data)
         self.words = ["rooms", "--model", SERIAL[number % len(SERIAL)][0], "--scheduler", SERIAL[number % len(SERIAL)][1]]
@@ -130,12 +131,13 @@ def main():
     options.add_argument("--days", type=int, default=100)
     options.add_argument("--seed", type=int, default=1)
     options.add_argument("--merges", type=int, default=10)
+    options.add_argument("--guards", action="store_true")
     asked = options.parse_args()
     if not os.path.isfile(asked.program):
         sys.exit("room_days: there is no such program; `rt run` in crates/hub_main builds it")
     counts = collections.Counter()
     for k in range(asked.days):
-        day = Day(os.path.abspath(asked.program), random.Random(f"{asked.seed} {k}"), k)
+        day = Day(os.path.abspath(asked.program), random.Random(f"{asked.seed} {k}"), k, asked.guards)
         try:
             counts["days played" if day.play(asked.merges) else "days refused"] += 1
         except Wrong as wrong:

@@ -1,13 +1,14 @@
 #!/usr/bin/env python3
 """Plays drawn days through the built program, day after day, and judges all that it does.
 
-    soak.py [--seed S] [--days N] [--first K] [--program P] [--seconds-per-call B]
+    soak.py [--seed S] [--days N] [--first K] [--guards] [--program P] [--seconds-per-call B]
 
 By default 2000 days of the seed 1, through crates/hub_main/out/hub_main, which `rt run` and `rt ci` build. Each day is drawn
 from the seed and its own number, so `--first K --days 1` plays one again. One in four is wide: 5 to 24 devices, 8 to 64 runs
 a window; the others are small (reference/days.py). All have commands of every job, devices that fail in calls of listed numbers,
 probes, runs that follow others, turns and seeds, and each is played in one mode after another: under each model, just in time, by
-the timeline; three in four with the trace. One in eight is spoiled, so that it is refused as a rule.
+the timeline; three in four with the trace. One in eight is spoiled, so that it is refused as a rule. With `--guards` many commands
+have guards.
 
 - `replay`: status, record and standard error are the reference's, byte for byte.
 - `run`: a spoiled day ends as its replay does. Which threads step first is not the day's to say, so no record is expected of
@@ -67,11 +68,13 @@ def wide_day(draw):
 class Day:
     """A drawn day: its mode, its script, and the script's text, which is spoiled in one of eight."""
 
-    def __init__(self, seed, k):
+    def __init__(self, seed, k, has_guards):
         draw = random.Random(f"{seed} {k}")
         self.name, self.draw = f"{seed}-{k}", draw
         self.model, self.scheduler = MODES[k % len(MODES)]
         self.script = days.with_picks(draw, wide_day(draw)) if draw.random() < 0.25 else days.day_for(draw, self.scheduler)
+        if has_guards:
+            days.guarded(draw, self.script)
         self.is_spoiled, self.is_traced = draw.random() < 0.125, draw.random() < 0.75
         self.text = (days.spoiled(draw, self.script) if self.is_spoiled else json.dumps(self.script)).encode()
 
@@ -151,6 +154,7 @@ def main():
     options.add_argument("--seed", type=int, default=1)
     options.add_argument("--days", type=int, default=2000)
     options.add_argument("--first", type=int, default=0)
+    options.add_argument("--guards", action="store_true")
     options.add_argument("--program", default=PROGRAM)
     options.add_argument("--seconds-per-call", type=float, default=30)
     asked = options.parse_args()
@@ -159,14 +163,15 @@ def main():
         sys.exit("soak: there is no such program; `rt run` in crates/hub_main builds it")
     soak = Soak(program, asked.seconds_per_call)
     for k in range(asked.first, asked.first + asked.days):
-        day = Day(asked.seed, k)
+        day = Day(asked.seed, k, asked.guards)
         try:
             soak.play(day)
         except (Wrong, ValueError, LookupError) as wrong:
             soak.tell_trouble(day, wrong)
             sys.exit(1)
     told = ", ".join(f"{name} {count}" for name, count in sorted(soak.counts.items()))
-    print(f"{asked.days} days of the seed {asked.seed} from {asked.first}: {told}; the longest call"
+    guards = " with guards" if asked.guards else ""
+    print(f"{asked.days} days{guards} of the seed {asked.seed} from {asked.first}: {told}; the longest call"
           f" {soak.longest:.2f} s; no trouble")
 
 

@@ -52,22 +52,36 @@ class Timeline:
 
     # What a run does on a device
 
+    def answers_on(self, r, device):
+        """What the run was answered on the device."""
+        return [self.answers[r][c] for c in self.uses[r].get(device, []) if c < len(self.answers[r])]
+
     def is_touched(self, r, device):
-        """Whether a command of the run on the device is answered."""
-        return device in self.uses[r] and self.uses[r][device][0] < len(self.answers[r])
+        """Whether a command of the run on the device is answered, and not skipped."""
+        return any(answer != "/" for answer in self.answers_on(r, device))
 
     def is_open(self, r, device):
         """Whether one is not."""
         return device in self.uses[r] and self.uses[r][device][-1] >= len(self.answers[r])
 
+    def has_passed(self, r, device):
+        """Whether all commands of the run on the device were skipped."""
+        return not self.is_open(r, device) and not self.is_touched(r, device)
+
     def writes(self, r, device):
         return any(self.commands[r][c]["do"] in ("set", "store") for c in self.uses[r].get(device, []))
 
     def has_written(self, r, device):
-        return any(self.answers[r][c] == "." for c in self.uses[r].get(device, []) if c < len(self.answers[r]))
+        return "." in self.answers_on(r, device)
 
     def reads_first(self, r, device):
-        return self.commands[r][self.uses[r][device][0]]["do"] in ("check", "load")
+        """Whether a command on the device reads before one without a guard writes."""
+        for c in self.uses[r][device]:
+            if self.commands[r][c]["do"] in ("check", "load"):
+                return True
+            if "when" not in self.commands[r][c]:
+                return False
+        return False
 
     def devices(self, item):
         """The devices of a run's commands, or that of a failure or restart."""
@@ -76,7 +90,7 @@ class Timeline:
     def event_place(self, device):
         """Before the first live run that is not doomed and has yet to touch the device."""
         for k, x in enumerate(self.line):
-            if x in self.live and x not in self.doomed and device in self.uses[x] and not self.is_touched(x, device):
+            if x in self.live and x not in self.doomed and self.is_open(x, device) and not self.is_touched(x, device):
                 return k
         return len(self.line)
 
@@ -84,7 +98,7 @@ class Timeline:
 
     def whole_end(self, x):
         behind = [y for y in self.line[self.line.index(x) + 1:] if y in self.committed]
-        counted = [d for d in self.plans[x] if not any(self.has_written(y, d) for y in behind)]
+        counted = [d for d in self.plans[x] if not self.has_passed(x, d) and not any(self.has_written(y, d) for y in behind)]
         return max((self.plans[x][d][1] for d in counted), default=0)
 
     def wait_for(self, free, r, x):
@@ -154,8 +168,9 @@ class Timeline:
             taken = self.closed(taken | early)
 
     def begins_within(self, x, planned):
-        """Whether the run is planned to begin on a device before it is free of what is planned so."""
-        return any(self.plans[x][d][0] < end for d, (_, end) in planned.items() if d in self.plans[x])
+        """Whether the run is planned to begin on a device, and has not passed it, before it is free of what is planned so."""
+        both = [d for d in planned if d in self.plans[x] and not self.has_passed(x, d)]
+        return any(self.plans[x][d][0] < planned[d][1] for d in both)
 
     def is_place(self, r, place, moment):
         """Whether the run may have been placed there at this moment."""
@@ -174,7 +189,8 @@ class Timeline:
 
     def first_start(self, device, items):
         """When the first live run among the items that uses the device is planned to begin there."""
-        return next((self.plans[x][device][0] for x in items if x in self.live and device in self.uses[x]), GREATEST)
+        users = [x for x in items if x in self.live and device in self.uses[x] and not self.has_passed(x, device)]
+        return self.plans[users[0]][device][0] if users else GREATEST
 
 
 def used_by(commands):

@@ -96,7 +96,7 @@ enum {
     LAZBENDIX_COUNT_RUNS, LAZBENDIX_COUNT_TURNS, LAZBENDIX_COUNT_PROBES
 };
 typedef struct lazbendix_fault {
-    uint64_t count; /* how many there are of what there are too many, or the version that is not 1 */
+    uint64_t count; /* how many there are of what there are too many, or the version, where it is neither 1 nor 2 */
     uint64_t limit; /* how many there may be */
     uint32_t kind, counted, part, outer, inner;
     uint32_t zero;  /* always 0 */
@@ -114,7 +114,7 @@ enum {
     LAZBENDIX_COMMITTED,   /* run */
     LAZBENDIX_ABORTED      /* run, cause */
 };
-enum { LAZBENDIX_FINE = 1, LAZBENDIX_FOUND, LAZBENDIX_DOWN };
+enum { LAZBENDIX_FINE = 1, LAZBENDIX_FOUND, LAZBENDIX_DOWN, LAZBENDIX_SKIPPED };
 enum {
     LAZBENDIX_MUST_DOWN = 1, /* command: a must command whose device was down */
     LAZBENDIX_REFUTED,       /* command, value: a must check that found this value */

@@ -6,7 +6,7 @@ import re
 
 from reference.history import MOST
 from reference.record import time_text
-from reference.serial import DOWN, FINE, Back, Failed, Ran, Stand, execute
+from reference.serial import DOWN, FINE, SKIPPED, Back, Failed, Ran, Stand, execute
 
 NUMBER = re.compile(r"0|[1-9][0-9]{0,19}", re.ASCII)
 EVENT = re.compile(r"(fail|back)\(([^()]*)\)")
@@ -80,7 +80,7 @@ class WindowChecker:
             self.need(words[3:4] == ["aborted"] and self.is_cause(self.commands(run), words[4:]), f"run {run}")
 
     def read_answer(self, run, command, word):
-        if word == DOWN or (word == FINE and command.writes):
+        if word == DOWN or (word == FINE and command.writes) or (word == SKIPPED and command.when is not None):
             return word
         value = value_in(self.script.devices[command.device], word) if command.reads else None
         self.need(value is not None, f"run {run}")

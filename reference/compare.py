@@ -1,14 +1,14 @@
 #!/usr/bin/env python3
 """Compares the built program with this reference, on days that are drawn from a seed.
 
-    python3 reference/compare.py [--days N] [--seed S] [--program COMMAND | --cases FOLDER]
+    python3 reference/compare.py [--days N] [--seed S] [--guards] [--program COMMAND | --cases FOLDER]
 
-By default 1000 days of the seed 1, and crates/hub_main/out/hub_main, which `rt run` and `rt ci` build there. Each day is
-replayed with its trace, in one mode after another; every fourth script is spoiled first, so that it is refused as a rule; and
-the record of every fourth day is checked, half of these with one word changed. Every second day is kept besides, in a file
-that is empty, or keeps its first windows, in some of them with one byte changed. Standard output, standard error, the status
-and the file must be the same, byte for byte. Prints the first call that differs, with its script made as short as it still
-differs, and ends with 1.
+By default 1000 days of the seed 1, and crates/hub_main/out/hub_main, which `rt run` and `rt ci` build there. With `--guards`
+they are of version 2, and many commands have guards. Each day is replayed with its trace, in one mode after another; every
+fourth script is spoiled first, so that it is refused as a rule; and the record of every fourth day is checked, half of these
+with one word changed. Every second day is kept besides, in a file that is empty, or keeps its first windows, in some of them
+with one byte changed. Standard output, standard error, the status and the file must be the same, byte for byte. Prints the
+first call that differs, with its script made as short as it still differs, and ends with 1.
 
 With `--cases` nothing is played: the calls are written as cases into the folder, which is made, but for those with a file.
 Before the program is proved and built, `rt try --cases FOLDER` in crates/hub_main plays them and compares standard output.
@@ -137,11 +137,11 @@ def file_for(draw, words, script):
     return bytes(file)
 
 
-def calls_of(draw, k):
+def calls_of(draw, k, version):
     """The words, the input, the file or none, and the script, where it can be shortened, of each call for the day."""
     model, scheduler = MODES[k % len(MODES)]
     words = ["replay", "--trace", "--model", model, "--scheduler", scheduler]
-    script = days.day_for(draw, scheduler)
+    script = days.day_for(draw, scheduler, version)
     if k % 4 == 3:
         yield words, days.spoiled(draw, script).encode(), None, None
         return
@@ -165,7 +165,7 @@ def write_cases(folder, asked):
     os.makedirs(folder)
     draw = random.Random(asked.seed)
     for k in range(asked.days):
-        for words, data, file, _ in calls_of(draw, k):
+        for words, data, file, _ in calls_of(draw, k, 2 if asked.guards else 1):
             if file is not None:
                 continue
             name = os.path.join(folder, f"{k:05}-{words[0]}")
@@ -178,6 +178,7 @@ def main():
     options = argparse.ArgumentParser(description=__doc__.splitlines()[0])
     options.add_argument("--days", type=int, default=1000)
     options.add_argument("--seed", type=int, default=1)
+    options.add_argument("--guards", action="store_true")
     options.add_argument("--program", default=shlex.quote(PROGRAM))
     options.add_argument("--cases")
     asked = options.parse_args()
@@ -189,19 +190,20 @@ def main():
         sys.exit("compare: there is no such program; `rt run` in crates/hub_main builds it")
     program, draw, statuses = [os.path.abspath(shutil.which(first)), *rest], random.Random(asked.seed), collections.Counter()
     for k in range(asked.days):
-        for words, data, file, script in calls_of(draw, k):
+        for words, data, file, script in calls_of(draw, k, 2 if asked.guards else 1):
             def differs(data):
                 return wanted(words, data, file) != given(program, words, data, file)
 
             if differs(data):
                 if script is not None:
                     data = json.dumps(shortened(script, differs)).encode()
-                print(f"day {k} of the seed {asked.seed}, {' '.join(words)}:\n{data.decode()}")
+                guards = " with guards" if asked.guards else ""
+                print(f"day {k} of the seed {asked.seed}{guards}, {' '.join(words)}:\n{data.decode()}")
                 show(program, words, data, file)
                 sys.exit(1)
             statuses[wanted(words, data, file)[0]] += 1
     told = ", ".join(f"{count} with status {status}" for status, count in sorted(statuses.items()))
-    print(f"{asked.days} days of the seed {asked.seed}: {told}; no difference")
+    print(f"{asked.days} days of the seed {asked.seed}{' with guards' if asked.guards else ''}: {told}; no difference")
 
 
 if __name__ == "__main__":

@@ -1,5 +1,5 @@
 """Days that are drawn: small ones with much in them, some of them in rooms, the same with turns and times for a replay,
-spoiled ones, and trials.
+with guards as scripts of version 2, spoiled ones, and trials.
 
 What draws the first three is a `random.Random`, so that a seed gives the same days again.
 """
@@ -77,9 +77,10 @@ def day(draw):
     return {"safehome": 1, "devices": devices, "routines": routines, "windows": windows}
 
 
-def day_for(draw, scheduler):
+def day_for(draw, scheduler, version=1):
     """A small day with turns and times; half of those for the timeline are such as it rearranges its line for."""
-    return gap_day(draw) if scheduler == "timeline" and draw.random() < 0.5 else with_picks(draw, day(draw))
+    made = gap_day(draw) if scheduler == "timeline" and draw.random() < 0.5 else with_picks(draw, day(draw))
+    return made if version == 1 else guarded(draw, made)
 
 
 def gap_command(draw, device):
@@ -173,12 +174,26 @@ def with_picks(draw, script):
     return script
 
 
+def guarded(draw, script):
+    """The script as one of version 2: many commands have guards, and before these often stands a load."""
+    script["safehome"] = 2
+    for routine in script["routines"]:
+        commands = routine["commands"]
+        if draw.random() < 0.5:
+            commands.insert(0, {"on": draw.choice(commands)["on"], "do": "load", "must": draw.random() < 0.5})
+        for command in commands:
+            if draw.random() < 0.4:
+                command["when"] = {draw.choice(["is", "below"]): draw.choice([0, 0, 1, 1, 2, 3])}
+    return script
+
+
 # Spoiled days
 
 ODD = [None, True, 0, 1, -1, 1.5, 2**32 - 1, 2**32, 2**64, "", "off", "d0", "D0", "2021-04-26T07:00:00Z", "2021-04-26", [], [[]],
        [0], {}, [3, 3], 256, 101, 3_600_001]
 MEMBERS = ["safehome", "name", "low", "states", "down", "to", "must", "ms", "takes", "do", "on", "turns", "seed", "probes",
            "follows", "runs", "routine", "at", "other"]
+ODD_GUARDS = [{"is": 2**32 - 1}, {"below": 2**32}, {"is": 0, "below": 1}, {"above": 1}, {"is": "s0"}, {"is": 1.0}, {"below": -1}]
 
 
 def places_in(value):
@@ -196,14 +211,15 @@ def spoiled(draw, script):
         at = draw.randrange(len(text))
         return text[:at] + draw.choice(["", text[at + 1 :], "," + text[at:], "0" + text[at:]])
     script = copy.deepcopy(script)
+    has_guards = script["safehome"] == 2
     place = draw.choice(list(places_in(script)))
-    odd = copy.deepcopy(draw.choice(ODD))
+    odd = copy.deepcopy(draw.choice(ODD + ODD_GUARDS if has_guards else ODD))
     if isinstance(place, list):
         place.insert(draw.randint(0, len(place)), odd if draw.random() < 0.5 or not place else copy.deepcopy(draw.choice(place)))
     elif draw.random() < 0.3:
         del place[draw.choice(list(place))]
     else:
-        place[draw.choice(list(place) if draw.random() < 0.6 else MEMBERS)] = odd
+        place[draw.choice(list(place) if draw.random() < 0.6 else MEMBERS + ["when"] * has_guards)] = odd
     return json.dumps(script)
 
 

@@ -67,6 +67,7 @@ class Gap:
         for place, item in enumerate(self.line):
             if place not in self.chosen and isinstance(item, Ran) and self.history.is_live(item.run):
                 planned = self.history.plans[item.run]
-                if any(planned[device][0] < end for device, (_, end) in plan.items() if device in planned):
+                shared = [device for device in plan if device in planned and not self.history.has_skipped(item.run, device)]
+                if any(planned[device][0] < plan[device][1] for device in shared):
                     places.add(place)
         return places

@@ -7,7 +7,7 @@ from dataclasses import dataclass
 from typing import NamedTuple
 
 from reference.gaps import Gap
-from reference.serial import DOWN, FINE, Back, Failed, Ran
+from reference.serial import DOWN, FINE, SKIPPED, Back, Failed, Ran
 
 MOST = 2**64 - 1  # the greatest moment; sums stay at it
 
@@ -34,7 +34,7 @@ class Placed:
 class Did:
     run: int
     command: int
-    answer: str | int  # `FINE`, `DOWN`, or the value that a read found
+    answer: str | int  # `FINE`, `DOWN`, `SKIPPED`, or the value that a read found
 
 
 @dataclass(frozen=True)
@@ -109,7 +109,7 @@ class History:
         self.plans = {}  # of each placed run the planned start and end on each of its devices
         self.answers = {run: [] for run in runs}
         self.registers = dict.fromkeys(runs, 0)
-        self.sees_up = {run: {} for run in runs}  # its view of each device, which its first answer there fixes
+        self.sees_up = {run: {} for run in runs}  # its view of each device, which its first access there fixes
         self.wrote = {run: {} for run in runs}  # what it wrote last on each device
         self.undone = {run: set() for run in runs}
         self.dooms, self.ends = {}, {}  # causes; an end of None is a commit
@@ -132,6 +132,10 @@ class History:
     def is_open(self, run, device):
         return self.is_live(run) and run not in self.dooms and self.is_pending(run, device)
 
+    def has_skipped(self, run, device):
+        """Whether all commands of the run on the device were skipped."""
+        return not self.is_pending(run, device) and device not in self.sees_up[run]
+
     def next_command(self, run):
         done = len(self.answers[run])
         commands = self.runs[run].commands
@@ -147,7 +151,7 @@ class History:
         return self.runs_of(self.line[: self.line.index(Ran(run))])
 
     def event_place(self, device):
-        """Where a failure or a restart goes: before the first run that is open there and has no answer there."""
+        """Where a failure or a restart goes: before the first run that is open there and has no access there."""
         if self.mode.model != "wv":
             for place, item in enumerate(self.line):
                 if isinstance(item, Ran) and device not in self.sees_up[item.run] and self.is_open(item.run, device):
@@ -157,11 +161,11 @@ class History:
     # Planned times.
 
     def whole_end(self, run):
-        """The latest planned end on a device that no committed run behind it has written."""
+        """The latest planned end on a device that no committed run behind it has written, and where it has not skipped all."""
         behind = self.line[self.line.index(Ran(run)) + 1 :]
         committed = [item.run for item in behind if isinstance(item, Ran) and self.is_committed(item.run)]
-        ends = [end for device, (_, end) in self.plans[run].items() if not any(device in self.wrote[x] for x in committed)]
-        return max(ends, default=0)
+        passed = {device for device in self.plans[run] if self.has_skipped(run, device)}.union(*(self.wrote[x] for x in committed))
+        return max((end for device, (_, end) in self.plans[run].items() if device not in passed), default=0)
 
     def free(self, run, device, items):
         """From when on the device is free for a run behind these items. Only the timeline heeds it."""
@@ -224,7 +228,8 @@ class History:
 
     def add_answer(self, run, command, answer):
         self.answers[run].append(answer)
-        self.sees_up[run].setdefault(command.device, answer != DOWN)
+        if answer != SKIPPED:
+            self.sees_up[run].setdefault(command.device, answer != DOWN)
         if answer == FINE:
             driven = command.driven(self.kinds[command.device], self.registers[run])
             self.wrote[run][command.device] = self.last_write[command.device] = driven

@@ -8,7 +8,7 @@ from reference.devices import Drive, Grip, Probe, Sense, Slip
 from reference.gaps import Gap
 from reference.history import (MOST, Arrived, Did, Doomed, DownAtEnd, Ended, Fell, History, Lost, MustDown, Placed, Refuted,
                                Revoked, Rose, Undid)
-from reference.serial import DOWN, FINE, Ran, Stand
+from reference.serial import DOWN, FINE, SKIPPED, Ran, Stand
 
 PATIENCE = 10_000  # ms
 
@@ -227,6 +227,8 @@ class Hub:
 
     def decide_command(self, run, command, moment):
         history, device = self.history, command.device
+        if not command.is_done(history.registers[run]):
+            return self.strict_wait(run) or [Did(run, len(history.answers[run]), SKIPPED)]
         sees_down = not self.is_weak and not history.sees_up[run].get(device, True)
         if not self.is_weak:
             borrower = self.overdue(run, device, moment)
@@ -252,7 +254,11 @@ class Hub:
             writer = self.effective_writer(device)
             if writer in before:
                 return Dirty(device, writer)
-        for x in before if self.is_strict else []:
+        return self.strict_wait(run)
+
+    def strict_wait(self, run):
+        """The first run before it in the line that a strict model lets end first."""
+        for x in self.history.live_before(run) if self.is_strict else []:
             if self.mode.model == "gsv" or self.runs[x].shares(self.runs[run]):
                 return Strict(x)
         return None

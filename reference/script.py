@@ -6,10 +6,10 @@ import re
 from typing import NamedTuple
 
 from reference.json_text import NotJson, read_json
-from reference.serial import Command, Kind
+from reference.serial import Command, Guard, Kind
 from reference.times import read_time
 
-VERSION = 1
+VERSIONS = 1, 2  # in the second a command may have a guard
 LIMITS = {
     "bytes": 4_194_304,
     "devices": 256,
@@ -98,11 +98,17 @@ def is_state(value: object) -> bool:
     return is_text(value) or is_whole(value)
 
 
+def is_guard(value: object) -> bool:
+    """An object with one member, which has a whole number."""
+    return isinstance(value, dict) and len(value) == 1 and any(is_whole(value.get(word)) for word in ("is", "below"))
+
+
 # Each object's members: those that must be there, and those that may.
 DAY = {"safehome": is_long, "devices": is_list, "routines": is_list, "windows": is_list}, {}
 DEVICE = {"name": is_text, "start": is_state}, {"states": is_list, "low": is_whole, "high": is_whole, "down": is_list}
 ROUTINE = {"name": is_text, "commands": is_list}, {}
 COMMAND = {"on": is_text, "do": is_text}, {"to": is_state, "must": is_truth, "ms": is_whole, "takes": is_whole}
+GUARDED = COMMAND[0], {**COMMAND[1], "when": is_guard}
 WINDOW = {"at": is_text, "runs": is_list}, {"turns": is_list, "seed": is_long, "probes": is_whole}
 RUN = {"routine": is_text}, {"follows": is_whole}
 
@@ -167,8 +173,13 @@ def read_device(i, value, names):
     return DeviceText(value["name"], kind, states, start, downs)
 
 
-def read_command(spot, value, devices, numbers):
-    need_shape(value, COMMAND, spot)
+def read_guard(value):
+    [(word, number)] = value.items()
+    return Guard(word, number)
+
+
+def read_command(spot, value, version, devices, numbers):
+    need_shape(value, COMMAND if version == 1 else GUARDED, spot)
     job = value["do"]
     refuse(job not in ("set", "check", "load", "store"), f"shape {spot}")
     refuse(("to" in value) != (job in ("set", "check")), f"shape {spot}")
@@ -180,17 +191,19 @@ def read_command(spot, value, devices, numbers):
     takes = value.get("takes", ms)
     need_within("ms", ms)
     need_within("ms", takes)
-    return Command(device, job, to, value.get("must", True), ms, takes)
+    when = read_guard(value["when"]) if "when" in value else None
+    return Command(device, job, to, value.get("must", True), ms, takes, when)
 
 
-def read_routine(i, value, names, devices, numbers):
+def read_routine(i, value, version, names, devices, numbers):
     spot = f"routine {i}"
     need_shape(value, ROUTINE, spot)
     need_new_name(value["name"], names, spot)
     refuse(not value["commands"], f"shape {spot}")
     need_within("commands", len(value["commands"]))
     commands = [
-        read_command(f"command {i}.{j}", command, devices, numbers) for j, command in enumerate(value["commands"], 1)]
+        read_command(f"command {i}.{j}", command, version, devices, numbers)
+        for j, command in enumerate(value["commands"], 1)]
     return RoutineText(value["name"], commands)
 
 
@@ -232,7 +245,8 @@ def read_script(data):
 def read_value(top):
     """The reading of a JSON value."""
     need_shape(top, DAY, "top")
-    refuse(top["safehome"] != VERSION, f"bad version {top['safehome']}")
+    version = top["safehome"]
+    refuse(version not in VERSIONS, f"bad version {version}")
     for kind in ("devices", "routines", "windows"):
         need_within(kind, len(top[kind]))
     script = Script([], [], [])
@@ -241,7 +255,7 @@ def read_value(top):
         script.devices.append(read_device(i, value, numbers))
         numbers[value["name"]] = i - 1
     for i, value in enumerate(top["routines"], 1):
-        script.routines.append(read_routine(i, value, routines, script.devices, numbers))
+        script.routines.append(read_routine(i, value, version, routines, script.devices, numbers))
         routines[value["name"]] = i - 1
     for i, value in enumerate(top["windows"], 1):
         before = script.windows[-1].at if script.windows else None

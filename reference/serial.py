@@ -7,7 +7,7 @@ from dataclasses import dataclass
 from functools import cached_property
 from typing import NamedTuple
 
-FINE, DOWN = ".", "-"  # the answers; a read that worked is answered with the value that it found
+FINE, DOWN, SKIPPED = ".", "-", "/"  # the answers; a read that worked is answered with the value that it found
 
 
 class Kind(NamedTuple):
@@ -30,6 +30,16 @@ class Stand(NamedTuple):
     up: bool
 
 
+class Guard(NamedTuple):
+    """With which registers a command is done. With each other one it is skipped."""
+
+    word: str  # is or below
+    value: int
+
+    def holds(self, register):
+        return register == self.value if self.word == "is" else register < self.value
+
+
 class Command(NamedTuple):
     device: int
     job: str  # set, check, load or store
@@ -37,6 +47,11 @@ class Command(NamedTuple):
     must: bool = True
     ms: int = 100  # how long it takes, as is estimated
     takes: int = 100  # how long it takes, in a replay
+    when: Guard | None = None
+
+    def is_done(self, register):
+        """Whether its guard holds."""
+        return self.when is None or self.when.holds(register)
 
     @property
     def reads(self):
@@ -51,10 +66,10 @@ class Command(NamedTuple):
         return self.value if self.job == "set" else kind.nearest(register)
 
     def register_after(self, register, answer):
-        return answer if self.job == "load" and answer != DOWN else register
+        return answer if self.job == "load" and isinstance(answer, int) else register
 
     def refutes(self, answer):
-        return self.job == "check" and answer not in (DOWN, self.value)
+        return self.job == "check" and answer not in (DOWN, SKIPPED, self.value)
 
     def fails(self, answer):
         """Whether it is a must command that has failed with this answer."""
@@ -80,9 +95,14 @@ class Run:
 
     @cached_property
     def reads_first(self):
-        """The devices on which its first command reads."""
-        first = {command.device: command for command in reversed(self.commands)}
-        return {device for device, command in first.items() if command.reads}
+        """The devices on which a command reads, and none before it writes whatever the register is."""
+        reading, written = set(), set()
+        for command in self.commands:
+            if command.reads and command.device not in written:
+                reading.add(command.device)
+            elif command.writes and command.when is None:
+                written.add(command.device)
+        return reading
 
     @cached_property
     def writes(self):
@@ -119,6 +139,8 @@ class Refused(Exception):
 
 def execute(home, kinds, command, register):
     """Executes a command on the home, which it changes. Gives the answer and the register after it."""
+    if not command.is_done(register):
+        return SKIPPED, register
     value, up = home[command.device]
     if not up:
         return DOWN, register

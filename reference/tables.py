@@ -35,7 +35,7 @@ from reference.hub import WAITS, Stranger
 from reference.record import head_text, window_text
 from reference.replay import Draws, Home, Player
 from reference.script import Refusal, read_script
-from reference.serial import DOWN, FINE, Refused, execute_serially
+from reference.serial import DOWN, FINE, SKIPPED, Refused, execute_serially
 from reference.words import read_words
 from tools.picture import picture_of
 
@@ -61,7 +61,8 @@ def device_part(device):
 def routine_part(routine):
     def command(command):
         value = "" if command.value is None else f" {command.value}"
-        return f" {command.device} {command.job}{value} {'must' if command.must else 'best'} {command.ms} {command.takes}"
+        guard = f" when {command.when.word} {command.when.value}" if command.when else ""
+        return f" {command.device} {command.job}{value} {'must' if command.must else 'best'} {command.ms} {command.takes}{guard}"
 
     return "".join([f"routine {routine.name}", *map(command, routine.commands)])
 
@@ -218,7 +219,7 @@ def shown(value, name=""):
     if isinstance(value, bool):
         return str(value).lower()
     if name == "answer":
-        return {FINE: "Fine", DOWN: "Down"}.get(value) or f"Found({value})"
+        return {FINE: "Fine", DOWN: "Down", SKIPPED: "Skipped"}.get(value) or f"Found({value})"
     if not dataclasses.is_dataclass(value):
         return f"{NUMBERS[name]}({value})" if name in NUMBERS else str(value)
     kind, fields = type(value).__name__, [field.name for field in dataclasses.fields(value)]

@@ -3,7 +3,8 @@
 
     python3 tools/check_days.py [DAYS [SEED]]
 
-Draws days (1000 of the seed 1), replays each by the reference in one mode after the other, and asks
+Draws days (1000 of the seed 1, and behind them half as many with guards), replays each by the reference in one mode after the
+other, and asks
 
 - of the summary of the traced record that each line is told: in the sentences that name the line stand its run, its device, its
   value, its cause. What stands in a line is read off its words here, and not by the reader of the tools;
@@ -138,7 +139,7 @@ def cause_words(words: list[str]) -> list[str]:
 
 
 def answer_words(answer: str) -> str:
-    return {".": "done", "-": "it was down"}.get(answer, f"it was {answer}")
+    return {".": "done", "-": "it was down", "/": "skipped"}.get(answer, f"it was {answer}")
 
 
 def on(script: Any, window: Any, run: int, c: int) -> str:
@@ -322,8 +323,9 @@ def main() -> None:
     asked = options.parse_args()
     draw, counts = random.Random(asked.seed), Counts()
     try:
-        for k in range(asked.days):
-            data = json.dumps(days.with_picks(draw, days.day(draw))).encode()
+        for k in range(asked.days + asked.days // 2):
+            script = days.with_picks(draw, days.day(draw))
+            data = json.dumps(script if k < asked.days else days.guarded(draw, script)).encode()
             try:
                 check_day(data, Mode(*MODES[k % len(MODES)]), draw.random(), counts)
             except Otherwise as why:

@@ -13,7 +13,7 @@ It asks of
 - the examples with one thing altered, for each value, member and object in them: the refusal first; at the byte that was
   altered, where the refusal's spot holds it, and else within the value of that spot;
 - the examples with two things altered: both are told, where the second does not hang on the first (250 pairs of each);
-- days that are drawn (2000 of the seed 1) and spoiled: the refusal first, within the value of its spot.
+- days that are drawn (2000 of the seed 1, and as many with guards) and spoiled: the refusal first, within the value of its spot.
 
 Prints how many there were of each, and the first that is otherwise; ends with 1 then.
 """
@@ -295,8 +295,9 @@ def check_pairs(draw: random.Random) -> Counts:
 
 def check_drawn(count: int, seed: int) -> Counts:
     draw, counts = random.Random(seed), Counts()
-    for _ in range(count):
-        data = days.spoiled(draw, days.with_picks(draw, days.day(draw))).encode()
+    for k in range(2 * count):
+        script = days.with_picks(draw, days.day(draw))
+        data = days.spoiled(draw, script if k < count else days.guarded(draw, script)).encode()
         refusal, mistakes, _ = check_first(data)
         explanation("script", data)
         counts["drawn and refused" if refusal else "drawn and read"] += 1

@@ -3,12 +3,12 @@
 
     python3 tools/check_schema.py [DAYS [SEED]]
 
-It reads the scripts of script_table and of the examples, and days that are drawn (4000 of the seed 1), of which three in four
-are spoiled. Each script that is read must be valid by the schema, and each refused one invalid, but for what no schema of
-single values says: that a whole number is written 1.0 or 1e2, that one value must fit another (a name that stands earlier or
-nowhere, a state of its device, low and high, from and to, a turn or a follow beyond the runs, times in their order), and which
-days a month has. Texts that are no JSON have no value to be valid. Prints how many of each kind there were, and the first one
-that is otherwise; ends with 1 then.
+It reads the scripts of script_table and of the examples, and days that are drawn (4000 of the seed 1, and behind them as many
+with guards), of which three in four are spoiled. Each script that is read must be valid by the schema, and each refused one
+invalid, but for what no schema of single values says: that a whole number is written 1.0 or 1e2, that one value must fit another
+(a name that stands earlier or nowhere, a state of its device, low and high, from and to, a turn or a follow beyond the runs,
+times in their order), and which days a month has. Texts that are no JSON have no value to be valid. Prints how many of each kind
+there were, and the first one that is otherwise; ends with 1 then.
 
 It takes no script of your own: tools/explain.py does. It needs jsonschema (the system's package python3-jsonschema is for
 /usr/bin/python3); nothing else here does.
@@ -80,8 +80,9 @@ def texts(count: int, seed: int) -> Iterator[bytes]:
             with open(os.path.join(folder, name), "rb") as script:
                 yield script.read()
     draw = random.Random(seed)
-    for k in range(count):
+    for k in range(2 * count):
         script = days.with_picks(draw, days.day(draw))
+        script = script if k < count else days.guarded(draw, script)
         yield (days.spoiled(draw, script) if k % 4 else json.dumps(script)).encode()
 
 

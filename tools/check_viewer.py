@@ -137,6 +137,8 @@ def answer_facts(run: int, c: int, answer: str, script: Facts, window: Facts) ->
     command, facts = routine["commands"][c - 1], {"kind": "did", "run": run, "command": c - 1}
     if answer == "-":
         return {**facts, "down": True}, [command["on"], "is down"]
+    if answer == "/":
+        return {**facts, "skipped": True}, [command["on"], "skips"]
     if answer == "." and command["do"] == "store":
         return facts, [command["on"], "stores"]
     value = str(command["to"]) if answer == "." else answer
@@ -282,7 +284,7 @@ def state_of(again: Retelling, run: int) -> Facts:
 
 def drawn(count: int, seed: int) -> Iterator[tuple[Facts, Script, Mode]]:
     """Days that are drawn: the script, its text, and the mode. Behind them come a tenth as many for which the timeline often
-    rearranges its line."""
+    rearranges its line, and half as many with guards."""
     draw = random.Random(seed)
     for k in range(count):
         script = days.with_picks(draw, days.day(draw))
@@ -290,6 +292,10 @@ def drawn(count: int, seed: int) -> Iterator[tuple[Facts, Script, Mode]]:
     for _ in range(count // 10):
         script = days.gap_day(draw)
         yield script, read_script(json.dumps(script).encode()), Mode("ev", "timeline")
+    for k in range(count // 2):
+        mode = Mode(*MODES[k % len(MODES)])
+        script = days.day_for(draw, mode.scheduler, 2)
+        yield script, read_script(json.dumps(script).encode()), mode
 
 
 def check_drawn(count: int, seed: int, sample: int, counts: Counts) -> list[tuple[Facts, str, str]]:

@@ -32,7 +32,7 @@ MODELS = {"wv": "weak visibility", "gsv": "global strict visibility", "psv": "pa
           "ev": "eventual visibility"}
 SCHEDULERS = {"fcfs": "first come first served", "jit": "just in time", "timeline": "by the timeline"}
 LINES = {"works": (2, ""), "waits": (2, "1.5 4"), "doomed": (1, "7 3")}  # how a run's line is drawn: its width and its dashes
-DOWN = "3 2"  # the dashes of what came of a device that is down
+DOWN, SKIPPED = "3 2", "1 3"  # the dashes of what came of a device that is down, and of a guard that does not hold
 
 
 class WindowPainter:
@@ -178,12 +178,22 @@ class WindowPainter:
         if "down" in entry:
             self.signs.add("is told down")
             self.paint_access(entry, x, "down", "white", DOWN)
+        elif "skipped" in entry:
+            self.signs.add("skips")
+            self.paint_skip(entry, x)
         elif self.commands[entry["run"]][entry["command"]].reads:
             self.signs.add("finds")
             self.paint_access(entry, x, entry["value"], "white")
         else:
             self.signs.add("writes")
             self.paint_access(entry, x, entry["value"], "black")
+
+    def paint_skip(self, entry: Facts, x: float) -> None:
+        """On the row of the run alone: nothing reaches the device, whose name stands below."""
+        y = self.run_y(entry["run"])
+        self.picture.box(x - WIDTH / 2 + 4, y - HALF_TAG, WIDTH - 8, 2 * HALF_TAG, dash=SKIPPED, round=3)
+        self.picture.text(x, y + 4, "skips", "middle")
+        self.picture.text(x, y + 23, self.script.devices[entry["device"]].name, "middle", most=9)
 
     def paint_undid(self, entry: Facts, x: float) -> None:
         self.signs.add("takes back" if entry["drove"] else "drops")
@@ -292,6 +302,7 @@ class Legend:
         yield "writes", 34, "writes", lambda x, y: self.box(x, y, "black", "on")
         yield "finds", 34, "finds", lambda x, y: self.box(x, y, "white", "on")
         yield "is told down", 38, "is told that it is down", lambda x, y: self.box(x, y, "white", "down", DOWN)
+        yield "skips", 40, "skips a command, whose guard does not hold", lambda x, y: self.box(x, y, "white", "skips", SKIPPED)
         yield "its doom", 14, "its doom", lambda x, y: picture.cross(x, y, 7)
         yield "takes back", 38, "takes back what it wrote", lambda x, y: self.tag(x, y, "off")
         yield "drops", 44, "drops a write: the device is down", lambda x, y: self.tag(x, y, "drops", DOWN)

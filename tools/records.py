@@ -14,11 +14,11 @@ from reference.hub import WAITS, Behind, Busy, Denied, Dirty, Follow, Strict
 from reference.record import WindowPrinter, head_text, time_text, total_text
 from reference.replay import Home
 from reference.script import DeviceText, Script
-from reference.serial import DOWN, FINE, Back, Command, Failed, Ran, Stand
+from reference.serial import DOWN, FINE, SKIPPED, Back, Command, Failed, Ran, Stand
 
 Item = Ran | Failed | Back  # of the serial order
 Why = Follow | Denied | Busy | Behind | Dirty | Strict  # a run waits
-Answer = str | int  # `FINE`, `DOWN`, or the value that a read found
+Answer = str | int  # `FINE`, `DOWN`, `SKIPPED`, or the value that a read found
 
 HEAD = re.compile("model (wv|gsv|psv|ev) (fcfs|jit|timeline)")
 
@@ -71,7 +71,7 @@ class WindowReader:
         return value_in(self.script.devices[device], word)
 
     def answer(self, command: Command, word: str) -> Answer:
-        return word if word in (FINE, DOWN) else self.value(command.device, word)
+        return word if word in (FINE, DOWN, SKIPPED) else self.value(command.device, word)
 
     def cause(self, run: int, words: list[str]) -> Cause:
         match words:

@@ -83,6 +83,8 @@ class Hints:
                               "a check that is not must is recorded, and the run goes on whatever it finds")
                 if command.job == "store":
                     self.stored(node, path, command, loaded)
+                if command.when:
+                    self.guarded(node, path, command, loaded)
                 if command.job == "load":
                     loaded = command.device
                 if command.writes and command.must and command.device in self.failing:
@@ -102,6 +104,14 @@ class Hints:
         if source.states != to.states:
             self.tell("store from another kind", node, path, f"what was loaded from {source.name} counts as a number here, "
                       "a state by its place in the list, from 0; the value nearest to it is driven")
+
+    def guarded(self, node: Node, path: str, command: Command, loaded: int | None) -> None:
+        if loaded is None:
+            self.tell("guard before a load", node, path, "nothing is loaded before it, so its guard asks of 0, and it is "
+                      + ("done" if command.is_done(0) else "skipped") + " in each run")
+        elif self.script.devices[loaded].states:
+            self.tell("guard over a state", node, path, f"what was loaded from {self.names[loaded]} counts as a number here: "
+                      "a state by its place in the list, from 0")
 
     # Devices that fail.
 

@@ -11,7 +11,7 @@ from typing import Any, NamedTuple
 
 from reference import script
 from reference.record import time_text
-from reference.script import LIMITS, NAME, VERSION
+from reference.script import LIMITS, NAME, VERSIONS
 from reference.times import read_time
 from tools.json_places import Broken, Node, read_places
 
@@ -22,6 +22,12 @@ Types = Mapping[str, Test]  # of members, by their names
 Members = dict[str, Node]
 
 JOBS = ("set", "check", "load", "store")
+
+
+def is_object(value: object) -> bool:
+    return isinstance(value, dict)
+
+
 TYPES: dict[Test, str] = {
     script.is_text: "a text in double quotes",
     script.is_list: "a list",
@@ -29,7 +35,10 @@ TYPES: dict[Test, str] = {
     script.is_whole: "a whole number from 0 to 4294967295",
     script.is_long: "a whole number from 0 to 2^64 - 1",
     script.is_state: "a state's name, or a whole number from 0 to 4294967295",
+    is_object: 'an object, {"is": N} or {"below": N}',
 }
+GUARDED = script.GUARDED[0], {**script.GUARDED[1], "when": is_object}  # what stands in it is looked at behind
+GUARD: tuple[Types, Types] = {}, {"is": script.is_whole, "below": script.is_whole}
 NOTES = ("$schema", "$comment", "title", "note", "notes", "comment", "comments", "description", "alias", "_comment", "//")
 TEXT = re.compile(rb'"(?:[^"\\]|\\.)*"', re.DOTALL)
 EXAMPLE = "2021-04-26T18:30:00"
@@ -106,6 +115,7 @@ class Walk:
         self.likes: dict[str | None, Kept] = {}  # the devices again, by names like those that are bad
         self.routine_likes: set[str | None] = set()
         self.has_devices = self.has_routines = False
+        self.version = 2  # of the format; where it is none, nothing of the later one is refused
         self.meant: set[str] = set()  # members of the object that was read last which stand there under other names
 
     # What is told.
@@ -166,6 +176,8 @@ class Walk:
     def unknown_member(self, name: str, types: Types, meant: list[str]) -> str:
         if meant:
             return f'there is no member "{name[:SHOWN]}"; did you mean "{meant[0]}"?'
+        if name == "when" and "do" in types:
+            return 'there is no member "when" in version 1 of the format: guards want "safehome": 2'
         if name.lower() in NOTES:
             return f'there is no member "{name}": notes, titles and the name of a schema stand outside (docs/HOW-TO-WRITE.md)'
         return f'there is no member "{name[:SHOWN]}"; there is {", ".join(types)}'
@@ -205,9 +217,11 @@ class Walk:
         good = self.members(top, script.DAY, "top", "the day")
         if good is None:
             return
-        if "safehome" in good and good["safehome"].value != VERSION:
+        if "safehome" in good and good["safehome"].value not in VERSIONS:
             version = good["safehome"]
-            self.expected(f"bad version {version.value}", version, 'the day, "safehome"', "1, the version of the format")
+            self.expected(f"bad version {version.value}", version, 'the day, "safehome"', "1 or 2, the version of the format")
+        elif "safehome" in good:
+            self.version = good["safehome"].value
         lists = {kind: good[kind].value if kind in good else [] for kind in ("devices", "routines", "windows")}
         for kind, entries in lists.items():
             self.within(kind, len(entries), good.get(kind), f'the day, "{kind}"')
@@ -306,6 +320,14 @@ class Walk:
 
     # Routines.
 
+    def guard(self, spot: str, node: Node, path: str) -> None:
+        """What an object has that is to be a guard."""
+        self.members(node, GUARD, spot, path)
+        if not node.value.keys() & {"is", "below"} and not self.meant:
+            self.tell(f"shape {spot}", (node.at, node.at + 1), path, 'it has neither "is" nor "below"')
+        elif {"is", "below"} <= node.value.keys():
+            self.tell(f"shape {spot}", self.name_span(node, "below"), f'{path}, "below"', 'a guard has "is" or "below", never both')
+
     def routine(self, i: int, node: Node) -> None:
         spot, path = f"routine {i}", f"routine {i}{named(node)}"
         good = self.members(node, script.ROUTINE, spot, path)
@@ -325,10 +347,12 @@ class Walk:
     def command(self, spot: str, node: Node, path: str) -> None:
         on = node.value.get("on") if isinstance(node.value, dict) else None
         path += f" ({on.value[:SHOWN]})" if on and isinstance(on.value, str) else ""
-        good = self.members(node, script.COMMAND, spot, path)
+        good = self.members(node, script.COMMAND if self.version == 1 else GUARDED, spot, path)
         if good is None:
             return
         meant = self.meant
+        if "when" in good:
+            self.guard(spot, good["when"], f'{path}, "when"')
         job = good["do"].value if "do" in good else None
         if job is not None and job not in JOBS:
             advice = near(job, JOBS).partition("; there")[0]

@@ -23,7 +23,7 @@ from reference.history import Arrived, Did, Doomed, DownAtEnd, Ended, Fell, Lost
 from reference.hub import Behind, Denied, Dirty, Follow, Strict
 from reference.record import time_text
 from reference.script import Refusal, Script
-from reference.serial import DOWN, FINE, Command, Failed, Ran
+from reference.serial import DOWN, FINE, SKIPPED, Command, Failed, Guard, Ran
 from tools.given import read_given, unread, words_of
 from tools.records import Answer, Cause, Day, Entry, Retelling, Unread, Wait, read_day, stands_before
 
@@ -49,6 +49,11 @@ def ordinal(number: int) -> str:
 
 def listed(words: list[str]) -> str:
     return " and ".join([", ".join(words[:-1]), words[-1]] if words[1:] else words)
+
+
+def guard_words(when: Guard | None) -> str:
+    """When a command with this guard is done."""
+    return f" if {'' if when.word == 'is' else 'less than '}{when.value} is loaded" if when else ""
 
 
 class WindowTeller:
@@ -86,7 +91,7 @@ class WindowTeller:
     def command(self, run: int, c: int) -> str:
         """The command as it is asked for."""
         command = self.commands(run)[c]
-        name, best = self.device(command.device), "" if command.must else ", best effort"
+        name, best = self.device(command.device), guard_words(command.when) + ("" if command.must else ", best effort")
         match command.job:
             case "set":
                 return f"{name} := {self.value(command.device, command.value)}{best}"
@@ -99,6 +104,8 @@ class WindowTeller:
     def answered(self, run: int, c: int, answer: Answer, driven: str | None = None) -> str:
         if answer == DOWN:
             return "it was down"
+        if answer == SKIPPED:
+            return "skipped"
         if isinstance(answer, int):
             return f"it was {self.value(self.commands(run)[c].device, answer)}"
         return "done" if driven is None else f"done, with {driven}"

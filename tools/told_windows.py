@@ -10,7 +10,7 @@ from typing import Any, Generic, TypeVar
 from reference.history import Arrived, Did, Doomed, DownAtEnd, Ended, Fell, Lost, MustDown, Placed, Refuted, Revoked, Rose, Undid
 from reference.record import WindowPrinter
 from reference.script import Script
-from reference.serial import DOWN, Command
+from reference.serial import DOWN, SKIPPED, Command
 from tools.holdings import holders, leases_on
 from tools.records import Answer, Cause, Day, Entry, Item, Retelling, Why, is_whole_step, stands_before
 
@@ -132,6 +132,8 @@ class HistoryTeller:
         command = self.hub.runs[run].commands[c]
         if answer == DOWN:
             return {"device": command.device, "down": True}
+        if answer == SKIPPED:
+            return {"device": command.device, "skipped": True}
         value = answer if command.reads else self.history.wrote[run][command.device]
         return {"device": command.device, "value": self.script.devices[command.device].word(value)}
 

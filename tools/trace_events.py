@@ -10,7 +10,7 @@ A window is a process, and has a lane (a thread) for each run and each device. A
 with the number k, from 0, of a window begins at ms k + 1 behind the window's begin, and a window begins one ms behind the end
 of the one before. So timestamps are numbers of steps, and no times: the moments that a record has stand in the arguments of
 their events. On the lane of a run lie the run from its arrival to its end, its waits, and its entries; on that of a device each
-answer and undo there, and the stretches in which it is counted down. An arrow leads from the entry that ended a wait to the
+answer and undo there but for skipped commands, and the stretches in which it is counted down. An arrow leads from the entry that ended a wait to the
 run's next entry.
 """
 import json
@@ -24,7 +24,7 @@ sys.path.insert(0, os.path.join(HERE, ".."))
 from reference.history import Arrived, Did, Doomed, Ended, Fell, Placed, Rose, Undid
 from reference.hub import Busy
 from reference.script import Refusal, Script
-from reference.serial import DOWN
+from reference.serial import DOWN, SKIPPED
 from tools.given import read_given, unread, words_of
 from tools.records import Day, Entry, Unread, Wait, read_day
 from tools.summary import WindowTeller
@@ -134,7 +134,8 @@ class WindowTracer:
                 told = self.teller.answered(run, c, answer)
                 self.slice(run, self.teller.command(run, c), at, until, "command", answer=told, command=c + 1, line=line)
                 name = f"run {run}: {'down' if answer == DOWN else self.teller.command(run, c)}"
-                self.slice(DEVICES + command.device, name, at, until, "command", answer=told, line=line)
+                if answer != SKIPPED:
+                    self.slice(DEVICES + command.device, name, at, until, "command", answer=told, line=line)
             case Undid(run, d, drove):
                 words = next(words for number, _, words in self.teller.of_run[run] if number == line)
                 self.slice(run, f"undo {self.devices[d]}", at, until, "undo", told=words, line=line)

@@ -92,8 +92,9 @@ def device_told(device: DeviceText) -> Facts:
 def routine_told(script: Script, routine: RoutineText) -> Facts:
     def command(command: Command) -> Facts:
         value = None if command.value is None else script.devices[command.device].word(command.value)
+        guard = {"when": command.when._asdict()} if command.when else {}
         return {"device": command.device, "job": command.job, "value": value, "must": command.must, "ms": command.ms,
-                "takes": command.takes}
+                "takes": command.takes, **guard}
 
     return {"name": routine.name, "commands": list(map(command, routine.commands))}
 

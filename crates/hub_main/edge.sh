@@ -63,7 +63,7 @@ day() {
 script '' 'script: not json'
 script '{"safehome":1,"dev' 'script: not json'
 script '[]' 'script: shape top'
-script '{"safehome":2,"devices":[],"routines":[],"windows":[]}' 'script: bad version 2'
+script '{"safehome":3,"devices":[],"routines":[],"windows":[]}' 'script: bad version 3'
 script "$(day "$lamp,$lamp" '' '')" 'script: double name device 2'
 script "$(day '{"name":"Lamp","low":0,"high":1,"start":0}' '' '')" 'script: bad name device 1'
 script "$(day '{"name":"heat","low":10,"high":30,"start":31}' '' '')" 'script: bad state device 1'

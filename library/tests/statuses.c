@@ -90,8 +90,8 @@ static void openings(void) {
     WANT(memcmp(&fault, &before, sizeof fault) == 0);
     IS(REFUSED, open_home("", 0, 0, &fault));
     WANT(fault.kind == LAZBENDIX_FAULT_NOT_JSON);
-    IS(REFUSED, open_home("{\"safehome\": 2, \"devices\": [], \"routines\": [], \"windows\": []}", 0, 0, &fault));
-    WANT(fault.kind == LAZBENDIX_FAULT_BAD_VERSION && fault.count == 2);
+    IS(REFUSED, open_home("{\"safehome\": 3, \"devices\": [], \"routines\": [], \"windows\": []}", 0, 0, &fault));
+    WANT(fault.kind == LAZBENDIX_FAULT_BAD_VERSION && fault.count == 3);
     IS(REFUSED, open_home("{\"safehome\": 1, \"devices\": [], \"routines\": [{\"name\": \"r\", \"commands\":"
                           " [{\"on\": \"lamp\", \"do\": \"load\"}]}], \"windows\": []}", 0, 0, &fault));
     WANT(fault.kind == LAZBENDIX_FAULT_UNKNOWN_NAME && fault.part == LAZBENDIX_PART_COMMAND);

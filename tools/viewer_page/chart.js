@@ -104,6 +104,7 @@ class Chart {
   }
 
   dropTarget(sight, entry, step, isMeant) {
+    if (entry.skipped && !isMeant) return null;
     if (entry.device !== undefined) return sight.laneOf({ kind: "device", device: entry.device });
     if (entry.kind !== "placed" && !entry.committed) return null;
     if (!isMeant) return null;

@@ -130,6 +130,7 @@ class Key {
     ["writes", (pen, x, y) => pen.answerBox(x, y, 36, 1, { text: "on", kind: "write" })],
     ["reads", (pen, x, y) => pen.answerBox(x, y, 36, 1, { text: "on", kind: "read" })],
     ["is told that the device is down", (pen, x, y) => pen.answerBox(x, y, 44, 1, { text: "down", kind: "down" })],
+    ["skips a command, whose guard does not hold", (pen, x, y) => pen.answerBox(x, y, 44, 1, { text: "skip", kind: "skip" })],
     ["takes back: the device is driven", (pen, x, y) => pen.answerBox(x, y, 36, 1, { text: "off", kind: "undo" })],
     ["drops a write: the device is down", (pen, x, y) => pen.answerBox(x, y, 52, 1, { text: "drop", kind: "drop" })],
     ["is doomed", (pen, x, y) => pen.doom(x, y)],

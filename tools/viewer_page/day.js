@@ -116,7 +116,7 @@ class RecordedWindow {
       if (entry.kind === "ended") this.ends.set(entry.run, index + 1);
       if (!["arrived", "did", "undid"].includes(entry.kind)) this.turns.push(index + 1);
       if (entry.run !== undefined) this.stepsOfRun.get(entry.run).push(index + 1);
-      if (entry.device !== undefined) this.stepsOfDevice.get(entry.device).push(index + 1);
+      if (entry.device !== undefined && !entry.skipped) this.stepsOfDevice.get(entry.device).push(index + 1);
       this.moments.push(entry.moment === undefined ? this.moments[index] : entry.moment);
     });
   }
@@ -163,7 +163,7 @@ class RecordedWindow {
 
   hasWritten(run, step) {
     const { commands } = this.run(run);
-    return this.answersBy(run, step).some((entry) => !entry.down && ["set", "store"].includes(commands[entry.command].job));
+    return this.answersBy(run, step).some((entry) => !entry.down && !entry.skipped && ["set", "store"].includes(commands[entry.command].job));
   }
 
   valueAt(device, step) {

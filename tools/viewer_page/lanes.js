@@ -116,6 +116,7 @@ class RunPainter {
   static answer(entry, run) {
     if (entry.kind === "undid") return { text: entry.drove ? entry.value : "drop", kind: entry.drove ? "undo" : "drop" };
     if (entry.down) return { text: "down", kind: "down" };
+    if (entry.skipped) return { text: "skip", kind: "skip" };
     const { job } = run.commands[entry.command];
     return { text: entry.value, kind: job === "check" || job === "load" ? "read" : "write" };
   }

@@ -396,9 +396,7 @@ class Page {
     if (!lane || lane.kind === "head") return lane && isName ? "Folds this part." : "";
     const at = isName ? this.step : stateStep;
     const entry = step && this.window.entry(step);
-    if (entry && ((lane.kind === "run" && entry.run === lane.run) || (lane.kind === "device" && entry.device === lane.device))) {
-      return [this.words.entry(step), entry.line];
-    }
+    if (entry && this.stepsOf(lane)?.includes(step)) return [this.words.entry(step), entry.line];
     if (lane.kind === "run") return this.words.state(lane.run, at);
     return lane.kind === "device" ? this.words.stand(lane.device, at) : this.words.place(lane.place, at);
   }

@@ -250,6 +250,7 @@ class Pen {
       write: [{ fill: strong }, palette.onStrong],
       read: [{ fill: palette.panel, stroke: strong, thickness: 1.5 }, strong],
       down: [{ fill: palette.panel, stroke: palette.muted, dash: [3, 2] }, palette.muted],
+      skip: [{ fill: palette.panel, stroke: palette.muted, dash: [1, 3] }, palette.muted],
       undo: [{ fill: palette.panel, stroke: palette.danger, thickness: 1.5 }, palette.danger],
       drop: [{ fill: palette.panel, stroke: palette.danger, dash: [3, 2] }, palette.danger],
     };

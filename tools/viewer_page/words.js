@@ -70,6 +70,10 @@ class Words {
   }
 
   command(command) {
+    return this.job(command) + this.guard(command.when);
+  }
+
+  job(command) {
     const device = this.device(command.device);
     switch (command.job) {
       case "set":
@@ -81,6 +85,10 @@ class Words {
       default:
         return `store the register into ${device}`;
     }
+  }
+
+  guard(when) {
+    return when ? ` if the register is ${when.word === "is" ? "" : "below "}${when.value}` : "";
   }
 
   /** The command with its place and what the script says of it. */
@@ -131,6 +139,7 @@ class Words {
     const command = this.window.run(entry.run).commands[entry.command];
     const run = this.run(entry.run);
     const device = this.device(entry.device);
+    if (entry.skipped) return `${run} skips its command on ${device}, which was to ${this.command(command)}.`;
     if (entry.down) {
       const may = command.must ? "must not" : "may";
       return `${run} is told that ${device} is down. Its command, to ${this.command(command)}, ${may} fail.`;
@@ -307,13 +316,14 @@ class Words {
   /** What was answered to a command, in a word. */
   shortAnswer(command, answer) {
     if (answer.down) return "down";
+    if (answer.skipped) return "skipped";
     return command.job === "check" || command.job === "load" ? answer.value : "done";
   }
 
   /** The answers of a committed run, as its line has them. */
   answers(run) {
     const { commands, answers } = this.window.run(run);
-    const answer = (word) => ({ ".": "done", "-": "down" })[word] || `found ${word}`;
+    const answer = (word) => ({ ".": "done", "-": "down", "/": "skipped" })[word] || `found ${word}`;
     return capital(`${commands.map((command, index) => `${this.command(command)}: ${answer(answers[index])}`).join("; ")}.`);
   }
 }

@@ -1,8 +1,9 @@
 -- The devices that a run reads first, and writes, are told from its last command on.
+use Rattle.command_rules.proofs.FirstReads.{unread}
 use Rattle.command_rules.specs.Footprints.{alone}
 use Rattle.command_rules.specs.Rosters.{Run, commands_of, is_on, reads_first, touches, writes_on}
 use Rattle.home_types.proofs.DeviceBits.{contains_insert, contains_remove}
-use Rattle.home_types.specs.Commands.{reads, writes}
+use Rattle.home_types.specs.Commands.{is_always, reads, writes}
 use Rattle.home_types.specs.DeviceSets.{Devices}
 use Rattle.home_types.specs.declared.commands.Command.{Command}
 use Rattle.std.proofs.Common.{ap, arith, refl, subst, sym, ◌∙◌}
@@ -18,8 +19,11 @@ use Rattle.std.specs.Prelude.{Bool, List, [], drop, false, length, not, slice_in
 read_more : (c : Command) (cs : List Command) (d : ℕ) → reads c.job ≡ true → reads_first (alone (c ∷ cs)) 1 d ≡ ((d == c.device.0) || reads_first (alone cs) 1 d)
 read_more c cs d read = grind (arith, common_steps)
 
-write_more : (c : Command) (cs : List Command) (d : ℕ) → reads c.job ≡ false → reads_first (alone (c ∷ cs)) 1 d ≡ (not (d == c.device.0) && reads_first (alone cs) 1 d)
-write_more c cs d driven = grind (arith, common_steps)
+write_more : (c : Command) (cs : List Command) (d : ℕ) → reads c.job ≡ false → is_always c.when ≡ true → reads_first (alone (c ∷ cs)) 1 d ≡ (not (d == c.device.0) && reads_first (alone cs) 1 d)
+write_more c cs d driven always = grind (arith, common_steps)
+
+guarded_more : (c : Command) (cs : List Command) (d : ℕ) → reads c.job ≡ false → is_always c.when ≡ false → reads_first (alone (c ∷ cs)) 1 d ≡ reads_first (alone cs) 1 d
+guarded_more c cs d driven guarded = grind (arith, common_steps)
 
 written_more : (c : Command) (cs : List Command) (d : ℕ) → reads c.job ≡ false → writes_on (alone (c ∷ cs)) 1 d ≡ ((d == c.device.0) || writes_on (alone cs) 1 d)
 written_more c cs d driven = grind (arith, common_steps)
@@ -27,18 +31,13 @@ written_more c cs d driven = grind (arith, common_steps)
 written_same : (c : Command) (cs : List Command) (d : ℕ) → reads c.job ≡ true → writes_on (alone (c ∷ cs)) 1 d ≡ writes_on (alone cs) 1 d
 written_same c cs d read = grind (arith, common_steps)
 
--- a device that no command is on is not read first
-unread : (cs : List Command) (d : ℕ) → list_any (is_on d) cs ≡ false → reads_first (alone cs) 1 d ≡ false
-unread [] d none = refl
-unread (c ∷ cs) d none = grind (arith, common_steps, unread cs d)
-
 -- a device that a run reads first is one of its footprint
 pub read_touched : (runs : List Run) (r d : ℕ) → reads_first runs r d ≡ true → touches runs r d ≡ true
 read_touched runs r d read = at (touches runs r d) refl
   where
     at : (b : Bool) → touches runs r d ≡ b → b ≡ true
     at true e = refl
-    at false e = let none = unread (commands_of runs r) d e in sym none ∙ read
+    at false e = let none = unread d (commands_of runs r) e in sym none ∙ read
 
 -- the sets have the devices that the commands from this number on read first, and write
 pub record CoversUses (cs : List Command) (left : ℕ) (reading driven : Devices) : Type 0 where
@@ -65,15 +64,24 @@ module _ (cs : List Command) (passed : ℕ) (e : Command) (within : passed < len
       let next : length cs - 1 - passed + 1 ≡ length cs - passed = omega (arith, within) in
       ap (λ n. drop n cs) (sym here) ∙ drop_more cs (length cs - 1 - passed) e (omega (arith, within)) ∙ ap (λ n. passed_command ∷ drop n cs) next
 
-  -- one command more is passed, which reads, or writes
+  -- one command more is passed, which reads, writes, or may be skipped in place of writing
   pub uses_read : reads passed_command.job ≡ true → CoversUses cs (length cs - (passed + 1)) (set.insert first_reads passed_command.device.0) written
   uses_read read = record {
     first_reads = λ d. contains_insert first_reads passed_command.device.0 d ∙ ap (λ b. (d == passed_command.device.0) || b) (old.first_reads d) ∙ sym (read_more passed_command behind d read) ∙ sym (ap (λ rest. reads_first (alone rest) 1 d) one_more);
     written = λ d. old.written d ∙ sym (written_same passed_command behind d read) ∙ sym (ap (λ rest. writes_on (alone rest) 1 d) one_more);
   }
 
-  pub uses_write : reads passed_command.job ≡ false → CoversUses cs (length cs - (passed + 1)) (set.remove first_reads passed_command.device.0) (set.insert written passed_command.device.0)
-  uses_write driven = record {
-    first_reads = λ d. contains_remove first_reads passed_command.device.0 d ∙ ap (λ b. not (d == passed_command.device.0) && b) (old.first_reads d) ∙ sym (write_more passed_command behind d driven) ∙ sym (ap (λ rest. reads_first (alone rest) 1 d) one_more);
-    written = λ d. contains_insert written passed_command.device.0 d ∙ ap (λ b. (d == passed_command.device.0) || b) (old.written d) ∙ sym (written_more passed_command behind d driven) ∙ sym (ap (λ rest. writes_on (alone rest) 1 d) one_more);
+  written_one_more : reads passed_command.job ≡ false → (d : ℕ) → set.contains (set.insert written passed_command.device.0) d ≡ writes_on (alone (drop (length cs - (passed + 1)) cs)) 1 d
+  written_one_more driven d = contains_insert written passed_command.device.0 d ∙ ap (λ b. (d == passed_command.device.0) || b) (old.written d) ∙ sym (written_more passed_command behind d driven) ∙ sym (ap (λ rest. writes_on (alone rest) 1 d) one_more)
+
+  pub uses_write : reads passed_command.job ≡ false → is_always passed_command.when ≡ true → CoversUses cs (length cs - (passed + 1)) (set.remove first_reads passed_command.device.0) (set.insert written passed_command.device.0)
+  uses_write driven always = record {
+    first_reads = λ d. contains_remove first_reads passed_command.device.0 d ∙ ap (λ b. not (d == passed_command.device.0) && b) (old.first_reads d) ∙ sym (write_more passed_command behind d driven always) ∙ sym (ap (λ rest. reads_first (alone rest) 1 d) one_more);
+    written = written_one_more driven;
+  }
+
+  pub uses_guarded_write : reads passed_command.job ≡ false → is_always passed_command.when ≡ false → CoversUses cs (length cs - (passed + 1)) first_reads (set.insert written passed_command.device.0)
+  uses_guarded_write driven guarded = record {
+    first_reads = λ d. old.first_reads d ∙ sym (guarded_more passed_command behind d driven guarded) ∙ sym (ap (λ rest. reads_first (alone rest) 1 d) one_more);
+    written = written_one_more driven;
   }

@@ -1,6 +1,7 @@
 pub mod RosterReads
 pub mod LastPlaces
 pub mod LastSums
+pub mod FirstReads
 pub mod FirstUses
 pub mod FootprintBits
 pub mod Sharing

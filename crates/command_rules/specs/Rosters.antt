@@ -2,13 +2,14 @@
 use Rattle.command_rules.specs.Searches.{last_place}
 use Rattle.command_rules.specs.declared.rosters.Roster.{Roster}
 use Rattle.command_rules.specs.declared.rosters.RosterRun.{RosterRun}
-use Rattle.home_types.specs.Commands.{reads, writes}
+use Rattle.home_types.specs.Commands.{is_always, reads, writes}
 use Rattle.home_types.specs.declared.commands.Command.{Command}
+use Rattle.home_types.specs.declared.commands.Guard.TheVariants.{Always}
 use Rattle.home_types.specs.declared.commands.Job.TheVariants.{Load}
 use Rattle.home_types.specs.declared.numbers.DeviceNo.{DeviceNo}
 use Rattle.home_types.specs.declared.numbers.RunNo.{RunNo}
 use Rattle.std.specs.List.{list_any}
-use Rattle.std.specs.Prelude.{Bool, List, None, Option, [], drop, false, find, if◌then◌else◌, is_some, map, not, option_and_then, option_map, position, slice_get, slice_index_or, suc, unwrap_or, zero, ℕ, ◌&&◌, ◌+◌, ◌==◌, ◌∷◌}
+use Rattle.std.specs.Prelude.{Bool, List, None, Option, [], drop, false, filter, if◌then◌else◌, is_some, map, not, option_and_then, option_map, position, slice_get, slice_index_or, suc, unwrap_or, zero, ℕ, ◌&&◌, ◌+◌, ◌==◌, ◌||◌, ◌∷◌}
 
 abbrev pub run_no : ℕ → RunNo
 run_no r = record { 0 = r }
@@ -39,7 +40,7 @@ abbrev pub commands_of : List Run → ℕ → List Command
 commands_of runs r = unwrap_or (option_map (λ run. run.commands) (run_at runs r)) []
 
 abbrev pub no_command : Command
-no_command = record { device = device_no 0; job = Load; must = false; ms = 0; takes = 0 }
+no_command = record { device = device_no 0; job = Load; when = Always; must = false; ms = 0; takes = 0 }
 
 abbrev pub command_at : List Run → ℕ → ℕ → Command
 command_at runs r c = slice_index_or (commands_of runs r) c no_command
@@ -73,9 +74,18 @@ last_on runs r d = last_place (is_on d) (commands_of runs r)
 abbrev pub is_last : List Run → ℕ → ℕ → Bool
 is_last runs r k = not (touches_from runs r (command_at runs r k).device.0 (suc k))
 
--- its first command on the device reads
+-- one of these commands reads, and no command with the guard Always before it writes
+abbrev pub reads_unwritten : List Command → Bool
+reads_unwritten [] = false
+reads_unwritten (c ∷ cs) = reads c.job || (not (is_always c.when && writes c.job) && reads_unwritten cs)
+
+-- a command of it on the device reads, and no command on the device with the guard Always before it writes
 abbrev pub reads_first : List Run → ℕ → ℕ → Bool
-reads_first runs r d = unwrap_or (option_map (λ c. reads c.job) (find (is_on d) (commands_of runs r))) false
+reads_first runs r d = reads_unwritten (filter (is_on d) (commands_of runs r))
+
+-- the command decides whether the device is read first: it is on the device, and reads or is not skipped
+abbrev pub settles : ℕ → Command → Bool
+settles d c = is_on d c && (reads c.job || is_always c.when)
 
 -- some command of it on the device writes
 abbrev pub writes_on : List Run → ℕ → ℕ → Bool

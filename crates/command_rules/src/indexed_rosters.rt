@@ -6,7 +6,7 @@ ghost use Rattle.home_types.specs.DeviceSets.{IsFirstFrom};
 ghost use Rattle.std.specs.FinSet as set;
 ghost use Rattle.home_types.specs.Limits.{most_commands, most_devices};
 
-use crate::jobs::reads;
+use crate::jobs::{is_always, reads};
 use crate::rosters::Roster;
 use home_types::{Command, DeviceNo, DeviceSet, List, NoMemory, RunNo};
 use std::alloc::Global;
@@ -175,7 +175,9 @@ fn footprint_of(commands: &[Command]) -> Footprint
         if reads(commands[k].job) {
             first_reads.add(device);
         } else {
-            first_reads.remove(device);
+            if is_always(commands[k].when) {
+                first_reads.remove(device);
+            }
             written.add(device);
         }
         if !devices.has(device) {

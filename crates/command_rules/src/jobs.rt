@@ -1,7 +1,7 @@
 ghost use Rattle.std.specs.Prelude.{◌≡◌};
-ghost use Rattle.home_types.specs.Commands.{driven as value_driven, fails as command_fails, reads as job_reads, register_after as register_then, writes as job_writes};
+ghost use Rattle.home_types.specs.Commands.{driven as value_driven, fails as command_fails, is_always as guard_is_always, reads as job_reads, register_after as register_then, writes as job_writes};
 
-use home_types::{Answer, Command, Job, Kind, Value};
+use home_types::{Answer, Command, Guard, Job, Kind, Value};
 
 /// Whether the job senses its device.
 pub fn reads(job: Job) -> bool
@@ -15,6 +15,13 @@ pub fn writes(job: Job) -> bool
     ensures { result ≡ job_writes job }
 {
     !reads(job)
+}
+
+/// Whether the guard holds of every register by its form.
+pub fn is_always(guard: Guard) -> bool
+    ensures { result ≡ guard_is_always guard }
+{
+    matches!(guard, Guard::Always)
 }
 
 /// The value to which the job drives a device of this kind, where the run's register is `register`. 0 for a job that

@@ -7,5 +7,5 @@ pub mod jobs;
 mod rosters;
 
 pub use indexed_rosters::IndexedRoster;
-pub use jobs::{driven, fails, reads, register_after, writes};
+pub use jobs::{driven, fails, is_always, reads, register_after, writes};
 pub use rosters::{Roster, RosterRun};

@@ -1,7 +1,9 @@
 ghost use Rattle.std.specs.Prelude.{◌≡◌, ◌<◌, ◌^◌, IsTrue, length};
 
-use crate::footprints::{first_command_on, has_command_on, last_command_on, sum_to_last};
-use crate::jobs::{reads, writes};
+use crate::footprints::{
+    first_command_on, has_command_on, last_command_on, settled_by_read, sum_to_last,
+};
+use crate::jobs::writes;
 use home_types::{Command, DeviceNo, List, Routine, RunNo};
 
 /// A run of a window: its routine, and the run whose end it waits for.
@@ -56,16 +58,13 @@ impl Roster {
         last_command_on(self.commands(r), d).map(|place| place as u32)
     }
 
-    /// Whether the first command of `r` on the device `d` reads it.
+    /// Whether a command of `r` on the device `d` reads it, and no command on it with the guard `Always` before that
+    /// writes it.
     pub fn reads_first(&self, r: RunNo, d: DeviceNo) -> bool
         requires { IsTrue (is_run (runs_of self.now) r.0) }
         ensures { result ≡ reads_first (runs_of self.now) r.0 d.0 }
     {
-        let commands = self.commands(r);
-        match commands.iter().find(|command| command.device == d) {
-            Some(command) => reads(command.job),
-            None => false,
-        }
+        settled_by_read(self.commands(r), d)
     }
 
     /// Whether some command of `r` on the device `d` writes it.

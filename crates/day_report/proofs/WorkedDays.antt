@@ -12,6 +12,7 @@ use Rattle.history_book.specs.declared.entries.Entry.{Entry}
 use Rattle.history_book.specs.declared.records.WindowRecord.{WindowRecord}
 use Rattle.home_types.specs.declared.commands.Answer.TheVariants.{Down, Fine, Found}
 use Rattle.home_types.specs.declared.commands.Command.{Command}
+use Rattle.home_types.specs.declared.commands.Guard.TheVariants.{Always}
 use Rattle.home_types.specs.declared.commands.Job.TheVariants.{Check, Load, Set, Store}
 use Rattle.home_types.specs.declared.commands.Job.{Job}
 use Rattle.home_types.specs.declared.items.Item.TheVariants.{Back, Failed, Ran}
@@ -29,7 +30,7 @@ use Rattle.std.specs.Fmt.{digits}
 use Rattle.std.specs.Prelude.{List, None, [], codes, false, map, refl, true, ℕ, ◌++◌, ◌∷◌, ◌≡◌}
 
 abbrev pub on : ℕ → Job → Command
-on device job = record { device = device_no device; job = job; must = true; ms = 100; takes = 100 }
+on device job = record { device = device_no device; job = job; when = Always; must = true; ms = 100; takes = 100 }
 
 abbrev pub up : ℕ → Stand
 up value = record { value = value; up = true }

@@ -2,7 +2,7 @@
 -- A number that names nothing in the script has the empty name; a value without a name is written as its number.
 use Rattle.history_book.specs.declared.entries.Cause.TheVariants.{DownAtEnd, Lost, MustDown, Refuted, Revoked}
 use Rattle.history_book.specs.declared.entries.Cause.{Cause}
-use Rattle.home_types.specs.declared.commands.Answer.TheVariants.{Down, Fine, Found}
+use Rattle.home_types.specs.declared.commands.Answer.TheVariants.{Down, Fine, Found, Skipped}
 use Rattle.home_types.specs.declared.commands.Answer.{Answer}
 use Rattle.routine_reader.specs.declared.scripts.DeviceText.{DeviceText}
 use Rattle.routine_reader.specs.declared.scripts.RoutineText.{RoutineText}
@@ -56,6 +56,7 @@ unfoldable pub answer_text : List (List ℕ) → Answer → List ℕ
 answer_text states Fine = codes "."
 answer_text states (Found x) = value_text states x
 answer_text states Down = codes "-"
+answer_text states Skipped = codes "/"
 
 -- why the run was aborted; commands count from 1 in print
 unfoldable pub cause_text : Script → WindowText → ℕ → Cause → List ℕ

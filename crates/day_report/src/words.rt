@@ -29,6 +29,7 @@ pub fn push_answer(text: &mut String, states: &[Text], answer: Answer) -> Result
         Answer::Fine => text.push_str("."),
         Answer::Found(value) => push_value(text, states, value),
         Answer::Down => text.push_str("-"),
+        Answer::Skipped => text.push_str("/"),
     }
 }
 

@@ -1,11 +1,13 @@
 -- A run whose answers fit one another is executed serially with them.
-use Rattle.device_order.specs.Summaries.{Answered, AnswerFits, AnswersFit, AreHomed, DeviceSummary, FitsSummary, Meets, MeetsHome, NoneFails, Summary, answer_of, blank, command_of, device_summary_then, first_view, overwritten, summary, summary_then}
+use Rattle.device_order.specs.Summaries.{Answered, AnswerFits, AnswersFit, AreHomed, DeviceSummary, FitsSummary, Meets, MeetsHome, NoneFails, Summary, answer_of, blank, command_of, device_summary_then, first_view, overwritten, summary, summary_then, was_done}
 use Rattle.device_order.specs.Usages.{is_down, is_up}
-use Rattle.home_types.specs.Commands.{Effect, Execution, command_effect, driven, execute, fails, reads, register_after, with_effect}
+use Rattle.home_types.specs.Commands.{Effect, Execution, command_effect, done_effect, driven, execute, fails, holds, reads, register_after, with_effect}
 use Rattle.home_types.specs.HomeStates.{stand_at}
 use Rattle.home_types.specs.Kinds.{kind_at}
-use Rattle.home_types.specs.declared.commands.Answer.TheVariants.{Down, Fine, Found}
+use Rattle.home_types.specs.declared.commands.Answer.TheVariants.{Down, Fine, Found, Skipped}
 use Rattle.home_types.specs.declared.commands.Answer.{Answer}
+use Rattle.home_types.specs.declared.commands.Guard.{Guard}
+use Rattle.home_types.specs.declared.commands.Job.TheVariants.{Check, Load, Set, Store}
 use Rattle.home_types.specs.declared.commands.Job.{Job}
 use Rattle.home_types.specs.declared.commands.View.TheVariants.{Down as ViewDown, Up}
 use Rattle.home_types.specs.declared.commands.View.{View}
@@ -30,12 +32,35 @@ stands_down None u h g = sym (h refl)
 stands_down (Some Up) u h g = grind (arith, common_steps)
 stands_down (Some ViewDown) u h g = sym (h refl)
 
--- an answer that fits is the one that the command's effect gives
-effect_fits : (kind : Kind) (job : Job) (register : ℕ) (t : DeviceSummary) (s : Stand) (a : Answer) → AnswerFits (reads job) t a → Meets s (device_summary_then t (driven kind job register) a)
-    → command_effect kind job register (overwritten s t.wrote) ≡ effect_of kind job register t s a
-effect_fits kind job register t s Down f m = let u = stands_down t.view s.up m.view f in grind (arith, common_steps)
-effect_fits kind job register t s Fine f m = let u = stands_up t.view s.up m.view f.1 in grind (arith, common_steps)
-effect_fits kind job register t s (Found x) f m = let u = stands_up t.view s.up m.view f.1 in grind (arith, common_steps)
+-- an answer that fits is the one that a command gives that is done, ..
+done_fits : (kind : Kind) (job : Job) (register : ℕ) (t : DeviceSummary) (s : Stand) (a : Answer) → was_done a ≡ true → AnswerFits (reads job) t a → Meets s (device_summary_then t (driven kind job register) a)
+    → done_effect kind job register (overwritten s t.wrote) ≡ effect_of kind job register t s a
+done_fits kind job register t s Down e f m = let u = stands_down t.view s.up m.view f in grind (arith, common_steps)
+done_fits kind job register t s Fine e f m = let u = stands_up t.view s.up m.view f.1 in grind (arith, common_steps)
+done_fits kind job register t s (Found x) e f m = let u = stands_up t.view s.up m.view f.1 in grind (arith, common_steps)
+done_fits kind job register t s Skipped e f m = absurd (cc)
+
+-- .. one that is skipped changes nothing, ..
+pub skipped_effect : (kind : Kind) (job : Job) (register : ℕ) (t : DeviceSummary) (s : Stand) → record { answer = Skipped; register = register; stand = overwritten s t.wrote } ≡ effect_of kind job register t s Skipped
+skipped_effect kind (Set v) register t s = refl
+skipped_effect kind (Check v) register t s = refl
+skipped_effect kind Load register t s = refl
+skipped_effect kind Store register t s = refl
+
+-- .. and by its guard a command is the one or the other
+effect_fits : (kind : Kind) (guard : Guard) (job : Job) (register : ℕ) (t : DeviceSummary) (s : Stand) (a : Answer) → holds guard register ≡ was_done a → AnswerFits (reads job) t a → Meets s (device_summary_then t (driven kind job register) a)
+    → command_effect kind guard job register (overwritten s t.wrote) ≡ effect_of kind job register t s a
+effect_fits kind guard job register t s a g f m = ap (λ b. if b then done_effect kind job register (overwritten s t.wrote) else skipped) g ∙ at a (was_done a) refl f m
+  where
+    skipped : Effect
+    skipped = record { answer = Skipped; register = register; stand = overwritten s t.wrote }
+
+    at : (a : Answer) → (b : Bool) → was_done a ≡ b → AnswerFits (reads job) t a → Meets s (device_summary_then t (driven kind job register) a) → (if b then done_effect kind job register (overwritten s t.wrote) else skipped) ≡ effect_of kind job register t s a
+    at a true e f m = done_fits kind job register t s a e f m
+    at Skipped false e f m = skipped_effect kind job register t s
+    at Fine false e f m = absurd (cc)
+    at (Found x) false e f m = absurd (cc)
+    at Down false e f m = absurd (cc)
 
 -- where a device of a home stands that has been set
 pub stand_at_set : (home : List Stand) (d e : ℕ) (x : Stand) → d < length home → ((e ≡ d) × (stand_at (set home d x) e ≡ x)) ⊎ ((e ≢ d) × (stand_at (set home d x) e ≡ stand_at home e))
@@ -51,6 +76,7 @@ seen (Some x) u w h g = h refl
 
 -- a device that meets a summary at the end met it before
 meets_before : (s : Stand) (t : DeviceSummary) (v : ℕ) (a : Answer) → Meets s (device_summary_then t v a) → Meets s t
+meets_before s t v Skipped m = m
 meets_before s t v Down m = record { view = λ h. seen t.view s.up ViewDown m.view h; read = m.read }
 meets_before s t v Fine m = record { view = λ h. seen t.view s.up Up m.view h; read = m.read }
 meets_before s t v (Found x) m = record { view = λ h. seen t.view s.up Up m.view h; read = λ y h. m.read y (ap (λ o. if is_some o || is_some t.wrote then o else Some x) h) }
@@ -89,10 +115,10 @@ step_fits kinds w from s p er eb es f ok m =
     let d : ℕ = p.command.device.0 in
     let k : Kind = kind_at kinds d in
     let here = then_here kinds s p d refl in
-    let e : command_effect k p.command.job from.register (stand_at from.home d) ≡ effect_of k p.command.job s.register (s.on d) (stand_at w d) p.answer =
-    ap (λ r. command_effect k p.command.job r (stand_at from.home d)) er
-    ∙ ap (command_effect k p.command.job s.register) es
-    ∙ effect_fits k p.command.job s.register (s.on d) (stand_at w d) p.answer f (subst (Meets (stand_at w d)) here m) in
+    let e : command_effect k p.command.when p.command.job from.register (stand_at from.home d) ≡ effect_of k p.command.job s.register (s.on d) (stand_at w d) p.answer =
+    ap (λ r. command_effect k p.command.when p.command.job r (stand_at from.home d)) er
+    ∙ ap (command_effect k p.command.when p.command.job s.register) es
+    ∙ effect_fits k p.command.when p.command.job s.register (s.on d) (stand_at w d) p.answer f.guard f.answer (subst (Meets (stand_at w d)) here m) in
     let no : (from.refused || fails p.command p.answer) ≡ false = or_from from.refused (fails p.command p.answer) eb ok in
     ap (with_effect from p.command) e
     ∙ (λ i. record { home = slice_set from.home d (overwritten (stand_at w d) (sym here i).wrote); register = register_after p.command.job p.answer s.register; answers = from.answers ++ p.answer ∷ []; refused = no i })

@@ -43,7 +43,7 @@ left : (kinds : List Kind) (cs : List Command) (d : ℕ) (x : Execution) → Mis
 unfolding Misses
 left kinds [] d x m = refl
 left kinds (c ∷ cs) d x m =
-    let e : Effect = command_effect (kind_at kinds c.device.0) c.job x.register (stand_at x.home c.device.0) in
+    let e : Effect = command_effect (kind_at kinds c.device.0) c.when c.job x.register (stand_at x.home c.device.0) in
     left kinds cs d (execute kinds x c) m.1 ∙ get_or-set_other x.home c.device.0 d e.stand nowhere (λ z. m.0 (sym z))
 
 -- .. and where it stands is nothing to them
@@ -56,13 +56,13 @@ past kinds (c ∷ cs) d s x m = ap (λ y. run kinds y cs) one ∙ past kinds cs 
     k = kind_at kinds c.device.0
 
     e : Effect
-    e = command_effect k c.job x.register (stand_at x.home c.device.0)
+    e = command_effect k c.when c.job x.register (stand_at x.home c.device.0)
 
     seen : stand_at (set x.home d s) c.device.0 ≡ stand_at x.home c.device.0
     seen = get_or-set_other x.home d c.device.0 s nowhere m.0
 
     one : execute kinds (in_home x (set x.home d s)) c ≡ in_home (execute kinds x c) (set (execute kinds x c).home d s)
-    one = ap (λ t. with_effect (in_home x (set x.home d s)) c (command_effect k c.job x.register t)) seen
+    one = ap (λ t. with_effect (in_home x (set x.home d s)) c (command_effect k c.when c.job x.register t)) seen
         ∙ ap (λ l. in_home (execute kinds x c) l) (set_comm x.home d c.device.0 s e.stand (λ z. m.0 (sym z)))
 
 -- commands behind others that share no device with them: as without them, in the home that the others then leave
@@ -79,7 +79,7 @@ swapped kinds (c ∷ cs) ds x y a = ap (λ z. run kinds z cs) one ∙ swapped ki
     k = kind_at kinds d
 
     e : Effect
-    e = command_effect k c.job x.register (stand_at x.home d)
+    e = command_effect k c.when c.job x.register (stand_at x.home d)
 
     x' : Execution
     x' = execute kinds x c
@@ -94,7 +94,7 @@ swapped kinds (c ∷ cs) ds x y a = ap (λ z. run kinds z cs) one ∙ swapped ki
     after = ap (λ (z : Execution). z.home) (past kinds ds d e.stand (in_home y x.home) a.0)
 
     one : execute kinds (in_home x Y.home) c ≡ in_home x' (run kinds (in_home y x'.home) ds).home
-    one = ap (λ t. with_effect (in_home x Y.home) c (command_effect k c.job x.register t)) seen ∙ ap (in_home x') (sym after)
+    one = ap (λ t. with_effect (in_home x Y.home) c (command_effect k c.when c.job x.register t)) seen ∙ ap (in_home x') (sym after)
 
 -- what the device of an item is to a routine
 misses : (d : ℕ) (cs : List Command) → list_any (is_on d) cs ≡ false → Misses d cs

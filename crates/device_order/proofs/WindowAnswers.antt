@@ -1,16 +1,16 @@
 -- The steps in which a run gets an answer keep the invariant of the window.
 use Rattle.command_rules.specs.Rosters.{device_no}
 use Rattle.device_order.proofs.Claims.{reads as reads_find}
-use Rattle.device_order.proofs.InPlace.{acted, entries_before, evented, events_event, next_homed, next_used, run_fits, stepped}
+use Rattle.device_order.proofs.InPlace.{acted, entries_before, evented, events_event, next_homed, next_used, run_fits, stepped, still_device}
 use Rattle.device_order.proofs.LineEntries.{entries_event_off}
 use Rattle.device_order.proofs.LineWords.{has_entries}
 use Rattle.device_order.proofs.NewAnswers.{gave_run, gave_there, gave_usage}
 use Rattle.device_order.proofs.SerialLines.{event_here, event_there}
-use Rattle.device_order.specs.Changes.{DownAgain, DownFirst, FirstAccessDied, IsAnswered, LaterAccessDied, ReadAnswered, WriteAnswered, first_read}
+use Rattle.device_order.specs.Changes.{DownAgain, DownFirst, FirstAccessDied, GuardSkipped, IsAnswered, LaterAccessDied, ReadAnswered, WriteAnswered, first_read}
 use Rattle.device_order.specs.Claims.{ReadFinds}
 use Rattle.device_order.specs.Invariant.{DeviceInvariant}
 use Rattle.device_order.specs.LineChanges.{line_with_event}
-use Rattle.device_order.specs.LineEntries.{entries, stage_of, usage}
+use Rattle.device_order.specs.LineEntries.{entries, entry_if, stage_of, usage}
 use Rattle.device_order.specs.LineOrders.{EventsAreHomed}
 use Rattle.device_order.specs.LineWords.{any_run, at_device}
 use Rattle.device_order.specs.Records.{IsHome, walk_start}
@@ -18,19 +18,19 @@ use Rattle.device_order.specs.RunStates.{RunState, rest, summary_of, uses}
 use Rattle.device_order.specs.Summaries.{first_view}
 use Rattle.device_order.specs.Usages.{counts_serially, has_grip, has_pending, is_command, is_committed, is_doomed, is_down, is_open, is_up}
 use Rattle.device_order.specs.Walks.{GripFits, UsageFits, WalkState, walk_end, with_event}
-use Rattle.device_order.specs.WindowSteps.{AccessDies, ChangesInPlace, DownIsAnswered, IsHomeAt, ReadIsAnswered, WriteIsAnswered, with_event_in}
+use Rattle.device_order.specs.WindowSteps.{AccessDies, ChangesInPlace, DownIsAnswered, IsHomeAt, ReadIsAnswered, SkipIsAnswered, WriteIsAnswered, with_event_in}
 use Rattle.device_order.specs.Windows.{WindowInvariant, WindowRecord, device_of}
 use Rattle.device_order.specs.declared.records.Event.TheVariants.{Failure}
 use Rattle.device_order.specs.declared.records.Grip.{Grip}
 use Rattle.device_order.specs.declared.records.Grip.TheVariants.{Free, Reads, Undoes, Writes}
 use Rattle.device_order.specs.declared.records.OrderEntry.TheVariants.{Occurred, Used}
 use Rattle.device_order.specs.declared.records.Stage.{Stage}
-use Rattle.device_order.specs.declared.records.Stage.TheVariants.{Pending}
+use Rattle.device_order.specs.declared.records.Stage.TheVariants.{Done, Pending}
 use Rattle.device_order.specs.declared.records.Usage.{Usage}
 use Rattle.home_types.specs.Commands.{driven, fails}
 use Rattle.home_types.specs.HomeStates.{stand_at}
 use Rattle.home_types.specs.Kinds.{kind_at}
-use Rattle.home_types.specs.declared.commands.Answer.TheVariants.{Down, Fine, Found}
+use Rattle.home_types.specs.declared.commands.Answer.TheVariants.{Down, Fine, Found, Skipped}
 use Rattle.home_types.specs.declared.commands.Command.{Command}
 use Rattle.home_types.specs.declared.commands.View.{View}
 use Rattle.home_types.specs.declared.commands.View.TheVariants.{Down as ViewDown, Up}
@@ -92,7 +92,7 @@ pends_counts l c ds e h g = λ i. stage_of (h i) (g i) (next_pends l c ds e i)
 pub write_answered : (kinds : List Kind) (s s' : WindowRecord) (r : ℕ) (c : Command) (ds : List Command) (k : Bool) → WriteIsAnswered kinds s s' r c ds k → WindowInvariant kinds s → WindowInvariant kinds s'
 write_answered kinds s s' r c ds k w o =
     acted kinds s s' r d s.line k m (λ q n. refl) w.still (λ q n. gave_there kinds l (s'.states r) c ds Fine k q w.answer n) o.events
-    (gave_run kinds (length s.first) l (s'.states r) c ds Fine k w.answer (o.runs r) w.live (λ h g. (w.job, down)) (λ h. passes c))
+    (gave_run kinds (length s.first) l (s'.states r) c ds Fine k w.answer (o.runs r) w.live (λ h g. record { guard = w.guard; answer = (w.job, down) }) (λ h. passes c))
     (stepped kinds s s' r d s.line m (record u { stage = st; view = Some Up; wrote = Some x; grip = Free }) (s.up d) x (s.probe d) used e w.up w.held w.probe
     (WriteAnswered (entries kinds s.states d m.front) (entries kinds s.states d m.back) u x st (entries_before kinds s s' r d m used) w.out (pends_answered l c ds k w.answer.next w.live))) o
   where
@@ -136,7 +136,7 @@ pub read_answered : (kinds : List Kind) (s s' : WindowRecord) (r : ℕ) (c : Com
 read_answered kinds s s' r c ds x k w o =
     acted kinds s s' r d s.line k m (λ q n. refl) (λ q n. w.still q) (λ q n. gave_there kinds l (s'.states r) c ds (Found x) k q w.answer n) o.events
     (gave_run kinds (length s.first) l (s'.states r) c ds (Found x) k w.answer (o.runs r) w.live
-    (λ h q. (w.job, down, (λ y g. w.found ∙ finds.own y g), (λ n y g. w.found ∙ finds.again (counts l.committed l.doomed (uses d (rest l)) h) n y g)))
+    (λ h q. record { guard = w.guard; answer = (w.job, down, (λ y g. w.found ∙ finds.own y g), (λ n y g. w.found ∙ finds.again (counts l.committed l.doomed (uses d (rest l)) h) n y g)) })
     (λ h. unless k (fails c (Found x)) h w.refutes))
     (stepped kinds s s' r d s.line m (record u { stage = st; view = Some Up; read = first_read u (s.held d); grip = Free }) (s.up d) (s.held d) (s.probe d) used e (w.still d).up (w.still d).held (w.still d).probe
     (ReadAnswered (entries kinds s.states d m.front) (entries kinds s.states d m.back) u st (entries_before kinds s s' r d m used) w.out (pends_answered l c ds k w.answer.next w.live))) o
@@ -186,7 +186,7 @@ pub access_died : (kinds : List Kind) (s s' : WindowRecord) (r n : ℕ) (c : Com
 access_died kinds s s' r n c ds k w o =
     acted kinds s s' r d (line_with_event kinds s.states d (Failed c.device n) s.line) k m (λ q ne. entries_event_off kinds s.states q d (Failed c.device n) s.line (event_there d q (Occurred Failure) ne)) w.still
     (λ q ne. gave_there kinds l (s'.states r) c ds Down k q w.answer ne) (homed_failure kinds s d n (next_homed (length s.first) l.commands l.answers c ds w.answer.next (o.runs r).homed) o)
-    (gave_run kinds (length s.first) l (s'.states r) c ds Down k w.answer (o.runs r) w.live (λ h g. died_view u.view (λ x. clash k g (w.lost x))) (λ h. unless k (fails c Down) h w.must))
+    (gave_run kinds (length s.first) l (s'.states r) c ds Down k w.answer (o.runs r) w.live (λ h g. record { guard = w.guard; answer = died_view u.view (λ x. clash k g (w.lost x)) }) (λ h. unless k (fails c Down) h w.must))
     (by_view u.view refl) o
   where
     d : ℕ
@@ -236,7 +236,7 @@ home_at kinds s d h = record { free = has_entries kinds s.states d has_grip s.li
 pub down_answered : (kinds : List Kind) (s s' : WindowRecord) (r : ℕ) (c : Command) (ds : List Command) (k : Bool) → DownIsAnswered kinds s s' r c ds k → WindowInvariant kinds s → WindowInvariant kinds s'
 down_answered kinds s s' r c ds k w o =
     acted kinds s s' r d s.line k m (λ q n. refl) (λ q n. w.still q) (λ q n. gave_there kinds l (s'.states r) c ds Down k q w.answer n) o.events
-    (gave_run kinds (length s.first) l (s'.states r) c ds Down k w.answer (o.runs r) w.live (λ h g. elim w.may [ inl e ↦ ap is_up e | inr e ↦ ap is_up e.0 ]) (λ h. unless k (fails c Down) h w.must))
+    (gave_run kinds (length s.first) l (s'.states r) c ds Down k w.answer (o.runs r) w.live (λ h g. record { guard = w.guard; answer = elim w.may [ inl e ↦ ap is_up e | inr e ↦ ap is_up e.0 ] }) (λ h. unless k (fails c Down) h w.must))
     (elim w.may [ inl e ↦ again e | inr e ↦ first e.0 e.1 e.2 e.3 ]) o
   where
     d : ℕ
@@ -267,3 +267,44 @@ down_answered kinds s s' r c ds k w o =
     first : u.view ≡ None → s.up d ≡ false → IsHomeAt kinds s d → any_run (at_device kinds s.states d has_pending) m.front ≡ false → DeviceInvariant (device_of kinds s d) → DeviceInvariant (device_of kinds s' d)
     first e down h none i = stepped kinds s s' r d s.line m (record u { stage = st; view = Some ViewDown }) (s.up d) (s.held d) (s.probe d) used (then_ (ap (λ o. first_view o ViewDown) e)) (w.still d).up (w.still d).held (w.still d).probe
         (DownFirst (entries kinds s.states d m.front) (entries kinds s.states d m.back) u st (entries_before kinds s s' r d m used) (pends_counts l c ds w.answer.next w.live w.counts) (home_at kinds s d h) down (has_entries kinds s.states d has_pending m.front ∙ none) (pends_answered l c ds k w.answer.next w.live)) i
+
+-- a skipped command leaves its device as it is, but that the run may have no more to do there
+pub skip_answered : (kinds : List Kind) (s s' : WindowRecord) (r : ℕ) (c : Command) (ds : List Command) → SkipIsAnswered kinds s s' r c ds → WindowInvariant kinds s → WindowInvariant kinds s'
+skip_answered kinds s s' r c ds w o =
+    acted kinds s s' r d s.line false m (λ q n. refl) (λ q n. w.still q) (λ q n. gave_there kinds l (s'.states r) c ds Skipped false q w.answer n) o.events
+    (gave_run kinds (length s.first) l (s'.states r) c ds Skipped false w.answer (o.runs r) w.live (λ h g. record { guard = w.guard; answer = tt }) (λ h. passes c))
+    (by_rest (uses d ds) refl) o
+  where
+    d : ℕ
+    d = c.device.0
+
+    m : ChangesInPlace s s' r
+    m = w.place
+
+    l : RunState
+    l = s.states r
+
+    u : Usage
+    u = usage kinds l d
+
+    used : uses d l.commands ≡ true
+    used = next_used l c ds w.answer.next
+
+    pending : u.stage ≡ Pending
+    pending = pends_counts l c ds w.answer.next w.live w.counts
+
+    stage : (b : Bool) → uses d ds ≡ b → stage_of l.committed (l.doomed || false) (uses d ds) ≡ stage_of false false b
+    stage b e = λ i. stage_of (w.live i) (w.counts i || false) (e i)
+
+    then_ : (st : Stage) → stage_of l.committed (l.doomed || false) (uses d ds) ≡ st → usage kinds (s'.states r) d ≡ record u { stage = st }
+    then_ st e = gave_usage kinds l (s'.states r) c ds Skipped false w.answer ∙ (λ i. record u { stage = e i; grip = sym w.free i })
+
+    by_rest : (b : Bool) → uses d ds ≡ b → DeviceInvariant (device_of kinds s d) → DeviceInvariant (device_of kinds s' d)
+    by_rest true e i =
+        subst DeviceInvariant (sym (still_device kinds s s' r d m (w.still d) (ap (λ x. entry_if x (Used (usage kinds (s'.states r) d))) (ap (uses d) m.commands)
+        ∙ ap (λ v. entry_if (uses d l.commands) (Used v)) (then_ u.stage (stage true e ∙ sym pending))))) i
+    by_rest false e i = stepped kinds s s' r d s.line m (record u { stage = Done }) (s.up d) (s.held d) (s.probe d) used (then_ Done (stage false e)) (w.still d).up (w.still d).held (w.still d).probe
+        (GuardSkipped (entries kinds s.states d m.front) (entries kinds s.states d m.back) u (entries_before kinds s s' r d m used) pending (ap is_command w.free)) i
+
+    passes : (c : Command) → fails c Skipped ≡ false
+    passes c = grind (arith, common_steps)

@@ -1,9 +1,9 @@
 -- What the answers of a run say, read from the first to the last, and when they are those of a serial execution.
 use Rattle.device_order.specs.Usages.{is_down, is_up}
-use Rattle.home_types.specs.Commands.{driven, fails, reads, register_after}
+use Rattle.home_types.specs.Commands.{driven, fails, holds, reads, register_after}
 use Rattle.home_types.specs.HomeStates.{stand_at}
 use Rattle.home_types.specs.Kinds.{kind_at}
-use Rattle.home_types.specs.declared.commands.Answer.TheVariants.{Down, Fine, Found}
+use Rattle.home_types.specs.declared.commands.Answer.TheVariants.{Down, Fine, Found, Skipped}
 use Rattle.home_types.specs.declared.commands.Answer.{Answer}
 use Rattle.home_types.specs.declared.commands.Command.{Command}
 use Rattle.home_types.specs.declared.commands.View.TheVariants.{Down as ViewDown, Up}
@@ -54,6 +54,7 @@ abbrev pub device_summary_then : DeviceSummary → ℕ → Answer → DeviceSumm
 device_summary_then t v Fine = record t { view = first_view t.view Up; wrote = Some v }
 device_summary_then t v (Found x) = record t { view = first_view t.view Up; read = if is_some t.read || is_some t.wrote then t.read else Some x }
 device_summary_then t v Down = record t { view = first_view t.view ViewDown }
+device_summary_then t v Skipped = t
 
 -- one more answer
 abbrev pub summary_then : List Kind → Summary → Answered → Summary
@@ -67,15 +68,24 @@ unfoldable pub summary : List Kind → Summary → List Answered → Summary
 summary kinds s [] = s
 summary kinds s (p ∷ ps) = summary kinds (summary_then kinds s p) ps
 
+-- the command was done: it was not skipped
+abbrev pub was_done : Answer → Bool
+was_done Fine = true
+was_done (Found x) = true
+was_done Down = true
+was_done Skipped = false
+
 -- an answer that one execution of the run can give next, to a command that reads or writes: by what the device answered so far
 abbrev pub AnswerFits : Bool → DeviceSummary → Answer → Type 0
 AnswerFits reading t Fine = (reading ≡ false) × (is_down t.view ≡ false)
 AnswerFits reading t (Found x) = (reading ≡ true) × (is_down t.view ≡ false) × ((v : ℕ) → t.wrote ≡ Some v → x ≡ v) × (t.wrote ≡ None → (y : ℕ) → t.read ≡ Some y → x ≡ y)
 AnswerFits reading t Down = is_up t.view ≡ false
+AnswerFits reading t Skipped = Unit {0}
 
--- a command's answer fits those before it
-abbrev pub FitsSummary : Summary → Answered → Type 0
-FitsSummary s p = AnswerFits (reads p.command.job) (s.on p.command.device.0) p.answer
+-- a command's answer fits those before it: it is done exactly where its guard holds of the register that they leave
+pub record FitsSummary (s : Summary) (p : Answered) : Type 0 where
+  pub guard : holds p.command.when s.register ≡ was_done p.answer
+  pub answer : AnswerFits (reads p.command.job) (s.on p.command.device.0) p.answer
 
 -- each answer fits those before it
 unfoldable pub AnswersFit : List Kind → Summary → List Answered → Type 0

@@ -10,11 +10,11 @@ use Rattle.device_order.specs.Usages.{has_grip, has_pending, is_command, is_down
 use Rattle.device_order.specs.Windows.{WindowRecord}
 use Rattle.device_order.specs.declared.records.Grip.TheVariants.{Free, Reads, Undoes, Writes}
 use Rattle.device_order.specs.declared.records.Probe.TheVariants.{Asks, Restores, Unprobed}
-use Rattle.home_types.specs.Commands.{driven, fails, reads}
+use Rattle.home_types.specs.Commands.{driven, fails, holds, reads}
 use Rattle.home_types.specs.HomeStates.{stand_at}
 use Rattle.home_types.specs.Kinds.{kind_at}
 use Rattle.home_types.specs.declared.commands.Answer.{Answer}
-use Rattle.home_types.specs.declared.commands.Answer.TheVariants.{Down, Fine, Found}
+use Rattle.home_types.specs.declared.commands.Answer.TheVariants.{Down, Fine, Found, Skipped}
 use Rattle.home_types.specs.declared.commands.Command.{Command}
 use Rattle.home_types.specs.declared.commands.View.{View}
 use Rattle.home_types.specs.declared.commands.View.TheVariants.{Down as ViewDown}
@@ -128,6 +128,7 @@ pub record CommandGoesOut (kinds : List Kind) (s s' : WindowRecord) (r : ℕ) (c
 pub record WriteIsAnswered (kinds : List Kind) (s s' : WindowRecord) (r : ℕ) (c : Command) (later : List Command) (dooms : Bool) : Type 0 where
   pub place : ChangesInPlace s s' r
   pub answer : GetsAnswer (s.states r) (s'.states r) c later Fine dooms
+  pub guard : holds c.when (summary_of kinds (s.states r)).register ≡ true
   pub live : (s.states r).committed ≡ false
   pub out : (s.states r).grip c.device.0 ≡ Writes
   pub job : reads c.job ≡ false
@@ -140,6 +141,7 @@ pub record WriteIsAnswered (kinds : List Kind) (s s' : WindowRecord) (r : ℕ) (
 pub record ReadIsAnswered (kinds : List Kind) (s s' : WindowRecord) (r : ℕ) (c : Command) (later : List Command) (x : ℕ) (dooms : Bool) : Type 0 where
   pub place : ChangesInPlace s s' r
   pub answer : GetsAnswer (s.states r) (s'.states r) c later (Found x) dooms
+  pub guard : holds c.when (summary_of kinds (s.states r)).register ≡ true
   pub live : (s.states r).committed ≡ false
   pub out : (s.states r).grip c.device.0 ≡ Reads
   pub job : reads c.job ≡ true
@@ -151,6 +153,7 @@ pub record ReadIsAnswered (kinds : List Kind) (s s' : WindowRecord) (r : ℕ) (c
 pub record AccessDies (kinds : List Kind) (s s' : WindowRecord) (r k : ℕ) (c : Command) (later : List Command) (dooms : Bool) : Type 0 where
   pub place : ChangesInPlace (with_event_in kinds s c.device.0 (Failed c.device k)) s' r
   pub answer : GetsAnswer (s.states r) (s'.states r) c later Down dooms
+  pub guard : holds c.when (summary_of kinds (s.states r)).register ≡ true
   pub live : (s.states r).committed ≡ false
   pub out : is_command ((s.states r).grip c.device.0) ≡ true
   pub must : fails c Down ≡ true → dooms ≡ true
@@ -167,11 +170,22 @@ MayAnswerDown kinds s d front view = (view ≡ Some ViewDown) ⊎ ((view ≡ Non
 pub record DownIsAnswered (kinds : List Kind) (s s' : WindowRecord) (r : ℕ) (c : Command) (later : List Command) (dooms : Bool) : Type 0 where
   pub place : ChangesInPlace s s' r
   pub answer : GetsAnswer (s.states r) (s'.states r) c later Down dooms
+  pub guard : holds c.when (summary_of kinds (s.states r)).register ≡ true
   pub live : (s.states r).committed ≡ false
   pub counts : (s.states r).doomed ≡ false
   pub free : (s.states r).grip c.device.0 ≡ Free
   pub must : fails c Down ≡ true → dooms ≡ true
   pub may : MayAnswerDown kinds s c.device.0 place.front (device_summary kinds (s.states r) c.device.0).view
+  pub still : (d : ℕ) → IsStill s s' d
+
+-- a command is skipped: its guard does not hold of the run's register
+pub record SkipIsAnswered (kinds : List Kind) (s s' : WindowRecord) (r : ℕ) (c : Command) (later : List Command) : Type 0 where
+  pub place : ChangesInPlace s s' r
+  pub answer : GetsAnswer (s.states r) (s'.states r) c later Skipped false
+  pub guard : holds c.when (summary_of kinds (s.states r)).register ≡ false
+  pub live : (s.states r).committed ≡ false
+  pub counts : (s.states r).doomed ≡ false
+  pub free : (s.states r).grip c.device.0 ≡ Free
   pub still : (d : ℕ) → IsStill s s' d
 
 -- a live run is doomed

@@ -5,7 +5,7 @@ ghost use Rattle.device_order.specs.LineEntries.{usage};
 ghost use Rattle.device_order.specs.LineOrders.{all_committed};
 ghost use Rattle.device_order.specs.RunStates.{device_summary, uses};
 ghost use Rattle.device_order.specs.Usages.{has_touched};
-ghost use Rattle.device_order.specs.WindowSteps.{AccessDies, CommandGoesOut, DeviceRestarts, DownIsAnswered, ProbeDies, ProbeDiesUnderRun, ProbeFindsDown, ProbeFindsUp, ProbeGoesOut, ReadIsAnswered, RunCommits, RunIsDoomed, RunIsPlaced, RunLeaves, UndoDies, UndoGoesOut, UndoIsAnswered, UndoIsDropped, WindowStarts, WriteIsAnswered};
+ghost use Rattle.device_order.specs.WindowSteps.{AccessDies, CommandGoesOut, DeviceRestarts, DownIsAnswered, ProbeDies, ProbeDiesUnderRun, ProbeFindsDown, ProbeFindsUp, ProbeGoesOut, ReadIsAnswered, RunCommits, RunIsDoomed, RunIsPlaced, RunLeaves, SkipIsAnswered, UndoDies, UndoGoesOut, UndoIsAnswered, UndoIsDropped, WindowStarts, WriteIsAnswered};
 ghost use Rattle.device_order.specs.Windows.{HasLiveWriteAt, IsCovered, IsPendingAt, LineIsWhole, OrderIsSerial, StandsBefore, WindowInvariant, WindowRecord};
 ghost use Rattle.home_types.specs.declared.commands.Command.{Command};
 ghost use Rattle.home_types.specs.declared.kinds.Kind.{Kind};
@@ -24,13 +24,15 @@ pub fn runs_keep_window()
     ensures leaves { (kinds : List Kind) (s next : WindowRecord) (r : ℕ) → RunLeaves kinds s next r → WindowInvariant kinds s → WindowInvariant kinds next }
 {}
 
-/// The invariant stays where a command goes out, and where it is answered, whether or not the answer dooms its run.
+/// The invariant stays where a command goes out, and where it is answered, whether or not the answer dooms its run; also
+/// where it is skipped.
 pub fn commands_keep_window()
     ensures out { (kinds : List Kind) (s next : WindowRecord) (r : ℕ) (c : Command) (later : List Command) → CommandGoesOut kinds s next r c later → WindowInvariant kinds s → WindowInvariant kinds next }
     ensures write { (kinds : List Kind) (s next : WindowRecord) (r : ℕ) (c : Command) (later : List Command) (dooms : Bool) → WriteIsAnswered kinds s next r c later dooms → WindowInvariant kinds s → WindowInvariant kinds next }
     ensures read { (kinds : List Kind) (s next : WindowRecord) (r : ℕ) (c : Command) (later : List Command) (x : ℕ) (dooms : Bool) → ReadIsAnswered kinds s next r c later x dooms → WindowInvariant kinds s → WindowInvariant kinds next }
     ensures died { (kinds : List Kind) (s next : WindowRecord) (r k : ℕ) (c : Command) (later : List Command) (dooms : Bool) → AccessDies kinds s next r k c later dooms → WindowInvariant kinds s → WindowInvariant kinds next }
     ensures down { (kinds : List Kind) (s next : WindowRecord) (r : ℕ) (c : Command) (later : List Command) (dooms : Bool) → DownIsAnswered kinds s next r c later dooms → WindowInvariant kinds s → WindowInvariant kinds next }
+    ensures skipped { (kinds : List Kind) (s next : WindowRecord) (r : ℕ) (c : Command) (later : List Command) → SkipIsAnswered kinds s next r c later → WindowInvariant kinds s → WindowInvariant kinds next }
 {}
 
 /// The invariant stays where an undo goes out, is answered, dies or is dropped.

@@ -17,3 +17,4 @@ pub mod Told
 pub mod Followers
 pub mod GapFronts
 pub mod Sealed
+pub mod Asking

@@ -9,7 +9,7 @@ use Rattle.history_book.specs.WellFormed.{IsWellFormed, along, may_follow}
 use Rattle.history_book.specs.declared.entries.Entry.{Entry}
 use Rattle.history_book.specs.declared.entries.Entry.TheVariants.{Arrived, Did, Doomed, Ended, Fell, Placed, Rose, Undid}
 use Rattle.home_types.specs.declared.commands.Answer.{Answer}
-use Rattle.home_types.specs.declared.commands.Answer.TheVariants.{Down, Fine, Found}
+use Rattle.home_types.specs.declared.commands.Answer.TheVariants.{Down, Fine, Found, Skipped}
 use Rattle.home_types.specs.declared.commands.Command.{Command}
 use Rattle.home_types.specs.declared.items.Item.{Item}
 use Rattle.home_types.specs.declared.items.Item.TheVariants.{Back, Failed}
@@ -38,7 +38,7 @@ is_event_of r (Last q) = false
 abbrev pub LogsEvents : Reading → Type 0
 LogsEvents n = (r d : ℕ) → list_any (is_event_of r) (n.log d) ≡ false
 
--- a run's first answer on a device stands in the device's log, and the answer to its last command there does not while one is pending; no run is an event there
+-- a run's first access on a device stands in the device's log, and the answer to its last command there does not while one is pending; no run is an event there
 pub record Logged (w : Setting) (n : Reading) : Type 0 where
   pub firsts : LogsFirsts n
   pub lasts : LogsLasts w n
@@ -137,6 +137,7 @@ did_logged w n r k a number s = record { firsts = firsts'; lasts = lasts'; event
     seen None Fine = refl
     seen None (Found x) = refl
     seen None Down = refl
+    seen None Skipped = refl
 
     own_view : ((later.run r.0).on c.device.0).view ≡ option_or ((n.run r.0).on c.device.0).view (view_by a)
     own_view = ap (λ o. (o.on c.device.0).view) (put_same n.run r.0 _) ∙ ap (λ o. o.view) (put_same (n.run r.0).on c.device.0 _)

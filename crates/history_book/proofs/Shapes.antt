@@ -1,31 +1,88 @@
 -- What a well-formed history says of each run.
 use Rattle.command_rules.specs.Rosters.{command_at, commands_of, is_on, is_run, no_command, touches}
-use Rattle.history_book.proofs.Lines.{any_left, any_taken}
+use Rattle.history_book.proofs.Lines.{any_left}
 use Rattle.history_book.proofs.Standing.{aborted}
 use Rattle.history_book.specs.Histories.{answered, entry, reading}
-use Rattle.history_book.specs.Readings.{OfRun, OnDevice, PlacedAt, Planned, Reading, did, is_access, is_committing, nothing_read, passed_by, pends, put, unread, untouched, view_by}
+use Rattle.history_book.specs.Readings.{OfRun, OnDevice, PlacedAt, Planned, Reading, did, is_access, is_committing, is_doomed, nothing_read, passed_by, pends, put, unread, untouched, view_by}
 use Rattle.history_book.specs.Settings.{Setting}
-use Rattle.history_book.specs.WellFormed.{IsWellFormed, along, may_follow, same_cause}
+use Rattle.history_book.specs.WellFormed.{IsWellFormed, along, may_follow, same_cause, suits}
 use Rattle.history_book.specs.declared.entries.Cause.{Cause}
 use Rattle.history_book.specs.declared.entries.End.{End}
 use Rattle.history_book.specs.declared.entries.End.TheVariants.{Aborted, Committed}
 use Rattle.history_book.specs.declared.entries.Entry.{Entry}
 use Rattle.history_book.specs.declared.entries.Entry.TheVariants.{Arrived, Did, Doomed, Ended, Fell, Placed, Rose, Undid}
+use Rattle.home_types.specs.Commands.{holds, is_always}
 use Rattle.home_types.specs.Kinds.{kind_at}
 use Rattle.home_types.specs.declared.commands.Answer.{Answer}
-use Rattle.home_types.specs.declared.commands.Answer.TheVariants.{Down, Fine, Found}
+use Rattle.home_types.specs.declared.commands.Answer.TheVariants.{Down, Fine, Found, Skipped}
 use Rattle.home_types.specs.declared.commands.Command.{Command}
+use Rattle.home_types.specs.declared.commands.Guard.{Guard}
+use Rattle.home_types.specs.declared.commands.Guard.TheVariants.{Always, Below, Is}
 use Rattle.home_types.specs.declared.kinds.Kind.{Kind}
 use Rattle.std.proofs.Common.{ap, arith, length-append, refl, subst, sym, ◌∙◌}
 use Rattle.std.proofs.lemmas.Grind.{common_steps}
-use Rattle.std.proofs.lemmas.List.{take_more}
-use Rattle.std.proofs.lemmas.List.Folds.{list_any-append}
-use Rattle.std.specs.List.{list_any}
+use Rattle.std.proofs.lemmas.List.Folds.{list_all-append}
+use Rattle.std.specs.List.{list_all, list_any}
 use Rattle.std.specs.Option.{option_or}
-use Rattle.std.specs.Prelude.{Bool, IsTrue, List, None, Option, Some, [], false, fold, if◌then◌else◌, is_none, is_some, length, not, option_map, take, true, unwrap_or, ℕ, ◌&&◌, ◌++◌, ◌+◌, ◌<◌, ◌==◌, ◌||◌, ◌∷◌, ◌≡◌, ◌≤◌}
+use Rattle.std.specs.Prelude.{Bool, IsTrue, List, None, Option, Some, [], false, fold, if◌then◌else◌, is_none, is_some, length, not, option_map, slice_index_or, suc, take, true, unwrap_or, zero, ℕ, ◌&&◌, ◌++◌, ◌+◌, ◌<◌, ◌==◌, ◌||◌, ◌∷◌, ◌≡◌, ◌≤◌}
 
 abbrev pub committed_in : OfRun → Bool
 committed_in o = unwrap_or (option_map is_committing o.ended) false
+
+-- each of the commands has the guard Always
+abbrev pub is_unguarded : List Command → Bool
+is_unguarded cs = list_all (λ c. is_always c.when) cs
+
+-- one of these commands is on the device, and answered with an access
+abbrev pub accessed : ℕ → List Command → List Answer → Bool
+accessed d cs [] = false
+accessed d [] (a ∷ more) = false
+accessed d (c ∷ cs) (a ∷ more) = (is_on d c && is_access a) || accessed d cs more
+
+-- before the first answer
+accessed_none : (d : ℕ) (cs : List Command) → accessed d cs [] ≡ false
+accessed_none d [] = refl
+accessed_none d (c ∷ cs) = refl
+
+-- with one answer more
+pub accessed_more : (d : ℕ) (cs : List Command) (old : List Answer) (a : Answer) → length old < length cs
+    → accessed d cs (old ++ a ∷ []) ≡ (accessed d cs old || (is_on d (slice_index_or cs (length old) no_command) && is_access a))
+accessed_more d [] old a lt = let none : ⊥ = omega (arith, lt) in absurd none
+accessed_more d (c ∷ cs) [] a lt = rw (accessed_none d cs) (or_none (is_on d c && is_access a))
+  where
+    or_none : (b : Bool) → (b || false) ≡ b
+    or_none true = refl
+    or_none false = refl
+accessed_more d (c ∷ cs) (b ∷ old) a lt = rw (accessed_more d cs old a (omega (arith, lt))) (or_or (is_on d c && is_access b) (accessed d cs old) (is_on d (slice_index_or cs (length old) no_command) && is_access a))
+  where
+    or_or : (x y z : Bool) → (x || (y || z)) ≡ ((x || y) || z)
+    or_or true y z = refl
+    or_or false y z = refl
+
+accessed_touches : (d : ℕ) (cs : List Command) (told : List Answer) → accessed d cs told ≡ true → list_any (is_on d) cs ≡ true
+accessed_touches d cs [] e = absurd (let none : false ≡ true = sym (accessed_none d cs) ∙ e in grind (arith, common_steps))
+accessed_touches d [] (a ∷ more) e = absurd (cc)
+accessed_touches d (c ∷ cs) (a ∷ more) e = at (is_on d c) (is_access a) (accessed d cs more) (accessed_touches d cs more) e
+  where
+    at : (on access later : Bool) → (later ≡ true → list_any (is_on d) cs ≡ true) → ((on && access) || later) ≡ true → (on || list_any (is_on d) cs) ≡ true
+    at true access later more e = refl
+    at false access later more e = more e
+
+-- where each answer is an access, each answered command is one
+accessed_all : (d : ℕ) (cs : List Command) (told : List Answer) → list_all is_access told ≡ true → accessed d cs told ≡ list_any (is_on d) (take (length told) cs)
+accessed_all d cs [] all = accessed_none d cs
+accessed_all d [] (a ∷ more) all = refl
+accessed_all d (c ∷ cs) (a ∷ more) all = at (is_access a) (grind (arith, common_steps)) (accessed_all d cs more (grind (arith, common_steps)))
+  where
+    at : (b : Bool) → b ≡ true → accessed d cs more ≡ list_any (is_on d) (take (length more) cs) → ((is_on d c && b) || accessed d cs more) ≡ (is_on d c || list_any (is_on d) (take (length more) cs))
+    at true e later = rw later (grind (arith, common_steps))
+    at false e later = absurd (cc)
+
+-- no command is guarded at any number
+unguarded_at : (cs : List Command) (k : ℕ) → is_unguarded cs ≡ true → is_always (slice_index_or cs k no_command).when ≡ true
+unguarded_at [] k all = refl
+unguarded_at (c ∷ cs) zero all = grind (arith, common_steps)
+unguarded_at (c ∷ cs) (suc k) all = unguarded_at cs k (grind (arith, common_steps))
 
 pub record IsShaped (w : Setting) (r : ℕ) (o : OfRun) : Type 0 where
   -- a run that has arrived is one of the window, and it arrives before it is placed
@@ -42,8 +99,10 @@ pub record IsShaped (w : Setting) (r : ℕ) (o : OfRun) : Type 0 where
   pub aborts : aborted o ≡ true → is_some o.doomed ≡ true
   pub answers_late : o.answered_doomed ≡ true → is_some o.doomed ≡ true
   pub fits : length o.answers ≤ length (commands_of w.runs r)
-  -- it has an access where a command is answered, and writes, finds and is undone there alone
-  pub view : (d : ℕ) → is_some (o.on d).view ≡ list_any (is_on d) (take (length o.answers) (commands_of w.runs r))
+  -- where none of its commands has a guard, each of its answers is an access
+  pub unguarded : is_unguarded (commands_of w.runs r) ≡ true → list_all is_access o.answers ≡ true
+  -- it has an access where a command is answered with one, and writes, finds and is undone there alone
+  pub view : (d : ℕ) → is_some (o.on d).view ≡ accessed d (commands_of w.runs r) o.answers
   pub wrote : (d : ℕ) → is_some (o.on d).wrote ≡ true → is_some (o.on d).view ≡ true
   pub found : (d : ℕ) → is_some (o.on d).found ≡ true → is_some (o.on d).view ≡ true
   pub undid : (d : ℕ) → (o.on d).undid ≡ true → is_some (o.on d).wrote ≡ true
@@ -68,7 +127,8 @@ unread_shape w r =
       aborts = λ e. absurd (cc);
       answers_late = λ e. absurd (cc);
       fits = omega arith;
-      view = λ d. refl;
+      unguarded = λ e. refl;
+      view = λ d. sym (accessed_none d (commands_of w.runs r));
       wrote = λ d e. absurd (cc);
       found = λ d e. absurd (cc);
       undid = λ d e. absurd (cc);
@@ -99,6 +159,7 @@ arrives w r m o run s =
       aborts = s.aborts;
       answers_late = s.answers_late;
       fits = s.fits;
+      unguarded = s.unguarded;
       view = s.view;
       wrote = s.wrote;
       found = s.found;
@@ -121,6 +182,7 @@ places w r o p planned came s =
       aborts = s.aborts;
       answers_late = s.answers_late;
       fits = s.fits;
+      unguarded = s.unguarded;
       view = s.view;
       wrote = s.wrote;
       found = s.found;
@@ -129,26 +191,50 @@ places w r o p planned came s =
       late = s.late;
     }
 
-some_view : (v : Option Bool) (a : Answer) → is_some (option_or v (view_by a)) ≡ true
+-- it sees the device from its first access on
+some_view : (v : Option Bool) (a : Answer) → is_some (option_or v (view_by a)) ≡ (is_some v || is_access a)
 some_view (Some u) a = refl
-some_view None Fine = refl
-some_view None (Found x) = refl
-some_view None Down = refl
+some_view None a = refl
+
+or_true : (b : Bool) → (b || true) ≡ true
+or_true true = refl
+or_true false = refl
 
 still_wrote : (kind : Kind) (c : Command) (doomed : Bool) (register : ℕ) (a : Answer) (o : OnDevice) → is_some o.wrote ≡ true → is_some (answered kind c doomed register a o).wrote ≡ true
 still_wrote kind c doomed register Fine o e = refl
 still_wrote kind c doomed register (Found x) o e = e
 still_wrote kind c doomed register Down o e = e
+still_wrote kind c doomed register Skipped o e = e
+
+still_seen : (v u : Option Bool) → is_some v ≡ true → is_some (option_or v u) ≡ true
+still_seen (Some x) u e = refl
+still_seen None u e = absurd (cc)
+
+-- what is written or found after an answer was so before, or the answer is an access
+written_seen : (kind : Kind) (c : Command) (doomed : Bool) (register : ℕ) (a : Answer) (o : OnDevice) → (is_some o.wrote ≡ true → is_some o.view ≡ true)
+    → is_some (answered kind c doomed register a o).wrote ≡ true → is_some (answered kind c doomed register a o).view ≡ true
+written_seen kind c doomed register Fine o old e = some_view o.view Fine ∙ or_true (is_some o.view)
+written_seen kind c doomed register (Found x) o old e = still_seen o.view (Some true) (old e)
+written_seen kind c doomed register Down o old e = still_seen o.view (Some false) (old e)
+written_seen kind c doomed register Skipped o old e = still_seen o.view None (old e)
+
+found_seen : (kind : Kind) (c : Command) (doomed : Bool) (register : ℕ) (a : Answer) (o : OnDevice) → (is_some o.found ≡ true → is_some o.view ≡ true)
+    → is_some (answered kind c doomed register a o).found ≡ true → is_some (answered kind c doomed register a o).view ≡ true
+found_seen kind c doomed register Fine o old e = still_seen o.view (Some true) (old e)
+found_seen kind c doomed register (Found x) o old e = some_view o.view (Found x) ∙ or_true (is_some o.view)
+found_seen kind c doomed register Down o old e = still_seen o.view (Some false) (old e)
+found_seen kind c doomed register Skipped o old e = still_seen o.view None (old e)
 
 -- the run's next command is answered
-answers : (w : Setting) (r : ℕ) (o : OfRun) (a : Answer) (register : ℕ) → is_some o.placed ≡ true → is_none o.ended ≡ true → length o.answers < length (commands_of w.runs r) → IsShaped w r o
+answers : (w : Setting) (r : ℕ) (o : OfRun) (a : Answer) (register : ℕ) → is_some o.placed ≡ true → is_none o.ended ≡ true → length o.answers < length (commands_of w.runs r)
+    → (is_always (command_at w.runs r (length o.answers)).when ≡ true → is_access a ≡ true) → IsShaped w r o
     → IsShaped w r (record o {
       answers = o.answers ++ a ∷ [];
       register = register;
       answered_doomed = o.answered_doomed || is_some o.doomed;
       on = put o.on (command_at w.runs r (length o.answers)).device.0 (answered (kind_at w.kinds (command_at w.runs r (length o.answers)).device.0) (command_at w.runs r (length o.answers)) (is_some o.doomed) o.register a (o.on (command_at w.runs r (length o.answers)).device.0));
     })
-answers w r o a register placed going more s =
+answers w r o a register placed going more done s =
     record {
       known = s.known;
       arrived = s.arrived;
@@ -161,9 +247,10 @@ answers w r o a register placed going more s =
       aborts = s.aborts;
       answers_late = λ e. grind (arith, common_steps, s.answers_late);
       fits = let longer : length (o.answers ++ a ∷ []) ≡ length o.answers + 1 = length-append o.answers (a ∷ []) in omega (arith, longer, more);
+      unguarded = λ all. list_all-append is_access o.answers (a ∷ []) ∙ both (s.unguarded all) (done (unguarded_at (commands_of w.runs r) (length o.answers) all));
       view = viewed;
-      wrote = put_all (λ d x. is_some x.wrote ≡ true → is_some x.view ≡ true) o.on c.device.0 new s.wrote (λ e. some_view (o.on c.device.0).view a);
-      found = put_all (λ d x. is_some x.found ≡ true → is_some x.view ≡ true) o.on c.device.0 new s.found (λ e. some_view (o.on c.device.0).view a);
+      wrote = put_all (λ d x. is_some x.wrote ≡ true → is_some x.view ≡ true) o.on c.device.0 new s.wrote (written_seen (kind_at w.kinds c.device.0) c (is_some o.doomed) o.register a (o.on c.device.0) (s.wrote c.device.0));
+      found = put_all (λ d x. is_some x.found ≡ true → is_some x.view ≡ true) o.on c.device.0 new s.found (found_seen (kind_at w.kinds c.device.0) c (is_some o.doomed) o.register a (o.on c.device.0) (s.found c.device.0));
       undid = put_all (λ d x. x.undid ≡ true → is_some x.wrote ≡ true) o.on c.device.0 new s.undid (λ e. still_wrote (kind_at w.kinds c.device.0) c (is_some o.doomed) o.register a (o.on c.device.0) (s.undid c.device.0 e));
       undone = put_all (λ d x. x.undid ≡ true → is_some o.doomed ≡ true) o.on c.device.0 new s.undone (s.undone c.device.0);
       late = put_all (λ d x. x.late ≡ true → is_some o.doomed ≡ true) o.on c.device.0 new s.late (λ e. late_doomed (o.on c.device.0).late (is_some o.doomed) (is_access a) (is_none (o.on c.device.0).view) (s.late c.device.0) e);
@@ -184,18 +271,28 @@ answers w r o a register placed going more s =
     late_doomed false true access first was e = refl
     late_doomed false false access first was e = e
 
-    taken : (d : ℕ) → list_any (is_on d) (take (length (o.answers ++ a ∷ [])) (commands_of w.runs r)) ≡ (list_any (is_on d) (take (length o.answers) (commands_of w.runs r)) || (c.device.0 == d))
-    taken d =
-        ap (λ k. list_any (is_on d) (take k (commands_of w.runs r))) (length-append o.answers (a ∷ []))
-        ∙ ap (list_any (is_on d)) (take_more (commands_of w.runs r) (length o.answers) no_command more)
-        ∙ list_any-append (is_on d) (take (length o.answers) (commands_of w.runs r)) (c ∷ [])
-        ∙ grind (arith, common_steps)
+    both : list_all is_access o.answers ≡ true → is_access a ≡ true → (list_all is_access o.answers && list_all is_access (a ∷ [])) ≡ true
+    both old own = grind (arith, common_steps)
 
-    viewed : (d : ℕ) → is_some (put o.on c.device.0 new d).view ≡ list_any (is_on d) (take (length (o.answers ++ a ∷ [])) (commands_of w.runs r))
-    viewed d = elim (d == c.device.0) as (λ b. (d == c.device.0) ≡ b → is_some (if b then new else o.on d).view ≡ list_any (is_on d) (take (length (o.answers ++ a ∷ [])) (commands_of w.runs r))) [
-      | true ↦ (λ e. some_view (o.on c.device.0).view a ∙ sym (taken d ∙ grind (arith, common_steps)))
-      | false ↦ (λ e. s.view d ∙ sym (taken d ∙ grind (arith, common_steps)))
+    taken : (d : ℕ) → accessed d (commands_of w.runs r) (o.answers ++ a ∷ []) ≡ (accessed d (commands_of w.runs r) o.answers || ((c.device.0 == d) && is_access a))
+    taken d = accessed_more d (commands_of w.runs r) o.answers a more
+
+    viewed : (d : ℕ) → is_some (put o.on c.device.0 new d).view ≡ accessed d (commands_of w.runs r) (o.answers ++ a ∷ [])
+    viewed d = elim (d == c.device.0) as (λ b. (d == c.device.0) ≡ b → is_some (if b then new else o.on d).view ≡ accessed d (commands_of w.runs r) (o.answers ++ a ∷ [])) [
+      | true ↦ (λ e. let same : d ≡ c.device.0 = grind (arith, common_steps) in
+          some_view (o.on c.device.0).view a ∙ ap (λ b. b || is_access a) (ap (λ x. is_some (o.on x).view) (sym same) ∙ s.view d)
+          ∙ sym (taken d ∙ here (c.device.0 == d) (grind (arith, common_steps)) (accessed d (commands_of w.runs r) o.answers)))
+      | false ↦ (λ e. s.view d ∙ sym (taken d ∙ there (c.device.0 == d) (grind (arith, common_steps)) (accessed d (commands_of w.runs r) o.answers)))
     ] refl
+      where
+        here : (b : Bool) → b ≡ true → (old : Bool) → (old || (b && is_access a)) ≡ (old || is_access a)
+        here true e old = refl
+        here false e old = absurd (cc)
+
+        there : (b : Bool) → b ≡ false → (old : Bool) → (old || (b && is_access a)) ≡ old
+        there true e old = absurd (cc)
+        there false e true = refl
+        there false e false = refl
 
 undoes : (w : Setting) (r d : ℕ) (o : OfRun) → is_some o.placed ≡ true → is_some o.doomed ≡ true → is_some (o.on d).wrote ≡ true → IsShaped w r o → IsShaped w r (record o { on = put o.on d (record (o.on d) { undid = true }) })
 undoes w r d o placed doomed wrote s =
@@ -211,7 +308,8 @@ undoes w r d o placed doomed wrote s =
       aborts = s.aborts;
       answers_late = s.answers_late;
       fits = s.fits;
-      view = put_all (λ q x. is_some x.view ≡ list_any (is_on q) (take (length o.answers) (commands_of w.runs r))) o.on d new s.view (s.view d);
+      unguarded = s.unguarded;
+      view = put_all (λ q x. is_some x.view ≡ accessed q (commands_of w.runs r) o.answers) o.on d new s.view (s.view d);
       wrote = put_all (λ q x. is_some x.wrote ≡ true → is_some x.view ≡ true) o.on d new s.wrote (s.wrote d);
       found = put_all (λ q x. is_some x.found ≡ true → is_some x.view ≡ true) o.on d new s.found (s.found d);
       undid = put_all (λ q x. x.undid ≡ true → is_some x.wrote ≡ true) o.on d new s.undid (λ e. wrote);
@@ -240,6 +338,7 @@ dooms w r o cause placed going s =
       aborts = λ e. refl;
       answers_late = λ e. refl;
       fits = s.fits;
+      unguarded = s.unguarded;
       view = s.view;
       wrote = s.wrote;
       found = s.found;
@@ -262,6 +361,7 @@ commits_shape w r o placed sound all s =
       aborts = λ e. absurd (cc);
       answers_late = s.answers_late;
       fits = s.fits;
+      unguarded = s.unguarded;
       view = s.view;
       wrote = s.wrote;
       found = s.found;
@@ -288,6 +388,7 @@ aborts_shape w r o cause placed doomed s =
       aborts = λ e. doomed;
       answers_late = s.answers_late;
       fits = s.fits;
+      unguarded = s.unguarded;
       view = s.view;
       wrote = s.wrote;
       found = s.found;
@@ -296,11 +397,23 @@ aborts_shape w r o cause placed doomed s =
       late = s.late;
     }
 
+-- a command with the guard Always is not skipped
+pub suited_access : (w : Setting) (n : Reading) (r : ℕ) (c : Command) (a : Answer) → suits w n r c a ≡ true → is_always c.when ≡ true → is_access a ≡ true
+suited_access w n r c Fine ok always = refl
+suited_access w n r c (Found x) ok always = refl
+suited_access w n r c Down ok always = refl
+suited_access w n r c Skipped ok always = at c.when always ok
+  where
+    at : (g : Guard) → is_always g ≡ true → (not (holds g (n.run r).register) && not (is_doomed n r)) ≡ true → is_access Skipped ≡ true
+    at Always always ok = absurd (cc)
+    at (Is v) always ok = absurd (cc)
+    at (Below v) always ok = absurd (cc)
+
 pub shapes_step : (w : Setting) (n : Reading) (e : Entry) → IsTrue (may_follow w n e) → Shaped w n → Shaped w (entry w n e)
 shapes_step w n (Arrived r m) ok s = put_all (IsShaped w) n.run r.0 _ s (arrives w r.0 m (n.run r.0) (grind (arith, common_steps)) (s r.0))
 shapes_step w n (Placed r at m) ok s = put_all (IsShaped w) n.run r.0 _ s (places w r.0 (n.run r.0) _ _ (grind (arith, common_steps)) (s r.0))
 shapes_step w n (Did r c a) ok s =
-    put_all (IsShaped w) n.run r.0 _ s (let number : c ≡ length (n.run r.0).answers = grind (arith, common_steps) in rw number (answers w r.0 (n.run r.0) a _ (grind (arith, common_steps)) (grind (arith, common_steps)) (grind (arith, common_steps)) (s r.0)))
+    put_all (IsShaped w) n.run r.0 _ s (let number : c ≡ length (n.run r.0).answers = grind (arith, common_steps) in rw number (answers w r.0 (n.run r.0) a _ (grind (arith, common_steps)) (grind (arith, common_steps)) (grind (arith, common_steps)) (subst (λ k. is_always (command_at w.runs r.0 k).when ≡ true → is_access a ≡ true) number (suited_access w n r.0 (command_at w.runs r.0 c) a (grind (arith, common_steps)))) (s r.0)))
 shapes_step w n (Undid r d drove) ok s = put_all (IsShaped w) n.run r.0 _ s (undoes w r.0 d.0 (n.run r.0) (grind (arith, common_steps)) (grind (arith, common_steps)) (grind (arith, common_steps)) (s r.0))
 shapes_step w n (Fell d) ok s = s
 shapes_step w n (Rose d) ok s = s
@@ -324,17 +437,25 @@ shapes w h ok = shapes_from w (nothing_read w) h (unread_shape w) ok
 
 -- a run has accesses on its own devices alone
 pub did_touches : (w : Setting) (n : Reading) (r d : ℕ) → Shaped w n → did n r d ≡ true → touches w.runs r d ≡ true
-did_touches w n r d s done = any_taken (is_on d) (length (n.run r).answers) (commands_of w.runs r) (sym ((s r).view d) ∙ done)
+did_touches w n r d s done = accessed_touches d (commands_of w.runs r) (n.run r).answers (sym ((s r).view d) ∙ done)
 
--- a run whose commands on a device are all answered has an access there
-pub answered_did : (w : Setting) (n : Reading) (r d : ℕ) → Shaped w n → touches w.runs r d ≡ true → pends w n r d ≡ false → did n r d ≡ true
-answered_did w n r d s on none = (s r).view d ∙ any_left (is_on d) (length (n.run r).answers) (commands_of w.runs r) on none
+-- a run without guards whose commands on a device are all answered has an access there
+pub answered_did : (w : Setting) (n : Reading) (r d : ℕ) → Shaped w n → is_unguarded (commands_of w.runs r) ≡ true → touches w.runs r d ≡ true → pends w n r d ≡ false → did n r d ≡ true
+answered_did w n r d s plain on none = (s r).view d ∙ accessed_all d (commands_of w.runs r) (n.run r).answers ((s r).unguarded plain) ∙ any_left (is_on d) (length (n.run r).answers) (commands_of w.runs r) on none
 
-pub never_passed_by : (w : Setting) (n : Reading) (r d : ℕ) → Shaped w n → passed_by w n r d ≡ false
-never_passed_by w n r d s = elim (touches w.runs r d) as (λ b. touches w.runs r d ≡ b → (b && not (pends w n r d) && not (did n r d)) ≡ false) [
+-- a run that has a command left on a device, or an access there, has not passed it
+pub pending_not_passed : (w : Setting) (n : Reading) (r d : ℕ) → pends w n r d ≡ true → passed_by w n r d ≡ false
+pending_not_passed w n r d e = grind (arith, common_steps)
+
+pub did_not_passed : (w : Setting) (n : Reading) (r d : ℕ) → did n r d ≡ true → passed_by w n r d ≡ false
+did_not_passed w n r d e = grind (arith, common_steps)
+
+-- a run without guards passes none
+pub never_passed_by : (w : Setting) (n : Reading) (r d : ℕ) → Shaped w n → is_unguarded (commands_of w.runs r) ≡ true → passed_by w n r d ≡ false
+never_passed_by w n r d s plain = elim (touches w.runs r d) as (λ b. touches w.runs r d ≡ b → (b && not (pends w n r d) && not (did n r d)) ≡ false) [
   | true ↦ (λ on. elim (pends w n r d) as (λ b. pends w n r d ≡ b → (not b && not (did n r d)) ≡ false) [
     | true ↦ (λ e. refl)
-    | false ↦ (λ none. ap not (answered_did w n r d s on none))
+    | false ↦ (λ none. ap not (answered_did w n r d s plain on none))
   ] refl)
   | false ↦ (λ e. refl)
 ] refl

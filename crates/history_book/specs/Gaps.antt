@@ -21,7 +21,7 @@ abbrev pub base_flags : (Item → Bool) → (Item → Bool) → List Item → Li
 base_flags live needed [] = []
 base_flags live needed (i ∷ is) = if live i then map needed (i ∷ is) else true ∷ base_flags live needed is
 
--- the item must stand before the run: it has an answer on one of its devices, or its next command is on one, or it is the committed run that it follows
+-- the item must stand before the run: it has an access on one of its devices, or its next command is on one, or it is the committed run that it follows
 abbrev pub is_needed : Setting → Reading → ℕ → Item → Bool
 is_needed w n r (Ran x) = list_any (λ d. did n x.0 d || (is_live n x.0 && is_next_on w n x.0 d)) (devices_of w r) || (follows w.runs r x.0 && is_committed n x.0)
 is_needed w n r (Failed d k) = touches w.runs r d.0

@@ -18,7 +18,7 @@ use Rattle.history_book.specs.declared.entries.Made.{Made}
 use Rattle.home_types.specs.Commands.{driven, register_after}
 use Rattle.home_types.specs.Kinds.{kind_at}
 use Rattle.home_types.specs.declared.commands.Answer.{Answer}
-use Rattle.home_types.specs.declared.commands.Answer.TheVariants.{Down, Fine, Found}
+use Rattle.home_types.specs.declared.commands.Answer.TheVariants.{Down, Fine, Found, Skipped}
 use Rattle.home_types.specs.declared.commands.Command.{Command}
 use Rattle.home_types.specs.declared.items.Item.{Item}
 use Rattle.home_types.specs.declared.items.Item.TheVariants.{Back, Failed, Ran}
@@ -28,7 +28,7 @@ use Rattle.home_types.specs.declared.numbers.RunNo.{RunNo}
 use Rattle.std.specs.Option.{option_or}
 use Rattle.std.specs.Prelude.{Bool, List, None, Option, Some, [], false, filter_map, fold, if◌then◌else◌, is_none, is_some, map, max, not, option_to_list, true, ℕ, ◌&&◌, ◌++◌, ◌+◌, ◌==◌, ◌||◌, ◌∷◌}
 
--- the device's next event stands before the first open run that has no answer there, under the weak model at the end
+-- the device's next event stands before the first open run that has no access there, under the weak model at the end
 abbrev pub with_event : Setting → Reading → DeviceNo → Item → List Item
 with_event w n d x = put_before (of_run (λ r. not (is_weak w.mode) && is_open w n r d.0 && not (did n r d.0))) x n.line
 
@@ -46,11 +46,13 @@ answered kind c doomed register a o =
     found_by Fine = o.found
     found_by (Found x) = if is_some o.wrote then o.found else option_or o.found (Some x)
     found_by Down = o.found
+    found_by Skipped = o.found
 
     wrote_by : Answer → Option ℕ
     wrote_by Fine = Some (driven kind c.job register)
     wrote_by (Found x) = o.wrote
     wrote_by Down = o.wrote
+    wrote_by Skipped = o.wrote
 
 abbrev pub more_if : {A : Type 0} → Bool → A → List A → List A
 more_if b x xs = if b then xs ++ x ∷ [] else xs

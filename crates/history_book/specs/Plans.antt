@@ -36,7 +36,7 @@ whole_end w n x = fold (λ t d. if counts d then max t (planned_end (n.run x).pl
     counts d = not (passed_by w n x d) && not (is_overwritten n x d)
 
 -- when the device is free for a run behind these items: the live runs among them that are not done with it have their planned end there,
--- and, where the new run's first command on it reads, those that write it their whole end
+-- and, where the new run reads it first, those that write it their whole end
 abbrev pub free : Setting → Reading → ℕ → List Item → ℕ → ℕ
 free w n r front d = fold (λ t i. max t (end_of i)) 0 front
   where

@@ -4,9 +4,10 @@ use Rattle.history_book.specs.Settings.{Setting}
 use Rattle.history_book.specs.declared.entries.Cause.{Cause}
 use Rattle.history_book.specs.declared.entries.End.{End}
 use Rattle.history_book.specs.declared.entries.End.TheVariants.{Aborted, Committed}
+use Rattle.home_types.specs.Commands.{holds}
 use Rattle.home_types.specs.HomeStates.{stand_at}
 use Rattle.home_types.specs.declared.commands.Answer.{Answer}
-use Rattle.home_types.specs.declared.commands.Answer.TheVariants.{Down, Fine, Found}
+use Rattle.home_types.specs.declared.commands.Answer.TheVariants.{Down, Fine, Found, Skipped}
 use Rattle.home_types.specs.declared.commands.Command.{Command}
 use Rattle.home_types.specs.declared.items.Item.{Item}
 use Rattle.home_types.specs.declared.items.Item.TheVariants.{Back, Failed, Ran}
@@ -14,7 +15,7 @@ use Rattle.std.specs.Prelude.{Bool, List, None, Option, Some, [], false, filter_
 
 -- of one run on one device
 pub record OnDevice : Type 0 where
-  -- whether the run sees the device up, by its first answer there; none before that
+  -- whether the run sees the device up, by its first answer there that is an access; none before that
   pub view : Option Bool
   -- the first value that it found before it had written
   pub found : Option ℕ
@@ -22,7 +23,7 @@ pub record OnDevice : Type 0 where
   pub wrote : Option ℕ
   -- its write was undone
   pub undid : Bool
-  -- its first answer came when it was doomed
+  -- its first access came when it was doomed
   pub late : Bool
 
 -- the planned times of one command, in ms
@@ -51,7 +52,7 @@ pub record OfRun : Type 0 where
 
 -- what stands in a device's own log
 pub data Mark : Type 0 where
-  -- this run had its first answer on the device
+  -- this run had its first access on the device
   First : ℕ → Mark
   -- the device failed or came back
   Event : Item → Mark
@@ -107,6 +108,7 @@ abbrev pub view_by : Answer → Option Bool
 view_by Fine = Some true
 view_by (Found x) = Some true
 view_by Down = Some false
+view_by Skipped = None
 
 -- the answer counts as an access to its device
 abbrev pub is_access : Answer → Bool
@@ -117,16 +119,19 @@ abbrev pub is_told : Answer → Bool
 is_told Fine = true
 is_told (Found x) = true
 is_told Down = false
+is_told Skipped = false
 
 abbrev pub is_fine : Answer → Bool
 is_fine Fine = true
 is_fine (Found x) = false
 is_fine Down = false
+is_fine Skipped = false
 
 abbrev pub same_answer : Answer → Answer → Bool
 same_answer Fine Fine = true
 same_answer (Found x) (Found y) = x == y
 same_answer Down Down = true
+same_answer Skipped Skipped = true
 same_answer a b = false
 
 -- Runs
@@ -154,6 +159,10 @@ next_command w n r = slice_get (commands_of w.runs r) (next_of n r)
 
 abbrev pub is_next_on : Setting → Reading → ℕ → ℕ → Bool
 is_next_on w n r d = unwrap_or (option_map (is_on d) (next_command w n r)) false
+
+-- .. and the guard of that command holds of its register
+abbrev pub asks_on : Setting → Reading → ℕ → ℕ → Bool
+asks_on w n r d = unwrap_or (option_map (λ c. is_on d c && holds c.when (n.run r).register) (next_command w n r)) false
 
 -- Runs and devices
 
@@ -212,7 +221,7 @@ is_fall (Event i) = is_failure i
     is_failure (Back d k) = false
 is_fall (Last r) = false
 
--- the run's span in the log: what stands behind its first answer, up to the answer to its last command
+-- the run's span in the log: what stands behind its first access, up to the answer to its last command
 abbrev pub span_of : ℕ → List Mark → List Mark
 span_of r [] = []
 span_of r (m ∷ ms) = if is_first r m then take_while (λ x. not (is_last r x)) ms else span_of r ms

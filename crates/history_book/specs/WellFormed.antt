@@ -8,10 +8,10 @@ use Rattle.history_book.specs.declared.entries.Cause.TheVariants.{DownAtEnd, Los
 use Rattle.history_book.specs.declared.entries.End.TheVariants.{Aborted, Committed}
 use Rattle.history_book.specs.declared.entries.Entry.{Entry}
 use Rattle.history_book.specs.declared.entries.Entry.TheVariants.{Arrived, Did, Doomed, Ended, Fell, Placed, Rose, Undid}
-use Rattle.home_types.specs.Commands.{reads, writes}
+use Rattle.home_types.specs.Commands.{holds, reads, writes}
 use Rattle.home_types.specs.Kinds.{has_value, kind_at}
 use Rattle.home_types.specs.declared.commands.Answer.{Answer}
-use Rattle.home_types.specs.declared.commands.Answer.TheVariants.{Down, Fine, Found}
+use Rattle.home_types.specs.declared.commands.Answer.TheVariants.{Down, Fine, Found, Skipped}
 use Rattle.home_types.specs.declared.commands.Command.{Command}
 use Rattle.std.specs.Prelude.{Bool, IsTrue, List, [], false, is_none, is_some, length, nat_le, nat_lt, not, option_map, true, unwrap_or, ℕ, ⊤, ◌&&◌, ◌==◌, ◌∷◌}
 
@@ -40,11 +40,13 @@ same_cause a b = false
 abbrev pub may_act : Setting → Reading → ℕ → Bool
 may_act w n r = is_run w.runs r && is_live n r
 
--- a write is answered Fine, a read with a value of its device, and each of them Down
-abbrev pub suits : Setting → Command → Answer → Bool
-suits w c Fine = writes c.job
-suits w c (Found x) = reads c.job && has_value (kind_at w.kinds c.device.0) x
-suits w c Down = true
+-- a write is answered Fine, a read with a value of its device, and each of them Down; it is Skipped exactly where its guard does not hold
+-- of the run's register, and a doomed run skips none
+abbrev pub suits : Setting → Reading → ℕ → Command → Answer → Bool
+suits w n r c Fine = holds c.when (n.run r).register && writes c.job
+suits w n r c (Found x) = holds c.when (n.run r).register && reads c.job && has_value (kind_at w.kinds c.device.0) x
+suits w n r c Down = holds c.when (n.run r).register
+suits w n r c Skipped = not (holds c.when (n.run r).register) && not (is_doomed n r)
 
 -- the cause names commands of the run, and devices and runs that there are; a revocation's moment is not before the last one
 abbrev pub cause_fits : Setting → Reading → ℕ → Cause → Bool
@@ -63,7 +65,7 @@ abbrev pub may_follow : Setting → Reading → Entry → Bool
 may_follow w n (Arrived r m) = is_run w.runs r.0 && is_none (n.run r.0).arrived && nat_le n.moment m
 may_follow w n (Placed r at m) = is_run w.runs r.0 && is_some (n.run r.0).arrived && is_none (n.run r.0).placed && nat_le n.moment m
 may_follow w n (Did r c a) =
-    may_act w n r.0 && (c == next_of n r.0) && nat_lt c (length (commands_of w.runs r.0)) && suits w (command_at w.runs r.0 c) a
+    may_act w n r.0 && (c == next_of n r.0) && nat_lt c (length (commands_of w.runs r.0)) && suits w n r.0 (command_at w.runs r.0 c) a
     && not (n.run r.0).answered_doomed
 may_follow w n (Undid r d drove) = may_act w n r.0 && is_device w d.0 && is_doomed n r.0 && has_written n r.0 d.0 && not ((n.run r.0).on d.0).undid
 may_follow w n (Fell d) = is_device w d.0 && n.up d.0

@@ -1,4 +1,5 @@
 ghost use Rattle.std.specs.Prelude.{◌≡◌, IfOk};
+ghost use Rattle.home_types.specs.Commands.{holds};
 
 use crate::lists::List;
 use crate::memory::NoMemory;
@@ -19,11 +20,37 @@ pub enum Job {
     Store,
 }
 
+/// What a command asks of the register of its run: where it does not hold, the command is skipped.
+#[derive(Clone, Copy, Debug, PartialEq, Eq)]
+pub enum Guard {
+    /// Nothing.
+    Always,
+    /// The register is this value.
+    Is(Value),
+    /// The register is less than this value.
+    Below(Value),
+}
+
+impl Guard {
+    /// Whether it holds of a register with this value.
+    pub fn holds(&self, register: Value) -> bool
+        ensures { result ≡ holds self.now register }
+    {
+        match self {
+            Guard::Always => true,
+            Guard::Is(value) => register == *value,
+            Guard::Below(value) => register < *value,
+        }
+    }
+}
+
 /// One command of a routine.
 #[derive(Clone, Copy, Debug, PartialEq, Eq)]
 pub struct Command {
     pub device: DeviceNo,
     pub job: Job,
+    /// Where it does not hold, the command is skipped.
+    pub when: Guard,
     /// Whether the run aborts where the command fails; else it is best effort.
     pub must: bool,
     /// The estimate of how long it takes, in ms, at most `limits::COMMAND_MS`.
@@ -67,6 +94,8 @@ pub enum Answer {
     Found(Value),
     /// The device is down for this run.
     Down,
+    /// The command's guard did not hold: nothing was done.
+    Skipped,
 }
 
 /// How a run sees a device from its first answer there on.

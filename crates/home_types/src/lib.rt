@@ -14,7 +14,7 @@ pub mod shared_lists;
 pub mod texts;
 pub mod worlds;
 
-pub use commands::{Answer, Command, Job, Routine, View};
+pub use commands::{Answer, Command, Guard, Job, Routine, View};
 pub use device_sets::DeviceSet;
 pub use items::Item;
 pub use kinds::Kind;

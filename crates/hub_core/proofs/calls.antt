@@ -24,6 +24,7 @@ pub mod NotedAnswers
 pub mod PassedRuns
 pub mod WaitingAgain
 pub mod HubOrders
+pub mod SkippedCalls
 pub mod SeenDevices
 pub mod ReturnedOrders
 pub mod Deaths

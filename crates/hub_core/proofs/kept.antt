@@ -17,6 +17,7 @@ pub mod KeptByModel
 pub mod SealedOrders
 pub mod Arranged
 pub mod OrderSteps
+pub mod SkippedOrders
 pub mod FallenOrders
 pub mod Finds
 pub mod Hands

@@ -1,7 +1,7 @@
 -- Runs that are known to wait at every moment, and the steps that end no wait of theirs.
 use Rattle.command_rules.specs.Rosters.{command_at, is_run}
 use Rattle.history_book.specs.Histories.{entries_of}
-use Rattle.history_book.specs.Readings.{is_doomed, is_live, next_command}
+use Rattle.history_book.specs.Readings.{asks_on, is_doomed, is_live, next_command}
 use Rattle.history_book.specs.Settings.{Setting, is_weak}
 use Rattle.history_book.specs.declared.entries.Entry.{Entry}
 use Rattle.history_book.specs.declared.entries.Entry.TheVariants.{Arrived, Did, Doomed, Ended, Fell, Placed, Rose, Undid}
@@ -35,9 +35,9 @@ pub record IsBlocked (s : Configuration) (r : ℕ) : Type 0 where
   pub free : grip_wait s.setting s.grips r ≡ None
   pub waits : (m : ℕ) → is_wait (choice_of s r m) ≡ true
 
--- at no moment does the run, whose next command is on the device, find a lease there overdue; under the weak model it looks for none
+-- at no moment does the run, whose next command is on the device, find a lease there overdue; under the weak model it looks for none, nor where it skips the command
 abbrev pub NeverRevokes : Configuration → ℕ → ℕ → Type 0
-NeverRevokes s r d = is_weak s.setting.mode ≡ false → NeverOverdue s.setting (read_of s) s.grips r d
+NeverRevokes s r d = is_weak s.setting.mode ≡ false → asks_on s.setting (read_of s) r d ≡ true → NeverOverdue s.setting (read_of s) s.grips r d
 
 -- the entry ends no wait of a run whose next command is on the device: it is of another device, and no placing, doom or end
 abbrev pub is_quiet : Setting → ℕ → Entry → Bool

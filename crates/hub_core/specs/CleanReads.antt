@@ -8,7 +8,7 @@ use Rattle.history_book.specs.declared.entries.Entry.{Entry}
 use Rattle.history_book.specs.declared.entries.Entry.TheVariants.{Did}
 use Rattle.home_types.specs.HomeStates.{stand_at}
 use Rattle.home_types.specs.declared.commands.Answer.{Answer}
-use Rattle.home_types.specs.declared.commands.Answer.TheVariants.{Down, Fine, Found}
+use Rattle.home_types.specs.declared.commands.Answer.TheVariants.{Down, Fine, Found, Skipped}
 use Rattle.lock_leasing.specs.Configurations.{no_grips}
 use Rattle.lock_leasing.specs.Words.{committed_write, has_effect, last_some, live_before}
 use Rattle.std.specs.List.{list_any}
@@ -26,6 +26,7 @@ no_dirty_write n r d = not (list_any (λ x. has_effect n no_grips x d) (live_bef
 -- Down is answered where the device is counted down, or where the run saw it down before
 abbrev pub answer_is_clean : Setting → Reading → ℕ → ℕ → Answer → Bool
 answer_is_clean w n r d Fine = true
+answer_is_clean w n r d Skipped = true
 answer_is_clean w n r d (Found x) = (x == clean_value w n r d) && no_dirty_write n r d
 answer_is_clean w n r d Down = not (n.up d) || sees_down n r d
 

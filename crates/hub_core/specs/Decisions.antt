@@ -7,12 +7,12 @@ use Rattle.history_book.specs.declared.entries.Cause.{Cause}
 use Rattle.history_book.specs.declared.entries.End.TheVariants.{Aborted, Committed}
 use Rattle.history_book.specs.declared.entries.Entry.TheVariants.{Arrived, Did, Doomed, Ended, Placed, Undid}
 use Rattle.home_types.specs.Commands.{fails}
-use Rattle.home_types.specs.declared.commands.Answer.TheVariants.{Down, Fine, Found}
+use Rattle.home_types.specs.declared.commands.Answer.TheVariants.{Down, Fine, Found, Skipped}
 use Rattle.home_types.specs.declared.commands.Answer.{Answer}
 use Rattle.home_types.specs.declared.commands.Command.{Command}
 use Rattle.hub_core.specs.OpenHubs.{purpose_of}
-use Rattle.hub_core.specs.Steps.{Absent as IsAbsent, Choice, HandsOut as IsHandedOut, Moves, Over as IsOver, Waits as IsWaiting, aborts, behind_case, busy_case, dirty_case, down_case, first_case, overdue_case, strict_case, undo_cases}
-use Rattle.hub_core.specs.declared.decisions.Chosen.TheVariants.{Aborts, Absent, AnswersDown, Arrives, Commits, Drops, FailsAtEnd, HandsOut, Joins, Over, Revokes, Waits}
+use Rattle.hub_core.specs.Steps.{Absent as IsAbsent, Choice, HandsOut as IsHandedOut, Moves, Over as IsOver, Waits as IsWaiting, aborts, behind_case, busy_case, dirty_case, down_case, first_case, overdue_case, skip_entries, strict_case, undo_cases}
+use Rattle.hub_core.specs.declared.decisions.Chosen.TheVariants.{Aborts, Absent, AnswersDown, Arrives, Commits, Drops, FailsAtEnd, HandsOut, Joins, Over, Revokes, Skips, Waits}
 use Rattle.hub_core.specs.declared.decisions.Chosen.{Chosen}
 use Rattle.lock_leasing.specs.Configurations.{Commands, Grips}
 use Rattle.std.specs.Prelude.{Bool, None, Option, Some, [], false, if◌then◌else◌, not, ℕ, ◌&&◌, ◌∷◌}
@@ -28,6 +28,7 @@ told_choice r m (Aborts cause) = IsOver (Aborted cause) (Ended (run_no r) (Abort
 told_choice r m (Drops d) = Moves (Undid (run_no r) d false ∷ [])
 told_choice r m (Revokes x d deadline) = Moves (Doomed x (Revoked (run_no r) d deadline m) ∷ [])
 told_choice r m (AnswersDown k must) = Moves (Did (run_no r) k Down ∷ (if must then Doomed (run_no r) (MustDown k) ∷ [] else []))
+told_choice r m (Skips k) = Moves (skip_entries r k)
 told_choice r m (FailsAtEnd d) = Moves (Doomed (run_no r) (DownAtEnd d) ∷ [])
 told_choice r m (Waits why) = IsWaiting why
 told_choice r m (HandsOut d purpose) = IsHandedOut d.0 (purpose_of purpose)
@@ -37,6 +38,7 @@ abbrev pub refuted_by : Setting → Reading → ℕ → ℕ → Answer → Optio
 refuted_by w n r k Fine = None
 refuted_by w n r k (Found x) = if fails (command_at w.runs r k) (Found x) && not (is_doomed n r) then Some (Refuted k x) else None
 refuted_by w n r k Down = None
+refuted_by w n r k Skipped = None
 
 -- for what the run is doomed whose command k died, the first one on its device or a later one: a first one fails only where it must not, a later access is lost; a run that is doomed already is not doomed again
 abbrev pub died_by : Setting → Reading → ℕ → ℕ → Bool → Option Cause
@@ -57,3 +59,7 @@ strong_command w n g r m k c = first_case (overdue_case w n g r m c ∷ []) (cur
 -- what the next command, c with the number k, does where no run bars it: its device is waited for, the answer is Down with no call, or the device goes out
 abbrev pub unbarred_command : Setting → Reading → Grips → ℕ → ℕ → Command → Choice
 unbarred_command w n g r k c = first_case (busy_case w n g r c ∷ down_case w n r k c ∷ []) (IsHandedOut c.device.0 (Commands k))
+
+-- what it does where its guard does not hold: it is skipped, where the model lets the run go
+abbrev pub skipped_command : Setting → Reading → ℕ → ℕ → Choice
+skipped_command w n r k = first_case (strict_case w n r ∷ []) (Moves (skip_entries r k))

@@ -16,7 +16,7 @@ use Rattle.home_types.specs.declared.modes.Scheduler.{Scheduler}
 use Rattle.home_types.specs.declared.numbers.DeviceNo.{DeviceNo}
 use Rattle.home_types.specs.declared.numbers.RunNo.{RunNo}
 use Rattle.lineage_table.specs.Accesses.{has_access, is_scheduled, status_of}
-use Rattle.lineage_table.specs.Lineages.{LineageState, accesses_at, counted_up, lineage_at, scheduled, with_lineage}
+use Rattle.lineage_table.specs.Lineages.{LineageState, accesses_at, counted_up, lineage_at, released, removed, scheduled, with_lineage}
 use Rattle.lineage_table.specs.declared.accesses.Status.TheVariants.{Acquired, Scheduled}
 use Rattle.lock_leasing.specs.Configurations.{Grips}
 use Rattle.serial_line.specs.KeptRuns.{AreKeptOf}
@@ -48,9 +48,13 @@ pub record MayArrange (set : List Bool) (line : Marked) : Type 0 where
 abbrev pub is_first : ℕ → LineageState → Bool
 is_first r s = unwrap_or (option_map is_scheduled (status_of r s.accesses)) false
 
--- the run may have an answer on the device: its access is acquired, or scheduled where none is
+-- the run is not done with the device: its access is acquired, or scheduled
+abbrev pub IsUnreleased : ℕ → LineageState → Type 0
+IsUnreleased r s = status_of r s.accesses ≡ Some (if is_first r s then Scheduled else Acquired)
+
+-- the run may have an access on the device: that is acquired, or scheduled where none is
 pub record MayNote (r : ℕ) (s : LineageState) : Type 0 where
-  pub status : status_of r s.accesses ≡ Some (if is_first r s then Scheduled else Acquired)
+  pub status : IsUnreleased r s
   pub first : is_first r s ≡ true → IsWaiting r s
 
 -- the lineage of a device on which the run, which is planned to use it so, stands before those of these items; as it is where no use is planned
@@ -75,6 +79,19 @@ pub record MayNoteAnswer (h : HistoryState) (r k d : ℕ) (table : List LineageS
   pub answered : next_of (read_in h) r ≡ k + 1
   pub homed : d < length table
   pub turn : MayNote r (lineage_at table d)
+
+-- the run has skipped its last command on the device: its access is gone where the run has not touched the device, and else released
+abbrev pub left_by : ℕ → Bool → LineageState → LineageState
+left_by r first s = if first then removed r s else released r s
+
+-- .. the command of this number, which was just answered; under the weak model it has no access there
+pub record MayLeave (h : HistoryState) (r k d : ℕ) (table : List LineageState) : Type 0 where
+  pub run : is_run h.setting.runs r ≡ true
+  pub there : k < length (commands_of h.setting.runs r)
+  pub device : (command_at h.setting.runs r k).device.0 ≡ d
+  pub answered : next_of (read_in h) r ≡ k + 1
+  pub homed : d < length table
+  pub turn : is_weak h.setting.mode ≡ false → IsUnreleased r (lineage_at table d)
 
 -- A device fails or comes back
 

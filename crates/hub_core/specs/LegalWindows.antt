@@ -12,7 +12,7 @@ use Rattle.history_book.specs.declared.records.WindowRecord.{WindowRecord}
 use Rattle.home_types.specs.Commands.{fails}
 use Rattle.home_types.specs.HomeStates.{stand_at}
 use Rattle.home_types.specs.declared.commands.Answer.{Answer}
-use Rattle.home_types.specs.declared.commands.Answer.TheVariants.{Down, Fine, Found}
+use Rattle.home_types.specs.declared.commands.Answer.TheVariants.{Down, Fine, Found, Skipped}
 use Rattle.home_types.specs.declared.commands.Command.{Command}
 use Rattle.hub_core.specs.AccountedCalls.{CallsAreAccounted}
 use Rattle.hub_core.specs.Agreement.{AgreesWithSerial}
@@ -59,6 +59,7 @@ abbrev pub weakly_allowed : Setting → Reading → Entry → Bool
 weakly_allowed w n (Did r c Down) = not (n.up (command_at w.runs r.0 c).device.0)
 weakly_allowed w n (Did r c (Found x)) = x == n.last (command_at w.runs r.0 c).device.0
 weakly_allowed w n (Did r c Fine) = true
+weakly_allowed w n (Did r c Skipped) = true
 weakly_allowed w n (Doomed r (MustDown c)) = shows w n r.0 (MustDown c)
 weakly_allowed w n (Doomed r (Refuted c x)) = shows w n r.0 (Refuted c x)
 weakly_allowed w n (Doomed r cause) = false

@@ -10,7 +10,7 @@ use Rattle.home_types.specs.declared.commands.Command.{Command}
 use Rattle.hub_core.specs.BlockedMarks.{AreBlocked, BlockedState}
 use Rattle.hub_core.specs.Bounds.{most_items}
 use Rattle.hub_core.specs.PlansInTurn.{planned_use}
-use Rattle.hub_core.specs.declared.decisions.Chosen.TheVariants.{Aborts, Absent, AnswersDown, Arrives, Commits, Drops, FailsAtEnd, HandsOut, Joins, Over, Revokes, Waits}
+use Rattle.hub_core.specs.declared.decisions.Chosen.TheVariants.{Aborts, Absent, AnswersDown, Arrives, Commits, Drops, FailsAtEnd, HandsOut, Joins, Over, Revokes, Skips, Waits}
 use Rattle.hub_core.specs.declared.decisions.Chosen.{Chosen}
 use Rattle.hub_core.specs.declared.plans.PlannedUse.{PlannedUse}
 use Rattle.lock_leasing.specs.Configurations.{Configuration, read_of}
@@ -52,6 +52,7 @@ HoldsChosen room s r m chosen = ((read_of s).run r).placed ≡ None → by_chose
     by_chosen (Drops d) = ⊤
     by_chosen (Revokes x d deadline) = ⊤
     by_chosen (AnswersDown k must) = ⊤
+    by_chosen (Skips k) = ⊤
     by_chosen (FailsAtEnd d) = ⊤
     by_chosen (Waits why) = ⊤
     by_chosen (HandsOut d purpose) = ⊤

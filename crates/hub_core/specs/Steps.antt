@@ -9,9 +9,9 @@ use Rattle.history_book.specs.declared.entries.End.{End}
 use Rattle.history_book.specs.declared.entries.End.TheVariants.{Aborted, Committed}
 use Rattle.history_book.specs.declared.entries.Entry.{Entry}
 use Rattle.history_book.specs.declared.entries.Entry.TheVariants.{Arrived, Did, Doomed, Ended, Fell, Placed, Rose, Undid}
-use Rattle.home_types.specs.Commands.{fails}
+use Rattle.home_types.specs.Commands.{fails, holds}
 use Rattle.home_types.specs.declared.commands.Answer.{Answer}
-use Rattle.home_types.specs.declared.commands.Answer.TheVariants.{Down, Fine, Found}
+use Rattle.home_types.specs.declared.commands.Answer.TheVariants.{Down, Fine, Found, Skipped}
 use Rattle.home_types.specs.declared.commands.Command.{Command}
 use Rattle.device_gate.specs.declared.slips.Told.{Told}
 use Rattle.device_gate.specs.declared.slips.Told.TheVariants.{Died, Sensed, Worked}
@@ -79,8 +79,15 @@ abbrev pub command_cases : Bool → Setting → Reading → Grips → ℕ → �
 command_cases true w n g r m k c = busy_case w n g r c ∷ down_case w n r k c ∷ []
 command_cases false w n g r m k c = overdue_case w n g r m c ∷ behind_case w n g r c ∷ dirty_case w n g r c ∷ strict_case w n r ∷ busy_case w n g r c ∷ down_case w n r k c ∷ []
 
+-- the answer Skipped, to a command whose guard does not hold
+abbrev pub skip_entries : ℕ → ℕ → List Entry
+skip_entries r k = Did (run_no r) k Skipped ∷ []
+
+-- a command whose guard does not hold waits for no run but one that the model waits for
 abbrev pub decide_command : Setting → Reading → Grips → ℕ → ℕ → ℕ → Command → Choice
-decide_command w n g r m k c = first_case (command_cases (is_weak w.mode) w n g r m k c) (HandsOut c.device.0 (Commands k))
+decide_command w n g r m k c =
+    if holds c.when (n.run r).register then first_case (command_cases (is_weak w.mode) w n g r m k c) (HandsOut c.device.0 (Commands k))
+    else first_case (strict_case w n r ∷ []) (Moves (skip_entries r k))
 
 -- The other cases of a run's step
 

@@ -5,12 +5,12 @@ ghost use Rattle.lock_leasing.specs.Configurations.{read_of};
 ghost use Rattle.hub_core.specs.Decisions.{told_choice};
 ghost use Rattle.hub_core.specs.HubCalls.{Answers, GoesOut, IsPacked, SameWindow};
 ghost use Rattle.hub_core.specs.OpenHubs.{configuration_of, purpose_of};
-ghost use Rattle.hub_core.specs.KeptOrders.{MayNoteAnswer, is_first, noted_first};
+ghost use Rattle.hub_core.specs.KeptOrders.{MayLeave, MayNoteAnswer, is_first, left_by, noted_first};
 ghost use Rattle.hub_core.specs.PlannedPlaces.{HoldsPlan};
 ghost use Rattle.hub_core.specs.ReadHistories.{read_in, with_doom};
 ghost use Rattle.hub_core.specs.Steps.{Waits, Absent, Moves, Over, HandsOut, choice_of};
 ghost use Rattle.history_book.specs.Histories.{entries_made};
-ghost use Rattle.history_book.specs.Readings.{is_doomed, is_fine, is_told, pends};
+ghost use Rattle.history_book.specs.Readings.{is_access, is_doomed, is_fine, is_told, pends};
 ghost use Rattle.history_book.specs.Settings.{is_weak};
 ghost use Rattle.lineage_table.specs.Lineages.{lineage_at, with_lineage};
 ghost use Rattle.lock_leasing.specs.Tables.{view_when};
@@ -134,6 +134,20 @@ impl<D: Device> OpenWindow<D> {
         }
     }
 
+    /// The run's command with the number `k` is skipped, since its guard does not hold. That is no access to its device.
+    pub(crate) fn skip(&mut self, r: RunNo, moment: u64, k: u32) -> Made
+        requires { choice_of (configuration_of self.old) r.0 moment ≡ told_choice r.0 (max self.old.moment moment) (Chosen.Skips k) }
+        ensures answer { Answers self.old r.0 moment (Moves (entries_made result)) self.new }
+        ensures packed { IsPacked result }
+        ensures window { SameWindow self.old self.new }
+    {
+        let d = self.history.command(r, k).device;
+        self.moment = self.moment.max(moment);
+        let entry = self.history.answer(r, k, Answer::Skipped);
+        leave_skipped(&self.history, &mut self.order, r, k, d);
+        one_made(entry)
+    }
+
     /// The run, which has all its commands answered, is doomed, since it needs the device up, which is counted down.
     pub(crate) fn fail_at_end(&mut self, r: RunNo, moment: u64, d: DeviceNo) -> Made
         requires { choice_of (configuration_of self.old) r.0 moment ≡ told_choice r.0 (max self.old.moment moment) (Chosen.FailsAtEnd d) }
@@ -222,8 +236,8 @@ impl<D: Device> OpenWindow<D> {
     }
 }
 
-/// The run, whose command with the number `k` was just answered so, notes that on the device, which stands at this value.
-/// Under the weak model it has no access there, and notes nothing.
+/// The run, whose command with the number `k` was just answered so, and not skipped, notes that on the device, which stands
+/// at this value. Under the weak model it has no access there, and notes nothing.
 #[inline(always)]
 pub(crate) fn note_answer(
     history: &ReadHistory,
@@ -234,6 +248,7 @@ pub(crate) fn note_answer(
     answer: Answer,
     held: Value,
 )
+    requires access { is_access answer ≡ true }
     requires told { is_weak history.now.setting.mode ≡ false → MayNoteAnswer history.now r.0 k d.0 order.old.table }
     ensures line { order.new.line ≡ order.old.line }
     ensures weakly { is_weak history.now.setting.mode ≡ true → order.new.table ≡ order.old.table }
@@ -244,6 +259,22 @@ pub(crate) fn note_answer(
     }
     let is_last = history.is_done(r, k, d);
     order.note(d, r, note_of(answer, held, is_last));
+}
+
+/// The run, whose command with the number `k` was just skipped, leaves the device where that was its last command there.
+/// Under the weak model it has no access there.
+fn leave_skipped(history: &ReadHistory, order: &mut KeptOrder, r: RunNo, k: u32, d: DeviceNo)
+    requires { MayLeave history.now r.0 k d.0 order.old.table }
+    ensures line { order.new.line ≡ order.old.line }
+    ensures weakly { is_weak history.now.setting.mode ≡ true → order.new.table ≡ order.old.table }
+    ensures ordered { is_weak history.now.setting.mode ≡ false → order.new.table ≡ (if is_doomed (read_in history.now) r.0 || not (pends history.now.setting (read_in history.now) r.0 d.0) then with_lineage order.old.table d.0 (left_by r.0 (is_first r.0 (lineage_at order.old.table d.0))) else order.old.table) }
+{
+    if history.is_weak() {
+        return;
+    }
+    if history.is_done(r, k, d) {
+        order.leave(d, r);
+    }
 }
 
 /// The run is doomed, where there is a cause.

@@ -3,7 +3,7 @@ ghost use Rattle.std.specs.Prelude.{◌≡◌, ◌<◌, ◌≤◌, IsTrue, None,
 ghost use Rattle.command_rules.specs.Rosters.{command_at, commands_of, is_run};
 ghost use Rattle.history_book.specs.Readings.{is_live};
 ghost use Rattle.history_book.specs.Settings.{is_weak};
-ghost use Rattle.hub_core.specs.Decisions.{current_command, strong_command, strong_doomed, told_choice, unbarred_command};
+ghost use Rattle.hub_core.specs.Decisions.{current_command, skipped_command, strong_command, strong_doomed, told_choice, unbarred_command};
 ghost use Rattle.hub_core.specs.HubSteps.{command_task, task_of};
 ghost use Rattle.hub_core.specs.OpenHubs.{configuration_of, purpose_of};
 ghost use Rattle.hub_core.specs.Steps.{choice_of, decide_answered};
@@ -49,6 +49,8 @@ pub(crate) enum Chosen {
     Revokes(RunNo, DeviceNo, u64),
     /// Its next command, of this number, is answered `Down` with no call of its device, and dooms it where it is a must.
     AnswersDown(u32, bool),
+    /// Its next command, of this number, is skipped, since its guard does not hold.
+    Skips(u32),
     /// It is doomed, since all its commands are answered and the device, which it needs up, is counted down.
     FailsAtEnd(DeviceNo),
     Waits(Why),
@@ -89,7 +91,13 @@ impl<D: Device> OpenWindow<D> {
             return self.decide_doomed(r, cause);
         }
         match self.history.next_command(r) {
-            Some(command) => self.decide_command(r, progress.answered, command, moment),
+            Some(command) => {
+                if command.when.holds(progress.register) {
+                    self.decide_command(r, progress.answered, command, moment)
+                } else {
+                    self.decide_skip(r, progress.answered)
+                }
+            }
             None => self.decide_answered(r),
         }
     }
@@ -132,6 +140,20 @@ impl<D: Device> OpenWindow<D> {
         match down_at_end(self.history.model(), &standing, r) {
             Some(d) => Chosen::FailsAtEnd(d),
             None => Chosen::Commits,
+        }
+    }
+
+    /// What `r` is to do whose next command, with the number `k`, has a guard that does not hold: it is skipped, where the
+    /// model lets the run go.
+    fn decide_skip(&self, r: RunNo, k: u32) -> Chosen
+        requires strong { is_weak self.now.setting.mode ≡ false }
+        requires turn { IsUnderWay (read_of (configuration_of self.now)) r.0 }
+        ensures { (m : ℕ) → told_choice r.0 m result ≡ skipped_command self.now.setting (read_of (configuration_of self.now)) r.0 k }
+    {
+        let standing = self.standing();
+        match may_go(self.history.model(), &standing, r) {
+            Some(x) => Chosen::Waits(Why::Strict(x)),
+            None => Chosen::Skips(k),
         }
     }
 

@@ -4,11 +4,11 @@ ghost use Rattle.std.specs.List.{All};
 ghost use Rattle.abort_rollback.specs.Undos.{next_undo};
 ghost use Rattle.command_rules.specs.Footprints.{FitsIndex};
 ghost use Rattle.command_rules.specs.Rosters.{commands_of, is_run, runs_of, touches};
-ghost use Rattle.history_book.specs.Readings.{is_fine, is_told};
+ghost use Rattle.history_book.specs.Readings.{is_access, is_fine, is_told};
 ghost use Rattle.home_types.specs.Limits.{most_devices};
 ghost use Rattle.home_types.specs.declared.items.Item.TheVariants.{Ran};
 ghost use Rattle.home_types.specs.declared.modes.Scheduler.TheVariants.{Timeline};
-ghost use Rattle.hub_core.specs.KeptOrders.{IsSealed, MayArrange, MayNote, arranged, is_first, noted_first, scheduled_with};
+ghost use Rattle.hub_core.specs.KeptOrders.{IsSealed, IsUnreleased, MayArrange, MayNote, arranged, is_first, left_by, noted_first, scheduled_with};
 ghost use Rattle.hub_core.specs.OpenHubs.{purpose_of};
 ghost use Rattle.lineage_table.specs.Lineages.{IsOpened, accesses_at, committed_lineage, lineage_at, removed, undone, with_lineage};
 ghost use Rattle.lock_leasing.specs.Configurations.{is_command, is_undo};
@@ -141,6 +141,21 @@ impl KeptOrder {
             Purpose::Command(_) => self.line.mark(r, d),
             Purpose::Undo(_) => self.table.undone(d, r),
             Purpose::Probe(_) => {}
+        }
+    }
+
+    /// The run has skipped its last command on the device: its access is gone where it has not touched the device, and else
+    /// released.
+    pub(crate) fn leave(&mut self, d: DeviceNo, r: RunNo)
+        requires device { d.0 < length self.old.table }
+        requires turn { IsUnreleased r.0 (lineage_at self.old.table d.0) }
+        ensures line { self.new.line ≡ self.old.line }
+        ensures table { self.new.table ≡ with_lineage self.old.table d.0 (left_by r.0 (is_first r.0 (lineage_at self.old.table d.0))) }
+    {
+        if self.is_first(d, r) {
+            self.table.remove(d, r);
+        } else {
+            self.table.release(d, r);
         }
     }
 
@@ -307,8 +322,9 @@ fn run_with_access(table: &Table, d: DeviceNo, item: Item) -> Option<RunNo>
     }
 }
 
-/// What the answer tells of its device, which stands at this value then.
+/// What the answer, which is no skipped one, tells of its device, which stands at this value then.
 pub(crate) fn note_of(answer: Answer, held: Value, is_last: bool) -> Noted
+    requires { is_access answer ≡ true }
     ensures view { result.view ≡ view_when (is_told answer) }
     ensures wrote { result.wrote ≡ (if is_fine answer then Some held else None) }
     ensures last { result.is_last ≡ is_last }
@@ -329,5 +345,6 @@ pub(crate) fn note_of(answer: Answer, held: Value, is_last: bool) -> Noted
             wrote: None,
             is_last,
         },
+        Answer::Skipped => unreachable!(),
     }
 }

@@ -44,6 +44,7 @@ impl<D: Device> OpenWindow<D> {
                 Turn::Moved(self.revoke(r, moment, borrower, d, deadline))
             }
             Chosen::AnswersDown(k, must) => Turn::Moved(self.answer_down(r, moment, k, must)),
+            Chosen::Skips(k) => Turn::Moved(self.skip(r, moment, k)),
             Chosen::FailsAtEnd(d) => Turn::Moved(self.fail_at_end(r, moment, d)),
             Chosen::Commits => Turn::Over(End::Committed, self.commit(r, moment)),
             Chosen::Aborts(cause) => {

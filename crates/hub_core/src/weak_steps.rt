@@ -22,7 +22,7 @@ use home_types::{Item, RunNo};
 
 impl<D: Device> OpenWindow<D> {
     /// What the run is to do, which is placed and has not ended: it ends at once where it is doomed, else its next command
-    /// waits for a device that is out, is told that it is down, or goes out, and with none left the run commits.
+    /// is skipped, waits for a device that is out, is told that it is down, or goes out, and with none left the run commits.
     pub(crate) fn decide_weakly(&self, r: RunNo, progress: RunProgress) -> Chosen
         requires run { is_run self.now.setting.runs r.0 ≡ true }
         requires known { progress ≡ progress_of ((read_of (configuration_of self.now)).run r.0) }
@@ -34,6 +34,9 @@ impl<D: Device> OpenWindow<D> {
         let Some(command) = self.history.next_command(r) else {
             return Chosen::Commits;
         };
+        if !command.when.holds(progress.register) {
+            return Chosen::Skips(progress.answered);
+        }
         let d = command.device;
         if self.is_out(d) {
             return Chosen::Waits(Why::Busy(d));

@@ -13,7 +13,7 @@ use Rattle.history_book.specs.declared.entries.Entry.TheVariants.{Arrived, Did, 
 use Rattle.history_book.specs.declared.entries.Entry.{Entry}
 use Rattle.history_book.specs.declared.entries.Made.{Made}
 use Rattle.home_types.specs.Commands.{fails}
-use Rattle.home_types.specs.declared.commands.Answer.TheVariants.{Down, Fine, Found}
+use Rattle.home_types.specs.declared.commands.Answer.TheVariants.{Down, Fine, Found, Skipped}
 use Rattle.home_types.specs.declared.commands.Command.{Command}
 use Rattle.command_rules.specs.Rosters.{command_at}
 use Rattle.hub_core.proofs.steps.Choices.{decide_is}
@@ -68,6 +68,7 @@ choice_within earliest latest s r m since until = decide_is (λ choice. AreWithi
   revokes = λ c x is strong overdue. one earliest latest r (Doomed (run_no x) (Revoked (run_no r) c.device (lease_deadline s.setting n x c.device.0) now)) timed;
   downs = λ c is next home down. before earliest latest r (Did (run_no r) (next_of n r) Down) _ tt (either_of earliest latest r c.must (Doomed (run_no r) (MustDown (next_of n r)) ∷ []) [] (one earliest latest r _ tt) nothing);
   goes = λ c is next home up. nothing;
+  skips = λ c is. one earliest latest r (Did (run_no r) (next_of n r) Skipped) tt;
   fails_at_end = λ d is at. one earliest latest r (Doomed (run_no r) (DownAtEnd (device_no d))) tt;
   commits = λ is none_down. one earliest latest r _ tt;
 })

@@ -9,7 +9,7 @@ use Rattle.history_book.specs.declared.entries.End.{End}
 use Rattle.history_book.specs.declared.entries.Entry.TheVariants.{Arrived, Did, Doomed, Ended, Fell, Placed, Rose, Undid}
 use Rattle.history_book.specs.declared.entries.Entry.{Entry}
 use Rattle.history_book.specs.declared.entries.Made.{Made}
-use Rattle.home_types.specs.declared.commands.Answer.TheVariants.{Down, Fine, Found}
+use Rattle.home_types.specs.declared.commands.Answer.TheVariants.{Down, Fine, Found, Skipped}
 use Rattle.home_types.specs.declared.commands.Answer.{Answer}
 use Rattle.home_types.specs.declared.worlds.Stand.{Stand}
 use Rattle.hub_core.specs.declared.refusals.NotQuiet.TheVariants.{StillLive, StillOut}
@@ -44,6 +44,7 @@ abbrev pub did : ℕ → ℕ → Answer → ToldEntry
 did run c Fine = record no_entry { kind = 3; run = run; command = c; answer = 1 }
 did run c (Found v) = record no_entry { kind = 3; run = run; command = c; answer = 2; value = v }
 did run c Down = record no_entry { kind = 3; run = run; command = c; answer = 3 }
+did run c Skipped = record no_entry { kind = 3; run = run; command = c; answer = 4 }
 
 -- how the run ended
 abbrev pub entry_of_end : ℕ → End → ToldEntry

@@ -65,6 +65,8 @@ const FOUND: u32 = 2;
 
 const DOWN: u32 = 3;
 
+const SKIPPED: u32 = 4;
+
 const MUST_DOWN: u32 = 1;
 
 const REFUTED: u32 = 2;
@@ -151,6 +153,7 @@ fn tell_did(run: u32, command: u32, answer: Answer, told: &mut ToldEntry)
             told.value = value;
         }
         Answer::Down => told.answer = DOWN,
+        Answer::Skipped => told.answer = SKIPPED,
     }
 }
 

@@ -8,7 +8,7 @@ use routine_reader::{Count, Part, ReadFault, Spot};
 #[repr(C)]
 #[derive(Clone, Copy, Debug, PartialEq, Eq)]
 pub struct ToldFault {
-    /// How many there are where there are too many, or the version that is not 1.
+    /// How many there are where there are too many, or the version, where it is neither 1 nor 2.
     pub count: u64,
     /// How many there may be.
     pub limit: u64,

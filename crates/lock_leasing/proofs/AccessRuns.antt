@@ -8,7 +8,7 @@ use Rattle.history_book.specs.Settings.{Setting}
 use Rattle.home_types.specs.declared.items.Item.TheVariants.{Back, Failed, Ran}
 use Rattle.home_types.specs.declared.items.Item.{Item}
 use Rattle.lock_leasing.proofs.Effects.{effect_is}
-use Rattle.lock_leasing.proofs.Facts.{Facts, committed_stays, live_uses, pends_touches, written_did, written_touches}
+use Rattle.lock_leasing.proofs.Facts.{Facts, committed_stays, pending_uses, written_did, written_uses}
 use Rattle.lock_leasing.specs.Configurations.{Grips}
 use Rattle.lock_leasing.specs.Order.{covers, is_touched, open_runs_are_last}
 use Rattle.lock_leasing.specs.Tables.{uses}
@@ -85,7 +85,7 @@ module _ (w : Setting) (n : Reading) (g : Grips) (f : Facts w n g) (d : ℕ) whe
   -- no committed run behind it wrote
   open_access : (is : List Item) (r : ℕ) → is_open w n r d ≡ true → (not (is_open w n r d) || not (list_any (is_touched n g d) is)) ≡ true → (uses w n d r && not (list_any (covers n d) is)) ≡ true
   open_access is r opened last =
-      let used : uses w n d r ≡ true = live_uses w n g r d f (grind (arith, common_steps)) (pends_touches w n r d (grind (arith, common_steps))) in
+      let used : uses w n d r ≡ true = pending_uses w n r d (grind (arith, common_steps)) (grind (arith, common_steps)) in
       at (list_any (covers n d) is) refl used
     where
       at : (b : Bool) → list_any (covers n d) is ≡ b → uses w n d r ≡ true → (uses w n d r && not b) ≡ true
@@ -151,7 +151,7 @@ module _ (w : Setting) (n : Reading) (g : Grips) (f : Facts w n g) (d : ℕ) whe
   -- a live run with the effective write: no committed run behind it wrote
   effect_access : (is : List Item) (best : Option Write) (r : ℕ) → effective_write n g d ≡ last_from best is → list_any (is_ran r) is ≡ false → is_live n r ≡ true → has_effect n g r d ≡ true → (uses w n d r && not (list_any (covers n d) is)) ≡ true
   effect_access is best r along none live effect =
-      let used : uses w n d r ≡ true = live_uses w n g r d f live (written_touches w n g r d f (effect_is n g r d effect).0) in
+      let used : uses w n d r ≡ true = written_uses w n g r d f live (effect_is n g r d effect).0 in
       at (list_any (covers n d) is) refl used
     where
       among : (o : Option Write) → last_from None is ≡ o → is_write_of o r ≡ true → list_any (is_ran r) is ≡ true

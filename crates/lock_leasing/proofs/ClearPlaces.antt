@@ -2,12 +2,13 @@
 use Rattle.command_rules.specs.ClosedSets.{chosen, others, rearranged}
 use Rattle.command_rules.specs.Items.{is_ran, of_run}
 use Rattle.command_rules.specs.Rosters.{follows, touches}
+use Rattle.history_book.proofs.Asking.{asks_next}
 use Rattle.history_book.proofs.GapFronts.{gaps_behind}
 use Rattle.history_book.proofs.Sealed.{first_within}
 use Rattle.history_book.proofs.Splits.{gap_holds, line_length}
 use Rattle.history_book.specs.Gaps.{gap_set, is_needed, line_for}
 use Rattle.history_book.specs.Lines.{Split, is_event_on, split_at}
-use Rattle.history_book.specs.Readings.{Reading, did, is_committed, is_live, is_next_on, next_of}
+use Rattle.history_book.specs.Readings.{Reading, asks_on, did, is_committed, is_live, is_next_on, next_of}
 use Rattle.history_book.specs.Sealed.{sealed_in}
 use Rattle.history_book.specs.Settings.{Setting, devices_of, is_device, scheduler_of}
 use Rattle.home_types.specs.declared.items.Item.TheVariants.{Back, Failed, Ran}
@@ -107,10 +108,13 @@ bound_needed w n g r out (Ran x) none =
     neither a b h = (grind (arith, common_steps), grind (arith, common_steps))
 
     held : (d : ℕ) → grips_command g x.0 d ≡ true → (is_live n x.0 && is_next_on w n x.0 d) ≡ true
-    held d at = let found = command_out g x.0 d at in three (is_live n x.0) (is_next_on w n x.0 d) (found.0 == next_of n x.0) (out.commands d x.0 found.0 found.1)
+    held d at =
+        let found = command_out g x.0 d at in
+        let may = two (is_live n x.0) (asks_on w n x.0 d) (found.0 == next_of n x.0) (out.commands d x.0 found.0 found.1) in
+        λ i. may.0 i && asks_next w n x.0 d may.1 i
       where
-        three : (a b c : Bool) → IsTrue (a && b && c) → (a && b) ≡ true
-        three a b c h = grind (arith, common_steps)
+        two : (a b c : Bool) → IsTrue (a && b && c) → (a ≡ true) × (b ≡ true)
+        two a b c h = (grind (arith, common_steps), grind (arith, common_steps))
 
     touched : (d : ℕ) (a b c : Bool) → (c ≡ true → b ≡ true) → (a || b) ≡ false → (a || c) ≡ false
     touched d a b c h e = grind (arith, common_steps)

@@ -1,11 +1,12 @@
 -- What holds of a configuration that is not of the weak model, and whose history, grips and order are as they must be.
 use Rattle.command_rules.specs.Rosters.{commands_of, is_on, touches}
+use Rattle.history_book.proofs.Asking.{asks_next}
 use Rattle.history_book.proofs.Lines.{any_parted}
 use Rattle.history_book.proofs.Once.{StandsOnce, stands_once}
-use Rattle.history_book.proofs.Shapes.{Shaped, committed_in, did_touches, never_passed_by, shapes}
+use Rattle.history_book.proofs.Shapes.{Shaped, committed_in, did_not_passed, did_touches, pending_not_passed, shapes}
 use Rattle.history_book.proofs.Standing.{Standing, is_abort, stands_in, standing}
 use Rattle.history_book.specs.Histories.{entries_of}
-use Rattle.history_book.specs.Readings.{OfRun, PlacedAt, Reading, did, has_written, is_committed, is_committing, is_doomed, is_live, is_next_on, next_of, passed_by, pends}
+use Rattle.history_book.specs.Readings.{OfRun, PlacedAt, Reading, asks_on, did, has_written, is_committed, is_committing, is_doomed, is_live, next_of, passed_by, pends}
 use Rattle.history_book.specs.Settings.{Setting}
 use Rattle.history_book.specs.declared.entries.End.TheVariants.{Aborted, Committed}
 use Rattle.history_book.specs.declared.entries.End.{End}
@@ -107,8 +108,8 @@ next_is_left d (c ∷ cs) (suc k) yes' = next_is_left d cs k yes'
 pub command_pends : (w : Setting) (n : Reading) (g : Grips) (r d : ℕ) → Facts w n g → grips_command g r d ≡ true → pends w n r d ≡ true
 command_pends w n g r d f held =
     let out = command_out g r d held in
-    let may : IsTrue (is_live n r && is_next_on w n r d && (out.0 == next_of n r)) = f.grips.commands d r out.0 out.1 in
-    next_is_left d (commands_of w.runs r) (next_of n r) (grind (arith, common_steps))
+    let may : IsTrue (is_live n r && asks_on w n r d && (out.0 == next_of n r)) = f.grips.commands d r out.0 out.1 in
+    next_is_left d (commands_of w.runs r) (next_of n r) (asks_next w n r d (grind (arith, common_steps)))
 
 -- a run that is undone is doomed
 pub undone_doomed : (w : Setting) (n : Reading) (g : Grips) (r d : ℕ) → Facts w n g → is_undone n g r d ≡ true → is_doomed n r ≡ true
@@ -147,6 +148,16 @@ written_did w n g r d f wrote = (f.shaped r).wrote d wrote
 pub written_touches : (w : Setting) (n : Reading) (g : Grips) (r d : ℕ) → Facts w n g → has_written n r d ≡ true → touches w.runs r d ≡ true
 written_touches w n g r d f wrote = did_touches w n r d f.shaped (written_did w n g r d f wrote)
 
--- a live run with the device in its footprint uses it
-pub live_uses : (w : Setting) (n : Reading) (g : Grips) (r d : ℕ) → Facts w n g → is_live n r ≡ true → touches w.runs r d ≡ true → uses w n d r ≡ true
-live_uses w n g r d f live on = let none : passed_by w n r d ≡ false = never_passed_by w n r d f.shaped in grind (arith, common_steps)
+-- a live run that has a command left on the device uses it, ..
+pub pending_uses : (w : Setting) (n : Reading) (r d : ℕ) → is_live n r ≡ true → pends w n r d ≡ true → uses w n d r ≡ true
+pending_uses w n r d live pending =
+    let on : touches w.runs r d ≡ true = pends_touches w n r d pending in
+    let none : passed_by w n r d ≡ false = pending_not_passed w n r d pending in
+    grind (arith, common_steps)
+
+-- .. and so does one that wrote it
+pub written_uses : (w : Setting) (n : Reading) (g : Grips) (r d : ℕ) → Facts w n g → is_live n r ≡ true → has_written n r d ≡ true → uses w n d r ≡ true
+written_uses w n g r d f live wrote =
+    let on : touches w.runs r d ≡ true = written_touches w n g r d f wrote in
+    let none : passed_by w n r d ≡ false = did_not_passed w n r d (written_did w n g r d f wrote) in
+    grind (arith, common_steps)

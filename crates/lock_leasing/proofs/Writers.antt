@@ -8,7 +8,7 @@ use Rattle.home_types.specs.declared.numbers.RunNo.{RunNo}
 use Rattle.lineage_table.specs.Accesses.{effective_writer}
 use Rattle.lineage_table.specs.declared.accesses.Access.{Access}
 use Rattle.lock_leasing.proofs.AccessRuns.{EachTail, covers_write, last_from, own_write}
-use Rattle.lock_leasing.proofs.Facts.{Facts, live_uncommitted, live_uses, stands_or_committed, written_touches}
+use Rattle.lock_leasing.proofs.Facts.{Facts, live_uncommitted, stands_or_committed, written_uses}
 use Rattle.lock_leasing.specs.Configurations.{Grips}
 use Rattle.lock_leasing.specs.Holders.{is_writer}
 use Rattle.lock_leasing.specs.Order.{covers}
@@ -56,7 +56,7 @@ module _ (w : Setting) (n : Reading) (g : Grips) (f : Facts w n g) (d : ℕ) whe
       none_of (Some v) none b = absurd (cc)
 
       at : (b : Bool) → has_written n r.0 d ≡ b → write_of n g d (Ran r) ≡ None
-      at true e = absurd (cc (live_uses w n g r.0 d f (grind (arith, common_steps)) (written_touches w n g r.0 d f e), unused))
+      at true e = absurd (cc (written_uses w n g r.0 d f (grind (arith, common_steps)) e, unused))
       at false e = none_of ((n.run r.0).on d).wrote e (is_undone n g r.0 d)
 
   -- a committed run that wrote: no live one's write is the effective one

@@ -42,11 +42,11 @@ pub record SettledAgree (w : Setting) (n : Reading) : Type 0 where
 abbrev pub is_in_line : Reading → ℕ → Bool
 is_in_line n r = list_any (is_ran r) n.line
 
--- its first answer on the device came when it was doomed
+-- its first access on the device came when it was doomed
 abbrev pub is_late : Reading → ℕ → ℕ → Bool
 is_late n r d = ((n.run r).on d).late
 
--- the runs of the line that have an answer on the device, in line order
+-- the runs of the line that have an access on the device, in line order
 abbrev pub firsts_of_line : Reading → ℕ → List ℕ
 firsts_of_line n d = filter_map first n.line
   where
@@ -64,7 +64,7 @@ firsts_of_log n d = filter_map first (n.log d)
     first (Event i) = None
     first (Last r) = None
 
--- the events of the device and the runs with an answer there, in line order, but for runs whose first answer came when they were doomed
+-- the events of the device and the runs with an access there, in line order, but for runs whose first access came when they were doomed
 abbrev pub marks_of_line : Reading → ℕ → List Item
 marks_of_line n d = filter (λ i. is_event_on d i || of_run (λ r. did n r d && not (is_late n r d)) i) n.line
 

@@ -7,7 +7,7 @@ use Rattle.command_rules.specs.ClosedSets.{IsFitting, chosen, others}
 use Rattle.history_book.specs.Gaps.{bars, base_of, gap_set, split_of}
 pub use Rattle.history_book.specs.Lines.{up_to_first}
 use Rattle.history_book.specs.Plans.{planned_times}
-use Rattle.history_book.specs.Readings.{Planned, Reading, has_written, is_committed, is_doomed, is_live, is_next_on, next_of, nothing_read}
+use Rattle.history_book.specs.Readings.{Planned, Reading, asks_on, has_written, is_committed, is_doomed, is_live, next_of, nothing_read}
 use Rattle.history_book.specs.Settings.{Setting, devices_of, is_device, scheduler_of}
 use Rattle.history_book.specs.WellFormed.{Along}
 use Rattle.history_book.specs.declared.entries.Entry.{Entry}
@@ -119,9 +119,9 @@ scheduled_place w n g r m = by_scheduler (scheduler_of w.mode)
 
 -- Scheduled places of a history
 
--- a live run may have out nothing, its next command, or, where it is doomed, the undo of a write
+-- a live run may have out nothing, its next command where the guard holds, or, where it is doomed, the undo of a write
 pub record MayBeOut (w : Setting) (n : Reading) (g : Grips) : Type 0 where
-  pub commands : (d r k : ℕ) → g d ≡ Some (record { maker = r; purpose = Commands k }) → IsTrue (is_live n r && is_next_on w n r d && (k == next_of n r))
+  pub commands : (d r k : ℕ) → g d ≡ Some (record { maker = r; purpose = Commands k }) → IsTrue (is_live n r && asks_on w n r d && (k == next_of n r))
   pub undos : (d r v : ℕ) → g d ≡ Some (record { maker = r; purpose = Undoes v }) → IsTrue (is_live n r && is_doomed n r && has_written n r d && not ((n.run r).on d).undid)
   pub one : (d e r : ℕ) (p q : Purpose) → g d ≡ Some (record { maker = suc r; purpose = p }) → g e ≡ Some (record { maker = suc r; purpose = q }) → d ≡ e
 

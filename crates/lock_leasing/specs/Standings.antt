@@ -1,9 +1,10 @@
 -- What belongs to one window: a lineage table, a line with its touches, a history and a roster.
-use Rattle.command_rules.specs.Rosters.{Run, commands_of, followed_by}
+use Rattle.command_rules.specs.Rosters.{Run, command_at, commands_of, followed_by}
 use Rattle.history_book.specs.Histories.{entries_of}
 use Rattle.history_book.specs.Settings.{is_weak}
 use Rattle.history_book.specs.WellFormed.{IsWellFormed}
 use Rattle.history_book.specs.declared.entries.Kept.{Kept}
+use Rattle.home_types.specs.Commands.{holds}
 use Rattle.home_types.specs.Limits.{most_commands, most_devices, most_runs}
 use Rattle.home_types.specs.declared.commands.Command.{Command}
 use Rattle.home_types.specs.declared.items.Item.TheVariants.{Back, Failed, Ran}
@@ -21,7 +22,7 @@ use Rattle.serial_line.specs.Marks.{Mark}
 use Rattle.serial_line.specs.Ties.{IsLineOf}
 use Rattle.std.specs.Prelude.{Bool, List, Some, [], false, is_some, length, slice_get, true, ℕ, ◌<◌, ◌==◌, ◌≡◌, ◌≤◌}
 
--- the item has touched the device: an event its own, a run those on which it has an answer or the grip of a command
+-- the item has touched the device: an event its own, a run those on which it has an access or the grip of a command
 abbrev pub item_has_touched : Reading → Grips → Item → ℕ → Bool
 item_has_touched n g (Ran r) d = has_touched n g r.0 d
 item_has_touched n g (Failed e k) d = e.0 == d
@@ -62,12 +63,13 @@ pub record IsWeakStandingOf (s : Configuration) (table : List LineageState) (his
   pub its_history : s.history ≡ history
   pub none : (d : ℕ) → accesses_at table d ≡ []
 
--- the run may do its next command, the one of this number: it is live, it is not doomed, and it has such a command
+-- the run may do its next command, the one of this number: it is live, it is not doomed, it has such a command, and the command's guard holds
 pub record IsAtCommand (s : Configuration) (r c : ℕ) : Type 0 where
   pub live : is_live (read_of s) r ≡ true
   pub sound : is_doomed (read_of s) r ≡ false
   pub next : next_of (read_of s) r ≡ c
   pub command : c < length (commands_of s.setting.runs r)
+  pub guard : holds (command_at s.setting.runs r c).when ((read_of s).run r).register ≡ true
 
 -- the parts belong to one window, which is not of the weak model, and the run may do this command
 pub data MayTouch (table : List LineageState) (line : List Mark) (history : List Kept) (runs : List Run) (r c : ℕ) : Type 0 where

@@ -37,7 +37,7 @@ runs_with_access w n d (Back e k ∷ is) = runs_with_access w n d is
 abbrev pub is_at_work : Setting → Reading → Grips → ℕ → ℕ → Bool
 is_at_work w n g r d = (not (is_doomed n r) && pends w n r d) || grips_command g r d
 
--- scheduled until the first answer, released when the run is done with the device, and acquired between
+-- scheduled until the first answer that is an access, released when the run is done with the device, and acquired between
 abbrev pub status_by_answers : Setting → Reading → Grips → ℕ → ℕ → Status
 status_by_answers w n g r d = if did n r d then (if is_at_work w n g r d then Acquired else Released) else Scheduled
 

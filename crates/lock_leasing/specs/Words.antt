@@ -13,7 +13,7 @@ use Rattle.std.specs.Prelude.{Bool, List, None, Option, Some, false, filter_map,
 
 -- Accesses
 
--- the run has touched the device: it has an answer there, or the grip of a command
+-- the run has touched the device: it has an access there, or the grip of a command
 abbrev pub has_touched : Reading → Grips → ℕ → ℕ → Bool
 has_touched n g r d = did n r d || grips_command g r d
 
@@ -109,7 +109,7 @@ is_borrower w n g r d x = not (is_doomed n x) && nat_lt (stamp_of n r) (stamp_of
 abbrev pub borrower_from : Setting → Reading → Grips → ℕ → ℕ → Option ℕ
 borrower_from w n g r d = find (is_borrower w n g r d) (live_before n r)
 
--- the lease of x, which stands before r, is overdue for r, whose next command is on the device: x was placed later, holds the device, is not doomed, and the moment is past its deadline
+-- the lease of x, which stands before r, is overdue for r, whose next command is on the device and is not skipped: x was placed later, holds the device, is not doomed, and the moment is past its deadline
 abbrev pub is_overdue : Setting → Reading → Grips → ℕ → ℕ → ℕ → ℕ → Bool
 is_overdue w n g r d m x = not (is_doomed n x) && nat_lt (stamp_of n r) (stamp_of n x) && holds_device w n g x d && nat_lt (lease_deadline w n x d) m
 

@@ -8,7 +8,9 @@ use crate::leases::{find_overdue, lease_deadline};
 use crate::{Standing, first_place};
 use command_rules::{IndexedRoster, Roster, RosterRun};
 use history_book::{Book, End, Entry, Kept};
-use home_types::{Command, DeviceNo, Item, Job, List, NoMemory, Routine, RunNo, Stand, World};
+use home_types::{
+    Command, DeviceNo, Guard, Item, Job, List, NoMemory, Routine, RunNo, Stand, World,
+};
 use lineage_table::{Access, Status, Table};
 use serial_line::Line;
 use std::alloc::Global;
@@ -37,6 +39,7 @@ fn roster(alloc: Global) -> Result<Roster, NoMemory>
     let command = Command {
         device: LAMP,
         job: Job::Set(1),
+        when: Guard::Always,
         must: true,
         ms: 101,
         takes: 101,

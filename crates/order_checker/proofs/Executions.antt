@@ -17,7 +17,7 @@ use Rattle.std.specs.Prelude.{slice_set}
 
 -- what the next command does
 abbrev pub effect_at : List Kind → List Stand → ℕ → Command → Effect
-effect_at kinds home register c = command_effect (kind_at kinds c.device.0) c.job register (stand_at home c.device.0)
+effect_at kinds home register c = command_effect (kind_at kinds c.device.0) c.when c.job register (stand_at home c.device.0)
 
 -- the answers of the commands, and the home behind them
 unfoldable pub answers_from : List Kind → List Stand → ℕ → List Command → List Answer

@@ -3,7 +3,7 @@ use Rattle.command_rules.specs.Rosters.{Run, commands_of}
 use Rattle.command_rules.specs.Serial.{Served, serial_execution}
 use Rattle.home_types.specs.Commands.{fails, routine_execution}
 use Rattle.home_types.specs.HomeStates.{with_up}
-use Rattle.home_types.specs.declared.commands.Answer.TheVariants.{Down, Fine, Found}
+use Rattle.home_types.specs.declared.commands.Answer.TheVariants.{Down, Fine, Found, Skipped}
 use Rattle.home_types.specs.declared.commands.Answer.{Answer}
 use Rattle.home_types.specs.declared.commands.Command.{Command}
 use Rattle.home_types.specs.declared.items.Item.TheVariants.{Back, Failed, Ran}
@@ -20,6 +20,7 @@ use Rattle.std.specs.Prelude.{Bool, Err, List, None, Ok, Option, Result, Some, [
 abbrev pub is_same : Answer → Answer → Bool
 is_same Fine Fine = true
 is_same Down Down = true
+is_same Skipped Skipped = true
 is_same (Found a) (Found b) = a == b
 is_same _ _ = false
 

@@ -28,7 +28,7 @@ fn is_same(answer: Answer, printed: Answer) -> bool
 {
     match (answer, printed) {
         (Answer::Fine, Answer::Fine) => true,
-        (Answer::Down, Answer::Down) => true,
+        (Answer::Down, Answer::Down) | (Answer::Skipped, Answer::Skipped) => true,
         (Answer::Found(a), Answer::Found(b)) => a == b,
         _ => false,
     }
@@ -61,11 +61,17 @@ fn effect_in(
 ) -> Outcome
     requires home { length home.now.items ≡ length devices.now }
     requires device { command.device.0 < length home.now.items }
-    ensures { effect_of result ≡ command_effect (kind_at (map (λ d. d.kind) devices.now) command.device.0) command.job register (stand_at home.now.items command.device.0) }
+    ensures { effect_of result ≡ command_effect (kind_at (map (λ d. d.kind) devices.now) command.device.0) command.when command.job register (stand_at home.now.items command.device.0) }
 {
     let device = command.device.0 as usize;
     let stand = home.as_slice()[device];
-    outcome_of(devices[device].kind, command.job, register, stand)
+    outcome_of(
+        devices[device].kind,
+        command.when,
+        command.job,
+        register,
+        stand,
+    )
 }
 
 /// Executes the commands in the home, up to the first, counted from 0, whose answer is not the printed one, or that is a

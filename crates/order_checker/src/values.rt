@@ -6,7 +6,7 @@ ghost use Rattle.home_types.specs.Kinds.{has_value};
 ghost use Rattle.order_checker.specs.Values.{answer_of, device_named, is_device, value_at, value_of, value_written};
 
 use crate::words::{number_of, reads};
-use command_rules::writes;
+use command_rules::{is_always, writes};
 use home_types::{Answer, Command, DeviceNo, Kind, Text, Value};
 use routine_reader::DeviceText;
 
@@ -80,12 +80,16 @@ pub fn value_at(devices: &[DeviceText], device: DeviceNo, word: &[u8]) -> Option
     value_of(device, word)
 }
 
-/// The answer to the command that the word is: `-` to any, `.` to a write, a value of its device to a read.
+/// The answer to the command that the word is: `-` to any, `/` to one with a guard, `.` to a write, a value of its device to
+/// a read.
 pub fn answer_of(devices: &[DeviceText], command: Command, word: &[u8]) -> Option<Answer>
     ensures { result ≡ answer_of devices.now command word.now }
 {
     if reads(word, "-") {
         return Some(Answer::Down);
+    }
+    if !is_always(command.when) && reads(word, "/") {
+        return Some(Answer::Skipped);
     }
     if !writes(command.job) {
         return value_at(devices, command.device, word).map(Answer::Found);

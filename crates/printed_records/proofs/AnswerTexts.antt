@@ -5,7 +5,7 @@ use Rattle.history_book.specs.declared.entries.Entry.TheVariants.{Arrived, Did, 
 use Rattle.history_book.specs.declared.entries.Entry.{Entry}
 use Rattle.history_book.specs.declared.entries.Kept.{Kept}
 use Rattle.home_types.specs.Kinds.{has_value, kind_at}
-use Rattle.home_types.specs.declared.commands.Answer.TheVariants.{Down, Fine, Found}
+use Rattle.home_types.specs.declared.commands.Answer.TheVariants.{Down, Fine, Found, Skipped}
 use Rattle.home_types.specs.declared.commands.Answer.{Answer}
 use Rattle.home_types.specs.declared.commands.Command.{Command}
 use Rattle.home_types.specs.declared.kinds.Kind.{Kind}
@@ -80,6 +80,7 @@ typed-as : (kinds : List Kind) (kind : Kind) (c : Command) (a : Answer) → kind
 typed-as kinds kind c Fine same typed = typed
 typed-as kinds kind c (Found x) same typed = (typed.0, subst (λ k. has_value k x ≡ true) same typed.1)
 typed-as kinds kind c Down same typed = typed
+typed-as kinds kind c Skipped same typed = typed
 
 get-after : (front : List Command) (c : Command) (rest : List Command) → slice_get (front ++ c ∷ rest) (length front) ≡ Some c
 get-after [] c rest = refl

@@ -12,7 +12,7 @@ use Rattle.history_book.specs.declared.entries.End.{End}
 use Rattle.history_book.specs.declared.entries.Entry.TheVariants.{Arrived, Did, Doomed, Ended, Fell, Placed, Rose, Undid}
 use Rattle.history_book.specs.declared.entries.Entry.{Entry}
 use Rattle.home_types.specs.Kinds.{has_value, kind_at}
-use Rattle.home_types.specs.declared.commands.Answer.TheVariants.{Down, Fine, Found}
+use Rattle.home_types.specs.declared.commands.Answer.TheVariants.{Down, Fine, Found, Skipped}
 use Rattle.home_types.specs.declared.commands.Answer.{Answer}
 use Rattle.home_types.specs.declared.commands.Command.{Command}
 use Rattle.home_types.specs.declared.kinds.Kind.{Kind}
@@ -83,6 +83,7 @@ same-found : (x : ℕ) (a : Answer) → same_answer (Found x) a ≡ true → a �
 same-found x Fine same = absurd (true≢false (sym same))
 same-found x (Found y) same = let equal : y ≡ x = grind (arith, common_steps) in ap Found equal
 same-found x Down same = absurd (true≢false (sym same))
+same-found x Skipped same = absurd (true≢false (sym same))
 
 -- the answer that a command was told is of its type
 told-typed : (kinds : List Kind) (answers : List Answer) (commands : List Command) (c x : ℕ) → SuitSoFar kinds answers commands

@@ -4,7 +4,7 @@ use Rattle.command_rules.specs.Serial.{SerialRun, Served, serial_execution, serv
 use Rattle.history_book.specs.Histories.{answers_in}
 use Rattle.history_book.specs.Readings.{Reading}
 use Rattle.home_types.specs.Commands.{Execution, execute, fails}
-use Rattle.home_types.specs.declared.commands.Answer.TheVariants.{Down, Fine, Found}
+use Rattle.home_types.specs.declared.commands.Answer.TheVariants.{Down, Fine, Found, Skipped}
 use Rattle.home_types.specs.declared.commands.Answer.{Answer}
 use Rattle.home_types.specs.declared.commands.Command.{Command}
 use Rattle.home_types.specs.declared.items.Item.TheVariants.{Back, Failed, Ran}
@@ -44,6 +44,7 @@ none_failed (c ∷ commands) (a ∷ answers) = not (fails c a) && none_failed co
 same_self : (a : Answer) → is_same a a ≡ true
 same_self Fine = refl
 same_self Down = refl
+same_self Skipped = refl
 same_self (Found x) = grind (arith, common_steps)
 
 -- answers that are printed as they are, none of them failed, have none wrong

@@ -4,7 +4,9 @@ use Rattle.command_rules.specs.Rosters.{Run, commands_of, followed_by, follows}
 use Rattle.command_rules.specs.Serial.{SerialRun, serve}
 use Rattle.history_book.specs.Lines.{behind}
 use Rattle.history_book.proofs.Once.{count_insert}
-use Rattle.home_types.specs.Commands.{Execution, command_effect, execute}
+use Rattle.home_types.specs.Commands.{Execution, command_effect, done_effect, execute, holds}
+use Rattle.home_types.specs.declared.commands.Answer.TheVariants.{Skipped}
+use Rattle.home_types.specs.declared.commands.Guard.{Guard}
 use Rattle.home_types.specs.HomeStates.{nowhere, stand_at, with_up}
 use Rattle.home_types.specs.Kinds.{kind_at}
 use Rattle.home_types.specs.declared.commands.Answer.{Answer}
@@ -66,21 +68,28 @@ set_keeps (a ∷ one) (b ∷ other) zero x up same = (up ∙ same.0, same.1)
 set_keeps (a ∷ one) (b ∷ other) (suc d) x up same = (same.0, set_keeps one other d x up same.1)
 
 -- a command leaves its device up or down
-effect_keeps : (kind : Kind) (job : Job) (register : ℕ) (s : Stand) → (command_effect kind job register s).stand.up ≡ s.up
-effect_keeps kind job register s = of_bool job s.up refl
+done_keeps : (kind : Kind) (job : Job) (register : ℕ) (s : Stand) → (done_effect kind job register s).stand.up ≡ s.up
+done_keeps kind job register s = of_bool job s.up refl
   where
-    of_bool : (j : Job) (b : Bool) → s.up ≡ b → (command_effect kind j register s).stand.up ≡ s.up
+    of_bool : (j : Job) (b : Bool) → s.up ≡ b → (done_effect kind j register s).stand.up ≡ s.up
     of_bool (Set v) true up = rw up refl
     of_bool (Check v) true up = rw up refl
     of_bool Load true up = rw up refl
     of_bool Store true up = rw up refl
     of_bool j false up = rw up refl
 
+effect_keeps : (kind : Kind) (guard : Guard) (job : Job) (register : ℕ) (s : Stand) → (command_effect kind guard job register s).stand.up ≡ s.up
+effect_keeps kind guard job register s = either (holds guard register) (done_keeps kind job register s)
+  where
+    either : (b : Bool) → (done_effect kind job register s).stand.up ≡ s.up → (if b then done_effect kind job register s else record { answer = Skipped; register = register; stand = s }).stand.up ≡ s.up
+    either true done = done
+    either false done = refl
+
 routine_keeps : (kinds : List Kind) (x : Execution) (other : List Stand) (commands : List Command) → SameUps x.home other → SameUps (fold (execute kinds) x commands).home other
 routine_keeps kinds x other [] same = same
 routine_keeps kinds x other (c ∷ commands) same =
     routine_keeps kinds (execute kinds x c) other commands
-    (set_keeps x.home other c.device.0 _ (effect_keeps (kind_at kinds c.device.0) c.job x.register (stand_at x.home c.device.0)) same)
+    (set_keeps x.home other c.device.0 _ (effect_keeps (kind_at kinds c.device.0) c.when c.job x.register (stand_at x.home c.device.0)) same)
 
 item_keeps : (runs : List Run) (kinds : List Kind) (s : SerialRun) (other : List Stand) (item : Item) → SameUps s.home other → SameUps (serve runs kinds s item).home (with_event other item)
 item_keeps runs kinds s other (Ran r) same = routine_keeps kinds (record { home = s.home; register = 0; answers = []; refused = false }) other (commands_of runs r.0) same

@@ -7,7 +7,7 @@ use Rattle.history_book.specs.declared.entries.End.TheVariants.{Aborted, Committ
 use Rattle.history_book.specs.declared.entries.Entry.TheVariants.{Arrived, Did, Doomed, Ended, Fell, Placed, Rose, Undid}
 use Rattle.history_book.specs.declared.entries.Entry.{Entry}
 use Rattle.history_book.specs.declared.entries.Kept.{Kept}
-use Rattle.home_types.specs.declared.commands.Answer.TheVariants.{Down, Fine, Found}
+use Rattle.home_types.specs.declared.commands.Answer.TheVariants.{Down, Fine, Found, Skipped}
 use Rattle.home_types.specs.declared.commands.Answer.{Answer}
 use Rattle.home_types.specs.declared.commands.Command.{Command}
 use Rattle.home_types.specs.declared.kinds.Kind.TheVariants.{Range, States}
@@ -99,6 +99,7 @@ module _ (script : Script) (window : WindowText) (sound : IsSound (plain_script 
   answer-feed r c Fine = lacks-seen 10 (codes ".") refl
   answer-feed r c (Found x) = value-feed (states_of script window r c) x (states-named r c)
   answer-feed r c Down = lacks-seen 10 (codes "-") refl
+  answer-feed r c Skipped = lacks-seen 10 (codes "/") refl
 
   cause-feed : (r : ℕ) (cause : Cause) → NoFeed (cause_text script window r cause)
   unfolding cause_text

@@ -8,14 +8,17 @@ use Rattle.history_book.specs.WellFormed.{IsWellFormed, along, may_follow, suits
 use Rattle.history_book.specs.declared.entries.End.TheVariants.{Aborted, Committed}
 use Rattle.history_book.specs.declared.entries.Entry.TheVariants.{Arrived, Did, Doomed, Ended, Fell, Placed, Rose, Undid}
 use Rattle.history_book.specs.declared.entries.Entry.{Entry}
-use Rattle.home_types.specs.declared.commands.Answer.TheVariants.{Down, Fine, Found}
+use Rattle.home_types.specs.Commands.{holds, is_always}
+use Rattle.home_types.specs.declared.commands.Answer.TheVariants.{Down, Fine, Found, Skipped}
 use Rattle.home_types.specs.declared.commands.Answer.{Answer}
 use Rattle.home_types.specs.declared.commands.Command.{Command}
+use Rattle.home_types.specs.declared.commands.Guard.TheVariants.{Always, Below, Is}
+use Rattle.home_types.specs.declared.commands.Guard.{Guard}
 use Rattle.home_types.specs.declared.kinds.Kind.{Kind}
 use Rattle.printed_records.specs.Typed.{AreTyped, IsTyped}
-use Rattle.std.proofs.Common.{arith, subst}
+use Rattle.std.proofs.Common.{arith, refl, subst, sym, true≢false}
 use Rattle.std.proofs.lemmas.Grind.{common_steps}
-use Rattle.std.specs.Prelude.{IsTrue, List, [], fold, length, slice_index_or, true, ℕ, ⊤, ◌++◌, ◌<◌, ◌∷◌, ◌≡◌}
+use Rattle.std.specs.Prelude.{IsTrue, List, [], false, fold, length, not, slice_index_or, true, ℕ, ⊤, ◌++◌, ◌<◌, ◌∷◌, ◌≡◌}
 
 -- the answers so far suit the first commands
 abbrev pub SuitSoFar : List Kind → List Answer → List Command → Type 0
@@ -23,11 +26,18 @@ SuitSoFar kinds [] commands = ⊤
 SuitSoFar kinds (a ∷ answers) [] = ⊥
 SuitSoFar kinds (a ∷ answers) (c ∷ commands) = IsTyped kinds c a × SuitSoFar kinds answers commands
 
+-- a guard that does not hold is one
+is_guarded : (g : Guard) (register : ℕ) → not (holds g register) ≡ true → is_always g ≡ false
+is_guarded Always register ok = absurd (true≢false (sym ok))
+is_guarded (Is x) register ok = refl
+is_guarded (Below x) register ok = refl
+
 -- an answer that suits its command is typed
-suited : (w : Setting) (c : Command) (a : Answer) → suits w c a ≡ true → IsTyped w.kinds c a
-suited w c Fine ok = ok
-suited w c (Found x) ok = (grind (arith, common_steps), grind (arith, common_steps))
-suited w c Down ok = tt
+suited : (w : Setting) (n : Reading) (r : ℕ) (c : Command) (a : Answer) → suits w n r c a ≡ true → IsTyped w.kinds c a
+suited w n r c Fine ok = grind (arith, common_steps)
+suited w n r c (Found x) ok = (grind (arith, common_steps), grind (arith, common_steps))
+suited w n r c Down ok = tt
+suited w n r c Skipped ok = is_guarded c.when (n.run r).register (grind (arith, common_steps))
 
 -- one answer more
 suit_more : (kinds : List Kind) (answers : List Answer) (commands : List Command) (a : Answer) → length answers < length commands
@@ -58,7 +68,7 @@ suits_step w n (Placed r at m) ok s = put_all (Suits w) n.run r.0 _ s (s r.0)
 suits_step w n (Did r c a) ok s =
     put_all (Suits w) n.run r.0 _ s
     (let number : c ≡ length (n.run r.0).answers = grind (arith, common_steps) in
-    let typed : IsTyped w.kinds (command_at w.runs r.0 c) a = suited w (command_at w.runs r.0 c) a (grind (arith, common_steps)) in
+    let typed : IsTyped w.kinds (command_at w.runs r.0 c) a = suited w n r.0 (command_at w.runs r.0 c) a (grind (arith, common_steps)) in
     suit_more w.kinds (n.run r.0).answers (commands_of w.runs r.0) a (grind (arith, common_steps))
     (subst (λ k. IsTyped w.kinds (command_at w.runs r.0 k) a) number typed) (s r.0))
 suits_step w n (Undid r d drove) ok s = put_all (Suits w) n.run r.0 _ s (s r.0)

@@ -1,10 +1,12 @@
 -- The serial execution leaves each device at a value of its kind.
 use Rattle.command_rules.specs.Rosters.{Run, commands_of}
 use Rattle.command_rules.specs.Serial.{SerialRun, serve}
-use Rattle.home_types.specs.Commands.{Execution, command_effect, execute}
+use Rattle.home_types.specs.Commands.{Execution, command_effect, done_effect, execute, holds}
 use Rattle.home_types.specs.HomeStates.{stand_at, with_up}
 use Rattle.home_types.specs.Kinds.{has_value, kind_at, nearest}
+use Rattle.home_types.specs.declared.commands.Answer.TheVariants.{Skipped}
 use Rattle.home_types.specs.declared.commands.Command.{Command}
+use Rattle.home_types.specs.declared.commands.Guard.{Guard}
 use Rattle.home_types.specs.declared.commands.Job.TheVariants.{Check, Load, Set, Store}
 use Rattle.home_types.specs.declared.commands.Job.{Job}
 use Rattle.home_types.specs.declared.items.Item.TheVariants.{Back, Failed, Ran}
@@ -28,7 +30,7 @@ use Rattle.std.proofs.lemmas.Grind.{common_steps}
 use Rattle.std.proofs.lemmas.List.Elements.{All-get_or}
 use Rattle.std.proofs.lemmas.List.{length-map}
 use Rattle.std.proofs.lemmas.Option.{get_or_from_slice_get, slice_get-map, slice_get_within}
-use Rattle.std.specs.Prelude.{slice_get, slice_set}
+use Rattle.std.specs.Prelude.{if◌then◌else◌, slice_get, slice_set}
 
 -- each value that is brought into the kind is one of it
 abbrev pub Fills : Kind → Type 0
@@ -39,13 +41,23 @@ sound-fills (States n) states sound v = let some : 0 < n = omega (arith, sound.0
 sound-fills (Range low high) states sound v = let ordered = sound.1 in grind (arith, common_steps)
 
 -- what a command leaves is a value of the kind
-effect-value : (kind : Kind) (job : Job) (register value : ℕ) (up : Bool) → Fills kind → suits kind job ≡ true → has_value kind value ≡ true
-    → has_value kind (command_effect kind job register (record { value = value; up = up })).stand.value ≡ true
-effect-value kind job register value false fills suit has = has
-effect-value kind (Set v) register value true fills suit has = suit
-effect-value kind (Check v) register value true fills suit has = has
-effect-value kind Load register value true fills suit has = has
-effect-value kind Store register value true fills suit has = fills register
+done-value : (kind : Kind) (job : Job) (register value : ℕ) (up : Bool) → Fills kind → suits kind job ≡ true → has_value kind value ≡ true
+    → has_value kind (done_effect kind job register (record { value = value; up = up })).stand.value ≡ true
+done-value kind job register value false fills suit has = has
+done-value kind (Set v) register value true fills suit has = suit
+done-value kind (Check v) register value true fills suit has = has
+done-value kind Load register value true fills suit has = has
+done-value kind Store register value true fills suit has = fills register
+
+effect-value : (kind : Kind) (guard : Guard) (job : Job) (register : ℕ) (stand : Stand) → Fills kind → suits kind job ≡ true → has_value kind stand.value ≡ true
+    → has_value kind (command_effect kind guard job register stand).stand.value ≡ true
+effect-value kind guard job register stand fills suit has =
+    either (holds guard register) (done-value kind job register stand.value stand.up fills suit has)
+  where
+    either : (b : Bool) → has_value kind (done_effect kind job register stand).stand.value ≡ true
+        → has_value kind (if b then done_effect kind job register stand else record { answer = Skipped; register = register; stand = stand }).stand.value ≡ true
+    either true done = done
+    either false done = has
 
 -- each kind is filled
 abbrev pub AreFilled : List Kind → Type 0
@@ -79,8 +91,8 @@ module _ (kinds : List Kind) (filled : AreFilled kinds) where
   execute-values x c suit values =
       let d = c.device.0 in
       let stand = stand_at x.home d in
-      set-values kinds x.home d (command_effect (kind_at kinds d) c.job x.register stand).stand values
-      (λ within. effect-value (kind_at kinds d) c.job x.register stand.value stand.up (filled d (omega (arith, within, values-length kinds x.home values))) suit (value-at kinds x.home d values within))
+      set-values kinds x.home d (command_effect (kind_at kinds d) c.when c.job x.register stand).stand values
+      (λ within. effect-value (kind_at kinds d) c.when c.job x.register stand (filled d (omega (arith, within, values-length kinds x.home values))) suit (value-at kinds x.home d values within))
 
   commands-values : (x : Execution) (commands : List Command) → ((k : ℕ) (c : Command) → slice_get commands k ≡ Some c → suits (kind_at kinds c.device.0) c.job ≡ true)
       → HaveValues kinds x.home → HaveValues kinds (fold (execute kinds) x commands).home

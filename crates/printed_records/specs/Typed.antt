@@ -2,19 +2,20 @@
 use Rattle.command_rules.specs.Rosters.{Run, command_at, commands_of}
 use Rattle.history_book.specs.declared.entries.Cause.TheVariants.{DownAtEnd, Lost, MustDown, Refuted, Revoked}
 use Rattle.history_book.specs.declared.entries.Cause.{Cause}
-use Rattle.home_types.specs.Commands.{writes}
+use Rattle.home_types.specs.Commands.{is_always, writes}
 use Rattle.home_types.specs.Kinds.{has_value, kind_at}
-use Rattle.home_types.specs.declared.commands.Answer.TheVariants.{Down, Fine, Found}
+use Rattle.home_types.specs.declared.commands.Answer.TheVariants.{Down, Fine, Found, Skipped}
 use Rattle.home_types.specs.declared.commands.Answer.{Answer}
 use Rattle.home_types.specs.declared.commands.Command.{Command}
 use Rattle.home_types.specs.declared.kinds.Kind.{Kind}
 use Rattle.std.specs.Prelude.{List, [], false, length, true, ℕ, ⊤, ◌<◌, ◌^◌, ◌≡◌, ◌≤◌, ◌∷◌}
 
--- fine to a write, a value of its device to a read, down to any
+-- fine to a write, a value of its device to a read, down to any; skipped to one with a guard
 abbrev pub IsTyped : List Kind → Command → Answer → Type 0
 IsTyped kinds c Fine = writes c.job ≡ true
 IsTyped kinds c (Found x) = (writes c.job ≡ false) × (has_value (kind_at kinds c.device.0) x ≡ true)
 IsTyped kinds c Down = ⊤
+IsTyped kinds c Skipped = is_always c.when ≡ false
 
 -- an answer to each command, in order
 unfoldable pub AreTyped : List Kind → List Command → List Answer → Type 0

@@ -62,10 +62,10 @@ module _ (rooms : ℕ → Room) (apart : Apart rooms) (kinds : List Kind) (k : �
   })
     where
       e : Effect
-      e = command_effect (kind_at (room_kinds (rooms k) kinds) c.device.0) c.job y.register (stand_at y.home c.device.0)
+      e = command_effect (kind_at (room_kinds (rooms k) kinds) c.device.0) c.when c.job y.register (stand_at y.home c.device.0)
 
-      same : command_effect (kind_at kinds (home_device (rooms k) c.device.0)) c.job x.register (stand_at x.home (home_device (rooms k) c.device.0)) ≡ e
-      same = λ i. command_effect (sym (kind_in_room (rooms k) kinds c.device.0 within) i) c.job (alike.register i) (alike.stands c.device.0 within i)
+      same : command_effect (kind_at kinds (home_device (rooms k) c.device.0)) c.when c.job x.register (stand_at x.home (home_device (rooms k) c.device.0)) ≡ e
+      same = λ i. command_effect (sym (kind_in_room (rooms k) kinds c.device.0 within) i) c.when c.job (alike.register i) (alike.stands c.device.0 within i)
 
   pub commands : (x y : Execution) (cs : List Command) → All (λ c. IsOwnDevice (rooms k) c.device.0) cs → Alike rooms k start x y
       → Alike rooms k start (fold (execute kinds) x (map (home_command (rooms k)) cs)) (fold (execute (room_kinds (rooms k) kinds)) y cs)

@@ -1,13 +1,14 @@
 -- What a walk over the members of a command keeps of them.
+use Rattle.routine_reader.specs.Commands.{command_form}
 use Rattle.routine_reader.specs.Forms.{knows, names_of}
 use Rattle.routine_reader.specs.GivenMembers.{given_in, with_member}
-use Rattle.routine_reader.specs.declared.forms.Form.TheVariants.{Command}
+use Rattle.routine_reader.specs.declared.forms.Form.TheVariants.{Command, GuardedCommand}
 use Rattle.routine_reader.specs.declared.forms.Form.{Form}
 use Rattle.serde_json.proofs.Views.{Entry, get_member-put, get_member-put_other, put_last}
 use Rattle.serde_json.specs.Data.{Data, Members, put}
 use Rattle.serde_json.specs.Find.{get_member}
 use Rattle.serde_json.specs.View.{members_view, view}
-use Rattle.std.proofs.Common.{Bool, List, Some, [], ap, codes, false, if◌then◌else◌, refl, string_bytes, string_cmp, subst, sym, true, true≢false, ℕ, ◌&&◌, ◌++◌, ◌∙◌, ◌≡◌, ◌||◌, ◌∷◌}
+use Rattle.std.proofs.Common.{Bool, List, Some, [], ap, codes, false, if◌then◌else◌, refl, string_bytes, string_cmp, subst, sym, true, true≢false, ℕ, ◌&&◌, ◌++◌, ◌∙◌, ◌≡◌, ◌||◌, ◌∷◌, ◌==◌}
 use Rattle.std.proofs.lemmas.Slice.Eq.{bytes_eq-Decides}
 use Rattle.std.specs.List.Sorted.{IsStrictlySortedBy}
 use Rattle.std.specs.List.{list_all}
@@ -27,15 +28,24 @@ named P name key true same is known at rest = rest refl
 named P name key false true is known at rest = subst P (sym ((bytes_eq-Decides name key).0 is)) at
 named P name key false false is known at rest = absurd (true≢false (sym known))
 
--- what holds of each name that a command knows
-by-name : (P : List ℕ → Type 0) → P (codes "on") → P (codes "do") → P (codes "to") → P (codes "must") → P (codes "ms") → P (codes "takes") → (name : List ℕ) → knows Command name ≡ true → P name
-by-name P on do_ to must ms takes name known =
-    named P name (codes "takes") _ _ refl known takes
+-- each member of a command of some version is one of a command that may have a guard
+known-guarded : (version : ℕ) (name : List ℕ) → knows (command_form version) name ≡ true → knows GuardedCommand name ≡ true
+known-guarded version name known = by (version == 1) known
+  where
+    by : (unguarded : Bool) → knows (if unguarded then Command else GuardedCommand) name ≡ true → knows GuardedCommand name ≡ true
+    by true known = ap (λ b. b || bytes_eq name (codes "when")) known
+    by false known = known
+
+-- what holds of each name that such a command knows
+by-name : (P : List ℕ → Type 0) → P (codes "on") → P (codes "do") → P (codes "to") → P (codes "must") → P (codes "ms") → P (codes "takes") → P (codes "when") → (name : List ℕ) → knows GuardedCommand name ≡ true → P name
+by-name P on do_ to must ms takes when name known =
+    named P name (codes "when") _ _ refl known when
+    (λ known. named P name (codes "takes") _ _ refl known takes
     (λ known. named P name (codes "ms") _ _ refl known ms
     (λ known. named P name (codes "must") _ _ refl known must
     (λ known. named P name (codes "to") _ _ refl known to
     (λ known. named P name (codes "do") _ _ refl known do_
-    (λ known. subst P (sym ((bytes_eq-Decides name (codes "on")).0 known)) on)))))
+    (λ known. subst P (sym ((bytes_eq-Decides name (codes "on")).0 known)) on))))))
 
 kept-at : (key : List ℕ) (value : Data) (members : Members)
     → given_in (put key value members)
@@ -43,15 +53,16 @@ kept-at : (key : List ℕ) (value : Data) (members : Members)
       on = if bytes_eq key (codes "on") then Some value else get_member (codes "on") members;
       verb = if bytes_eq key (codes "do") then Some value else get_member (codes "do") members;
       to = if bytes_eq key (codes "to") then Some value else get_member (codes "to") members;
+      when = if bytes_eq key (codes "when") then Some value else get_member (codes "when") members;
       must = if bytes_eq key (codes "must") then Some value else get_member (codes "must") members;
       ms = if bytes_eq key (codes "ms") then Some value else get_member (codes "ms") members;
       takes = if bytes_eq key (codes "takes") then Some value else get_member (codes "takes") members;
     }
 kept-at key value members =
-    rw (put-at (codes "on") key value members _ refl, put-at (codes "do") key value members _ refl, put-at (codes "to") key value members _ refl, put-at (codes "must") key value members _ refl, put-at (codes "ms") key value members _ refl, put-at (codes "takes") key value members _ refl) refl
+    rw (put-at (codes "on") key value members _ refl, put-at (codes "do") key value members _ refl, put-at (codes "to") key value members _ refl, put-at (codes "when") key value members _ refl, put-at (codes "must") key value members _ refl, put-at (codes "ms") key value members _ refl, put-at (codes "takes") key value members _ refl) refl
 
 -- a member that a command knows is kept
-kept-put : (value : Data) (members : Members) (key : List ℕ) → knows Command key ≡ true → with_member key value (given_in members) ≡ given_in (put key value members)
+kept-put : (value : Data) (members : Members) (key : List ℕ) → knows GuardedCommand key ≡ true → with_member key value (given_in members) ≡ given_in (put key value members)
 kept-put value members =
     by-name (λ key. with_member key value (given_in members) ≡ given_in (put key value members))
     (sym (kept-at (codes "on") value members))
@@ -60,11 +71,13 @@ kept-put value members =
     (sym (kept-at (codes "must") value members))
     (sym (kept-at (codes "ms") value members))
     (sym (kept-at (codes "takes") value members))
+    (sym (kept-at (codes "when") value members))
 
-pub kept-last : (done : List Entry) (e : Entry) (more : List Entry) → IsStrictlySortedBy string_cmp (keys_of (done ++ e ∷ more))
-    → knows Command (string_bytes e.0) ≡ true
+pub kept-last : (version : ℕ) (done : List Entry) (e : Entry) (more : List Entry) → IsStrictlySortedBy string_cmp (keys_of (done ++ e ∷ more))
+    → knows (command_form version) (string_bytes e.0) ≡ true
     → with_member (string_bytes e.0) (view e.1) (given_in (members_view done)) ≡ given_in (members_view (done ++ e ∷ []))
-kept-last done e more ordered known = kept-put (view e.1) (members_view done) (string_bytes e.0) known ∙ ap given_in (put_last done e more ordered)
+kept-last version done e more ordered known =
+    kept-put (view e.1) (members_view done) (string_bytes e.0) (known-guarded version (string_bytes e.0) known) ∙ ap given_in (put_last done e more ordered)
 
 -- whether all members up to one, and those behind it, are of the form
 pub known-middle : (form : Form) (done : List Entry) (e : Entry) (more : List Entry)

@@ -54,22 +54,23 @@ parts-sound : (members : DayMembers) (script : PlainScript) → length members.d
 unfolding parts_reading
 parts-sound members script few_devices few_routines few_windows h =
     let devices = ok-then (read_each next_device [] members.devices) _ script h in
-    let routines = ok-then (read_each (next_routine devices.0) [] members.routines) _ script devices.2 in
+    let next = next_routine members.version devices.0 in
+    let routines = ok-then (read_each next [] members.routines) _ script devices.2 in
     let names = routine_names routines.0 in
     let windows = ok-then (read_each (next_window names) [] members.windows) _ script routines.2 in
     let all_devices = each-all IsSoundDevice next_device (λ earlier value device e. (device-sound (length earlier + 1) (device_names earlier) value device e).0) [] members.devices devices.0 (All-nil IsSoundDevice) devices.1 in
     let D : List PlainDevice → PlainDevice → Type 0 = λ earlier device. is_among (device_names earlier) device.name ≡ false in
     let new_devices = each-after D next_device (λ earlier value device e. (device-sound (length earlier + 1) (device_names earlier) value device e).1) [] members.devices devices.0 (each-none D) devices.1 in
-    let all_routines = each-all (IsSoundRoutine devices.0) (next_routine devices.0) (λ earlier value routine e. (routine-sound devices.0 all_devices (length earlier + 1) (routine_names earlier) value routine e).0) [] members.routines routines.0 (All-nil (IsSoundRoutine devices.0)) routines.1 in
+    let all_routines = each-all (IsSoundRoutine devices.0) next (λ earlier value routine e. (routine-sound members.version devices.0 all_devices (length earlier + 1) (routine_names earlier) value routine e).0) [] members.routines routines.0 (All-nil (IsSoundRoutine devices.0)) routines.1 in
     let R : List PlainRoutine → PlainRoutine → Type 0 = λ earlier routine. is_among (routine_names earlier) routine.name ≡ false in
-    let new_routines = each-after R (next_routine devices.0) (λ earlier value routine e. (routine-sound devices.0 all_devices (length earlier + 1) (routine_names earlier) value routine e).1) [] members.routines routines.0 (each-none R) routines.1 in
+    let new_routines = each-after R next (λ earlier value routine e. (routine-sound members.version devices.0 all_devices (length earlier + 1) (routine_names earlier) value routine e).1) [] members.routines routines.0 (each-none R) routines.1 in
     let S : PlainWindow → Type 0 = λ window. IsCivilTime window.at → IsSoundWindow (length names) window in
     let all_windows = each-all S (next_window names) (λ earlier value window e. (window-sound names (length earlier + 1) (last_time earlier) value window e).0) [] members.windows windows.0 (All-nil S) windows.1 in
     let W : List PlainWindow → PlainWindow → Type 0 = λ earlier window. is_later (last_time earlier) window.at ≡ true in
     let later = each-after W (next_window names) (λ earlier value window e. (window-sound names (length earlier + 1) (last_time earlier) value window e).1) [] members.windows windows.0 (each-none W) windows.1 in
     let made : PlainScript = record { devices = devices.0; routines = routines.0; windows = windows.0 } in
     let count_devices = each-length next_device [] members.devices devices.0 devices.1 in
-    let count_routines = each-length (next_routine devices.0) [] members.routines routines.0 routines.1 in
+    let count_routines = each-length next [] members.routines routines.0 routines.1 in
     let count_windows = each-length (next_window names) [] members.windows windows.0 windows.1 in
     subst (λ (s : PlainScript). All (λ window. IsCivilTime window.at) s.windows → IsSound s) {x = made} (ok-same made script windows.2)
     (λ civil. record {

@@ -1,5 +1,7 @@
 -- The reading of a command.
 use Rattle.home_types.specs.declared.commands.Command.{Command}
+use Rattle.home_types.specs.declared.commands.Guard.TheVariants.{Always, Below, Is}
+use Rattle.home_types.specs.declared.commands.Guard.{Guard}
 use Rattle.home_types.specs.declared.commands.Job.TheVariants as job
 use Rattle.home_types.specs.declared.commands.Job.{Job}
 use Rattle.home_types.specs.declared.kinds.Kind.TheVariants.{States}
@@ -18,10 +20,11 @@ use Rattle.routine_reader.specs.declared.faults.Part.TheVariants as part
 use Rattle.routine_reader.specs.declared.faults.ReadFault.TheVariants.{BadState, Shape, UnknownName}
 use Rattle.routine_reader.specs.declared.faults.ReadFault.{ReadFault}
 use Rattle.routine_reader.specs.declared.forms.Form.TheVariants as form
+use Rattle.routine_reader.specs.declared.forms.Form.{Form}
 use Rattle.serde_json.specs.Data.{Data}
 use Rattle.serde_json.specs.Find.{as_bool, as_str}
 use Rattle.std.specs.Option.{option_map_or}
-use Rattle.std.specs.Prelude.{Bool, List, None, Ok, Option, Result, Some, [], codes, if◌then◌else◌, is_none, is_some, length, ok_or, option_and_then, option_map, slice_get, true, ℕ, ◌+◌}
+use Rattle.std.specs.Prelude.{Bool, List, None, Ok, Option, Result, Some, [], codes, if◌then◌else◌, is_none, is_some, length, ok_or, option_and_then, option_map, slice_get, true, ℕ, ◌+◌, ◌==◌}
 use Rattle.std.specs.Str.{bytes_eq}
 
 -- ---- its members
@@ -43,19 +46,37 @@ suits_verb Check to = is_some to
 suits_verb Load to = is_none to
 suits_verb Store to = is_none to
 
+-- the table of a command by the version of its script: in version 1 it has no `when`
+abbrev pub command_form : ℕ → Form
+command_form version = if version == 1 then form.Command else form.GuardedCommand
+
+-- one of `is` and `below`
+abbrev pub guard_with : Option (Option ℕ) → Option (Option ℕ) → Option Guard
+guard_with (Some (Some v)) (Some None) = Some (Is v)
+guard_with (Some None) (Some (Some v)) = Some (Below v)
+guard_with is below = None
+
+-- an object with one member, which is a whole number
+abbrev pub guard_of : Data → Option Guard
+guard_of value =
+    if has_form form.Guard value then
+    (guard_with (if_there number_of (codes "is") value) (if_there number_of (codes "below") value))
+    else None
+
 -- the members of a command, each of its type
 pub record CommandMembers : Type 0 where
   pub device : List ℕ
   pub verb : Verb
   pub to : Option Data
+  pub when : Guard
   pub must : Bool
   pub ms : ℕ
   pub takes : ℕ
 
-abbrev pub command_with : Option (List ℕ) → Option Verb → Option (Option Data) → Option Bool → Option ℕ → Option ℕ → Option CommandMembers
-command_with (Some device) (Some verb) (Some to) (Some must) (Some ms) (Some takes) =
-    Some (record { device = device; verb = verb; to = to; must = must; ms = ms; takes = takes })
-command_with device verb to must ms takes = None
+abbrev pub command_with : Option (List ℕ) → Option Verb → Option (Option Data) → Option Guard → Option Bool → Option ℕ → Option ℕ → Option CommandMembers
+command_with (Some device) (Some verb) (Some to) (Some when) (Some must) (Some ms) (Some takes) =
+    Some (record { device = device; verb = verb; to = to; when = when; must = must; ms = ms; takes = takes })
+command_with device verb to when must ms takes = None
 
 abbrev pub ms_at : Data → Option ℕ
 ms_at value = or_default number_of default_ms (codes "ms") value
@@ -67,14 +88,16 @@ takes_at value = option_and_then (λ ms. or_default number_of ms (codes "takes")
 abbrev pub with_its_value : CommandMembers → Option CommandMembers
 with_its_value members = if suits_verb members.verb members.to then Some members else None
 
-abbrev pub command_members : Data → Option CommandMembers
-command_members value =
-    if has_form form.Command value then
+-- those of a command of a script of this version; without `when` its guard is Always
+abbrev pub command_members : ℕ → Data → Option CommandMembers
+command_members version value =
+    if has_form (command_form version) value then
     (option_and_then with_its_value
     (command_with
     (needed as_str (codes "on") value)
     (needed verb_in (codes "do") value)
     (if_there state_of (codes "to") value)
+    (or_default guard_of Always (codes "when") value)
     (or_default as_bool true (codes "must") value)
     (ms_at value)
     (takes_at value)))
@@ -96,16 +119,16 @@ states_of devices d = option_map_or (λ device. device.states) (slice_get device
 abbrev pub kind_of : List PlainDevice → ℕ → Kind
 kind_of devices d = option_map_or (λ device. device.kind) (slice_get devices d) (States 0)
 
--- the command at this place, of devices that were read
-unfoldable pub command_reading : List PlainDevice → ℕ → ℕ → Data → Result Command ReadFault
-command_reading devices routine number value =
+-- the command at this place of a script of this version, of devices that were read
+unfoldable pub command_reading : ℕ → List PlainDevice → ℕ → ℕ → Data → Result Command ReadFault
+command_reading version devices routine number value =
     let spot = inside part.Command routine number in do
-      members ← ok_or (command_members value) (Shape spot)
+      members ← ok_or (command_members version value) (Shape spot)
       device ← ok_or (place_of (device_names devices) members.device) (UnknownName spot)
       job ← ok_or (job_of members.verb members.to (kind_of devices device) (states_of devices device)) (BadState spot)
       ms ← within_limit count.Ms members.ms
       takes ← within_limit count.Ms members.takes
-      Ok (record { device = record { 0 = device }; job = job; must = members.must; ms = ms; takes = takes })
+      Ok (record { device = record { 0 = device }; job = job; when = members.when; must = members.must; ms = ms; takes = takes })
 
-abbrev pub next_command : List PlainDevice → ℕ → List Command → Data → Result Command ReadFault
-next_command devices routine earlier value = command_reading devices routine (length earlier + 1) value
+abbrev pub next_command : ℕ → List PlainDevice → ℕ → List Command → Data → Result Command ReadFault
+next_command version devices routine earlier value = command_reading version devices routine (length earlier + 1) value

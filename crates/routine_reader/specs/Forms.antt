@@ -1,6 +1,6 @@
 -- The members of each object of a script, as the value that `serde_json` reads has them.
 use Rattle.routine_reader.specs.Limits.{most_of_32_bits, most_of_64_bits}
-use Rattle.routine_reader.specs.declared.forms.Form.TheVariants.{Command, Day, Device, Routine, Run, Window}
+use Rattle.routine_reader.specs.declared.forms.Form.TheVariants.{Command, Day, Device, Guard, GuardedCommand, Routine, Run, Window}
 use Rattle.routine_reader.specs.declared.forms.Form.{Form}
 use Rattle.serde_json.specs.Data.{Data, Items, Members, item, member, no_items, no_members}
 use Rattle.serde_json.specs.Find.{as_array, as_number, as_object, as_str, as_u64, get}
@@ -8,6 +8,14 @@ use Rattle.std.specs.List.{list_all}
 use Rattle.std.specs.Option.{option_map_or}
 use Rattle.std.specs.Prelude.{Bool, List, None, Option, Some, [], codes, false, if◌then◌else◌, is_none, is_some, nat_le, option_and_then, option_map, ℕ, ◌||◌, ◌∷◌}
 use Rattle.std.specs.Str.{bytes_eq}
+
+-- a member of a command of version 1
+abbrev pub is_of_command : List ℕ → Bool
+is_of_command name =
+    bytes_eq name (codes "on") || bytes_eq name (codes "do") || bytes_eq name (codes "to")
+    || bytes_eq name (codes "must")
+    || bytes_eq name (codes "ms")
+    || bytes_eq name (codes "takes")
 
 -- the table of an object has a member of this name
 abbrev pub knows : Form → List ℕ → Bool
@@ -20,11 +28,9 @@ knows Device name =
     || bytes_eq name (codes "start")
     || bytes_eq name (codes "down")
 knows Routine name = bytes_eq name (codes "name") || bytes_eq name (codes "commands")
-knows Command name =
-    bytes_eq name (codes "on") || bytes_eq name (codes "do") || bytes_eq name (codes "to")
-    || bytes_eq name (codes "must")
-    || bytes_eq name (codes "ms")
-    || bytes_eq name (codes "takes")
+knows Command name = is_of_command name
+knows GuardedCommand name = is_of_command name || bytes_eq name (codes "when")
+knows Guard name = bytes_eq name (codes "is") || bytes_eq name (codes "below")
 knows Window name =
     bytes_eq name (codes "at") || bytes_eq name (codes "seed") || bytes_eq name (codes "probes")
     || bytes_eq name (codes "turns")

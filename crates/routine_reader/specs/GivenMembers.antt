@@ -11,6 +11,7 @@ pub record Given : Type 0 where
   pub on : Option Data
   pub verb : Option Data
   pub to : Option Data
+  pub when : Option Data
   pub must : Option Data
   pub ms : Option Data
   pub takes : Option Data
@@ -21,6 +22,7 @@ given_of given =
       on = option_map (λ m. view m.now) given.on;
       verb = option_map (λ m. view m.now) given.verb;
       to = option_map (λ m. view m.now) given.to;
+      when = option_map (λ m. view m.now) given.when;
       must = option_map (λ m. view m.now) given.must;
       ms = option_map (λ m. view m.now) given.ms;
       takes = option_map (λ m. view m.now) given.takes;
@@ -33,6 +35,7 @@ given_in members =
       on = get_member (codes "on") members;
       verb = get_member (codes "do") members;
       to = get_member (codes "to") members;
+      when = get_member (codes "when") members;
       must = get_member (codes "must") members;
       ms = get_member (codes "ms") members;
       takes = get_member (codes "takes") members;
@@ -45,4 +48,5 @@ with_member name value given =
     else (if bytes_eq name (codes "do") then record given { verb = Some value }
     else (if bytes_eq name (codes "to") then record given { to = Some value }
     else (if bytes_eq name (codes "must") then record given { must = Some value }
-    else (if bytes_eq name (codes "ms") then record given { ms = Some value } else record given { takes = Some value }))))
+    else (if bytes_eq name (codes "ms") then record given { ms = Some value }
+    else (if bytes_eq name (codes "takes") then record given { takes = Some value } else record given { when = Some value })))))

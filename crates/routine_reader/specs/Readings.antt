@@ -13,7 +13,7 @@ use Rattle.routine_reader.specs.declared.faults.ReadFault.{ReadFault}
 use Rattle.routine_reader.specs.declared.forms.Form.TheVariants.{Day}
 use Rattle.serde_json.specs.Data.{Data}
 use Rattle.serde_json.specs.Read.{read}
-use Rattle.std.specs.Prelude.{Err, List, None, Ok, Option, Result, Some, [], codes, if◌then◌else◌, length, nat_le, ok_or, ℕ, ◌+◌, ◌==◌}
+use Rattle.std.specs.Prelude.{Err, List, None, Ok, Option, Result, Some, [], codes, if◌then◌else◌, length, nat_le, ok_or, ℕ, ◌+◌, ◌==◌, ◌||◌}
 use Rattle.std.specs.Str.{is_utf8}
 
 -- the value that `serde_json` reads
@@ -46,14 +46,14 @@ day_members value =
 unfoldable pub parts_reading : DayMembers → Result PlainScript ReadFault
 parts_reading members = do
   devices ← read_each next_device [] members.devices
-  routines ← read_each (next_routine devices) [] members.routines
+  routines ← read_each (next_routine members.version devices) [] members.routines
   windows ← read_each (next_window (routine_names routines)) [] members.windows
   Ok (record { devices = devices; routines = routines; windows = windows })
 
--- a script of version 1, with no more of each than the limit
+-- a script of version 1 or 2, with no more of each than the limit
 unfoldable pub members_reading : DayMembers → Result PlainScript ReadFault
 members_reading members =
-    if members.version == 1 then
+    if members.version == 1 || members.version == 2 then
     (do
       few_devices ← within_limit count.Devices (length members.devices)
       few_routines ← within_limit count.Routines (length members.routines)

@@ -31,24 +31,24 @@ routine_members value =
     else None
 
 -- 1 to 64 commands
-unfoldable pub commands_reading : List PlainDevice → ℕ → List Data → Result (List Command) ReadFault
-commands_reading devices routine values =
+unfoldable pub commands_reading : ℕ → List PlainDevice → ℕ → List Data → Result (List Command) ReadFault
+commands_reading version devices routine values =
     if length values == 0 then Err (Shape (at part.Routine routine))
     else do
       few ← within_limit count.Commands (length values)
-      read_each (next_command devices routine) [] values
+      read_each (next_command version devices routine) [] values
 
 abbrev pub routine_names : List PlainRoutine → List (List ℕ)
 routine_names routines = map (λ routine. routine.name) routines
 
--- the routine with this number, after routines with these names
-unfoldable pub routine_reading : List PlainDevice → ℕ → List (List ℕ) → Data → Result PlainRoutine ReadFault
-routine_reading devices number names value =
+-- the routine with this number of a script of this version, after routines with these names
+unfoldable pub routine_reading : ℕ → List PlainDevice → ℕ → List (List ℕ) → Data → Result PlainRoutine ReadFault
+routine_reading version devices number names value =
     let spot = at part.Routine number in do
       members ← ok_or (routine_members value) (Shape spot)
       name ← new_name spot names members.name
-      commands ← commands_reading devices number members.commands
+      commands ← commands_reading version devices number members.commands
       Ok (record { name = name; commands = commands })
 
-abbrev pub next_routine : List PlainDevice → List PlainRoutine → Data → Result PlainRoutine ReadFault
-next_routine devices earlier value = routine_reading devices (length earlier + 1) (routine_names earlier) value
+abbrev pub next_routine : ℕ → List PlainDevice → List PlainRoutine → Data → Result PlainRoutine ReadFault
+next_routine version devices earlier value = routine_reading version devices (length earlier + 1) (routine_names earlier) value

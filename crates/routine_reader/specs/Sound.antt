@@ -4,6 +4,8 @@ use Rattle.day_clock.specs.declared.times.When.{When}
 use Rattle.home_types.specs.Kinds.{has_value, kind_at}
 use Rattle.home_types.specs.Limits.{most_commands, most_devices, most_downs, most_ms, most_probes, most_routines, most_runs, most_states, most_turns, most_windows}
 use Rattle.home_types.specs.declared.commands.Command.{Command}
+use Rattle.home_types.specs.declared.commands.Guard.TheVariants.{Always, Below, Is}
+use Rattle.home_types.specs.declared.commands.Guard.{Guard}
 use Rattle.home_types.specs.declared.commands.Job.TheVariants.{Check, Load, Set, Store}
 use Rattle.home_types.specs.declared.commands.Job.{Job}
 use Rattle.home_types.specs.declared.kinds.Kind.TheVariants.{Range, States}
@@ -49,9 +51,16 @@ suits kind (Check v) = has_value kind v
 suits kind Load = true
 suits kind Store = true
 
+-- the number that a guard compares with the register, 0 where it asks nothing
+abbrev pub compared : Guard → ℕ
+compared Always = 0
+compared (Is v) = v
+compared (Below v) = v
+
 pub record IsSoundCommand (devices : List PlainDevice) (command : Command) : Type 0 where
   pub device : command.device.0 < length devices
   pub value : suits (kind_at (device_kinds devices) command.device.0) command.job ≡ true
+  pub when : compared command.when < 2 ^ 32
   pub ms : command.ms ≤ most_ms
   pub takes : command.takes ≤ most_ms
 

@@ -1,19 +1,22 @@
 //! A command of a script, read.
 ghost use Rattle.home_types.specs.Limits.{most_states};
 ghost use Rattle.routine_reader.specs.AreRead.{AreDevices};
-ghost use Rattle.routine_reader.specs.Commands.{command_members, command_reading, job_of, kind_of, states_of, suits_verb, verb_of};
+ghost use Rattle.routine_reader.specs.Commands.{command_form, command_members, command_reading, guard_of, job_of, kind_of, states_of, suits_verb, verb_of};
 ghost use Rattle.routine_reader.specs.Scripts.{plain_device};
 ghost use Rattle.routine_reader.specs.Forms.{knows, names_of};
 ghost use Rattle.routine_reader.specs.GivenMembers.{given_of, given_in, with_member};
 ghost use Rattle.serde_json.specs.View.{members_view, view};
 ghost use Rattle.std.specs.List.{list_all};
-ghost use Rattle.std.specs.Prelude.{◌≡◌, ◌<◌, ◌≤◌, All, IfSome, IsTrue, is_some, length, map, option_map};
+ghost use Rattle.std.specs.Option.{option_map_or};
+ghost use Rattle.std.specs.Prelude.{◌≡◌, ◌<◌, ◌≤◌, All, IfSome, IsTrue, Some, is_some, length, map, option_map};
 
 use crate::devices::{Devices, value_in};
 use crate::faults::{Count, Part, ReadFault, within_limit};
-use crate::forms::{Form, flag_given, number_given, state_given};
+use crate::forms::{
+    Form, UNGUARDED, flag_given, has_form, number_given, number_if_there, state_given,
+};
 use crate::scripts::DeviceText;
-use home_types::{Command, DeviceNo, Job, Kind, Text};
+use home_types::{Command, DeviceNo, Guard, Job, Kind, Text};
 use serde_json::{Map, Value as Json};
 
 /// The estimate of a command that gives none, in ms.
@@ -46,6 +49,7 @@ struct CommandMembers<'a> {
     device: &'a str,
     verb: Verb,
     to: Option<&'a Json>,
+    when: Guard,
     must: bool,
     ms: u32,
     takes: u32,
@@ -66,15 +70,16 @@ struct GivenMembers<'a> {
     on: Option<&'a Json>,
     verb: Option<&'a Json>,
     to: Option<&'a Json>,
+    when: Option<&'a Json>,
     must: Option<&'a Json>,
     ms: Option<&'a Json>,
     takes: Option<&'a Json>,
 }
 
 impl<'a> GivenMembers<'a> {
-    /// Keeps a member whose name is one that `Form::Command` knows. Whether it is.
-    fn keep(&mut self, name: &str, value: &'a Json) -> bool
-        ensures known { result ≡ knows Form.Command name.now }
+    /// Keeps a member that a command of this version may have. Whether it is one.
+    fn keep(&mut self, version: u64, name: &str, value: &'a Json) -> bool
+        ensures known { result ≡ knows (command_form version) name.now }
         ensures kept { IsTrue result → given_of self.new ≡ with_member name.now (view value.now) (given_of self.old) }
     {
         match name {
@@ -84,40 +89,69 @@ impl<'a> GivenMembers<'a> {
             "must" => self.must = Some(value),
             "ms" => self.ms = Some(value),
             "takes" => self.takes = Some(value),
+            "when" if version != UNGUARDED => self.when = Some(value),
             _ => return false,
         }
         true
     }
 }
 
-/// The members of a command, by one walk over them. `None` where one of them is no member of a command.
-fn given_members(members: &Map<String, Json>) -> Option<GivenMembers<'_>>
-    ensures known { is_some result ≡ list_all (knows Form.Command) (names_of (members_view members.now.entries)) }
+/// The members of a command, by one walk over them. `None` where one of them is no member of a command of this version.
+fn given_members(version: u64, members: &Map<String, Json>) -> Option<GivenMembers<'_>>
+    ensures known { is_some result ≡ list_all (knows (command_form version)) (names_of (members_view members.now.entries)) }
     ensures given { IfSome result (λ given. given_of given ≡ given_in (members_view members.now.entries)) }
 {
     let mut given = GivenMembers {
         on: None,
         verb: None,
         to: None,
+        when: None,
         must: None,
         ms: None,
         takes: None,
     };
     'members: for (name, value) in members.iter() {
-        if !given.keep(name.as_str(), value) {
+        if !given.keep(version, name.as_str(), value) {
             return None;
         }
     }
     Some(given)
 }
 
-fn command_members(value: &Json) -> Option<CommandMembers<'_>>
-    ensures { option_map (λ members. record { device = members.device.now; verb = members.verb; to = option_map (λ state. view state.now) members.to; must = members.must; ms = members.ms; takes = members.takes }) result ≡ command_members (view value.now) }
+/// What is asked of the register: an object with one of `is` and `below`, which is a whole number.
+fn guard_of(value: &Json) -> Option<Guard>
+    ensures { result ≡ guard_of (view value.now) }
 {
-    let given = given_members(value.as_object()?)?;
+    if !has_form(Form::Guard, value) {
+        return None;
+    }
+    let is = number_if_there(value, "is")?;
+    let below = number_if_there(value, "below")?;
+    match (is, below) {
+        (Some(number), None) => Some(Guard::Is(number)),
+        (None, Some(number)) => Some(Guard::Below(number)),
+        (None, None) | (Some(_), Some(_)) => None,
+    }
+}
+
+/// The guard that the member is, or the one that always holds where it is missing.
+fn guard_given(member: Option<&Json>) -> Option<Guard>
+    ensures { result ≡ option_map_or guard_of (option_map (λ m. view m.now) member.entry) (Some Guard.Always) }
+{
+    match member {
+        Some(member) => guard_of(member),
+        None => Some(Guard::Always),
+    }
+}
+
+fn command_members(version: u64, value: &Json) -> Option<CommandMembers<'_>>
+    ensures { option_map (λ members. record { device = members.device.now; verb = members.verb; to = option_map (λ state. view state.now) members.to; when = members.when; must = members.must; ms = members.ms; takes = members.takes }) result ≡ command_members version (view value.now) }
+{
+    let given = given_members(version, value.as_object()?)?;
     let device = given.on?.as_str()?;
     let verb = verb_of(given.verb?.as_str()?)?;
     let to = state_given(given.to)?;
+    let when = guard_given(given.when)?;
     let must = flag_given(given.must, true)?;
     let ms = number_given(given.ms, DEFAULT_MS)?;
     let takes = number_given(given.takes, ms)?;
@@ -128,6 +162,7 @@ fn command_members(value: &Json) -> Option<CommandMembers<'_>>
         device,
         verb,
         to,
+        when,
         must,
         ms,
         takes,
@@ -165,19 +200,20 @@ fn states_of(devices: &[DeviceText], d: usize) -> &[Text]
     devices[d].states.as_slice()
 }
 
-/// Reads the command at this place, of these devices.
+/// Reads the command at this place of a script of this version, of these devices.
 #[tactic(auto, unfolding(crate::specs::Commands::command_reading))]
 pub fn read_command(
+    version: u64,
     devices: &Devices<'_>,
     routine: u32,
     number: u32,
     value: &Json,
 ) -> Result<Command, ReadFault>
     requires { AreDevices devices.now }
-    ensures { result ≡ command_reading (map plain_device devices.now.texts.items) routine number (view value.now) }
+    ensures { result ≡ command_reading version (map plain_device devices.now.texts.items) routine number (view value.now) }
 {
     let spot = Part::Command.inside(routine, number);
-    let Some(members) = command_members(value) else {
+    let Some(members) = command_members(version, value) else {
         return Err(ReadFault::Shape(spot));
     };
     let Some(device) = devices.names.place_of(members.device) else {
@@ -193,6 +229,7 @@ pub fn read_command(
     Ok(Command {
         device: DeviceNo(device as u16),
         job,
+        when: members.when,
         must: members.must,
         ms: members.ms,
         takes: members.takes,

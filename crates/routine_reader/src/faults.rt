@@ -184,7 +184,7 @@ pub enum ReadFault {
     TooMany { kind: Count, count: u64, limit: u64 },
     /// The run that is to be followed is not before this one.
     BadFollow(Spot),
-    /// The version is not 1.
+    /// The version is neither 1 nor 2.
     BadVersion(u64),
     /// The turn is no run of the window.
     BadTurn(Spot),

@@ -9,6 +9,12 @@ ghost use Rattle.std.specs.Prelude.{◌≡◌, [], None, Some, map, option_map, 
 
 use serde_json::{Map, Value};
 
+/// The version of a script in which no command has a guard.
+pub const UNGUARDED: u64 = 1;
+
+/// The version in which each command may have one.
+pub const GUARDED: u64 = 2;
+
 /// An object of a script, each with a table of its members.
 #[derive(Clone, Copy, Debug, PartialEq, Eq)]
 pub enum Form {
@@ -16,7 +22,11 @@ pub enum Form {
     Day,
     Device,
     Routine,
+    /// A command of version 1.
     Command,
+    /// A command of version 2, which may have a guard.
+    GuardedCommand,
+    Guard,
     Window,
     Run,
 }
@@ -31,6 +41,10 @@ impl Form {
             Form::Device => matches!(name, "name" | "states" | "low" | "high" | "start" | "down"),
             Form::Routine => matches!(name, "name" | "commands"),
             Form::Command => matches!(name, "on" | "do" | "to" | "must" | "ms" | "takes"),
+            Form::GuardedCommand => {
+                matches!(name, "on" | "do" | "to" | "must" | "ms" | "takes" | "when")
+            }
+            Form::Guard => matches!(name, "is" | "below"),
             Form::Window => matches!(name, "at" | "seed" | "probes" | "turns" | "runs"),
             Form::Run => matches!(name, "routine" | "follows"),
         }

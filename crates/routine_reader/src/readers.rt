@@ -11,16 +11,13 @@ ghost use Rattle.std.specs.Prelude.{◌≡◌, ◌≤◌, All, Err, IfErr, IfOk,
 
 use crate::devices::read_devices;
 use crate::faults::{Count, ReadFault, Spot, within_limit};
-use crate::forms::{Form, has_form, list_at, long_number_at};
+use crate::forms::{Form, GUARDED, UNGUARDED, has_form, list_at, long_number_at};
 use crate::routines::read_routines;
 use crate::scripts::Script;
 use crate::windows::read_windows;
 use home_types::limits;
 use serde_json::Value as Json;
 use std::alloc::Global;
-
-/// The version that a script states.
-const VERSION: u64 = 1;
 
 /// The value of these bytes.
 fn read_value(alloc: Global, bytes: &[u8]) -> Result<Json, ReadFault>
@@ -72,7 +69,7 @@ fn read_parts(alloc: Global, members: &Members<'_>) -> Result<Script, ReadFault>
     ensures in_range { IfOk result (λ script. All (λ window. IsCivilTime window.at) script.windows.items) }
 {
     let devices = read_devices(alloc, members.devices)?;
-    let routines = read_routines(alloc, &devices, members.routines)?;
+    let routines = read_routines(alloc, members.version, &devices, members.routines)?;
     let windows = read_windows(alloc, &routines.names, members.windows)?;
     Ok(Script {
         devices: devices.texts,
@@ -81,13 +78,13 @@ fn read_parts(alloc: Global, members: &Members<'_>) -> Result<Script, ReadFault>
     })
 }
 
-/// Reads a script of version 1, with no more of each than the limit.
+/// Reads a script of version 1 or 2, with no more of each than the limit.
 #[tactic(auto, unfolding(crate::specs::Readings::members_reading))]
 fn read_members(alloc: Global, members: &Members<'_>) -> Result<Script, ReadFault>
     ensures reading { IsReading plain_script result (members_reading (record { version = members.now.version; devices = map view members.now.devices.now; routines = map view members.now.routines.now; windows = map view members.now.windows.now })) }
     ensures sound { IfOk result (λ script. IsSound (plain_script script)) }
 {
-    if members.version != VERSION {
+    if members.version != UNGUARDED && members.version != GUARDED {
         return Err(ReadFault::BadVersion(members.version));
     }
     within_limit(Count::Devices, members.devices.len() as u64)?;
@@ -107,7 +104,7 @@ fn read_top(alloc: Global, value: &Json) -> Result<Script, ReadFault>
     read_members(alloc, &members)
 }
 
-/// Reads a script of version 1, or gives the first refusal of a walk over it.
+/// Reads a script of version 1 or 2, or gives the first refusal of a walk over it.
 ///
 /// # Errors
 ///

@@ -40,6 +40,7 @@ fn routine_members(value: &Json) -> Option<RoutineMembers<'_>>
 
 fn read_each_command(
     alloc: Global,
+    version: u64,
     devices: &Devices<'_>,
     routine: u32,
     values: &[Json],
@@ -47,13 +48,13 @@ fn read_each_command(
     requires devices { AreDevices devices.now }
     requires few { length values.now ≤ most_commands }
     ensures { IsReading (λ commands. commands.items) result
-        (read_each (next_command (map plain_device devices.now.texts.items) routine) [] (map view values.now)) }
+        (read_each (next_command version (map plain_device devices.now.texts.items) routine) [] (map view values.now)) }
 {
     let mut commands = List::new(alloc);
     commands.reserve(values.len() as u64)?;
     'values: for value in values {
         let number = commands.len() as u32 + 1;
-        let command = read_command(devices, routine, number, value)?;
+        let command = read_command(version, devices, routine, number, value)?;
         commands.push(command)?;
     }
     Ok(commands)
@@ -63,25 +64,28 @@ fn read_each_command(
 #[tactic(auto, unfolding(crate::specs::Routines::commands_reading))]
 fn read_commands(
     alloc: Global,
+    version: u64,
     devices: &Devices<'_>,
     routine: u32,
     values: &[Json],
 ) -> Result<List<Command>, ReadFault>
     requires { AreDevices devices.now }
     ensures { IsReading (λ commands. commands.items) result
-        (commands_reading (map plain_device devices.now.texts.items) routine (map view values.now)) }
+        (commands_reading version (map plain_device devices.now.texts.items) routine (map view values.now)) }
 {
     if values.is_empty() {
         return Err(ReadFault::Shape(Part::Routine.at(routine)));
     }
     within_limit(Count::Commands, values.len() as u64)?;
-    read_each_command(alloc, devices, routine, values)
+    read_each_command(alloc, version, devices, routine, values)
 }
 
-/// Reads the routine with this number, after routines with these names, and adds its name to them.
+/// Reads the routine with this number of a script of this version, after routines with these names, and adds its name to
+/// them.
 #[tactic(auto, unfolding(crate::specs::Routines::routine_reading))]
 fn read_routine<'a>(
     alloc: Global,
+    version: u64,
     devices: &Devices<'_>,
     number: u32,
     names: &mut Names<'a>,
@@ -89,7 +93,7 @@ fn read_routine<'a>(
 ) -> Result<RoutineText, ReadFault>
     requires { AreDevices devices.now }
     ensures reading { IsReading plain_routine result
-        (routine_reading (map plain_device devices.now.texts.items) number names.old (view value.now)) }
+        (routine_reading version (map plain_device devices.now.texts.items) number names.old (view value.now)) }
     ensures named { IfOk result (λ routine. names.new ≡ names.old ++ routine.name ∷ []) }
 {
     let spot = Part::Routine.at(number);
@@ -97,7 +101,7 @@ fn read_routine<'a>(
         return Err(ReadFault::Shape(spot));
     };
     let name = new_name(spot, names, members.name)?;
-    let commands = read_commands(alloc, devices, number, members.commands)?;
+    let commands = read_commands(alloc, version, devices, number, members.commands)?;
     names.add(name)?;
     Ok(RoutineText {
         name: Text::of(alloc, name)?,
@@ -112,16 +116,17 @@ pub struct Routines<'a> {
     pub texts: List<RoutineText>,
 }
 
-/// Reads the routines of a script with these devices.
+/// Reads the routines of a script of this version with these devices.
 pub fn read_routines<'a>(
     alloc: Global,
+    version: u64,
     devices: &Devices<'_>,
     values: &'a [Json],
 ) -> Result<Routines<'a>, ReadFault>
     requires devices { AreDevices devices.now }
     requires few { length values.now ≤ most_routines }
     ensures reading { IsReading (λ routines. map plain_routine routines.texts.items) result
-        (read_each (next_routine (map plain_device devices.now.texts.items)) [] (map view values.now)) }
+        (read_each (next_routine version (map plain_device devices.now.texts.items)) [] (map view values.now)) }
     ensures names { IfOk result (λ routines. routines.names ≡ routine_names (map plain_routine routines.texts.items)) }
     ensures few { IfOk result (λ routines. length routines.texts.items ≤ most_routines) }
 {
@@ -130,7 +135,7 @@ pub fn read_routines<'a>(
     texts.reserve(values.len() as u64)?;
     'values: for value in values {
         let number = texts.len() as u32 + 1;
-        let routine = read_routine(alloc, devices, number, &mut names, value)?;
+        let routine = read_routine(alloc, version, devices, number, &mut names, value)?;
         texts.push(routine)?;
     }
     Ok(Routines { names, texts })

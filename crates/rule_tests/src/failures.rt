@@ -8,7 +8,9 @@ ghost use Rattle.lineage_table.specs.Lineages.{accesses_at};
 use command_rules::{Roster, RosterRun};
 use failure_serialization::{fell, rose};
 use history_book::Book;
-use home_types::{Command, DeviceNo, Item, Job, List, NoMemory, Routine, RunNo, Stand, World};
+use home_types::{
+    Command, DeviceNo, Guard, Item, Job, List, NoMemory, Routine, RunNo, Stand, World,
+};
 use lineage_table::{Access, Status, Table, View};
 use serial_line::Line;
 use std::alloc::Global;
@@ -27,6 +29,7 @@ fn roster(alloc: Global) -> Result<Roster, NoMemory>
     let lamp = Command {
         device: LAMP,
         job: Job::Set(1),
+        when: Guard::Always,
         must: false,
         ms: 100,
         takes: 100,
@@ -34,6 +37,7 @@ fn roster(alloc: Global) -> Result<Roster, NoMemory>
     let fan = Command {
         device: FAN,
         job: Job::Set(1),
+        when: Guard::Always,
         must: false,
         ms: 100,
         takes: 100,

@@ -6,7 +6,7 @@ ghost use Rattle.command_rules.specs.Rosters.{is_run, runs_of};
 ghost use Rattle.serial_line.specs.KeptRuns.{is_known};
 
 use command_rules::{Roster, RosterRun};
-use home_types::{Command, DeviceNo, Item, Job, List, NoMemory, Routine, RunNo};
+use home_types::{Command, DeviceNo, Guard, Item, Job, List, NoMemory, Routine, RunNo};
 use serial_line::Line;
 use std::alloc::Global;
 
@@ -40,6 +40,7 @@ fn roster(alloc: Global, follows: Option<RunNo>) -> Result<Roster, NoMemory>
     let lamp = Command {
         device: LAMP,
         job: Job::Set(1),
+        when: Guard::Always,
         must: true,
         ms: 101,
         takes: 101,
@@ -47,6 +48,7 @@ fn roster(alloc: Global, follows: Option<RunNo>) -> Result<Roster, NoMemory>
     let fan = Command {
         device: FAN,
         job: Job::Set(1),
+        when: Guard::Always,
         must: true,
         ms: 101,
         takes: 101,

@@ -1,12 +1,13 @@
 //! What an independent program draws.
 use day_clock::When;
-use home_types::{Command, DeviceNo, Job};
+use home_types::{Command, DeviceNo, Guard, Job};
 use trial_scripts::trial_script;
 
 fn must(device: u16, job: Job) -> Command {
     Command {
         device: DeviceNo(device),
         job,
+        when: Guard::Always,
         must: true,
         ms: 100,
         takes: 100,

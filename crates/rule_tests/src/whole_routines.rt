@@ -1,7 +1,9 @@
 //! A whole routine in a home with a lamp, a fan and a heater. No program calls `run_whole`.
 ghost use Rattle.std.specs.Prelude.{◌≡◌, ◌<◌, All, IfOk, length};
 
-use home_types::{Answer, Command, DeviceNo, Job, Kind, List, NoMemory, Routine, Stand, World};
+use home_types::{
+    Answer, Command, DeviceNo, Guard, Job, Kind, List, NoMemory, Routine, Stand, World,
+};
 use serial_meaning::run_whole;
 use std::alloc::Global;
 
@@ -17,6 +19,7 @@ fn must(device: DeviceNo, job: Job) -> Command
     Command {
         device,
         job,
+        when: Guard::Always,
         must: true,
         ms: 100,
         takes: 100,
@@ -29,7 +32,22 @@ fn best_effort(device: DeviceNo, job: Job) -> Command
     Command {
         device,
         job,
+        when: Guard::Always,
         must: false,
+        ms: 100,
+        takes: 100,
+    }
+}
+
+/// A must command that is skipped where the register is not this value.
+fn only_at(register: u32, device: DeviceNo, job: Job) -> Command
+    ensures { result.device ≡ device }
+{
+    Command {
+        device,
+        job,
+        when: Guard::Is(register),
+        must: true,
         ms: 100,
         takes: 100,
     }
@@ -57,7 +75,7 @@ fn world(alloc: Global) -> Result<World, NoMemory>
     })
 }
 
-/// Loads the heater and stores to the lamp, beside a check that may find another value.
+/// Loads the heater and stores to the lamp, beside a check that may find another value, and two commands with a guard.
 fn first_routine(alloc: Global) -> Result<Routine, NoMemory>
     ensures { IfOk result (λ routine. All (λ c. c.device.0 < 3) routine.commands.items) }
 {
@@ -66,6 +84,8 @@ fn first_routine(alloc: Global) -> Result<Routine, NoMemory>
         best_effort(FAN, Job::Check(1)),
         must(LAMP, Job::Store),
         must(LAMP, Job::Check(1)),
+        only_at(20, FAN, Job::Set(0)),
+        only_at(18, FAN, Job::Set(1)),
     ];
     Routine::new(alloc, List::of(alloc, &commands)?)
 }
@@ -82,9 +102,11 @@ fn runs_a_whole_routine(rt: HostRuntime) {
         Answer::Found(2),
         Answer::Fine,
         Answer::Found(1),
+        Answer::Skipped,
+        Answer::Fine,
     ];
     assert!(rt; answers.is_some_and(|answers| answers.as_slice() == told.as_slice()));
-    assert!(rt; world.devices.as_slice() == [up(1), up(2), up(18)].as_slice());
+    assert!(rt; world.devices.as_slice() == [up(1), up(1), up(18)].as_slice());
     drop(world);
     drop(first);
     drop(kinds);

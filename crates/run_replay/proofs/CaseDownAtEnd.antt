@@ -6,6 +6,7 @@ use Rattle.history_book.specs.declared.entries.Cause.TheVariants.{DownAtEnd}
 use Rattle.history_book.specs.declared.entries.End.TheVariants.{Aborted}
 use Rattle.history_book.specs.declared.entries.Entry.TheVariants.{Arrived, Did, Doomed, Ended, Fell, Placed, Undid}
 use Rattle.home_types.specs.declared.commands.Answer.TheVariants.{Fine}
+use Rattle.home_types.specs.declared.commands.Guard.TheVariants.{Always}
 use Rattle.home_types.specs.declared.commands.Job.TheVariants.{Set}
 use Rattle.home_types.specs.declared.kinds.Kind.TheVariants.{Range, States}
 use Rattle.home_types.specs.declared.modes.Scheduler.TheVariants.{Fcfs}
@@ -17,7 +18,7 @@ use Rattle.std.proofs.Common.{refl}
 use Rattle.std.specs.Prelude.{List, None, [], false, slice_index_or, true, ◌∷◌, ◌≡◌}
 
 abbrev pub setting0 : Setting
-setting0 = record { runs = (record { commands = (record { device = device_no 0; job = Set 1; must = true; ms = 100; takes = 100 } ∷ record { device = device_no 1; job = Set 1; must = true; ms = 100; takes = 100 } ∷ []); follows = None } ∷ []); mode = record { model = Partitioned; scheduler = Fcfs }; kinds = ((States 2) ∷ (States 2) ∷ (States 2) ∷ (Range 10 30) ∷ []); first = (record { value = 0; up = true } ∷ record { value = 0; up = true } ∷ record { value = 0; up = true } ∷ record { value = 18; up = true } ∷ []) }
+setting0 = record { runs = (record { commands = (record { device = device_no 0; job = Set 1; when = Always; must = true; ms = 100; takes = 100 } ∷ record { device = device_no 1; job = Set 1; when = Always; must = true; ms = 100; takes = 100 } ∷ []); follows = None } ∷ []); mode = record { model = Partitioned; scheduler = Fcfs }; kinds = ((States 2) ∷ (States 2) ∷ (States 2) ∷ (Range 10 30) ∷ []); first = (record { value = 0; up = true } ∷ record { value = 0; up = true } ∷ record { value = 0; up = true } ∷ record { value = 18; up = true } ∷ []) }
 
 abbrev pub told0 : List Told
 told0 = (Worked ∷ Died ∷ Worked ∷ Worked ∷ Worked ∷ Worked ∷ Worked ∷ [])

@@ -99,6 +99,7 @@ choice_ends s r m = decide_is (EndsOwn r) s.setting (read_of s) s.grips r _ (rec
   revokes = λ c x run strong at. (tt, tt);
   downs = λ c run next home down. (tt, if_none r c.must _ tt);
   goes = λ c run next home up. tt;
+  skips = λ c run. (tt, tt);
   fails_at_end = λ d all at. (tt, tt);
   commits = λ all up. (refl, tt);
 })

@@ -31,6 +31,7 @@ choice_makes s r m going = decide_is Makes s.setting (read_of s) s.grips r _ (re
   revokes = λ c x run strong at. omega arith;
   downs = λ c run next home down. omega arith;
   goes = λ c run next home up. tt;
+  skips = λ c run. omega arith;
   fails_at_end = λ d all at. omega arith;
   commits = λ all up. omega arith;
 })

@@ -139,6 +139,7 @@ there_is s r free = decide_is (λ c. c ≢ Absent) s.hub.setting (read_of (confi
   revokes = λ c x run strong at no. absurd (cc);
   downs = λ c run next home down no. absurd (cc);
   goes = λ c run next home up no. absurd (cc);
+  skips = λ c run no. absurd (cc);
   fails_at_end = λ d all at no. absurd (cc);
   commits = λ all up no. absurd (cc);
 })

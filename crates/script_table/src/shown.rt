@@ -1,5 +1,5 @@
 //! A script that was read, as a line of the output.
-use home_types::{Command, Job, Kind};
+use home_types::{Command, Guard, Job, Kind};
 use routine_reader::{DeviceText, RoutineText, RunText, Script, WindowText};
 use std::alloc::{AllocError, Global};
 use std::fmt::Write;
@@ -53,7 +53,12 @@ fn push_command(line: &mut String, command: &Command) -> Result<(), AllocError> 
         Job::Store => write!(line, "store")?,
     }
     let must = if command.must { "must" } else { "best" };
-    write!(line, " {must} {} {}", command.ms, command.takes)
+    write!(line, " {must} {} {}", command.ms, command.takes)?;
+    match command.when {
+        Guard::Always => Ok(()),
+        Guard::Is(number) => write!(line, " when is {number}"),
+        Guard::Below(number) => write!(line, " when below {number}"),
+    }
 }
 
 fn push_window(line: &mut String, window: &WindowText) -> Result<(), AllocError> {

@@ -3,7 +3,7 @@ ghost use Rattle.std.specs.Prelude.{◌≡◌};
 ghost use Rattle.home_types.specs.Commands.{command_effect};
 ghost use Rattle.serial_meaning.specs.Progress.{effect_of};
 
-use home_types::{Answer, Job, Kind, Stand, Value};
+use home_types::{Answer, Guard, Job, Kind, Stand, Value};
 
 /// What a command does: its answer, and then the register of its run and where its device stands.
 #[derive(Clone, Copy)]
@@ -13,10 +13,18 @@ pub struct Outcome {
     pub stand: Stand,
 }
 
-/// The outcome of a command with this job and register, on a device of this kind that stands so.
-pub fn outcome_of(kind: Kind, job: Job, register: Value, stand: Stand) -> Outcome
-    ensures { effect_of result ≡ command_effect kind job register stand }
+/// The outcome of a command with this guard, job and register, on a device of this kind that stands so. Where the guard
+/// does not hold it is skipped, on a device that is up or down.
+pub fn outcome_of(kind: Kind, guard: Guard, job: Job, register: Value, stand: Stand) -> Outcome
+    ensures { effect_of result ≡ command_effect kind guard job register stand }
 {
+    if !guard.holds(register) {
+        return Outcome {
+            answer: Answer::Skipped,
+            register,
+            stand,
+        };
+    }
     if !stand.up {
         return Outcome {
             answer: Answer::Down,

@@ -32,7 +32,7 @@ impl RoutineProgress {
         let device = command.device.0 as usize;
         let kind = kinds.as_slice()[device];
         let stand = self.home.as_slice()[device];
-        let outcome = outcome_of(kind, command.job, self.register, stand);
+        let outcome = outcome_of(kind, command.when, command.job, self.register, stand);
         if fails(command, outcome.answer) {
             return Ok(None);
         }

@@ -1,11 +1,12 @@
 -- The items that must stand before a run, as line, history and roster tell them, are those of the base.
 use Rattle.command_rules.specs.Items.{of_run}
 use Rattle.command_rules.specs.Rosters.{Run, commands_of, follows, is_on, touches}
+use Rattle.history_book.proofs.Asking.{asks_next}
 use Rattle.history_book.proofs.Standing.{stands_in}
 use Rattle.history_book.proofs.Told.{answers_are, end_is}
 use Rattle.history_book.specs.Books.{answer_count, end_of}
 use Rattle.history_book.specs.Gaps as gaps
-use Rattle.history_book.specs.Readings.{OfRun, Reading, did, is_committing, is_live, is_next_on, next_of}
+use Rattle.history_book.specs.Readings.{OfRun, Reading, asks_on, did, is_committing, is_live, is_next_on, next_of}
 use Rattle.history_book.specs.Settings.{Setting, device_numbers, devices_of}
 use Rattle.history_book.specs.declared.entries.End.TheVariants.{Aborted, Committed}
 use Rattle.history_book.specs.declared.entries.End.{End}
@@ -28,7 +29,7 @@ use Rattle.std.proofs.Common.{ap, ap₂, arith, refl, sym, ◌∙◌}
 use Rattle.std.proofs.lemmas.Grind.{common_steps}
 use Rattle.std.specs.FinSet as set
 use Rattle.std.specs.List.{list_any}
-use Rattle.std.specs.Prelude.{Bool, List, None, Option, Some, [], false, if◌then◌else◌, is_none, is_some, length, map, nat_lt, not, option_map, slice_get, suc, true, unwrap_or, zero, ℕ, ◌&&◌, ◌+◌, ◌<◌, ◌==◌, ◌||◌, ◌∷◌, ◌≡◌, ◌≤◌}
+use Rattle.std.specs.Prelude.{Bool, IsTrue, List, None, Option, Some, [], false, if◌then◌else◌, is_none, is_some, length, map, nat_lt, not, option_map, slice_get, suc, true, unwrap_or, zero, ℕ, ◌&&◌, ◌+◌, ◌<◌, ◌==◌, ◌||◌, ◌∷◌, ◌≡◌, ◌≤◌}
 use Rattle.timeline_scheduler.specs.Bases.{binds, goes_on, is_needed, seeds}
 
 -- Flags one by one
@@ -166,7 +167,8 @@ module _ (w : Setting) (n : Reading) (g : Grips) (f : Facts w n g) (allowed : Is
   grip_next : (x d : ℕ) → grips_command g x d ≡ true → (is_live n x && is_next_on w n x d) ≡ true
   grip_next x d held =
       let out = command_out g x d held in
-      let may = f.grips.commands d x out.0 out.1 in
+      let may : IsTrue (is_live n x && asks_on w n x d && (out.0 == next_of n x)) = f.grips.commands d x out.0 out.1 in
+      let next = asks_next w n x d (grind (arith, common_steps)) in
       grind (arith, common_steps)
 
   -- a run of the line

@@ -1,12 +1,13 @@
 -- What the slots tell behind a front of the line, item by item.
+use Rattle.command_rules.proofs.FirstReads.{unread}
 use Rattle.command_rules.specs.ClosedSets.{chosen}
-use Rattle.command_rules.specs.Rosters.{Run, commands_of, is_on, reads_first, touches, writes_on}
+use Rattle.command_rules.specs.Rosters.{Run, commands_of, is_on, reads_first, reads_unwritten, touches, writes_on}
 use Rattle.history_book.specs.Books.{doom_of}
 use Rattle.history_book.specs.Plans.{free, whole_end}
 use Rattle.history_book.specs.Readings.{Reading, is_doomed, is_live}
 use Rattle.history_book.specs.Settings.{Setting}
 use Rattle.history_book.specs.declared.entries.Kept.{Kept}
-use Rattle.home_types.specs.Commands.{reads}
+use Rattle.home_types.specs.Commands.{is_always, reads, writes}
 use Rattle.home_types.specs.declared.commands.Command.{Command}
 use Rattle.home_types.specs.declared.items.Item.TheVariants.{Back, Failed, Ran}
 use Rattle.home_types.specs.declared.items.Item.{Item}
@@ -22,7 +23,7 @@ use Rattle.std.proofs.lemmas.Bool.{or_right}
 use Rattle.std.proofs.lemmas.Grind.{common_steps}
 use Rattle.std.proofs.lemmas.List.{length-map, take_all}
 use Rattle.std.specs.List.{list_any}
-use Rattle.std.specs.Prelude.{Bool, List, None, Option, Some, [], false, find, fold, if◌then◌else◌, is_some, length, nat_lt, option_map, slice_set, suc, take, true, unwrap_or, zero, ℕ, ◌&&◌, ◌++◌, ◌<◌, ◌==◌, ◌||◌, ◌∷◌, ◌≡◌, ◌≤◌}
+use Rattle.std.specs.Prelude.{Bool, List, None, Option, Some, [], false, filter, fold, if◌then◌else◌, is_some, length, nat_lt, not, slice_set, suc, take, true, zero, ℕ, ◌&&◌, ◌++◌, ◌<◌, ◌==◌, ◌||◌, ◌∷◌, ◌≡◌, ◌≤◌}
 use Rattle.timeline_scheduler.proofs.Frees.{AreOfLine, back_free, failed_free, found_in, none_of, run_free}
 use Rattle.timeline_scheduler.proofs.SlotSets.{changed_at, changed_length, chosen_at}
 use Rattle.timeline_scheduler.proofs.Wholes.{whole_is}
@@ -30,18 +31,6 @@ use Rattle.timeline_scheduler.specs.Slots.{changed, changed_on, devices_among, d
 use Rattle.timeline_scheduler.specs.declared.slots.Slot.{Slot}
 
 -- Slots of an item
-
--- a run that has no command on the device does not begin there with a read
-none_found : (d : ℕ) (cs : List Command) → list_any (is_on d) cs ≡ false → unwrap_or (option_map (λ c. reads c.job) (find (is_on d) cs)) false ≡ false
-none_found d [] off = refl
-none_found d (c ∷ cs) off =
-    ap (λ b. unwrap_or (option_map (λ x. reads x.job) (cond b (Some c) (find (is_on d) cs))) false) (first (is_on d c) (list_any (is_on d) cs) off) ∙ none_found d cs (last (is_on d c) (list_any (is_on d) cs) off)
-  where
-    first : (a b : Bool) → (a || b) ≡ false → a ≡ false
-    first a b h = grind (arith, common_steps)
-
-    last : (a b : Bool) → (a || b) ≡ false → b ≡ false
-    last a b h = grind (arith, common_steps)
 
 no_wait : (runs : List Run) (r x whole d : ℕ) (s : Slot) → (reads_first runs r d ≡ false) → slot_waiting runs r x whole d s ≡ s
 no_wait runs r x whole d s none = ap (λ b. if nat_lt s.free whole && (b && writes_on runs x d) then record s { free = whole } else s) none ∙ at (nat_lt s.free whole)
@@ -85,7 +74,7 @@ run_slot table history runs r q slots d size within follows = by_whole (nat_lt 0
 
     by_whole : (b : Bool) → nat_lt 0 whole ≡ b → slot_at (if b then changed (slot_waiting runs r q.0 whole) (devices_among runs r (length passed)) passed else passed) d ≡ slot_waiting runs r q.0 whole d (slot_passed table doomed q.0 d (slot_at slots d))
     by_whole true e =
-        changed_at (slot_waiting runs r q.0 whole) (touches runs r) (λ k s off. no_wait runs r q.0 whole k s (none_found k _ off)) (length passed) passed d refl (omega (arith, within, size, long))
+        changed_at (slot_waiting runs r q.0 whole) (touches runs r) (λ k s off. no_wait runs r q.0 whole k s (unread k (commands_of runs r) off)) (length passed) passed d refl (omega (arith, within, size, long))
         ∙ ap (slot_waiting runs r q.0 whole d) at_passed
     by_whole false e = at_passed ∙ sym (no_whole runs r q.0 whole d (slot_passed table doomed q.0 d (slot_at slots d)) e)
 
@@ -96,15 +85,23 @@ read_some runs r d first = along (commands_of runs r) first
     own : (c : Command) → (c.device.0 == d) ≡ true → (reads c.job && reads_first runs r c.device.0) ≡ (reads c.job && true)
     own c on = let same : c.device.0 ≡ d = grind (arith, common_steps) in ap (λ k. reads c.job && reads_first runs r k) same ∙ ap (λ b. reads c.job && b) first
 
-    along : (cs : List Command) → unwrap_or (option_map (λ c. reads c.job) (find (is_on d) cs)) false ≡ true → list_any (λ c. reads c.job && reads_first runs r c.device.0) cs ≡ true
+    some : Command → Bool
+    some c = reads c.job && reads_first runs r c.device.0
+
+    last : (a b : Bool) → (a && b) ≡ true → b ≡ true
+    last a b h = grind (arith, common_steps)
+
+    along : (cs : List Command) → reads_unwritten (filter (is_on d) cs) ≡ true → list_any some cs ≡ true
     along [] found = absurd (cc)
-    along (c ∷ cs) found = at (c.device.0 == d) refl found (along cs)
+    along (c ∷ cs) found = at (is_on d c) refl found (along cs)
       where
-        at : (b : Bool) → (c.device.0 == d) ≡ b → unwrap_or (option_map (λ c. reads c.job) (cond b (Some c) (find (is_on d) cs))) false ≡ true
-            → (unwrap_or (option_map (λ c. reads c.job) (find (is_on d) cs)) false ≡ true → list_any (λ c. reads c.job && reads_first runs r c.device.0) cs ≡ true)
-            → ((reads c.job && reads_first runs r c.device.0) || list_any (λ c. reads c.job && reads_first runs r c.device.0) cs) ≡ true
-        at true on here rest = ap (λ b. b || list_any (λ c. reads c.job && reads_first runs r c.device.0) cs) (own c on ∙ ap (λ b. b && true) here)
-        at false off past rest = or_right (reads c.job && reads_first runs r c.device.0) (list_any (λ c. reads c.job && reads_first runs r c.device.0) cs) (rest past)
+        at : (b : Bool) → is_on d c ≡ b → reads_unwritten (cond b (c ∷ filter (is_on d) cs) (filter (is_on d) cs)) ≡ true → (reads_unwritten (filter (is_on d) cs) ≡ true → list_any some cs ≡ true) → (some c || list_any some cs) ≡ true
+        at true on here rest = by_job (reads c.job) refl here
+          where
+            by_job : (b : Bool) → reads c.job ≡ b → (b || (not (is_always c.when && writes c.job) && reads_unwritten (filter (is_on d) cs))) ≡ true → (some c || list_any some cs) ≡ true
+            by_job true read more = ap (λ b. b || list_any some cs) (own c on ∙ ap (λ b. b && true) read)
+            by_job false read more = or_right (some c) (list_any some cs) (rest (last (not (is_always c.when && writes c.job)) (reads_unwritten (filter (is_on d) cs)) more))
+        at false off past rest = or_right (some c) (list_any some cs) (rest past)
 
 -- The planned times stay
 

@@ -42,6 +42,7 @@ command_is_sound state =
     record {
       device = subst (λ n. below (drawn state) device_count < n) (sym devices_count) device;
       value = ap (λ kind. suits kind (draw_job (drawn state)).made) (kind_of_device (below (drawn state) device_count) device) ∙ job_suits (below (drawn (drawn state)) 4) (drawn (drawn state));
+      when = omega arith;
       ms = omega arith;
       takes = omega arith;
     }

@@ -1,5 +1,6 @@
 -- The routines of a trial, as they are drawn.
 use Rattle.home_types.specs.declared.commands.Command.{Command}
+use Rattle.home_types.specs.declared.commands.Guard.TheVariants.{Always}
 use Rattle.home_types.specs.declared.commands.Job.TheVariants.{Check, Load, Set, Store}
 use Rattle.home_types.specs.declared.commands.Job.{Job}
 use Rattle.routine_reader.specs.Scripts.{PlainRoutine}
@@ -36,7 +37,7 @@ is_must Store = true
 
 -- a command that takes 100 ms, as is estimated
 abbrev pub trial_command : ℕ → Job → Command
-trial_command device job = record { device = record { 0 = device }; job = job; must = is_must job; ms = 100; takes = 100 }
+trial_command device job = record { device = record { 0 = device }; job = job; when = Always; must = is_must job; ms = 100; takes = 100 }
 
 -- the device is drawn, then the job
 unfoldable pub draw_command : ℕ → Drawing Command

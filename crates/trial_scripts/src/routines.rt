@@ -8,7 +8,7 @@ ghost use Rattle.trial_scripts.specs.TrialRoutines.{draw_command, draw_job, draw
 
 use crate::devices::DEVICES;
 use crate::names::numbered_name;
-use home_types::{Command, DeviceNo, Job, List, NoMemory, Routine, Value};
+use home_types::{Command, DeviceNo, Guard, Job, List, NoMemory, Routine, Value};
 use routine_reader::RoutineText;
 use seeded_draws::Draws;
 use std::alloc::Global;
@@ -59,6 +59,7 @@ fn draw_command(draws: &mut Draws) -> Command
     Command {
         device,
         job,
+        when: Guard::Always,
         must: !matches!(job, Job::Check(_)),
         ms: COMMAND_MS,
         takes: COMMAND_MS,

@@ -15,7 +15,7 @@ use Rattle.history_book.specs.Readings.{Reading, is_doomed, is_live, next_comman
 use Rattle.history_book.specs.Settings.{Setting, is_device, is_weak}
 use Rattle.history_book.specs.declared.entries.Cause.{Cause}
 use Rattle.history_book.specs.declared.entries.Entry.TheVariants.{Did, Doomed}
-use Rattle.home_types.specs.Commands.{fails}
+use Rattle.home_types.specs.Commands.{fails, holds}
 use Rattle.home_types.specs.declared.commands.Answer.TheVariants.{Down}
 use Rattle.home_types.specs.declared.commands.Command.{Command}
 use Rattle.lock_leasing.specs.Configurations.{Grips, is_out}
@@ -42,6 +42,7 @@ pub record IsToldDown (w : Setting) (n : Reading) (g : Grips) (held : ℕ → �
   pub sound : (n.run r).doomed ≡ None
   pub free : grip_wait w g r ≡ None
   pub next : next_command w n r ≡ Some c
+  pub guard : holds c.when (n.run r).register ≡ true
   pub device : is_device w c.device.0 ≡ true
   pub behind : behind_wait w n g r c.device.0 ≡ None
   pub busy : busy_wait w n g r c.device.0 ≡ false
@@ -118,6 +119,7 @@ told_kept w n g held r s misses = record {
   window = down_answered w.kinds (window_of w n g held) (window_of w next g held) r c later false (record {
     place = in_place w n next g g held held r cut refl others (λ q e ne. refl);
     answer = gets;
+    guard = ap (holds c.when) (s.read.summarized r).register ∙ s.guard;
     live = live_uncommitted n r s.live;
     counts = ap is_some s.sound;
     free = held_none w g r c.device.0 (told_holds w n g held r c s);
@@ -125,7 +127,7 @@ told_kept w n g held r s misses = record {
     may = told_may w n g held r c cut s;
     still = λ e. record { up = refl; held = refl; probe = refl };
   }) s.kept.window;
-  history = λ e. did_history w n r (next_of n r) Down cut s.read (told_newest w n g held r c cut s) e (s.kept.history e);
+  history = λ e. did_history w n r (next_of n r) Down cut refl s.read (told_newest w n g held r c cut s) e (s.kept.history e);
 }
   where
     c : Command
@@ -164,6 +166,7 @@ told_doomed_kept w n g held r cause s = record {
   window = down_answered w.kinds (window_of w n g held) (window_of w next g held) r c later true (record {
     place = in_place w n next g g held held r cut refl others (λ q e ne. refl);
     answer = gets;
+    guard = ap (holds c.when) (s.read.summarized r).register ∙ s.guard;
     live = live_uncommitted n r s.live;
     counts = ap is_some s.sound;
     free = held_none w g r c.device.0 (told_holds w n g held r c s);
@@ -171,7 +174,7 @@ told_doomed_kept w n g held r cause s = record {
     may = told_may w n g held r c cut s;
     still = λ e. record { up = refl; held = refl; probe = refl };
   }) s.kept.window;
-  history = λ e. doomed_history w did_ r cause e (did_history w n r (next_of n r) Down cut s.read (told_newest w n g held r c cut s) e (s.kept.history e));
+  history = λ e. doomed_history w did_ r cause e (did_history w n r (next_of n r) Down cut refl s.read (told_newest w n g held r c cut s) e (s.kept.history e));
 }
   where
     c : Command

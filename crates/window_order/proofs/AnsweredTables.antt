@@ -2,16 +2,16 @@
 use Rattle.command_rules.specs.Items.{is_ran, of_run}
 use Rattle.command_rules.specs.Rosters.{command_at, commands_of, is_on, no_command, run_no, touches, touches_from}
 use Rattle.device_order.specs.LineWords.{CutAt}
-use Rattle.history_book.proofs.Shapes.{never_passed_by, put_all}
+use Rattle.history_book.proofs.Shapes.{pending_not_passed, put_all}
 use Rattle.history_book.proofs.Snoc.{put_other, put_same}
 use Rattle.history_book.specs.Histories.{answered, entry}
 use Rattle.history_book.specs.Plans.{planned_end, planned_start}
-use Rattle.history_book.specs.Readings.{OfRun, OnDevice, Reading, did, is_committed, is_doomed, is_fine, is_live, is_told, is_committing, next_of, pends, put, view_by}
+use Rattle.history_book.specs.Readings.{OfRun, OnDevice, Reading, did, is_access, is_committed, is_doomed, is_fine, is_live, is_told, is_committing, next_of, pends, put, view_by}
 use Rattle.history_book.specs.Settings.{Setting}
 use Rattle.history_book.specs.declared.entries.Entry.TheVariants.{Did}
 use Rattle.home_types.specs.Commands.{driven, register_after}
 use Rattle.home_types.specs.Kinds.{kind_at}
-use Rattle.home_types.specs.declared.commands.Answer.TheVariants.{Down as IsDown, Fine, Found}
+use Rattle.home_types.specs.declared.commands.Answer.TheVariants.{Down as IsDown, Fine, Found, Skipped}
 use Rattle.home_types.specs.declared.commands.Answer.{Answer}
 use Rattle.home_types.specs.declared.commands.Command.{Command}
 use Rattle.home_types.specs.declared.commands.View.TheVariants.{Down}
@@ -132,10 +132,11 @@ noted_is r first view wrote last s =
 
 -- What the answer says of the device
 
-told_view : (a : Answer) → view_by a ≡ Some (is_told a)
-told_view Fine = refl
-told_view (Found x) = refl
-told_view IsDown = refl
+told_view : (a : Answer) → is_access a ≡ true → view_by a ≡ Some (is_told a)
+told_view Fine access = refl
+told_view (Found x) access = refl
+told_view IsDown access = refl
+told_view Skipped access = absurd (cc)
 
 view_then : (v : Option Bool) (u : Bool) → option_map view_when (option_or v (Some u)) ≡ (if not (is_some v) then Some (view_when u) else option_map view_when v)
 view_then None u = refl
@@ -145,6 +146,7 @@ wrote_then : (kind : Kind) (c : Command) (doomed : Bool) (register : ℕ) (a : A
 wrote_then kind c doomed register Fine o = refl
 wrote_then kind c doomed register (Found x) o = refl
 wrote_then kind c doomed register IsDown o = refl
+wrote_then kind c doomed register Skipped o = refl
 
 some_view : (v : Option Bool) (u : Bool) → is_some (option_or v (Some u)) ≡ true
 some_view None u = refl
@@ -172,7 +174,7 @@ pending_touches d (c ∷ cs) (suc k) h = either (is_on d c) (list_any (is_on d) 
 
 -- the run uses the device
 pub uses_now : (w : Setting) (n : Reading) (d r : ℕ) → IsRead w n → is_live n r ≡ true → pends w n r d ≡ true → uses w n d r ≡ true
-uses_now w n d r read live pending = λ i. live i && pending_touches d (commands_of w.runs r) (next_of n r) pending i && not (never_passed_by w n r d read.shaped i)
+uses_now w n d r read live pending = λ i. live i && pending_touches d (commands_of w.runs r) (next_of n r) pending i && not (pending_not_passed w n r d pending i)
 
 -- no run that stands there commits a write behind it
 pub none_commits : (w : Setting) (n : Reading) (d : ℕ) (is : List Item) → IsRead w n → list_any (of_run (λ q. did n q d)) is ≡ false → list_any (of_run (commits_write n d)) is ≡ false
@@ -292,10 +294,10 @@ pub record HomeFrom (g h : Grips) (d r : ℕ) : Type 0 where
   pub others : (q : ℕ) → q ≢ r → SameGrip g h d q
 
 -- on its own device the access of the run changes
-pub answered_there : (w : Setting) (n : Reading) (g h : Grips) (r k : ℕ) (a : Answer) (cut : CutAt r n.line) → IsRead w n → k ≡ next_of n r → TouchesNow w n g (command_at w.runs r k).device.0 r cut → HomeFrom g h (command_at w.runs r k).device.0 r → (s : LineageState) → LineageIsKept w n g (command_at w.runs r k).device.0 s
+pub answered_there : (w : Setting) (n : Reading) (g h : Grips) (r k : ℕ) (a : Answer) (cut : CutAt r n.line) → is_access a ≡ true → IsRead w n → k ≡ next_of n r → TouchesNow w n g (command_at w.runs r k).device.0 r cut → HomeFrom g h (command_at w.runs r k).device.0 r → (s : LineageState) → LineageIsKept w n g (command_at w.runs r k).device.0 s
     → LineageIsKept w (entry w n (Did (run_no r) k a)) h (command_at w.runs r k).device.0
     (noted r (not (did n r (command_at w.runs r k).device.0)) (view_when (is_told a)) (told_write w n r (command_at w.runs r k) a) (is_done_there w n r k) s)
-answered_there w n g h r k a cut read number now home s kept = subst (LineageIsKept w m h d) (sym (noted_is r first view wrote last s)) (lineage_changed w n m g h d r (answered_access first view wrote last) s (runs_distinct n read.once) same kept changed
+answered_there w n g h r k a cut access read number now home s kept = subst (LineageIsKept w m h d) (sym (noted_is r first view wrote last s)) (lineage_changed w n m g h d r (answered_access first view wrote last) s (runs_distinct n read.once) same kept changed
     (λ q ne. access_gripped w g h kept.passed d q (m.run q) (home.others q ne) ∙ ap (access_by w g kept.passed d q) (put_other n.run r new q ne)))
   where
     c : Command
@@ -335,7 +337,7 @@ answered_there w n g h r k a cut read number now home s kept = subst (LineageIsK
     here = put_same old.on d on_device
 
     viewed : (new.on d).view ≡ option_or (old.on d).view (Some (is_told a))
-    viewed = ap (λ x. x.view) here ∙ ap (option_or (old.on d).view) (told_view a)
+    viewed = ap (λ x. x.view) here ∙ ap (option_or (old.on d).view) (told_view a access)
 
     uncommitted : is_committed n r ≡ false
     uncommitted = live_uncommitted n r now.live

@@ -3,10 +3,10 @@ use Rattle.command_rules.specs.Items.{of_run}
 use Rattle.command_rules.specs.Rosters.{run_no, touches, touches_from}
 use Rattle.device_order.specs.LineChanges.{Lacks}
 use Rattle.device_order.specs.LineWords.{CutAt}
-use Rattle.history_book.proofs.Shapes.{did_touches, never_passed_by}
+use Rattle.history_book.proofs.Shapes.{did_not_passed, did_touches}
 use Rattle.history_book.proofs.Snoc.{put_other, put_same}
 use Rattle.history_book.specs.Histories.{entry}
-use Rattle.history_book.specs.Readings.{OfRun, Reading, has_written, is_committed, is_doomed, is_live, passed_by}
+use Rattle.history_book.specs.Readings.{OfRun, Reading, did, has_written, is_committed, is_doomed, is_live}
 use Rattle.history_book.specs.Settings.{Setting}
 use Rattle.history_book.specs.WellFormed.{may_follow}
 use Rattle.history_book.specs.declared.entries.End.TheVariants.{Committed}
@@ -146,25 +146,27 @@ commits r s = at_ (access_of r s.accesses) refl
 
 -- A run commits
 
-unwritten : (w : Setting) (n : Reading) (r d : ℕ) → IsRead w n → touches w.runs r d ≡ false → ((n.run r).on d).wrote ≡ None
-unwritten w n r d read off = at_ ((n.run r).on d).wrote refl
+unwritten : (w : Setting) (n : Reading) (r d : ℕ) → IsRead w n → is_live n r ≡ true → uses w n d r ≡ false → ((n.run r).on d).wrote ≡ None
+unwritten w n r d read live off = at_ ((n.run r).on d).wrote refl
   where
     clash : (b : Bool) → b ≡ true → b ≡ false → ⊥
     clash b h k = grind (arith, common_steps)
 
     at_ : (o : Option ℕ) → ((n.run r).on d).wrote ≡ o → ((n.run r).on d).wrote ≡ None
     at_ None e = e
-    at_ (Some v) e = absurd (clash (touches w.runs r d) (did_touches w n r d read.shaped ((read.shaped r).wrote d (ap is_some e))) off)
+    at_ (Some v) e =
+        let seen : did n r d ≡ true = (read.shaped r).wrote d (ap is_some e) in
+        absurd (clash (uses w n d r) (λ i. live i && did_touches w n r d read.shaped seen i && not (did_not_passed w n r d seen i)) off)
 
 -- the record of the run
 abbrev ended_run : Reading → ℕ → OfRun
 ended_run n r = record (n.run r) { ended = Some Committed }
 
--- on another device nothing changes
-committed_elsewhere : (w : Setting) (n : Reading) (g : Grips) (r d : ℕ) (s : LineageState) → IsRead w n → is_live n r ≡ true → touches w.runs r d ≡ false → LineageIsKept w n g d s → LineageIsKept w (entry w n (Ended (run_no r) Committed)) g d s
+-- on a device that it does not use nothing changes
+committed_elsewhere : (w : Setting) (n : Reading) (g : Grips) (r d : ℕ) (s : LineageState) → IsRead w n → is_live n r ≡ true → uses w n d r ≡ false → LineageIsKept w n g d s → LineageIsKept w (entry w n (Ended (run_no r) Committed)) g d s
 committed_elsewhere w n g r d s read live off kept = lineage_same w n (entry w n (Ended (run_no r) Committed)) g g d s (record {
   line = refl;
-  has_one = put_says (uses_by w d) n.run r (ended_run n r) (none_used (is_some (n.run r).placed && false) (touches w.runs r d) (touches w.runs r d && not (touches_from w.runs r d (length (n.run r).answers)) && not (is_some ((n.run r).on d).view)) off ∙ sym (none_used (is_some (n.run r).placed && is_none (n.run r).ended) (touches w.runs r d) (touches w.runs r d && not (touches_from w.runs r d (length (n.run r).answers)) && not (is_some ((n.run r).on d).view)) off));
+  has_one = put_says (uses_by w d) n.run r (ended_run n r) (gone (is_some (n.run r).placed) (touches w.runs r d) (touches w.runs r d && not (touches_from w.runs r d (length (n.run r).answers)) && not (is_some ((n.run r).on d).view)) ∙ sym off);
   covering = put_says (λ q. commits_by d) n.run r (ended_run n r) ((λ i. is_some (none i)) ∙ sym (λ i. uncommitted i && is_some ((n.run r).on d).wrote));
   write = put_says (λ q. write_by d) n.run r (ended_run n r) (none ∙ sym (λ i. if uncommitted i then ((n.run r).on d).wrote else None));
   unplaced = put_says (λ q o. is_none o.placed) n.run r (ended_run n r) refl;
@@ -173,16 +175,16 @@ committed_elsewhere w n g r d s read live off kept = lineage_same w n (entry w n
 }) kept (put_says (access_by w g kept.passed d) n.run r (ended_run n r) refl)
   where
     none : ((n.run r).on d).wrote ≡ None
-    none = unwritten w n r d read off
+    none = unwritten w n r d read live off
 
     uncommitted : is_committed n r ≡ false
     uncommitted = live_uncommitted n r live
 
-    none_used : (a b c : Bool) → b ≡ false → (a && b && not c) ≡ false
-    none_used a b c h = grind (arith, common_steps)
+    gone : (a b x : Bool) → ((a && false) && b && not x) ≡ false
+    gone a b x = grind (arith, common_steps)
 
--- on its own devices its value is committed, or its access is gone
-committed_there : (w : Setting) (n : Reading) (g : Grips) (r d : ℕ) → IsRead w n → is_live n r ≡ true → touches w.runs r d ≡ true → is_undone n g r d ≡ false → (s : LineageState) → LineageIsKept w n g d s → LineageIsKept w (entry w n (Ended (run_no r) Committed)) g d (committed_lineage r s)
+-- on those that it uses its value is committed, or its access is gone
+committed_there : (w : Setting) (n : Reading) (g : Grips) (r d : ℕ) → IsRead w n → is_live n r ≡ true → uses w n d r ≡ true → is_undone n g r d ≡ false → (s : LineageState) → LineageIsKept w n g d s → LineageIsKept w (entry w n (Ended (run_no r) Committed)) g d (committed_lineage r s)
 committed_there w n g r d read live on sound s kept = record {
   passed = kept.passed;
   may_pass = λ q passed. put_says (may_by g d) n.run r (ended_run n r) refl q ∙ kept.may_pass q passed;
@@ -239,7 +241,7 @@ committed_there w n g r d read live on sound s kept = record {
     uncommitted = live_uncommitted n r live
 
     used : p r ≡ true
-    used = λ i. live i && on i && not (never_passed_by w n r d read.shaped i)
+    used = on
 
     uncovering : c r ≡ false
     uncovering = λ i. uncommitted i && is_some wrote
@@ -370,7 +372,7 @@ never_undone w n g r d read fit sound = λ i. undid (((n.run r).on d).undid) ref
 
 -- each lineage is kept
 pub committed_kept : (w : Setting) (n : Reading) (g : Grips) (r : ℕ) → IsRead w n → GripsFit w n g → may_follow w n (Ended (run_no r) Committed) ≡ true → (d : ℕ) (s : LineageState) → LineageIsKept w n g d s → LineageIsKept w (entry w n (Ended (run_no r) Committed)) g d (committed_lineage r s)
-committed_kept w n g r read fit may d s kept = at_ (touches w.runs r d) refl
+committed_kept w n g r read fit may d s kept = at_ (uses w n d r) refl
   where
     live : is_live n r ≡ true
     live = grind (arith, common_steps)
@@ -378,24 +380,21 @@ committed_kept w n g r read fit may d s kept = at_ (touches w.runs r d) refl
     sound : is_doomed n r ≡ false
     sound = grind (arith, common_steps)
 
-    off_it : (a b c : Bool) → b ≡ false → (a && b && not c) ≡ false
-    off_it a b c h = grind (arith, common_steps)
-
     f : ℕ → Access
     f = access_read w n g kept.passed d
 
-    -- on a device that it does not touch it has no access
-    no_access : touches w.runs r d ≡ false → access_of r s.accesses ≡ None
+    -- on a device that it does not use it has no access
+    no_access : uses w n d r ≡ false → access_of r s.accesses ≡ None
     no_access e =
         let cut : CutAt r n.line = cut_live w n r read live in
         ap (access_of r) (kept.accesses ∙ ap (accesses_read w n g kept.passed d) cut.at
-        ∙ along_absent (uses w n d) (commits_write n d) f r cut.front cut.back (off_it (is_live n r) (touches w.runs r d) (passed_by w n r d) e))
+        ∙ along_absent (uses w n d) (commits_write n d) f r cut.front cut.back e)
         ∙ none_of r _ (apart (front_accesses (uses w n d) (commits_write n d) f _ cut.front) (accesses_along (uses w n d) (commits_write n d) f cut.back)
         (front_lacks (uses w n d) (commits_write n d) f _ r cut.front (λ x. refl) cut.before) (along_lacks (uses w n d) (commits_write n d) f r cut.back (λ x. refl) cut.behind))
       where
         apart : (a b : List Access) → has_access r a ≡ false → has_access r b ≡ false → has_access r (a ++ b) ≡ false
         apart a b h k = list_any-append (is_of r) a b ∙ (λ i. h i || k i)
 
-    at_ : (b : Bool) → touches w.runs r d ≡ b → LineageIsKept w (entry w n (Ended (run_no r) Committed)) g d (committed_lineage r s)
+    at_ : (b : Bool) → uses w n d r ≡ b → LineageIsKept w (entry w n (Ended (run_no r) Committed)) g d (committed_lineage r s)
     at_ true e = committed_there w n g r d read live e (never_undone w n g r d read fit sound) s kept
     at_ false e = subst (LineageIsKept w (entry w n (Ended (run_no r) Committed)) g d) (sym (unchanged r s (no_access e))) (committed_elsewhere w n g r d s read live e kept)

@@ -14,7 +14,7 @@ use Rattle.history_book.specs.Readings.{Event, First, Last, OfRun, OnDevice, Rea
 use Rattle.history_book.specs.Settings.{Setting, is_device, is_weak}
 use Rattle.history_book.specs.declared.entries.Cause.{Cause}
 use Rattle.history_book.specs.declared.entries.Entry.TheVariants.{Did, Doomed, Fell}
-use Rattle.home_types.specs.Commands.{fails, reads}
+use Rattle.home_types.specs.Commands.{fails, holds, reads}
 use Rattle.home_types.specs.declared.commands.Answer.TheVariants.{Down}
 use Rattle.home_types.specs.declared.commands.Answer.{Answer}
 use Rattle.home_types.specs.Kinds.{kind_at}
@@ -188,7 +188,7 @@ failed_newest w n m g held r k s turn = by_place (failed_cut w n g held r k s).b
 -- the answer keeps the order of the history, where the failure did
 failed_history : (w : Setting) (n m : Reading) (g : Grips) (held : ℕ → ℕ) (r k : ℕ) (s : IsCalled w n g held r k) → Turns w n m (command_at w.runs r k).device.0 (failure_of w n r k) → (e : ℕ) → InHistoryOrder (entry w m (Did (run_no r) k Down)) e
 failed_history w n m g held r k s turn e =
-    logged_did_history w m r k Down (record { front = with_it.front; back = with_it.back; at = turn.line ∙ with_it.at; before = with_it.before; behind = with_it.behind }) logs (failed_newest w n m g held r k s turn) e
+    logged_did_history w m r k Down (record { front = with_it.front; back = with_it.back; at = turn.line ∙ with_it.at; before = with_it.before; behind = with_it.behind }) refl logs (failed_newest w n m g held r k s turn) e
     (turned_history w n m g held d (failure_of w n r k) s.read s.strong (called_device w n g held r k s) s.kept turn e)
   where
     d : ℕ
@@ -270,6 +270,7 @@ died_at w n g held after r k s lost must still = record {
   window = access_died w.kinds (window_of w n g held) (window_of w next (put g d None) after) r (n.fell d + 1) (command_at w.runs r k) (drop (next_of n r + 1) (commands_of w.runs r)) (is_doomed n r) (record {
     place = failed_window w n next g held after r k s refl others;
     answer = gets_answer w n g r k Down s.out.number s.out.more;
+    guard = ap (holds (command_at w.runs r k).when) (s.read.summarized r).register ∙ s.out.guard;
     live = live_uncommitted n r s.out.live;
     out = called_command w n g held r k s;
     must = must;
@@ -298,6 +299,7 @@ died_doomed_at w n g held after r k cause s still = record {
   window = access_died w.kinds (window_of w n g held) (window_of w next (put g d None) after) r (n.fell d + 1) (command_at w.runs r k) (drop (next_of n r + 1) (commands_of w.runs r)) true (record {
     place = failed_window w n next g held after r k s refl others;
     answer = gets_and_doomed w n g r k Down cause s.out.number s.out.more;
+    guard = ap (holds (command_at w.runs r k).when) (s.read.summarized r).register ∙ s.out.guard;
     live = live_uncommitted n r s.out.live;
     out = called_command w n g held r k s;
     must = λ fails'. refl;

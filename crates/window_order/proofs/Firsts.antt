@@ -19,7 +19,6 @@ use Rattle.history_book.specs.Settings.{Setting, is_device}
 use Rattle.history_book.specs.declared.entries.Entry.TheVariants.{Did}
 use Rattle.home_types.specs.Commands.{register_after}
 use Rattle.home_types.specs.Kinds.{kind_at}
-use Rattle.home_types.specs.declared.commands.Answer.TheVariants.{Down, Fine, Found}
 use Rattle.home_types.specs.declared.commands.Answer.{Answer}
 use Rattle.home_types.specs.declared.commands.Command.{Command}
 use Rattle.home_types.specs.declared.items.Item.TheVariants.{Back, Failed, Ran}
@@ -103,21 +102,14 @@ calm_behind w n g held d r cut read kept device used awaits =
 
 -- An answer
 
-some_view : (v : Option Bool) (a : Answer) → is_some (option_or v (view_by a)) ≡ true
-some_view (Some u) a = refl
-some_view None Fine = refl
-some_view None (Found x) = refl
-some_view None Down = refl
+some_view : (v : Option Bool) (a : Answer) → is_access a ≡ true → is_some (option_or v (view_by a)) ≡ true
+some_view (Some u) a access = refl
+some_view None a access = access
 
 -- a later answer changes no view
 pub same_view : (v : Option Bool) (a : Answer) → is_none v ≡ false → option_or v (view_by a) ≡ v
 same_view None a h = absurd (cc)
 same_view (Some u) a h = refl
-
-access : (a : Answer) → is_access a ≡ true
-access Fine = refl
-access (Found x) = refl
-access Down = refl
 
 -- what stands behind a run whose first answer on the device comes
 pub record IsNewest (n : Reading) (d r : ℕ) (back : List Item) : Type 0 where
@@ -125,9 +117,9 @@ pub record IsNewest (n : Reading) (d r : ℕ) (back : List Item) : Type 0 where
   pub calm : did n r d ≡ false → is_doomed n r ≡ false → list_any (is_marked n d) back ≡ false
 
 -- an answer of a run keeps the order of the history, where the log of its device has the run's first answer exactly if there was one
-pub logged_did_history : (w : Setting) (n : Reading) (r k : ℕ) (a : Answer) (cut : CutAt r n.line) → list_any (is_first r) (n.log (command_at w.runs r k).device.0) ≡ did n r (command_at w.runs r k).device.0 → IsNewest n (command_at w.runs r k).device.0 r cut.back
+pub logged_did_history : (w : Setting) (n : Reading) (r k : ℕ) (a : Answer) (cut : CutAt r n.line) → is_access a ≡ true → list_any (is_first r) (n.log (command_at w.runs r k).device.0) ≡ did n r (command_at w.runs r k).device.0 → IsNewest n (command_at w.runs r k).device.0 r cut.back
     → (e : ℕ) → InHistoryOrder n e → InHistoryOrder (entry w n (Did (run_no r) k a)) e
-logged_did_history w n r k a cut logged newest e = two_places (λ x. InHistoryOrder n x → InHistoryOrder next x) e d at_device_of elsewhere
+logged_did_history w n r k a cut access logged newest e = two_places (λ x. InHistoryOrder n x → InHistoryOrder next x) e d at_device_of elsewhere
   where
     c : Command
     c = command_at w.runs r k
@@ -177,15 +169,15 @@ logged_did_history w n r k a cut logged newest e = two_places (λ x. InHistoryOr
     at_first true none = first_history n mid d r (record {
       cut = cut;
       line = refl;
-      log = λ i. more_if (access a i && none i) (First r) (n.log d);
+      log = λ i. more_if (access i && none i) (First r) (n.log d);
       view = λ q ne. ap (λ o. (o.on d).view) (put_other n.run r new q ne);
       late = λ q ne. ap (λ o. (o.on d).late) (put_other n.run r new q ne);
       doomed = sound;
       was = was;
-      is = ap (λ x. is_some x.view) own ∙ some_view (old.on d).view a;
+      is = ap (λ x. is_some x.view) own ∙ some_view (old.on d).view a access;
       unlogged = logged ∙ was;
       behind = newest.unseen was;
-      calm = λ late. newest.calm was (counts (old.on d).late (is_some old.doomed) (is_access a) (is_none (old.on d).view) (access a) none (sym (ap (λ x. x.late) own) ∙ late));
+      calm = λ late. newest.calm was (counts (old.on d).late (is_some old.doomed) (is_access a) (is_none (old.on d).view) access none (sym (ap (λ x. x.late) own) ∙ late));
     })
       where
         unsome : (v : Option Bool) → is_none v ≡ true → is_some v ≡ false
@@ -197,7 +189,7 @@ logged_did_history w n r k a cut logged newest e = two_places (λ x. InHistoryOr
 
         counts : (l x y z : Bool) → y ≡ true → z ≡ true → (l || (x && y && z)) ≡ false → x ≡ false
         counts l x y z h f e = grind (arith, common_steps)
-    at_first false some = same_history n mid d (record { line = refl; view = λ q. put_keeps (λ o. (o.on d).view) n.run r new view q; late = λ q. put_keeps (λ o. (o.on d).late) n.run r new late q; doomed = sound }) (λ i. more_if (access a i && some i) (First r) (n.log d))
+    at_first false some = same_history n mid d (record { line = refl; view = λ q. put_keeps (λ o. (o.on d).view) n.run r new view q; late = λ q. put_keeps (λ o. (o.on d).late) n.run r new late q; doomed = sound }) (λ i. more_if (access i && some i) (First r) (n.log d))
       where
         view : (new.on d).view ≡ (old.on d).view
         view = ap (λ x. x.view) (put_same old.on d on_device) ∙ same_view (old.on d).view a some
@@ -212,5 +204,5 @@ logged_did_history w n r k a cut logged newest e = two_places (λ x. InHistoryOr
     at_device_of h = at_last last refl (at_first (is_none (old.on d).view) refl h)
 
 -- .. as it does after a well-formed history
-pub did_history : (w : Setting) (n : Reading) (r k : ℕ) (a : Answer) (cut : CutAt r n.line) → IsRead w n → IsNewest n (command_at w.runs r k).device.0 r cut.back → (e : ℕ) → InHistoryOrder n e → InHistoryOrder (entry w n (Did (run_no r) k a)) e
-did_history w n r k a cut read newest e = logged_did_history w n r k a cut (read.logged.firsts r (command_at w.runs r k).device.0) newest e
+pub did_history : (w : Setting) (n : Reading) (r k : ℕ) (a : Answer) (cut : CutAt r n.line) → is_access a ≡ true → IsRead w n → IsNewest n (command_at w.runs r k).device.0 r cut.back → (e : ℕ) → InHistoryOrder n e → InHistoryOrder (entry w n (Did (run_no r) k a)) e
+did_history w n r k a cut access read newest e = logged_did_history w n r k a cut access (read.logged.firsts r (command_at w.runs r k).device.0) newest e

@@ -6,6 +6,7 @@ use Rattle.device_order.specs.declared.records.Grip.TheVariants.{Free}
 use Rattle.history_book.proofs.Searches.{some_is}
 use Rattle.history_book.specs.Readings.{OfRun, Reading, is_committing, put}
 use Rattle.history_book.specs.Settings.{Setting, is_device}
+use Rattle.home_types.specs.Commands.{holds}
 use Rattle.lock_leasing.specs.Configurations.{Commands, Grip, Grips, Probes, Purpose, Undoes, is_out}
 use Rattle.lock_leasing.specs.Places.{GripsFit}
 use Rattle.lock_leasing.specs.Waits.{grip_wait}
@@ -16,9 +17,9 @@ use Rattle.std.specs.List.{range_with_len}
 use Rattle.std.specs.Prelude.{Bool, IsTrue, None, Option, Some, cond, false, find, if◌then◌else◌, is_none, is_some, length, nat_lt, not, option_map, slice_get, suc, true, unwrap_or, zero, ℕ, ◌&&◌, ◌+◌, ◌<◌, ◌==◌, ◌≡◌, ◌≢◌, ◌≤◌}
 use Rattle.window_order.specs.ReadWindows.{held_by, held_for, window_of}
 
--- the run's command of this number may be out
+-- the run's command of this number may be out: it is the next one, and its guard holds
 abbrev pub may_command : Setting → ℕ → ℕ → ℕ → OfRun → Bool
-may_command w r d k o = (is_some o.placed && is_none o.ended) && unwrap_or (option_map (is_on d) (slice_get (commands_of w.runs r) (length o.answers))) false && (k == length o.answers)
+may_command w r d k o = (is_some o.placed && is_none o.ended) && unwrap_or (option_map (λ c. is_on d c && holds c.when o.register) (slice_get (commands_of w.runs r) (length o.answers))) false && (k == length o.answers)
 
 -- .. and an undo of it
 abbrev pub may_undo : ℕ → OfRun → Bool

@@ -45,3 +45,5 @@ pub mod ToldTables
 pub mod LostReads
 pub mod Rearranged
 pub mod Joined
+pub mod SkippedCommands
+pub mod SkippedTables

@@ -2,7 +2,6 @@
 use Rattle.command_rules.specs.Items.{is_ran}
 use Rattle.command_rules.specs.Rosters.{run_no, touches}
 use Rattle.device_order.specs.LineWords.{CutAt, RunsAreDistinct}
-use Rattle.history_book.proofs.Shapes.{answered_did}
 use Rattle.history_book.specs.Plans.{planned_end, planned_start}
 use Rattle.history_book.specs.Readings.{Reading, did, is_doomed, is_live, pends, view_of}
 use Rattle.history_book.specs.Settings.{Setting}
@@ -54,12 +53,23 @@ may_pass_before w n g d r cut read now x there used none = λ i. doomed i && not
     of : (is_live n x ≡ true) × (touches w.runs x d ≡ true)
     of = parts (is_live n x) (touches w.runs x d) (touches w.runs x d && not (pends w n x d) && not (did n x d)) used
 
+    -- it has not passed the device, and has no command left there
+    was_there : pends w n x d ≡ false → did n x d ≡ true
+    was_there = answered (is_live n x) (touches w.runs x d) (pends w n x d) (did n x d) used
+      where
+        answered : (l t p y : Bool) → (l && t && not (t && not p && not y)) ≡ true → p ≡ false → y ≡ true
+        answered true true p true u e = refl
+        answered true true true false u e = absurd (cc)
+        answered true true false false u e = absurd (cc)
+        answered true false p y u e = absurd (cc)
+        answered false t p y u e = absurd (cc)
+
     clash : (b : Bool) → b ≡ true → b ≡ false → ⊥
     clash b h k = grind (arith, common_steps)
 
     at_ : (b : Bool) → is_doomed n x ≡ b → b ≡ true
     at_ true e = refl
-    at_ false e = absurd (clash (did n x d) (answered_did w n x d read.shaped of.1 (now.front x there of.0 e)) none)
+    at_ false e = absurd (clash (did n x d) (was_there (now.front x there of.0 e)) none)
 
     doomed : is_doomed n x ≡ true
     doomed = at_ (is_doomed n x) refl

@@ -20,7 +20,7 @@ use Rattle.history_book.specs.declared.entries.Entry.TheVariants.{Arrived, Did, 
 use Rattle.history_book.specs.declared.entries.Entry.{Entry}
 use Rattle.home_types.specs.Commands.{driven, register_after}
 use Rattle.home_types.specs.Kinds.{kind_at}
-use Rattle.home_types.specs.declared.commands.Answer.TheVariants.{Down, Fine, Found}
+use Rattle.home_types.specs.declared.commands.Answer.TheVariants.{Down, Fine, Found, Skipped}
 use Rattle.home_types.specs.declared.commands.Answer.{Answer}
 use Rattle.home_types.specs.declared.commands.Command.{Command}
 use Rattle.home_types.specs.declared.commands.View.TheVariants.{Down as SeenDown, Up}
@@ -103,6 +103,11 @@ agrees_more : (kind : Kind) (c : Command) (doomed : Bool) (register : ℕ) (a : 
 agrees_more kind c doomed register Fine t o s = record { view = ap (λ v. first_view v Up) s.view ∙ first_is o.view true; read = s.read; wrote = refl }
 agrees_more kind c doomed register (Found x) t o s = record { view = ap (λ v. first_view v Up) s.view ∙ first_is o.view true; read = (λ i. if is_some (s.read i) || is_some (s.wrote i) then s.read i else Some x) ∙ found_is o.found o.wrote x; wrote = s.wrote }
 agrees_more kind c doomed register Down t o s = record { view = ap (λ v. first_view v SeenDown) s.view ∙ first_is o.view false; read = s.read; wrote = s.wrote }
+agrees_more kind c doomed register Skipped t o s = record { view = s.view ∙ ap (option_map view_from) (no_more o.view); read = s.read; wrote = s.wrote }
+  where
+    no_more : (v : Option Bool) → v ≡ option_or v None
+    no_more None = refl
+    no_more (Some b) = refl
 
 -- the run's next command is answered
 did_summed : (w : Setting) (r : ℕ) (o : OfRun) (a : Answer) (late : Bool) → length o.answers < length (commands_of w.runs r) → IsSummed w r o

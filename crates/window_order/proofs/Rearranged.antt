@@ -1,18 +1,18 @@
 -- A line whose items stand in another order, each device's own ones in theirs, keeps the order of a window, its table and what its reading says.
 use Rattle.command_rules.specs.Items.{is_ran, of_run}
-use Rattle.command_rules.specs.Rosters.{commands_of, is_on, run_no, touches}
+use Rattle.command_rules.specs.Rosters.{run_no, touches}
 use Rattle.device_order.specs.LineEntries.{entries, entry_if, entry_of, usage, with_entry}
 use Rattle.device_order.specs.LineOrders.{EventsAreHomed}
 use Rattle.device_order.specs.Invariant.{DeviceInvariant}
 use Rattle.device_order.specs.declared.records.Event.TheVariants.{Failure, Restart}
 use Rattle.device_order.specs.declared.records.OrderEntry.TheVariants.{Occurred, Used}
 use Rattle.device_order.specs.declared.records.OrderEntry.{OrderEntry}
+use Rattle.history_book.proofs.Shapes.{did_touches}
 use Rattle.history_book.proofs.Splits.{part}
 use Rattle.history_book.specs.Lines.{is_item_on}
 use Rattle.history_book.specs.Readings.{Reading, did, is_committed, is_doomed, is_live, passed_by, sees_up}
 use Rattle.history_book.specs.Settings.{Setting}
 use Rattle.home_types.specs.HomeStates.{stand_at}
-use Rattle.home_types.specs.declared.commands.Command.{Command}
 use Rattle.home_types.specs.declared.items.Item.TheVariants.{Back, Failed, Ran}
 use Rattle.home_types.specs.declared.items.Item.{Item}
 use Rattle.lineage_table.specs.declared.accesses.Access.{Access}
@@ -25,7 +25,7 @@ use Rattle.lock_leasing.proofs.Places.{last_filter}
 use Rattle.std.proofs.Common.{ap, arith, cond, refl, subst, sym, ◌∙◌}
 use Rattle.std.proofs.lemmas.Grind.{common_steps}
 use Rattle.std.specs.List.{list_any}
-use Rattle.std.specs.Prelude.{Bool, IsTrue, List, None, Option, Some, [], count_by, false, filter, filter_map, if◌then◌else◌, is_some, length, nat_lt, not, suc, take, true, unwrap_or, zero, ℕ, ◌&&◌, ◌<◌, ◌==◌, ◌||◌, ◌∷◌, ◌≡◌}
+use Rattle.std.specs.Prelude.{Bool, IsTrue, List, None, Option, Some, [], count_by, false, filter, filter_map, if◌then◌else◌, is_some, length, nat_lt, not, suc, true, unwrap_or, zero, ℕ, ◌&&◌, ◌<◌, ◌==◌, ◌||◌, ◌∷◌, ◌≡◌}
 use Rattle.window_order.proofs.ReadFacts.{IsRead}
 use Rattle.window_order.specs.OrderKept.{OrderIsKept}
 use Rattle.window_order.proofs.Grips.{fits_same}
@@ -55,18 +55,11 @@ read_kept w n next same read = record {
 
 -- a run has no access to a device that it does not use
 pub unused : (w : Setting) (n : Reading) (r d : ℕ) → IsRead w n → touches w.runs r d ≡ false → did n r d ≡ false
-unused w n r d read off = (read.shaped r).view d ∙ none_taken (length (n.run r).answers) (commands_of w.runs r) off
+unused w n r d read off = by_did (did n r d) refl
   where
-    last : (a b : Bool) → (a || b) ≡ false → b ≡ false
-    last a b h = grind (arith, common_steps)
-
-    first : (a b : Bool) → (a || b) ≡ false → a ≡ false
-    first a b h = grind (arith, common_steps)
-
-    none_taken : (k : ℕ) (cs : List Command) → list_any (is_on d) cs ≡ false → list_any (is_on d) (take k cs) ≡ false
-    none_taken zero cs none = refl
-    none_taken (suc k) [] none = refl
-    none_taken (suc k) (c ∷ cs) none = λ i. first (is_on d c) (list_any (is_on d) cs) none i || none_taken k cs (last (is_on d c) (list_any (is_on d) cs) none) i
+    by_did : (b : Bool) → did n r d ≡ b → did n r d ≡ false
+    by_did true e = absurd (let both : true ≡ false = sym (did_touches w n r d read.shaped e) ∙ off in cc)
+    by_did false e = e
 
 unwritten : (w : Setting) (n : Reading) (r d : ℕ) → IsRead w n → touches w.runs r d ≡ false → is_some ((n.run r).on d).wrote ≡ false
 unwritten w n r d read off = at_ (is_some ((n.run r).on d).wrote) refl

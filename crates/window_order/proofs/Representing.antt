@@ -1,6 +1,7 @@
 -- A lineage table that is kept so, each lineage of which is disciplined, represents the configuration of its window.
 use Rattle.command_rules.specs.Rosters.{commands_of, is_on}
-use Rattle.history_book.specs.Readings.{Reading, did, is_doomed, is_live, is_next_on, next_of, pends, view_of}
+use Rattle.history_book.proofs.Asking.{asks_next}
+use Rattle.history_book.specs.Readings.{Reading, asks_on, did, is_doomed, is_live, next_of, pends, view_of}
 use Rattle.history_book.specs.Settings.{Setting}
 use Rattle.home_types.specs.declared.commands.Command.{Command}
 use Rattle.home_types.specs.declared.commands.View.TheVariants.{Down}
@@ -40,7 +41,7 @@ pub gripped_pends : (w : Setting) (n : Reading) (g : Grips) (r d : ℕ) → Grip
 gripped_pends w n g r d fit held = at_ (g d) refl held
   where
     by_purpose : (grip : Grip) → g d ≡ Some grip → (grip.maker == r) ≡ true → (p : Purpose) → grip.purpose ≡ p → is_command p ≡ true → pends w n r d ≡ true
-    by_purpose grip e own (Commands k) purpose h = next_left d (commands_of w.runs r) (next_of n r) (three (is_live n r) (is_next_on w n r d) (k == next_of n r) (fit.runs.commands d r k (held_as g r d grip (Commands k) e own purpose))).1
+    by_purpose grip e own (Commands k) purpose h = next_left d (commands_of w.runs r) (next_of n r) (asks_next w n r d (three (is_live n r) (asks_on w n r d) (k == next_of n r) (fit.runs.commands d r k (held_as g r d grip (Commands k) e own purpose))).1)
     by_purpose grip e own (Undoes v) purpose h = absurd (cc)
     by_purpose grip e own (Probes v) purpose h = absurd (cc)
 

@@ -18,7 +18,7 @@ use Rattle.history_book.specs.declared.entries.Cause.TheVariants.{Refuted}
 use Rattle.history_book.specs.declared.entries.Cause.{Cause}
 use Rattle.history_book.specs.declared.entries.End.TheVariants.{Aborted}
 use Rattle.history_book.specs.declared.entries.Entry.TheVariants.{Did, Doomed, Ended, Undid}
-use Rattle.home_types.specs.Commands.{reads}
+use Rattle.home_types.specs.Commands.{holds, reads}
 use Rattle.home_types.specs.HomeStates.{stand_at}
 use Rattle.home_types.specs.declared.commands.Answer.TheVariants.{Found}
 use Rattle.home_types.specs.declared.commands.Answer.{Answer}
@@ -155,6 +155,7 @@ refuted_at w n g held r k cause read at reading out kept = record {
   window = read_answered w.kinds (window_of w n g held) (window_of w next (put g d None) held) r c (drop (next_of n r + 1) (commands_of w.runs r)) x true (record {
     place = in_place w n next g (put g d None) held held r cut refl others (λ q e ne. put_keeps (held_by w q) g d None (sym (ap (held_by w q) at ∙ held_other w r q (Commands k) ne)) e);
     answer = gets_and_doomed w n g r k (Found x) cause out.number out.more;
+    guard = ap (holds c.when) (read.summarized r).register ∙ out.guard;
     live = live_uncommitted n r out.live;
     out = ap (held_by w r) at ∙ held_own w r (Commands k) ∙ ap (λ b. if b then Reads else Writes) reading;
     job = reading;
@@ -162,7 +163,7 @@ refuted_at w n g held r k cause read at reading out kept = record {
     found = refl;
     still = λ e. record { up = refl; held = refl; probe = put_keeps probe_of g d None (sym (ap probe_of at)) e };
   }) kept.window;
-  history = λ e. doomed_history w did r cause e (did_history w n r k (Found x) cut read (out_newest w n g held d r k cut read kept at out) e (kept.history e));
+  history = λ e. doomed_history w did r cause e (did_history w n r k (Found x) cut refl read (out_newest w n g held d r k cut read kept at out) e (kept.history e));
 }
   where
     c : Command

@@ -14,8 +14,9 @@ use Rattle.device_order.specs.Windows.{device_of}
 use Rattle.device_order.specs.declared.records.Event.TheVariants.{Failure, Restart}
 use Rattle.device_order.specs.declared.records.OrderEntry.TheVariants.{Occurred, Used}
 use Rattle.device_order.specs.declared.records.Usage.{Usage}
+use Rattle.history_book.proofs.Asking.{asks_next}
 use Rattle.history_book.proofs.Standing.{stands_in}
-use Rattle.history_book.specs.Readings.{OfRun, Reading, has_written, is_live, is_next_on, next_of}
+use Rattle.history_book.specs.Readings.{OfRun, Reading, asks_on, has_written, is_live, next_of}
 use Rattle.history_book.specs.Settings.{Setting, is_device, is_weak}
 use Rattle.home_types.specs.HomeStates.{stand_at}
 use Rattle.home_types.specs.declared.commands.Command.{Command}
@@ -114,8 +115,8 @@ acts_on w n g held r d o h = by (g d) refl h
     used (c ∷ cs) zero e = ap (λ b. b || list_any (is_on d) cs) e
     used (c ∷ cs) (suc k) e = ap (λ b. is_on d c || b) (used cs k e) ∙ or_right (is_on d c) true refl
 
-    may : (k : ℕ) → IsTrue (is_live n r && is_next_on w n r d && (k == next_of n r)) → ActsOn w n r d
-    may k e = record { live = grind (arith, common_steps); uses = used (commands_of w.runs r) (next_of n r) (grind (arith, common_steps)) }
+    may : (k : ℕ) → IsTrue (is_live n r && asks_on w n r d && (k == next_of n r)) → ActsOn w n r d
+    may k e = record { live = grind (arith, common_steps); uses = used (commands_of w.runs r) (next_of n r) (asks_next w n r d (grind (arith, common_steps))) }
 
     of : (m : ℕ) (p : Purpose) → g d ≡ Some (record { maker = m; purpose = p }) → ((m == r) && is_command p) ≡ true → ActsOn w n r d
     of m (Commands k) e x = may k (o.grips.runs.commands d r k (subst (λ y. g d ≡ Some (record { maker = y; purpose = Commands k })) (same (m == r) refl x) e))

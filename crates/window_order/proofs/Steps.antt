@@ -14,19 +14,20 @@ use Rattle.device_order.specs.Usages.{awaits_first, is_command, is_down, is_open
 use Rattle.device_order.specs.WindowSteps.{ChangesInPlace, GetsAnswer}
 use Rattle.device_order.specs.Windows.{WindowInvariant}
 use Rattle.device_order.specs.declared.records.Grip.TheVariants.{Reads, Writes}
+use Rattle.history_book.proofs.Asking.{asks_guard, asks_next}
 use Rattle.history_book.proofs.Searches.{some_is}
 use Rattle.history_book.proofs.Shapes.{IsShaped}
 use Rattle.history_book.proofs.Snoc.{put_keeps, put_other, put_same}
 use Rattle.history_book.proofs.Standing.{aborted}
 use Rattle.history_book.specs.Histories.{answered, entry, with_placed}
 use Rattle.history_book.specs.Lines.{split_at}
-use Rattle.history_book.specs.Readings.{OfRun, OnDevice, PlacedAt, Planned, Reading, did, is_committed, is_committing, is_doomed, is_live, is_next_on, next_command, next_of, nothing_read, put, sees_down, view_of}
+use Rattle.history_book.specs.Readings.{OfRun, OnDevice, PlacedAt, Planned, Reading, asks_on, did, is_committed, is_committing, is_doomed, is_live, next_command, next_of, nothing_read, put, sees_down, view_of}
 use Rattle.history_book.specs.Settings.{Setting, is_device}
 use Rattle.history_book.specs.WellFormed.{may_follow}
 use Rattle.history_book.specs.declared.entries.Cause.{Cause}
 use Rattle.history_book.specs.declared.entries.End.TheVariants.{Committed}
 use Rattle.history_book.specs.declared.entries.Entry.TheVariants.{Arrived, Did, Ended, Placed}
-use Rattle.home_types.specs.Commands.{driven, fails, reads, register_after}
+use Rattle.home_types.specs.Commands.{driven, fails, holds, reads, register_after}
 use Rattle.home_types.specs.HomeStates.{stand_at}
 use Rattle.home_types.specs.Kinds.{kind_at}
 use Rattle.home_types.specs.declared.commands.Answer.{Answer}
@@ -107,7 +108,7 @@ arrives_kept w n g held r m read may kept = record {
 -- A run is placed
 
 pub unplaced_holds : (w : Setting) (n : Reading) (g : Grips) (r : ℕ) → is_run w.runs r ≡ true → is_live n r ≡ false → GripsFit w n g → HoldsNone g r
-unplaced_holds w n g r run dead f d (Commands k) at = clash (is_live n r) dead (three (is_live n r) (is_next_on w n r d) (k == next_of n r) (f.runs.commands d r k at)).0
+unplaced_holds w n g r run dead f d (Commands k) at = clash (is_live n r) dead (three (is_live n r) (asks_on w n r d) (k == next_of n r) (f.runs.commands d r k at)).0
   where
     clash : (b : Bool) → b ≡ false → b ≡ true → ⊥
     clash b h k = grind (arith, common_steps)
@@ -256,6 +257,7 @@ pub record IsOut (w : Setting) (n : Reading) (d r k : ℕ) : Type 0 where
   pub number : k ≡ next_of n r
   pub more : length (n.run r).answers < length (commands_of w.runs r)
   pub device : d ≡ (command_at w.runs r k).device.0
+  pub guard : holds (command_at w.runs r k).when (n.run r).register ≡ true
 
 next_at : (d : ℕ) (cs : List Command) (k : ℕ) → unwrap_or (option_map (is_on d) (slice_get cs k)) false ≡ true → (k < length cs) × (d ≡ (slice_index_or cs k no_command).device.0)
 next_at d [] k h = absurd (cc)
@@ -266,10 +268,10 @@ next_at d (c ∷ cs) zero h = (omega arith, same c.device.0 d h)
 next_at d (c ∷ cs) (suc k) h = let rest = next_at d cs k h in (omega (arith, rest.0), rest.1)
 
 pub out_is : (w : Setting) (n : Reading) (g : Grips) (d r k : ℕ) → GripsFit w n g → g d ≡ Some (record { maker = r; purpose = Commands k }) → IsOut w n d r k
-out_is w n g d r k f at = record { live = parts.0; number = number; more = next.0; device = next.1 ∙ ap (λ x. (command_at w.runs r x).device.0) (sym number) }
+out_is w n g d r k f at = record { live = parts.0; number = number; more = next.0; device = next.1 ∙ ap (λ x. (command_at w.runs r x).device.0) (sym number); guard = ap (λ x. holds (command_at w.runs r x).when (n.run r).register) number ∙ asks_guard w n r d parts.1 }
   where
-    parts : (is_live n r ≡ true) × (is_next_on w n r d ≡ true) × ((k == next_of n r) ≡ true)
-    parts = three (is_live n r) (is_next_on w n r d) (k == next_of n r) (f.runs.commands d r k at)
+    parts : (is_live n r ≡ true) × (asks_on w n r d ≡ true) × ((k == next_of n r) ≡ true)
+    parts = three (is_live n r) (asks_on w n r d) (k == next_of n r) (f.runs.commands d r k at)
 
     same : (x y : ℕ) → (x == y) ≡ true → x ≡ y
     same x y h = grind (arith, common_steps)
@@ -278,7 +280,7 @@ out_is w n g d r k f at = record { live = parts.0; number = number; more = next.
     number = same k (next_of n r) parts.2
 
     next : (next_of n r < length (commands_of w.runs r)) × (d ≡ (command_at w.runs r (next_of n r)).device.0)
-    next = next_at d (commands_of w.runs r) (next_of n r) parts.1
+    next = next_at d (commands_of w.runs r) (next_of n r) (asks_next w n r d parts.1)
 
 -- the run's next command, and those behind it
 next_rest : (w : Setting) (n : Reading) (g : Grips) (r k : ℕ) → k ≡ next_of n r → length (n.run r).answers < length (commands_of w.runs r) → rest (run_state w n g r) ≡ command_at w.runs r k ∷ drop (next_of n r + 1) (commands_of w.runs r)
@@ -374,6 +376,7 @@ wrote_at w n g held r k read at writes out kept = record {
   window = write_answered w.kinds (window_of w n g held) (window_of w (entry w n (Did (run_no r) k Fine)) (put g d None) (put held d v)) r c (drop (next_of n r + 1) (commands_of w.runs r)) (is_doomed n r) (record {
     place = answered_place w n g held (put held d v) d r k Fine (Commands k) cut at;
     answer = gets_answer w n g r k Fine out.number out.more;
+    guard = ap (holds c.when) (read.summarized r).register ∙ out.guard;
     live = live_uncommitted n r out.live;
     out = ap (held_by w r) at ∙ held_own w r (Commands k) ∙ ap (λ b. if b then Reads else Writes) writes;
     job = writes;
@@ -382,7 +385,7 @@ wrote_at w n g held r k read at writes out kept = record {
     probe = ap probe_of (put_same g d None) ∙ sym (ap probe_of at);
     still = λ e ne. record { up = refl; held = put_other held d v e ne; probe = ap probe_of (put_other g d None e ne) };
   }) kept.window;
-  history = λ e. did_history w n r k Fine cut read (out_newest w n g held d r k cut read kept at out) e (kept.history e);
+  history = λ e. did_history w n r k Fine cut refl read (out_newest w n g held d r k cut read kept at out) e (kept.history e);
 }
   where
     c : Command
@@ -412,6 +415,7 @@ found_at w n g held r k read at reading passes out kept = record {
   window = read_answered w.kinds (window_of w n g held) (window_of w (entry w n (Did (run_no r) k (Found x))) (put g d None) held) r c (drop (next_of n r + 1) (commands_of w.runs r)) x (is_doomed n r) (record {
     place = answered_place w n g held held d r k (Found x) (Commands k) cut at;
     answer = gets_answer w n g r k (Found x) out.number out.more;
+    guard = ap (holds c.when) (read.summarized r).register ∙ out.guard;
     live = live_uncommitted n r out.live;
     out = ap (held_by w r) at ∙ held_own w r (Commands k) ∙ ap (λ b. if b then Reads else Writes) reading;
     job = reading;
@@ -419,7 +423,7 @@ found_at w n g held r k read at reading passes out kept = record {
     found = refl;
     still = λ e. record { up = refl; held = refl; probe = put_keeps probe_of g d None (sym (ap probe_of at)) e };
   }) kept.window;
-  history = λ e. did_history w n r k (Found x) cut read (out_newest w n g held d r k cut read kept at out) e (kept.history e);
+  history = λ e. did_history w n r k (Found x) cut refl read (out_newest w n g held d r k cut read kept at out) e (kept.history e);
 }
   where
     c : Command
@@ -449,10 +453,10 @@ next_is [] k c at = absurd (cc)
 next_is (x ∷ cs) zero c at = (omega arith, some_is x c at)
 next_is (x ∷ cs) (suc k) c at = let rest = next_is cs k c at in (omega (arith, rest.0), rest.1)
 
-pub goes_kept : (w : Setting) (n : Reading) (g : Grips) (held : ℕ → ℕ) (r : ℕ) (c : Command) → IsRead w n → is_run w.runs r ≡ true → is_live n r ≡ true → (n.run r).doomed ≡ None → grip_wait w g r ≡ None → next_command w n r ≡ Some c
+pub goes_kept : (w : Setting) (n : Reading) (g : Grips) (held : ℕ → ℕ) (r : ℕ) (c : Command) → IsRead w n → is_run w.runs r ≡ true → is_live n r ≡ true → (n.run r).doomed ≡ None → grip_wait w g r ≡ None → next_command w n r ≡ Some c → holds c.when (n.run r).register ≡ true
     → behind_wait w n g r c.device.0 ≡ None → dirty_wait w n g r c ≡ None → is_out g c.device.0 ≡ false → sees_down n r c.device.0 ≡ false → n.up c.device.0 ≡ true → is_device w c.device.0 ≡ true → OrderIsKept w n g held
     → OrderIsKept w n (put g c.device.0 (Some (record { maker = r; purpose = Commands (next_of n r) }))) held
-goes_kept w n g held r c read run live sound free next behind dirty in' sees up device kept = record {
+goes_kept w n g held r c read run live sound free next guard behind dirty in' sees up device kept = record {
   grips = fits_with w n g d r (Commands k) device may (λ q e. holds_none w g r kept.grips.homed free) kept.grips;
   window = command_out w.kinds (window_of w n g held) (window_of w n (put g d (Some new)) held) r c later (record {
     place = in_place w n n g (put g d (Some new)) held held r cut refl (λ q ne. refl) (λ q e ne. put_keeps (held_by w q) g d (Some new) (held_other w r q (Commands k) ne ∙ sym (ap (held_by w q) home)) e);
@@ -510,7 +514,7 @@ goes_kept w n g held r c read run live sound free next behind dirty in' sees up 
     same x = grind (arith, common_steps)
 
     may : may_command w r d k (n.run r) ≡ true
-    may = λ i. live i && ((ap (λ o. unwrap_or (option_map (is_on d) o) false) next ∙ same d) i) && same k i
+    may = λ i. live i && ((ap (λ o. unwrap_or (option_map (λ x. is_on d x && holds x.when (n.run r).register) o) false) next ∙ (λ j. same d j && guard j)) i) && same k i
 
     pending : is_open (usage w.kinds (run_state w n g r) d).stage ≡ true
     pending = λ i. is_open (stage_of (live_uncommitted n r live i) (is_some (sound i)) ((ap (uses d) left ∙ self d (uses d later)) i))

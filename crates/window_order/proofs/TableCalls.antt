@@ -10,7 +10,7 @@ use Rattle.device_order.specs.Walks.{GripFits as HoldsFit, WalkHolds}
 use Rattle.device_order.specs.declared.records.Grip.TheVariants.{Free, Reads, Undoes as ToUndo, Writes}
 use Rattle.device_order.specs.declared.records.Grip.{Grip as HeldGrip}
 use Rattle.device_order.specs.declared.records.Usage.{Usage}
-use Rattle.history_book.specs.Readings.{Reading, did, is_doomed, is_live, is_next_on, is_open, next_of, pends}
+use Rattle.history_book.specs.Readings.{Reading, asks_on, did, is_doomed, is_live, is_open, next_of, pends}
 use Rattle.history_book.specs.Settings.{Setting, is_device}
 use Rattle.home_types.specs.HomeStates.{stand_at}
 use Rattle.home_types.specs.declared.items.Item.TheVariants.{Back, Failed, Ran}
@@ -101,7 +101,7 @@ touches_now w n g held d r k cut read order at = record {
     device = order.grips.homed d (ap is_some at)
 
     live : is_live n r ≡ true
-    live = (three (is_live n r) (is_next_on w n r d) (k == next_of n r) (order.grips.runs.commands d r k at)).0
+    live = (three (is_live n r) (asks_on w n r d) (k == next_of n r) (order.grips.runs.commands d r k at)).0
 
     gripped : grips_command g r d ≡ true
     gripped = own_command g d r (Commands k) at

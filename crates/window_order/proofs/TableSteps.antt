@@ -5,7 +5,7 @@ use Rattle.device_order.specs.LineWords.{CutAt}
 use Rattle.history_book.proofs.Snoc.{put_same}
 use Rattle.history_book.specs.Histories.{entry, with_placed}
 use Rattle.history_book.specs.Lines.{split_at}
-use Rattle.history_book.specs.Readings.{Planned, Reading, did, is_doomed, next_of, pends, put}
+use Rattle.history_book.specs.Readings.{Planned, Reading, did, is_access, is_doomed, next_of, pends, put}
 use Rattle.history_book.specs.Settings.{Setting}
 use Rattle.history_book.specs.WellFormed.{may_follow}
 use Rattle.history_book.specs.declared.entries.Cause.{Cause}
@@ -71,9 +71,9 @@ pub command_out_table : (w : Setting) (n : Reading) (g : Grips) (d r k : ℕ) (t
 command_out_table w n g d r k table at sound pending kept = same_table w n n g (put g d (Some (record { maker = r; purpose = Commands k }))) table (command_out_kept w n g d r k at sound pending) kept
 
 -- each lineage is kept as a command that was out is answered
-pub answered_kept : (w : Setting) (n : Reading) (g h : Grips) (r k : ℕ) (a : Answer) (cut : CutAt r n.line) → IsRead w n → k ≡ next_of n r → next_of n r < length (commands_of w.runs r) → TouchesNow w n g (command_at w.runs r k).device.0 r cut → HomeFrom g h (command_at w.runs r k).device.0 r
+pub answered_kept : (w : Setting) (n : Reading) (g h : Grips) (r k : ℕ) (a : Answer) (cut : CutAt r n.line) → is_access a ≡ true → IsRead w n → k ≡ next_of n r → next_of n r < length (commands_of w.runs r) → TouchesNow w n g (command_at w.runs r k).device.0 r cut → HomeFrom g h (command_at w.runs r k).device.0 r
     → ((e : ℕ) → e ≢ (command_at w.runs r k).device.0 → (q : ℕ) → SameGrip g h e q) → (e : ℕ) (s : LineageState) → LineageIsKept w n g e s → LineageIsKept w (entry w n (Did (run_no r) k a)) h e (answered_change w n r k a e s)
-answered_kept w n g h r k a cut read number more now home same e s = two_places (λ x. LineageIsKept w n g x s → LineageIsKept w m h x (answered_change w n r k a x s)) e d at_device elsewhere
+answered_kept w n g h r k a cut access read number more now home same e s = two_places (λ x. LineageIsKept w n g x s → LineageIsKept w m h x (answered_change w n r k a x s)) e d at_device elsewhere
   where
     d : ℕ
     d = (command_at w.runs r k).device.0
@@ -92,7 +92,7 @@ answered_kept w n g h r k a cut read number more now home same e s = two_places 
     pass false kept = kept
 
     at_device : LineageIsKept w n g d s → LineageIsKept w m h d (answered_change w n r k a d s)
-    at_device kept = subst (LineageIsKept w m h d) (λ i. if sym (self d) i then answered_lineage w n r k a s else s) (answered_there w n g h r k a cut read number now home (passed_if (not (did n r d)) r s) (pass (not (did n r d)) kept))
+    at_device kept = subst (LineageIsKept w m h d) (λ i. if sym (self d) i then answered_lineage w n r k a s else s) (answered_there w n g h r k a cut access read number now home (passed_if (not (did n r d)) r s) (pass (not (did n r d)) kept))
 
     elsewhere : e ≢ d → LineageIsKept w n g e s → LineageIsKept w m h e (answered_change w n r k a e s)
     elsewhere ne kept = subst (LineageIsKept w m h e) (λ i. if sym (differ e d ne) i then answered_lineage w n r k a s else s) (answered_elsewhere w n g h r k a e s number more ne (same e ne) kept)
@@ -102,20 +102,20 @@ came_home : (w : Setting) (g : Grips) (d r k : ℕ) → g d ≡ Some (record { m
 came_home w g d r k at = record { command = home_command (put g d None) d r (put_same g d None); undo = home_undo (put g d None) d r (put_same g d None); others = λ q ne. grip_home g d r q (Commands k) at ne }
 
 -- .. of this device
-pub answered_each : (w : Setting) (n : Reading) (g : Grips) (held : ℕ → ℕ) (d r k : ℕ) (a : Answer) → IsRead w n → OrderIsKept w n g held → g d ≡ Some (record { maker = r; purpose = Commands k })
+pub answered_each : (w : Setting) (n : Reading) (g : Grips) (held : ℕ → ℕ) (d r k : ℕ) (a : Answer) → is_access a ≡ true → IsRead w n → OrderIsKept w n g held → g d ≡ Some (record { maker = r; purpose = Commands k })
     → (e : ℕ) (s : LineageState) → LineageIsKept w n g e s → LineageIsKept w (entry w n (Did (run_no r) k a)) (put g d None) e (answered_change w n r k a e s)
-answered_each w n g held d r k a read order at e s kept =
+answered_each w n g held d r k a access read order at e s kept =
     let out : IsOut w n d r k = out_is w n g d r k order.grips at in
     let cut : CutAt r n.line = cut_live w n r read out.live in
     let now : TouchesNow w n g (command_at w.runs r k).device.0 r cut = subst (λ x. TouchesNow w n g x r cut) out.device (touches_now w n g held d r k cut read order at) in
     let home : HomeFrom g (put g (command_at w.runs r k).device.0 None) (command_at w.runs r k).device.0 r = came_home w g (command_at w.runs r k).device.0 r k (subst (λ x. g x ≡ Some (record { maker = r; purpose = Commands k })) out.device at) in
     subst (λ x. LineageIsKept w (entry w n (Did (run_no r) k a)) (put g x None) e (answered_change w n r k a e s)) (sym out.device)
-    (answered_kept w n g (put g (command_at w.runs r k).device.0 None) r k a cut read out.number out.more now home (λ i ne q. grip_elsewhere g (command_at w.runs r k).device.0 i q None ne) e s kept)
+    (answered_kept w n g (put g (command_at w.runs r k).device.0 None) r k a cut access read out.number out.more now home (λ i ne q. grip_elsewhere g (command_at w.runs r k).device.0 i q None ne) e s kept)
 
 -- a command that was out is answered
-pub answered_table : (w : Setting) (n : Reading) (g : Grips) (held : ℕ → ℕ) (d r k : ℕ) (a : Answer) (old new : List LineageState) → IsRead w n → OrderIsKept w n g held → g d ≡ Some (record { maker = r; purpose = Commands k })
+pub answered_table : (w : Setting) (n : Reading) (g : Grips) (held : ℕ → ℕ) (d r k : ℕ) (a : Answer) (old new : List LineageState) → is_access a ≡ true → IsRead w n → OrderIsKept w n g held → g d ≡ Some (record { maker = r; purpose = Commands k })
     → ChangesEach (answered_change w n r k a) old new → TableIsKept w n g old → TableIsKept w (entry w n (Did (run_no r) k a)) (put g d None) new
-answered_table w n g held d r k a old new read order at changes kept = changed_table w n (entry w n (Did (run_no r) k a)) g (put g d None) (answered_change w n r k a) old new (answered_each w n g held d r k a read order at) changes kept
+answered_table w n g held d r k a old new access read order at changes kept = changed_table w n (entry w n (Did (run_no r) k a)) g (put g d None) (answered_change w n r k a) old new (answered_each w n g held d r k a access read order at) changes kept
 
 -- a run is doomed
 pub doomed_table : (w : Setting) (n : Reading) (g : Grips) (r : ℕ) (cause : Cause) (old new : List LineageState) → IsRead w n → GripsFit w n g → is_doomed n r ≡ false → ChangesEach (doomed_change g r) old new → TableIsKept w n g old → TableIsKept w (entry w n (Doomed (run_no r) cause)) g new

@@ -137,7 +137,7 @@ told_touches_now w n g held r c cut s = record {
 pub told_table : (w : Setting) (n : Reading) (g : Grips) (held : ℕ → ℕ) (r : ℕ) (c : Command) (old new : List LineageState) → IsToldDown w n g held r c → ChangesEach (answered_change w n r (next_of n r) Down) old new → TableIsKept w n g old
     → TableIsKept w (entry w n (Did (run_no r) (next_of n r) Down)) g new
 told_table w n g held r c old new s changes kept = changed_table w n (entry w n (Did (run_no r) (next_of n r) Down)) g g (answered_change w n r (next_of n r) Down) old new
-    (answered_kept w n g g r (next_of n r) Down cut s.read refl (next_is (commands_of w.runs r) (next_of n r) c s.next).0 now (record { command = unheld; undo = now.undoes_none; others = λ q ne. record { command = refl; undo = refl } }) (λ e ne q. record { command = refl; undo = refl })) changes kept
+    (answered_kept w n g g r (next_of n r) Down cut refl s.read refl (next_is (commands_of w.runs r) (next_of n r) c s.next).0 now (record { command = unheld; undo = now.undoes_none; others = λ q ne. record { command = refl; undo = refl } }) (λ e ne q. record { command = refl; undo = refl })) changes kept
   where
     cut : CutAt r n.line
     cut = cut_live w n r s.read s.live

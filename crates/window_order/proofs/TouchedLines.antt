@@ -5,7 +5,7 @@ use Rattle.history_book.proofs.Snoc.{put_keeps, put_other, put_same}
 use Rattle.history_book.proofs.Standing.{aborted, is_abort}
 use Rattle.history_book.specs.Histories.{answered, entry, with_placed}
 use Rattle.history_book.specs.Lines.{split_at}
-use Rattle.history_book.specs.Readings.{OfRun, OnDevice, PlacedAt, Planned, Reading, did, is_live, nothing_read, put, view_by}
+use Rattle.history_book.specs.Readings.{OfRun, OnDevice, PlacedAt, Planned, Reading, did, is_access, is_live, nothing_read, put, view_by}
 use Rattle.history_book.specs.Settings.{Setting}
 use Rattle.history_book.specs.WellFormed.{may_follow}
 use Rattle.history_book.specs.declared.entries.Cause.{Cause}
@@ -13,7 +13,6 @@ use Rattle.history_book.specs.declared.entries.End.{End}
 use Rattle.history_book.specs.declared.entries.End.TheVariants.{Aborted, Committed}
 use Rattle.history_book.specs.declared.entries.Entry.TheVariants.{Arrived, Did, Doomed, Ended, Placed, Undid}
 use Rattle.home_types.specs.declared.commands.Answer.{Answer}
-use Rattle.home_types.specs.declared.commands.Answer.TheVariants.{Down, Fine, Found}
 use Rattle.home_types.specs.Kinds.{kind_at}
 use Rattle.home_types.specs.declared.commands.Command.{Command}
 use Rattle.home_types.specs.declared.items.Item.TheVariants.{Back, Failed, Ran}
@@ -156,8 +155,8 @@ marks_out n g r d k marks home kept = line_touching r d kept also
     also (Back x j) e = refl
 
 -- a command that was out is answered: its run has touched the device as before
-pub marks_answered : (w : Setting) (n : Reading) (g : Grips) (d r k : ℕ) (a : Answer) (marks : List Mark) → IsOut w n d r k → g d ≡ Some (record { maker = r; purpose = Commands k }) → MarksAreKept n g marks → MarksAreKept (entry w n (Did (run_no r) k a)) (put g d None) marks
-marks_answered w n g d r k a marks out at kept = marks_same n (entry w n (Did (run_no r) k a)) g (put g d None) marks refl same (put_keeps (λ o. is_some o.ended) n.run r _ refl) kept
+pub marks_answered : (w : Setting) (n : Reading) (g : Grips) (d r k : ℕ) (a : Answer) (marks : List Mark) → is_access a ≡ true → IsOut w n d r k → g d ≡ Some (record { maker = r; purpose = Commands k }) → MarksAreKept n g marks → MarksAreKept (entry w n (Did (run_no r) k a)) (put g d None) marks
+marks_answered w n g d r k a marks access out at kept = marks_same n (entry w n (Did (run_no r) k a)) g (put g d None) marks refl same (put_keeps (λ o. is_some o.ended) n.run r _ refl) kept
   where
     next : Reading
     next = entry w n (Did (run_no r) k a)
@@ -165,11 +164,9 @@ marks_answered w n g d r k a marks out at kept = marks_same n (entry w n (Did (r
     swapped : (x y : ℕ) → (x == y) ≡ false → (y == x) ≡ false
     swapped x y h = grind (arith, common_steps)
 
-    some_view : (v : Option Bool) (x : Answer) → is_some (option_or v (view_by x)) ≡ true
-    some_view (Some u) x = refl
-    some_view None Fine = refl
-    some_view None (Found x) = refl
-    some_view None Down = refl
+    some_view : (v : Option Bool) → is_some (option_or v (view_by a)) ≡ true
+    some_view (Some u) = refl
+    some_view None = access
 
     c : Command
     c = command_at w.runs r k
@@ -185,7 +182,7 @@ marks_answered w n g d r k a marks out at kept = marks_same n (entry w n (Did (r
 
     -- on its device the run has an answer
     has_answered : did next r d ≡ true
-    has_answered = ap (λ (o : OfRun). is_some (o.on d).view) own ∙ ap (λ x. is_some (new.on x).view) out.device ∙ ap (λ (x : OnDevice). is_some x.view) (put_same (n.run r).on c.device.0 on_device) ∙ some_view ((n.run r).on c.device.0).view a
+    has_answered = ap (λ (o : OfRun). is_some (o.on d).view) own ∙ ap (λ x. is_some (new.on x).view) out.device ∙ ap (λ (x : OnDevice). is_some x.view) (put_same (n.run r).on c.device.0 on_device) ∙ some_view ((n.run r).on c.device.0).view
 
     elsewhere : (e : ℕ) → e ≢ d → did next r e ≡ did n r e
     elsewhere e ne = ap (λ (o : OfRun). is_some (o.on e).view) own ∙ ap (λ (x : OnDevice). is_some x.view) (put_other (n.run r).on c.device.0 on_device e (λ h. ne (h ∙ sym out.device)))

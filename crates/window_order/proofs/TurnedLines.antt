@@ -5,12 +5,11 @@ use Rattle.history_book.proofs.Searches.{some_is}
 use Rattle.history_book.proofs.Snoc.{put_keeps, put_other, put_same}
 use Rattle.history_book.specs.Histories.{answered, entry}
 use Rattle.history_book.specs.Lines.{put_before}
-use Rattle.history_book.specs.Readings.{OfRun, OnDevice, Reading, did, is_doomed, is_live, pends, put, view_by}
+use Rattle.history_book.specs.Readings.{OfRun, OnDevice, Reading, did, is_access, is_doomed, is_live, pends, put, view_by}
 use Rattle.history_book.specs.Settings.{Setting, is_weak}
 use Rattle.history_book.specs.declared.entries.Entry.TheVariants.{Did, Fell, Rose}
 use Rattle.home_types.proofs.DeviceBits.{contains_insert}
 use Rattle.home_types.specs.Kinds.{kind_at}
-use Rattle.home_types.specs.declared.commands.Answer.TheVariants.{Down, Fine, Found}
 use Rattle.home_types.specs.declared.commands.Answer.{Answer}
 use Rattle.home_types.specs.declared.commands.Command.{Command}
 use Rattle.home_types.specs.declared.items.Item.TheVariants.{Back, Failed, Ran}
@@ -97,9 +96,9 @@ marks_rose w n g d marks kept =
     x = Back d (n.rose d.0 + 1)
 
 -- the device fails at a command that is out: its run has touched it as before
-pub marks_died : (w : Setting) (n : Reading) (g : Grips) (d r k : ℕ) (e : DeviceNo) (a : Answer) (marks : List Mark) → IsOut w n d r k → g d ≡ Some (record { maker = r; purpose = Commands k }) → MarksAreKept n g marks
+pub marks_died : (w : Setting) (n : Reading) (g : Grips) (d r k : ℕ) (e : DeviceNo) (a : Answer) (marks : List Mark) → is_access a ≡ true → IsOut w n d r k → g d ≡ Some (record { maker = r; purpose = Commands k }) → MarksAreKept n g marks
     → MarksAreKept (entry w (entry w n (Fell e)) (Did (run_no r) k a)) (put g d None) (with_item (event_place_of w n e.0) (Failed e (n.fell e.0 + 1)) marks)
-marks_died w n g d r k e a marks out at kept = marks_answered w (entry w n (Fell e)) g d r k a (with_item (event_place_of w n e.0) (Failed e (n.fell e.0 + 1)) marks) (record { live = out.live; number = out.number; more = out.more; device = out.device }) at (marks_fell w n g e marks kept)
+marks_died w n g d r k e a marks access out at kept = marks_answered w (entry w n (Fell e)) g d r k a (with_item (event_place_of w n e.0) (Failed e (n.fell e.0 + 1)) marks) access (record { live = out.live; number = out.number; more = out.more; device = out.device; guard = out.guard }) at (marks_fell w n g e marks kept)
 
 -- What the line asks for, where an event is put in
 
@@ -125,8 +124,8 @@ restart_absent w n g d marks read kept = ap (list_any (is_item (Back d (n.rose d
 -- An answer with no call
 
 -- the run touches the device of its command by the answer
-pub marks_told : (w : Setting) (n : Reading) (g : Grips) (r k : ℕ) (a : Answer) (marks : List Mark) → MarksAreKept n g marks → MarksAreKept (entry w n (Did (run_no r) k a)) g (touching r (command_at w.runs r k).device.0 marks)
-marks_told w n g r k a marks kept = line_touching r d ends also
+pub marks_told : (w : Setting) (n : Reading) (g : Grips) (r k : ℕ) (a : Answer) (marks : List Mark) → is_access a ≡ true → MarksAreKept n g marks → MarksAreKept (entry w n (Did (run_no r) k a)) g (touching r (command_at w.runs r k).device.0 marks)
+marks_told w n g r k a marks access kept = line_touching r d ends also
   where
     c : Command
     c = command_at w.runs r k
@@ -146,11 +145,9 @@ marks_told w n g r k a marks kept = line_touching r d ends also
     differ : (y z : ℕ) → (y == z) ≡ false → y ≢ z
     differ y z h = grind (arith, common_steps)
 
-    some_view : (v : Option Bool) (x : Answer) → is_some (option_or v (view_by x)) ≡ true
-    some_view (Some u) x = refl
-    some_view None Fine = refl
-    some_view None (Found x) = refl
-    some_view None Down = refl
+    some_view : (v : Option Bool) → is_some (option_or v (view_by a)) ≡ true
+    some_view (Some u) = refl
+    some_view None = access
 
     own : (e : ℕ) → did next r e ≡ is_some (put (n.run r).on d on_device e).view
     own e = ap (λ (o : OfRun). is_some (o.on e).view) (put_same n.run r _)
@@ -162,7 +159,7 @@ marks_told w n g r k a marks kept = line_touching r d ends also
     stays x y b z h = grind (arith, common_steps)
 
     own_told : (e : ℕ) (b : Bool) → (e == d) ≡ b → is_some (if b then on_device else (n.run r).on e).view ≡ (b || did n r e)
-    own_told e true h = some_view ((n.run r).on d).view a
+    own_told e true h = some_view ((n.run r).on d).view
     own_told e false h = refl
 
     ran : (q e : ℕ) (b : Bool) → (q == r) ≡ b → (did next q e || grips_command g q e) ≡ ((b && (e == d)) || (did n q e || grips_command g q e))

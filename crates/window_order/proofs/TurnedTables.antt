@@ -4,7 +4,7 @@ use Rattle.command_rules.specs.Rosters.{device_no, run_no}
 use Rattle.history_book.proofs.Lines.{any_put_before}
 use Rattle.history_book.specs.Histories.{entry}
 use Rattle.history_book.specs.Lines.{put_before}
-use Rattle.history_book.specs.Readings.{Reading, put}
+use Rattle.history_book.specs.Readings.{Reading, is_access, put}
 use Rattle.history_book.specs.Settings.{Setting}
 use Rattle.history_book.specs.declared.entries.Entry.TheVariants.{Did, Fell, Rose, Undid}
 use Rattle.home_types.specs.HomeStates.{stand_at}
@@ -118,10 +118,10 @@ rose_table w n g d old new changes kept = changed_table w n (entry w n (Rose d))
     (turned_kept w n (entry w n (Rose d)) g d.0 true (record { item = Back d _; event = λ p. refl; before = of_run (awaits_there w n d.0); line = refl; runs = refl; counted = refl })) changes kept
 
 -- it fails at a command that is out, which is answered: the order is that before both entries
-pub died_table : (w : Setting) (n : Reading) (g : Grips) (held : ℕ → ℕ) (d r k : ℕ) (f : DeviceNo) (a : Answer) (old new : List LineageState) → IsRead w n → OrderIsKept w n g held → g d ≡ Some (record { maker = r; purpose = Commands k })
+pub died_table : (w : Setting) (n : Reading) (g : Grips) (held : ℕ → ℕ) (d r k : ℕ) (f : DeviceNo) (a : Answer) (old new : List LineageState) → is_access a ≡ true → IsRead w n → OrderIsKept w n g held → g d ≡ Some (record { maker = r; purpose = Commands k })
     → ChangesEach (λ e s. turned_change f.0 false e (answered_change w n r k a e s)) old new → TableIsKept w n g old → TableIsKept w (entry w (entry w n (Fell f)) (Did (run_no r) k a)) (put g d None) new
-died_table w n g held d r k f a old new read order at changes kept = changed_table w n next g (put g d None) (λ e s. turned_change f.0 false e (answered_change w n r k a e s)) old new
-    (λ e s own. turned_kept w (entry w n (Did (run_no r) k a)) next (put g d None) f.0 false (record { item = Failed f _; event = λ p. refl; before = of_run (awaits_there w n f.0); line = refl; runs = refl; counted = refl }) e (answered_change w n r k a e s) (answered_each w n g held d r k a read order at e s own)) changes kept
+died_table w n g held d r k f a old new access read order at changes kept = changed_table w n next g (put g d None) (λ e s. turned_change f.0 false e (answered_change w n r k a e s)) old new
+    (λ e s own. turned_kept w (entry w n (Did (run_no r) k a)) next (put g d None) f.0 false (record { item = Failed f _; event = λ p. refl; before = of_run (awaits_there w n f.0); line = refl; runs = refl; counted = refl }) e (answered_change w n r k a e s) (answered_each w n g held d r k a access read order at e s own)) changes kept
   where
     next : Reading
     next = entry w (entry w n (Fell f)) (Did (run_no r) k a)

@@ -14,7 +14,7 @@ use Rattle.home_types.specs.declared.items.Item.{Item}
 use Rattle.home_types.specs.declared.numbers.RunNo.{RunNo}
 use Rattle.home_types.specs.declared.numbers.DeviceNo.{DeviceNo}
 use Rattle.lineage_table.specs.Accesses.{before, has_access, is_acquired, is_of, is_released, is_scheduled, some_acquired, some_scheduled, status_of}
-use Rattle.lineage_table.specs.Lineages.{LineageState, acquired, counted_up, lineage_at, released, scheduled, undone, written}
+use Rattle.lineage_table.specs.Lineages.{LineageState, acquired, counted_up, lineage_at, released, removed, scheduled, undone, written}
 use Rattle.lineage_table.specs.declared.accesses.Access.{Access}
 use Rattle.lineage_table.specs.declared.accesses.Status.TheVariants.{Released, Scheduled}
 use Rattle.lock_leasing.specs.Configurations.{Grips, grips_command}
@@ -138,6 +138,16 @@ answered_lineage w n r k a s =
 
 abbrev pub answered_change : Setting → Reading → ℕ → ℕ → Answer → ℕ → LineageState → LineageState
 answered_change w n r k a d s = if d == (command_at w.runs r k).device.0 then answered_lineage w n r k a s else s
+
+-- A command is skipped
+
+-- the device of the command number k is left at the run's last command there: released by a run that has an access there, and no longer waited for by one that skipped all of its commands there
+abbrev pub skipped_lineage : Setting → Reading → ℕ → ℕ → LineageState → LineageState
+skipped_lineage w n r k s =
+    if touches_from w.runs r (command_at w.runs r k).device.0 (k + 1) then s else (if did n r (command_at w.runs r k).device.0 then released r s else removed r s)
+
+abbrev pub skipped_change : Setting → Reading → ℕ → ℕ → ℕ → LineageState → LineageState
+skipped_change w n r k d s = if d == (command_at w.runs r k).device.0 then skipped_lineage w n r k s else s
 
 -- A run is doomed
 

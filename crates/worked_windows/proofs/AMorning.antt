@@ -1,20 +1,21 @@
 -- The window a-morning: many runs on many devices.
+use Rattle.home_types.specs.declared.commands.Guard.TheVariants.{Always}
 use Rattle.worked_windows.proofs.Words.{Aborted, Absent, Arrived, At, Behind, Busy, Check, Commands, Committed, Did, Dirty, Doomed, Down, Ended, Entry, Eventual, Failed, Fcfs, Fell, Fine, Found, HandsOut, IsWorked, List, Load, Moves, None, Over, Placed, Ran, Range, Refuted, Set, Setting, Some, States, Table, Undid, Undoes, Waits, Worked, [], device_no, false, give, held, less, more, no_grips, points_from, refl, row, run_no, slice_set, split_at, split_of, still, true, words_along, ◌++◌, ◌∷◌, ◌≡◌}
 
 abbrev pub window : Setting
 window = record {
-  runs = record { commands = record { device = device_no 2; job = Set 1; must = true; ms = 100; takes = 100 } ∷ record { device = device_no 13; job = Set 1; must = true; ms = 100; takes = 100 } ∷ record { device = device_no 19; job = Set 1; must = true; ms = 100; takes = 100 } ∷ []; follows = None }
-      ∷ record { commands = record { device = device_no 5; job = Set 1; must = true; ms = 100; takes = 100 } ∷ record { device = device_no 6; job = Set 1; must = false; ms = 100; takes = 100 } ∷ []; follows = None }
-      ∷ record { commands = record { device = device_no 3; job = Set 1; must = true; ms = 100; takes = 100 } ∷ record { device = device_no 10; job = Set 22; must = true; ms = 100; takes = 100 } ∷ []; follows = None }
-      ∷ record { commands = record { device = device_no 1; job = Set 1; must = false; ms = 100; takes = 100 } ∷ record { device = device_no 7; job = Set 1; must = true; ms = 100; takes = 100 } ∷ record { device = device_no 9; job = Check 1; must = false; ms = 100; takes = 100 } ∷ []; follows = None }
-      ∷ record { commands = record { device = device_no 12; job = Set 1; must = true; ms = 100; takes = 100 } ∷ record { device = device_no 11; job = Set 0; must = false; ms = 100; takes = 100 } ∷ []; follows = None }
-      ∷ record { commands = record { device = device_no 0; job = Set 1; must = false; ms = 100; takes = 100 } ∷ record { device = device_no 15; job = Check 0; must = true; ms = 100; takes = 100 } ∷ []; follows = None }
-      ∷ record { commands = record { device = device_no 18; job = Set 1; must = true; ms = 100; takes = 100 } ∷ record { device = device_no 4; job = Set 0; must = true; ms = 100; takes = 100 } ∷ []; follows = None }
-      ∷ record { commands = record { device = device_no 10; job = Load; must = true; ms = 100; takes = 100 } ∷ record { device = device_no 10; job = Set 20; must = true; ms = 100; takes = 100 } ∷ []; follows = None }
-      ∷ record { commands = record { device = device_no 9; job = Check 0; must = false; ms = 100; takes = 100 } ∷ record { device = device_no 17; job = Set 1; must = true; ms = 100; takes = 100 } ∷ record { device = device_no 5; job = Set 0; must = true; ms = 100; takes = 100 } ∷ []; follows = None }
-      ∷ record { commands = record { device = device_no 2; job = Set 0; must = true; ms = 100; takes = 100 } ∷ record { device = device_no 3; job = Set 0; must = true; ms = 100; takes = 100 } ∷ record { device = device_no 19; job = Set 0; must = true; ms = 100; takes = 100 } ∷ record { device = device_no 1; job = Set 0; must = false; ms = 100; takes = 100 } ∷ []; follows = None }
-      ∷ record { commands = record { device = device_no 16; job = Set 1; must = true; ms = 100; takes = 100 } ∷ record { device = device_no 8; job = Check 1; must = true; ms = 100; takes = 100 } ∷ []; follows = None }
-      ∷ record { commands = record { device = device_no 15; job = Set 0; must = true; ms = 100; takes = 100 } ∷ record { device = device_no 16; job = Set 0; must = true; ms = 100; takes = 100 } ∷ record { device = device_no 14; job = Set 1; must = true; ms = 100; takes = 100 } ∷ []; follows = None } ∷ [];
+  runs = record { commands = record { device = device_no 2; job = Set 1; when = Always; must = true; ms = 100; takes = 100 } ∷ record { device = device_no 13; job = Set 1; when = Always; must = true; ms = 100; takes = 100 } ∷ record { device = device_no 19; job = Set 1; when = Always; must = true; ms = 100; takes = 100 } ∷ []; follows = None }
+      ∷ record { commands = record { device = device_no 5; job = Set 1; when = Always; must = true; ms = 100; takes = 100 } ∷ record { device = device_no 6; job = Set 1; when = Always; must = false; ms = 100; takes = 100 } ∷ []; follows = None }
+      ∷ record { commands = record { device = device_no 3; job = Set 1; when = Always; must = true; ms = 100; takes = 100 } ∷ record { device = device_no 10; job = Set 22; when = Always; must = true; ms = 100; takes = 100 } ∷ []; follows = None }
+      ∷ record { commands = record { device = device_no 1; job = Set 1; when = Always; must = false; ms = 100; takes = 100 } ∷ record { device = device_no 7; job = Set 1; when = Always; must = true; ms = 100; takes = 100 } ∷ record { device = device_no 9; job = Check 1; when = Always; must = false; ms = 100; takes = 100 } ∷ []; follows = None }
+      ∷ record { commands = record { device = device_no 12; job = Set 1; when = Always; must = true; ms = 100; takes = 100 } ∷ record { device = device_no 11; job = Set 0; when = Always; must = false; ms = 100; takes = 100 } ∷ []; follows = None }
+      ∷ record { commands = record { device = device_no 0; job = Set 1; when = Always; must = false; ms = 100; takes = 100 } ∷ record { device = device_no 15; job = Check 0; when = Always; must = true; ms = 100; takes = 100 } ∷ []; follows = None }
+      ∷ record { commands = record { device = device_no 18; job = Set 1; when = Always; must = true; ms = 100; takes = 100 } ∷ record { device = device_no 4; job = Set 0; when = Always; must = true; ms = 100; takes = 100 } ∷ []; follows = None }
+      ∷ record { commands = record { device = device_no 10; job = Load; when = Always; must = true; ms = 100; takes = 100 } ∷ record { device = device_no 10; job = Set 20; when = Always; must = true; ms = 100; takes = 100 } ∷ []; follows = None }
+      ∷ record { commands = record { device = device_no 9; job = Check 0; when = Always; must = false; ms = 100; takes = 100 } ∷ record { device = device_no 17; job = Set 1; when = Always; must = true; ms = 100; takes = 100 } ∷ record { device = device_no 5; job = Set 0; when = Always; must = true; ms = 100; takes = 100 } ∷ []; follows = None }
+      ∷ record { commands = record { device = device_no 2; job = Set 0; when = Always; must = true; ms = 100; takes = 100 } ∷ record { device = device_no 3; job = Set 0; when = Always; must = true; ms = 100; takes = 100 } ∷ record { device = device_no 19; job = Set 0; when = Always; must = true; ms = 100; takes = 100 } ∷ record { device = device_no 1; job = Set 0; when = Always; must = false; ms = 100; takes = 100 } ∷ []; follows = None }
+      ∷ record { commands = record { device = device_no 16; job = Set 1; when = Always; must = true; ms = 100; takes = 100 } ∷ record { device = device_no 8; job = Check 1; when = Always; must = true; ms = 100; takes = 100 } ∷ []; follows = None }
+      ∷ record { commands = record { device = device_no 15; job = Set 0; when = Always; must = true; ms = 100; takes = 100 } ∷ record { device = device_no 16; job = Set 0; when = Always; must = true; ms = 100; takes = 100 } ∷ record { device = device_no 14; job = Set 1; when = Always; must = true; ms = 100; takes = 100 } ∷ []; follows = None } ∷ [];
   mode = record { model = Eventual; scheduler = Fcfs };
   kinds = States 2 ∷ States 2 ∷ States 2 ∷ States 2 ∷ States 2 ∷ States 2 ∷ States 2 ∷ States 2 ∷ States 2 ∷ States 2 ∷ Range 10 30 ∷ States 2 ∷ States 2 ∷ States 2 ∷ States 2 ∷ States 2 ∷ States 2 ∷ States 2 ∷ States 2 ∷ States 2 ∷ [];
   first = record { value = 0; up = true } ∷ record { value = 0; up = true } ∷ record { value = 0; up = true } ∷ record { value = 0; up = true } ∷ record { value = 0; up = true } ∷ record { value = 0; up = true } ∷ record { value = 0; up = true } ∷ record { value = 0; up = true } ∷ record { value = 0; up = true } ∷ record { value = 1; up = true } ∷ record { value = 18; up = true } ∷ record { value = 0; up = true } ∷ record { value = 0; up = true } ∷ record { value = 0; up = true } ∷ record { value = 0; up = true } ∷ record { value = 0; up = true } ∷ record { value = 0; up = true } ∷ record { value = 0; up = true } ∷ record { value = 0; up = true } ∷ record { value = 0; up = true } ∷ [];

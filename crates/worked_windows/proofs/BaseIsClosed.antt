@@ -1,11 +1,12 @@
 -- The window base-is-closed: timeline: what stands before a run of the base is in it too.
+use Rattle.home_types.specs.declared.commands.Guard.TheVariants.{Always}
 use Rattle.worked_windows.proofs.Words.{Absent, Arrived, At, Behind, Busy, Commands, Committed, Did, Ended, Entry, Eventual, Fine, HandsOut, IsWorked, List, Moves, None, Over, Placed, Ran, Set, Setting, Some, Table, Timeline, Waits, Worked, [], chosen, closure, device_no, either_of, gap_set, give, held, home_of_four, less, more, no_grips, others, refl, row, run_no, slice_set, split_at, split_of, still, true, ◌++◌, ◌∷◌}
 
 abbrev pub window : Setting
 window = record home_of_four {
-  runs = record { commands = record { device = device_no 0; job = Set 1; must = true; ms = 100; takes = 100 } ∷ record { device = device_no 3; job = Set 20; must = true; ms = 500; takes = 500 } ∷ record { device = device_no 2; job = Set 1; must = true; ms = 100; takes = 100 } ∷ []; follows = None }
-      ∷ record { commands = record { device = device_no 0; job = Set 0; must = true; ms = 100; takes = 100 } ∷ record { device = device_no 1; job = Set 1; must = true; ms = 100; takes = 100 } ∷ []; follows = None }
-      ∷ record { commands = record { device = device_no 1; job = Set 0; must = true; ms = 100; takes = 100 } ∷ record { device = device_no 2; job = Set 0; must = true; ms = 100; takes = 100 } ∷ []; follows = None } ∷ [];
+  runs = record { commands = record { device = device_no 0; job = Set 1; when = Always; must = true; ms = 100; takes = 100 } ∷ record { device = device_no 3; job = Set 20; when = Always; must = true; ms = 500; takes = 500 } ∷ record { device = device_no 2; job = Set 1; when = Always; must = true; ms = 100; takes = 100 } ∷ []; follows = None }
+      ∷ record { commands = record { device = device_no 0; job = Set 0; when = Always; must = true; ms = 100; takes = 100 } ∷ record { device = device_no 1; job = Set 1; when = Always; must = true; ms = 100; takes = 100 } ∷ []; follows = None }
+      ∷ record { commands = record { device = device_no 1; job = Set 0; when = Always; must = true; ms = 100; takes = 100 } ∷ record { device = device_no 2; job = Set 0; when = Always; must = true; ms = 100; takes = 100 } ∷ []; follows = None } ∷ [];
   mode = record { model = Eventual; scheduler = Timeline };
 }
 

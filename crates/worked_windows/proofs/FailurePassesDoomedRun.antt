@@ -1,10 +1,11 @@
 -- The window failure-passes-doomed-run: a failure stands behind a run that has touched the device, though a doomed one before it has not.
+use Rattle.home_types.specs.declared.commands.Guard.TheVariants.{Always}
 use Rattle.worked_windows.proofs.Words.{Aborted, Absent, Arrived, At, Behind, Busy, Check, Commands, Committed, Did, Died, Doomed, Ended, Entry, Eventual, Failed, Fcfs, Fell, Fine, Found, HandsOut, IsWorked, List, Moves, None, Over, Placed, Probes, Ran, Range, Refuted, Sensed, Set, Setting, Some, States, Table, Undid, Undoes, Waits, Worked, [], device_no, false, give, held, more, no_grips, refl, row, run_no, slice_set, split_at, split_of, still, true, ◌++◌, ◌∷◌}
 
 abbrev pub window : Setting
 window = record {
-  runs = record { commands = record { device = device_no 2; job = Set 20; must = true; ms = 100; takes = 100 } ∷ record { device = device_no 1; job = Check 1; must = true; ms = 100; takes = 100 } ∷ record { device = device_no 0; job = Set 1; must = true; ms = 100; takes = 100 } ∷ []; follows = None }
-      ∷ record { commands = record { device = device_no 0; job = Set 1; must = true; ms = 100; takes = 100 } ∷ record { device = device_no 3; job = Set 1; must = true; ms = 100; takes = 100 } ∷ []; follows = None } ∷ [];
+  runs = record { commands = record { device = device_no 2; job = Set 20; when = Always; must = true; ms = 100; takes = 100 } ∷ record { device = device_no 1; job = Check 1; when = Always; must = true; ms = 100; takes = 100 } ∷ record { device = device_no 0; job = Set 1; when = Always; must = true; ms = 100; takes = 100 } ∷ []; follows = None }
+      ∷ record { commands = record { device = device_no 0; job = Set 1; when = Always; must = true; ms = 100; takes = 100 } ∷ record { device = device_no 3; job = Set 1; when = Always; must = true; ms = 100; takes = 100 } ∷ []; follows = None } ∷ [];
   mode = record { model = Eventual; scheduler = Fcfs };
   kinds = States 2 ∷ States 2 ∷ Range 10 30 ∷ States 2 ∷ [];
   first = record { value = 0; up = true } ∷ record { value = 0; up = true } ∷ record { value = 18; up = true } ∷ record { value = 0; up = true } ∷ [];

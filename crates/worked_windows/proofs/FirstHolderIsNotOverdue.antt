@@ -1,11 +1,12 @@
 -- The window first-holder-is-not-overdue.
+use Rattle.home_types.specs.declared.commands.Guard.TheVariants.{Always}
 use Rattle.worked_windows.proofs.Words.{Aborted, Absent, Arrived, At, Back, Behind, Busy, Commands, Committed, Did, Died, Doomed, Down, Ended, Entry, Eventual, Failed, Fell, Fine, Found, HandsOut, IsWorked, JustInTime, List, Load, Moves, MustDown, None, Over, Placed, Probes, Ran, Range, Revoked, Rose, Sensed, Set, Setting, Some, Table, Waits, Worked, [], device_no, false, give, held, less, more, no_grips, refl, row, run_no, slice_set, split_at, split_of, still, true, ◌∷◌}
 
 abbrev pub window : Setting
 window = record {
-  runs = record { commands = record { device = device_no 0; job = Set 2; must = true; ms = 100; takes = 100 } ∷ []; follows = None }
-      ∷ record { commands = record { device = device_no 0; job = Set 2; must = true; ms = 100; takes = 100 } ∷ []; follows = None }
-      ∷ record { commands = record { device = device_no 1; job = Load; must = true; ms = 100; takes = 100 } ∷ record { device = device_no 0; job = Set 1; must = false; ms = 100; takes = 100 } ∷ record { device = device_no 0; job = Load; must = true; ms = 100; takes = 100 } ∷ []; follows = None } ∷ [];
+  runs = record { commands = record { device = device_no 0; job = Set 2; when = Always; must = true; ms = 100; takes = 100 } ∷ []; follows = None }
+      ∷ record { commands = record { device = device_no 0; job = Set 2; when = Always; must = true; ms = 100; takes = 100 } ∷ []; follows = None }
+      ∷ record { commands = record { device = device_no 1; job = Load; when = Always; must = true; ms = 100; takes = 100 } ∷ record { device = device_no 0; job = Set 1; when = Always; must = false; ms = 100; takes = 100 } ∷ record { device = device_no 0; job = Load; when = Always; must = true; ms = 100; takes = 100 } ∷ []; follows = None } ∷ [];
   mode = record { model = Eventual; scheduler = JustInTime };
   kinds = Range 0 3 ∷ Range 0 2 ∷ [];
   first = record { value = 0; up = true } ∷ record { value = 0; up = true } ∷ [];

@@ -1,10 +1,11 @@
 -- The window first-live-run-bounds-the-floor.
+use Rattle.home_types.specs.declared.commands.Guard.TheVariants.{Always}
 use Rattle.worked_windows.proofs.Words.{Absent, Arrived, At, Busy, Commands, Committed, Did, Ended, Entry, Eventual, Fine, HandsOut, IsWorked, JustInTime, List, Moves, None, Over, Placed, Probes, Ran, Range, Set, Setting, Some, States, Store, Table, Waits, Worked, [], device_no, give, held, no_grips, refl, row, run_no, slice_set, split_at, split_of, still, true, ◌∷◌}
 
 abbrev pub window : Setting
 window = record {
-  runs = record { commands = record { device = device_no 0; job = Store; must = true; ms = 100; takes = 100 } ∷ []; follows = None }
-      ∷ record { commands = record { device = device_no 1; job = Set 0; must = true; ms = 100; takes = 100 } ∷ []; follows = None } ∷ [];
+  runs = record { commands = record { device = device_no 0; job = Store; when = Always; must = true; ms = 100; takes = 100 } ∷ []; follows = None }
+      ∷ record { commands = record { device = device_no 1; job = Set 0; when = Always; must = true; ms = 100; takes = 100 } ∷ []; follows = None } ∷ [];
   mode = record { model = Eventual; scheduler = JustInTime };
   kinds = States 2 ∷ Range 0 2 ∷ [];
   first = record { value = 1; up = true } ∷ record { value = 0; up = true } ∷ [];

@@ -1,11 +1,12 @@
 -- The window jit-denied-by-the-floor-itself.
+use Rattle.home_types.specs.declared.commands.Guard.TheVariants.{Always}
 use Rattle.worked_windows.proofs.Words.{Aborted, Absent, Arrived, At, Busy, Commands, Committed, Denied, DeniedBy, Did, Died, Doomed, Down, Ended, Entry, Eventual, Failed, Fell, Fine, HandsOut, IsWorked, JustInTime, List, Moves, MustDown, None, Over, Placed, Ran, Range, Set, Setting, Some, Table, Waits, Worked, [], device_no, false, give, held, less, more, no_grips, refl, row, run_no, slice_set, split_at, split_of, still, true, ◌++◌, ◌∷◌}
 
 abbrev pub window : Setting
 window = record {
-  runs = record { commands = record { device = device_no 1; job = Set 0; must = true; ms = 100; takes = 100 } ∷ []; follows = None }
-      ∷ record { commands = record { device = device_no 0; job = Set 0; must = true; ms = 100; takes = 100 } ∷ []; follows = None }
-      ∷ record { commands = record { device = device_no 1; job = Set 2; must = true; ms = 100; takes = 100 } ∷ record { device = device_no 0; job = Set 1; must = true; ms = 100; takes = 100 } ∷ []; follows = None } ∷ [];
+  runs = record { commands = record { device = device_no 1; job = Set 0; when = Always; must = true; ms = 100; takes = 100 } ∷ []; follows = None }
+      ∷ record { commands = record { device = device_no 0; job = Set 0; when = Always; must = true; ms = 100; takes = 100 } ∷ []; follows = None }
+      ∷ record { commands = record { device = device_no 1; job = Set 2; when = Always; must = true; ms = 100; takes = 100 } ∷ record { device = device_no 0; job = Set 1; when = Always; must = true; ms = 100; takes = 100 } ∷ []; follows = None } ∷ [];
   mode = record { model = Eventual; scheduler = JustInTime };
   kinds = Range 0 1 ∷ Range 0 3 ∷ [];
   first = record { value = 0; up = true } ∷ record { value = 0; up = true } ∷ [];

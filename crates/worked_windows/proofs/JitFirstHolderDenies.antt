@@ -1,11 +1,12 @@
 -- The window jit-first-holder-denies.
+use Rattle.home_types.specs.declared.commands.Guard.TheVariants.{Always}
 use Rattle.worked_windows.proofs.Words.{Aborted, Absent, Arrived, At, Behind, Busy, Check, Commands, Committed, Denied, DeniedBy, Did, Doomed, Ended, Entry, Eventual, Fine, Found, HandsOut, IsWorked, JustInTime, List, Load, Moves, None, Over, Placed, Ran, Range, Refuted, Sensed, Set, Setting, Some, States, Table, Waits, Worked, [], device_no, give, held, no_grips, refl, row, run_no, slice_set, split_at, split_of, still, true, ◌++◌, ◌∷◌}
 
 abbrev pub window : Setting
 window = record {
-  runs = record { commands = record { device = device_no 1; job = Load; must = true; ms = 100; takes = 100 } ∷ record { device = device_no 0; job = Set 1; must = true; ms = 100; takes = 100 } ∷ []; follows = None }
-      ∷ record { commands = record { device = device_no 0; job = Check 0; must = true; ms = 100; takes = 100 } ∷ []; follows = None }
-      ∷ record { commands = record { device = device_no 1; job = Load; must = true; ms = 100; takes = 100 } ∷ record { device = device_no 0; job = Load; must = true; ms = 100; takes = 100 } ∷ []; follows = None } ∷ [];
+  runs = record { commands = record { device = device_no 1; job = Load; when = Always; must = true; ms = 100; takes = 100 } ∷ record { device = device_no 0; job = Set 1; when = Always; must = true; ms = 100; takes = 100 } ∷ []; follows = None }
+      ∷ record { commands = record { device = device_no 0; job = Check 0; when = Always; must = true; ms = 100; takes = 100 } ∷ []; follows = None }
+      ∷ record { commands = record { device = device_no 1; job = Load; when = Always; must = true; ms = 100; takes = 100 } ∷ record { device = device_no 0; job = Load; when = Always; must = true; ms = 100; takes = 100 } ∷ []; follows = None } ∷ [];
   mode = record { model = Eventual; scheduler = JustInTime };
   kinds = Range 0 2 ∷ States 2 ∷ [];
   first = record { value = 2; up = true } ∷ record { value = 1; up = true } ∷ [];

@@ -1,11 +1,12 @@
 -- The window jit-patience-just-under: just-in-time: one ms less, and the run is placed as soon as nothing is denied.
+use Rattle.home_types.specs.declared.commands.Guard.TheVariants.{Always}
 use Rattle.worked_windows.proofs.Words.{Absent, Arrived, At, Busy, Commands, Committed, Denied, DeniedBy, Did, Ended, Entry, Eventual, Fine, HandsOut, IsWorked, JustInTime, List, Moves, None, Over, Placed, Ran, Set, Setting, Some, Table, Waits, Worked, [], device_no, give, held, home_of_four, more, no_grips, refl, row, run_no, slice_set, split_at, split_of, still, true, ◌++◌, ◌∷◌}
 
 abbrev pub window : Setting
 window = record home_of_four {
-  runs = record { commands = record { device = device_no 0; job = Set 1; must = true; ms = 100; takes = 100 } ∷ record { device = device_no 3; job = Set 20; must = true; ms = 100; takes = 9999 } ∷ record { device = device_no 2; job = Set 1; must = true; ms = 100; takes = 100 } ∷ []; follows = None }
-      ∷ record { commands = record { device = device_no 0; job = Set 0; must = true; ms = 100; takes = 100 } ∷ record { device = device_no 1; job = Set 1; must = true; ms = 100; takes = 100 } ∷ []; follows = None }
-      ∷ record { commands = record { device = device_no 1; job = Set 0; must = true; ms = 100; takes = 100 } ∷ record { device = device_no 2; job = Set 0; must = true; ms = 100; takes = 100 } ∷ []; follows = None } ∷ [];
+  runs = record { commands = record { device = device_no 0; job = Set 1; when = Always; must = true; ms = 100; takes = 100 } ∷ record { device = device_no 3; job = Set 20; when = Always; must = true; ms = 100; takes = 9999 } ∷ record { device = device_no 2; job = Set 1; when = Always; must = true; ms = 100; takes = 100 } ∷ []; follows = None }
+      ∷ record { commands = record { device = device_no 0; job = Set 0; when = Always; must = true; ms = 100; takes = 100 } ∷ record { device = device_no 1; job = Set 1; when = Always; must = true; ms = 100; takes = 100 } ∷ []; follows = None }
+      ∷ record { commands = record { device = device_no 1; job = Set 0; when = Always; must = true; ms = 100; takes = 100 } ∷ record { device = device_no 2; job = Set 0; when = Always; must = true; ms = 100; takes = 100 } ∷ []; follows = None } ∷ [];
   mode = record { model = Eventual; scheduler = JustInTime };
 }
 

@@ -1,11 +1,12 @@
 -- The window jit-patience-puts-at-the-end.
+use Rattle.home_types.specs.declared.commands.Guard.TheVariants.{Always}
 use Rattle.worked_windows.proofs.Words.{Aborted, Absent, Arrived, At, Behind, Busy, Check, Commands, Committed, Did, Doomed, Ended, Entry, Eventual, Fine, Found, HandsOut, IsWorked, JustInTime, List, Moves, None, Over, Placed, Ran, Range, Refuted, Revoked, Sensed, Set, Setting, Some, Store, Table, Undid, Undoes, Waits, Worked, [], device_no, give, held, less, more, no_grips, refl, row, run_no, slice_set, split_at, split_of, still, true, ◌++◌, ◌∷◌}
 
 abbrev pub window : Setting
 window = record {
-  runs = record { commands = record { device = device_no 0; job = Store; must = true; ms = 100; takes = 100 } ∷ []; follows = None }
-      ∷ record { commands = record { device = device_no 1; job = Set 3; must = true; ms = 100; takes = 12000 } ∷ record { device = device_no 0; job = Set 3; must = true; ms = 100; takes = 100 } ∷ record { device = device_no 2; job = Check 2; must = true; ms = 100; takes = 100 } ∷ []; follows = None }
-      ∷ record { commands = record { device = device_no 0; job = Set 3; must = true; ms = 100; takes = 100 } ∷ []; follows = None } ∷ [];
+  runs = record { commands = record { device = device_no 0; job = Store; when = Always; must = true; ms = 100; takes = 100 } ∷ []; follows = None }
+      ∷ record { commands = record { device = device_no 1; job = Set 3; when = Always; must = true; ms = 100; takes = 12000 } ∷ record { device = device_no 0; job = Set 3; when = Always; must = true; ms = 100; takes = 100 } ∷ record { device = device_no 2; job = Check 2; when = Always; must = true; ms = 100; takes = 100 } ∷ []; follows = None }
+      ∷ record { commands = record { device = device_no 0; job = Set 3; when = Always; must = true; ms = 100; takes = 100 } ∷ []; follows = None } ∷ [];
   mode = record { model = Eventual; scheduler = JustInTime };
   kinds = Range 0 3 ∷ Range 0 3 ∷ Range 0 2 ∷ [];
   first = record { value = 0; up = true } ∷ record { value = 0; up = true } ∷ record { value = 0; up = true } ∷ [];

@@ -1,10 +1,11 @@
 -- The window lease-rounds-up: a tenth of 105 ms is 11 ms, and a later command does not lengthen the lease.
+use Rattle.home_types.specs.declared.commands.Guard.TheVariants.{Always}
 use Rattle.worked_windows.proofs.Words.{Aborted, Absent, Arrived, At, Busy, Commands, Committed, Did, Doomed, Ended, Entry, Eventual, Fine, HandsOut, IsWorked, JustInTime, List, Moves, None, Over, Placed, Ran, Revoked, Set, Setting, Some, States, Table, Waits, Worked, [], device_no, give, held, more, no_grips, refl, row, run_no, slice_set, split_at, split_of, still, true, ◌∷◌}
 
 abbrev pub window : Setting
 window = record {
-  runs = record { commands = record { device = device_no 0; job = Set 1; must = true; ms = 100; takes = 117 } ∷ record { device = device_no 1; job = Set 1; must = true; ms = 100; takes = 100 } ∷ []; follows = None }
-      ∷ record { commands = record { device = device_no 1; job = Set 0; must = true; ms = 105; takes = 105 } ∷ record { device = device_no 2; job = Set 1; must = true; ms = 500; takes = 500 } ∷ []; follows = None } ∷ [];
+  runs = record { commands = record { device = device_no 0; job = Set 1; when = Always; must = true; ms = 100; takes = 117 } ∷ record { device = device_no 1; job = Set 1; when = Always; must = true; ms = 100; takes = 100 } ∷ []; follows = None }
+      ∷ record { commands = record { device = device_no 1; job = Set 0; when = Always; must = true; ms = 105; takes = 105 } ∷ record { device = device_no 2; job = Set 1; when = Always; must = true; ms = 500; takes = 500 } ∷ []; follows = None } ∷ [];
   mode = record { model = Eventual; scheduler = JustInTime };
   kinds = States 2 ∷ States 2 ∷ States 2 ∷ [];
   first = record { value = 0; up = true } ∷ record { value = 0; up = true } ∷ record { value = 0; up = true } ∷ [];

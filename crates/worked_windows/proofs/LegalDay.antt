@@ -1,5 +1,6 @@
 -- A day of two windows that is legal, put together whole: in the first the light fails when its run is done with it, in the second
 -- it comes back and is turned off.
+use Rattle.home_types.specs.declared.commands.Guard.TheVariants.{Always}
 use Rattle.worked_windows.proofs.LegalWindow as first_window
 use Rattle.history_book.specs.Histories.{kept_by, reading}
 use Rattle.history_book.specs.declared.records.WindowRecord.{WindowRecord}
@@ -49,8 +50,8 @@ script = record {
   devices = record { items = light ∷ fan ∷ lamp ∷ heat ∷ []; spare = 0 };
   routines = record {
     items =
-        record { name = codes "come in"; routine = record { commands = record { items = record { device = device_no 0; job = Set 1; must = true; ms = 100; takes = 100 } ∷ record { device = device_no 1; job = Set 1; must = true; ms = 100; takes = 100 } ∷ []; spare = 0 } } }
-        ∷ record { name = codes "light off"; routine = record { commands = record { items = record { device = device_no 0; job = Set 0; must = true; ms = 100; takes = 100 } ∷ []; spare = 0 } } }
+        record { name = codes "come in"; routine = record { commands = record { items = record { device = device_no 0; job = Set 1; when = Always; must = true; ms = 100; takes = 100 } ∷ record { device = device_no 1; job = Set 1; when = Always; must = true; ms = 100; takes = 100 } ∷ []; spare = 0 } } }
+        ∷ record { name = codes "light off"; routine = record { commands = record { items = record { device = device_no 0; job = Set 0; when = Always; must = true; ms = 100; takes = 100 } ∷ []; spare = 0 } } }
         ∷ [];
     spare = 0;
   };

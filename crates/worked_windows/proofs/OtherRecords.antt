@@ -1,6 +1,7 @@
 -- Orders, records and places that are not those of a history.
 use Rattle.worked_windows.proofs.FailureAfterLastAccess as failure_after_last_access
 use Rattle.worked_windows.proofs.Follows as follows_window
+use Rattle.worked_windows.proofs.GuardedCommands as guarded_commands
 use Rattle.worked_windows.proofs.JitPatienceOver as jit_patience_over
 use Rattle.worked_windows.proofs.LostBetweenAccesses as lost_between_accesses
 use Rattle.worked_windows.proofs.NoDirtyRead as no_dirty_read
@@ -17,7 +18,7 @@ use Rattle.std.proofs.Common.{ap, arith}
 use Rattle.std.proofs.lemmas.Grind.{common_steps}
 use Rattle.std.specs.Prelude.{List, [], false, length, refl, true, ℕ, ◌==◌, ◌∷◌, ◌≡◌, ◌≤◌}
 use Rattle.worked_windows.proofs.Edits.{replaced}
-use Rattle.worked_windows.proofs.Words.{Back, Did, Down, Failed, Fine, Found, Placed, Ran, Undid, device_no, run_no, split_of}
+use Rattle.worked_windows.proofs.Words.{Back, Did, Down, Failed, Fine, Found, Placed, Ran, Skipped, Undid, device_no, run_no, split_of}
 
 pub differ : (a b : ℕ) → (a == b) ≡ false → a ≡ b → ⊥
 differ a b other same = grind (arith, common_steps)
@@ -32,6 +33,7 @@ first_found (s ∷ served) = value_in s.answers
     value_in (Fine ∷ answers) = 0
     value_in (Found x ∷ answers) = x
     value_in (Down ∷ answers) = 0
+    value_in (Skipped ∷ answers) = 0
 
 -- how many items stand in front of the place
 abbrev front_size : Placing → ℕ
@@ -92,6 +94,11 @@ with_a_device_up_that_is_down agrees = let up : false ≡ true = ap (λ home. (s
 with_a_call_more : CallsAreAccounted released_lamp_overwritten.window released_lamp_overwritten.history (2 ∷ 2 ∷ 0 ∷ 0 ∷ []) (0 ∷ 0 ∷ 0 ∷ 0 ∷ []) → ⊥
 unfolding split_of
 with_a_call_more calls = differ 2 1 refl (calls.turns_of 1 (omega arith))
+
+-- the command on the fan was skipped, and is counted
+with_a_call_for_a_skip : CallsAreAccounted guarded_commands.window guarded_commands.history (1 ∷ 1 ∷ 0 ∷ 1 ∷ []) (0 ∷ 0 ∷ 0 ∷ 0 ∷ []) → ⊥
+unfolding split_of
+with_a_call_for_a_skip calls = differ 1 0 refl (calls.turns_of 1 (omega arith))
 
 -- the undo was dropped, and is told as a drive
 with_a_drive_that_was_dropped : CallsAreAccounted lost_between_accesses.window (replaced 5 (Undid (run_no 1) (device_no 0) true) lost_between_accesses.history) (1 ∷ 0 ∷ 0 ∷ 0 ∷ []) (1 ∷ 0 ∷ 0 ∷ 0 ∷ []) → ⊥

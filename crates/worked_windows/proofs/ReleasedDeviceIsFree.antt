@@ -1,10 +1,11 @@
 -- The window released-device-is-free.
+use Rattle.home_types.specs.declared.commands.Guard.TheVariants.{Always}
 use Rattle.worked_windows.proofs.Words.{Absent, Arrived, At, Busy, Commands, Committed, Did, Ended, Entry, Eventual, Fine, Found, HandsOut, IsWorked, List, Load, Moves, None, Over, Placed, Ran, Range, Sensed, Setting, Some, Store, Table, Timeline, Waits, Worked, [], chosen, closure, device_no, either_of, gap_set, give, held, no_grips, others, refl, row, run_no, slice_set, split_at, split_of, still, true, ◌∷◌}
 
 abbrev pub window : Setting
 window = record {
-  runs = record { commands = record { device = device_no 0; job = Store; must = true; ms = 100; takes = 100 } ∷ []; follows = None }
-      ∷ record { commands = record { device = device_no 0; job = Load; must = true; ms = 100; takes = 0 } ∷ []; follows = None } ∷ [];
+  runs = record { commands = record { device = device_no 0; job = Store; when = Always; must = true; ms = 100; takes = 100 } ∷ []; follows = None }
+      ∷ record { commands = record { device = device_no 0; job = Load; when = Always; must = true; ms = 100; takes = 0 } ∷ []; follows = None } ∷ [];
   mode = record { model = Eventual; scheduler = Timeline };
   kinds = Range 0 3 ∷ [];
   first = record { value = 0; up = true } ∷ [];

@@ -3,7 +3,7 @@ use Rattle.command_rules.specs.Serial.{SerialRun, Served}
 use Rattle.history_book.specs.Readings.{same_answer}
 use Rattle.history_book.specs.Settings.{Setting}
 use Rattle.history_book.specs.declared.entries.Entry.{Entry}
-use Rattle.home_types.specs.declared.commands.Answer.TheVariants.{Down, Fine, Found}
+use Rattle.home_types.specs.declared.commands.Answer.TheVariants.{Down, Fine, Found, Skipped}
 use Rattle.home_types.specs.declared.commands.Answer.{Answer}
 use Rattle.home_types.specs.declared.items.Item.TheVariants.{Back, Failed, Ran}
 use Rattle.home_types.specs.declared.items.Item.{Item}
@@ -34,6 +34,7 @@ equal_answers : (a b : Answer) → same_answer a b ≡ true → a ≡ b
 equal_answers Fine Fine same = refl
 equal_answers (Found x) (Found y) same = grind (arith, common_steps)
 equal_answers Down Down same = refl
+equal_answers Skipped Skipped same = refl
 equal_answers a b same = absurd (cc)
 
 equal_items : (a b : Item) → same_item a b ≡ true → a ≡ b

@@ -1,9 +1,10 @@
 -- The window sees-down-then-probe-dies: a device fails under a probe within the span of a run that sees it down, and the run is not lost.
+use Rattle.home_types.specs.declared.commands.Guard.TheVariants.{Always}
 use Rattle.worked_windows.proofs.Words.{Absent, Arrived, At, Back, Busy, Commands, Committed, Did, Died, Down, Ended, Entry, Eventual, Failed, Fcfs, Fell, Fine, HandsOut, IsWorked, List, Moves, None, Over, Placed, Probes, Ran, Rose, Set, Setting, Some, States, Table, Waits, Worked, [], device_no, false, give, held, no_grips, refl, row, run_no, split_at, split_of, still, true, ◌++◌, ◌∷◌}
 
 abbrev pub window : Setting
 window = record {
-  runs = record { commands = record { device = device_no 0; job = Set 1; must = false; ms = 100; takes = 100 } ∷ record { device = device_no 1; job = Set 1; must = true; ms = 100; takes = 100 } ∷ record { device = device_no 0; job = Set 0; must = false; ms = 100; takes = 100 } ∷ []; follows = None } ∷ [];
+  runs = record { commands = record { device = device_no 0; job = Set 1; when = Always; must = false; ms = 100; takes = 100 } ∷ record { device = device_no 1; job = Set 1; when = Always; must = true; ms = 100; takes = 100 } ∷ record { device = device_no 0; job = Set 0; when = Always; must = false; ms = 100; takes = 100 } ∷ []; follows = None } ∷ [];
   mode = record { model = Eventual; scheduler = Fcfs };
   kinds = States 2 ∷ States 2 ∷ [];
   first = record { value = 0; up = true } ∷ record { value = 0; up = true } ∷ [];

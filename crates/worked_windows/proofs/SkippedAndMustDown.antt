@@ -1,10 +1,11 @@
 -- The window skipped-and-must-down: a best-effort command is passed over on a device that is down, and a must command dooms its run.
+use Rattle.home_types.specs.declared.commands.Guard.TheVariants.{Always}
 use Rattle.worked_windows.proofs.Words.{Aborted, Absent, Arrived, At, Busy, Commands, Committed, Did, Died, Doomed, Down, Ended, Entry, Eventual, Failed, Fcfs, Fell, Fine, HandsOut, IsWorked, List, Moves, MustDown, None, Over, Placed, Ran, Set, Setting, Some, Table, Waits, Worked, [], device_no, false, give, held, home_of_four, no_grips, refl, row, run_no, slice_set, split_at, split_of, still, true, ◌++◌, ◌∷◌}
 
 abbrev pub window : Setting
 window = record home_of_four {
-  runs = record { commands = record { device = device_no 0; job = Set 1; must = false; ms = 100; takes = 100 } ∷ record { device = device_no 1; job = Set 1; must = true; ms = 100; takes = 100 } ∷ []; follows = None }
-      ∷ record { commands = record { device = device_no 0; job = Set 1; must = true; ms = 100; takes = 100 } ∷ []; follows = None } ∷ [];
+  runs = record { commands = record { device = device_no 0; job = Set 1; when = Always; must = false; ms = 100; takes = 100 } ∷ record { device = device_no 1; job = Set 1; when = Always; must = true; ms = 100; takes = 100 } ∷ []; follows = None }
+      ∷ record { commands = record { device = device_no 0; job = Set 1; when = Always; must = true; ms = 100; takes = 100 } ∷ []; follows = None } ∷ [];
   mode = record { model = Eventual; scheduler = Fcfs };
 }
 

@@ -1,10 +1,11 @@
 -- The window smallest-device-down-at-end.
+use Rattle.home_types.specs.declared.commands.Guard.TheVariants.{Always}
 use Rattle.worked_windows.proofs.Words.{Aborted, Absent, Arrived, At, Busy, Check, Commands, Did, Died, Doomed, Down, DownAtEnd, Ended, Entry, Failed, Fcfs, Fell, Fine, Found, Global, HandsOut, IsWorked, List, Moves, None, Over, Placed, Probes, Ran, Range, Refuted, Sensed, Set, Setting, Some, Strict, Table, Undid, Undoes, Waits, Worked, [], device_no, false, give, held, less, more, no_grips, refl, row, run_no, slice_set, split_at, split_of, still, true, ◌∷◌}
 
 abbrev pub window : Setting
 window = record {
-  runs = record { commands = record { device = device_no 0; job = Set 2; must = true; ms = 100; takes = 100 } ∷ record { device = device_no 0; job = Check 0; must = true; ms = 100; takes = 100 } ∷ []; follows = None }
-      ∷ record { commands = record { device = device_no 0; job = Set 1; must = false; ms = 100; takes = 100 } ∷ record { device = device_no 1; job = Check 1; must = false; ms = 100; takes = 100 } ∷ []; follows = None } ∷ [];
+  runs = record { commands = record { device = device_no 0; job = Set 2; when = Always; must = true; ms = 100; takes = 100 } ∷ record { device = device_no 0; job = Check 0; when = Always; must = true; ms = 100; takes = 100 } ∷ []; follows = None }
+      ∷ record { commands = record { device = device_no 0; job = Set 1; when = Always; must = false; ms = 100; takes = 100 } ∷ record { device = device_no 1; job = Check 1; when = Always; must = false; ms = 100; takes = 100 } ∷ []; follows = None } ∷ [];
   mode = record { model = Global; scheduler = Fcfs };
   kinds = Range 0 3 ∷ Range 0 3 ∷ [];
   first = record { value = 0; up = true } ∷ record { value = 0; up = true } ∷ [];

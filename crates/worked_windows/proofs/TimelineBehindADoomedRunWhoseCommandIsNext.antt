@@ -1,10 +1,11 @@
 -- The window timeline-behind-a-doomed-run-whose-command-is-next: timeline: a doomed run whose next command is on a device of the run is in its base.
+use Rattle.home_types.specs.declared.commands.Guard.TheVariants.{Always}
 use Rattle.worked_windows.proofs.Words.{Aborted, Absent, Arrived, At, Busy, Check, Commands, Committed, Did, Doomed, Ended, Entry, Eventual, Fine, Found, HandsOut, IsWorked, List, Moves, None, Over, Placed, Ran, Refuted, Sensed, Set, Setting, Some, States, Table, Timeline, Waits, Worked, [], chosen, closure, device_no, either_of, gap_set, give, held, no_grips, others, refl, row, run_no, slice_set, split_at, split_of, still, true, ◌∷◌}
 
 abbrev pub window : Setting
 window = record {
-  runs = record { commands = record { device = device_no 1; job = Check 1; must = true; ms = 100; takes = 0 } ∷ record { device = device_no 0; job = Set 1; must = true; ms = 100; takes = 100 } ∷ []; follows = None }
-      ∷ record { commands = record { device = device_no 0; job = Set 0; must = true; ms = 10; takes = 10 } ∷ []; follows = None } ∷ [];
+  runs = record { commands = record { device = device_no 1; job = Check 1; when = Always; must = true; ms = 100; takes = 0 } ∷ record { device = device_no 0; job = Set 1; when = Always; must = true; ms = 100; takes = 100 } ∷ []; follows = None }
+      ∷ record { commands = record { device = device_no 0; job = Set 0; when = Always; must = true; ms = 10; takes = 10 } ∷ []; follows = None } ∷ [];
   mode = record { model = Eventual; scheduler = Timeline };
   kinds = States 2 ∷ States 2 ∷ [];
   first = record { value = 0; up = true } ∷ record { value = 0; up = true } ∷ [];

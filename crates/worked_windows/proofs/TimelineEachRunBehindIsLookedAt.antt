@@ -1,11 +1,12 @@
 -- The window timeline-each-run-behind-is-looked-at: timeline: a run that begins late hides none behind it that begins early.
+use Rattle.home_types.specs.declared.commands.Guard.TheVariants.{Always}
 use Rattle.worked_windows.proofs.Words.{Aborted, Absent, Arrived, At, Behind, Busy, Check, Commands, Committed, Did, Doomed, Ended, Entry, Eventual, Fine, Found, HandsOut, IsWorked, List, Moves, None, Over, Placed, Ran, Range, Refuted, Sensed, Set, Setting, Some, States, Table, Timeline, Waits, Worked, [], chosen, closure, device_no, either_of, false, gap_set, give, held, less, more, no_grips, others, refl, row, run_no, slice_set, split_at, split_of, still, true, ◌++◌, ◌∷◌}
 
 abbrev pub window : Setting
 window = record {
-  runs = record { commands = record { device = device_no 1; job = Check 1; must = true; ms = 100; takes = 0 } ∷ record { device = device_no 2; job = Set 20; must = true; ms = 500; takes = 500 } ∷ record { device = device_no 0; job = Set 1; must = true; ms = 100; takes = 100 } ∷ []; follows = None }
-      ∷ record { commands = record { device = device_no 3; job = Check 0; must = false; ms = 0; takes = 0 } ∷ record { device = device_no 0; job = Set 0; must = true; ms = 900; takes = 900 } ∷ []; follows = None }
-      ∷ record { commands = record { device = device_no 0; job = Set 1; must = true; ms = 300; takes = 300 } ∷ []; follows = None } ∷ [];
+  runs = record { commands = record { device = device_no 1; job = Check 1; when = Always; must = true; ms = 100; takes = 0 } ∷ record { device = device_no 2; job = Set 20; when = Always; must = true; ms = 500; takes = 500 } ∷ record { device = device_no 0; job = Set 1; when = Always; must = true; ms = 100; takes = 100 } ∷ []; follows = None }
+      ∷ record { commands = record { device = device_no 3; job = Check 0; when = Always; must = false; ms = 0; takes = 0 } ∷ record { device = device_no 0; job = Set 0; when = Always; must = true; ms = 900; takes = 900 } ∷ []; follows = None }
+      ∷ record { commands = record { device = device_no 0; job = Set 1; when = Always; must = true; ms = 300; takes = 300 } ∷ []; follows = None } ∷ [];
   mode = record { model = Eventual; scheduler = Timeline };
   kinds = States 2 ∷ States 2 ∷ Range 10 30 ∷ States 2 ∷ [];
   first = record { value = 0; up = true } ∷ record { value = 0; up = true } ∷ record { value = 18; up = true } ∷ record { value = 0; up = true } ∷ [];

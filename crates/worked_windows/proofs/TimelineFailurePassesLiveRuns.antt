@@ -1,11 +1,12 @@
 -- The window timeline-failure-passes-live-runs: timeline: a failure of a device of the run comes past live runs.
+use Rattle.home_types.specs.declared.commands.Guard.TheVariants.{Always}
 use Rattle.worked_windows.proofs.Words.{Absent, Arrived, At, Busy, Commands, Committed, Did, Died, Down, Ended, Entry, Eventual, Failed, Fell, Fine, HandsOut, IsWorked, List, Moves, None, Over, Placed, Probes, Ran, Range, Set, Setting, Some, States, Table, Timeline, Waits, Worked, [], chosen, closure, device_no, either_of, false, gap_set, give, held, less, more, no_grips, others, refl, row, run_no, slice_set, split_at, split_of, still, true, ◌++◌, ◌∷◌}
 
 abbrev pub window : Setting
 window = record {
-  runs = record { commands = record { device = device_no 2; job = Set 20; must = true; ms = 1000; takes = 1000 } ∷ []; follows = None }
-      ∷ record { commands = record { device = device_no 1; job = Set 1; must = true; ms = 100; takes = 100 } ∷ []; follows = None }
-      ∷ record { commands = record { device = device_no 0; job = Set 1; must = false; ms = 100; takes = 100 } ∷ []; follows = None } ∷ [];
+  runs = record { commands = record { device = device_no 2; job = Set 20; when = Always; must = true; ms = 1000; takes = 1000 } ∷ []; follows = None }
+      ∷ record { commands = record { device = device_no 1; job = Set 1; when = Always; must = true; ms = 100; takes = 100 } ∷ []; follows = None }
+      ∷ record { commands = record { device = device_no 0; job = Set 1; when = Always; must = false; ms = 100; takes = 100 } ∷ []; follows = None } ∷ [];
   mode = record { model = Eventual; scheduler = Timeline };
   kinds = States 2 ∷ States 2 ∷ Range 10 30 ∷ [];
   first = record { value = 0; up = true } ∷ record { value = 0; up = true } ∷ record { value = 18; up = true } ∷ [];

@@ -1,12 +1,13 @@
 -- The window timeline-leader-comes-with-its-follower: timeline: the run that a run of the set follows is in it, with no device in common.
+use Rattle.home_types.specs.declared.commands.Guard.TheVariants.{Always}
 use Rattle.worked_windows.proofs.Words.{Absent, Arrived, At, Behind, Busy, Commands, Committed, Did, Ended, Entry, Eventual, Fine, Follow, HandsOut, IsWorked, List, Moves, None, Over, Placed, Ran, Range, Set, Setting, Some, States, Table, Timeline, Waits, Worked, [], chosen, closure, device_no, either_of, gap_set, give, held, less, more, no_grips, others, refl, row, run_no, slice_set, split_at, split_of, still, true, ◌++◌, ◌∷◌}
 
 abbrev pub window : Setting
 window = record {
-  runs = record { commands = record { device = device_no 2; job = Set 20; must = true; ms = 1000; takes = 1000 } ∷ record { device = device_no 3; job = Set 1; must = true; ms = 100; takes = 100 } ∷ []; follows = None }
-      ∷ record { commands = record { device = device_no 1; job = Set 1; must = true; ms = 100; takes = 0 } ∷ []; follows = None }
-      ∷ record { commands = record { device = device_no 0; job = Set 1; must = true; ms = 950; takes = 950 } ∷ record { device = device_no 3; job = Set 0; must = true; ms = 100; takes = 100 } ∷ []; follows = Some (run_no 2) }
-      ∷ record { commands = record { device = device_no 0; job = Set 0; must = true; ms = 100; takes = 100 } ∷ []; follows = None } ∷ [];
+  runs = record { commands = record { device = device_no 2; job = Set 20; when = Always; must = true; ms = 1000; takes = 1000 } ∷ record { device = device_no 3; job = Set 1; when = Always; must = true; ms = 100; takes = 100 } ∷ []; follows = None }
+      ∷ record { commands = record { device = device_no 1; job = Set 1; when = Always; must = true; ms = 100; takes = 0 } ∷ []; follows = None }
+      ∷ record { commands = record { device = device_no 0; job = Set 1; when = Always; must = true; ms = 950; takes = 950 } ∷ record { device = device_no 3; job = Set 0; when = Always; must = true; ms = 100; takes = 100 } ∷ []; follows = Some (run_no 2) }
+      ∷ record { commands = record { device = device_no 0; job = Set 0; when = Always; must = true; ms = 100; takes = 100 } ∷ []; follows = None } ∷ [];
   mode = record { model = Eventual; scheduler = Timeline };
   kinds = States 2 ∷ States 2 ∷ Range 10 30 ∷ States 2 ∷ [];
   first = record { value = 0; up = true } ∷ record { value = 0; up = true } ∷ record { value = 18; up = true } ∷ record { value = 0; up = true } ∷ [];

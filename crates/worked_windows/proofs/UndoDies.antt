@@ -1,9 +1,10 @@
 -- The window undo-dies: the device fails under the drive of an undo.
+use Rattle.home_types.specs.declared.commands.Guard.TheVariants.{Always}
 use Rattle.worked_windows.proofs.Words.{Aborted, Absent, Arrived, At, Back, Busy, Check, Commands, Did, Died, Doomed, Ended, Entry, Eventual, Failed, Fcfs, Fell, Fine, Found, HandsOut, IsWorked, List, Moves, None, Over, Placed, Probes, Ran, Refuted, Rose, Sensed, Set, Setting, Some, Table, Undid, Undoes, Waits, Worked, [], device_no, false, give, held, home_of_four, no_grips, refl, row, run_no, split_at, split_of, still, true, ◌++◌, ◌∷◌}
 
 abbrev pub window : Setting
 window = record home_of_four {
-  runs = record { commands = record { device = device_no 0; job = Set 1; must = true; ms = 100; takes = 100 } ∷ record { device = device_no 1; job = Check 1; must = true; ms = 100; takes = 100 } ∷ []; follows = None } ∷ [];
+  runs = record { commands = record { device = device_no 0; job = Set 1; when = Always; must = true; ms = 100; takes = 100 } ∷ record { device = device_no 1; job = Check 1; when = Always; must = true; ms = 100; takes = 100 } ∷ []; follows = None } ∷ [];
   mode = record { model = Eventual; scheduler = Fcfs };
 }
 

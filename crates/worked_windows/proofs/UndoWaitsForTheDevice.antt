@@ -1,10 +1,11 @@
 -- The window undo-waits-for-the-device.
+use Rattle.home_types.specs.declared.commands.Guard.TheVariants.{Always}
 use Rattle.worked_windows.proofs.Words.{Aborted, Absent, Arrived, At, Behind, Busy, Commands, Did, Died, Dirty, Doomed, Down, Ended, Entry, Eventual, Failed, Fcfs, Fell, Fine, HandsOut, IsWorked, List, Load, Moves, MustDown, None, Over, Placed, Probes, Ran, Range, Setting, Some, States, Store, Table, Undid, Waits, Worked, [], device_no, false, give, held, less, more, no_grips, refl, row, run_no, slice_set, split_at, split_of, still, true, ◌∷◌}
 
 abbrev pub window : Setting
 window = record {
-  runs = record { commands = record { device = device_no 1; job = Store; must = true; ms = 100; takes = 100 } ∷ record { device = device_no 0; job = Store; must = true; ms = 100; takes = 100 } ∷ []; follows = None }
-      ∷ record { commands = record { device = device_no 1; job = Load; must = true; ms = 100; takes = 100 } ∷ []; follows = None } ∷ [];
+  runs = record { commands = record { device = device_no 1; job = Store; when = Always; must = true; ms = 100; takes = 100 } ∷ record { device = device_no 0; job = Store; when = Always; must = true; ms = 100; takes = 100 } ∷ []; follows = None }
+      ∷ record { commands = record { device = device_no 1; job = Load; when = Always; must = true; ms = 100; takes = 100 } ∷ []; follows = None } ∷ [];
   mode = record { model = Eventual; scheduler = Fcfs };
   kinds = Range 0 3 ∷ States 2 ∷ [];
   first = record { value = 1; up = true } ∷ record { value = 1; up = true } ∷ [];

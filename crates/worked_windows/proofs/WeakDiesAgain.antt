@@ -1,9 +1,10 @@
 -- The window weak-dies-again: under the weak model a run may see a device down, then up, then dead, and a dead later access is not a loss.
+use Rattle.home_types.specs.declared.commands.Guard.TheVariants.{Always}
 use Rattle.worked_windows.proofs.Words.{Absent, Arrived, At, Back, Busy, Commands, Committed, Did, Died, Doomed, Down, Ended, Entry, Failed, Fcfs, Fell, Fine, HandsOut, IsWeaklyWorked, List, Moves, MustDown, None, Over, Placed, Probes, Ran, Rose, Set, Setting, Some, States, Waits, Weak, WeakTable, Worked, [], device_no, false, give, held, no_grips, refl, row, run_no, split_at, split_of, still, true, ◌++◌, ◌∷◌}
 
 abbrev pub window : Setting
 window = record {
-  runs = record { commands = record { device = device_no 0; job = Set 1; must = false; ms = 100; takes = 100 } ∷ record { device = device_no 1; job = Set 1; must = true; ms = 100; takes = 100 } ∷ record { device = device_no 0; job = Set 1; must = true; ms = 100; takes = 100 } ∷ record { device = device_no 0; job = Set 0; must = false; ms = 100; takes = 100 } ∷ []; follows = None } ∷ [];
+  runs = record { commands = record { device = device_no 0; job = Set 1; when = Always; must = false; ms = 100; takes = 100 } ∷ record { device = device_no 1; job = Set 1; when = Always; must = true; ms = 100; takes = 100 } ∷ record { device = device_no 0; job = Set 1; when = Always; must = true; ms = 100; takes = 100 } ∷ record { device = device_no 0; job = Set 0; when = Always; must = false; ms = 100; takes = 100 } ∷ []; follows = None } ∷ [];
   mode = record { model = Weak; scheduler = Fcfs };
   kinds = States 2 ∷ States 2 ∷ [];
   first = record { value = 0; up = true } ∷ record { value = 0; up = true } ∷ [];

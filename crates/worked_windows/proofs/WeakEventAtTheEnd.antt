@@ -1,9 +1,10 @@
 -- The window weak-event-at-the-end.
+use Rattle.home_types.specs.declared.commands.Guard.TheVariants.{Always}
 use Rattle.worked_windows.proofs.Words.{Aborted, Absent, Arrived, At, Busy, Check, Commands, Did, Died, Doomed, Down, Ended, Entry, Failed, Fcfs, Fell, HandsOut, IsWeaklyWorked, List, Moves, MustDown, None, Over, Placed, Ran, Range, Setting, Waits, Weak, WeakTable, [], device_no, false, give, held, no_grips, refl, row, run_no, split_at, split_of, still, true, ◌∷◌}
 
 abbrev pub window : Setting
 window = record {
-  runs = record { commands = record { device = device_no 0; job = Check 2; must = true; ms = 100; takes = 100 } ∷ []; follows = None } ∷ [];
+  runs = record { commands = record { device = device_no 0; job = Check 2; when = Always; must = true; ms = 100; takes = 100 } ∷ []; follows = None } ∷ [];
   mode = record { model = Weak; scheduler = Fcfs };
   kinds = Range 0 2 ∷ [];
   first = record { value = 0; up = true } ∷ [];

@@ -1,10 +1,11 @@
 -- The window weak-reads-live-writer: under the weak model a run reads what a live one wrote.
+use Rattle.home_types.specs.declared.commands.Guard.TheVariants.{Always}
 use Rattle.worked_windows.proofs.Words.{Aborted, Absent, Arrived, At, Busy, Check, Commands, Committed, Did, Doomed, Ended, Entry, Fcfs, Fine, Found, HandsOut, IsWeaklyWorked, List, Load, Moves, None, Over, Placed, Ran, Range, Refuted, Sensed, Set, Setting, Some, States, Waits, Weak, WeakTable, Worked, [], device_no, give, held, more, no_grips, refl, row, run_no, slice_set, split_at, split_of, still, true, ◌∷◌}
 
 abbrev pub window : Setting
 window = record {
-  runs = record { commands = record { device = device_no 2; job = Set 20; must = true; ms = 100; takes = 100 } ∷ record { device = device_no 1; job = Check 1; must = true; ms = 100; takes = 100 } ∷ []; follows = None }
-      ∷ record { commands = record { device = device_no 2; job = Load; must = true; ms = 100; takes = 100 } ∷ record { device = device_no 0; job = Set 1; must = true; ms = 100; takes = 100 } ∷ []; follows = None } ∷ [];
+  runs = record { commands = record { device = device_no 2; job = Set 20; when = Always; must = true; ms = 100; takes = 100 } ∷ record { device = device_no 1; job = Check 1; when = Always; must = true; ms = 100; takes = 100 } ∷ []; follows = None }
+      ∷ record { commands = record { device = device_no 2; job = Load; when = Always; must = true; ms = 100; takes = 100 } ∷ record { device = device_no 0; job = Set 1; when = Always; must = true; ms = 100; takes = 100 } ∷ []; follows = None } ∷ [];
   mode = record { model = Weak; scheduler = Fcfs };
   kinds = States 2 ∷ States 2 ∷ Range 10 30 ∷ [];
   first = record { value = 0; up = true } ∷ record { value = 0; up = true } ∷ record { value = 18; up = true } ∷ [];

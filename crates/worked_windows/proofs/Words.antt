@@ -9,7 +9,8 @@ pub use Rattle.history_book.specs.declared.entries.Cause.TheVariants.{DownAtEnd,
 pub use Rattle.history_book.specs.declared.entries.End.TheVariants.{Aborted, Committed}
 pub use Rattle.history_book.specs.declared.entries.Entry.{Entry}
 pub use Rattle.history_book.specs.declared.entries.Entry.TheVariants.{Arrived, Did, Doomed, Ended, Fell, Placed, Rose, Undid}
-pub use Rattle.home_types.specs.declared.commands.Answer.TheVariants.{Down, Fine, Found}
+pub use Rattle.home_types.specs.declared.commands.Answer.TheVariants.{Down, Fine, Found, Skipped}
+pub use Rattle.home_types.specs.declared.commands.Guard.TheVariants.{Always, Below, Is}
 pub use Rattle.home_types.specs.declared.commands.Job.TheVariants.{Check, Load, Set, Store}
 pub use Rattle.home_types.specs.declared.items.Item.TheVariants.{Back, Failed, Ran}
 pub use Rattle.home_types.specs.declared.kinds.Kind.TheVariants.{Range, States}

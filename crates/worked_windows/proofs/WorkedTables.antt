@@ -1,8 +1,12 @@
--- Lineage tables of worked windows with a doomed run: at each point the table that represents the configuration, put together whole,
--- and altered tables that do not. A table's values were found by the rule and, apart from it, by the calls of a table kept elsewhere.
+-- Lineage tables of worked windows with a doomed run or a skipped command: at each point the table that represents the configuration,
+-- put together whole, and altered tables that do not. A table's values were found by the rule and, apart from it, by the calls of a table kept elsewhere.
+use Rattle.home_types.specs.declared.commands.Guard.TheVariants.{Always}
 use Rattle.worked_windows.proofs.FailurePassesDoomedRun as failure_passes_doomed_run
 use Rattle.worked_windows.proofs.LeaseOverdue as lease_overdue
 use Rattle.worked_windows.proofs.LostBetweenAccesses as lost_between_accesses
+use Rattle.worked_windows.proofs.SkipReleasesWhatWasTouched as skip_releases_what_was_touched
+use Rattle.worked_windows.proofs.SkipWhereNothingWasTouched as skip_where_nothing_was_touched
+use Rattle.worked_windows.proofs.SkipWithMoreToCome as skip_with_more_to_come
 use Rattle.worked_windows.proofs.SkippedUnderLiveUndo as skipped_under_live_undo
 use Rattle.worked_windows.proofs.UndoDies as undo_dies
 use Rattle.worked_windows.proofs.UndoDrivesLiveWriter as undo_drives_live_writer
@@ -305,8 +309,8 @@ revoked_while_out = represents refl refl refl refl refl (sound refl refl, tt) tt
 abbrev window_of_two : Setting
 window_of_two = record lease_overdue.window {
   runs =
-      record { commands = record { device = device_no 0; job = Set 1; must = true; ms = 100; takes = 221 } ∷ record { device = device_no 2; job = Set 1; must = true; ms = 100; takes = 100 } ∷ []; follows = None }
-      ∷ record { commands = record { device = device_no 2; job = Set 0; must = true; ms = 100; takes = 100 } ∷ record { device = device_no 2; job = Set 1; must = true; ms = 100; takes = 100 } ∷ []; follows = None } ∷ [];
+      record { commands = record { device = device_no 0; job = Set 1; when = Always; must = true; ms = 100; takes = 221 } ∷ record { device = device_no 2; job = Set 1; when = Always; must = true; ms = 100; takes = 100 } ∷ []; follows = None }
+      ∷ record { commands = record { device = device_no 2; job = Set 0; when = Always; must = true; ms = 100; takes = 100 } ∷ record { device = device_no 2; job = Set 1; when = Always; must = true; ms = 100; takes = 100 } ∷ []; follows = None } ∷ [];
 }
 
 abbrev history_of_two : List Entry
@@ -330,6 +334,29 @@ revoked_at_work : IsTableAt window_of_two history_of_two (out 2 2 (Commands 1)) 
     ∷ device 0 (record (released 2 Up (Some 0) 0 200) { status = Acquired } ∷ scheduled 1 100 200 ∷ []) 0 true ∷ device 18 [] 0 true ∷ [])
 unfolding split_of
 revoked_at_work = represents refl refl refl refl refl (sound refl refl, tt) tt (doomed refl refl refl, (sound refl refl, tt)) tt
+
+-- Windows with a skipped command: run 1 skips on the lamp, and run 2 stands behind it
+
+-- it has more to do on the lamp: its access stays as it was, scheduled
+skipped_with_more_to_come : IsTableAt skip_with_more_to_come.window (take 5 skip_with_more_to_come.history) no_grips (
+    device 0 (scheduled 1 0 300 ∷ scheduled 2 0 100 ∷ []) 0 true ∷ device 0 (scheduled 1 100 200 ∷ []) 0 true
+    ∷ device 0 (scheduled 2 100 200 ∷ []) 0 true ∷ device 18 [] 0 true ∷ [])
+unfolding split_of
+skipped_with_more_to_come = represents refl refl refl refl refl (sound refl refl, (sound refl refl, tt)) (sound refl refl, tt) (sound refl refl, tt) tt
+
+-- it has touched the lamp, and that was its last command there: its access is released
+skipped_behind_an_access : IsTableAt skip_releases_what_was_touched.window (take 6 skip_releases_what_was_touched.history) no_grips (
+    device 0 (released 1 Up (Some 1) 0 200 ∷ scheduled 2 0 100 ∷ []) 0 true ∷ device 0 (scheduled 1 200 300 ∷ []) 0 true
+    ∷ device 0 (scheduled 2 100 200 ∷ []) 0 true ∷ device 18 [] 0 true ∷ [])
+unfolding split_of
+skipped_behind_an_access = represents refl refl refl refl refl (sound refl refl, (sound refl refl, tt)) (sound refl refl, tt) (sound refl refl, tt) tt
+
+-- it had nothing else to do there: its access is gone
+skipped_alone : IsTableAt skip_where_nothing_was_touched.window (take 5 skip_where_nothing_was_touched.history) no_grips (
+    device 0 (scheduled 2 0 100 ∷ []) 1 true ∷ device 0 (scheduled 1 100 200 ∷ []) 0 true
+    ∷ device 0 [] 0 true ∷ device 18 [] 0 true ∷ [])
+unfolding split_of
+skipped_alone = represents refl refl refl refl refl (sound refl refl, tt) (sound refl refl, tt) tt tt
 
 -- Tables that do not represent the configuration
 
@@ -472,3 +499,31 @@ planned_otherwise : IsTableAt failure_passes_doomed_run.window (take 7 failure_p
     ∷ device 18 (released 1 Up (Some 20) 0 100 ∷ []) 0 true ∷ device 0 (scheduled 2 100 200 ∷ []) 0 true ∷ []) → ⊥
 unfolding split_of
 planned_otherwise is = differ 200 100 refl ((is.each 0 (omega (arith))).each.1.0.to)
+
+-- a skip counts as an access ..
+released_by_a_skip : IsTableAt skip_with_more_to_come.window (take 5 skip_with_more_to_come.history) no_grips (
+    device 0 (released 1 Up None 0 300 ∷ scheduled 2 0 100 ∷ []) 0 true ∷ device 0 (scheduled 1 100 200 ∷ []) 0 true
+    ∷ device 0 (scheduled 2 100 200 ∷ []) 0 true ∷ device 18 [] 0 true ∷ []) → ⊥
+unfolding split_of
+released_by_a_skip is = let told : Released ≡ Scheduled = (is.each 0 (omega (arith))).each.0.status refl in absurd (cc)
+
+-- .. or takes the access away, though the run has more to do
+removed_with_more_to_come : IsTableAt skip_with_more_to_come.window (take 5 skip_with_more_to_come.history) no_grips (
+    device 0 (scheduled 2 0 100 ∷ []) 1 true ∷ device 0 (scheduled 1 100 200 ∷ []) 0 true
+    ∷ device 0 (scheduled 2 100 200 ∷ []) 0 true ∷ device 18 [] 0 true ∷ []) → ⊥
+unfolding split_of
+removed_with_more_to_come is = let told : ◌≡◌ {A = List ℕ} (2 ∷ []) (1 ∷ 2 ∷ []) = (is.each 0 (omega (arith))).runs in absurd (cc)
+
+-- the access is still acquired when the last command is skipped
+acquired_behind_a_skip : IsTableAt skip_releases_what_was_touched.window (take 6 skip_releases_what_was_touched.history) no_grips (
+    device 0 (record (released 1 Up (Some 1) 0 200) { status = Acquired } ∷ scheduled 2 0 100 ∷ []) 0 true ∷ device 0 (scheduled 1 200 300 ∷ []) 0 true
+    ∷ device 0 (scheduled 2 100 200 ∷ []) 0 true ∷ device 18 [] 0 true ∷ []) → ⊥
+unfolding split_of
+acquired_behind_a_skip is = let told : Acquired ≡ Released = (is.each 0 (omega (arith))).each.0.status refl in absurd (cc)
+
+-- a run that has skipped all its commands there keeps its access
+kept_though_skipped : IsTableAt skip_where_nothing_was_touched.window (take 5 skip_where_nothing_was_touched.history) no_grips (
+    device 0 (scheduled 1 0 100 ∷ scheduled 2 0 100 ∷ []) 0 true ∷ device 0 (scheduled 1 100 200 ∷ []) 0 true
+    ∷ device 0 [] 0 true ∷ device 18 [] 0 true ∷ []) → ⊥
+unfolding split_of
+kept_though_skipped is = let told : ◌≡◌ {A = List ℕ} (1 ∷ 2 ∷ []) (2 ∷ []) = (is.each 0 (omega (arith))).runs in absurd (cc)

@@ -120,6 +120,7 @@ class Given(IntEnum):
     FINE = 1
     FOUND = 2
     DOWN = 3
+    SKIPPED = 4
 
 
 class Cause(IntEnum):

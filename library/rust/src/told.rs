@@ -243,6 +243,8 @@ pub enum Given {
     Fine,
     Found(u32),
     Down,
+    /// The guard of the command did not hold.
+    Skipped,
 }
 
 /// How a run ended.
@@ -314,7 +316,8 @@ impl From<&ToldEntry> for Entry {
                 let answer = match told.answer {
                     1 => Given::Fine,
                     2 => Given::Found(told.value),
-                    _ => Given::Down,
+                    3 => Given::Down,
+                    _ => Given::Skipped,
                 };
                 Entry::Did { run, command: told.command, answer }
             }

@@ -97,6 +97,7 @@ take_behind w n g r m =
       drops = λ cause d undoing down. (tt, tt);
       undoes = λ cause d undoing up. tt;
       revokes = λ c x run strong at. (tt, tt);
+      skips = λ c skip. (tt, tt);
       downs = λ c run next home down. none_placed w n (down_entries r (next_of n r) c) (none_if c.must (Doomed (run_no r) (MustDown (next_of n r)) ∷ []) [] refl refl);
       goes = λ c run next home up. tt;
       fails_at_end = λ d all at. (tt, tt);

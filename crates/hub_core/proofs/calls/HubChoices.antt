@@ -2,6 +2,7 @@
 use Rattle.hub_core.specs.WeakSteps.{weak_rest}
 use Rattle.hub_core.proofs.weak.WeakChoices.{rest_is}
 use Rattle.hub_core.specs.Openings.{names_values_of}
+use Rattle.home_types.specs.Commands.{holds}
 use Rattle.home_types.specs.Kinds.{kind_at}
 use Rattle.hub_core.proofs.steps.Choices.{decide_is}
 use Rattle.abort_rollback.specs.declared.undos.Undo.TheVariants.{Drive, Drop, Finished}
@@ -26,12 +27,12 @@ use Rattle.home_types.specs.declared.numbers.DeviceNo.{DeviceNo}
 use Rattle.home_types.specs.declared.numbers.RunNo.{RunNo}
 use Rattle.hub_core.proofs.calls.NextUndos.{undo_of}
 use Rattle.hub_core.proofs.kept.Finds.{not_none}
-use Rattle.hub_core.proofs.windows.StrongChoices.{command_current, command_is, doomed_is}
-use Rattle.hub_core.specs.Decisions.{current_command, strong_command, strong_doomed, unbarred_command}
+use Rattle.hub_core.proofs.windows.StrongChoices.{command_current, command_is, doomed_is, skip_is}
+use Rattle.hub_core.specs.Decisions.{current_command, skipped_command, strong_command, strong_doomed, unbarred_command}
 use Rattle.hub_core.specs.KeptByModel.{IsKeptByModel}
 use Rattle.hub_core.specs.HubsKept.{HubIsKept}
 use Rattle.hub_core.specs.OpenHubs.{OpenHub, configuration_of, grip_in, progress_of}
-use Rattle.hub_core.specs.Steps.{Absent, Choice, HandsOut, Moves, Over, Waits, aborts, choice_of, decide, decide_answered, decide_command, decide_doomed, down_entries}
+use Rattle.hub_core.specs.Steps.{Absent, Choice, HandsOut, Moves, Over, Waits, aborts, choice_of, decide, decide_answered, decide_command, decide_doomed, down_entries, first_case, skip_entries}
 use Rattle.hub_core.specs.declared.known.RunProgress.{RunProgress}
 use Rattle.hub_core.specs.declared.purposes.Purpose.{Purpose as KeptPurpose}
 use Rattle.hub_core.specs.declared.waits.Why.TheVariants.{Behind, Busy, Dirty, Strict}
@@ -51,6 +52,7 @@ use Rattle.std.specs.Prelude.{Bool, IsTrue, List, None, Option, Some, [], false,
 use Rattle.visibility_models.specs.Models.{IsDownAtEndOf, IsStrictWaitOf, IsUnderWay, under}
 use Rattle.window_order.proofs.AnsweredDowns.{IsToldDown}
 use Rattle.window_order.proofs.ReadFacts.{read_facts}
+use Rattle.window_order.proofs.SkippedCommands.{IsSkipped}
 use Rattle.window_order.proofs.Steps.{next_is}
 
 -- The grip and the slip of a place
@@ -122,6 +124,17 @@ not_strict w n r none = at_ (strict_wait w n r) refl
     at_ : (o : Option ℕ) → strict_wait w n r ≡ o → strict_wait w n r ≡ None
     at_ None e = e
     at_ (Some y) e = absurd (let both : None ≡ Some (run_no y) = none ∙ ap (option_map run_no) e in cc)
+
+-- .. so it goes, where it skips its next command; else it waits
+pub skip_goes : (w : Setting) (n : Reading) (r k : ℕ) → None ≡ option_map run_no (strict_wait w n r) → Moves (skip_entries r k) ≡ skipped_command w n r k
+skip_goes w n r k none = sym (ap (λ o. first_case (option_map (λ x. Waits (Strict (run_no x))) o ∷ []) (Moves (skip_entries r k))) (not_strict w n r none))
+
+pub skip_waits : (w : Setting) (n : Reading) (r k : ℕ) (x : RunNo) → Some x ≡ option_map run_no (strict_wait w n r) → Waits (Strict x) ≡ skipped_command w n r k
+skip_waits w n r k x found = at_ (strict_wait w n r) found
+  where
+    at_ : (o : Option ℕ) → Some x ≡ option_map run_no o → Waits (Strict x) ≡ first_case (option_map (λ y. Waits (Strict (run_no y))) o ∷ []) (Moves (skip_entries r k))
+    at_ None f = absurd (cc)
+    at_ (Some y) f = ap (λ o. unwrap_or (option_map (λ z. Waits (Strict z)) o) Absent) f
 
 -- .. so nothing bars it but its device
 pub command_unbarred : (w : Setting) (n : Reading) (g : Grips) (r k : ℕ) (c : Command) (x : Choice) → Free ≡ touch_of w n g r c → None ≡ option_map run_no (strict_wait w n r) → x ≡ unbarred_command w n g r k c → x ≡ current_command w n g r k c
@@ -299,22 +312,42 @@ hub_answers {D = D} s t r m p x same strong run known going free there placed so
     (is ∙ ap (λ (y : OpenHub D). decide_answered y.setting (read_of (configuration_of y)) (configuration_of y).grips r) (sym same))
     ∙ ap (λ (y : OpenHub D). choice_of (configuration_of y) r m) same
 
-pub hub_commands : {D : Type 0} (s t : OpenHub D) (r m : ℕ) (p : RunProgress) (c : Command) (x : Choice) → s ≡ t → is_weak s.setting.mode ≡ false
+-- .. that goes on with its next command
+hub_goes_on : {D : Type 0} (s t : OpenHub D) (r m : ℕ) (p : RunProgress) (c : Command) (x : Choice) → s ≡ t
     → true ≡ is_run s.setting.runs r → p ≡ progress_of ((read_of (configuration_of s)).run r) → p.ended ≡ None → None ≡ grip_wait t.setting (configuration_of t).grips r
     → is_some p.arrived ≡ true → is_some p.placed ≡ true → p.doomed ≡ None → Some c ≡ next_command s.setting (read_of (configuration_of s)) r
-    → x ≡ strong_command t.setting (read_of (configuration_of t)) (configuration_of t).grips r (max t.moment m) p.answered c
+    → x ≡ decide_command s.setting (read_of (configuration_of s)) (configuration_of s).grips r (max s.moment m) (next_of (read_of (configuration_of s)) r) c
     → x ≡ choice_of (configuration_of t) r m
-hub_commands {D = D} s t r m p c x same strong run known going free there placed sound next is =
+hub_goes_on {D = D} s t r m p c x same run known going free there placed sound next is =
     case_command s.setting (read_of (configuration_of s)) (configuration_of s).grips r (max s.moment m) c x (sym run)
     (ap (λ (y : RunProgress). y.ended) (sym known) ∙ going)
     (free ∙ ap (λ (y : OpenHub D). grip_wait y.setting (configuration_of y).grips r) (sym same))
     (not_none ((read_of (configuration_of s)).run r).arrived (ap (λ (y : RunProgress). is_some y.arrived) (sym known) ∙ there))
     (not_none ((read_of (configuration_of s)).run r).placed (was_placed ((read_of (configuration_of s)).run r).placed (ap (λ (y : RunProgress). is_some y.placed) (sym known) ∙ placed)))
     (ap (λ (y : RunProgress). y.doomed) (sym known) ∙ sound)
-    next
-    (is ∙ ap (λ (y : OpenHub D). strong_command y.setting (read_of (configuration_of y)) (configuration_of y).grips r (max y.moment m) p.answered c) (sym same) ∙ ap (λ (y : RunProgress). strong_command s.setting (read_of (configuration_of s)) (configuration_of s).grips r (max s.moment m) y.answered c) known
-    ∙ sym (command_is s.setting (read_of (configuration_of s)) (configuration_of s).grips r (max s.moment m) (next_of (read_of (configuration_of s)) r) c strong))
+    next is
     ∙ ap (λ (y : OpenHub D). choice_of (configuration_of y) r m) same
+
+pub hub_commands : {D : Type 0} (s t : OpenHub D) (r m : ℕ) (p : RunProgress) (c : Command) (x : Choice) → s ≡ t → is_weak s.setting.mode ≡ false
+    → true ≡ is_run s.setting.runs r → p ≡ progress_of ((read_of (configuration_of s)).run r) → p.ended ≡ None → None ≡ grip_wait t.setting (configuration_of t).grips r
+    → is_some p.arrived ≡ true → is_some p.placed ≡ true → p.doomed ≡ None → Some c ≡ next_command s.setting (read_of (configuration_of s)) r → holds c.when p.register ≡ true
+    → x ≡ strong_command t.setting (read_of (configuration_of t)) (configuration_of t).grips r (max t.moment m) p.answered c
+    → x ≡ choice_of (configuration_of t) r m
+hub_commands {D = D} s t r m p c x same strong run known going free there placed sound next guard is =
+    hub_goes_on s t r m p c x same run known going free there placed sound next
+    (is ∙ ap (λ (y : OpenHub D). strong_command y.setting (read_of (configuration_of y)) (configuration_of y).grips r (max y.moment m) p.answered c) (sym same) ∙ ap (λ (y : RunProgress). strong_command s.setting (read_of (configuration_of s)) (configuration_of s).grips r (max s.moment m) y.answered c) known
+    ∙ sym (command_is s.setting (read_of (configuration_of s)) (configuration_of s).grips r (max s.moment m) (next_of (read_of (configuration_of s)) r) c strong (ap (λ (y : RunProgress). holds c.when y.register) (sym known) ∙ guard)))
+
+-- .. or skips it
+pub hub_skips : {D : Type 0} (s t : OpenHub D) (r m : ℕ) (p : RunProgress) (c : Command) (x : Choice) → s ≡ t
+    → true ≡ is_run s.setting.runs r → p ≡ progress_of ((read_of (configuration_of s)).run r) → p.ended ≡ None → None ≡ grip_wait t.setting (configuration_of t).grips r
+    → is_some p.arrived ≡ true → is_some p.placed ≡ true → p.doomed ≡ None → Some c ≡ next_command s.setting (read_of (configuration_of s)) r → holds c.when p.register ≡ false
+    → x ≡ skipped_command t.setting (read_of (configuration_of t)) r p.answered
+    → x ≡ choice_of (configuration_of t) r m
+hub_skips {D = D} s t r m p c x same run known going free there placed sound next guard is =
+    hub_goes_on s t r m p c x same run known going free there placed sound next
+    (is ∙ ap (λ (y : OpenHub D). skipped_command y.setting (read_of (configuration_of y)) r p.answered) (sym same) ∙ ap (λ (y : RunProgress). skipped_command s.setting (read_of (configuration_of s)) r y.answered) known
+    ∙ sym (skip_is s.setting (read_of (configuration_of s)) (configuration_of s).grips r (max s.moment m) (next_of (read_of (configuration_of s)) r) c (ap (λ (y : RunProgress). holds c.when y.register) (sym known) ∙ guard)))
 
 pub hub_dooms : {D : Type 0} (s t : OpenHub D) (r m : ℕ) (p : RunProgress) (cause : Cause) (x : Choice) → s ≡ t → is_weak s.setting.mode ≡ false
     → true ≡ is_run s.setting.runs r → p ≡ progress_of ((read_of (configuration_of s)).run r) → p.ended ≡ None → None ≡ grip_wait t.setting (configuration_of t).grips r
@@ -348,8 +381,8 @@ hub_weakly {D = D} s t r m p x same weak run known going free there placed is =
     weak (is ∙ ap (λ (y : OpenHub D). weak_rest y.setting (read_of (configuration_of y)) (configuration_of y).grips r) (sym same))
     ∙ ap (λ (y : OpenHub D). choice_of (configuration_of y) r m) same
 
-pub rest_downs : (w : Setting) (n : Reading) (g : Grips) (r : ℕ) (c : Command) → (n.run r).doomed ≡ None → next_command w n r ≡ Some c → is_out g c.device.0 ≡ false → n.up c.device.0 ≡ false → Moves (down_entries r (next_of n r) c) ≡ weak_rest w n g r
-rest_downs w n g r c sound next home down = sym (rw (sound, next, home, down) refl)
+pub rest_downs : (w : Setting) (n : Reading) (g : Grips) (r : ℕ) (c : Command) → (n.run r).doomed ≡ None → next_command w n r ≡ Some c → holds c.when (n.run r).register ≡ true → is_out g c.device.0 ≡ false → n.up c.device.0 ≡ false → Moves (down_entries r (next_of n r) c) ≡ weak_rest w n g r
+rest_downs w n g r c sound next guard home down = sym (rw (sound, next, guard, home, down) refl)
 
 -- a run that has a place, by its progress, is placed
 pub placed_before : {D : Type 0} (s t : OpenHub D) (r : ℕ) (p : RunProgress) → s ≡ t → p ≡ progress_of ((read_of (configuration_of s)).run r) → is_some p.placed ≡ true → ((read_of (configuration_of t)).run r).placed ≡ None → ⊥
@@ -391,6 +424,7 @@ aborting s rounds opened held r m cause kept =
       drops = λ other d undoing down is. absurd (cc);
       undoes = λ other d undoing up is. absurd (cc);
       revokes = λ c x run strong at is. absurd (cc);
+      skips = λ c skip is. absurd (cc);
       downs = λ c run next home down is. absurd (cc);
       goes = λ c run next home up is. absurd (cc);
       fails_at_end = λ d all at is. absurd (cc);
@@ -404,16 +438,17 @@ aborting s rounds opened held r m cause kept =
 pub finished_is : (s : Configuration) (r : ℕ) (cause : Cause) → is_weak s.setting.mode ≡ false → IsAborting s r cause → undo_of s.setting (read_of s) s.grips r ≡ Finished
 finished_is s r cause strong ends = ap (undo_by (read_of s) (value_without s.setting (read_of s) s.grips r)) (ends.over strong)
 
--- the run is at its next command
-pub hub_at_command : {D : Type 0} (stands turns probes faults : D → ℕ) (s t : OpenHub D) (r : ℕ) (p : RunProgress) (c : Command) → s ≡ t → HubIsKept stands turns probes faults s → p ≡ progress_of ((read_of (configuration_of s)).run r) → p.ended ≡ None → is_some p.placed ≡ true → p.doomed ≡ None → Some c ≡ next_command s.setting (read_of (configuration_of s)) r
+-- the run is at its next command, whose guard holds
+pub hub_at_command : {D : Type 0} (stands turns probes faults : D → ℕ) (s t : OpenHub D) (r : ℕ) (p : RunProgress) (c : Command) → s ≡ t → HubIsKept stands turns probes faults s → p ≡ progress_of ((read_of (configuration_of s)).run r) → p.ended ≡ None → is_some p.placed ≡ true → p.doomed ≡ None → Some c ≡ next_command s.setting (read_of (configuration_of s)) r → holds c.when p.register ≡ true
     → IsAtCommand (configuration_of t) r p.answered × (command_at t.setting.runs r p.answered ≡ c)
-hub_at_command {D = D} stands turns probes faults s t r p c same k known going placed sound next =
+hub_at_command {D = D} stands turns probes faults s t r p c same k known going placed sound next guard =
     subst (λ (x : OpenHub D). IsAtCommand (configuration_of x) r p.answered × (command_at x.setting.runs r p.answered ≡ c)) same (
       record {
         live = λ i. (was_placed ((read_of (configuration_of s)).run r).placed (ap (λ (x : RunProgress). is_some x.placed) (sym known) ∙ placed)) i && is_none ((ap (λ (x : RunProgress). x.ended) (sym known) ∙ going) i);
         sound = ap is_some (ap (λ (x : RunProgress). x.doomed) (sym known) ∙ sound);
         next = sym (ap (λ (x : RunProgress). x.answered) known);
         command = subst (λ y. y < length (commands_of s.setting.runs r)) (sym (ap (λ (x : RunProgress). x.answered) known)) there.0;
+        guard = (λ i. holds ((ap (λ (x : RunProgress). command_at s.setting.runs r x.answered) known ∙ there.1) i).when (sym known i).register) ∙ guard;
       },
       ap (λ (x : RunProgress). command_at s.setting.runs r x.answered) known ∙ there.1,
     )
@@ -440,6 +475,7 @@ dropping s rounds opened held r m d kept =
       drops = λ cause e undoing down is. record { live = undoing.act.live; device = subst (λ x. is_device s.setting x ≡ true) (same_device e is) undoing.device };
       undoes = λ cause e undoing up is. absurd (cc);
       revokes = λ c x run strong at is. absurd (cc);
+      skips = λ c skip is. absurd (cc);
       downs = λ c run next home down is. absurd (cc);
       goes = λ c run next home up is. absurd (cc);
       fails_at_end = λ e all at is. absurd (cc);
@@ -463,6 +499,10 @@ pub record IsAnsweringDown (s : Configuration) (held : ℕ → ℕ) (r k : ℕ) 
   pub device : is_device s.setting (command_at s.setting.runs r k).device.0 ≡ true
   pub told : is_weak s.setting.mode ≡ false → IsToldDown s.setting (read_of s) s.grips held r (command_at s.setting.runs r k)
 
+-- the next command of a run is on a device of the home
+next_homed : (s : Configuration) (rounds opened : ℕ) (held : ℕ → ℕ) (r : ℕ) (c : Command) → IsKeptByModel s rounds opened held → next_command s.setting (read_of s) r ≡ Some c → is_device s.setting c.device.0 ≡ true
+next_homed s rounds opened held r c kept next = let home : IsTrue (is_device s.setting c.device.0 && names_values_of (kind_at s.setting.kinds c.device.0) c.job) = kept.opens.homed r (next_of (read_of s) r) c next in grind (arith, common_steps)
+
 pub answering : (s : Configuration) (rounds opened : ℕ) (held : ℕ → ℕ) (r m k : ℕ) (must : Bool) → IsKeptByModel s rounds opened held → choice_of s r m ≡ Moves (Did (run_no r) k Down ∷ (if must then Doomed (run_no r) (MustDown k) ∷ [] else [])) → IsAnsweringDown s held r k
 answering s rounds opened held r m k must kept =
     decide_is (λ c. c ≡ Moves (Did (run_no r) k Down ∷ (if must then Doomed (run_no r) (MustDown k) ∷ [] else [])) → IsAnsweringDown s held r k) s.setting (read_of s) s.grips r (max s.moment m) (record {
@@ -475,6 +515,7 @@ answering s rounds opened held r m k must kept =
       drops = λ cause e undoing down is. absurd (cc);
       undoes = λ cause e undoing up is. absurd (cc);
       revokes = λ c x run strong at is. absurd (cc);
+      skips = λ c skip is. absurd (cc);
       downs = λ c run next home down is.
           let same : k ≡ next_of n r = same_number c is in
           let there = next_is (commands_of s.setting.runs r) (next_of n r) c run.next in
@@ -484,7 +525,7 @@ answering s rounds opened held r m k must kept =
             within = subst (λ x. x < length (commands_of s.setting.runs r)) (sym same) there.0;
             live = run.act.live;
             free = run.act.free;
-            device = subst (λ (x : Command). is_device s.setting x.device.0 ≡ true) command (homed c run.next);
+            device = subst (λ (x : Command). is_device s.setting x.device.0 ≡ true) command (next_homed s rounds opened held r c kept run.next);
             told = λ strong. subst (IsToldDown s.setting n s.grips held r) command (record {
               read = read_facts s.setting (entries_of s.history) kept.history.well_formed;
               strong = strong;
@@ -492,7 +533,8 @@ answering s rounds opened held r m k must kept =
               sound = run.sound;
               free = run.act.free;
               next = run.next;
-              device = homed c run.next;
+              guard = run.guard;
+              device = next_homed s rounds opened held r c kept run.next;
               behind = (next strong).first;
               busy = home;
               down = told_by (is_weak s.setting.mode) (sees_down n r c.device.0) (not (n.up c.device.0)) down;
@@ -507,14 +549,64 @@ answering s rounds opened held r m k must kept =
     n : Reading
     n = read_of s
 
-    homed : (c : Command) → next_command s.setting n r ≡ Some c → is_device s.setting c.device.0 ≡ true
-    homed c next = let home : IsTrue (is_device s.setting c.device.0 && names_values_of (kind_at s.setting.kinds c.device.0) c.job) = kept.opens.homed r (next_of n r) c next in grind (arith, common_steps)
-
     same_number : (c : Command) → Moves (down_entries r (next_of n r) c) ≡ Moves (Did (run_no r) k Down ∷ (if must then Doomed (run_no r) (MustDown k) ∷ [] else [])) → k ≡ next_of n r
     same_number c is = cc
 
     told_by : (weak sees down : Bool) → ((not weak && sees) || down) ≡ true → (sees || down) ≡ true
     told_by weak sees down h = grind (arith, common_steps)
+
+-- A run that skips its next command
+
+-- the command of this number is its next one, which is skipped
+pub record IsSkipping (s : Configuration) (held : ℕ → ℕ) (r k : ℕ) : Type 0 where
+  pub number : k ≡ next_of (read_of s) r
+  pub within : k < length (commands_of s.setting.runs r)
+  pub live : is_live (read_of s) r ≡ true
+  pub device : is_device s.setting (command_at s.setting.runs r (next_of (read_of s) r)).device.0 ≡ true
+  pub skipped : is_weak s.setting.mode ≡ false → IsSkipped s.setting (read_of s) s.grips held r (command_at s.setting.runs r (next_of (read_of s) r))
+
+pub skipping : (s : Configuration) (rounds opened : ℕ) (held : ℕ → ℕ) (r m k : ℕ) → IsKeptByModel s rounds opened held → choice_of s r m ≡ Moves (skip_entries r k) → IsSkipping s held r k
+skipping s rounds opened held r m k kept =
+    decide_is (λ c. c ≡ Moves (skip_entries r k) → IsSkipping s held r k) s.setting (read_of s) s.grips r (max s.moment m) (record {
+      absent = λ none is. absurd (cc);
+      over = λ e at is. absurd (cc);
+      waits = λ why is. absurd (cc);
+      arrives = λ run none is. absurd (cc);
+      enters = λ split enters is. absurd (cc);
+      aborted = λ cause act doomed over is. absurd (cc);
+      drops = λ cause e undoing down is. absurd (cc);
+      undoes = λ cause e undoing up is. absurd (cc);
+      revokes = λ c x run strong at is. absurd (cc);
+      skips = λ c skip is.
+          let same : k ≡ next_of n r = same_number is in
+          let there = next_is (commands_of s.setting.runs r) (next_of n r) c skip.next in
+          record {
+            number = same;
+            within = subst (λ x. x < length (commands_of s.setting.runs r)) (sym same) there.0;
+            live = skip.act.live;
+            device = subst (λ (x : Command). is_device s.setting x.device.0 ≡ true) (sym there.1) (next_homed s rounds opened held r c kept skip.next);
+            skipped = λ strong. subst (IsSkipped s.setting n s.grips held r) (sym there.1) (record {
+              read = read_facts s.setting (entries_of s.history) kept.history.well_formed;
+              live = skip.act.live;
+              sound = skip.sound;
+              free = skip.act.free;
+              next = skip.next;
+              guard = skip.guard;
+              device = next_homed s rounds opened held r c kept skip.next;
+              kept = (kept.ordered strong).order;
+            });
+          };
+      downs = λ c run next home down is. absurd (cc);
+      goes = λ c run next home up is. absurd (cc);
+      fails_at_end = λ e all at is. absurd (cc);
+      commits = λ all up is. absurd (cc);
+    })
+  where
+    n : Reading
+    n = read_of s
+
+    same_number : Moves (skip_entries r (next_of n r)) ≡ Moves (skip_entries r k) → k ≡ next_of n r
+    same_number is = cc
 
 -- A run that is doomed at its end
 
@@ -535,6 +627,7 @@ failing s rounds opened held r m d kept =
       drops = λ cause e undoing down is. absurd (cc);
       undoes = λ cause e undoing up is. absurd (cc);
       revokes = λ c x run strong at is. absurd (cc);
+      skips = λ c skip is. absurd (cc);
       downs = λ c run next home down is. absurd (cc);
       goes = λ c run next home up is. absurd (cc);
       fails_at_end = λ e all at is. record { live = all.act.live; free = all.act.free };

@@ -64,6 +64,7 @@ use Rattle.hub_core.specs.declared.kept_orders.KeptOrder.{KeptOrder}
 use Rattle.hub_core.specs.declared.known.DeviceProgress.{DeviceProgress}
 use Rattle.hub_core.specs.declared.purposes.Purpose.{Purpose as KeptPurpose}
 use Rattle.hub_core.specs.ReadHistories.{HistoryState, read_in, with_doom, with_entry, with_more}
+use Rattle.home_types.specs.Commands.{holds}
 use Rattle.home_types.specs.Kinds.{kind_at}
 use Rattle.lineage_table.specs.Accesses.{IsDisciplined, effective_writer}
 use Rattle.lineage_table.specs.Lineages.{LineageState, accesses_at, committed_lineage, lineage_at, removed, undone, with_lineage}
@@ -195,6 +196,7 @@ joining s r at m out =
       drops = λ cause d undoing down is. absurd (cc);
       undoes = λ cause d undoing up is. absurd (cc);
       revokes = λ c x run strong at is. absurd (cc);
+      skips = λ c skip is. absurd (cc);
       downs = λ c run next home down is. absurd (cc);
       goes = λ c run next home up is. absurd (cc);
       fails_at_end = λ d all at is. absurd (cc);
@@ -368,12 +370,12 @@ next_home h r c next k =
 
 -- the run is told Down where its device, which is home, is counted down
 pub hub_downs : {D : Type 0} {stands turns probes faults : D → ℕ} (h : Inside D) (s : OpenHub D) (r : ℕ) (p : RunProgress) (c : Command) → open_of h ≡ s → p ≡ progress_of ((read_of (configuration_of s)).run r) → p.doomed ≡ None → Some c ≡ next_command h.history.setting (read_in h.history) r
-    → is_out (configuration_of s).grips c.device.0 ≡ false → false ≡ (lineage_at h.order.table c.device.0).up → IsWhole stands turns probes faults h
+    → holds c.when p.register ≡ true → is_out (configuration_of s).grips c.device.0 ≡ false → false ≡ (lineage_at h.order.table c.device.0).up → IsWhole stands turns probes faults h
     → Moves (Did (run_no r) p.answered Down ∷ (if c.must then Doomed (run_no r) (MustDown p.answered) ∷ [] else [])) ≡ weak_rest s.setting (read_of (configuration_of s)) (configuration_of s).grips r
-hub_downs {D = D} h s r p c seen known sound next home down k =
+hub_downs {D = D} h s r p c seen known sound next guard home down k =
     ap (λ x. Moves (Did (run_no r) x Down ∷ (if c.must then Doomed (run_no r) (MustDown x) ∷ [] else []))) (ap (λ (x : RunProgress). x.answered) known)
     ∙ rest_downs s.setting (read_of (configuration_of s)) (configuration_of s).grips r c (ap (λ (x : RunProgress). x.doomed) (sym known) ∙ sound)
-    (ap (λ (x : OpenHub D). next_command x.setting (read_of (configuration_of x)) r) (sym seen) ∙ sym next) home
+    (ap (λ (x : OpenHub D). next_command x.setting (read_of (configuration_of x)) r) (sym seen) ∙ sym next) (ap (λ (x : RunProgress). holds c.when x.register) (sym known) ∙ guard) home
     (ap (λ (x : OpenHub D). (read_of (configuration_of x)).up c.device.0) (sym seen) ∙ sym (counted_told h.history.setting (read_in h.history) (configuration_of (open_of h)).grips h.order.table c.device.0 below k.order.table_is) ∙ sym down)
   where
     below : c.device.0 < length h.history.setting.first

@@ -120,6 +120,7 @@ handed_out s rounds opened held r m d purpose kept =
         for = record { doomed = ap is_some undoing.doomed; effect = undoing.effect; value = refl };
       });
       revokes = λ c x run strong at is. absurd (cc);
+      skips = λ c skip is. absurd (cc);
       downs = λ c run next home down is. absurd (cc);
       goes = λ c run next home up is.
           let free = home_when (is_weak s.setting.mode) (sees_down (read_of s) r c.device.0) (is_out s.grips c.device.0) home in

@@ -30,7 +30,6 @@ use Rattle.home_types.specs.declared.commands.Job.TheVariants.{Check, Load, Set,
 use Rattle.home_types.specs.declared.commands.Job.{Job}
 use Rattle.home_types.specs.declared.kinds.Kind.{Kind}
 use Rattle.hub_core.proofs.steps.Calls.{IsOutFor, calls_told, give_calls, give_falls, give_others, give_rises, give_ups}
-use Rattle.hub_core.proofs.steps.Gives.{command_is}
 use Rattle.hub_core.proofs.kept.Hands.{hand_comes}
 use Rattle.hub_core.proofs.calls.HubChanges.{answer_entries, answered_more, events_same}
 use Rattle.hub_core.proofs.calls.Departures.{one_for}
@@ -39,7 +38,7 @@ use Rattle.hub_core.proofs.kept.HubReads.{run_place}
 use Rattle.hub_core.proofs.calls.HubStates.{kept_is}
 use Rattle.hub_core.proofs.kept.KeptByModel.{given_kept, undo_ordered}
 use Rattle.hub_core.proofs.kept.ReturnsKept.{BringsFor, IsOut, out_is}
-use Rattle.hub_core.proofs.steps.Takes.{live_run}
+use Rattle.hub_core.proofs.steps.Takes.{command_is, live_run}
 use Rattle.hub_core.proofs.kept.WrittenValues.{nearest_has}
 use Rattle.hub_core.specs.AccountedCalls.{told_calls, told_falls}
 use Rattle.hub_core.specs.HubCalls.{IsGiven, IsPacked, SameWindow, carried_by}

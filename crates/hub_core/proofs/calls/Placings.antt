@@ -86,6 +86,7 @@ joins_unplaced s r at m =
       drops = λ cause d undoing down is. absurd (cc);
       undoes = λ cause d undoing up is. absurd (cc);
       revokes = λ c x run strong at is. absurd (cc);
+      skips = λ c skip is. absurd (cc);
       downs = λ c run next home down is. absurd (cc);
       goes = λ c run next home up is. absurd (cc);
       fails_at_end = λ d all at is. absurd (cc);

@@ -13,7 +13,7 @@ use Rattle.device_gate.specs.declared.slips.Told.TheVariants.{Died, Sensed, Work
 use Rattle.device_gate.specs.declared.slips.Told.{Told}
 use Rattle.history_book.proofs.Snoc.{put_keeps, put_other, put_same}
 use Rattle.history_book.specs.Histories.{entries_made, entries_of, entry}
-use Rattle.history_book.specs.Readings.{OfRun, Reading, has_written, is_doomed, is_live, is_next_on, next_of, put}
+use Rattle.history_book.specs.Readings.{OfRun, Reading, asks_on, has_written, is_doomed, is_live, next_of, put}
 use Rattle.history_book.specs.Settings.{Setting}
 use Rattle.history_book.specs.declared.entries.Cause.TheVariants.{Lost}
 use Rattle.history_book.specs.declared.entries.Entry.TheVariants.{Doomed, Fell, Rose}
@@ -86,7 +86,7 @@ for_probe stands turns probes faults s slip task kept there none = by_purpose (d
     valued (Some u) at = restored_fits (configuration_of s) s.rounds s.opened (held_in s) slip.device.0 0 u at within (kept.values slip.device.0 within) kept.configuration
 
     by_purpose : (p : KeptPurpose) → (device_at s.devices slip.device.0).purpose ≡ p → (v : Option ℕ) × IsForProbe s slip task v
-    by_purpose (ForCommand k) is = absurd (no_run (three (is_live n slip.maker) (is_next_on s.setting n slip.maker slip.device.0) (k == next_of n slip.maker) (kept.configuration.grips.runs.commands slip.device.0 slip.maker k (out (ForCommand k) is))).0)
+    by_purpose (ForCommand k) is = absurd (no_run (three (is_live n slip.maker) (asks_on s.setting n slip.maker slip.device.0) (k == next_of n slip.maker) (kept.configuration.grips.runs.commands slip.device.0 slip.maker k (out (ForCommand k) is))).0)
     by_purpose (ForUndo u) is = absurd (no_run (four (is_live n slip.maker) (is_doomed n slip.maker) (has_written n slip.maker slip.device.0) (not ((n.run slip.maker).on slip.device.0).undid) (kept.configuration.grips.runs.undos slip.device.0 slip.maker u (out (ForUndo u) is))))
     by_purpose (ForProbe v) is =
         let grip : (configuration_of s).grips slip.device.0 ≡ Some (record { maker = 0; purpose = Probes v }) = out (ForProbe v) is ∙ ap (λ m. Some (record { maker = m; purpose = Probes v })) none in

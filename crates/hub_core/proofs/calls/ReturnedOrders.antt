@@ -10,13 +10,13 @@ use Rattle.device_gate.specs.declared.slips.Task.TheVariants.{Drive, Sense}
 use Rattle.device_gate.specs.declared.slips.Task.{Task}
 use Rattle.history_book.proofs.Snoc.{each_at, entries_on, put_other}
 use Rattle.history_book.specs.Histories.{entries_of, entry, kept_by}
-use Rattle.history_book.specs.Readings.{Reading, is_doomed, is_fine, is_told, next_of, nothing_read, pends, put}
+use Rattle.history_book.specs.Readings.{Reading, is_access, is_doomed, is_fine, is_told, next_of, nothing_read, pends, put}
 use Rattle.history_book.specs.Settings.{Setting, is_weak}
 use Rattle.history_book.specs.WellFormed.{IsWellFormed, may_act, may_follow, suits}
 use Rattle.history_book.specs.declared.entries.Entry.TheVariants.{Did, Doomed, Undid}
-use Rattle.home_types.specs.Commands.{driven, reads, writes}
+use Rattle.home_types.specs.Commands.{driven, holds, reads, writes}
 use Rattle.home_types.specs.Kinds.{kind_at}
-use Rattle.home_types.specs.declared.commands.Answer.TheVariants.{Down, Fine, Found}
+use Rattle.home_types.specs.declared.commands.Answer.TheVariants.{Down, Fine, Found, Skipped}
 use Rattle.home_types.specs.declared.commands.Answer.{Answer}
 use Rattle.home_types.specs.declared.commands.Command.{Command}
 use Rattle.home_types.specs.declared.commands.Job.TheVariants.{Check, Load, Set, Store}
@@ -26,6 +26,7 @@ use Rattle.hub_core.proofs.calls.HubOrders.{read_whole}
 use Rattle.hub_core.proofs.calls.HubChanges.{answer_entries}
 use Rattle.hub_core.proofs.calls.HubReturns.{IsAnswered, IsForCommand, IsHomeAgain, IsReturned, answered_back, came_whole, for_command, returned_for, undone_back}
 use Rattle.hub_core.proofs.kept.OrderSteps.{done_after, last_follows, may_note, none_out, order_answered, order_answered_weakly, order_doomed_if, order_undone, read_more}
+use Rattle.hub_core.proofs.steps.Gives.{told_access}
 use Rattle.hub_core.specs.HubsKept.{IsWhole, open_of}
 use Rattle.hub_core.specs.KeptOrders.{MayNote, OrderIsBeside, is_first, noted_first}
 use Rattle.hub_core.specs.OpenHubs.{configuration_of, device_at, held_in}
@@ -58,11 +59,15 @@ drove (Check u) v stood writes = absurd (cc)
 drove Load v stood writes = absurd (cc)
 drove Store v stood writes = refl
 
-wrote_is : (w : Setting) (n : Reading) (r : ℕ) (c : Command) (a : Answer) (task : Task) (value stood : ℕ) → suits w c a ≡ true → task ≡ (if reads c.job then Sense else Drive (driven (kind_at w.kinds c.device.0) c.job (n.run r).register)) → value ≡ value_after task stood
+second : (a b : Bool) → (a && b) ≡ true → b ≡ true
+second a b h = grind (arith, common_steps)
+
+wrote_is : (w : Setting) (n : Reading) (r : ℕ) (c : Command) (a : Answer) (task : Task) (value stood : ℕ) → suits w n r c a ≡ true → task ≡ (if reads c.job then Sense else Drive (driven (kind_at w.kinds c.device.0) c.job (n.run r).register)) → value ≡ value_after task stood
     → (if is_fine a then Some value else None) ≡ told_write w n r c a
-wrote_is w n r c Fine task value stood suited does is = ap (λ v. Some v) (is ∙ ap (λ t. value_after t stood) does ∙ drove c.job (driven (kind_at w.kinds c.device.0) c.job (n.run r).register) stood suited)
+wrote_is w n r c Fine task value stood suited does is = ap (λ v. Some v) (is ∙ ap (λ t. value_after t stood) does ∙ drove c.job (driven (kind_at w.kinds c.device.0) c.job (n.run r).register) stood (second (holds c.when (n.run r).register) (writes c.job) suited))
 wrote_is w n r c (Found x) task value stood suited does is = refl
 wrote_is w n r c Down task value stood suited does is = refl
+wrote_is w n r c Skipped task value stood suited does is = refl
 
 fourth : (a b c x e : Bool) → (a && b && c && x && not e) ≡ true → x ≡ true
 fourth a b c x e h = grind (arith, common_steps)
@@ -140,9 +145,9 @@ order_came {D = D} h t m value k tag events grip slip a cause mid view wrote las
     whole.shown.configuration.grips for.run for.grip new doomed formed gripped noted.line_after noted.unchanged
     (λ some. subst (λ (z : Slip). ChangesEach (λ e. doomed_lineage z.maker) between.table t.order.table) answered.same (noted.changed some))
     (either_model (OrderIsBeside h.rounds mid (configuration_of (open_of t)).grips between.line between.table) w
-    (λ weak. order_answered_weakly h.history mid (configuration_of (open_of h)).grips (configuration_of (open_of t)).grips d r k a h.order.line between.line h.order.table between.table weak whole.shown.configuration.grips for.grip new gripped noted.line (noted.same_table weak) whole.order)
+    (λ weak. order_answered_weakly h.history mid (configuration_of (open_of h)).grips (configuration_of (open_of t)).grips d r k a h.order.line between.line h.order.table between.table access weak whole.shown.configuration.grips for.grip new gripped noted.line (noted.same_table weak) whole.order)
     (λ strong. order_answered h.history mid (configuration_of (open_of h)).grips (configuration_of (open_of t)).grips (held_in (open_of h)) d r k a view wrote last h.order.line between.line h.order.table between.table
-    (read_whole h whole) strong (whole.shown.configuration.ordered strong).order for.grip below new gripped (record {
+    access (read_whole h whole) strong (whole.shown.configuration.ordered strong).order for.grip below new gripped (record {
       view_is = noted.view_is;
       wrote_is = noted.wrote_is ∙ wrote_is w n r (command_at w.runs r k) a grip.task value (device_at h.devices.items d).held suited for.does (home.value_is ∙ ap (λ b. if b then (device_at h.devices.items d).held else value_after grip.task (device_at h.devices.items d).held) answered.lives);
       last_is = noted.last_is ∙ (λ i. is_doomed (read_in (new i)) (answered.same i).maker || not (pends (new i).setting (read_in (new i)) (answered.same i).maker (answered.same i).device.0)) ∙ ap (λ x. is_doomed x r || not (pends w x r d)) (read_more w h.history.history r (Did (run_no r) k a)) ∙ done_after w n r k a d for.next for.on;
@@ -160,6 +165,9 @@ order_came {D = D} h t m value k tag events grip slip a cause mid view wrote las
     r : ℕ
     r = grip.slip.maker
 
+    access : is_access a ≡ true
+    access = ap is_access answered.told ∙ told_access grip.stage.told
+
     new : mid ≡ with_entry h.history r (Did (run_no r) k a)
     new = answered.answered ∙ ap (λ (z : Slip). with_entry h.history z.maker (Did (run_no z.maker) k a)) answered.same
 
@@ -175,8 +183,8 @@ order_came {D = D} h t m value k tag events grip slip a cause mid view wrote las
     may : may_follow w n (Did (run_no r) k a) ≡ true
     may = first_follows h.history mid t.history r (Did (run_no r) k a) cause new doomed formed
 
-    suited : suits w (command_at w.runs r k) a ≡ true
-    suited = fourth (may_act w n r) (k == next_of n r) (nat_lt k (length (commands_of w.runs r))) (suits w (command_at w.runs r k) a) ((n.run r).answered_doomed) may
+    suited : suits w n r (command_at w.runs r k) a ≡ true
+    suited = fourth (may_act w n r) (k == next_of n r) (nat_lt k (length (commands_of w.runs r))) (suits w n r (command_at w.runs r k) a) ((n.run r).answered_doomed) may
 
 -- a command came back: what is kept is kept
 pub answered_whole : {D : Type 0} {stands turns probes faults : D → ℕ} (h t : Inside D) (m value k tag : ℕ) (events : Events) (grip : Gripped D Done) (slip : Slip) (a : Answer) (cause : Option Cause) (mid : HistoryState) (view : View) (wrote : Option ℕ) (last : Bool) (between : KeptOrder)

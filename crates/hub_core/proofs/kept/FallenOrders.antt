@@ -76,8 +76,8 @@ order_died {rounds = rounds} h h₁ h₂ g f held d r k number first last line f
     (subst (λ m. IsOrderOf rounds w (entry w m (Did (run_no r) k Down)) f after later) (sym (read_more w h.history r (Fell d)))
     (subst (λ (x : Grips). IsOrderOf rounds w (entry w (entry w n (Fell d)) (Did (run_no r) k Down)) x after later) (sym home)
     (subst (λ (x : Marked). IsOrderOf rounds w (entry w (entry w n (Fell d)) (Did (run_no r) k Down)) (put g d.0 None) x later) (sym same) (record {
-      table_is = fits_ordered w _ _ later strong (died_table w n g held d.0 r k d Down table later read order at changes (kept.table_is.ordered strong));
-      line_is = subst (MarksAreKept (entry w (entry w n (Fell d)) (Did (run_no r) k Down)) (put g d.0 None)) (sym (fell.marks ∙ (λ i. with_item (place i) (Failed d (number_is i)) line.marks))) (marks_died w n g d.0 r k d Down line.marks out at kept.line_is);
+      table_is = fits_ordered w _ _ later strong (died_table w n g held d.0 r k d Down table later refl read order at changes (kept.table_is.ordered strong));
+      line_is = subst (MarksAreKept (entry w (entry w n (Fell d)) (Did (run_no r) k Down)) (put g d.0 None)) (sym (fell.marks ∙ (λ i. with_item (place i) (Failed d (number_is i)) line.marks))) (marks_died w n g d.0 r k d Down line.marks refl out at kept.line_is);
       sealed = fell.sealed;
       runs = subst (AreKeptOf w.runs) (sym fell.runs) kept.runs;
       room = let size = ap (λ (x : List Mark). length x) fell.marks ∙ length_with (event_place h.history (if first then Some (run_no r) else None) (accesses_at table d.0) line.marks) (Failed d number) line.marks in omega (arith, size, fell.spare, kept.room);
@@ -145,7 +145,7 @@ pub order_died_weakly : {rounds : ℕ} (h h₁ h₂ : HistoryState) (g f : Grips
     → number ≡ (read_in h).fell d.0 + 1 → first ≡ is_first r (lineage_at table d.0) → HasFallen h d (if first then Some (run_no r) else None) number line fallen table between
     → after ≡ fallen → later ≡ between → OrderIsBeside rounds h g line table → OrderIsBeside rounds h₂ f after later
 order_died_weakly {rounds = rounds} h h₁ h₂ g f d r k number first line fallen after table between later weak fit at below one two home number_is first_is fell same still kept =
-    order_answered_weakly h₁ h₂ g f d.0 r k Down fallen after between later (ap (λ (x : HistoryState). is_weak x.setting.mode) one ∙ weak) fit_then at two home same still
+    order_answered_weakly h₁ h₂ g f d.0 r k Down fallen after between later refl (ap (λ (x : HistoryState). is_weak x.setting.mode) one ∙ weak) fit_then at two home same still
     (order_fell h h₁ g r d.0 number (event_place h.history (if first then Some (run_no r) else None) (accesses_at table d.0) line.marks) line fallen table between (subst (λ x. d.0 < x) (sym kept.table_is.devices) below) one place number_is fell.marks fell.spare fell.runs fell.sealed fell.counted kept)
   where
     w : Setting

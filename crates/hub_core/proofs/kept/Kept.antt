@@ -4,7 +4,7 @@ use Rattle.history_book.proofs.Searches.{some_is}
 use Rattle.history_book.specs.Histories.{entries_of, entry, kept_by, reading}
 use Rattle.history_book.specs.Lines.{Split}
 use Rattle.history_book.specs.Gaps.{split_of}
-use Rattle.history_book.specs.Readings.{PlacedAt, Reading, has_written, is_doomed, is_live, is_next_on, next_of, put, sees_down}
+use Rattle.history_book.specs.Readings.{PlacedAt, Reading, asks_on, has_written, is_doomed, is_live, next_of, put, sees_down}
 use Rattle.history_book.specs.Settings.{Setting, is_device, is_weak, scheduler_of}
 use Rattle.history_book.specs.WellFormed.{along, may_follow}
 use Rattle.history_book.specs.declared.entries.Cause.TheVariants.{DownAtEnd, MustDown, Revoked}
@@ -16,12 +16,12 @@ use Rattle.history_book.specs.declared.entries.Kept.{Kept}
 use Rattle.home_types.specs.Commands.{refutes}
 use Rattle.home_types.specs.HomeStates.{stand_at}
 use Rattle.home_types.specs.Kinds.{has_value, kind_at}
-use Rattle.home_types.specs.declared.commands.Answer.TheVariants.{Down}
+use Rattle.home_types.specs.declared.commands.Answer.TheVariants.{Down, Skipped}
 use Rattle.home_types.specs.declared.commands.Command.{Command}
 use Rattle.home_types.specs.declared.modes.Scheduler.TheVariants.{Fcfs}
 use Rattle.hub_core.proofs.steps.Afters.{read_with}
 use Rattle.hub_core.proofs.steps.Causes.{IsClean, Shows, take_is_clean, take_shows}
-use Rattle.hub_core.proofs.steps.Choices.{Commanding, Enters, IsNext, decide_is}
+use Rattle.hub_core.proofs.steps.Choices.{Commanding, Enters, IsNext, Skipping, decide_is}
 use Rattle.hub_core.proofs.kept.Followed.{none_placed}
 use Rattle.hub_core.proofs.kept.HistoryKept.{MayAdd, ServesStrict, aborted_may, added, arrival_may, commit_may, doom_may, drop_may, grip_turn, history_added, in_turn_wrote, less_one, placing_may, serves_strict, told_may}
 use Rattle.hub_core.proofs.windows.StrongChoices.{IsPlacing, StrongSteps, served_in_turn, strong_steps, take_all}
@@ -46,6 +46,7 @@ use Rattle.window_order.proofs.ReadFacts.{IsRead, read_facts}
 use Rattle.window_order.proofs.Rollbacks.{aborts_kept, doomed_kept, dropped_kept, undo_goes_kept}
 use Rattle.window_order.proofs.Runs.{both}
 use Rattle.window_order.proofs.Joined.{joined_order}
+use Rattle.window_order.proofs.SkippedCommands.{IsSkipped, skipped_holds, skipped_kept}
 use Rattle.window_order.proofs.Steps.{arrives_kept, commits_kept, goes_kept, starts_kept}
 use Rattle.window_order.specs.OrderKept.{OrderIsKept}
 
@@ -158,7 +159,7 @@ gripless w n g r d fit run gone = by_grip (g d) refl
     not_zero none_first = let none : is_run w.runs 0 ≡ true = subst (λ x. is_run w.runs x ≡ true) none_first run in absurd (cc)
 
     idle : (q : ℕ) (p : Purpose) → g d ≡ Some (record { maker = q; purpose = p }) → q ≡ r → ⊥
-    idle q (Commands k) out same = not_live (let may : IsTrue (is_live n q && is_next_on w n q d && (k == next_of n q)) = fit.runs.commands d q k out in let live : is_live n q ≡ true = grind (arith, common_steps) in subst (λ x. is_live n x ≡ true) same live)
+    idle q (Commands k) out same = not_live (let may : IsTrue (is_live n q && asks_on w n q d && (k == next_of n q)) = fit.runs.commands d q k out in let live : is_live n q ≡ true = grind (arith, common_steps) in subst (λ x. is_live n x ≡ true) same live)
     idle q (Undoes v) out same = not_live (let may : IsTrue (is_live n q && is_doomed n q && has_written n q d && not ((n.run q).on d).undid) = fit.runs.undos d q v out in let live : is_live n q ≡ true = grind (arith, common_steps) in subst (λ x. is_live n x ≡ true) same live)
     idle q (Probes v) out same = not_zero (sym same ∙ fit.probes d q v out)
 
@@ -220,10 +221,13 @@ take_kept s rounds opened held r m kept =
           (in_turn_wrote s r d undoing.act.live (effect_is n s.grips r d undoing.effect).0 kept.history)
           (undo_goes_kept w n s.grips held r d read undoing.act.live (ap is_some undoing.doomed) undoing.act.free undoing.next undoing.home up kept.order);
       revokes = λ c x run strong at ok shown clean. revokes c x run at (first_follows w n (Doomed (run_no x) (Revoked (run_no r) c.device (lease_deadline w n x c.device.0) now)) ok) (both (shows w n x (Revoked (run_no r) c.device (lease_deadline w n x c.device.0) now)) true shown).0;
+      skips = λ c skip ok shown clean. let skipped = skipping c skip in
+          moves (Did (run_no r) (next_of n r) Skipped) refl (told_may s r (next_of n r) now Skipped (first_follows w n (Did (run_no r) (next_of n r) Skipped) ok) refl later served (skipped_holds w n s.grips held r c skipped) skip.act.live skip.alone kept.history)
+          (skipped_kept w n s.grips held r c skipped);
       downs = λ c run next home down. downs c run (next kept.strong) home down;
       goes = λ c run next home up ok shown clean. let there = reached (is_weak w.mode) (sees_down n r c.device.0) (is_out s.grips c.device.0) (n.up c.device.0) kept.strong home up in
           goes c.device.0 (Commands (next_of n r)) refl refl (ap not (unanswered (n.run r).answered_doomed (n.run r).doomed (read.shaped r).answers_late run.sound)) (next kept.strong).alone
-          (goes_kept w n s.grips held r c read run.act.run run.act.live run.sound run.act.free run.next (next kept.strong).first (next kept.strong).clean there.0 there.1 there.2 (staged.homed r (next_of n r) c run.next) kept.order);
+          (goes_kept w n s.grips held r c read run.act.run run.act.live run.sound run.act.free run.next run.guard (next kept.strong).first (next kept.strong).clean there.0 there.1 there.2 (staged.homed r (next_of n r) c run.next) kept.order);
       fails_at_end = λ d all at ok shown clean. let follows : may_follow w n (Doomed (run_no r) (DownAtEnd (device_no d))) ≡ true = first_follows w n (Doomed (run_no r) (DownAtEnd (device_no d))) ok in
           moves (Doomed (run_no r) (DownAtEnd (device_no d))) refl (doom_may s r now (DownAtEnd (device_no d)) follows (λ first_come. refl) (both (shows w n r (DownAtEnd (device_no d))) true shown).0 later kept.history)
           (doomed_kept w n s.grips held r (DownAtEnd (device_no d)) read all.act.live kept.order);
@@ -295,6 +299,19 @@ take_kept s rounds opened held r m kept =
         live : is_live n x ≡ true
         live = grind (arith, common_steps, follows)
 
+    -- a command that is skipped
+    skipping : (c : Command) → Skipping w n s.grips r c → IsSkipped w n s.grips held r c
+    skipping c skip = record {
+      read = read;
+      live = skip.act.live;
+      sound = skip.sound;
+      free = skip.act.free;
+      next = skip.next;
+      guard = skip.guard;
+      device = staged.homed r (next_of n r) c skip.next;
+      kept = kept.order;
+    }
+
     -- the answer Down with no call, and the doom of a must command
     downs : (c : Command) → Commanding w n s.grips r c → IsNext w n s.grips r now c → busy_wait w n s.grips r c.device.0 ≡ false → answers_down w n r c.device.0 ≡ true
         → Follows w n (Moves (down_entries r (next_of n r) c)) → Shows w n (Moves (down_entries r (next_of n r) c)) → IsClean w n (Moves (down_entries r (next_of n r) c)) → ConfigurationIsKept (after_choice (at_moment s m) r (Moves (down_entries r (next_of n r) c))) rounds opened held
@@ -320,6 +337,7 @@ take_kept s rounds opened held r m kept =
           sound = run.sound;
           free = run.act.free;
           next = run.next;
+          guard = run.guard;
           device = staged.homed r (next_of n r) c run.next;
           behind = next.first;
           busy = home;

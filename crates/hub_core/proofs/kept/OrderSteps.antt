@@ -8,7 +8,7 @@ use Rattle.history_book.proofs.Snoc.{along_on, each_at, entries_on, put_same, re
 use Rattle.history_book.specs.Histories.{entries_of, entry, kept_by, reading}
 use Rattle.history_book.specs.Gaps.{front_for, gap_set, line_for}
 use Rattle.history_book.specs.Plans.{planned_times}
-use Rattle.history_book.specs.Readings.{OfRun, Reading, did, is_doomed, next_of, nothing_read, pends, put}
+use Rattle.history_book.specs.Readings.{OfRun, Reading, did, is_access, is_doomed, next_of, nothing_read, pends, put}
 use Rattle.history_book.specs.Sealed.{sealed_in}
 use Rattle.history_book.specs.Settings.{Setting, is_weak, scheduler_of}
 use Rattle.history_book.specs.WellFormed.{IsWellFormed, along, cause_fits, is_well_formed, may_act, may_follow}
@@ -24,7 +24,7 @@ use Rattle.home_types.specs.declared.commands.View.{View}
 use Rattle.home_types.specs.declared.items.Item.TheVariants.{Ran}
 use Rattle.home_types.specs.declared.items.Item.{Item}
 use Rattle.hub_core.specs.Bounds.{most_items}
-use Rattle.hub_core.specs.KeptOrders.{IsOrderOf, IsSealed, MayNote, OrderIsBeside, TableFits, is_first, noted_first}
+use Rattle.hub_core.specs.KeptOrders.{IsOrderOf, IsSealed, IsUnreleased, MayNote, OrderIsBeside, TableFits, is_first, noted_first}
 use Rattle.hub_core.specs.ReadHistories.{HistoryState, read_in, with_doom, with_entry}
 use Rattle.lineage_table.specs.Accesses.{is_scheduled, status_of}
 use Rattle.lineage_table.specs.Lineages.{IsOpened, LineageState, committed_lineage, lineage_at, removed, undone, with_lineage}
@@ -225,26 +225,27 @@ order_undo_out {rounds = rounds} h g f r d v line after table later read home be
 
 -- A command is answered
 
--- what the table asks for where it is the run's turn on the device
-note_there : (w : Setting) (n : Reading) (g : Grips) (d r : ℕ) (cut : CutAt r n.line) (s : LineageState) → IsRead w n → TouchesNow w n g d r cut → LineageIsKept w n g d s → (is_first r s ≡ not (did n r d)) × MayNote r s
-note_there w n g d r cut s read turn kept = (first, record { status = status; first = λ h. waits_there w n g d r cut s read turn (not-true (did n r d) (sym first ∙ h)) kept })
+-- by such a status the run has not touched the device exactly where it has no access by its answers, and is not done with it
+pub stands_so : (r : ℕ) (s : LineageState) (seen : Bool) → status_of r s.accesses ≡ Some (if seen then Acquired else Scheduled) → (is_first r s ≡ not seen) × IsUnreleased r s
+stands_so r s seen stands = (first, stands ∙ ap (λ x. Some x) (turned seen) ∙ (λ i. Some (if sym first i then Scheduled else Acquired)))
   where
-    stands : status_of r s.accesses ≡ Some (if did n r d then Acquired else Scheduled)
-    stands = status_there w n g d r cut s read turn kept
+    by_seen : (b : Bool) → is_scheduled (if b then Acquired else Scheduled) ≡ not b
+    by_seen true = refl
+    by_seen false = refl
 
-    by_did : (b : Bool) → is_scheduled (if b then Acquired else Scheduled) ≡ not b
-    by_did true = refl
-    by_did false = refl
-
-    first : is_first r s ≡ not (did n r d)
-    first = ap (λ o. unwrap_or (option_map is_scheduled o) false) stands ∙ by_did (did n r d)
+    first : is_first r s ≡ not seen
+    first = ap (λ o. unwrap_or (option_map is_scheduled o) false) stands ∙ by_seen seen
 
     turned : (b : Bool) → (if b then Acquired else Scheduled) ≡ (if not b then Scheduled else Acquired)
     turned true = refl
     turned false = refl
 
-    status : status_of r s.accesses ≡ Some (if is_first r s then Scheduled else Acquired)
-    status = stands ∙ ap (λ x. Some x) (turned (did n r d)) ∙ (λ i. Some (if sym first i then Scheduled else Acquired))
+-- what the table asks for where it is the run's turn on the device
+note_there : (w : Setting) (n : Reading) (g : Grips) (d r : ℕ) (cut : CutAt r n.line) (s : LineageState) → IsRead w n → TouchesNow w n g d r cut → LineageIsKept w n g d s → (is_first r s ≡ not (did n r d)) × MayNote r s
+note_there w n g d r cut s read turn kept = (so.0, record { status = so.1; first = λ h. waits_there w n g d r cut s read turn (not-true (did n r d) (sym so.0 ∙ h)) kept })
+  where
+    so : (is_first r s ≡ not (did n r d)) × IsUnreleased r s
+    so = stands_so r s (did n r d) (status_there w n g d r cut s read turn kept)
 
 -- the run's turn on the device of its command
 pub may_note : (w : Setting) (n : Reading) (g : Grips) (held : ℕ → ℕ) (d r k : ℕ) (table : List LineageState) → IsRead w n → OrderIsKept w n g held → g d ≡ Some (record { maker = r; purpose = Commands k }) → d < length w.first → TableIsKept w n g table
@@ -261,13 +262,13 @@ pub record ToldOf (w : Setting) (n : Reading) (r k : ℕ) (a : Answer) (view : V
   pub last_is : last ≡ is_done_there w n r k
 
 pub order_answered : {rounds : ℕ} (h h₂ : HistoryState) (g f : Grips) (held : ℕ → ℕ) (d r k : ℕ) (a : Answer) (view : View) (wrote : Option ℕ) (last : Bool) (line after : Marked) (table later : List LineageState)
-    → IsRead h.setting (read_in h) → is_weak h.setting.mode ≡ false → OrderIsKept h.setting (read_in h) g held → g d ≡ Some (record { maker = r; purpose = Commands k }) → d < length h.setting.first
+    → is_access a ≡ true → IsRead h.setting (read_in h) → is_weak h.setting.mode ≡ false → OrderIsKept h.setting (read_in h) g held → g d ≡ Some (record { maker = r; purpose = Commands k }) → d < length h.setting.first
     → h₂ ≡ with_entry h r (Did (run_no r) k a) → f ≡ put g d None → ToldOf h.setting (read_in h) r k a view wrote last → after ≡ line → later ≡ with_lineage table d (noted_first r (is_first r (lineage_at table d)) view wrote last)
     → OrderIsBeside rounds h g line table → OrderIsBeside rounds h₂ f after later
-order_answered {rounds = rounds} h h₂ g f held d r k a view wrote last line after table later read strong order at below new home told same changed kept =
+order_answered {rounds = rounds} h h₂ g f held d r k a view wrote last line after table later access read strong order at below new home told same changed kept =
     entry_kept h h₂ f r (Did (run_no r) k a) after later new (subst (λ (x : Grips). IsOrderOf rounds w m x after later) (sym home) (subst (λ (x : Marked). IsOrderOf rounds w m (put g d None) x later) (sym same) (record {
-      table_is = fits_ordered w _ _ later strong (answered_table w n g held d r k a table later read order at changes (kept.table_is.ordered strong));
-      line_is = marks_answered w n g d r k a line.marks out at kept.line_is;
+      table_is = fits_ordered w _ _ later strong (answered_table w n g held d r k a table later access read order at changes (kept.table_is.ordered strong));
+      line_is = marks_answered w n g d r k a line.marks access out at kept.line_is;
       sealed = kept.sealed;
       runs = kept.runs;
       room = omega (arith, kept.room);
@@ -305,13 +306,13 @@ order_answered {rounds = rounds} h h₂ g f held d r k a view wrote last line af
 
 -- .. under the weak model, which notes it in the line alone
 pub order_answered_weakly : {rounds : ℕ} (h h₂ : HistoryState) (g f : Grips) (d r k : ℕ) (a : Answer) (line after : Marked) (table later : List LineageState)
-    → is_weak h.setting.mode ≡ true → GripsFit h.setting (read_in h) g → g d ≡ Some (record { maker = r; purpose = Commands k })
+    → is_access a ≡ true → is_weak h.setting.mode ≡ true → GripsFit h.setting (read_in h) g → g d ≡ Some (record { maker = r; purpose = Commands k })
     → h₂ ≡ with_entry h r (Did (run_no r) k a) → f ≡ put g d None → after ≡ line → later ≡ table
     → OrderIsBeside rounds h g line table → OrderIsBeside rounds h₂ f after later
-order_answered_weakly {rounds = rounds} h h₂ g f d r k a line after table later weak fit at new home same still kept =
+order_answered_weakly {rounds = rounds} h h₂ g f d r k a line after table later access weak fit at new home same still kept =
     entry_kept h h₂ f r (Did (run_no r) k a) after later new (subst (λ (x : Grips). IsOrderOf rounds w m x after later) (sym home) (subst (λ (x : Marked). IsOrderOf rounds w m (put g d None) x later) (sym same) (subst (IsOrderOf rounds w m (put g d None) line) (sym still) (record {
       table_is = fits_weakly w n m g (put g d None) table weak (λ e. refl) kept.table_is;
-      line_is = marks_answered w n g d r k a line.marks (out_is w n g d r k fit at) at kept.line_is;
+      line_is = marks_answered w n g d r k a line.marks access (out_is w n g d r k fit at) at kept.line_is;
       sealed = kept.sealed;
       runs = kept.runs;
       room = omega (arith, kept.room);
@@ -349,7 +350,7 @@ pub order_told_down : {rounds : ℕ} (h h₂ : HistoryState) (g : Grips) (held :
     → OrderIsBeside rounds h g line table → OrderIsBeside rounds h₂ g after later
 order_told_down {rounds = rounds} h h₂ g held r k last line after table later told below number new last_is marks spare runs stays changed kept = entry_kept h h₂ g r (Did (run_no r) k Down) after later new (record {
   table_is = fits_ordered w _ g later told.strong (subst (λ j. TableIsKept w (entry w n (Did (run_no r) j Down)) g later) (sym number) (told_table w n g held r c table later told (subst (λ j. ChangesEach (answered_change w n r j Down) table later) number changes) (kept.table_is.ordered told.strong)));
-  line_is = subst (MarksAreKept (entry w n (Did (run_no r) k Down)) g) (sym marks) (marks_told w n g r k Down line.marks kept.line_is);
+  line_is = subst (MarksAreKept (entry w n (Did (run_no r) k Down)) g) (sym marks) (marks_told w n g r k Down line.marks refl kept.line_is);
   sealed = touched_sealed r c.device.0 line after marks stays kept.sealed;
   runs = subst (AreKeptOf w.runs) (sym runs) kept.runs;
   room = let size = ap (λ (x : List Mark). length x) marks ∙ length_touching r c.device.0 line.marks in omega (arith, size, spare, kept.room);
@@ -388,7 +389,7 @@ pub order_told_weakly : {rounds : ℕ} (h h₂ : HistoryState) (g : Grips) (r k 
     → OrderIsBeside rounds h g line table → OrderIsBeside rounds h₂ g after later
 order_told_weakly {rounds = rounds} h h₂ g r k line after table later weak new marks spare runs stays still kept = entry_kept h h₂ g r (Did (run_no r) k Down) after later new (subst (IsOrderOf rounds w (entry w n (Did (run_no r) k Down)) g after) (sym still) (record {
   table_is = fits_weakly w n _ g g table weak (λ d. refl) kept.table_is;
-  line_is = subst (MarksAreKept (entry w n (Did (run_no r) k Down)) g) (sym marks) (marks_told w n g r k Down line.marks kept.line_is);
+  line_is = subst (MarksAreKept (entry w n (Did (run_no r) k Down)) g) (sym marks) (marks_told w n g r k Down line.marks refl kept.line_is);
   sealed = touched_sealed r (command_at w.runs r k).device.0 line after marks stays kept.sealed;
   runs = subst (AreKeptOf w.runs) (sym runs) kept.runs;
   room = let size = ap (λ (x : List Mark). length x) marks ∙ length_touching r (command_at w.runs r k).device.0 line.marks in omega (arith, size, spare, kept.room);

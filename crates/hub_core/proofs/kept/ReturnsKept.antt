@@ -5,14 +5,14 @@ use Rattle.device_gate.specs.declared.slips.Told.{Told}
 use Rattle.history_book.proofs.Shapes.{shapes}
 use Rattle.history_book.proofs.Snoc.{put_keeps, put_other, put_same}
 use Rattle.history_book.specs.Histories.{entries_of, entry, kept_by, moment_of}
-use Rattle.history_book.specs.Readings.{Reading, did, has_written, is_doomed, is_live, is_next_on, next_command, next_of, put, sees_down}
+use Rattle.history_book.specs.Readings.{Reading, asks_on, did, has_written, is_doomed, is_live, next_command, next_of, put, sees_down}
 use Rattle.history_book.specs.Settings.{Setting, is_device, is_weak}
 use Rattle.history_book.specs.WellFormed.{along, may_follow, suits}
 use Rattle.history_book.specs.declared.entries.Cause.TheVariants.{Lost, MustDown, Refuted}
 use Rattle.history_book.specs.declared.entries.Cause.{Cause}
 use Rattle.history_book.specs.declared.entries.Entry.TheVariants.{Did, Doomed, Fell, Rose, Undid}
 use Rattle.history_book.specs.declared.entries.Entry.{Entry}
-use Rattle.home_types.specs.Commands.{driven, fails, reads, refutes}
+use Rattle.home_types.specs.Commands.{driven, fails, holds, reads, refutes}
 use Rattle.home_types.specs.Kinds.{has_value, kind_at}
 use Rattle.home_types.specs.declared.commands.Answer.TheVariants.{Down, Fine, Found}
 use Rattle.home_types.specs.declared.commands.Command.{Command}
@@ -20,10 +20,10 @@ use Rattle.hub_core.proofs.kept.EventsKept.{fell_may, rose_may}
 use Rattle.hub_core.proofs.kept.HistoryKept.{MayAdd, added, answer_may, doom_may, first_less, history_added, less_one, same_grips, serves_strict, turn_less, undo_may}
 use Rattle.hub_core.proofs.kept.Kept.{first_follows, history_same, kept_after, out_less, probes_home, still_later}
 use Rattle.hub_core.proofs.steps.Afters.{read_with}
-use Rattle.hub_core.proofs.steps.Causes.{and_is}
+use Rattle.hub_core.proofs.steps.Causes.{and_is, and_three}
 use Rattle.hub_core.proofs.steps.GiveCauses.{command_back_shows, probe_shows}
-use Rattle.hub_core.proofs.steps.Gives.{MayUndo, command_back_follows, command_is, probe_back_follows, undo_back_follows}
-use Rattle.hub_core.proofs.steps.Takes.{live_run}
+use Rattle.hub_core.proofs.steps.Gives.{MayUndo, command_back_follows, probe_back_follows, undo_back_follows}
+use Rattle.hub_core.proofs.steps.Takes.{command_is, live_run}
 use Rattle.hub_core.specs.CleanReads.{answer_is_clean, clean_value, entry_is_clean}
 use Rattle.hub_core.specs.HubKept.{ConfigurationIsKept, HistoryIsKept, is_of_run, is_probed, keeps_leases, probes_of, undo_fits}
 use Rattle.hub_core.specs.JustifiedAborts.{abort_is_justified, shows}
@@ -55,16 +55,17 @@ pub record IsOut (w : Setting) (n : Reading) (r k d : ℕ) (c : Command) : Type 
   pub number : k ≡ next_of n r
   pub next : next_command w n r ≡ Some c
   pub on : c.device.0 ≡ d
+  pub guard : holds c.when (n.run r).register ≡ true
 
 pub out_is : (w : Setting) (n : Reading) (g : Grips) (r k d : ℕ) → MayBeOut w n g → g d ≡ Some (record { maker = r; purpose = Commands k }) → (c : Command) × IsOut w n r k d c
 out_is w n g r k d may out = by_next (next_command w n r) refl (grind (arith, common_steps, known))
   where
-    known : IsTrue (is_live n r && is_next_on w n r d && (k == next_of n r))
+    known : IsTrue (is_live n r && asks_on w n r d && (k == next_of n r))
     known = may.commands d r k out
 
-    by_next : (o : Option Command) → next_command w n r ≡ o → unwrap_or (option_map (is_on d) o) false ≡ true → (c : Command) × IsOut w n r k d c
+    by_next : (o : Option Command) → next_command w n r ≡ o → unwrap_or (option_map (λ c. is_on d c && holds c.when (n.run r).register) o) false ≡ true → (c : Command) × IsOut w n r k d c
     by_next None e f = absurd (cc)
-    by_next (Some c) e f = (c, record { live = grind (arith, common_steps, known); number = grind (arith, common_steps, known); next = e; on = grind (arith, common_steps) })
+    by_next (Some c) e f = (c, record { live = grind (arith, common_steps, known); number = grind (arith, common_steps, known); next = e; on = grind (arith, common_steps); guard = grind (arith, common_steps) })
 
 -- what a device brings that comes home and stands at the value v: a write has worked that drove it there, or a read found that it stands there, as before; an undo drove it there; a probe found it as it was, or drove it there.
 -- where a call died nothing is known of where it stands
@@ -168,10 +169,10 @@ command_follows s rounds opened held r k d v told c back brings value kept =
     n : Reading
     n = read_of s
 
-    suited : (t : Told) → BringsFor s held r d v (Commands k) t → suits w c (answer_told t) ≡ true
-    suited Worked b = ap not (ap (λ (y : Command). reads y.job) (sym back.same) ∙ b.0)
-    suited (Sensed x) b = and_is (ap (λ (y : Command). reads y.job) (sym back.same) ∙ b.0) (ap₂ (λ e y. has_value (kind_at w.kinds e) y) back.known.on b.1 ∙ value)
-    suited Died b = refl
+    suited : (t : Told) → BringsFor s held r d v (Commands k) t → suits w n r c (answer_told t) ≡ true
+    suited Worked b = and_is back.known.guard (ap not (ap (λ (y : Command). reads y.job) (sym back.same) ∙ b.0))
+    suited (Sensed x) b = and_three back.known.guard (ap (λ (y : Command). reads y.job) (sym back.same) ∙ b.0) (ap₂ (λ e y. has_value (kind_at w.kinds e) y) back.known.on b.1 ∙ value)
+    suited Died b = back.known.guard
 
 -- and the doom among them shows its cause
 command_shows : (s : Configuration) (rounds opened : ℕ) (held : ℕ → ℕ) (r k d : ℕ) (told : Told) (c : Command) → Returns s r k d c → ConfigurationIsKept s rounds opened held → IsTrue (along s.setting (abort_is_justified s.setting) (read_of s) (command_entries s.setting (read_of s) r k told))

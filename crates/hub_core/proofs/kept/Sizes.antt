@@ -1,9 +1,9 @@
 -- How long a history and its line can grow.
 use Rattle.command_rules.specs.Items.{is_ran, of_run}
-use Rattle.command_rules.specs.Rosters.{Run, command_at, commands_of, is_on, is_run}
+use Rattle.command_rules.specs.Rosters.{Run, command_at, commands_of, is_on, is_run, touches}
 use Rattle.history_book.proofs.Counts.{fell_is, size_is}
 use Rattle.history_book.proofs.Once.{count_insert, count_put_before}
-use Rattle.history_book.proofs.Shapes.{Shaped, shapes}
+use Rattle.history_book.proofs.Shapes.{Shaped, did_touches, shapes}
 use Rattle.history_book.proofs.Snoc.{put_keeps, put_other, put_same}
 use Rattle.history_book.proofs.Splits.{split_count}
 use Rattle.history_book.proofs.Standing.{stands_in}
@@ -36,7 +36,7 @@ use Rattle.std.proofs.lemmas.List.Sums.{sum_by-cons}
 use Rattle.std.proofs.lemmas.Option.{slice_get_within}
 use Rattle.window_order.proofs.ReadFacts.{IsRead, read_facts}
 use Rattle.std.specs.List.{list_any}
-use Rattle.std.specs.Prelude.{Bool, IsTrue, List, None, Option, Some, [], count_by, false, fold, if◌then◌else◌, is_none, is_some, length, map, not, slice_get, suc, take, true, zero, ℕ, ◌*◌, ◌+◌, ◌<◌, ◌==◌, ◌||◌, ◌∷◌, ◌≡◌, ◌≢◌, ◌≤◌}
+use Rattle.std.specs.Prelude.{Bool, IsTrue, List, None, Option, Some, [], count_by, false, fold, if◌then◌else◌, is_none, is_some, length, map, not, slice_get, suc, true, zero, ℕ, ◌*◌, ◌+◌, ◌<◌, ◌==◌, ◌||◌, ◌∷◌, ◌≡◌, ◌≢◌, ◌≤◌}
 
 pub count_cons : {A : Type 0} (p : A → Bool) (x : A) (xs : List A) → count_by p (x ∷ xs) ≡ cond (p x) 1 0 + count_by p xs
 count_cons p x xs = sum_by-cons (λ y. cond (p y) 1 0) x xs
@@ -235,29 +235,19 @@ unfolding sum_below
 sum_less f h zero each = omega arith
 sum_less f h (suc k) each = omega (arith, sum_less f h k each, each k)
 
--- a run is undone where it has written, so on no more devices than it has answers
-undone_fits : (w : Setting) (n : Reading) (r devices : ℕ) → Shaped w n → undone_of devices (n.run r).on ≤ length (n.run r).answers
+-- a run is undone where it has written, so on no more devices than it has commands
+undone_fits : (w : Setting) (n : Reading) (r devices : ℕ) → Shaped w n → undone_of devices (n.run r).on ≤ length (commands_of w.runs r)
 unfolding undone_of one_if
 undone_fits w n r devices shaped =
-    let each = sum_less (λ d. one_if ((n.run r).on d).undid) (λ d. one_if (list_any (is_on d) done)) devices (λ d. less ((n.run r).on d).undid (list_any (is_on d) done) (written d)) in
-    let most = devices_of_commands done devices in
-    let short : length done ≤ length (n.run r).answers = length_take (length (n.run r).answers) (commands_of w.runs r) in
-    omega (arith, each, most, short)
+    let each = sum_less (λ d. one_if ((n.run r).on d).undid) (λ d. one_if (touches w.runs r d)) devices (λ d. less ((n.run r).on d).undid (touches w.runs r d) (written d)) in
+    omega (arith, each, devices_of_commands (commands_of w.runs r) devices)
   where
-    done : List Command
-    done = take (length (n.run r).answers) (commands_of w.runs r)
-
-    written : (d : ℕ) → ((n.run r).on d).undid ≡ true → list_any (is_on d) done ≡ true
-    written d undid = sym ((shaped r).view d) ∙ (shaped r).wrote d ((shaped r).undid d undid)
+    written : (d : ℕ) → ((n.run r).on d).undid ≡ true → touches w.runs r d ≡ true
+    written d undid = did_touches w n r d shaped ((shaped r).wrote d ((shaped r).undid d undid))
 
     less : (a b : Bool) → (a ≡ true → b ≡ true) → one_if a ≤ one_if b
     less true b if_true = let one : one_if b ≡ 1 = ap one_if (if_true refl) in omega (arith, one)
     less false b if_true = omega arith
-
-    length_take : {A : Type 0} (k : ℕ) (xs : List A) → length (take k xs) ≤ k
-    length_take zero xs = omega arith
-    length_take (suc k) [] = omega arith
-    length_take (suc k) (x ∷ xs) = omega (arith, length_take k xs)
 
 -- a run tells of its arrival, its place, its answers, its doom, its undos and its end
 told_fits : (w : Setting) (n : Reading) (r : ℕ) → Shaped w n → length (commands_of w.runs r) ≤ 64 → told_of (length w.first) (n.run r) ≤ 132

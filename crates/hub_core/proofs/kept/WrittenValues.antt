@@ -12,7 +12,7 @@ use Rattle.history_book.specs.declared.entries.Entry.TheVariants.{Arrived, Did, 
 use Rattle.home_types.specs.Commands.{driven, writes}
 use Rattle.home_types.specs.HomeStates.{stand_at}
 use Rattle.home_types.specs.Kinds.{has_value, kind_at, nearest}
-use Rattle.home_types.specs.declared.commands.Answer.TheVariants.{Down, Fine, Found}
+use Rattle.home_types.specs.declared.commands.Answer.TheVariants.{Down, Fine, Found, Skipped}
 use Rattle.home_types.specs.declared.commands.Answer.{Answer}
 use Rattle.home_types.specs.declared.commands.Command.{Command}
 use Rattle.home_types.specs.declared.commands.Job.TheVariants.{Check, Load, Set, Store}
@@ -85,6 +85,7 @@ answer_fits w n r k Fine fit ok all = driven_has (kind_at w.kinds c.device.0) c.
     named = (both (is_device w c.device.0) (names_values_of (kind_at w.kinds c.device.0) c.job) home).1
 answer_fits w n r k (Found x) fit ok all = all r (command_at w.runs r k).device.0
 answer_fits w n r k Down fit ok all = all r (command_at w.runs r k).device.0
+answer_fits w n r k Skipped fit ok all = all r (command_at w.runs r k).device.0
 
 writes_step : (w : Setting) (n : Reading) (e : Entry) → ValuesFit w → may_follow w n e ≡ true → WritesFit w n → WritesFit w (entry w n e)
 writes_step w n (Arrived r m) fit ok all = writes_put w n (entry w n (Arrived r m)) r.0 _ refl (all r.0) all

@@ -11,7 +11,7 @@ use Rattle.history_book.specs.Settings.{Setting, is_weak}
 use Rattle.history_book.specs.declared.entries.Cause.TheVariants.{Lost, MustDown, Refuted}
 use Rattle.history_book.specs.declared.entries.Entry.{Entry}
 use Rattle.history_book.specs.declared.entries.Entry.TheVariants.{Did, Doomed, Fell}
-use Rattle.home_types.specs.declared.commands.Answer.TheVariants.{Down, Found}
+use Rattle.home_types.specs.declared.commands.Answer.TheVariants.{Down, Found, Skipped}
 use Rattle.home_types.specs.Commands.{fails, register_after}
 use Rattle.home_types.specs.declared.commands.Command.{Command}
 use Rattle.home_types.specs.declared.commands.Job.{Job}
@@ -54,6 +54,7 @@ take_makes_none w n g r m d =
       drops = λ cause e undoing down. grind (arith, common_steps);
       undoes = λ cause e undoing up. refl;
       revokes = λ c x run strong at. refl;
+      skips = λ c skip. grind (arith, common_steps);
       downs = λ c run next home down. downs_none w.runs d r (next_of n r) c;
       goes = λ c run next home up. refl;
       fails_at_end = λ e all at. refl;
@@ -260,6 +261,12 @@ register_down (Check v) register = refl
 register_down Load register = refl
 register_down Store register = refl
 
+register_skipped : (job : Job) (register : ℕ) → register_after job Skipped register ≡ register
+register_skipped (Set v) register = refl
+register_skipped (Check v) register = refl
+register_skipped Load register = refl
+register_skipped Store register = refl
+
 abbrev KeepsRegisters : Setting → Reading → Choice → Type 0
 KeepsRegisters w n c = (q : ℕ) → ((fold (entry w) n (made_by c)).run q).register ≡ (n.run q).register
 
@@ -285,6 +292,7 @@ take_keeps_registers w n g r m =
       drops = λ cause d undoing down q. put_keeps (λ o. o.register) n.run r _ refl q;
       undoes = λ cause d undoing up q. refl;
       revokes = λ c x run strong at q. put_keeps (λ o. o.register) n.run x _ refl q;
+      skips = λ c skip q. put_keeps (λ o. o.register) n.run r _ (register_skipped (command_at w.runs r (next_of n r)).job (n.run r).register) q;
       downs = λ c run next home down. downs_register w n r (next_of n r) c;
       goes = λ c run next home up q. refl;
       fails_at_end = λ d all at q. put_keeps (λ o. o.register) n.run r _ refl q;
@@ -314,6 +322,7 @@ take_makes_no_fall w n g r m d =
       drops = λ cause e undoing down. refl;
       undoes = λ cause e undoing up. refl;
       revokes = λ c x run strong at. refl;
+      skips = λ c skip. refl;
       downs = λ c run next home down. elim c.must as (λ b. told_falls (Did (run_no r) (next_of n r) Down ∷ (if b then Doomed (run_no r) (MustDown (next_of n r)) ∷ [] else [])) d ≡ 0) [ true ↦ refl | false ↦ refl ];
       goes = λ c run next home up. refl;
       fails_at_end = λ e all at. refl;
@@ -346,6 +355,7 @@ take_keeps_counted w n g r m =
       drops = λ cause e undoing down d. refl;
       undoes = λ cause e undoing up d. refl;
       revokes = λ c x run strong at d. refl;
+      skips = λ c skip d. refl;
       downs = λ c run next home down d. elim c.must as (λ b. counted_of (fold (entry w) (entry w n (Did (run_no r) (next_of n r) Down)) (if b then Doomed (run_no r) (MustDown (next_of n r)) ∷ [] else [])) d ≡ counted_of n d) [ true ↦ refl | false ↦ refl ];
       goes = λ c run next home up d. refl;
       fails_at_end = λ e all at d. refl;

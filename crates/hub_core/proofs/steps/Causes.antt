@@ -1,5 +1,5 @@
 -- The answers of a run's step are clean, and its dooms show their causes.
-use Rattle.command_rules.specs.Rosters.{command_at, commands_of, device_no, run_no, touches}
+use Rattle.command_rules.specs.Rosters.{command_at, commands_of, device_no, run_no, shares, touches}
 use Rattle.history_book.proofs.Searches.{Each, each_filter}
 use Rattle.history_book.proofs.Snoc.{put_same}
 use Rattle.history_book.specs.Histories.{entry}
@@ -10,22 +10,21 @@ use Rattle.history_book.specs.WellFormed.{along}
 use Rattle.history_book.specs.declared.entries.Cause.TheVariants.{DownAtEnd, MustDown}
 use Rattle.history_book.specs.declared.entries.Entry.TheVariants.{Did, Doomed}
 use Rattle.home_types.specs.declared.commands.Answer.{Answer}
-use Rattle.home_types.specs.declared.commands.Answer.TheVariants.{Down, Fine, Found}
+use Rattle.home_types.specs.declared.commands.Answer.TheVariants.{Down, Fine, Found, Skipped}
 use Rattle.home_types.specs.declared.commands.Command.{Command}
 use Rattle.home_types.specs.declared.modes.Scheduler.{Scheduler}
 use Rattle.home_types.specs.declared.modes.Visibility.{Visibility}
 use Rattle.home_types.specs.declared.modes.Visibility.TheVariants.{Eventual, Global, Partitioned, Weak}
 use Rattle.hub_core.proofs.steps.Choices.{decide_is}
-use Rattle.hub_core.proofs.steps.Gives.{command_is}
 use Rattle.hub_core.proofs.steps.Revoked.{revocation_is_shown}
-use Rattle.hub_core.proofs.steps.Takes.{made_by}
+use Rattle.hub_core.proofs.steps.Takes.{command_is, made_by}
 use Rattle.hub_core.specs.CleanReads.{answer_is_clean, entry_is_clean}
 use Rattle.hub_core.specs.JustifiedAborts.{abort_is_justified, equals_some, has_answer}
 use Rattle.hub_core.specs.LegalWindows.{none_fails, weakly_allowed}
 use Rattle.hub_core.specs.Steps.{Choice, Moves, answers_down, decide, down_entries}
 use Rattle.lock_leasing.specs.Configurations.{Grip, Grips, grips_command, has_grip, is_command, no_grips}
-use Rattle.lock_leasing.specs.Waits.{down_at_end, grip_wait}
-use Rattle.lock_leasing.specs.Words.{has_touched}
+use Rattle.lock_leasing.specs.Waits.{down_at_end, grip_wait, strict_wait}
+use Rattle.lock_leasing.specs.Words.{has_touched, live_before}
 use Rattle.std.proofs.Common.{ap, arith, cond, refl, sym, ◌∙◌}
 use Rattle.std.proofs.lemmas.Grind.{common_steps}
 use Rattle.std.specs.Prelude.{Bool, IsTrue, List, None, Option, Some, [], false, find, if◌then◌else◌, is_none, length, not, option_map, slice_get, true, unwrap_or, ℕ, ◌&&◌, ◌++◌, ◌==◌, ◌||◌, ◌∷◌, ◌≡◌}
@@ -47,6 +46,7 @@ answered_last w n r a = ap (λ xs. unwrap_or (option_map (same_answer a) (slice_
     same_self Fine = refl
     same_self (Found x) = grind (arith, common_steps)
     same_self Down = refl
+    same_self Skipped = refl
 
 -- Grips
 
@@ -91,6 +91,9 @@ IsClean w n c = IsTrue (along w (entry_is_clean w) n (made_by c))
 pub and_is : {a b : Bool} → a ≡ true → b ≡ true → (a && b) ≡ true
 and_is p q = rw (p, q) refl
 
+pub and_three : {a b c : Bool} → a ≡ true → b ≡ true → c ≡ true → (a && b && c) ≡ true
+and_three p q r = rw (p, q, r) refl
+
 down_shows : (w : Setting) (n : Reading) (r : ℕ) (c : Command) → next_command w n r ≡ Some c → Shows w n (Moves (down_entries r (next_of n r) c))
 down_shows w n r c next = elim c.must as (λ b. c.must ≡ b → IsTrue (along w (abort_is_justified w) n (Did (run_no r) (next_of n r) Down ∷ (if b then Doomed (run_no r) (MustDown (next_of n r)) ∷ [] else [])))) [
   | true ↦ (λ must. and_is (and_is (ap (λ x. x.must) (command_is w n r c next) ∙ must) (answered_last w n r Down)) refl)
@@ -112,7 +115,8 @@ take_shows w n g r m strong =
       aborted = λ cause act doomed over. refl;
       drops = λ cause d undoing down. refl;
       undoes = λ cause d undoing up. refl;
-      revokes = λ c x run e at. and_is (revocation_is_shown w n g r m x c run.act.live run.next at) refl;
+      revokes = λ c x run e at. and_is (revocation_is_shown w n g r m x c run.act.live run.next run.guard at) refl;
+      skips = λ c skip. refl;
       downs = λ c run next home down. down_shows w n r c run.next;
       goes = λ c run next home up. refl;
       fails_at_end = λ d all at. end_shows w n g r d all.act.free all.none at;
@@ -144,6 +148,7 @@ take_is_clean w n g r m strong =
       drops = λ cause d undoing down. refl;
       undoes = λ cause d undoing up. refl;
       revokes = λ c x run e at. refl;
+      skips = λ c skip. refl;
       downs = λ c run next home down. down_is_clean w n r c strong run.next down;
       goes = λ c run next home up. refl;
       fails_at_end = λ d all at. refl;
@@ -174,6 +179,22 @@ weak_is_not_strict Eventual s e = absurd (cc)
 pub never_down_at_end : (w : Setting) (n : Reading) (g : Grips) (r : ℕ) → is_weak w.mode ≡ true → down_at_end w n g r ≡ None
 never_down_at_end w n g r weak = ap (λ b. if b then find (λ e. has_touched n g r e && not (n.up e)) (devices_of w r) else None) (weak_is_not_strict w.mode.model w.mode.scheduler weak)
 
+-- nor waits for one by the model
+pub never_strict : (w : Setting) (n : Reading) (r : ℕ) → is_weak w.mode ≡ true → strict_wait w n r ≡ None
+never_strict w n r weak = by_weak w.mode.model w.mode.scheduler weak
+  where
+    by_model : Visibility → Option ℕ
+    by_model Weak = None
+    by_model Global = find (λ x. true) (live_before n r)
+    by_model Partitioned = find (λ x. shares w.runs x r) (live_before n r)
+    by_model Eventual = None
+
+    by_weak : (v : Visibility) (s : Scheduler) → is_weak (record { model = v; scheduler = s }) ≡ true → by_model v ≡ None
+    by_weak Weak s e = refl
+    by_weak Global s e = absurd (cc)
+    by_weak Partitioned s e = absurd (cc)
+    by_weak Eventual s e = refl
+
 abbrev pub IsAllowed : Setting → Reading → Choice → Type 0
 IsAllowed w n c = IsTrue (along w (weakly_allowed w) n (made_by c))
 
@@ -190,6 +211,7 @@ take_is_allowed w n g r m weak passes =
       drops = λ cause d undoing down. refl;
       undoes = λ cause d undoing up. refl;
       revokes = λ c x run strong at. absurd (let both' : true ≡ false = sym weak ∙ strong in cc);
+      skips = λ c skip. refl;
       downs = λ c run next home down. weakly_down w n r c weak run.next down;
       goes = λ c run next home up. refl;
       fails_at_end = λ d all at. absurd (let both' : None ≡ Some d = sym (never_down_at_end w n g r weak) ∙ at in cc);

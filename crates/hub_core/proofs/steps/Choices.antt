@@ -1,4 +1,5 @@
 -- What holds of each thing that a run's step may do holds of the step.
+use Rattle.home_types.specs.Commands.{holds}
 use Rattle.command_rules.specs.Rosters.{device_no, is_run, run_no, touches}
 use Rattle.history_book.proofs.Searches.{each_found, own_devices, some_is}
 use Rattle.history_book.specs.Lines.{Split}
@@ -11,7 +12,7 @@ use Rattle.history_book.specs.declared.entries.End.{End}
 use Rattle.history_book.specs.declared.entries.End.TheVariants.{Committed}
 use Rattle.history_book.specs.declared.entries.Entry.TheVariants.{Arrived, Doomed, Ended, Placed, Undid}
 use Rattle.home_types.specs.declared.commands.Command.{Command}
-use Rattle.hub_core.specs.Steps.{Absent, Choice, HandsOut, Moves, Over, Waits, aborts, answers_down, busy_case, command_cases, decide, decide_answered, decide_arrived, decide_command, decide_doomed, down_case, down_entries, first_case, only_if, place_choice, undo_cases, undo_on}
+use Rattle.hub_core.specs.Steps.{Absent, Choice, HandsOut, Moves, Over, Waits, aborts, answers_down, busy_case, command_cases, decide, decide_answered, decide_arrived, decide_command, decide_doomed, down_case, down_entries, first_case, only_if, place_choice, skip_entries, strict_case, undo_cases, undo_on}
 use Rattle.hub_core.specs.declared.waits.Why.{Why}
 use Rattle.hub_core.specs.declared.waits.Why.TheVariants.{Behind, Busy, Denied, Dirty, Follow, Strict}
 use Rattle.lock_leasing.specs.Configurations.{Commands, Grips, Undoes, is_out}
@@ -69,11 +70,20 @@ pub record Undoing (w : Setting) (n : Reading) (g : Grips) (r d : ℕ) (cause : 
   pub home : is_out g d ≡ false
   pub next : next_undo_of w n g r ≡ Some d
 
--- of a run with a next command
+-- of a run with a next command, whose guard holds
 pub record Commanding (w : Setting) (n : Reading) (g : Grips) (r : ℕ) (c : Command) : Type 0 where
   pub act : Acts w n g r
   pub sound : (n.run r).doomed ≡ None
   pub next : next_command w n r ≡ Some c
+  pub guard : holds c.when (n.run r).register ≡ true
+
+-- .. or does not, where the model lets the run go
+pub record Skipping (w : Setting) (n : Reading) (g : Grips) (r : ℕ) (c : Command) : Type 0 where
+  pub act : Acts w n g r
+  pub sound : (n.run r).doomed ≡ None
+  pub next : next_command w n r ≡ Some c
+  pub guard : holds c.when (n.run r).register ≡ false
+  pub alone : strict_wait w n r ≡ None
 
 -- of a next command that no lease, run or model holds back
 pub record IsNext (w : Setting) (n : Reading) (g : Grips) (r m : ℕ) (c : Command) : Type 0 where
@@ -101,6 +111,7 @@ pub record HoldsOfEach (P : Choice → Type 0) (w : Setting) (n : Reading) (g : 
   pub revokes : (c : Command) (x : ℕ) → Commanding w n g r c → is_weak w.mode ≡ false → overdue_for w n g r c.device.0 m ≡ Some x → P (Moves (Doomed (run_no x) (Revoked (run_no r) c.device (lease_deadline w n x c.device.0) m) ∷ []))
   pub downs : (c : Command) → Commanding w n g r c → (is_weak w.mode ≡ false → IsNext w n g r m c) → busy_wait w n g r c.device.0 ≡ false → answers_down w n r c.device.0 ≡ true → P (Moves (down_entries r (next_of n r) c))
   pub goes : (c : Command) → Commanding w n g r c → (is_weak w.mode ≡ false → IsNext w n g r m c) → busy_wait w n g r c.device.0 ≡ false → answers_down w n r c.device.0 ≡ false → P (HandsOut c.device.0 (Commands (next_of n r)))
+  pub skips : (c : Command) → Skipping w n g r c → P (Moves (skip_entries r (next_of n r)))
   pub fails_at_end : (d : ℕ) → Answered w n g r → down_at_end w n g r ≡ Some d → P (Moves (Doomed (run_no r) (DownAtEnd (device_no d)) ∷ []))
   pub commits : Answered w n g r → down_at_end w n g r ≡ None → P (Over Committed (Ended (run_no r) Committed ∷ []))
 
@@ -139,8 +150,8 @@ doomed_is P w n g r m each cause act doomed = elim (is_weak w.mode) as (λ b. is
         undoing = let found = each_found (λ x. (is_device w x ≡ true) × (touches w.runs r x ≡ true)) (has_effect n g r) (devices_of w r) d (own_devices w r) at in
             record { act = act; doomed = doomed; strong = strong; device = found.0.0; effect = found.1; home = undo_home w n g r d none at; next = at }
 
-command_is_next : (P : Choice → Type 0) (w : Setting) (n : Reading) (g : Grips) (r m : ℕ) → HoldsOfEach P w n g r m → (c : Command) → Commanding w n g r c → P (decide_command w n g r m (next_of n r) c)
-command_is_next P w n g r m each c run = elim (is_weak w.mode) as (λ b. is_weak w.mode ≡ b → P (first_case (command_cases b w n g r m (next_of n r) c) (HandsOut c.device.0 (Commands (next_of n r))))) [
+guarded_is_next : (P : Choice → Type 0) (w : Setting) (n : Reading) (g : Grips) (r m : ℕ) → HoldsOfEach P w n g r m → (c : Command) → Commanding w n g r c → P (first_case (command_cases (is_weak w.mode) w n g r m (next_of n r) c) (HandsOut c.device.0 (Commands (next_of n r))))
+guarded_is_next P w n g r m each c run = elim (is_weak w.mode) as (λ b. is_weak w.mode ≡ b → P (first_case (command_cases b w n g r m (next_of n r) c) (HandsOut c.device.0 (Commands (next_of n r))))) [
   | true ↦ (λ weak. last_cases (λ strong. absurd (let both : true ≡ false = sym weak ∙ strong in cc)))
   | false ↦ (λ strong. by_map P (λ x. Moves (Doomed (run_no x) (Revoked (run_no r) c.device (lease_deadline w n x c.device.0) m) ∷ [])) (overdue_for w n g r c.device.0 m) _ (λ x at. each.revokes c x run strong at)
       (λ current. by_map P (λ x. Waits (Behind c.device (run_no x))) (behind_wait w n g r c.device.0) _ (λ x at. each.waits (Behind c.device (run_no x)))
@@ -153,6 +164,13 @@ command_is_next P w n g r m each c run = elim (is_weak w.mode) as (λ b. is_weak
     last_cases next = by_test P (busy_wait w n g r c.device.0) (Waits (Busy c.device)) _ (λ e. each.waits (Busy c.device))
         (λ home. by_test P (answers_down w n r c.device.0) (Moves (down_entries r (next_of n r) c)) (HandsOut c.device.0 (Commands (next_of n r))) (λ down. each.downs c run next home down) (λ up. each.goes c run next home up))
 
+command_is_next : (P : Choice → Type 0) (w : Setting) (n : Reading) (g : Grips) (r m : ℕ) → HoldsOfEach P w n g r m → (c : Command) → Acts w n g r → (n.run r).doomed ≡ None → next_command w n r ≡ Some c → P (decide_command w n g r m (next_of n r) c)
+command_is_next P w n g r m each c act sound next = elim (holds c.when (n.run r).register) as (λ b. holds c.when (n.run r).register ≡ b
+    → P (if b then first_case (command_cases (is_weak w.mode) w n g r m (next_of n r) c) (HandsOut c.device.0 (Commands (next_of n r))) else first_case (strict_case w n r ∷ []) (Moves (skip_entries r (next_of n r))))) [
+      | true ↦ (λ e. guarded_is_next P w n g r m each c (record { act = act; sound = sound; next = next; guard = e }))
+      | false ↦ (λ e. by_map P (λ x. Waits (Strict (run_no x))) (strict_wait w n r) _ (λ x at. each.waits (Strict (run_no x))) (λ alone. each.skips c (record { act = act; sound = sound; next = next; guard = e; alone = alone })))
+    ] refl
+
 -- what holds of each thing that the step may do holds of the step
 pub decide_is : (P : Choice → Type 0) (w : Setting) (n : Reading) (g : Grips) (r m : ℕ) → HoldsOfEach P w n g r m → P (decide w n g r m)
 decide_is P w n g r m each =
@@ -164,6 +182,6 @@ decide_is P w n g r m each =
     (λ none. by_map P (λ f. Waits (Follow f)) (follow_wait w n r) _ (λ f e. each.waits (Follow f)) (λ leader. place_is P w n g r m each (scheduled_place w n g r m) refl (double (is_run w.runs r) run) came none leader))
     (λ placed. let act : Acts w n g r = acts w n g r (double (is_run w.runs r) run) free placed going in
     by_map P (decide_doomed w n g r) (n.run r).doomed _ (λ cause at. doomed_is P w n g r m each cause act at)
-    (λ sound. by_map P (decide_command w n g r m (next_of n r)) (next_command w n r) (decide_answered w n g r) (λ c at. command_is_next P w n g r m each c (record { act = act; sound = sound; next = at }))
+    (λ sound. by_map P (decide_command w n g r m (next_of n r)) (next_command w n r) (decide_answered w n g r) (λ c at. command_is_next P w n g r m each c act sound at)
     (λ none. by_map P (λ d. Moves (Doomed (run_no r) (DownAtEnd (device_no d)) ∷ [])) (down_at_end w n g r) _ (λ d at. each.fails_at_end d (record { act = act; sound = sound; none = none }) at)
     (λ up. each.commits (record { act = act; sound = sound; none = none }) up))))))))

@@ -15,7 +15,8 @@ use Rattle.home_types.specs.declared.commands.Answer.TheVariants.{Down, Found}
 use Rattle.home_types.specs.declared.commands.Command.{Command}
 use Rattle.home_types.specs.declared.items.Item.TheVariants.{Failed}
 use Rattle.hub_core.proofs.steps.Causes.{and_is, answered_last}
-use Rattle.hub_core.proofs.steps.Gives.{command_is, lost_is}
+use Rattle.hub_core.proofs.steps.Gives.{lost_is}
+use Rattle.hub_core.proofs.steps.Takes.{command_is}
 use Rattle.hub_core.specs.JustifiedAborts.{abort_is_justified, shows}
 use Rattle.hub_core.specs.Steps.{command_entries, probe_entries}
 use Rattle.device_gate.specs.declared.slips.Told.{Told}

@@ -1,11 +1,11 @@
 -- The entries of a step back may follow what was read.
-use Rattle.command_rules.specs.Rosters.{command_at, commands_of, device_no, is_run, no_command, run_no}
+use Rattle.command_rules.specs.Rosters.{command_at, device_no, is_run, run_no}
 use Rattle.history_book.proofs.Frames.{did_live}
-use Rattle.history_book.proofs.Searches.{each_found, some_is}
+use Rattle.history_book.proofs.Searches.{each_found}
 use Rattle.history_book.proofs.Shapes.{Shaped}
 use Rattle.history_book.proofs.Snoc.{put_keeps}
 use Rattle.history_book.specs.Histories.{entry}
-use Rattle.history_book.specs.Readings.{Reading, did, has_written, is_doomed, is_live, is_open, next_command, next_of, sees_up}
+use Rattle.history_book.specs.Readings.{Reading, did, has_written, is_access, is_doomed, is_live, is_open, next_command, next_of, sees_up}
 use Rattle.history_book.specs.Settings.{Setting, is_device, is_weak}
 use Rattle.history_book.specs.WellFormed.{along, cause_fits, may_follow, suits}
 use Rattle.history_book.specs.declared.entries.Cause.{Cause}
@@ -17,7 +17,7 @@ use Rattle.home_types.specs.declared.commands.Answer.{Answer}
 use Rattle.home_types.specs.declared.commands.Answer.TheVariants.{Down, Fine, Found}
 use Rattle.home_types.specs.declared.commands.Command.{Command}
 use Rattle.home_types.specs.declared.numbers.DeviceNo.{DeviceNo}
-use Rattle.hub_core.proofs.steps.Takes.{live_run}
+use Rattle.hub_core.proofs.steps.Takes.{command_is, did_follows, live_run, within}
 use Rattle.hub_core.specs.Steps.{answer_told, command_entries, probe_entries, undo_entries}
 use Rattle.device_gate.specs.declared.slips.Told.{Told}
 use Rattle.device_gate.specs.declared.slips.Told.TheVariants.{Died, Sensed, Worked}
@@ -26,8 +26,7 @@ use Rattle.lock_leasing.specs.Waits.{lost_by}
 use Rattle.lock_leasing.specs.Words.{live_runs}
 use Rattle.std.proofs.Common.{arith, refl, subst, sym, ◌∙◌}
 use Rattle.std.proofs.lemmas.Grind.{common_steps}
-use Rattle.std.proofs.lemmas.Option.{slice_get_within}
-use Rattle.std.specs.Prelude.{Bool, IsTrue, List, None, Option, Some, [], false, find, if◌then◌else◌, is_some, length, nat_lt, not, option_map, option_to_list, slice_get, slice_index_or, suc, true, zero, ℕ, ◌&&◌, ◌<◌, ◌∷◌, ◌≡◌}
+use Rattle.std.specs.Prelude.{Bool, IsTrue, List, None, Option, Some, [], false, find, if◌then◌else◌, is_some, not, option_map, option_to_list, true, ℕ, ◌&&◌, ◌∷◌, ◌≡◌}
 
 -- what is known of a run whose command comes back: it is its next one, and the device was counted up
 pub record MayAnswer (w : Setting) (n : Reading) (r : ℕ) (c : Command) (told : Told) : Type 0 where
@@ -35,25 +34,15 @@ pub record MayAnswer (w : Setting) (n : Reading) (r : ℕ) (c : Command) (told :
   pub live : is_live n r ≡ true
   pub next : next_command w n r ≡ Some c
   pub first : (n.run r).answered_doomed ≡ false
-  pub suited : suits w c (answer_told told) ≡ true
+  pub suited : suits w n r c (answer_told told) ≡ true
   pub home : is_device w c.device.0 ≡ true
   pub up : n.up c.device.0 ≡ true
 
-within : (w : Setting) (n : Reading) (r : ℕ) (c : Command) → next_command w n r ≡ Some c → nat_lt (next_of n r) (length (commands_of w.runs r)) ≡ true
-within w n r c next = let less : next_of n r < length (commands_of w.runs r) = slice_get_within (commands_of w.runs r) (next_of n r) c next in grind (arith, common_steps, less)
-
--- the next command by its number
-pub command_is : (w : Setting) (n : Reading) (r : ℕ) (c : Command) → next_command w n r ≡ Some c → command_at w.runs r (next_of n r) ≡ c
-command_is w n r c next = at (commands_of w.runs r) (next_of n r) next
-  where
-    at : (cs : List Command) (k : ℕ) → slice_get cs k ≡ Some c → slice_index_or cs k no_command ≡ c
-    at [] k e = absurd (cc)
-    at (x ∷ cs) zero e = some_is x c e
-    at (x ∷ cs) (suc k) e = at cs k e
-
--- an answer to the next command
-did_follows : (w : Setting) (n : Reading) (r : ℕ) (c : Command) (a : Answer) → is_run w.runs r ≡ true → is_live n r ≡ true → next_command w n r ≡ Some c → (n.run r).answered_doomed ≡ false → suits w c a ≡ true → may_follow w n (Did (run_no r) (next_of n r) a) ≡ true
-did_follows w n r c a run live next first suited = rw (run, live, within w n r c next, command_is w n r c next, suited, first) (grind (arith, common_steps))
+-- what a device tells is an access
+pub told_access : (told : Told) → is_access (answer_told told) ≡ true
+told_access Worked = refl
+told_access (Sensed x) = refl
+told_access Died = refl
 
 -- the doom of a run that was sound before its answer
 doomed_follows_did : (w : Setting) (n : Reading) (r k : ℕ) (a : Answer) (cause : Cause) → is_run w.runs r ≡ true → is_live n r ≡ true → is_doomed n r ≡ false → cause_fits w (entry w n (Did (run_no r) k a)) r cause ≡ true
@@ -86,7 +75,7 @@ fell_follows : (w : Setting) (n : Reading) (d : DeviceNo) → is_device w d.0 �
 fell_follows w n d home up = rw (home, up) refl
 
 died_follows : (w : Setting) (n : Reading) (r : ℕ) (c : Command) → MayAnswer w n r c Died → IsTrue (along w (may_follow w) n (command_entries w n r (next_of n r) Died))
-died_follows w n r c may = subst (λ x. IsTrue (along w (may_follow w) n (dead_entries x))) (sym (command_is w n r c may.next)) (rw (fell_follows w n c.device may.home may.up, did_follows w fallen r c Down may.run may.live may.next may.first refl) (elim (is_doomed n r) as (λ b. is_doomed n r ≡ b → IsTrue (along w (may_follow w) later (if b then [] else dooms' c))) [
+died_follows w n r c may = subst (λ x. IsTrue (along w (may_follow w) n (dead_entries x))) (sym (command_is w n r c may.next)) (rw (fell_follows w n c.device may.home may.up, did_follows w fallen r c Down may.run may.live may.next may.first may.suited) (elim (is_doomed n r) as (λ b. is_doomed n r ≡ b → IsTrue (along w (may_follow w) later (if b then [] else dooms' c))) [
   | true ↦ (λ e. refl)
   | false ↦ (λ sound. doomed sound)
 ] refl))

@@ -1,23 +1,24 @@
 -- The entries of a run's step may follow what was read.
-use Rattle.command_rules.specs.Rosters.{commands_of, device_no, is_run, run_no, touches}
+use Rattle.command_rules.specs.Rosters.{command_at, commands_of, device_no, is_run, no_command, run_no, touches}
 use Rattle.history_book.proofs.Frames.{did_live}
-use Rattle.history_book.proofs.Searches.{each_found, own_devices}
+use Rattle.history_book.proofs.Searches.{each_found, own_devices, some_is}
 use Rattle.history_book.proofs.Shapes.{Shaped}
 use Rattle.history_book.proofs.Snoc.{put_keeps}
 use Rattle.history_book.specs.Histories.{entry}
 use Rattle.history_book.specs.Lines.{Split, before}
 use Rattle.history_book.specs.Readings.{Reading, is_doomed, is_live, next_command, next_of}
 use Rattle.history_book.specs.Settings.{Setting, devices_of, is_device, is_strict}
-use Rattle.history_book.specs.WellFormed.{along, may_follow, same_cause}
+use Rattle.history_book.specs.WellFormed.{along, may_follow, same_cause, suits}
 use Rattle.history_book.specs.declared.entries.Cause.{Cause}
 use Rattle.history_book.specs.declared.entries.Cause.TheVariants.{DownAtEnd, Lost, MustDown, Refuted, Revoked}
 use Rattle.history_book.specs.declared.entries.End.TheVariants.{Committed}
 use Rattle.history_book.specs.declared.entries.Entry.{Entry}
 use Rattle.history_book.specs.declared.entries.Entry.TheVariants.{Did, Doomed, Ended, Placed, Undid}
-use Rattle.home_types.specs.declared.commands.Answer.TheVariants.{Down}
+use Rattle.home_types.specs.declared.commands.Answer.TheVariants.{Down, Skipped}
+use Rattle.home_types.specs.declared.commands.Answer.{Answer}
 use Rattle.home_types.specs.declared.commands.Command.{Command}
-use Rattle.hub_core.proofs.steps.Choices.{Acts, Answered, Enters, Undoing, decide_is}
-use Rattle.hub_core.specs.Steps.{Absent, Choice, HandsOut, Moves, Over, Waits, aborts, decide, down_entries}
+use Rattle.hub_core.proofs.steps.Choices.{Acts, Answered, Commanding, Enters, Skipping, Undoing, decide_is}
+use Rattle.hub_core.specs.Steps.{Absent, Choice, HandsOut, Moves, Over, Waits, aborts, decide, down_entries, skip_entries}
 use Rattle.lock_leasing.proofs.Effects.{effect_is, live_runs_live}
 use Rattle.lock_leasing.specs.Configurations.{Grips}
 use Rattle.lock_leasing.specs.Waits.{down_at_end}
@@ -25,7 +26,7 @@ use Rattle.lock_leasing.specs.Words.{has_touched, is_overdue, lease_deadline, li
 use Rattle.std.proofs.Common.{ap, arith, refl, ◌∙◌}
 use Rattle.std.proofs.lemmas.Grind.{common_steps}
 use Rattle.std.proofs.lemmas.Option.{slice_get_within}
-use Rattle.std.specs.Prelude.{Bool, IsTrue, List, None, Option, Some, [], false, find, if◌then◌else◌, is_none, is_some, length, nat_le, nat_lt, not, slice_get, suc, true, zero, ℕ, ◌&&◌, ◌<◌, ◌==◌, ◌∷◌, ◌≡◌, ◌≤◌}
+use Rattle.std.specs.Prelude.{Bool, IsTrue, List, None, Option, Some, [], false, find, if◌then◌else◌, is_none, is_some, length, nat_le, nat_lt, not, slice_get, slice_index_or, suc, true, zero, ℕ, ◌&&◌, ◌<◌, ◌==◌, ◌∷◌, ◌≡◌, ◌≤◌}
 
 -- the entries that a choice makes
 abbrev pub made_by : Choice → List Entry
@@ -82,31 +83,47 @@ overdue_follows w n g r m c x known act home at =
     let sound : is_doomed n x ≡ false = (let over = found.1 in grind (arith, common_steps)) in
     rw (run, found.0, sound, act.run, home, known.moment) refl
 
+pub within : (w : Setting) (n : Reading) (r : ℕ) (c : Command) → next_command w n r ≡ Some c → nat_lt (next_of n r) (length (commands_of w.runs r)) ≡ true
+within w n r c next = let less : next_of n r < length (commands_of w.runs r) = slice_get_within (commands_of w.runs r) (next_of n r) c next in grind (arith, common_steps, less)
+
+-- the next command by its number
+pub command_is : (w : Setting) (n : Reading) (r : ℕ) (c : Command) → next_command w n r ≡ Some c → command_at w.runs r (next_of n r) ≡ c
+command_is w n r c next = at (commands_of w.runs r) (next_of n r) next
+  where
+    at : (cs : List Command) (k : ℕ) → slice_get cs k ≡ Some c → slice_index_or cs k no_command ≡ c
+    at [] k e = absurd (cc)
+    at (x ∷ cs) zero e = some_is x c e
+    at (x ∷ cs) (suc k) e = at cs k e
+
+-- an answer to the next command
+pub did_follows : (w : Setting) (n : Reading) (r : ℕ) (c : Command) (a : Answer) → is_run w.runs r ≡ true → is_live n r ≡ true → next_command w n r ≡ Some c → (n.run r).answered_doomed ≡ false → suits w n r c a ≡ true → may_follow w n (Did (run_no r) (next_of n r) a) ≡ true
+did_follows w n r c a run live next first suited = rw (run, live, within w n r c next, command_is w n r c next, suited, first) (grind (arith, common_steps))
+
+-- a run that is not doomed has no answer from when it was
+not_late : (w : Setting) (n : Reading) (r m : ℕ) → Before w n m → (n.run r).doomed ≡ None → (n.run r).answered_doomed ≡ false
+not_late w n r m known sound = late_is (n.run r).answered_doomed ((known.shaped r).answers_late) sound
+  where
+    late_is : (b : Bool) → (b ≡ true → is_some (n.run r).doomed ≡ true) → (n.run r).doomed ≡ None → b ≡ false
+    late_is false if_late none = refl
+    late_is true if_late none = absurd (let some = if_late refl in grind (arith, common_steps))
+
 -- the answer Down, and the doom of a command that must not fail
-down_follows : (w : Setting) (n : Reading) (g : Grips) (r m : ℕ) (c : Command) → Before w n m → Acts w n g r → (n.run r).doomed ≡ None → next_command w n r ≡ Some c → Follows w n (Moves (down_entries r (next_of n r) c))
-down_follows w n g r m c known act sound next = elim c.must as (λ b. IsTrue (along w (may_follow w) n (Did (run_no r) (next_of n r) Down ∷ (if b then Doomed (run_no r) (MustDown (next_of n r)) ∷ [] else [])))) [
-  | true ↦ rw answers (rw (act.run, did_live w n (run_no r) (next_of n r) Down r, act.live, still_sound, nat_lt_is) refl)
+down_follows : (w : Setting) (n : Reading) (g : Grips) (r m : ℕ) (c : Command) → Before w n m → Commanding w n g r c → Follows w n (Moves (down_entries r (next_of n r) c))
+down_follows w n g r m c known run = elim c.must as (λ b. IsTrue (along w (may_follow w) n (Did (run_no r) (next_of n r) Down ∷ (if b then Doomed (run_no r) (MustDown (next_of n r)) ∷ [] else [])))) [
+  | true ↦ rw answers (rw (run.act.run, did_live w n (run_no r) (next_of n r) Down r, run.act.live, still_sound, within w n r c run.next) refl)
   | false ↦ rw answers refl
 ]
   where
-    within : next_of n r < length (commands_of w.runs r)
-    within = slice_get_within (commands_of w.runs r) (next_of n r) c next
-
-    nat_lt_is : nat_lt (next_of n r) (length (commands_of w.runs r)) ≡ true
-    nat_lt_is = grind (arith, common_steps, within)
-
-    not_late : (n.run r).answered_doomed ≡ false
-    not_late = late_is (n.run r).answered_doomed ((known.shaped r).answers_late) sound
-      where
-        late_is : (b : Bool) → (b ≡ true → is_some (n.run r).doomed ≡ true) → (n.run r).doomed ≡ None → b ≡ false
-        late_is false if_late none = refl
-        late_is true if_late none = absurd (let some = if_late refl in grind (arith, common_steps))
-
     answers : may_follow w n (Did (run_no r) (next_of n r) Down) ≡ true
-    answers = rw (act.run, act.live, nat_lt_is, not_late) (grind (arith, common_steps))
+    answers = did_follows w n r c Down run.act.run run.act.live run.next (not_late w n r m known run.sound) run.guard
 
     still_sound : is_doomed (entry w n (Did (run_no r) (next_of n r) Down)) r ≡ false
-    still_sound = put_keeps (λ o. is_some o.doomed) n.run r _ refl r ∙ ap is_some sound
+    still_sound = put_keeps (λ o. is_some o.doomed) n.run r _ refl r ∙ ap is_some run.sound
+
+-- a command is skipped
+skip_follows : (w : Setting) (n : Reading) (g : Grips) (r m : ℕ) (c : Command) → Before w n m → Skipping w n g r c → Follows w n (Moves (skip_entries r (next_of n r)))
+skip_follows w n g r m c known skip =
+    rw (did_follows w n r c Skipped skip.act.run skip.act.live skip.next (not_late w n r m known skip.sound) (λ i. not (skip.guard i) && not (is_some (skip.sound i)))) refl
 
 past_end : (cs : List Command) (k : ℕ) → slice_get cs k ≡ None → length cs ≤ k
 past_end [] k e = omega arith
@@ -143,7 +160,8 @@ take_follows w n g r m known =
       drops = λ cause d undoing down. undo_follows w n g r d cause undoing;
       undoes = λ cause d undoing up. refl;
       revokes = λ c x run strong at. overdue_follows w n g r m c x known run.act (known.homed r (next_of n r) c run.next) at;
-      downs = λ c run next home down. down_follows w n g r m c known run.act run.sound run.next;
+      skips = λ c skip. skip_follows w n g r m c known skip;
+      downs = λ c run next home down. down_follows w n g r m c known run;
       goes = λ c run next home up. refl;
       fails_at_end = λ d all at. ends_down_follows w n g r d all at;
       commits = λ all up. commits_follows w n g r m known all;

@@ -1,13 +1,15 @@
 -- Runs at a command: what is known of them, and their step.
+use Rattle.command_rules.specs.Rosters.{is_on}
 use Rattle.history_book.proofs.Searches.{map_some, none_is}
 use Rattle.history_book.proofs.Shapes.{Shaped, shapes}
 use Rattle.history_book.specs.Histories.{entries_of}
-use Rattle.history_book.specs.Readings.{OfRun, PlacedAt, Reading, is_live, is_open, next_command, next_of}
+use Rattle.history_book.specs.Readings.{OfRun, PlacedAt, Reading, asks_on, is_live, is_open, next_command, next_of}
 use Rattle.history_book.specs.Settings.{Setting}
 use Rattle.history_book.specs.WellFormed.{IsWellFormed}
+use Rattle.home_types.specs.Commands.{holds}
 use Rattle.home_types.specs.declared.commands.Command.{Command}
 use Rattle.hub_core.proofs.kept.Finds.{not_none}
-use Rattle.hub_core.proofs.steps.Choices.{Commanding}
+use Rattle.hub_core.proofs.steps.Choices.{Acts}
 use Rattle.hub_core.proofs.steps.GiveCauses.{next_pends}
 use Rattle.hub_core.proofs.steps.Takes.{live_run}
 use Rattle.hub_core.specs.BlockedRuns.{is_at_command, next_device}
@@ -15,14 +17,17 @@ use Rattle.hub_core.specs.Steps.{choice_of, decide, decide_command}
 use Rattle.lock_leasing.specs.Configurations.{Configuration, Grips, read_of}
 use Rattle.lock_leasing.specs.Waits.{grip_wait}
 use Rattle.std.proofs.Common.{ap, arith, refl, subst, sym, ◌∙◌}
+use Rattle.std.proofs.lemmas.Bool.{eq-eqb}
 use Rattle.std.proofs.lemmas.Grind.{common_steps}
-use Rattle.std.specs.Prelude.{Bool, None, Option, Some, false, if◌then◌else◌, is_none, is_some, max, not, option_map, true, ℕ, ◌&&◌, ◌≡◌}
+use Rattle.std.specs.Prelude.{Bool, None, Option, Some, false, if◌then◌else◌, is_none, is_some, max, not, option_map, true, unwrap_or, ℕ, ◌&&◌, ◌≡◌}
 
 -- the run is at the command c, with the number next_of, which is on the device
 pub record IsAt (w : Setting) (n : Reading) (g : Grips) (r d : ℕ) : Type 0 where
   pub command : Command
   pub device : command.device.0 ≡ d
-  pub run : Commanding w n g r command
+  pub act : Acts w n g r
+  pub sound : (n.run r).doomed ≡ None
+  pub next : next_command w n r ≡ Some command
   pub came : is_none (n.run r).arrived ≡ false
 
 live_parts : (o : OfRun) → (is_some o.placed && is_none o.ended) ≡ true → (is_some o.placed ≡ true) × (is_none o.placed ≡ false) × (o.ended ≡ None)
@@ -49,7 +54,9 @@ at_command s r d formed next =
     record {
       command = found.0;
       device = found.2;
-      run = record { act = record { run = live_run w n r shaped live; free = none_is (grip_wait w s.grips r) free; live = live }; sound = none_of (n.run r).doomed sound; next = found.1 };
+      act = record { run = live_run w n r shaped live; free = none_is (grip_wait w s.grips r) free; live = live };
+      sound = none_of (n.run r).doomed sound;
+      next = found.1;
       came = not_none (n.run r).arrived ((shaped r).arrived (live_parts (n.run r) live).0);
     }
   where
@@ -65,20 +72,24 @@ at_command s r d formed next =
 
 -- a run at a command has its device as its next one
 pub next_is : (s : Configuration) (r d : ℕ) → IsAt s.setting (read_of s) s.grips r d → next_device s r ≡ Some d
-next_is s r d at = rw (at.run.act.live, at.run.sound, at.run.act.free, at.run.next) (ap Some at.device)
+next_is s r d at = rw (at.act.live, at.sound, at.act.free, at.next) (ap Some at.device)
 
 -- it is open there
 pub at_open : (w : Setting) (n : Reading) (g : Grips) (r d : ℕ) → IsAt w n g r d → is_open w n r d ≡ true
 at_open w n g r d at =
-    let pending = next_pends w n r at.command at.run.next in
+    let pending = next_pends w n r at.command at.next in
     let there = subst (λ e. is_open w n r e ≡ true) at.device in
-    there (rw (at.run.act.live, at.run.sound, pending) refl)
+    there (rw (at.act.live, at.sound, pending) refl)
+
+-- it asks for the device exactly where the guard of the command holds
+pub at_asks : (w : Setting) (n : Reading) (g : Grips) (r d : ℕ) (at : IsAt w n g r d) → asks_on w n r d ≡ holds at.command.when (n.run r).register
+at_asks w n g r d at = ap (λ o. unwrap_or (option_map (λ (c : Command). is_on d c && holds c.when (n.run r).register) o) false) at.next ∙ ap (λ b. b && holds at.command.when (n.run r).register) (eq-eqb at.command.device.0 d at.device)
 
 -- its step is that of its command
-pub decides_command : (w : Setting) (n : Reading) (g : Grips) (r m : ℕ) (c : Command) → Commanding w n g r c → is_none (n.run r).arrived ≡ false → decide w n g r m ≡ decide_command w n g r m (next_of n r) c
-decides_command w n g r m c run came =
-    let parts = live_parts (n.run r) run.act.live in
-    rw (run.act.run, parts.2, run.act.free, came, parts.1, run.sound, run.next) refl
+pub decides_command : (w : Setting) (n : Reading) (g : Grips) (r d m : ℕ) (at : IsAt w n g r d) → decide w n g r m ≡ decide_command w n g r m (next_of n r) at.command
+decides_command w n g r d m at =
+    let parts = live_parts (n.run r) at.act.live in
+    rw (at.act.run, parts.2, at.act.free, at.came, parts.1, at.sound, at.next) refl
 
 pub command_choice : (s : Configuration) (r d m : ℕ) (at : IsAt s.setting (read_of s) s.grips r d) → choice_of s r m ≡ decide_command s.setting (read_of s) s.grips r (max s.moment m) (next_of (read_of s) r) at.command
-command_choice s r d m at = decides_command s.setting (read_of s) s.grips r (max s.moment m) at.command at.run at.came
+command_choice s r d m at = decides_command s.setting (read_of s) s.grips r d (max s.moment m) at

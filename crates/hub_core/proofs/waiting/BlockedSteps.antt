@@ -1,14 +1,17 @@
 -- The runs that are marked as blocked stay so in each step of a hub, but for those that the step may have freed.
-use Rattle.command_rules.specs.Rosters.{device_no, is_run, run_no}
+use Rattle.command_rules.specs.Rosters.{commands_of, device_no, is_on, is_run, run_no}
 use Rattle.history_book.proofs.Snoc.{entries_on, put_other, put_same}
-use Rattle.history_book.specs.Histories.{entries_of, kept_by}
-use Rattle.history_book.specs.Readings.{Reading, did, is_doomed, is_live, pends, put}
+use Rattle.history_book.specs.Histories.{entries_of, entry, kept_by}
+use Rattle.history_book.specs.Readings.{OfRun, Reading, asks_on, did, is_access, is_doomed, is_live, pends, put}
 use Rattle.history_book.specs.Settings.{Setting}
 use Rattle.history_book.specs.WellFormed.{IsWellFormed}
 use Rattle.history_book.specs.declared.entries.Cause.TheVariants.{Lost}
 use Rattle.history_book.specs.declared.entries.Entry.{Entry}
 use Rattle.history_book.specs.declared.entries.Entry.TheVariants.{Did, Doomed, Fell, Rose}
+use Rattle.home_types.specs.Commands.{holds}
+use Rattle.home_types.specs.declared.commands.Answer.TheVariants.{Fine, Found}
 use Rattle.home_types.specs.declared.commands.Answer.{Answer}
+use Rattle.home_types.specs.declared.commands.Command.{Command}
 use Rattle.home_types.specs.declared.numbers.RunNo.{RunNo}
 use Rattle.device_gate.specs.declared.slips.Told.{Told}
 use Rattle.device_gate.specs.declared.slips.Told.TheVariants.{Died, Sensed, Worked}
@@ -20,9 +23,9 @@ use Rattle.hub_core.proofs.steps.Choices.{decide_is}
 use Rattle.hub_core.proofs.steps.GiveCauses.{next_pends}
 use Rattle.hub_core.proofs.waiting.AtCommands.{at_command}
 use Rattle.hub_core.proofs.waiting.HeldDevices.{did_now, held_waits, next_after_answer, next_kept, read_after}
-use Rattle.hub_core.proofs.waiting.KeptLeases.{calm_answered, calm_grips}
-use Rattle.hub_core.proofs.waiting.Moments.{blocked_calm, waits_on}
-use Rattle.hub_core.proofs.waiting.OtherDevices.{stays_blocked}
+use Rattle.hub_core.proofs.waiting.KeptLeases.{calm_answered, calm_grips, live_answered}
+use Rattle.hub_core.proofs.waiting.Moments.{blocked_calm, skip_blocked, waits_on}
+use Rattle.hub_core.proofs.waiting.OtherDevices.{stays_blocked, strict_by}
 use Rattle.hub_core.specs.BlockedMarks.{AreBlocked, AreLeft, BlockedState, Marks, MayBeMarked, Stays, is_marked, is_marked_at}
 use Rattle.hub_core.specs.BlockedRuns.{IsBlocked, NeverRevokes, is_quiet, is_wait, next_device}
 use Rattle.hub_core.specs.HubKept.{ConfigurationIsKept}
@@ -31,13 +34,13 @@ use Rattle.hub_core.specs.Steps.{Absent, Choice, HandsOut, Moves, Over, Waits, a
 use Rattle.hub_core.specs.declared.waits.Why.{Why}
 use Rattle.lock_leasing.specs.Configurations.{Commands, Configuration, Grip, Grips, Probes, Purpose, Undoes, grips_command, has_grip, is_command, read_of}
 use Rattle.lock_leasing.specs.Leases.{NeverOverdue}
-use Rattle.lock_leasing.specs.Waits.{grip_wait, lost_by}
+use Rattle.lock_leasing.specs.Waits.{grip_wait, lost_by, strict_wait}
 use Rattle.std.proofs.Common.{ap, arith, inl, inr, refl, subst, sym, ◌∙◌}
 use Rattle.std.proofs.lemmas.Bool.{both_ways, eqb-false, eqb-true}
 use Rattle.std.proofs.lemmas.Grind.{common_steps}
 use Rattle.std.proofs.lemmas.List.{append-nil}
 use Rattle.std.specs.List.{list_all}
-use Rattle.std.specs.Prelude.{Bool, List, None, Option, Some, [], false, if◌then◌else◌, is_some, max, option_map, option_to_list, true, unwrap_or, ℕ, ⊤, ◌++◌, ◌==◌, ◌||◌, ◌∷◌, ◌≡◌, ◌≢◌, ◌≤◌, ◌⊎◌}
+use Rattle.std.specs.Prelude.{Bool, List, None, Option, Some, [], false, if◌then◌else◌, is_some, length, max, option_map, option_to_list, slice_get, true, unwrap_or, ℕ, ⊤, ◌&&◌, ◌++◌, ◌==◌, ◌||◌, ◌∷◌, ◌≡◌, ◌≢◌, ◌≤◌, ◌⊎◌}
 use Rattle.window_order.proofs.GripWords.{own_command}
 use Rattle.window_order.proofs.Grips.{holds_none}
 
@@ -161,6 +164,7 @@ goes_for w n g r m = decide_is (Goes w n r) w n g r m (record {
   drops = λ cause d undoing down. tt;
   undoes = λ cause d undoing up. tt;
   revokes = λ c x run strong at. tt;
+  skips = λ c skip. tt;
   downs = λ c run next home down. tt;
   goes = λ c run next home up. (run.act.live, ap (λ o. is_some o) run.sound, next_pends w n r c run.next);
   fails_at_end = λ d run at. tt;
@@ -199,13 +203,18 @@ goes s r m d purpose b after home was now out are left = left_stay s t b after (
     for_command = ap (λ o. unwrap_or (option_map (λ (x : Grip). is_command x.purpose) o) false) (put_same s.grips d (Some grip))
 
     calm : (q : ℕ) → IsBlocked s q → next_device s q ≡ Some d → NeverRevokes t q d
-    calm q blocked next strong = calm_grips s.setting (read_of s) s.grips g q d (blocked_calm s q d (at_command s q d was.kept.history.well_formed next) blocked strong)
+    calm q blocked next strong asks = calm_grips s.setting (read_of s) s.grips g q d (blocked_calm s q d (at_command s q d was.kept.history.well_formed next) blocked strong asks)
 
     here : (p : Purpose) → purpose ≡ p → GoesFor s.setting (read_of s) r d p → (q : ℕ) → IsBlocked s q → next_device s q ≡ Some d → (is_out_for_command t d ≡ false → d ≢ d) → Lasts t q d
     here (Commands k) is run q blocked next left' =
         let still : next_device t q ≡ Some d = next_kept s t q d refl refl (free q blocked) next in
         let touched : (did (read_of s) r d || grips_command g r d) ≡ true = rw (own_command g d r purpose (put_same s.grips d (Some grip)), is) (grind (arith, common_steps)) in
-        (held_waits t now.rounds now.opened now.held r q d now.kept run.0 run.1 touched run.2 (not_mover s r m d purpose q out blocked) still (calm q blocked next), still)
+        let waits' = by_guard still touched (asks_on s.setting (read_of s) q d) refl in
+        (waits', still)
+      where
+        by_guard : next_device t q ≡ Some d → (did (read_of s) r d || grips_command g r d) ≡ true → (b : Bool) → asks_on s.setting (read_of s) q d ≡ b → IsBlocked t q
+        by_guard still touched true asks = held_waits t now.rounds now.opened now.held r q d now.kept run.0 run.1 touched run.2 (not_mover s r m d purpose q out blocked) still asks (calm q blocked next)
+        by_guard still touched false skips = skip_blocked s t q d (at_command s q d was.kept.history.well_formed next) (at_command t q d now.kept.history.well_formed still) skips skips refl blocked
     here (Undoes v) is run q blocked next left' = absurd (left' (for_command ∙ ap is_command is) refl)
     here (Probes v) is run q blocked next left' = absurd (left' (for_command ∙ ap is_command is) refl)
 
@@ -233,27 +242,27 @@ probed s d probes purpose b after home was now are left =
 
 -- A device comes home
 
--- its entry is of the run whose grip comes home
-own_entry : (w : Setting) (n : Reading) (d : ℕ) (grip : Grip) (told : Told) (r : RunNo) (k : ℕ) (a : Answer) → give_entries w n d grip told ≡ Did r k a ∷ [] → r.0 ≡ grip.maker
+-- its entry is of the run whose grip comes home, and its answer is an access
+own_entry : (w : Setting) (n : Reading) (d : ℕ) (grip : Grip) (told : Told) (r : RunNo) (k : ℕ) (a : Answer) → give_entries w n d grip told ≡ Did r k a ∷ [] → (r.0 ≡ grip.maker) × (is_access a ≡ true)
 own_entry w n d grip told r k a only = by_purpose grip.purpose told only
   where
-    by_purpose : (p : Purpose) (told : Told) → give_entries w n d (record { maker = grip.maker; purpose = p }) told ≡ Did r k a ∷ [] → r.0 ≡ grip.maker
-    by_purpose (Commands c) Worked only = (let same : r ≡ run_no grip.maker = cc in ap (λ (x : RunNo). x.0) same)
-    by_purpose (Commands c) (Sensed x) only = (let same : r ≡ run_no grip.maker = cc in ap (λ (x : RunNo). x.0) same)
+    by_purpose : (p : Purpose) (told : Told) → give_entries w n d (record { maker = grip.maker; purpose = p }) told ≡ Did r k a ∷ [] → (r.0 ≡ grip.maker) × (is_access a ≡ true)
+    by_purpose (Commands c) Worked only = (let same : r ≡ run_no grip.maker = cc in let told' : Fine ≡ a = cc in (ap (λ (x : RunNo). x.0) same, ap is_access (sym told')))
+    by_purpose (Commands c) (Sensed x) only = (let same : r ≡ run_no grip.maker = cc in let told' : Found x ≡ a = cc in (ap (λ (x : RunNo). x.0) same, ap is_access (sym told')))
     by_purpose (Commands c) Died only = absurd (cc)
     by_purpose (Undoes v) Worked only = absurd (cc)
     by_purpose (Undoes v) (Sensed x) only = absurd (cc)
     by_purpose (Undoes v) Died only = absurd (cc)
     by_purpose (Probes v) told only = probes (n.up d) told only
       where
-        back : (told : Told) → (b : Bool) → (if b then [] else Rose (device_no d) ∷ []) ≡ Did r k a ∷ [] → r.0 ≡ grip.maker
+        back : (told : Told) → (b : Bool) → (if b then [] else Rose (device_no d) ∷ []) ≡ Did r k a ∷ [] → (r.0 ≡ grip.maker) × (is_access a ≡ true)
         back told true only = absurd (cc)
         back told false only = absurd (cc)
 
-        probes : (b : Bool) (told : Told) → give_entries w n d (record { maker = grip.maker; purpose = Probes v }) told ≡ Did r k a ∷ [] → r.0 ≡ grip.maker
+        probes : (b : Bool) (told : Told) → give_entries w n d (record { maker = grip.maker; purpose = Probes v }) told ≡ Did r k a ∷ [] → (r.0 ≡ grip.maker) × (is_access a ≡ true)
         probes b Worked only = back Worked (n.up d) only
         probes b (Sensed x) only = back (Sensed x) (n.up d) only
-        probes b Died only = elim (n.up d) as (λ b. (if b then Fell (device_no d) ∷ option_to_list (option_map (λ x. Doomed (run_no x) (Lost (device_no d))) (lost_by w n d)) else []) ≡ Did r k a ∷ [] → r.0 ≡ grip.maker) [ true ↦ (λ e. absurd (cc)) | false ↦ (λ e. absurd (cc)) ] only
+        probes b Died only = elim (n.up d) as (λ b. (if b then Fell (device_no d) ∷ option_to_list (option_map (λ x. Doomed (run_no x) (Lost (device_no d))) (lost_by w n d)) else []) ≡ Did r k a ∷ [] → (r.0 ≡ grip.maker) × (is_access a ≡ true)) [ true ↦ (λ e. absurd (cc)) | false ↦ (λ e. absurd (cc)) ] only
 
 -- the device is home: those that were blocked there are free, or wait behind the run that was answered
 pub back : (s : Configuration) (m d : ℕ) (grip : Grip) (told : Told) (b after : BlockedState) → s.moment ≤ m → s.grips d ≡ Some grip → IsKept s → IsKept (stepped s grip.maker (give_entries s.setting (read_of s) d grip told) m s.probes (put s.grips d None)) → AreBlocked s b
@@ -291,28 +300,45 @@ back s m d grip told b after later out was now are left = left_stay s t b after 
         quiet : (e == d) ≡ false → list_all (is_quiet s.setting e) (Did still.run still.command still.answer ∷ []) ≡ true
         quiet h = rw still.holds.device (grind (arith, common_steps))
 
-        own : still.run.0 ≡ grip.maker
+        own : (still.run.0 ≡ grip.maker) × (is_access still.answer ≡ true)
         own = own_entry s.setting (read_of s) d grip told still.run still.command still.answer still.only
 
         other : q ≢ still.run.0
-        other same = not_maker q blocked (same ∙ own)
+        other same = not_maker q blocked (same ∙ own.0)
 
         made : t.history ≡ s.history ++ kept_by grip.maker (Did still.run still.command still.answer ∷ [])
         made = ap (λ es. s.history ++ kept_by grip.maker es) still.only
 
+        read : read_of t ≡ entry s.setting (read_of s) (Did still.run still.command still.answer)
+        read = read_after s t grip.maker still.run still.command still.answer made refl
+
+        same_run : (read_of t).run q ≡ (read_of s).run q
+        same_run = ap (λ n. n.run q) read ∙ put_other (read_of s).run still.run.0 _ q other
+
+        same_guard : asks_on s.setting (read_of t) q d ≡ asks_on s.setting (read_of s) q d
+        same_guard = ap (λ (o : OfRun). unwrap_or (option_map (λ (c : Command). is_on d c && holds c.when o.register) (slice_get (commands_of s.setting.runs q) (length o.answers))) false) same_run
+
+        same_wait : strict_wait s.setting (read_of t) q ≡ strict_wait s.setting (read_of s) q
+        same_wait =
+            ap (λ n. strict_wait s.setting n q) read
+            ∙ strict_by s.setting.runs s.setting.kinds s.setting.first s.setting.mode.model s.setting.mode.scheduler (read_of s) (entry s.setting (read_of s) (Did still.run still.command still.answer)) q (live_answered s.setting (read_of s) still.run still.command still.answer q)
+
         calm : next_device s q ≡ Some d → NeverRevokes t q d
-        calm at strong =
-            let before : NeverOverdue s.setting (read_of s) s.grips q d = blocked_calm s q d (at_command s q d was.kept.history.well_formed at) blocked strong in
-            subst (λ n. NeverOverdue s.setting n g q d) (sym (read_after s t grip.maker still.run still.command still.answer made refl)) (calm_answered s.setting (read_of s) g still.run still.command still.answer q d (calm_grips s.setting (read_of s) s.grips g q d before))
+        calm at strong asks =
+            let before : NeverOverdue s.setting (read_of s) s.grips q d = blocked_calm s q d (at_command s q d was.kept.history.well_formed at) blocked strong (sym same_guard ∙ asks) in
+            subst (λ n. NeverOverdue s.setting n g q d) (sym read) (calm_answered s.setting (read_of s) g still.run still.command still.answer q d (calm_grips s.setting (read_of s) s.grips g q d before))
 
         behind : next_device s q ≡ Some d → Lasts t q d
         behind at =
-            let next' : next_device t q ≡ Some d = next_after_answer s t grip.maker still.run still.command still.answer q d made refl other (free q blocked) at in (
-              held_waits t now.rounds now.opened now.held still.run.0 q d now.kept still.holds.live still.holds.going
-                  (let met : did (read_of t) still.run.0 d ≡ true = did_now s t grip.maker still.run still.command still.answer d made refl still.holds.device in grind (arith, common_steps))
-                  still.holds.left other next' (calm at),
-              next',
-            )
+            let next' : next_device t q ≡ Some d = next_after_answer s t grip.maker still.run still.command still.answer q d made refl other (free q blocked) at in
+            (by_guard next' (asks_on s.setting (read_of s) q d) refl, next')
+          where
+            by_guard : next_device t q ≡ Some d → (b : Bool) → asks_on s.setting (read_of s) q d ≡ b → IsBlocked t q
+            by_guard next' true asks =
+                held_waits t now.rounds now.opened now.held still.run.0 q d now.kept still.holds.live still.holds.going
+                (let met : did (read_of t) still.run.0 d ≡ true = did_now s t grip.maker still.run still.command still.answer d made refl still.holds.device own.1 in grind (arith, common_steps))
+                still.holds.left other next' (same_guard ∙ asks) (calm at)
+            by_guard next' false skips = skip_blocked s t q d (at_command s q d was.kept.history.well_formed at) (at_command t q d now.kept.history.well_formed next') skips (same_guard ∙ skips) same_wait blocked
 
     each : (q e : ℕ) → IsBlocked s q → next_device s q ≡ Some e → Left e → Lasts t q e
     each q e blocked next left' = elim left' [

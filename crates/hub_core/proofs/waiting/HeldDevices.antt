@@ -6,17 +6,18 @@ use Rattle.history_book.proofs.Snoc.{entries_on, put_other, put_same, reading_mo
 use Rattle.history_book.proofs.Standing.{standing}
 use Rattle.history_book.specs.Histories.{entries_of, entry, kept_by, reading}
 use Rattle.history_book.specs.Lines.{before}
-use Rattle.history_book.specs.Readings.{OfRun, OnDevice, Reading, did, is_doomed, is_live, is_open, next_of, pends, view_by}
+use Rattle.history_book.specs.Readings.{OfRun, OnDevice, Reading, asks_on, did, is_access, is_doomed, is_live, is_open, next_of, pends, view_by}
 use Rattle.history_book.specs.Settings.{Setting, is_weak}
 use Rattle.history_book.specs.declared.entries.Entry.TheVariants.{Did}
+use Rattle.home_types.specs.Commands.{holds}
 use Rattle.home_types.specs.declared.commands.Answer.{Answer}
-use Rattle.home_types.specs.declared.commands.Answer.TheVariants.{Down, Fine, Found}
+use Rattle.home_types.specs.declared.commands.Answer.TheVariants.{Down, Fine, Found, Skipped}
 use Rattle.home_types.specs.declared.commands.Command.{Command}
 use Rattle.home_types.specs.declared.items.Item.{Item}
 use Rattle.home_types.specs.declared.items.Item.TheVariants.{Back, Failed, Ran}
 use Rattle.home_types.specs.declared.numbers.RunNo.{RunNo}
 use Rattle.hub_core.proofs.windows.StrongChoices.{command_current, command_is, live_stands}
-use Rattle.hub_core.proofs.waiting.AtCommands.{IsAt, at_command, at_open, command_choice, device_told}
+use Rattle.hub_core.proofs.waiting.AtCommands.{IsAt, at_asks, at_command, at_open, command_choice, device_told}
 use Rattle.hub_core.proofs.waiting.Moments.{calm_waits}
 use Rattle.hub_core.specs.BlockedRuns.{IsBlocked, NeverRevokes, is_at_command, is_wait, next_device}
 use Rattle.hub_core.specs.HubKept.{ConfigurationIsKept}
@@ -118,18 +119,18 @@ pub behind_holder : (w : Setting) (n : Reading) (g : Grips) (x q d : ℕ) → Is
 behind_holder w n g x q d last there holds opened other = holder_first w n g x q d n.line last there holds opened other
 
 -- a next command behind a run waits, where no lease is overdue, but under the weak model
-pub behind_waits : (w : Setting) (n : Reading) (g : Grips) (r m k : ℕ) (c : Command) → is_weak w.mode ≡ false → overdue_for w n g r c.device.0 m ≡ None → is_some (behind_wait w n g r c.device.0) ≡ true → is_wait (decide_command w n g r m k c) ≡ true
-behind_waits w n g r m k c strong current behind = ap is_wait (command_is w n g r m k c strong ∙ command_current w n g r m k c current) ∙ by_run (behind_wait w n g r c.device.0) behind
+pub behind_waits : (w : Setting) (n : Reading) (g : Grips) (r m k : ℕ) (c : Command) → is_weak w.mode ≡ false → holds c.when (n.run r).register ≡ true → overdue_for w n g r c.device.0 m ≡ None → is_some (behind_wait w n g r c.device.0) ≡ true → is_wait (decide_command w n g r m k c) ≡ true
+behind_waits w n g r m k c strong guard current behind = ap is_wait (command_is w n g r m k c strong guard ∙ command_current w n g r m k c current) ∙ by_run (behind_wait w n g r c.device.0) behind
   where
     by_run : (o : Option ℕ) → is_some o ≡ true → is_wait (first_case (option_map (λ x. Waits (Behind c.device (run_no x))) o ∷ dirty_case w n g r c ∷ strict_case w n r ∷ busy_case w n g r c ∷ down_case w n r k c ∷ []) (HandsOut c.device.0 (Commands k))) ≡ true
     by_run None e = absurd (cc)
     by_run (Some x) e = refl
 
--- while a run that is not doomed has touched a device and has a command left there, each other run at a command there is blocked, for which no lease there is ever overdue
+-- while a run that is not doomed has touched a device and has a command left there, each other run that asks for it is blocked, for which no lease there is ever overdue
 pub held_waits : (s : Configuration) (rounds opened : ℕ) (held : ℕ → ℕ) (x q d : ℕ) → ConfigurationIsKept s rounds opened held → is_live (read_of s) x ≡ true → is_doomed (read_of s) x ≡ false → has_touched (read_of s) s.grips x d ≡ true
-    → pends s.setting (read_of s) x d ≡ true → q ≢ x → next_device s q ≡ Some d → NeverRevokes s q d → IsBlocked s q
-held_waits s rounds opened held x q d kept live sound touched pending other next calm =
-    calm_waits s q d 0 at calm (ap is_wait (command_choice s q d 0 at) ∙ behind_waits w n s.grips q (max s.moment 0) (next_of n q) at.command kept.strong (ap (λ e. overdue_for w n s.grips q e (max s.moment 0)) at.device ∙ calm kept.strong (max s.moment 0)) behind)
+    → pends s.setting (read_of s) x d ≡ true → q ≢ x → next_device s q ≡ Some d → asks_on s.setting (read_of s) q d ≡ true → NeverRevokes s q d → IsBlocked s q
+held_waits s rounds opened held x q d kept live sound touched pending other next asks calm =
+    calm_waits s q d 0 at calm (ap is_wait (command_choice s q d 0 at) ∙ behind_waits w n s.grips q (max s.moment 0) (next_of n q) at.command kept.strong (sym (at_asks w n s.grips q d at) ∙ asks) (ap (λ e. overdue_for w n s.grips q e (max s.moment 0)) at.device ∙ calm kept.strong asks (max s.moment 0)) behind)
   where
     w : Setting
     w = s.setting
@@ -177,9 +178,9 @@ pub next_after_answer : (s t : Configuration) (maker : ℕ) (x : RunNo) (k : ℕ
 next_after_answer s t maker x k a q d history setting other free next =
     next_kept s t q d setting (ap (λ n. n.run q) (read_after s t maker x k a history setting) ∙ put_other (read_of s).run x.0 _ q other) free next
 
--- after an answer its run has one on the device
-pub did_now : (s t : Configuration) (maker : ℕ) (x : RunNo) (k : ℕ) (a : Answer) (d : ℕ) → t.history ≡ s.history ++ kept_by maker (Did x k a ∷ []) → t.setting ≡ s.setting → (command_at s.setting.runs x.0 k).device.0 ≡ d → did (read_of t) x.0 d ≡ true
-did_now s t maker x k a d history setting on =
+-- after an answer that is an access its run has one on the device
+pub did_now : (s t : Configuration) (maker : ℕ) (x : RunNo) (k : ℕ) (a : Answer) (d : ℕ) → t.history ≡ s.history ++ kept_by maker (Did x k a ∷ []) → t.setting ≡ s.setting → (command_at s.setting.runs x.0 k).device.0 ≡ d → is_access a ≡ true → did (read_of t) x.0 d ≡ true
+did_now s t maker x k a d history setting on access =
     ap (λ n. did n x.0 d) (read_after s t maker x k a history setting) ∙ subst (λ e. did (entry s.setting n (Did x k a)) x.0 e ≡ true) on there
   where
     n : Reading
@@ -188,11 +189,12 @@ did_now s t maker x k a d history setting on =
     e : ℕ
     e = (command_at s.setting.runs x.0 k).device.0
 
-    seen : (v : Option Bool) (b : Answer) → is_some (option_or v (view_by b)) ≡ true
-    seen (Some v) b = refl
-    seen None Fine = refl
-    seen None (Found y) = refl
-    seen None Down = refl
+    seen : (v : Option Bool) (b : Answer) → is_access b ≡ true → is_some (option_or v (view_by b)) ≡ true
+    seen (Some v) b access = refl
+    seen None Fine access = refl
+    seen None (Found y) access = refl
+    seen None Down access = refl
+    seen None Skipped access = absurd (cc)
 
     there : did (entry s.setting n (Did x k a)) x.0 e ≡ true
-    there = ap (λ (o : OfRun). is_some (o.on e).view) (put_same n.run x.0 _) ∙ ap (λ (o : OnDevice). is_some o.view) (put_same (n.run x.0).on e _) ∙ seen ((n.run x.0).on e).view a
+    there = ap (λ (o : OfRun). is_some (o.on e).view) (put_same n.run x.0 _) ∙ ap (λ (o : OnDevice). is_some o.view) (put_same (n.run x.0).on e _) ∙ seen ((n.run x.0).on e).view a access

@@ -1,6 +1,7 @@
 -- A lease that may fall due is made by a placing alone: neither the clock, nor a device that goes out, nor an answer makes one.
 use Rattle.command_rules.specs.Rosters.{commands_of, estimate_to_last, is_on, touches, touches_from}
 use Rattle.history_book.proofs.Shapes.{put_all}
+use Rattle.history_book.proofs.Snoc.{put_keeps}
 use Rattle.history_book.specs.Histories.{entry}
 use Rattle.history_book.specs.Lines.{before}
 use Rattle.history_book.specs.Plans.{greatest, planned_end}
@@ -53,10 +54,14 @@ left_before p [] (suc k) some = some
 left_before p (x ∷ xs) zero some = grind (arith, common_steps)
 left_before p (x ∷ xs) (suc k) some = left_before p xs k some
 
--- so an answer makes none
+-- after an answer the same live runs stand before a run
+pub live_answered : (w : Setting) (n : Reading) (x : RunNo) (k : ℕ) (a : Answer) (r : ℕ) → live_before (entry w n (Did x k a)) r ≡ live_before n r
+live_answered w n x k a r = live_same n (entry w n (Did x k a)) (before r n.line) (put_keeps (λ o. is_some o.placed && is_none o.ended) n.run x.0 (answered_run w n x.0 k a) refl)
+
+-- so it makes none
 pub calm_answered : (w : Setting) (n : Reading) (g : Grips) (x : RunNo) (k : ℕ) (a : Answer) (r d : ℕ) → NeverOverdue w n g r d → NeverOverdue w (entry w n (Did x k a)) g r d
 calm_answered w n g x k a r d calm m =
-    ap (find (is_overdue w u g r d m)) (live_same n u (before r n.line) (λ q i. is_some ((runs q).placed i) && is_none ((runs q).ended i)))
+    ap (find (is_overdue w u g r d m)) (live_answered w n x k a r)
     ∙ find_fewer (is_overdue w n g r d m) (is_overdue w u g r d m) (live_before n r) fewer (calm m)
   where
     u : Reading

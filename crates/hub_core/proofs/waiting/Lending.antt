@@ -58,8 +58,8 @@ serves_first Eventual Timeline allowed first = absurd (cc)
 
 -- first come first served none falls due
 pub served_calm : (s : Configuration) (rounds opened : ℕ) (held : ℕ → ℕ) (r d : ℕ) → IsKeptByModel s rounds opened held → scheduler_of s.setting.mode ≡ Fcfs → next_device s r ≡ Some d → NeverRevokes s r d
-served_calm s rounds opened held r d kept first next strong =
-    served_in_turn s rounds opened held r d (kept.ordered strong) (serves_first s.setting.mode.model s.setting.mode.scheduler kept.opens.mode first) (at_command s r d kept.history.well_formed next).run.act.live
+served_calm s rounds opened held r d kept first next strong asks =
+    served_in_turn s rounds opened held r d (kept.ordered strong) (serves_first s.setting.mode.model s.setting.mode.scheduler kept.opens.mode first) (at_command s r d kept.history.well_formed next).act.live
 
 -- .. so none is overdue for a run that asks
 pub served_leases : (s : Configuration) (rounds opened : ℕ) (held : ℕ → ℕ) (r d m : ℕ) → IsKeptByModel s rounds opened held → scheduler_of s.setting.mode ≡ Fcfs → is_weak s.setting.mode ≡ false → IsAsking s r d → None ≡ overdue_lease s.setting (read_of s) s.grips r d m
@@ -71,7 +71,7 @@ pub asks_for : (s : Configuration) (r d : ℕ) → IsWellFormed s.setting (entri
 asks_for s r d formed next =
     let at : IsAt s.setting (read_of s) s.grips r d = at_command s r d formed next in
     let own : (d == d) ≡ true = grind (arith, common_steps) in
-    record { live = at.run.act.live; sound = ap is_some at.run.sound; next = ap (λ o. unwrap_or (option_map (is_on d) o) false) at.run.next ∙ ap (λ e. e == d) at.device ∙ own }
+    record { live = at.act.live; sound = ap is_some at.sound; next = ap (λ o. unwrap_or (option_map (is_on d) o) false) at.next ∙ ap (λ e. e == d) at.device ∙ own }
 
 -- so it may be asked whether one may
 pub may_ask : (s : Configuration) (table : List LineageState) (line : List Mark) (history : List Kept) (runs : List Run) (r d : ℕ) → IsStandingOf s table line history runs → next_device s r ≡ Some d → MayAsk table line history runs r d
@@ -80,4 +80,4 @@ may_ask s table line history runs r d parts next = Asking s parts (asks_for s r 
 -- .. and where the answer is no, none does
 pub told_calm : (s : Configuration) (table : List LineageState) (line : List Mark) (history : List Kept) (runs : List Run) (r d : ℕ) (answer : Bool) → (answer ≡ false → IsNeverOverdue table line history runs r d) → IsStandingOf s table line history runs → next_device s r ≡ Some d → answer ≡ false
     → NeverRevokes s r d
-told_calm s table line history runs r d answer told parts next none strong = told none s parts (asks_for s r d parts.well_formed next)
+told_calm s table line history runs r d answer told parts next none strong asks = told none s parts (asks_for s r d parts.well_formed next)

@@ -12,7 +12,7 @@ use Rattle.history_book.specs.declared.entries.Cause.TheVariants.{Revoked}
 use Rattle.history_book.specs.declared.entries.Entry.TheVariants.{Arrived, Doomed}
 use Rattle.history_book.specs.declared.entries.Entry.{Entry}
 use Rattle.history_book.specs.declared.entries.Kept.{Kept}
-use Rattle.home_types.specs.Commands.{reads}
+use Rattle.home_types.specs.Commands.{holds, reads}
 use Rattle.home_types.specs.declared.commands.Command.{Command}
 use Rattle.home_types.specs.declared.kinds.Kind.{Kind}
 use Rattle.home_types.specs.declared.modes.Scheduler.{Scheduler}
@@ -22,7 +22,7 @@ use Rattle.home_types.specs.declared.worlds.Stand.{Stand}
 use Rattle.hub_core.proofs.kept.Finds.{none_there}
 use Rattle.hub_core.proofs.waiting.QuietEntries.{SameFor, quiet_along, write_same}
 use Rattle.hub_core.specs.BlockedRuns.{IsBlocked, IsElsewhere, is_wait, next_device}
-use Rattle.hub_core.specs.Steps.{Absent, HandsOut, Moves, Over, Waits, behind_case, busy_case, command_cases, decide, decide_answered, decide_arrived, decide_command, decide_doomed, dirty_case, down_case, down_entries, first_case, only_if, overdue_case, strict_case}
+use Rattle.hub_core.specs.Steps.{Absent, HandsOut, Moves, Over, Waits, behind_case, busy_case, command_cases, decide, decide_answered, decide_arrived, decide_command, decide_doomed, dirty_case, down_case, down_entries, first_case, only_if, overdue_case, skip_entries, strict_case}
 use Rattle.hub_core.specs.declared.waits.Why.TheVariants.{Behind, Busy, Dirty, Strict}
 use Rattle.lock_leasing.specs.Configurations.{Commands, Configuration, Grips, read_of}
 use Rattle.lock_leasing.specs.Waits.{grip_wait, strict_wait}
@@ -47,7 +47,7 @@ holds_same w n m g h r d same held x = λ i. (is_some ((same.runs x).placed i) &
 -- The cases of a command
 
 -- the model asks for the live runs before the run alone
-strict_by : (runs : List Run) (kinds : List Kind) (first : List Stand) (model : Visibility) (scheduler : Scheduler) (n m : Reading) (r : ℕ) → live_before m r ≡ live_before n r
+pub strict_by : (runs : List Run) (kinds : List Kind) (first : List Stand) (model : Visibility) (scheduler : Scheduler) (n m : Reading) (r : ℕ) → live_before m r ≡ live_before n r
     → strict_wait (record { runs = runs; mode = record { model = model; scheduler = scheduler }; kinds = kinds; first = first }) m r ≡ strict_wait (record { runs = runs; mode = record { model = model; scheduler = scheduler }; kinds = kinds; first = first }) n r
 strict_by runs kinds first Weak scheduler n m r same = refl
 strict_by runs kinds first Global scheduler n m r same = ap (find (λ x. true)) same
@@ -56,13 +56,13 @@ strict_by runs kinds first Eventual scheduler n m r same = refl
 
 -- the run is told the same of its next command
 command_same : (w : Setting) (n m : Reading) (g h : Grips) (r t k : ℕ) (c : Command) → SameFor w n m r c.device.0 → h c.device.0 ≡ g c.device.0 → decide_command w m h r t k c ≡ decide_command w n g r t k c
-command_same w n m g h r t k c same held = by_model (is_weak w.mode)
+command_same w n m g h r t k c same held = λ i. if holds c.when (same.own i).register then by_model (is_weak w.mode) i else first_case (strict i ∷ []) (Moves (skip_entries r k))
   where
     d : ℕ
     d = c.device.0
 
-    holds : (x : ℕ) → holds_device w m h x d ≡ holds_device w n g x d
-    holds = holds_same w n m g h r d same held
+    holding : (x : ℕ) → holds_device w m h x d ≡ holds_device w n g x d
+    holding = holds_same w n m g h r d same held
 
     deadline : (x : ℕ) → lease_deadline w m x d ≡ lease_deadline w n x d
     deadline x = λ i. min (planned_end ((same.runs x).planned i) d + tenth_up (estimate_to_last d (commands_of w.runs x))) greatest
@@ -71,10 +71,10 @@ command_same w n m g h r t k c same held = by_model (is_weak w.mode)
     stamp x = λ i. unwrap_or (option_map (λ p. p.stamp) ((same.runs x).placed i)) 0
 
     overdue : overdue_case w m h r t c ≡ overdue_case w n g r t c
-    overdue = λ i. option_map (λ x. Moves (Doomed (run_no x) (Revoked (run_no r) c.device (deadline x i) t) ∷ [])) (find (λ x. not (is_some ((same.runs x).doomed i)) && nat_lt (stamp r i) (stamp x i) && holds x i && nat_lt (deadline x i) t) (same.before i))
+    overdue = λ i. option_map (λ x. Moves (Doomed (run_no x) (Revoked (run_no r) c.device (deadline x i) t) ∷ [])) (find (λ x. not (is_some ((same.runs x).doomed i)) && nat_lt (stamp r i) (stamp x i) && holding x i && nat_lt (deadline x i) t) (same.before i))
 
     behind : behind_case w m h r c ≡ behind_case w n g r c
-    behind = λ i. option_map (λ x. Waits (Behind c.device (run_no x))) (find (λ x. holds x i) (same.before i))
+    behind = λ i. option_map (λ x. Waits (Behind c.device (run_no x))) (find (λ x. holding x i) (same.before i))
 
     down : sees_down m r d ≡ sees_down n r d
     down = λ i. unwrap_or (option_map not ((same.own i).on d).view) false

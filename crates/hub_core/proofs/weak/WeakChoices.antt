@@ -6,6 +6,7 @@ use Rattle.history_book.specs.declared.entries.Cause.TheVariants.{DownAtEnd}
 use Rattle.history_book.specs.declared.entries.Cause.{Cause}
 use Rattle.history_book.specs.declared.entries.End.TheVariants.{Committed}
 use Rattle.history_book.specs.declared.entries.Entry.TheVariants.{Doomed, Ended}
+use Rattle.home_types.specs.Commands.{holds}
 use Rattle.home_types.specs.declared.commands.Command.{Command}
 use Rattle.home_types.specs.declared.modes.Scheduler.TheVariants.{Fcfs}
 use Rattle.home_types.specs.declared.modes.Scheduler.{Scheduler}
@@ -14,12 +15,12 @@ use Rattle.home_types.specs.declared.modes.Visibility.{Visibility}
 use Rattle.hub_core.proofs.windows.Progress.{IsLeastUnended, least_leads, least_unended, run_goes}
 use Rattle.hub_core.specs.BlockedRuns.{is_wait}
 use Rattle.hub_core.proofs.windows.StrongChoices.{same_map}
-use Rattle.hub_core.proofs.steps.Causes.{never_down_at_end}
+use Rattle.hub_core.proofs.steps.Causes.{never_down_at_end, never_strict}
 use Rattle.hub_core.specs.HubCalls.{SomeRunMoves}
-use Rattle.hub_core.specs.Steps.{HandsOut, Moves, Over, Waits, aborts, command_cases, decide, decide_answered, decide_command, decide_doomed, down_entries, first_case, only_if, undo_cases}
+use Rattle.hub_core.specs.Steps.{HandsOut, Moves, Over, Waits, aborts, command_cases, decide, decide_answered, decide_command, decide_doomed, down_entries, first_case, only_if, skip_entries, undo_cases}
 use Rattle.hub_core.specs.WeakKept.{WeakIsKept}
 use Rattle.hub_core.specs.WeakSteps.{weak_command, weak_rest}
-use Rattle.hub_core.specs.declared.waits.Why.TheVariants.{Busy}
+use Rattle.hub_core.specs.declared.waits.Why.TheVariants.{Busy, Strict}
 use Rattle.lock_leasing.specs.Configurations.{Commands, Configuration, Grips, is_out, read_of}
 use Rattle.std.proofs.Common.{ap, refl, sym, ◌∙◌}
 use Rattle.std.specs.Prelude.{[], false, if◌then◌else◌, max, not, option_map, true, unwrap_or, ℕ, ◌&&◌, ◌||◌, ◌∷◌, ◌≡◌}
@@ -28,9 +29,12 @@ use Rattle.std.specs.Prelude.{[], false, if◌then◌else◌, max, not, option_m
 
 -- the next command: no run, model or lease holds it back, and there are no views
 command_is : (w : Setting) (n : Reading) (g : Grips) (r m k : ℕ) (c : Command) → is_weak w.mode ≡ true → decide_command w n g r m k c ≡ weak_command n g r k c
-command_is w n g r m k c weak =
-    (λ i. first_case (command_cases (weak i) w n g r m k c) (HandsOut c.device.0 (Commands k)))
-    ∙ (λ i. first_case (only_if ((weak i || not (sees_down n r c.device.0)) && is_out g c.device.0) (Waits (Busy c.device)) ∷ only_if ((not (weak i) && sees_down n r c.device.0) || not (n.up c.device.0)) (Moves (down_entries r k c)) ∷ []) (HandsOut c.device.0 (Commands k)))
+command_is w n g r m k c weak = (λ i. if holds c.when (n.run r).register then done i else ap (λ o. first_case (option_map (λ x. Waits (Strict (run_no x))) o ∷ []) (Moves (skip_entries r k))) (never_strict w n r weak) i)
+  where
+    done : first_case (command_cases (is_weak w.mode) w n g r m k c) (HandsOut c.device.0 (Commands k)) ≡ first_case (only_if (is_out g c.device.0) (Waits (Busy c.device)) ∷ only_if (not (n.up c.device.0)) (Moves (down_entries r k c)) ∷ []) (HandsOut c.device.0 (Commands k))
+    done =
+        (λ i. first_case (command_cases (weak i) w n g r m k c) (HandsOut c.device.0 (Commands k)))
+        ∙ (λ i. first_case (only_if ((weak i || not (sees_down n r c.device.0)) && is_out g c.device.0) (Waits (Busy c.device)) ∷ only_if ((not (weak i) && sees_down n r c.device.0) || not (n.up c.device.0)) (Moves (down_entries r k c)) ∷ []) (HandsOut c.device.0 (Commands k)))
 
 -- a doomed run is not undone
 doomed_is : (w : Setting) (n : Reading) (g : Grips) (r : ℕ) (cause : Cause) → is_weak w.mode ≡ true → decide_doomed w n g r cause ≡ aborts r cause

@@ -9,7 +9,7 @@ use Rattle.history_book.specs.declared.entries.Entry.TheVariants.{Arrived, Did, 
 use Rattle.history_book.specs.declared.entries.Entry.{Entry}
 use Rattle.history_book.specs.declared.records.WindowRecord.{WindowRecord}
 use Rattle.home_types.specs.HomeStates.{stand_at}
-use Rattle.home_types.specs.declared.commands.Answer.TheVariants.{Down, Fine, Found}
+use Rattle.home_types.specs.declared.commands.Answer.TheVariants.{Down, Fine, Found, Skipped}
 use Rattle.home_types.specs.declared.worlds.Stand.{Stand}
 use Rattle.hub_core.proofs.kept.Sizes.{steady_up}
 use Rattle.hub_core.proofs.windows.CalmHistories.{IsPlain, NoneFailed, all_homed, along_less, downs_told}
@@ -53,6 +53,7 @@ allowed_downs w n (Arrived r m) ok = refl
 allowed_downs w n (Placed r at m) ok = refl
 allowed_downs w n (Did r c Fine) ok = refl
 allowed_downs w n (Did r c (Found x)) ok = refl
+allowed_downs w n (Did r c Skipped) ok = refl
 allowed_downs w n (Did r c Down) ok = ap (λ b. b || sees_down n r.0 (command_at w.runs r.0 c).device.0) ok
 allowed_downs w n (Undid r d drove) ok = refl
 allowed_downs w n (Fell d) ok = refl

@@ -21,9 +21,9 @@ use Rattle.home_types.specs.declared.commands.Command.{Command}
 use Rattle.hub_core.proofs.kept.HistoryKept.{less_one}
 use Rattle.hub_core.proofs.kept.Kept.{probes_home}
 use Rattle.hub_core.proofs.kept.ReturnsKept.{Brings, BringsFor, IsOut, counted_down, counted_up, out_is, probes_answered}
-use Rattle.hub_core.proofs.steps.Causes.{and_is, answered_last}
-use Rattle.hub_core.proofs.steps.Gives.{command_back_follows, command_is}
-use Rattle.hub_core.proofs.steps.Takes.{live_run}
+use Rattle.hub_core.proofs.steps.Causes.{and_is, and_three, answered_last}
+use Rattle.hub_core.proofs.steps.Gives.{command_back_follows}
+use Rattle.hub_core.proofs.steps.Takes.{command_is, live_run}
 use Rattle.hub_core.proofs.weak.WeakChanges.{IsStillOut, made_with, maker_sound, out_stays, passes_did, passes_doomed, weak_made}
 use Rattle.hub_core.specs.HubKept.{probes_of}
 use Rattle.hub_core.specs.JustifiedAborts.{has_answer}
@@ -185,10 +185,10 @@ command_home s rounds opened held r k d now v told out brings stays value later 
     KeptWith : List Entry → Type 0
     KeptWith entries = WeakIsKept (made_with s r now home entries) rounds opened (put held d v)
 
-    suited : (t : Told) → BringsFor s held r d v (Commands k) t → suits w back.0 (answer_told t) ≡ true
-    suited Worked b = ap not (ap (λ (y : Command). reads y.job) (sym back.1.same) ∙ b.0)
-    suited (Sensed x) b = and_is (ap (λ (y : Command). reads y.job) (sym back.1.same) ∙ b.0) (ap₂ (λ e y. has_value (kind_at w.kinds e) y) back.1.known.on b.1 ∙ value)
-    suited Died b = refl
+    suited : (t : Told) → BringsFor s held r d v (Commands k) t → suits w n r back.0 (answer_told t) ≡ true
+    suited Worked b = and_is back.1.known.guard (ap not (ap (λ (y : Command). reads y.job) (sym back.1.same) ∙ b.0))
+    suited (Sensed x) b = and_three back.1.known.guard (ap (λ (y : Command). reads y.job) (sym back.1.same) ∙ b.0) (ap₂ (λ e y. has_value (kind_at w.kinds e) y) back.1.known.on b.1 ∙ value)
+    suited Died b = back.1.known.guard
 
     follows : (t : Told) → BringsFor s held r d v (Commands k) t → IsTrue (along w (may_follow w) n (command_entries w n r k t))
     follows t b = subst (λ j. IsTrue (along w (may_follow w) n (command_entries w n r j t))) (sym back.1.known.number) (command_back_follows w n r back.0 t (record {

@@ -13,7 +13,7 @@ use Rattle.history_book.specs.declared.entries.Entry.{Entry}
 use Rattle.home_types.specs.Commands.{refutes}
 use Rattle.home_types.specs.HomeStates.{stand_at}
 use Rattle.home_types.specs.Kinds.{has_value, kind_at}
-use Rattle.home_types.specs.declared.commands.Answer.TheVariants.{Down}
+use Rattle.home_types.specs.declared.commands.Answer.TheVariants.{Down, Skipped}
 use Rattle.home_types.specs.declared.commands.Command.{Command}
 use Rattle.hub_core.proofs.kept.HistoryKept.{holds_is}
 use Rattle.hub_core.proofs.kept.Kept.{gripless, out_with, probes_out, probes_told}
@@ -27,6 +27,7 @@ use Rattle.hub_core.specs.Steps.{HandsOut, Moves, after_choice, after_take, answ
 use Rattle.hub_core.specs.WeakKept.{NoneHasFailed, WeakIsKept, goes_weakly}
 use Rattle.lock_leasing.specs.Configurations.{Commands, Configuration, Grip, read_of}
 use Rattle.std.proofs.Common.{ap, append-nil, arith, refl, subst, sym, ◌∙◌}
+use Rattle.std.proofs.Math.Bool.{and-false}
 use Rattle.std.proofs.lemmas.Grind.{common_steps}
 use Rattle.std.specs.Prelude.{Bool, IsTrue, List, None, Option, Some, [], false, fold, if◌then◌else◌, is_none, is_some, length, max, not, true, ℕ, ◌&&◌, ◌++◌, ◌+◌, ◌<◌, ◌||◌, ◌∷◌, ◌≡◌, ◌≢◌, ◌≤◌}
 use Rattle.lock_leasing.specs.Waits.{busy_wait}
@@ -107,6 +108,8 @@ weak_take s rounds opened held r m kept =
       drops = λ cause d undoing down. absurd (strong undoing.strong);
       undoes = λ cause d undoing up. absurd (strong undoing.strong);
       revokes = λ c x run e at. absurd (strong e);
+      skips = λ c skip ok allowed. told_made s rounds opened r now held (Did (run_no r) (next_of n r) Skipped ∷ []) (record { others = λ q other. put_other n.run r _ q other; up = refl; last = refl; rose = refl }) (holds_none w s.grips r kept.grips.homed skip.act.free) ok allowed later
+          (passes_did w n r (next_of n r) Skipped c skip.next (and-false c.must) skip.sound kept.passes) kept;
       downs = downs;
       goes = λ c run next home up ok allowed. goes c run up;
       fails_at_end = λ d all at. absurd (let both : None ≡ Some d = sym (never_down_at_end w n s.grips r kept.weak) ∙ at in cc);
@@ -170,7 +173,7 @@ weak_take s rounds opened held r m kept =
         new = record { maker = r; purpose = Commands (next_of n r) }
 
         may : may_command w r c.device.0 (next_of n r) (n.run r) ≡ true
-        may = rw (run.act.live, run.next) (grind (arith, common_steps))
+        may = rw (run.act.live, run.next, run.guard) (grind (arith, common_steps))
 
         reached : (weak sees up doomed : Bool) → doomed ≡ false → ((not weak && sees) || not up) ≡ false → (up && not doomed) ≡ true
         reached weak sees up doomed e f = grind (arith, common_steps)

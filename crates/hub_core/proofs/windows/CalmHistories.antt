@@ -4,7 +4,7 @@ use Rattle.history_book.proofs.Searches.{each_found, own_devices}
 use Rattle.history_book.proofs.Shapes.{put_all}
 use Rattle.history_book.proofs.Snoc.{put_keeps}
 use Rattle.history_book.specs.Histories.{answered, entries_of, entry, is_fall_of, more_if, reading}
-use Rattle.history_book.specs.Readings.{First, Last, Event, Mark, OfRun, OnDevice, Reading, events_of, is_access, is_fall, is_last, is_told, next_command, nothing_read, put, same_answer, sees_down, sees_up, span_of, view_by}
+use Rattle.history_book.specs.Readings.{First, Last, Event, Mark, OfRun, OnDevice, Reading, events_of, is_access, is_fall, is_last, next_command, nothing_read, put, same_answer, sees_down, sees_up, span_of, view_by}
 use Rattle.history_book.specs.Settings.{Setting, devices_of, is_device, is_strict}
 use Rattle.history_book.specs.WellFormed.{IsWellFormed, along, each_entry, may_follow}
 use Rattle.history_book.specs.declared.entries.Cause.{Cause}
@@ -16,7 +16,7 @@ use Rattle.home_types.specs.Commands.{fails}
 use Rattle.home_types.specs.HomeStates.{stand_at}
 use Rattle.home_types.specs.Kinds.{kind_at}
 use Rattle.home_types.specs.declared.commands.Answer.{Answer}
-use Rattle.home_types.specs.declared.commands.Answer.TheVariants.{Down, Fine, Found}
+use Rattle.home_types.specs.declared.commands.Answer.TheVariants.{Down, Fine, Found, Skipped}
 use Rattle.home_types.specs.declared.commands.Command.{Command}
 use Rattle.home_types.specs.declared.kinds.Kind.{Kind}
 use Rattle.home_types.specs.declared.modes.Scheduler.TheVariants.{Fcfs}
@@ -46,6 +46,7 @@ calm_entry (Arrived r m) = true
 calm_entry (Placed r at m) = true
 calm_entry (Did r c Fine) = true
 calm_entry (Did r c (Found x)) = true
+calm_entry (Did r c Skipped) = true
 calm_entry (Did r c Down) = false
 calm_entry (Undid r d drove) = true
 calm_entry (Fell d) = false
@@ -61,36 +62,36 @@ calm_entry (Ended r e) = true
 abbrev SeesNoneDown : OfRun → Type 0
 SeesNoneDown o = (d : ℕ) → unwrap_or (o.on d).view true ≡ true
 
--- a device call gave each of its answers
-abbrev AllTold : OfRun → Type 0
-AllTold o = list_all is_told o.answers ≡ true
+-- none of its answers is Down
+abbrev NoneDown : OfRun → Type 0
+NoneDown o = list_all (λ a. not (same_answer Down a)) o.answers ≡ true
 
--- each device is counted up as at the start, no event stands in a log, no run sees a device down, and each answer was told by a device
+-- each device is counted up as at the start, no event stands in a log, no run sees a device down, and none was told Down
 pub record CalmReads (w : Setting) (n : Reading) : Type 0 where
   pub up : (d : ℕ) → n.up d ≡ (stand_at w.first d).up
   pub log : (d : ℕ) → events_of (n.log d) ≡ []
   pub views : (r : ℕ) → SeesNoneDown (n.run r)
-  pub told : (r : ℕ) → AllTold (n.run r)
+  pub told : (r : ℕ) → NoneDown (n.run r)
 
 calm_unread : (w : Setting) → CalmReads w (nothing_read w)
 calm_unread w = record { up = λ d. refl; log = λ d. refl; views = λ r d. refl; told = λ r. refl }
 
 -- something more of one run
-calm_put : (w : Setting) (n m : Reading) (r : ℕ) (o : OfRun) → m.up ≡ n.up → ((d : ℕ) → events_of (m.log d) ≡ events_of (n.log d)) → m.run ≡ put n.run r o → SeesNoneDown o → AllTold o → CalmReads w n → CalmReads w m
+calm_put : (w : Setting) (n m : Reading) (r : ℕ) (o : OfRun) → m.up ≡ n.up → ((d : ℕ) → events_of (m.log d) ≡ events_of (n.log d)) → m.run ≡ put n.run r o → SeesNoneDown o → NoneDown o → CalmReads w n → CalmReads w m
 calm_put w n m r o up log run new told p =
     record {
       up = λ d. ap (λ f. f d) up ∙ p.up d;
       log = λ d. log d ∙ p.log d;
       views = λ q. rw run (put_all (λ k x. SeesNoneDown x) n.run r o p.views new q);
-      told = λ q. rw run (put_all (λ k x. AllTold x) n.run r o p.told told q);
+      told = λ q. rw run (put_all (λ k x. NoneDown x) n.run r o p.told told q);
     }
 
--- a command that worked
-view_up : (kind : Kind) (c : Command) (doomed : Bool) (register : ℕ) (a : Answer) (o : OnDevice) → view_by a ≡ Some true → unwrap_or o.view true ≡ true → unwrap_or (answered kind c doomed register a o).view true ≡ true
+-- a command that worked, or was skipped
+view_up : (kind : Kind) (c : Command) (doomed : Bool) (register : ℕ) (a : Answer) (o : OnDevice) → unwrap_or (view_by a) true ≡ true → unwrap_or o.view true ≡ true → unwrap_or (answered kind c doomed register a o).view true ≡ true
 view_up kind c doomed register a o up = viewed o.view
   where
     viewed : (v : Option Bool) → unwrap_or v true ≡ true → unwrap_or (option_or v (view_by a)) true ≡ true
-    viewed None e = ap (λ x. unwrap_or x true) up
+    viewed None e = up
     viewed (Some b) e = e
 
 events_append : (xs ys : List Mark) → events_of (xs ++ ys) ≡ events_of xs ++ events_of ys
@@ -101,15 +102,15 @@ no_event : (b : Bool) (m : Mark) (ms : List Mark) → events_of (m ∷ []) ≡ [
 no_event true m ms none = events_append ms (m ∷ []) ∙ ap (λ x. events_of ms ++ x) none ∙ append-nil (events_of ms)
 no_event false m ms none = refl
 
-calm_did : (w : Setting) (n : Reading) (r k : ℕ) (a : Answer) → view_by a ≡ Some true → is_told a ≡ true → CalmReads w n → CalmReads w (entry w n (Did (run_no r) k a))
+calm_did : (w : Setting) (n : Reading) (r k : ℕ) (a : Answer) → unwrap_or (view_by a) true ≡ true → not (same_answer Down a) ≡ true → CalmReads w n → CalmReads w (entry w n (Did (run_no r) k a))
 calm_did w n r k a up told p =
     calm_put w n (entry w n (Did (run_no r) k a)) r _ refl log refl (λ d. put_all (λ e x. unwrap_or x.view true ≡ true) (n.run r).on c.device.0 _ (p.views r) (view_up (kind_at w.kinds c.device.0) c (is_some (n.run r).doomed) (n.run r).register a ((n.run r).on c.device.0) up (p.views r c.device.0)) d)
-    (list_all-append is_told (n.run r).answers (a ∷ []) ∙ both (p.told r)) p
+    (list_all-append (λ b. not (same_answer Down b)) (n.run r).answers (a ∷ []) ∙ both (p.told r)) p
   where
     c : Command
     c = command_at w.runs r k
 
-    both : list_all is_told (n.run r).answers ≡ true → (list_all is_told (n.run r).answers && (is_told a && true)) ≡ true
+    both : list_all (λ b. not (same_answer Down b)) (n.run r).answers ≡ true → (list_all (λ b. not (same_answer Down b)) (n.run r).answers && (not (same_answer Down a) && true)) ≡ true
     both all = grind (arith, common_steps, told)
 
     log : (d : ℕ) → events_of ((entry w n (Did (run_no r) k a)).log d) ≡ events_of (n.log d)
@@ -126,6 +127,7 @@ calm_step w n (Arrived r m) ok p = calm_put w n (entry w n (Arrived r m)) r.0 _ 
 calm_step w n (Placed r at m) ok p = calm_put w n (entry w n (Placed r at m)) r.0 _ refl (λ d. refl) refl (p.views r.0) (p.told r.0) p
 calm_step w n (Did r c Fine) ok p = calm_did w n r.0 c Fine refl refl p
 calm_step w n (Did r c (Found x)) ok p = calm_did w n r.0 c (Found x) refl refl p
+calm_step w n (Did r c Skipped) ok p = calm_did w n r.0 c Skipped refl refl p
 calm_step w n (Did r c Down) ok p = absurd (cc)
 calm_step w n (Undid r d drove) ok p = calm_put w n (entry w n (Undid r d drove)) r.0 _ refl (λ e. refl) refl (λ e. put_all (λ k x. unwrap_or x.view true ≡ true) (n.run r.0).on d.0 _ (p.views r.0) (p.views r.0 d.0) e) (p.told r.0) p
 calm_step w n (Fell d) ok p = absurd (cc)
@@ -163,13 +165,15 @@ answers_calm w n r k up homed p within = λ i. not (here i) || no_sight ((n.run 
     here = counted_up w n d up p (homed r k (command_at w.runs r k) (slice_get-get_or (commands_of w.runs r) k no_command within))
 
 -- .. and none was
-not_down : (xs : List Answer) (k : ℕ) → list_all is_told xs ≡ true → unwrap_or (option_map (same_answer Down) (slice_get xs k)) false ≡ false
+not_down : (xs : List Answer) (k : ℕ) → list_all (λ a. not (same_answer Down a)) xs ≡ true → unwrap_or (option_map (same_answer Down) (slice_get xs k)) false ≡ false
 not_down [] k all = refl
 not_down (Fine ∷ xs) zero all = refl
 not_down (Found x ∷ xs) zero all = refl
+not_down (Skipped ∷ xs) zero all = refl
 not_down (Down ∷ xs) zero all = absurd (cc)
 not_down (Fine ∷ xs) (suc k) all = not_down xs k all
 not_down (Found x ∷ xs) (suc k) all = not_down xs k all
+not_down (Skipped ∷ xs) (suc k) all = not_down xs k all
 not_down (Down ∷ xs) (suc k) all = absurd (cc)
 
 -- no failure stands in a run's span
@@ -220,6 +224,7 @@ entry_calm w n (Arrived r m) up homed p ok clean shown kept none = refl
 entry_calm w n (Placed r at m) up homed p ok clean shown kept none = refl
 entry_calm w n (Did r c Fine) up homed p ok clean shown kept none = refl
 entry_calm w n (Did r c (Found x)) up homed p ok clean shown kept none = refl
+entry_calm w n (Did r c Skipped) up homed p ok clean shown kept none = refl
 entry_calm w n (Did r c Down) up homed p ok clean shown kept none = absurd (both_ways _ (answers_calm w n r.0 c up homed p (grind (arith, common_steps))) clean)
 entry_calm w n (Undid r d drove) up homed p ok clean shown kept none = refl
 entry_calm w n (Fell d) up homed p ok clean shown kept none = absurd (both_ways (d.0 == d.0) (none d.0 (grind (arith, common_steps))) (eq-eqb d.0 _ refl))
@@ -295,6 +300,7 @@ is_plain s rounds opened held kept first =
     told n (Placed r at m) clean = refl
     told n (Did r c Fine) clean = refl
     told n (Did r c (Found x)) clean = refl
+    told n (Did r c Skipped) clean = refl
     told n (Did r c Down) clean = clean
     told n (Undid r d drove) clean = refl
     told n (Fell d) clean = refl

@@ -12,6 +12,7 @@ use Rattle.history_book.specs.declared.entries.Cause.{Cause}
 use Rattle.history_book.specs.declared.entries.End.{End}
 use Rattle.history_book.specs.declared.entries.End.TheVariants.{Committed}
 use Rattle.history_book.specs.declared.entries.Entry.TheVariants.{Arrived, Doomed, Ended, Undid}
+use Rattle.home_types.specs.Commands.{holds}
 use Rattle.home_types.specs.declared.commands.Command.{Command}
 use Rattle.home_types.specs.declared.items.Item.{Item}
 use Rattle.home_types.specs.declared.items.Item.TheVariants.{Back, Failed, Ran}
@@ -21,12 +22,13 @@ use Rattle.home_types.specs.declared.numbers.RunNo.{RunNo}
 use Rattle.hub_core.proofs.kept.Finds.{find_least, none_does, none_found, not_none}
 use Rattle.hub_core.proofs.kept.Sizes.{run_there, run_within}
 use Rattle.hub_core.proofs.windows.StrongChoices.{command_current, live_stands}
+use Rattle.hub_core.proofs.steps.Causes.{never_strict}
 use Rattle.hub_core.proofs.steps.Choices.{by_map, by_test}
 use Rattle.hub_core.proofs.steps.Takes.{live_run}
-use Rattle.hub_core.specs.Decisions.{strong_command, unbarred_command}
+use Rattle.hub_core.specs.Decisions.{skipped_command, strong_command, unbarred_command}
 use Rattle.hub_core.specs.BlockedRuns.{is_wait}
 use Rattle.hub_core.specs.HubKept.{ConfigurationIsKept}
-use Rattle.hub_core.specs.Steps.{Absent, Choice, HandsOut, Moves, Over, Waits, aborts, answers_down, busy_case, choice_of, command_cases, decide, decide_answered, decide_arrived, decide_command, decide_doomed, down_case, down_entries, first_case, only_if, place_choice, undo_cases, undo_on}
+use Rattle.hub_core.specs.Steps.{Absent, Choice, HandsOut, Moves, Over, Waits, aborts, answers_down, busy_case, choice_of, command_cases, decide, decide_answered, decide_arrived, decide_command, decide_doomed, down_case, down_entries, first_case, only_if, place_choice, skip_entries, undo_cases, undo_on}
 use Rattle.hub_core.specs.declared.waits.Why.TheVariants.{Behind, Busy, Dirty, Follow, Strict}
 use Rattle.lock_leasing.proofs.FirstRuns.{first_live, waits_for_none}
 use Rattle.lock_leasing.specs.Configurations.{Commands, Configuration, Grips, Undoes, has_grip, is_out, read_of}
@@ -161,11 +163,17 @@ doomed_goes w n g r cause home = by_model (is_weak w.mode)
 
 -- .. and the next command is answered, or its device goes out, in a model with an order where the run stands behind no live run
 command_goes : (w : Setting) (n : Reading) (g : Grips) (r m k : ℕ) (c : Command) → (is_weak w.mode ≡ false → live_before n r ≡ []) → ((d : ℕ) → g d ≡ None) → is_wait (decide_command w n g r m k c) ≡ false
-command_goes w n g r m k c first home = elim (is_weak w.mode) as (λ b. is_weak w.mode ≡ b → is_wait (first_case (command_cases b w n g r m k c) (HandsOut c.device.0 (Commands k))) ≡ false) [
-  | true ↦ (λ weak. unbarred)
-  | false ↦ (λ strong. in_front (first strong))
-] refl
+command_goes w n g r m k c first home = elim (holds c.when (n.run r).register) as (λ b. is_wait (if b then first_case (command_cases (is_weak w.mode) w n g r m k c) (HandsOut c.device.0 (Commands k)) else skipped_command w n r k) ≡ false) [
+  | true ↦ done
+  | false ↦ ap (λ o. is_wait (first_case (option_map (λ x. Waits (Strict (run_no x))) o ∷ []) (Moves (skip_entries r k)))) unheld
+]
   where
+    unheld : strict_wait w n r ≡ None
+    unheld = elim (is_weak w.mode) as (λ b. is_weak w.mode ≡ b → strict_wait w n r ≡ None) [
+      | true ↦ (λ weak. never_strict w n r weak)
+      | false ↦ (λ strong. (waits_for_none w n g r (first strong)).strict)
+    ] refl
+
     answers : (b : Bool) → is_wait (unwrap_or (only_if b (Moves (down_entries r k c))) (HandsOut c.device.0 (Commands k))) ≡ false
     answers true = refl
     answers false = refl
@@ -184,6 +192,12 @@ command_goes w n g r m k c first home = elim (is_weak w.mode) as (λ b. is_weak 
         ap is_wait (command_current w n g r m k c (ap (find (is_overdue w n g r c.device.0 m)) none))
         ∙ (λ i. is_wait (first_case (option_map (λ x. Waits (Behind c.device (run_no x))) (behind' i) ∷ option_map (λ x. Waits (Dirty c.device (run_no x))) (clean i) ∷ option_map (λ x. Waits (Strict (run_no x))) (free i) ∷ busy_case w n g r c ∷ down_case w n r k c ∷ []) (HandsOut c.device.0 (Commands k))))
         ∙ unbarred
+
+    done : is_wait (first_case (command_cases (is_weak w.mode) w n g r m k c) (HandsOut c.device.0 (Commands k))) ≡ false
+    done = elim (is_weak w.mode) as (λ b. is_weak w.mode ≡ b → is_wait (first_case (command_cases b w n g r m k c) (HandsOut c.device.0 (Commands k))) ≡ false) [
+      | true ↦ (λ weak. unbarred)
+      | false ↦ (λ strong. in_front (first strong))
+    ] refl
 
 -- with its devices home a run goes on: it arrives; it is placed, where it waits for no run that it follows and is denied no device; or, in a model with an order where it stands behind no live run, it acts
 pub run_goes : (w : Setting) (n : Reading) (g : Grips) (r m : ℕ) → ((d : ℕ) → g d ≡ None) → (is_none (n.run r).placed ≡ true → (follow_wait w n r ≡ None) × (is_wait (place_choice r m (scheduled_place w n g r m)) ≡ false)) → (is_none (n.run r).placed ≡ false → is_weak w.mode ≡ false → live_before n r ≡ [])

@@ -13,6 +13,7 @@ use Rattle.history_book.specs.declared.entries.Cause.{Cause}
 use Rattle.history_book.specs.declared.entries.Cause.TheVariants.{Revoked}
 use Rattle.history_book.specs.declared.entries.End.{End}
 use Rattle.history_book.specs.declared.entries.Entry.TheVariants.{Doomed}
+use Rattle.home_types.specs.Commands.{holds}
 use Rattle.home_types.specs.Kinds.{kind_at}
 use Rattle.home_types.specs.declared.commands.Command.{Command}
 use Rattle.home_types.specs.declared.items.Item.{Item}
@@ -21,7 +22,7 @@ use Rattle.home_types.specs.declared.modes.Scheduler.TheVariants.{Fcfs}
 use Rattle.hub_core.proofs.steps.Causes.{each_is}
 use Rattle.hub_core.specs.HubKept.{ConfigurationIsKept, is_later, placed_in_order}
 use Rattle.hub_core.specs.Openings.{names_values_of}
-use Rattle.hub_core.specs.Decisions.{current_command, strong_command, strong_doomed}
+use Rattle.hub_core.specs.Decisions.{current_command, skipped_command, strong_command, strong_doomed}
 use Rattle.hub_core.specs.Steps.{HandsOut, Moves, aborts, command_cases, decide_command, decide_doomed, first_case, undo_cases}
 use Rattle.lock_leasing.specs.Configurations.{Commands, Configuration, Grips, read_of}
 use Rattle.lock_leasing.specs.Leases.{NeverOverdue}
@@ -99,9 +100,13 @@ pub take_all : (line : List Item) → length (take (length line) line) ≡ lengt
 take_all [] = refl
 take_all (i ∷ is) = ap suc (take_all is)
 
--- the next command in a model with an order
-pub command_is : (w : Setting) (n : Reading) (g : Grips) (r m k : ℕ) (c : Command) → is_weak w.mode ≡ false → decide_command w n g r m k c ≡ strong_command w n g r m k c
-command_is w n g r m k c strong = ap (λ b. first_case (command_cases b w n g r m k c) (HandsOut c.device.0 (Commands k))) strong
+-- the next command in a model with an order, where its guard holds, ..
+pub command_is : (w : Setting) (n : Reading) (g : Grips) (r m k : ℕ) (c : Command) → is_weak w.mode ≡ false → holds c.when (n.run r).register ≡ true → decide_command w n g r m k c ≡ strong_command w n g r m k c
+command_is w n g r m k c strong guard = (λ i. if guard i then first_case (command_cases (strong i) w n g r m k c) (HandsOut c.device.0 (Commands k)) else skipped_command w n r k)
+
+-- .. or not
+pub skip_is : (w : Setting) (n : Reading) (g : Grips) (r m k : ℕ) (c : Command) → holds c.when (n.run r).register ≡ false → decide_command w n g r m k c ≡ skipped_command w n r k
+skip_is w n g r m k c guard = ap (λ b. if b then first_case (command_cases (is_weak w.mode) w n g r m k c) (HandsOut c.device.0 (Commands k)) else skipped_command w n r k) guard
 
 -- .. where no lease on its device is overdue
 pub command_current : (w : Setting) (n : Reading) (g : Grips) (r m k : ℕ) (c : Command) → overdue_for w n g r c.device.0 m ≡ None → strong_command w n g r m k c ≡ current_command w n g r k c

@@ -1,7 +1,7 @@
-use Rattle.command_rules.proofs.FirstUses.{uses_none, uses_read, uses_write}
+use Rattle.command_rules.proofs.FirstUses.{uses_guarded_write, uses_none, uses_read, uses_write}
 use Rattle.command_rules.proofs.FootprintBits.{covers_none, low_device, passed_known, passed_new}
 use Rattle.command_rules.proofs.indexed_rosters.footprint_of.Goals as goal
-use Rattle.command_rules.proofs.indexed_rosters.footprint_of.Goals.{else-not-has, else-reads, then-not-has, then-reads}
+use Rattle.command_rules.proofs.indexed_rosters.footprint_of.Goals.{else-is_always, else-not-has, else-reads, then-is_always, then-not-has, then-reads}
 use Rattle.std.proofs.Common.{arith, refl, sym, ◌∙◌}
 use Rattle.std.proofs.lemmas.Nat.{one_shl}
 use Rattle.std.specs.Prelude.{length, ◌-◌, ◌<◌}
@@ -24,6 +24,9 @@ commands-preserved c =
       ],
       elim c.if-reads.branch [
         | then-reads w ↦ rw (w.first_reads-is, w.add.ensures, w.written-is) (uses_read c.args.commands.now c.commands.passed _ c.commands-test.true c.commands.first_reads c.commands.written c.commands.invariant.2 (sym c.reads.ensures ∙ w.if-reads.true))
-        | else-reads w ↦ rw (w.first_reads-is, w.remove.ensures, w.written-is, w.add-else-reads.ensures) (uses_write c.args.commands.now c.commands.passed _ c.commands-test.true c.commands.first_reads c.commands.written c.commands.invariant.2 (sym c.reads.ensures ∙ w.if-reads.false))
+        | else-reads w ↦ elim w.if-is_always.branch [
+          | then-is_always v ↦ rw (w.first_reads-is, v.first_reads-is, v.remove.ensures, w.written-is, w.add-else-reads.ensures) (uses_write c.args.commands.now c.commands.passed _ c.commands-test.true c.commands.first_reads c.commands.written c.commands.invariant.2 (sym c.reads.ensures ∙ w.if-reads.false) (sym w.is_always.ensures ∙ v.if-is_always.true))
+          | else-is_always v ↦ rw (w.first_reads-is, v.first_reads-is, w.written-is, w.add-else-reads.ensures) (uses_guarded_write c.args.commands.now c.commands.passed _ c.commands-test.true c.commands.first_reads c.commands.written c.commands.invariant.2 (sym c.reads.ensures ∙ w.if-reads.false) (sym w.is_always.ensures ∙ v.if-is_always.false))
+        ]
       ],
     )

@@ -1,5 +1,5 @@
 use Rattle.device_order.proofs.window_laws.commands_keep_window.Goals as goal
-use Rattle.device_order.proofs.WindowAnswers.{access_died, down_answered, read_answered, write_answered}
+use Rattle.device_order.proofs.WindowAnswers.{access_died, down_answered, read_answered, skip_answered, write_answered}
 use Rattle.device_order.proofs.WindowGrips.{command_out}
 
 pub returns-clause-out : goal.returns-clause-out
@@ -16,3 +16,6 @@ returns-clause-died c = access_died
 
 pub returns-clause-down : goal.returns-clause-down
 returns-clause-down c = down_answered
+
+pub returns-clause-skipped : goal.returns-clause-skipped
+returns-clause-skipped c = skip_answered

@@ -1,8 +1,8 @@
 use Rattle.routine_reader.proofs.GivenLemmas.{kept-last, known-middle}
 use Rattle.routine_reader.proofs.commands.given_members.Goals as goal
+use Rattle.routine_reader.specs.Commands.{command_form}
 use Rattle.routine_reader.specs.Forms.{knows, names_of}
 use Rattle.routine_reader.specs.GivenMembers.{with_member}
-use Rattle.routine_reader.specs.declared.forms.Form.TheVariants.{Command}
 use Rattle.serde_json.proofs.Views.{Entry}
 use Rattle.serde_json.specs.View.{members_view, view}
 use Rattle.std.proofs.Common.{[], ap, append_assoc, false, rules, string_bytes, string_cmp, subst, sym, true, ◌&&◌, ◌++◌, ◌∙◌, ◌≡◌, ◌∷◌}
@@ -16,8 +16,8 @@ returns-then-not-keep-clause-known c =
     let e : Entry = (c.in-Some.name.now, c.in-Some.value.now) in
     let left = c.next.new.self in
     let all : c.args.members.now.entries ≡ done ++ e ∷ left = c.members.invariant.1 ∙ ap (λ es. done ++ es) c.in-Some.ensures.steps in
-    let unknown : false ≡ knows Command (string_bytes e.0) = search rules in
-    rw all (sym (known-middle Command done e left c.members.invariant.2 ∙ ap (λ b. b && list_all (knows Command) (names_of (members_view left))) (sym unknown)))
+    let unknown : false ≡ knows (command_form c.args.version) (string_bytes e.0) = search rules in
+    rw all (sym (known-middle (command_form c.args.version) done e left c.members.invariant.2 ∙ ap (λ b. b && list_all (knows (command_form c.args.version)) (names_of (members_view left))) (sym unknown)))
 
 pub members-preserved : goal.members-preserved
 members-preserved c =
@@ -26,9 +26,9 @@ members-preserved c =
     let left = c.next.new.self in
     let all : c.args.members.now.entries ≡ done ++ e ∷ left = c.members.invariant.1 ∙ ap (λ es. done ++ es) c.in-Some.ensures.steps in
     let ordered : IsStrictlySortedBy string_cmp (keys_of (done ++ e ∷ left)) = subst (λ es. IsStrictlySortedBy string_cmp (keys_of es)) all c.iter-name-items.ensures.ordered in
-    let known : knows Command (string_bytes e.0) ≡ true = search rules in (
+    let known : knows (command_form c.args.version) (string_bytes e.0) ≡ true = search rules in (
       done ++ e ∷ [],
       all ∙ sym (append_assoc done (e ∷ []) left),
-      known-middle Command done e [] c.members.invariant.2 ∙ ap (λ b. b && true) known,
-      search rules ∙ ap (with_member (string_bytes e.0) (view e.1)) c.members.invariant.3 ∙ kept-last done e left ordered known,
+      known-middle (command_form c.args.version) done e [] c.members.invariant.2 ∙ ap (λ b. b && true) known,
+      search rules ∙ ap (with_member (string_bytes e.0) (view e.1)) c.members.invariant.3 ∙ kept-last c.args.version done e left ordered known,
     )

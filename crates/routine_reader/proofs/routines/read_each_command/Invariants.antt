@@ -9,7 +9,7 @@ abbrev pub invariant-values : goal.invariant-values
 invariant-values l =
     record {
       walk :
-          read_each (next_command (map plain_device l.devices.texts.items) l.routine) [] (map view l.values)
-          ≡ read_each (next_command (map plain_device l.devices.texts.items) l.routine) l.commands.items (map view (drop l.value-index l.values));
+          read_each (next_command l.version (map plain_device l.devices.texts.items) l.routine) [] (map view l.values)
+          ≡ read_each (next_command l.version (map plain_device l.devices.texts.items) l.routine) l.commands.items (map view (drop l.value-index l.values));
       count : length l.commands.items ≡ l.value-index;
     }

@@ -9,8 +9,8 @@ abbrev pub invariant-values : goal.invariant-values
 invariant-values l =
     record {
       walk :
-          read_each (next_routine (map plain_device l.devices.texts.items)) [] (map view l.values)
-          ≡ read_each (next_routine (map plain_device l.devices.texts.items)) (map plain_routine l.texts.items) (map view (drop l.value-index l.values));
+          read_each (next_routine l.version (map plain_device l.devices.texts.items)) [] (map view l.values)
+          ≡ read_each (next_routine l.version (map plain_device l.devices.texts.items)) (map plain_routine l.texts.items) (map view (drop l.value-index l.values));
       names : l.names ≡ routine_names (map plain_routine l.texts.items);
       count : length l.texts.items ≡ l.value-index;
     }

@@ -8,7 +8,7 @@ use Rattle.hub_core.specs.HubCalls.{IsOpened}
 use Rattle.hub_core.specs.HubsKept.{HandsAre, HasRoomLeft, HubIsKept}
 use Rattle.hub_core.specs.KeptOrders.{OrderIsBeside}
 use Rattle.hub_core.specs.OpenHubs.{OpenHub, configuration_of}
-use Rattle.std.proofs.Common.{ap, arith, length, subst, sym, ◌∙◌, ◌≤◌}
+use Rattle.std.proofs.Common.{arith, length, subst, sym, ◌≤◌}
 
 pub room-requires-clause-runs : goal.room-requires-clause-runs
 room-requires-clause-runs g c = index_fits (setting_for c.args.self c.args.roster c.args.mode) c.args.rounds c.args.self.opened c.requires.may

@@ -34,6 +34,7 @@ note_answer-requires g c =
     let after = (after_death c.self.inside c.args.k _ c.args.grip c.slip-slip.result c.is_first-first.result c.died_by-cause.result c.note_fall-fell.new.history c.note_fall-fell.new.order.table (grip_back c.self.inside c.args.self.now (ForCommand c.args.k) _ c.args.grip c.self.view_is c.requires.kept c.requires.maker c.requires.purpose c.take_home-held.ensures.called) c.slip-slip.ensures c.requires.died c.is_first-first.ensures c.died_by-cause.ensures c.note_fall-fell.ensures.history c.note_fall-fell.ensures.order.counted c.self.invariant) in
     let last = just_answered c.note_fall-fell.new.history c.answer-entry.new.self c.slip-slip.result.maker c.slip-slip.result.maker c.args.k c.slip-slip.result.device.0 c.answer-entry.result Down after.run after.next after.there after.on refl c.answer-entry.ensures.entry c.answer-entry.ensures.new in
     record {
+      access = refl;
       told = λ strong. record {
         run = last.run;
         there = last.there;

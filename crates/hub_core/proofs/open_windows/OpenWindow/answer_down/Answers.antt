@@ -37,6 +37,7 @@ note_answer-requires g c =
     let may = may_tell_down c.self.inside c.args.r.0 c.args.moment c.args.k c.args.must (chosen_here c.self.inside c.args.self.now c.args.r.0 c.args.moment (AnswersDown c.args.k c.args.must) c.self.view_is c.requires) c.self.invariant in
     let last = just_answered c.self.inside.history c.answer-entry.new.self c.args.r.0 c.args.r.0 c.args.k c.command.result.device.0 c.answer-entry.result Down may.run may.number may.within (ap (λ x. x.device.0) (sym c.command.ensures)) refl c.answer-entry.ensures.entry c.answer-entry.ensures.new in
     record {
+      access = refl;
       told = λ strong. record {
         run = last.run;
         there = last.there;

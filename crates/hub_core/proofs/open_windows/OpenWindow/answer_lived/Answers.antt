@@ -1,8 +1,9 @@
 use Rattle.command_rules.specs.Rosters.{is_run}
 use Rattle.history_book.specs.Settings.{is_weak}
-use Rattle.history_book.specs.Readings.{next_of}
+use Rattle.history_book.specs.Readings.{is_access, next_of}
 use Rattle.hub_core.proofs.calls.HubChanges.{answer_entries}
 use Rattle.hub_core.proofs.calls.HubReturns.{CameHome, answer_made, answered_back, back_given, back_place, command_back, doom_place, grip_back, hand_back, lived_events}
+use Rattle.hub_core.proofs.steps.Gives.{told_access}
 use Rattle.hub_core.proofs.steps.LastAnswers.{just_answered}
 use Rattle.hub_core.proofs.calls.ReturnedOrders.{answered_whole, may_tell}
 use Rattle.hub_core.proofs.calls.PackedEntries.{two_packed}
@@ -39,6 +40,7 @@ note_answer-requires g c =
     let last = just_answered c.self.inside.history c.answer-entry.new.self c.args.grip.slip.maker c.slip-slip.result.maker c.args.k c.slip-slip.result.device.0 c.answer-entry.result c.answer_told-answer.result command.run command.next command.within (command.on ∙ ap (λ s. s.device.0) (sym c.slip-slip.ensures)) (ap (λ s. s.maker) c.slip-slip.ensures) c.answer-entry.ensures.entry c.answer-entry.ensures.new in
     let tells = may_tell c.self.inside c.args.k _ c.args.grip c.slip-slip.result (grip_back c.self.inside c.args.self.now (ForCommand c.args.k) _ c.args.grip c.self.view_is c.requires.kept c.requires.maker c.requires.purpose c.take_home-told.ensures.called) c.slip-slip.ensures c.self.invariant in
     record {
+      access = ap is_access c.answer_told-answer.ensures ∙ told_access c.take_home-told.result.told;
       told = λ strong. record {
         run = last.run;
         there = last.there;

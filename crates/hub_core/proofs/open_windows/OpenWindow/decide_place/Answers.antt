@@ -4,7 +4,6 @@ use Rattle.hub_core.proofs.calls.HubOrders.{standing_fits}
 use Rattle.hub_core.proofs.calls.Placings.{holds_gap, placed_between, timed_place}
 use Rattle.hub_core.proofs.open_windows.OpenWindow.decide_place.Goals as goal
 use Rattle.hub_core.specs.OpenHubs.{OpenHub, configuration_of}
-use Rattle.lock_leasing.specs.Configurations.{read_of}
 use Rattle.std.proofs.Common.{ap, sym, ◌∙◌}
 use Rattle.timeline_scheduler.specs.Placings.{Planning}
 

@@ -11,7 +11,7 @@ use Rattle.serial_line.specs.Marks.{Mark, items_of, stands, with_item}
 use Rattle.home_types.specs.declared.items.Item.TheVariants.{Ran}
 use Rattle.lineage_table.specs.Lineages.{LineageState}
 use Rattle.std.proofs.Common.{ap, arith, drop, false, length, subst, subst₂, sym, ◌∙◌}
-use Rattle.std.specs.Prelude.{List, ◌≡◌}
+use Rattle.std.specs.Prelude.{List}
 use Rattle.window_order.specs.TableChanges.{ChangesEach}
 
 pub arrange-requires-clause-flags : goal.arrange-requires-clause-flags

@@ -1,6 +1,7 @@
 use Rattle.command_rules.specs.Rosters.{runs_of}
 use Rattle.std.proofs.Common.{ap, arith, false, length, refl, slice_index_or, sym, ◌∙◌}
 use Rattle.home_types.specs.declared.commands.Command.{Command}
+use Rattle.home_types.specs.declared.commands.Guard.TheVariants.{Always}
 use Rattle.home_types.specs.declared.commands.Job.TheVariants.{Set}
 use Rattle.timeline_scheduler.proofs.HeldTimes.{command_told, command_within, planned_all, planned_next, planned_none}
 use Rattle.timeline_scheduler.proofs.slots.Slots.plan.Goals as goal
@@ -9,7 +10,7 @@ use Rattle.timeline_scheduler.specs.Slots.{plan_behind, slot_at}
 
 -- what is told of a place that is none
 abbrev none_there : Command
-none_there = record { device = record { 0 = 0 }; job = Set 0; must = false; ms = 0; takes = 0 }
+none_there = record { device = record { 0 = 0 }; job = Set 0; when = Always; must = false; ms = 0; takes = 0 }
 
 pub commands-init : goal.commands-init
 commands-init c = (planned_none c.self.inside.slots.items c.commands-commands.result.now c.args.moment (λ d. ap (λ xs. (slot_at xs d).planned) c.self.view_is ∙ c.requires.none d), refl)

@@ -1,0 +1,47 @@
+-- The window doomed-before-its-skip: a doomed run skips nothing more: what it would have skipped is free at once, and it is undone.
+use Rattle.worked_windows.proofs.Words.{Aborted, Absent, Always, Arrived, At, Behind, Busy, Check, Commands, Committed, Did, Doomed, Ended, Entry, Eventual, Fcfs, Fine, Found, HandsOut, Is, IsWorked, List, Moves, None, Over, Placed, Ran, Refuted, Sensed, Set, Setting, Some, Table, Undid, Undoes, Waits, Worked, [], device_no, give, held, home_of_four, more, no_grips, refl, row, run_no, slice_set, split_at, split_of, still, true, ◌∷◌}
+
+abbrev pub window : Setting
+window = record home_of_four {
+  runs = record { commands = record { device = device_no 3; job = Set 20; when = Always; must = true; ms = 100; takes = 100 } ∷ record { device = device_no 1; job = Check 1; when = Always; must = true; ms = 100; takes = 100 } ∷ record { device = device_no 2; job = Set 1; when = Is 5; must = true; ms = 100; takes = 100 } ∷ []; follows = None }
+      ∷ record { commands = record { device = device_no 2; job = Set 1; when = Always; must = true; ms = 100; takes = 100 } ∷ record { device = device_no 3; job = Set 25; when = Always; must = true; ms = 100; takes = 100 } ∷ []; follows = None } ∷ [];
+  mode = record { model = Eventual; scheduler = Fcfs };
+}
+
+abbrev pub history : List Entry
+history = Arrived (run_no 1) 0 ∷ Placed (run_no 1) 0 0 ∷ Arrived (run_no 2) 0 ∷ Placed (run_no 2) 1 0 ∷ Did (run_no 1) 0 Fine
+    ∷ Did (run_no 1) 1 (Found 0) ∷ Doomed (run_no 1) (Refuted 1 0) ∷ Did (run_no 2) 0 Fine ∷ Undid (run_no 1) (device_no 3) true ∷ Ended (run_no 1) (Aborted (Refuted 1 0))
+    ∷ Did (run_no 2) 1 Fine ∷ Ended (run_no 2) Committed ∷ []
+
+abbrev pub table : Table
+table = record {
+  first = record { line = []; up = true ∷ true ∷ true ∷ true ∷ []; writers = None ∷ None ∷ None ∷ None ∷ []; values = 0 ∷ 0 ∷ 0 ∷ 18 ∷ []; holders = [] ∷ [] ∷ [] ∷ [] ∷ []; touched = [] ∷ [] ∷ [] ∷ [] ∷ []; first_places = []; places = []; overdue = []; starts = []; ends = []; whole_ends = []; choices = Absent ∷ Moves (Arrived (run_no 1) 0 ∷ []) ∷ Moves (Arrived (run_no 2) 0 ∷ []) ∷ [] };
+  rows = still 0 no_grips 0
+      ∷ row 1 no_grips 0 (λ p. record p { first_places = 0 ∷ []; places = At (split_at [] 0) ∷ []; choices = slice_set p.choices 1 (Moves (Placed (run_no 1) 0 0 ∷ [])) })
+      ∷ row 2 no_grips 0 (λ p. record p { line = Ran (run_no 1) ∷ []; holders = [] ∷ (1 ∷ []) ∷ (1 ∷ []) ∷ (1 ∷ []) ∷ []; first_places = []; places = []; overdue = (None ∷ None ∷ None ∷ None ∷ []) ∷ []; starts = (100 ∷ 200 ∷ 0 ∷ []) ∷ []; ends = (200 ∷ 300 ∷ 100 ∷ []) ∷ []; whole_ends = 300 ∷ []; choices = slice_set p.choices 1 (HandsOut 3 (Commands 0)) })
+      ∷ row 3 no_grips 0 (λ p. record p { first_places = 0 ∷ []; places = At (split_at (Ran (run_no 1) ∷ []) 1) ∷ []; choices = slice_set p.choices 2 (Moves (Placed (run_no 2) 1 0 ∷ [])) })
+      ∷ row 4 no_grips 0 (λ p. record p { line = Ran (run_no 1) ∷ Ran (run_no 2) ∷ []; holders = [] ∷ (1 ∷ []) ∷ (1 ∷ 2 ∷ []) ∷ (1 ∷ 2 ∷ []) ∷ []; first_places = []; places = []; overdue = more 0 (None ∷ None ∷ None ∷ None ∷ []) p.overdue; starts = (100 ∷ 200 ∷ 0 ∷ []) ∷ (0 ∷ 100 ∷ []) ∷ []; ends = more 1 (100 ∷ 200 ∷ []) p.ends; whole_ends = 300 ∷ 200 ∷ []; choices = slice_set p.choices 2 (Waits (Behind (device_no 2) (run_no 1))) })
+      ∷ row 4 (held 3 1 (Commands 0) no_grips) 0 (λ p. record p { touched = [] ∷ [] ∷ [] ∷ (1 ∷ []) ∷ []; choices = slice_set p.choices 1 (Waits (Busy (device_no 3))) })
+      ∷ row 5 no_grips 100 (λ p. record p { writers = None ∷ None ∷ None ∷ Some 1 ∷ []; values = 0 ∷ 0 ∷ 0 ∷ 20 ∷ []; holders = [] ∷ (1 ∷ []) ∷ (1 ∷ 2 ∷ []) ∷ (2 ∷ []) ∷ []; choices = slice_set p.choices 1 (HandsOut 1 (Commands 1)) })
+      ∷ row 5 (held 1 1 (Commands 1) no_grips) 100 (λ p. record p { touched = [] ∷ (1 ∷ []) ∷ [] ∷ (1 ∷ []) ∷ []; choices = slice_set p.choices 1 (Waits (Busy (device_no 1))) })
+      ∷ row 7 no_grips 200 (λ p. record p { holders = [] ∷ [] ∷ (2 ∷ []) ∷ (1 ∷ 2 ∷ []) ∷ []; choices = Absent ∷ HandsOut 3 (Undoes 18) ∷ HandsOut 2 (Commands 0) ∷ [] })
+      ∷ row 7 (held 2 2 (Commands 0) no_grips) 200 (λ p. record p { touched = [] ∷ (1 ∷ []) ∷ (2 ∷ []) ∷ (1 ∷ []) ∷ []; choices = slice_set p.choices 2 (Waits (Busy (device_no 2))) })
+      ∷ row 8 no_grips 300 (λ p. record p { writers = None ∷ None ∷ Some 2 ∷ Some 1 ∷ []; values = 0 ∷ 0 ∷ 1 ∷ 20 ∷ []; holders = [] ∷ [] ∷ [] ∷ (1 ∷ 2 ∷ []) ∷ []; choices = slice_set p.choices 2 (Waits (Behind (device_no 3) (run_no 1))) })
+      ∷ row 8 (held 3 1 (Undoes 18) no_grips) 300 (λ p. record p { writers = None ∷ None ∷ Some 2 ∷ None ∷ []; values = 0 ∷ 0 ∷ 1 ∷ 18 ∷ []; holders = [] ∷ [] ∷ [] ∷ (2 ∷ []) ∷ []; choices = Absent ∷ Waits (Busy (device_no 3)) ∷ Waits (Busy (device_no 3)) ∷ [] })
+      ∷ row 9 no_grips 300 (λ p. record p { choices = Absent ∷ Over (Aborted (Refuted 1 0)) (Ended (run_no 1) (Aborted (Refuted 1 0)) ∷ []) ∷ HandsOut 3 (Commands 1) ∷ [] })
+      ∷ row 10 no_grips 300 (λ p. record p { line = Ran (run_no 2) ∷ []; overdue = (None ∷ None ∷ None ∷ None ∷ []) ∷ []; starts = (0 ∷ 100 ∷ []) ∷ []; ends = (100 ∷ 200 ∷ []) ∷ []; whole_ends = 200 ∷ []; choices = slice_set p.choices 1 (Over (Aborted (Refuted 1 0)) []) })
+      ∷ row 10 (held 3 2 (Commands 1) no_grips) 300 (λ p. record p { touched = [] ∷ (1 ∷ []) ∷ (2 ∷ []) ∷ (1 ∷ 2 ∷ []) ∷ []; choices = slice_set p.choices 2 (Waits (Busy (device_no 3))) })
+      ∷ row 11 no_grips 400 (λ p. record p { writers = None ∷ None ∷ Some 2 ∷ Some 2 ∷ []; values = 0 ∷ 0 ∷ 1 ∷ 25 ∷ []; holders = [] ∷ [] ∷ [] ∷ [] ∷ []; choices = slice_set p.choices 2 (Over Committed (Ended (run_no 2) Committed ∷ [])) })
+      ∷ row 12 no_grips 400 (λ p. record p { overdue = []; starts = []; ends = []; whole_ends = []; choices = slice_set p.choices 2 (Over Committed []) }) ∷ [];
+  gives = give 4 3 1 (Commands 0) Worked (Did (run_no 1) 0 Fine ∷ [])
+      ∷ give 5 1 1 (Commands 1) (Sensed 0) (Did (run_no 1) 1 (Found 0) ∷ Doomed (run_no 1) (Refuted 1 0) ∷ [])
+      ∷ give 7 2 2 (Commands 0) Worked (Did (run_no 2) 0 Fine ∷ [])
+      ∷ give 8 3 1 (Undoes 18) Worked (Undid (run_no 1) (device_no 3) true ∷ [])
+      ∷ give 10 3 2 (Commands 1) Worked (Did (run_no 2) 1 Fine ∷ []) ∷ [];
+  calls = 0 ∷ 1 ∷ 1 ∷ 3 ∷ [];
+  outcome = record { order = Ran (run_no 2) ∷ []; home = record { value = 0; up = true } ∷ record { value = 0; up = true } ∷ record { value = 1; up = true } ∷ record { value = 25; up = true } ∷ []; answers = record { run = run_no 2; answers = Fine ∷ Fine ∷ [] } ∷ [] };
+}
+
+is_worked : IsWorked window history table
+unfolding split_of
+is_worked = record { points = refl; clauses = refl; gives = refl; calls = refl; ended = refl; allowed = refl; order = refl; answers = refl }

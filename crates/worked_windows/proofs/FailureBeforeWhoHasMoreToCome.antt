@@ -1,0 +1,47 @@
+-- The window failure-before-who-has-more-to-come: a failure stands behind a run that has skipped all its commands there, and before one that has one to come.
+use Rattle.worked_windows.proofs.Words.{Absent, Always, Arrived, At, Busy, Commands, Committed, Did, Died, Down, Ended, Entry, Eventual, Failed, Fcfs, Fell, Fine, HandsOut, Is, IsWorked, List, Moves, None, Over, Placed, Probes, Ran, Set, Setting, Skipped, Some, Table, Waits, Worked, [], device_no, false, give, held, home_of_four, more, no_grips, refl, row, run_no, slice_set, split_at, split_of, still, true, ◌∷◌}
+
+abbrev pub window : Setting
+window = record home_of_four {
+  runs = record { commands = record { device = device_no 0; job = Set 1; when = Is 5; must = true; ms = 100; takes = 100 } ∷ record { device = device_no 3; job = Set 20; when = Always; must = true; ms = 100; takes = 100 } ∷ []; follows = None }
+      ∷ record { commands = record { device = device_no 0; job = Set 1; when = Is 5; must = true; ms = 100; takes = 100 } ∷ record { device = device_no 1; job = Set 1; when = Always; must = true; ms = 100; takes = 100 } ∷ record { device = device_no 0; job = Set 0; when = Always; must = false; ms = 100; takes = 100 } ∷ []; follows = None } ∷ [];
+  mode = record { model = Eventual; scheduler = Fcfs };
+}
+
+abbrev pub history : List Entry
+history = Arrived (run_no 1) 0 ∷ Placed (run_no 1) 0 0 ∷ Arrived (run_no 2) 0 ∷ Placed (run_no 2) 1 0 ∷ Did (run_no 1) 0 Skipped
+    ∷ Did (run_no 2) 0 Skipped ∷ Fell (device_no 0) ∷ Did (run_no 2) 1 Fine ∷ Did (run_no 1) 1 Fine ∷ Ended (run_no 1) Committed
+    ∷ Did (run_no 2) 2 Down ∷ Ended (run_no 2) Committed ∷ []
+
+abbrev pub table : Table
+table = record {
+  first = record { line = []; up = true ∷ true ∷ true ∷ true ∷ []; writers = None ∷ None ∷ None ∷ None ∷ []; values = 0 ∷ 0 ∷ 0 ∷ 18 ∷ []; holders = [] ∷ [] ∷ [] ∷ [] ∷ []; touched = [] ∷ [] ∷ [] ∷ [] ∷ []; first_places = []; places = []; overdue = []; starts = []; ends = []; whole_ends = []; choices = Absent ∷ Moves (Arrived (run_no 1) 0 ∷ []) ∷ Moves (Arrived (run_no 2) 0 ∷ []) ∷ [] };
+  rows = still 0 no_grips 0
+      ∷ row 1 no_grips 0 (λ p. record p { first_places = 0 ∷ []; places = At (split_at [] 0) ∷ []; choices = slice_set p.choices 1 (Moves (Placed (run_no 1) 0 0 ∷ [])) })
+      ∷ row 2 no_grips 0 (λ p. record p { line = Ran (run_no 1) ∷ []; holders = (1 ∷ []) ∷ [] ∷ [] ∷ (1 ∷ []) ∷ []; first_places = []; places = []; overdue = (None ∷ None ∷ None ∷ None ∷ []) ∷ []; starts = (0 ∷ 100 ∷ []) ∷ []; ends = (100 ∷ 200 ∷ []) ∷ []; whole_ends = 200 ∷ []; choices = slice_set p.choices 1 (Moves (Did (run_no 1) 0 Skipped ∷ [])) })
+      ∷ row 3 no_grips 0 (λ p. record p { first_places = 0 ∷ []; places = At (split_at (Ran (run_no 1) ∷ []) 1) ∷ []; choices = slice_set p.choices 2 (Moves (Placed (run_no 2) 1 0 ∷ [])) })
+      ∷ row 4 no_grips 0 (λ p. record p { line = Ran (run_no 1) ∷ Ran (run_no 2) ∷ []; holders = (1 ∷ 2 ∷ []) ∷ (2 ∷ []) ∷ [] ∷ (1 ∷ []) ∷ []; first_places = []; places = []; overdue = more 0 (None ∷ None ∷ None ∷ None ∷ []) p.overdue; starts = (0 ∷ 100 ∷ []) ∷ (0 ∷ 100 ∷ []) ∷ []; ends = (100 ∷ 200 ∷ []) ∷ (300 ∷ 200 ∷ []) ∷ []; whole_ends = 200 ∷ 300 ∷ []; choices = slice_set p.choices 2 (Moves (Did (run_no 2) 0 Skipped ∷ [])) })
+      ∷ row 5 no_grips 0 (λ p. record p { holders = (2 ∷ []) ∷ (2 ∷ []) ∷ [] ∷ (1 ∷ []) ∷ []; choices = slice_set p.choices 1 (HandsOut 3 (Commands 1)) })
+      ∷ row 6 no_grips 0 (λ p. record p { choices = slice_set p.choices 2 (HandsOut 1 (Commands 1)) })
+      ∷ still 6 (held 0 0 (Probes None) no_grips) 0
+      ∷ row 7 no_grips 0 (λ p. record p { line = more 1 (Failed (device_no 0) 1) p.line; up = false ∷ true ∷ true ∷ true ∷ [] })
+      ∷ row 7 (held 1 2 (Commands 1) no_grips) 0 (λ p. record p { touched = [] ∷ (2 ∷ []) ∷ [] ∷ [] ∷ []; choices = slice_set p.choices 2 (Waits (Busy (device_no 1))) })
+      ∷ row 8 no_grips 100 (λ p. record p { writers = None ∷ Some 2 ∷ None ∷ None ∷ []; values = 0 ∷ 1 ∷ 0 ∷ 18 ∷ []; holders = (2 ∷ []) ∷ [] ∷ [] ∷ (1 ∷ []) ∷ []; choices = slice_set p.choices 2 (Moves (Did (run_no 2) 2 Down ∷ [])) })
+      ∷ row 8 (held 3 1 (Commands 1) no_grips) 100 (λ p. record p { touched = [] ∷ (2 ∷ []) ∷ [] ∷ (1 ∷ []) ∷ []; choices = slice_set p.choices 1 (Waits (Busy (device_no 3))) })
+      ∷ row 9 no_grips 200 (λ p. record p { writers = None ∷ Some 2 ∷ None ∷ Some 1 ∷ []; values = 0 ∷ 1 ∷ 0 ∷ 20 ∷ []; holders = (2 ∷ []) ∷ [] ∷ [] ∷ [] ∷ []; choices = slice_set p.choices 1 (Over Committed (Ended (run_no 1) Committed ∷ [])) })
+      ∷ row 10 no_grips 200 (λ p. record p { overdue = (None ∷ None ∷ None ∷ None ∷ []) ∷ []; starts = (0 ∷ 100 ∷ []) ∷ []; ends = (300 ∷ 200 ∷ []) ∷ []; whole_ends = 300 ∷ []; choices = slice_set p.choices 1 (Over Committed []) })
+      ∷ row 11 no_grips 200 (λ p. record p { holders = [] ∷ [] ∷ [] ∷ [] ∷ []; touched = (2 ∷ []) ∷ (2 ∷ []) ∷ [] ∷ (1 ∷ []) ∷ []; choices = slice_set p.choices 2 (Over Committed (Ended (run_no 2) Committed ∷ [])) })
+      ∷ row 12 no_grips 200 (λ p. record p { overdue = []; starts = []; ends = []; whole_ends = []; choices = slice_set p.choices 2 (Over Committed []) })
+      ∷ still 12 (held 1 0 (Probes None) no_grips) 200 ∷ still 12 no_grips 200
+      ∷ still 12 (held 2 0 (Probes None) no_grips) 200 ∷ still 12 no_grips 200
+      ∷ still 12 (held 3 0 (Probes None) no_grips) 200 ∷ still 12 no_grips 200 ∷ [];
+  gives = give 6 0 0 (Probes None) Died (Fell (device_no 0) ∷ []) ∷ give 7 1 2 (Commands 1) Worked (Did (run_no 2) 1 Fine ∷ [])
+      ∷ give 8 3 1 (Commands 1) Worked (Did (run_no 1) 1 Fine ∷ []) ∷ give 12 1 0 (Probes None) Worked []
+      ∷ give 12 2 0 (Probes None) Worked [] ∷ give 12 3 0 (Probes None) Worked [] ∷ [];
+  calls = 0 ∷ 1 ∷ 0 ∷ 1 ∷ [];
+  outcome = record { order = Ran (run_no 1) ∷ Failed (device_no 0) 1 ∷ Ran (run_no 2) ∷ []; home = record { value = 0; up = false } ∷ record { value = 1; up = true } ∷ record { value = 0; up = true } ∷ record { value = 20; up = true } ∷ []; answers = record { run = run_no 1; answers = Skipped ∷ Fine ∷ [] } ∷ record { run = run_no 2; answers = Skipped ∷ Fine ∷ Down ∷ [] } ∷ [] };
+}
+
+is_worked : IsWorked window history table
+unfolding split_of
+is_worked = record { points = refl; clauses = refl; gives = refl; calls = refl; ended = refl; allowed = refl; order = refl; answers = refl }

@@ -1,0 +1,48 @@
+-- The window skip-behind-a-doomed-run: a run skips behind one that is doomed and whose write stands, and waits for it with its next command.
+use Rattle.worked_windows.proofs.Words.{Aborted, Absent, Always, Arrived, At, Behind, Busy, Check, Commands, Committed, Did, Doomed, Ended, Entry, Eventual, Fcfs, Fine, Found, HandsOut, Is, IsWorked, List, Moves, None, Over, Placed, Ran, Refuted, Sensed, Set, Setting, Skipped, Some, Table, Undid, Undoes, Waits, Worked, [], device_no, give, held, home_of_four, more, no_grips, refl, row, run_no, slice_set, split_at, split_of, still, true, ◌∷◌}
+
+abbrev pub window : Setting
+window = record home_of_four {
+  runs = record { commands = record { device = device_no 0; job = Set 1; when = Always; must = true; ms = 100; takes = 100 } ∷ record { device = device_no 1; job = Check 1; when = Always; must = true; ms = 100; takes = 100 } ∷ []; follows = None }
+      ∷ record { commands = record { device = device_no 0; job = Set 1; when = Is 5; must = true; ms = 100; takes = 100 } ∷ record { device = device_no 3; job = Set 20; when = Always; must = true; ms = 100; takes = 100 } ∷ record { device = device_no 0; job = Set 0; when = Always; must = true; ms = 100; takes = 100 } ∷ []; follows = None } ∷ [];
+  mode = record { model = Eventual; scheduler = Fcfs };
+}
+
+abbrev pub history : List Entry
+history = Arrived (run_no 1) 0 ∷ Placed (run_no 1) 0 0 ∷ Arrived (run_no 2) 0 ∷ Placed (run_no 2) 1 0 ∷ Did (run_no 1) 0 Fine
+    ∷ Did (run_no 1) 1 (Found 0) ∷ Doomed (run_no 1) (Refuted 1 0) ∷ Did (run_no 2) 0 Skipped ∷ Did (run_no 2) 1 Fine ∷ Undid (run_no 1) (device_no 0) true
+    ∷ Ended (run_no 1) (Aborted (Refuted 1 0)) ∷ Did (run_no 2) 2 Fine ∷ Ended (run_no 2) Committed ∷ []
+
+abbrev pub table : Table
+table = record {
+  first = record { line = []; up = true ∷ true ∷ true ∷ true ∷ []; writers = None ∷ None ∷ None ∷ None ∷ []; values = 0 ∷ 0 ∷ 0 ∷ 18 ∷ []; holders = [] ∷ [] ∷ [] ∷ [] ∷ []; touched = [] ∷ [] ∷ [] ∷ [] ∷ []; first_places = []; places = []; overdue = []; starts = []; ends = []; whole_ends = []; choices = Absent ∷ Moves (Arrived (run_no 1) 0 ∷ []) ∷ Moves (Arrived (run_no 2) 0 ∷ []) ∷ [] };
+  rows = still 0 no_grips 0
+      ∷ row 1 no_grips 0 (λ p. record p { first_places = 0 ∷ []; places = At (split_at [] 0) ∷ []; choices = slice_set p.choices 1 (Moves (Placed (run_no 1) 0 0 ∷ [])) })
+      ∷ row 2 no_grips 0 (λ p. record p { line = Ran (run_no 1) ∷ []; holders = (1 ∷ []) ∷ (1 ∷ []) ∷ [] ∷ [] ∷ []; first_places = []; places = []; overdue = (None ∷ None ∷ None ∷ None ∷ []) ∷ []; starts = (0 ∷ 100 ∷ []) ∷ []; ends = (100 ∷ 200 ∷ []) ∷ []; whole_ends = 200 ∷ []; choices = slice_set p.choices 1 (HandsOut 0 (Commands 0)) })
+      ∷ row 3 no_grips 0 (λ p. record p { first_places = 0 ∷ []; places = At (split_at (Ran (run_no 1) ∷ []) 1) ∷ []; choices = slice_set p.choices 2 (Moves (Placed (run_no 2) 1 0 ∷ [])) })
+      ∷ row 4 no_grips 0 (λ p. record p { line = Ran (run_no 1) ∷ Ran (run_no 2) ∷ []; holders = (1 ∷ 2 ∷ []) ∷ (1 ∷ []) ∷ [] ∷ (2 ∷ []) ∷ []; first_places = []; places = []; overdue = more 0 (None ∷ None ∷ None ∷ None ∷ []) p.overdue; starts = (0 ∷ 100 ∷ []) ∷ (0 ∷ 100 ∷ []) ∷ []; ends = (100 ∷ 200 ∷ []) ∷ (300 ∷ 200 ∷ []) ∷ []; whole_ends = 200 ∷ 300 ∷ []; choices = slice_set p.choices 2 (Moves (Did (run_no 2) 0 Skipped ∷ [])) })
+      ∷ row 4 (held 0 1 (Commands 0) no_grips) 0 (λ p. record p { touched = (1 ∷ []) ∷ [] ∷ [] ∷ [] ∷ []; choices = slice_set p.choices 1 (Waits (Busy (device_no 0))) })
+      ∷ row 5 no_grips 100 (λ p. record p { writers = Some 1 ∷ None ∷ None ∷ None ∷ []; values = 1 ∷ 0 ∷ 0 ∷ 18 ∷ []; holders = (2 ∷ []) ∷ (1 ∷ []) ∷ [] ∷ (2 ∷ []) ∷ []; choices = slice_set p.choices 1 (HandsOut 1 (Commands 1)) })
+      ∷ row 5 (held 1 1 (Commands 1) no_grips) 100 (λ p. record p { touched = (1 ∷ []) ∷ (1 ∷ []) ∷ [] ∷ [] ∷ []; choices = slice_set p.choices 1 (Waits (Busy (device_no 1))) })
+      ∷ row 7 no_grips 200 (λ p. record p { holders = (1 ∷ 2 ∷ []) ∷ [] ∷ [] ∷ (2 ∷ []) ∷ []; choices = slice_set p.choices 1 (HandsOut 0 (Undoes 0)) })
+      ∷ row 8 no_grips 200 (λ p. record p { choices = slice_set p.choices 2 (HandsOut 3 (Commands 1)) })
+      ∷ row 8 (held 3 2 (Commands 1) no_grips) 200 (λ p. record p { touched = (1 ∷ []) ∷ (1 ∷ []) ∷ [] ∷ (2 ∷ []) ∷ []; choices = slice_set p.choices 2 (Waits (Busy (device_no 3))) })
+      ∷ row 9 no_grips 300 (λ p. record p { writers = Some 1 ∷ None ∷ None ∷ Some 2 ∷ []; values = 1 ∷ 0 ∷ 0 ∷ 20 ∷ []; holders = (1 ∷ 2 ∷ []) ∷ [] ∷ [] ∷ [] ∷ []; choices = slice_set p.choices 2 (Waits (Behind (device_no 0) (run_no 1))) })
+      ∷ row 9 (held 0 1 (Undoes 0) no_grips) 300 (λ p. record p { writers = None ∷ None ∷ None ∷ Some 2 ∷ []; values = 0 ∷ 0 ∷ 0 ∷ 20 ∷ []; holders = (2 ∷ []) ∷ [] ∷ [] ∷ [] ∷ []; choices = Absent ∷ Waits (Busy (device_no 0)) ∷ Waits (Busy (device_no 0)) ∷ [] })
+      ∷ row 10 no_grips 300 (λ p. record p { choices = Absent ∷ Over (Aborted (Refuted 1 0)) (Ended (run_no 1) (Aborted (Refuted 1 0)) ∷ []) ∷ HandsOut 0 (Commands 2) ∷ [] })
+      ∷ row 10 (held 0 2 (Commands 2) no_grips) 300 (λ p. record p { touched = (1 ∷ 2 ∷ []) ∷ (1 ∷ []) ∷ [] ∷ (2 ∷ []) ∷ []; choices = slice_set p.choices 2 (Waits (Busy (device_no 0))) })
+      ∷ row 11 (held 0 2 (Commands 2) no_grips) 300 (λ p. record p { line = Ran (run_no 2) ∷ []; overdue = (None ∷ None ∷ None ∷ None ∷ []) ∷ []; starts = (0 ∷ 100 ∷ []) ∷ []; ends = (300 ∷ 200 ∷ []) ∷ []; whole_ends = 300 ∷ []; choices = slice_set p.choices 1 (Over (Aborted (Refuted 1 0)) []) })
+      ∷ row 12 no_grips 400 (λ p. record p { writers = Some 2 ∷ None ∷ None ∷ Some 2 ∷ []; holders = [] ∷ [] ∷ [] ∷ [] ∷ []; choices = slice_set p.choices 2 (Over Committed (Ended (run_no 2) Committed ∷ [])) })
+      ∷ row 13 no_grips 400 (λ p. record p { overdue = []; starts = []; ends = []; whole_ends = []; choices = slice_set p.choices 2 (Over Committed []) }) ∷ [];
+  gives = give 4 0 1 (Commands 0) Worked (Did (run_no 1) 0 Fine ∷ [])
+      ∷ give 5 1 1 (Commands 1) (Sensed 0) (Did (run_no 1) 1 (Found 0) ∷ Doomed (run_no 1) (Refuted 1 0) ∷ [])
+      ∷ give 8 3 2 (Commands 1) Worked (Did (run_no 2) 1 Fine ∷ [])
+      ∷ give 9 0 1 (Undoes 0) Worked (Undid (run_no 1) (device_no 0) true ∷ [])
+      ∷ give 11 0 2 (Commands 2) Worked (Did (run_no 2) 2 Fine ∷ []) ∷ [];
+  calls = 3 ∷ 1 ∷ 0 ∷ 1 ∷ [];
+  outcome = record { order = Ran (run_no 2) ∷ []; home = record { value = 0; up = true } ∷ record { value = 0; up = true } ∷ record { value = 0; up = true } ∷ record { value = 20; up = true } ∷ []; answers = record { run = run_no 2; answers = Skipped ∷ Fine ∷ Fine ∷ [] } ∷ [] };
+}
+
+is_worked : IsWorked window history table
+unfolding split_of
+is_worked = record { points = refl; clauses = refl; gives = refl; calls = refl; ended = refl; allowed = refl; order = refl; answers = refl }
