@@ -1,7 +1,7 @@
 -- The devices that a run reads first, and writes, are told from its last command on.
 use Rattle.command_rules.proofs.FirstReads.{unread}
 use Rattle.command_rules.specs.Footprints.{alone}
-use Rattle.command_rules.specs.Rosters.{Run, commands_of, is_on, reads_first, touches, writes_on}
+use Rattle.command_rules.specs.Rosters.{Run, commands_of, reads_first, touches, writes_on}
 use Rattle.home_types.proofs.DeviceBits.{contains_insert, contains_remove}
 use Rattle.home_types.specs.Commands.{is_always, reads, writes}
 use Rattle.home_types.specs.DeviceSets.{Devices}
@@ -10,7 +10,6 @@ use Rattle.std.proofs.Common.{ap, arith, refl, subst, sym, ◌∙◌}
 use Rattle.std.proofs.lemmas.Grind.{common_steps}
 use Rattle.std.proofs.lemmas.List.{drop_all, drop_more}
 use Rattle.std.specs.FinSet as set
-use Rattle.std.specs.List.{list_any}
 use Rattle.std.specs.Ordering.{nat_cmp}
 use Rattle.std.specs.Prelude.{Bool, List, [], drop, false, length, not, slice_index_or, true, ℕ, ◌&&◌, ◌+◌, ◌-◌, ◌<◌, ◌==◌, ◌||◌, ◌∷◌, ◌≡◌}
 

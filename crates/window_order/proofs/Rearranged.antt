@@ -25,7 +25,7 @@ use Rattle.lock_leasing.proofs.Places.{last_filter}
 use Rattle.std.proofs.Common.{ap, arith, cond, refl, subst, sym, ◌∙◌}
 use Rattle.std.proofs.lemmas.Grind.{common_steps}
 use Rattle.std.specs.List.{list_any}
-use Rattle.std.specs.Prelude.{Bool, IsTrue, List, None, Option, Some, [], count_by, false, filter, filter_map, if◌then◌else◌, is_some, length, nat_lt, not, suc, true, unwrap_or, zero, ℕ, ◌&&◌, ◌<◌, ◌==◌, ◌||◌, ◌∷◌, ◌≡◌}
+use Rattle.std.specs.Prelude.{Bool, IsTrue, List, None, Option, Some, [], count_by, false, filter, filter_map, if◌then◌else◌, is_some, length, nat_lt, not, true, unwrap_or, ℕ, ◌&&◌, ◌<◌, ◌==◌, ◌||◌, ◌∷◌, ◌≡◌}
 use Rattle.window_order.proofs.ReadFacts.{IsRead}
 use Rattle.window_order.specs.OrderKept.{OrderIsKept}
 use Rattle.window_order.proofs.Grips.{fits_same}

@@ -1,10 +1,8 @@
 -- The items of a line with what each has touched, where a device fails or comes back, is answered for with no call, or is probed.
 use Rattle.command_rules.specs.Items.{is_ran, of_run}
 use Rattle.command_rules.specs.Rosters.{command_at, run_no}
-use Rattle.history_book.proofs.Searches.{some_is}
 use Rattle.history_book.proofs.Snoc.{put_keeps, put_other, put_same}
 use Rattle.history_book.specs.Histories.{answered, entry}
-use Rattle.history_book.specs.Lines.{put_before}
 use Rattle.history_book.specs.Readings.{OfRun, OnDevice, Reading, did, is_access, is_doomed, is_live, pends, put, view_by}
 use Rattle.history_book.specs.Settings.{Setting, is_weak}
 use Rattle.history_book.specs.declared.entries.Entry.TheVariants.{Did, Fell, Rose}
@@ -21,17 +19,16 @@ use Rattle.lock_leasing.specs.Places.{up_to_first}
 use Rattle.lock_leasing.specs.Standings.{has_ended, item_has_touched}
 use Rattle.lock_leasing.specs.Words.{live_runs}
 use Rattle.serial_line.proofs.Ties.{line_inserted, line_retold, line_touching}
-use Rattle.serial_line.specs.Marks.{Mark, is_item, place_of, stands, touching, untouched, with_item}
+use Rattle.serial_line.specs.Marks.{Mark, is_item, stands, touching, untouched, with_item}
 use Rattle.serial_line.specs.Ties.{IsLineOf, TouchesAs}
-use Rattle.std.proofs.Common.{ap, arith, cond, refl, subst, sym, ◌∙◌}
+use Rattle.std.proofs.Common.{ap, arith, refl, subst, sym, ◌∙◌}
 use Rattle.std.proofs.lemmas.Grind.{common_steps}
 use Rattle.std.proofs.lemmas.List.{length-map}
-use Rattle.std.proofs.lemmas.List.Recursion.{is_position_or_len}
 use Rattle.std.specs.FinSet as set
-use Rattle.std.specs.List.{cons_option, list_any, position_or_len}
+use Rattle.std.specs.List.{list_any}
 use Rattle.std.specs.Option.{option_or}
 use Rattle.std.specs.Ordering.{nat_cmp}
-use Rattle.std.specs.Prelude.{Bool, List, None, Option, Some, [], drop, false, find, if◌then◌else◌, is_some, length, nat_lt, not, position, suc, take, true, ℕ, ◌&&◌, ◌++◌, ◌+◌, ◌==◌, ◌||◌, ◌∷◌, ◌≡◌, ◌≢◌, ◌≤◌}
+use Rattle.std.specs.Prelude.{Bool, List, None, Option, Some, [], false, find, if◌then◌else◌, is_some, length, not, true, ℕ, ◌&&◌, ◌+◌, ◌==◌, ◌||◌, ◌∷◌, ◌≡◌, ◌≢◌, ◌≤◌}
 use Rattle.window_order.proofs.EventPlaces.{awaits_there}
 use Rattle.window_order.proofs.GripWords.{probe_home_grip, probe_out_grip}
 use Rattle.window_order.proofs.ReadFacts.{IsRead}
