@@ -1,9 +1,9 @@
 //! An open window: its parts, and what is asked of them.
 ghost use Rattle.std.specs.Prelude.{◌≡◌, ◌+◌, ◌-◌, ◌<◌, ◌≤◌, ◌↔◌, IfSome, IsTrue, None, [], false, length, option_map, slice_get, take, true, ℕ};
-ghost use Rattle.command_rules.specs.Rosters.{command_at, runs_of};
+ghost use Rattle.command_rules.specs.Rosters.{command_at, is_run, runs_of};
 ghost use Rattle.history_book.specs.Histories.{entries_of, line_of};
 ghost use Rattle.history_book.specs.Sealed.{sealed_of};
-ghost use Rattle.history_book.specs.Settings.{is_weak};
+ghost use Rattle.history_book.specs.Settings.{is_strict, is_weak};
 ghost use Rattle.hub_core.specs.BlockedRuns.{next_device};
 ghost use Rattle.hub_core.specs.Bounds.{IsBounded};
 ghost use Rattle.hub_core.specs.HubCalls.{HubStands, SomeRunMoves, grip_takes, is_past};
@@ -22,6 +22,7 @@ use crate::known::{Counts, DeviceProgress, Events, NO_EVENTS};
 use crate::purposes::Purpose;
 use crate::read_histories::ReadHistory;
 use crate::refusals::NotQuiet;
+use command_rules::IndexedRoster;
 use device_gate::Gate;
 use device_states::Device;
 use home_types::{DeviceNo, Item, List, RunNo, Stand};
@@ -162,6 +163,34 @@ impl<D: Device> OpenWindow<D> {
         ensures { result ≡ is_weak self.now.setting.mode }
     {
         self.history.is_weak()
+    }
+
+    /// Whether the window is one of the two models under which runs do not overlap.
+    pub(crate) fn is_strict(&self) -> bool
+        ensures { result ≡ is_strict self.now.setting.mode }
+    {
+        self.history.is_strict()
+    }
+
+    /// Whether the window has the run.
+    pub(crate) fn has_run(&self, r: RunNo) -> bool
+        ensures { result ≡ is_run self.now.setting.runs r.0 }
+    {
+        self.history.has_run(r)
+    }
+
+    /// The runs of the window, with their footprints.
+    pub(crate) fn roster(&self) -> &IndexedRoster
+        ensures { runs_of result.now ≡ self.now.setting.runs }
+    {
+        self.history.indexed_roster()
+    }
+
+    /// Whether this is the last place of the line, counted from 0.
+    pub(crate) fn is_last_place(&self, at: u32) -> bool
+        ensures { IsTrue result → length (read_of (configuration_of self.now)).line ≡ at + 1 }
+    {
+        self.order.line.len() as u64 == at as u64 + 1
     }
 
     /// Whether nothing was done in the window: no entry, the last moment 0, no device out and no probe taken.

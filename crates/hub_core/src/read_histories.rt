@@ -1,7 +1,7 @@
 //! The history of a window with the progress of each run, which every entry keeps up to date.
 ghost use Rattle.std.specs.Prelude.{◌≡◌, ◌+◌, ◌<◌, ◌^◌, ◌&&◌, ◌||◌, IfSome, IsTrue, None, Some, find, if◌then◌else◌, is_none, length, not, option_map, true, ℕ};
 ghost use Rattle.command_rules.specs.Rosters.{command_at, commands_of, followed_by, is_run, runs_of};
-ghost use Rattle.history_book.specs.Settings.{is_weak, run_numbers, scheduler_of};
+ghost use Rattle.history_book.specs.Settings.{is_strict, is_weak, run_numbers, scheduler_of};
 ghost use Rattle.history_book.specs.Readings.{is_doomed, is_live, next_command, next_of, pends};
 ghost use Rattle.home_types.specs.Kinds.{kind_at};
 ghost use Rattle.hub_core.specs.Decisions.{died_by, refuted_by};
@@ -109,6 +109,16 @@ impl ReadHistory {
         match self.mode.model {
             Visibility::Weak => true,
             Visibility::Global | Visibility::Partitioned | Visibility::Eventual => false,
+        }
+    }
+
+    /// Whether the window is one of the two models under which runs do not overlap.
+    pub(crate) fn is_strict(&self) -> bool
+        ensures { result ≡ is_strict self.now.setting.mode }
+    {
+        match self.mode.model {
+            Visibility::Global | Visibility::Partitioned => true,
+            Visibility::Weak | Visibility::Eventual => false,
         }
     }
 
