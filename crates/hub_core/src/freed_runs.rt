@@ -165,8 +165,7 @@ fn free_passed<D: Device>(blocked: &mut BlockedRuns, window: &OpenWindow<D>, r: 
     ensures { AreLeft blocked.old blocked.new (λ d. (not (is_strict window.now.setting.mode) && not (touches window.now.setting.runs r.0 d)) ≡ true) }
 {
     if window.is_strict() {
-        blocked.unmark_all();
-        return;
+        return blocked.unmark_all();
     }
     free_beside(blocked, window, r);
 }
@@ -177,8 +176,7 @@ fn free_beside<D: Device>(blocked: &mut BlockedRuns, window: &OpenWindow<D>, r: 
 {
     if !window.has_run(r) {
         // There is such a run.
-        blocked.unmark_all();
-        return;
+        return blocked.unmark_all();
     }
     blocked.unmark_among(window.roster(), r);
 }

@@ -273,6 +273,7 @@ impl<D: Device> OpenWindow<D> {
     }
 
     /// Whether the device is out for a command.
+    #[inline(always)]
     pub(crate) fn is_out_for_command(&self, d: DeviceNo) -> bool
         ensures { result ≡ is_out_for_command (configuration_of self.now) d.0 }
     {
@@ -314,6 +315,7 @@ impl<D: Device> OpenWindow<D> {
 
     /// Whether the run, whose last answered command is the one with the number `k`, on this device, holds the device
     /// still: it is not doomed and has a later command there.
+    #[inline(always)]
     pub(crate) fn holds_still(&self, r: RunNo, k: u32, d: DeviceNo) -> bool
         ensures { IsTrue result → HoldsStill (configuration_of self.now) r.0 k d.0 }
     {

@@ -212,6 +212,7 @@ impl ReadHistory {
 
     /// Whether the run is done with the device, on which its last answered command is, the one with the number `k`: it is
     /// doomed, or has no later command there.
+    #[inline(always)]
     pub(crate) fn is_done(&self, r: RunNo, k: u32, d: DeviceNo) -> bool
         requires run { IsTrue (is_run self.now.setting.runs r.0) }
         requires there { k < length (commands_of self.now.setting.runs r.0) }
@@ -224,6 +225,7 @@ impl ReadHistory {
 
     /// For what the run is doomed with this answer to its command with the number `k`: a must `check` that found another
     /// value. A run that is doomed already is not doomed again.
+    #[inline(always)]
     pub(crate) fn refuted(&self, r: RunNo, k: u32, answer: Answer) -> Option<Cause>
         requires run { IsTrue (is_run self.now.setting.runs r.0) }
         requires there { k < length (commands_of self.now.setting.runs r.0) }
