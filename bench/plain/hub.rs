@@ -1,6 +1,6 @@
 //! The home and its hub.
 use crate::devices::{Grip, Sim, Task};
-use crate::script::{Command, Device, Routine, Script, Window};
+use crate::script::{Command, Device, Job, Routine, Script, Window};
 
 /// What a live run has to do and has done on a device.
 struct Access {
@@ -44,6 +44,7 @@ pub struct Run<'a> {
     pub doom: Option<Cause>,
     /// What its reads found; `None` for a write.
     pub answers: Vec<Option<u32>>,
+    register: u32,
 }
 
 #[derive(Clone, Copy, PartialEq)]
@@ -70,6 +71,7 @@ pub enum Turn<'a> {
 
 pub struct Hub<'a> {
     model: Model,
+    devices: &'a [Device<'a>],
     pub lineages: Vec<Lineage<'a>>,
     pub runs: Vec<Run<'a>>,
     /// Runs that were placed and have not ended, in line order.
@@ -117,6 +119,7 @@ impl<'a> Hub<'a> {
         let lineages = script.devices.iter().map(lineage).collect();
         Hub {
             model,
+            devices: &script.devices,
             lineages,
             runs: Vec::new(),
             live: Vec::new(),
@@ -138,6 +141,7 @@ impl<'a> Hub<'a> {
                 stage: Stage::Away,
                 doom: None,
                 answers: Vec::with_capacity(routine.commands.len()),
+                register: 0,
             }
         }));
     }
@@ -199,9 +203,11 @@ impl<'a> Hub<'a> {
         let c = run.answers.len();
         let Command {
             device: d,
+            job,
             value,
-            reads,
+            ..
         } = run.routine.commands[c];
+        let reads = matches!(job, Job::Check | Job::Load);
         let lineage = &self.lineages[d];
         for access in &lineage.accesses {
             if access.run == r {
@@ -231,10 +237,10 @@ impl<'a> Hub<'a> {
         }
         self.go(
             d,
-            if reads {
-                Task::Sense
-            } else {
-                Task::Drive(value)
+            match job {
+                Job::Set => Task::Drive(value),
+                Job::Store => Task::Drive(self.devices[d].nearest(run.register)),
+                Job::Check | Job::Load => Task::Sense,
             },
         )
     }
@@ -406,8 +412,10 @@ impl<'a> Hub<'a> {
         }
         let run = &mut self.runs[r];
         run.answers.push(found);
-        match found {
-            Some(found) if found != run.routine.commands[c].value => {
+        let command = &run.routine.commands[c];
+        match (found, command.job) {
+            (Some(found), Job::Load) => run.register = found,
+            (Some(found), _) if command.must && found != command.value => {
                 self.doom(r, Cause::Refuted(c, found))
             }
             _ => {}

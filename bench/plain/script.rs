@@ -3,14 +3,32 @@ use std::collections::HashMap;
 
 pub struct Device<'a> {
     pub name: &'a str,
+    pub low: u32,
+    pub high: u32,
     pub start: u32,
     pub downs: Vec<(u64, u64)>,
 }
 
+impl Device<'_> {
+    pub fn nearest(&self, value: u32) -> u32 {
+        value.clamp(self.low, self.high)
+    }
+}
+
+#[derive(Clone, Copy, PartialEq)]
+pub enum Job {
+    Set,
+    Check,
+    Load,
+    Store,
+}
+
 pub struct Command {
     pub device: usize,
+    pub job: Job,
+    /// What a set drives, or a check compares with.
     pub value: u32,
-    pub reads: bool,
+    pub must: bool,
 }
 
 pub struct Routine<'a> {
@@ -63,7 +81,7 @@ impl<'a> Reader<'a> {
     fn text(&mut self) -> &'a str {
         self.need(b'"');
         let rest = &self.text[self.at..];
-        let text = &rest[..rest.find('"').unwrap()];
+        let text = &rest[..rest.bytes().position(|byte| byte == b'"').unwrap()];
         assert!(!text.contains('\\'));
         self.at += text.len() + 1;
         text
@@ -112,6 +130,8 @@ impl<'a> Reader<'a> {
 fn read_device<'a>(reader: &mut Reader<'a>) -> Device<'a> {
     let mut device = Device {
         name: "",
+        low: 0,
+        high: 0,
         start: 0,
         downs: Vec::new(),
     };
@@ -119,7 +139,8 @@ fn read_device<'a>(reader: &mut Reader<'a>) -> Device<'a> {
         "name" => device.name = reader.text(),
         "start" => device.start = reader.number() as u32,
         "down" => device.downs = reader.list(Reader::pair),
-        "low" | "high" => _ = reader.number(),
+        "low" => device.low = reader.number() as u32,
+        "high" => device.high = reader.number() as u32,
         other => panic!("unknown member {other}"),
     });
     device
@@ -128,15 +149,16 @@ fn read_device<'a>(reader: &mut Reader<'a>) -> Device<'a> {
 fn read_command<'a>(reader: &mut Reader<'a>, numbers: &HashMap<&str, usize>) -> Command {
     let mut command = Command {
         device: 0,
+        job: Job::Set,
         value: 0,
-        reads: false,
+        must: true,
     };
     reader.members(|reader, member| match member {
         "on" => command.device = numbers[reader.text()],
         "do" => {
-            command.reads = match reader.text() {
-                "set" => false,
-                "check" => true,
+            command.job = match reader.text() {
+                "set" => Job::Set,
+                "check" => Job::Check,
                 other => panic!("unknown job {other}"),
             }
         }
@@ -145,6 +167,19 @@ fn read_command<'a>(reader: &mut Reader<'a>, numbers: &HashMap<&str, usize>) -> 
         other => panic!("unknown member {other}"),
     });
     command
+}
+
+/// The devices of the commands, ascending, of so many, and how many of the commands are on each.
+pub fn devices_of(commands: &[Command], devices: usize) -> Vec<(usize, u32)> {
+    let mut counts = vec![0; devices];
+    commands
+        .iter()
+        .for_each(|command| counts[command.device] += 1);
+    counts
+        .into_iter()
+        .enumerate()
+        .filter(|(_, count)| *count > 0)
+        .collect()
 }
 
 fn read_routine<'a>(reader: &mut Reader<'a>, numbers: &HashMap<&str, usize>) -> Routine<'a> {
@@ -158,16 +193,7 @@ fn read_routine<'a>(reader: &mut Reader<'a>, numbers: &HashMap<&str, usize>) -> 
         "commands" => routine.commands = reader.list(|reader| read_command(reader, numbers)),
         other => panic!("unknown member {other}"),
     });
-    let mut counts = vec![0; numbers.len()];
-    routine
-        .commands
-        .iter()
-        .for_each(|command| counts[command.device] += 1);
-    routine.devices = counts
-        .into_iter()
-        .enumerate()
-        .filter(|(_, count)| *count > 0)
-        .collect();
+    routine.devices = devices_of(&routine.commands, numbers.len());
     routine
 }
 
