@@ -122,6 +122,7 @@ impl<'a> Checker<'a> {
             job,
             value: to,
             must,
+            ..
         } in &routine.commands
         {
             let (word, device) = (words.next()?, &self.script.devices[*d]);

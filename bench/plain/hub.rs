@@ -1,6 +1,6 @@
 //! The home and its hub.
 use crate::devices::{Grip, Sim, Task};
-use crate::script::{Command, Device, Job, Routine, Script, Window};
+use crate::script::{Command, Device, Job, Routine, Script, Use, Window};
 
 /// What a live run has to do and has done on a device.
 struct Access {
@@ -8,6 +8,8 @@ struct Access {
     left: u32,
     touched: bool,
     wrote: Option<u32>,
+    /// When its lease ends where it has one, in ms.
+    deadline: u64,
 }
 
 /// A device of the home, with the accesses of live runs in line order.
@@ -20,6 +22,8 @@ pub struct Lineage<'a> {
     home: Option<Box<Sim<'a>>>,
     /// The runs that wait for it.
     waiting: u64,
+    /// The runs that have touched it in this window.
+    touched: u64,
 }
 
 #[derive(Clone, Copy)]
@@ -27,6 +31,12 @@ pub enum Cause {
     Must(usize),
     Refuted(usize, u32),
     Lost(usize),
+    Revoked {
+        device: usize,
+        lender: usize,
+        deadline: u64,
+        moment: u64,
+    },
     DownAtEnd(usize),
 }
 
@@ -45,6 +55,9 @@ pub struct Run<'a> {
     /// What its reads found; `None` for a write.
     pub answers: Vec<Option<u32>>,
     register: u32,
+    /// When it arrived, in ms, and how many runs were placed before it.
+    arrived: u64,
+    placed: usize,
 }
 
 #[derive(Clone, Copy, PartialEq)]
@@ -61,16 +74,28 @@ pub enum Model {
     Global,
 }
 
+#[derive(Clone, Copy, PartialEq)]
+pub enum Scheduler {
+    Fcfs,
+    Jit,
+}
+
+/// How long a run that is denied a device waits for a better place than the end of the line, in ms.
+const PATIENCE: u64 = 10_000;
+
 pub enum Turn<'a> {
     Go(Grip<'a>),
     Moved,
     /// For this device, or for the end of another run.
     Waits(Option<usize>),
+    /// Time may end its wait.
+    Restless,
     Over,
 }
 
 pub struct Hub<'a> {
     model: Model,
+    scheduler: Scheduler,
     devices: &'a [Device<'a>],
     pub lineages: Vec<Lineage<'a>>,
     pub runs: Vec<Run<'a>>,
@@ -82,6 +107,9 @@ pub struct Hub<'a> {
     /// Those that wait for no device but until another one ends, and those that may wait no more.
     waiting: u64,
     pub freed: u64,
+    /// In ms, since the window opened.
+    pub moment: u64,
+    placed: usize,
 }
 
 impl Lineage<'_> {
@@ -103,7 +131,7 @@ impl Lineage<'_> {
 }
 
 impl<'a> Hub<'a> {
-    pub fn new(script: &'a Script, model: Model) -> Hub<'a> {
+    pub fn new(script: &'a Script, model: Model, scheduler: Scheduler) -> Hub<'a> {
         let lineage = |device: &'a Device| Lineage {
             accesses: Vec::new(),
             writer: None,
@@ -115,10 +143,12 @@ impl<'a> Hub<'a> {
                 downs: &device.downs,
             })),
             waiting: 0,
+            touched: 0,
         };
         let lineages = script.devices.iter().map(lineage).collect();
         Hub {
             model,
+            scheduler,
             devices: &script.devices,
             lineages,
             runs: Vec::new(),
@@ -127,12 +157,19 @@ impl<'a> Hub<'a> {
             doomed: 0,
             waiting: 0,
             freed: 0,
+            moment: 0,
+            placed: 0,
         }
     }
 
     pub fn open(&mut self, script: &'a Script, window: &Window) {
         self.line.clear();
         self.doomed = 0;
+        self.moment = 0;
+        self.placed = 0;
+        for lineage in &mut self.lineages {
+            lineage.touched = 0;
+        }
         self.runs.clear();
         self.runs.extend(window.runs.iter().map(|routine| {
             let routine = &script.routines[*routine];
@@ -142,6 +179,8 @@ impl<'a> Hub<'a> {
                 doom: None,
                 answers: Vec::with_capacity(routine.commands.len()),
                 register: 0,
+                arrived: 0,
+                placed: 0,
             }
         }));
     }
@@ -150,12 +189,13 @@ impl<'a> Hub<'a> {
         self.doomed >> r & 1 == 1
     }
 
-    fn go(&mut self, d: usize, task: Task) -> Turn<'a> {
+    fn go(&mut self, d: usize, task: Task, takes: u32) -> Turn<'a> {
         let sim = self.lineages[d].home.take().unwrap();
         Turn::Go(Grip {
             device: d,
             sim,
             task,
+            takes: takes.into(),
             worked: false,
         })
     }
@@ -167,10 +207,14 @@ impl<'a> Hub<'a> {
             Stage::Ended => return Turn::Over,
             Stage::Away => {
                 run.stage = Stage::Arrived;
+                run.arrived = self.moment;
                 return Turn::Moved;
             }
             Stage::Arrived => {
-                self.place(r);
+                let Some(place) = self.admit(r) else {
+                    return Turn::Restless;
+                };
+                self.place(r, place);
                 return Turn::Moved;
             }
             Stage::Placed => {}
@@ -180,22 +224,145 @@ impl<'a> Hub<'a> {
         } else if run.answers.len() == run.routine.commands.len() {
             self.commit(r)
         } else {
-            self.command(r)
+            self.ask(r)
         }
     }
 
-    fn place(&mut self, r: usize) {
-        self.runs[r].stage = Stage::Placed;
-        for (d, left) in &self.runs[r].routine.devices {
-            self.lineages[*d].accesses.push(Access {
+    /// Where the run is placed in the line: `None` where it is denied a device.
+    fn admit(&self, r: usize) -> Option<usize> {
+        let run = &self.runs[r];
+        if self.scheduler == Scheduler::Fcfs {
+            return Some(self.line.len());
+        }
+        let place = self.first_place(run.routine);
+        let before = self.runs_of(&self.line[..place]);
+        let is_denied = run.routine.devices.iter().any(|used| {
+            let lineage = &self.lineages[used.device];
+            let holder = lineage
+                .accesses
+                .iter()
+                .find(|access| self.holds(lineage, access));
+            holder.is_some_and(|access| before >> access.run & 1 == 1)
+                || used.reads_first && lineage.writer.is_some()
+        });
+        let is_patient = self.moment - run.arrived < PATIENCE;
+        match is_denied {
+            false => Some(place),
+            true => (!is_patient).then_some(self.line.len()),
+        }
+    }
+
+    /// The place behind what has touched a device of the routine, and all that stands before the first live run.
+    fn first_place(&self, routine: &Routine) -> usize {
+        let touched = routine
+            .devices
+            .iter()
+            .fold(0, |runs, used| runs | self.lineages[used.device].touched);
+        let live = self.live.iter().fold(0, |runs, x| runs | 1 << x);
+        let binds = |item: &Item| match item {
+            Item::Ran(x) => touched >> x & 1 == 1,
+            Item::Failed(d) | Item::Back(d) => routine
+                .devices
+                .binary_search_by_key(d, |used| used.device)
+                .is_ok(),
+        };
+        let is_live = |item: &Item| matches!(item, Item::Ran(x) if live >> *x & 1u64 == 1);
+        let front = self
+            .line
+            .iter()
+            .position(is_live)
+            .unwrap_or(self.line.len());
+        let floor = self.line.iter().rposition(binds).map_or(0, |at| at + 1);
+        floor.max(front)
+    }
+
+    /// The runs among the items, a bit for each.
+    fn runs_of(&self, items: &[Item]) -> u64 {
+        items.iter().fold(0, |runs, item| match item {
+            Item::Ran(x) => runs | 1 << x,
+            _ => runs,
+        })
+    }
+
+    fn holds(&self, lineage: &Lineage, access: &Access) -> bool {
+        if self.is_doomed(access.run) {
+            lineage.writer == Some(access.run)
+        } else {
+            access.left > 0
+        }
+    }
+
+    fn place(&mut self, r: usize, place: usize) {
+        let behind = self.runs_of(&self.line[place..]);
+        let run = &mut self.runs[r];
+        run.stage = Stage::Placed;
+        run.placed = self.placed;
+        self.placed += 1;
+        for used in &run.routine.devices {
+            let accesses = &mut self.lineages[used.device].accesses;
+            let access = Access {
                 run: r,
-                left: *left,
+                left: used.count,
                 touched: false,
                 wrote: None,
-            });
+                deadline: self.moment + used.span + used.span.div_ceil(10),
+            };
+            match accesses
+                .iter()
+                .position(|other| behind >> other.run & 1 == 1)
+            {
+                Some(at) if behind != 0 => accesses.insert(at, access),
+                _ => accesses.push(access),
+            }
         }
         self.live.push(r);
-        self.line.push(Item::Ran(r));
+        self.line.insert(place, Item::Ran(r));
+        if behind != 0 {
+            self.free_of(r);
+        }
+    }
+
+    /// The first run before this one that has the device on lease from it, and when that ends.
+    fn borrower(&self, r: usize, d: usize, moment: u64) -> Option<(usize, u64)> {
+        let placed = self.runs[r].placed;
+        let before = self.lineages[d]
+            .accesses
+            .iter()
+            .take_while(|access| access.run != r);
+        let borrows = |access: &&Access| {
+            self.runs[access.run].placed > placed && access.left > 0 && !self.is_doomed(access.run)
+        };
+        let overdue = |access: &&Access| access.deadline < moment && borrows(access);
+        before
+            .clone()
+            .find(overdue)
+            .map(|access| (access.run, access.deadline))
+    }
+
+    /// The step of a run that has a next command: it asks for its device.
+    fn ask(&mut self, r: usize) -> Turn<'a> {
+        if self.scheduler == Scheduler::Fcfs {
+            return self.command(r);
+        }
+        let run = &self.runs[r];
+        let device = run.routine.commands[run.answers.len()].device;
+        if let Some((x, deadline)) = self.borrower(r, device, self.moment) {
+            let (lender, moment) = (r, self.moment);
+            self.doom(
+                x,
+                Cause::Revoked {
+                    device,
+                    lender,
+                    deadline,
+                    moment,
+                },
+            );
+            return Turn::Moved;
+        }
+        match self.command(r) {
+            Turn::Waits(_) if self.borrower(r, device, u64::MAX).is_some() => Turn::Restless,
+            turn => turn,
+        }
     }
 
     fn command(&mut self, r: usize) -> Turn<'a> {
@@ -205,6 +372,7 @@ impl<'a> Hub<'a> {
             device: d,
             job,
             value,
+            takes,
             ..
         } = run.routine.commands[c];
         let reads = matches!(job, Job::Check | Job::Load);
@@ -216,12 +384,7 @@ impl<'a> Hub<'a> {
                 }
                 break;
             }
-            let holds = if self.is_doomed(access.run) {
-                lineage.writer == Some(access.run)
-            } else {
-                access.left > 0
-            };
-            if holds {
+            if self.holds(lineage, access) {
                 return Turn::Waits(Some(d));
             }
         }
@@ -231,18 +394,17 @@ impl<'a> Hub<'a> {
         if lineage.home.is_none() {
             return Turn::Waits(Some(d));
         }
-        if !lineage.up {
+        self.lineages[d].touched |= 1 << r;
+        if !self.lineages[d].up {
             self.doom(r, Cause::Must(c));
             return Turn::Moved;
         }
-        self.go(
-            d,
-            match job {
-                Job::Set => Task::Drive(value),
-                Job::Store => Task::Drive(self.devices[d].nearest(run.register)),
-                Job::Check | Job::Load => Task::Sense,
-            },
-        )
+        let task = match job {
+            Job::Set => Task::Drive(value),
+            Job::Store => Task::Drive(self.devices[d].nearest(run.register)),
+            Job::Check | Job::Load => Task::Sense,
+        };
+        self.go(d, task, takes)
     }
 
     /// Whether a live run before it has written what stands on the device.
@@ -256,11 +418,11 @@ impl<'a> Hub<'a> {
     fn waits_strictly(&self, r: usize) -> bool {
         let shares = |x: usize| {
             let others = &self.runs[x].routine.devices;
-            self.runs[r]
-                .routine
-                .devices
-                .iter()
-                .any(|(d, _)| others.binary_search_by_key(d, |other| other.0).is_ok())
+            self.runs[r].routine.devices.iter().any(|used| {
+                others
+                    .binary_search_by_key(&used.device, |other| other.device)
+                    .is_ok()
+            })
         };
         match self.model {
             Model::Eventual => false,
@@ -282,7 +444,7 @@ impl<'a> Hub<'a> {
     }
 
     fn undo(&mut self, r: usize) -> Turn<'a> {
-        for (d, _) in &self.runs[r].routine.devices {
+        for Use { device: d, .. } in &self.runs[r].routine.devices {
             let lineage = &mut self.lineages[*d];
             if lineage.writer == Some(r) {
                 if lineage.home.is_none() {
@@ -300,10 +462,10 @@ impl<'a> Hub<'a> {
                     return Turn::Moved;
                 }
                 let value = lineage.standing();
-                return self.go(*d, Task::Undo(value));
+                return self.go(*d, Task::Undo(value), 0);
             }
         }
-        for (d, _) in &self.runs[r].routine.devices {
+        for Use { device: d, .. } in &self.runs[r].routine.devices {
             self.lineages[*d].accesses.retain(|access| access.run != r);
         }
         self.line.retain(|item| *item != Item::Ran(r));
@@ -312,13 +474,13 @@ impl<'a> Hub<'a> {
     }
 
     fn commit(&mut self, r: usize) -> Turn<'a> {
-        for (d, _) in &self.runs[r].routine.devices {
+        for Use { device: d, .. } in &self.runs[r].routine.devices {
             if self.model != Model::Eventual && !self.lineages[*d].up {
                 self.doom(r, Cause::DownAtEnd(*d));
                 return Turn::Moved;
             }
         }
-        for (d, _) in &self.runs[r].routine.devices {
+        for Use { device: d, .. } in &self.runs[r].routine.devices {
             let lineage = &mut self.lineages[*d];
             if let Some(at) = lineage.accesses.iter().position(|access| access.run == r) {
                 match lineage.accesses[at].wrote {
@@ -433,6 +595,7 @@ impl<'a> Hub<'a> {
             device: d,
             sim,
             task: Task::Probe(restored),
+            takes: 0,
             worked: false,
         })
     }
@@ -472,7 +635,7 @@ impl<'a> Hub<'a> {
 
     /// Those that wait for a device of the run may go on: it is doomed, or ends.
     fn free_of(&mut self, r: usize) {
-        for (d, _) in &self.runs[r].routine.devices {
+        for Use { device: d, .. } in &self.runs[r].routine.devices {
             self.free_at(*d);
         }
     }

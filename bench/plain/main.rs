@@ -20,7 +20,7 @@ mod script;
 mod trial;
 
 use check::check_record;
-use hub::{Hub, Model};
+use hub::{Hub, Model, Scheduler};
 use record::push_window;
 use replay::replay_window;
 use run::run_window;
@@ -32,7 +32,7 @@ use trial::{Names, trial_script};
 #[inline(never)]
 fn play_day(
     script: &Script,
-    model: &str,
+    (model, scheduler_name): (&str, &str),
     play: fn(&mut Hub, &Window),
     sink: &mut dyn Write,
 ) -> (usize, usize) {
@@ -42,8 +42,13 @@ fn play_day(
         "gsv" => Model::Global,
         other => panic!("no model {other}"),
     };
-    let mut hub = Hub::new(script, visibility);
-    let mut record = format!("safehome day\nmodel {model} fcfs\n");
+    let scheduler = match scheduler_name {
+        "fcfs" => Scheduler::Fcfs,
+        "jit" => Scheduler::Jit,
+        other => panic!("no scheduler {other}"),
+    };
+    let mut hub = Hub::new(script, visibility, scheduler);
+    let mut record = format!("safehome day\nmodel {model} {scheduler_name}\n");
     let (mut runs, mut aborted) = (0, 0);
     for (number, window) in script.windows.iter().enumerate() {
         hub.open(script, window);
@@ -69,7 +74,7 @@ fn play_trial(windows: usize) {
     let names = Names::new(windows);
     let script = trial_script(&names);
     let mut record = Vec::new();
-    let (runs, aborted) = play_day(&script, "ev", replay_window, &mut record);
+    let (runs, aborted) = play_day(&script, ("ev", "fcfs"), replay_window, &mut record);
     let agree = match check_record(&script, std::str::from_utf8(&record).unwrap()) {
         Ok(()) => windows,
         Err(window) => window.saturating_sub(1),
@@ -92,19 +97,20 @@ fn check(text: &str) {
 fn main() {
     let words: Vec<String> = std::env::args().skip(1).collect();
     let words: Vec<&str> = words.iter().map(String::as_str).collect();
-    let (play, model): (fn(&mut Hub, &Window), _) = match words[..] {
+    let (play, mode): (fn(&mut Hub, &Window), _) = match words[..] {
         ["trial", windows] => return play_trial(windows.parse().unwrap()),
-        ["check"] => (replay_window, ""),
-        ["replay"] => (replay_window, "ev"),
-        ["replay", "--model", model] => (replay_window, model),
-        ["run"] => (run_window, "ev"),
-        ["run", "--model", model] => (run_window, model),
+        ["check"] => (replay_window, ("", "")),
+        ["replay"] => (replay_window, ("ev", "fcfs")),
+        ["replay", "--model", model] => (replay_window, (model, "fcfs")),
+        ["replay", "--scheduler", scheduler] => (replay_window, ("ev", scheduler)),
+        ["run"] => (run_window, ("ev", "fcfs")),
+        ["run", "--model", model] => (run_window, (model, "fcfs")),
         _ => panic!("plain replay|run [--model gsv|psv|ev], plain check, plain trial WINDOWS"),
     };
     let mut text = String::new();
     std::io::stdin().read_to_string(&mut text).unwrap();
     match words[0] {
         "check" => check(&text),
-        _ => _ = play_day(&read_script(&text), model, play, &mut std::io::stdout()),
+        _ => _ = play_day(&read_script(&text), mode, play, &mut std::io::stdout()),
     }
 }

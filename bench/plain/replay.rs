@@ -30,6 +30,7 @@ impl Player<'_, '_> {
     fn pick(&mut self, actor: usize) -> bool {
         if let Some(mut grip) = self.grips[actor].take() {
             grip.act();
+            self.hub.moment += grip.takes;
             if actor == 0 {
                 self.hub.give_probe(grip)
             } else {
@@ -50,6 +51,7 @@ impl Player<'_, '_> {
                 self.waiting |= u64::from(!self.hub.is_doomed(actor - 1)) << (actor - 1);
                 return false;
             }
+            Turn::Restless => return false,
             _ => {}
         }
         true

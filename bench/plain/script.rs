@@ -29,13 +29,27 @@ pub struct Command {
     /// What a set drives, or a check compares with.
     pub value: u32,
     pub must: bool,
+    /// What it is estimated to take, and takes, in ms.
+    pub estimate: u32,
+    pub takes: u32,
+}
+
+/// What a routine has to do on a device.
+pub struct Use {
+    pub device: usize,
+    /// How many of its commands are on it.
+    pub count: u32,
+    /// What its commands are estimated to take up to the last one there, in ms.
+    pub span: u64,
+    /// Whether the first of them reads.
+    pub reads_first: bool,
 }
 
 pub struct Routine<'a> {
     pub name: &'a str,
     pub commands: Vec<Command>,
-    /// Its devices, ascending, and how many of its commands are on each.
-    pub devices: Vec<(usize, u32)>,
+    /// Its devices, ascending.
+    pub devices: Vec<Use>,
 }
 
 pub struct Window<'a> {
@@ -152,6 +166,8 @@ fn read_command<'a>(reader: &mut Reader<'a>, numbers: &HashMap<&str, usize>) -> 
         job: Job::Set,
         value: 0,
         must: true,
+        estimate: 100,
+        takes: 100,
     };
     reader.members(|reader, member| match member {
         "on" => command.device = numbers[reader.text()],
@@ -163,23 +179,28 @@ fn read_command<'a>(reader: &mut Reader<'a>, numbers: &HashMap<&str, usize>) -> 
             }
         }
         "to" => command.value = reader.number() as u32,
-        "ms" | "takes" => _ = reader.number(),
+        "takes" => command.takes = reader.number() as u32,
         other => panic!("unknown member {other}"),
     });
     command
 }
 
-/// The devices of the commands, ascending, of so many, and how many of the commands are on each.
-pub fn devices_of(commands: &[Command], devices: usize) -> Vec<(usize, u32)> {
-    let mut counts = vec![0; devices];
-    commands
-        .iter()
-        .for_each(|command| counts[command.device] += 1);
-    counts
-        .into_iter()
-        .enumerate()
-        .filter(|(_, count)| *count > 0)
-        .collect()
+/// The devices of the commands, ascending, of so many.
+pub fn devices_of(commands: &[Command], devices: usize) -> Vec<Use> {
+    let mut uses: Vec<Option<Use>> = (0..devices).map(|_| None).collect();
+    let mut span = 0;
+    for command in commands {
+        span += u64::from(command.estimate);
+        let used = uses[command.device].get_or_insert(Use {
+            device: command.device,
+            count: 0,
+            span,
+            reads_first: matches!(command.job, Job::Check | Job::Load),
+        });
+        used.count += 1;
+        used.span = span;
+    }
+    uses.into_iter().flatten().collect()
 }
 
 fn read_routine<'a>(reader: &mut Reader<'a>, numbers: &HashMap<&str, usize>) -> Routine<'a> {

@@ -33,6 +33,8 @@ fn draw_command(draws: &mut Draws) -> Command {
         job,
         value,
         must: job != Job::Check,
+        estimate: 100,
+        takes: 100,
     }
 }
 
