@@ -3,18 +3,27 @@ use crate::devices::{Grip, Sim, Task};
 use crate::script::{Command, Device, Job, Routine, Script, Use, Window};
 
 /// What a live run has to do and has done on a device.
-struct Access {
-    run: usize,
-    left: u32,
+pub struct Access {
+    pub run: usize,
+    pub left: u32,
     touched: bool,
     wrote: Option<u32>,
+    /// When it is planned.
+    pub span: Span,
     /// When its lease ends where it has one, in ms.
     deadline: u64,
 }
 
+/// From and to when a run is planned to use a device, in ms.
+#[derive(Clone, Copy)]
+pub struct Span {
+    pub from: u64,
+    pub to: u64,
+}
+
 /// A device of the home, with the accesses of live runs in line order.
 pub struct Lineage<'a> {
-    accesses: Vec<Access>,
+    pub accesses: Vec<Access>,
     /// The last run of the line whose write here is not undone.
     writer: Option<usize>,
     pub committed: u32,
@@ -55,6 +64,8 @@ pub struct Run<'a> {
     /// What its reads found; `None` for a write.
     pub answers: Vec<Option<u32>>,
     register: u32,
+    /// How many commands its device died in, or before.
+    pub died: usize,
     /// When it arrived, in ms, and how many runs were placed before it.
     arrived: u64,
     placed: usize,
@@ -78,6 +89,7 @@ pub enum Model {
 pub enum Scheduler {
     Fcfs,
     Jit,
+    Timeline,
 }
 
 /// How long a run that is denied a device waits for a better place than the end of the line, in ms.
@@ -100,7 +112,7 @@ pub struct Hub<'a> {
     pub lineages: Vec<Lineage<'a>>,
     pub runs: Vec<Run<'a>>,
     /// Runs that were placed and have not ended, in line order.
-    live: Vec<usize>,
+    pub live: Vec<usize>,
     pub line: Vec<Item>,
     /// A bit for each run that is doomed.
     doomed: u64,
@@ -179,6 +191,7 @@ impl<'a> Hub<'a> {
                 doom: None,
                 answers: Vec::with_capacity(routine.commands.len()),
                 register: 0,
+                died: 0,
                 arrived: 0,
                 placed: 0,
             }
@@ -211,10 +224,16 @@ impl<'a> Hub<'a> {
                 return Turn::Moved;
             }
             Stage::Arrived => {
+                if self.scheduler == Scheduler::Timeline {
+                    let (set, spans) = self.gap(r);
+                    let place = self.rearrange(&set);
+                    self.place(r, place, &spans);
+                    return Turn::Moved;
+                }
                 let Some(place) = self.admit(r) else {
                     return Turn::Restless;
                 };
-                self.place(r, place);
+                self.place(r, place, &[]);
                 return Turn::Moved;
             }
             Stage::Placed => {}
@@ -254,11 +273,7 @@ impl<'a> Hub<'a> {
 
     /// The place behind what has touched a device of the routine, and all that stands before the first live run.
     fn first_place(&self, routine: &Routine) -> usize {
-        let touched = routine
-            .devices
-            .iter()
-            .fold(0, |runs, used| runs | self.lineages[used.device].touched);
-        let live = self.live.iter().fold(0, |runs, x| runs | 1 << x);
+        let touched = self.touching(routine);
         let binds = |item: &Item| match item {
             Item::Ran(x) => touched >> x & 1 == 1,
             Item::Failed(d) | Item::Back(d) => routine
@@ -266,14 +281,34 @@ impl<'a> Hub<'a> {
                 .binary_search_by_key(d, |used| used.device)
                 .is_ok(),
         };
-        let is_live = |item: &Item| matches!(item, Item::Ran(x) if live >> *x & 1u64 == 1);
-        let front = self
-            .line
-            .iter()
-            .position(is_live)
-            .unwrap_or(self.line.len());
         let floor = self.line.iter().rposition(binds).map_or(0, |at| at + 1);
-        floor.max(front)
+        floor.max(self.front())
+    }
+
+    /// The runs that have touched a device of the routine, a bit for each.
+    pub fn touching(&self, routine: &Routine) -> u64 {
+        let uses = routine.devices.iter();
+        uses.fold(0, |runs, used| runs | self.lineages[used.device].touched)
+    }
+
+    /// How many items stand before the first live run.
+    pub fn front(&self) -> usize {
+        let live = self.live.iter().fold(0u64, |runs, x| runs | 1 << x);
+        let is_live = |item: &Item| matches!(item, Item::Ran(x) if live >> *x & 1 == 1);
+        let first = self.line.iter().position(is_live);
+        first.unwrap_or(self.line.len())
+    }
+
+    /// The items of the set come first, in their order.
+    fn rearrange(&mut self, set: &[bool]) -> usize {
+        let (mut before, mut behind) = (Vec::new(), Vec::new());
+        for (item, flag) in self.line.iter().zip(set) {
+            (if *flag { &mut before } else { &mut behind }).push(*item);
+        }
+        let place = before.len();
+        before.append(&mut behind);
+        self.line = before;
+        place
     }
 
     /// The runs among the items, a bit for each.
@@ -292,28 +327,33 @@ impl<'a> Hub<'a> {
         }
     }
 
-    fn place(&mut self, r: usize, place: usize) {
+    /// Without planned times its commands are planned one after another from now on.
+    fn place(&mut self, r: usize, place: usize, spans: &[Span]) {
         let behind = self.runs_of(&self.line[place..]);
         let run = &mut self.runs[r];
         run.stage = Stage::Placed;
         run.placed = self.placed;
         self.placed += 1;
-        for used in &run.routine.devices {
+        for (k, used) in run.routine.devices.iter().enumerate() {
             let accesses = &mut self.lineages[used.device].accesses;
+            let (from, to) = (self.moment, self.moment + used.span);
+            let span = *spans.get(k).unwrap_or(&Span { from, to });
             let access = Access {
                 run: r,
                 left: used.count,
                 touched: false,
                 wrote: None,
-                deadline: self.moment + used.span + used.span.div_ceil(10),
+                span,
+                deadline: span.to + used.span.div_ceil(10),
             };
-            match accesses
-                .iter()
-                .position(|other| behind >> other.run & 1 == 1)
-            {
-                Some(at) if behind != 0 => accesses.insert(at, access),
-                _ => accesses.push(access),
+            if behind == 0 {
+                accesses.push(access);
+                continue;
             }
+            let at = accesses
+                .iter()
+                .position(|other| behind >> other.run & 1 == 1);
+            accesses.insert(at.unwrap_or(accesses.len()), access);
         }
         self.live.push(r);
         self.line.insert(place, Item::Ran(r));
@@ -396,6 +436,7 @@ impl<'a> Hub<'a> {
         }
         self.lineages[d].touched |= 1 << r;
         if !self.lineages[d].up {
+            self.runs[r].died = 1;
             self.doom(r, Cause::Must(c));
             return Turn::Moved;
         }
@@ -551,6 +592,7 @@ impl<'a> Hub<'a> {
         let is_last = access.left == 0;
         let was_touched = std::mem::replace(&mut access.touched, true);
         if !worked {
+            self.runs[r].died = 1;
             self.doom(
                 r,
                 if was_touched {

@@ -17,6 +17,7 @@ mod record;
 mod replay;
 mod run;
 mod script;
+mod timeline;
 mod trial;
 
 use check::check_record;
@@ -45,6 +46,7 @@ fn play_day(
     let scheduler = match scheduler_name {
         "fcfs" => Scheduler::Fcfs,
         "jit" => Scheduler::Jit,
+        "timeline" => Scheduler::Timeline,
         other => panic!("no scheduler {other}"),
     };
     let mut hub = Hub::new(script, visibility, scheduler);

@@ -1,4 +1,5 @@
 //! The script, of the form in which dense_day.py writes it.
+use crate::timeline::bits;
 use std::collections::HashMap;
 
 pub struct Device<'a> {
@@ -41,15 +42,19 @@ pub struct Use {
     pub count: u32,
     /// What its commands are estimated to take up to the last one there, in ms.
     pub span: u64,
-    /// Whether the first of them reads.
+    /// Whether the first of them reads, and whether one writes.
     pub reads_first: bool,
+    pub writes: bool,
 }
 
 pub struct Routine<'a> {
     pub name: &'a str,
     pub commands: Vec<Command>,
-    /// Its devices, ascending.
+    /// Its devices, ascending, and a bit for each.
     pub devices: Vec<Use>,
+    pub bits: [u64; 4],
+    /// Whether it begins on some device with a read.
+    pub reads_first: bool,
 }
 
 pub struct Window<'a> {
@@ -196,7 +201,9 @@ pub fn devices_of(commands: &[Command], devices: usize) -> Vec<Use> {
             count: 0,
             span,
             reads_first: matches!(command.job, Job::Check | Job::Load),
+            writes: false,
         });
+        used.writes |= matches!(command.job, Job::Set | Job::Store);
         used.count += 1;
         used.span = span;
     }
@@ -208,13 +215,18 @@ fn read_routine<'a>(reader: &mut Reader<'a>, numbers: &HashMap<&str, usize>) -> 
         name: "",
         commands: Vec::new(),
         devices: Vec::new(),
+        bits: [0; 4],
+        reads_first: false,
     };
     reader.members(|reader, member| match member {
         "name" => routine.name = reader.text(),
         "commands" => routine.commands = reader.list(|reader| read_command(reader, numbers)),
         other => panic!("unknown member {other}"),
     });
+    assert!(numbers.len() <= 256);
     routine.devices = devices_of(&routine.commands, numbers.len());
+    routine.bits = bits(&routine.devices);
+    routine.reads_first = routine.devices.iter().any(|used| used.reads_first);
     routine
 }
 

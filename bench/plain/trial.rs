@@ -53,6 +53,8 @@ pub fn trial_script(names: &Names) -> Script<'_> {
             name,
             devices: devices_of(&commands, 32),
             commands,
+            bits: [0; 4],
+            reads_first: false,
         }
     };
     let devices = names.devices.iter().map(|name| device(name)).collect();
