@@ -39,8 +39,6 @@ pub struct Grip<'a> {
     pub device: usize,
     pub sim: Box<Sim<'a>>,
     pub task: Task,
-    /// How long a command takes, in ms.
-    pub takes: u64,
     pub worked: bool,
 }
 

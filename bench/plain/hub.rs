@@ -8,10 +8,6 @@ pub struct Access {
     pub left: u32,
     touched: bool,
     wrote: Option<u32>,
-    /// When it is planned.
-    pub span: Span,
-    /// When its lease ends where it has one, in ms.
-    deadline: u64,
 }
 
 /// From and to when a run is planned to use a device, in ms.
@@ -64,6 +60,8 @@ pub struct Run<'a> {
     /// What its reads found; `None` for a write.
     pub answers: Vec<Option<u32>>,
     register: u32,
+    /// When it is planned to use each of its devices: under a scheduler that plans.
+    pub spans: Vec<Span>,
     /// How many commands its device died in, or before.
     pub died: usize,
     /// When it arrived, in ms, and how many runs were placed before it.
@@ -191,6 +189,7 @@ impl<'a> Hub<'a> {
                 doom: None,
                 answers: Vec::with_capacity(routine.commands.len()),
                 register: 0,
+                spans: Vec::new(),
                 died: 0,
                 arrived: 0,
                 placed: 0,
@@ -202,13 +201,12 @@ impl<'a> Hub<'a> {
         self.doomed >> r & 1 == 1
     }
 
-    fn go(&mut self, d: usize, task: Task, takes: u32) -> Turn<'a> {
+    fn go(&mut self, d: usize, task: Task) -> Turn<'a> {
         let sim = self.lineages[d].home.take().unwrap();
         Turn::Go(Grip {
             device: d,
             sim,
             task,
-            takes: takes.into(),
             worked: false,
         })
     }
@@ -227,13 +225,17 @@ impl<'a> Hub<'a> {
                 if self.scheduler == Scheduler::Timeline {
                     let (set, spans) = self.gap(r);
                     let place = self.rearrange(&set);
-                    self.place(r, place, &spans);
+                    self.runs[r].spans = spans;
+                    self.place(r, place);
                     return Turn::Moved;
                 }
                 let Some(place) = self.admit(r) else {
                     return Turn::Restless;
                 };
-                self.place(r, place, &[]);
+                if self.scheduler == Scheduler::Jit {
+                    self.plan_alone(r);
+                }
+                self.place(r, place);
                 return Turn::Moved;
             }
             Stage::Placed => {}
@@ -243,7 +245,7 @@ impl<'a> Hub<'a> {
         } else if run.answers.len() == run.routine.commands.len() {
             self.commit(r)
         } else {
-            self.ask(r)
+            self.command(r)
         }
     }
 
@@ -327,24 +329,36 @@ impl<'a> Hub<'a> {
         }
     }
 
-    /// Without planned times its commands are planned one after another from now on.
-    fn place(&mut self, r: usize, place: usize, spans: &[Span]) {
+    /// Plans its commands one after another from now on.
+    fn plan_alone(&mut self, r: usize) {
+        let from = self.moment;
+        let span = |used: &Use| Span {
+            from,
+            to: from + used.span,
+        };
+        self.runs[r].spans = self.runs[r].routine.devices.iter().map(span).collect();
+    }
+
+    /// When the run is planned to use the device, and what it has to do there.
+    pub fn planned(&self, x: usize, d: usize) -> (Span, &Use) {
+        let run = &self.runs[x];
+        let at = usize::from(run.routine.places[d]);
+        (run.spans[at], &run.routine.devices[at])
+    }
+
+    fn place(&mut self, r: usize, place: usize) {
         let behind = self.runs_of(&self.line[place..]);
         let run = &mut self.runs[r];
         run.stage = Stage::Placed;
         run.placed = self.placed;
         self.placed += 1;
-        for (k, used) in run.routine.devices.iter().enumerate() {
+        for used in &run.routine.devices {
             let accesses = &mut self.lineages[used.device].accesses;
-            let (from, to) = (self.moment, self.moment + used.span);
-            let span = *spans.get(k).unwrap_or(&Span { from, to });
             let access = Access {
                 run: r,
                 left: used.count,
                 touched: false,
                 wrote: None,
-                span,
-                deadline: span.to + used.span.div_ceil(10),
             };
             if behind == 0 {
                 accesses.push(access);
@@ -362,47 +376,52 @@ impl<'a> Hub<'a> {
         }
     }
 
-    /// The first run before this one that has the device on lease from it, and when that ends.
+    /// The first run before this one whose lease of the device from it has ended at this moment, and when.
     fn borrower(&self, r: usize, d: usize, moment: u64) -> Option<(usize, u64)> {
         let placed = self.runs[r].placed;
-        let before = self.lineages[d]
-            .accesses
-            .iter()
-            .take_while(|access| access.run != r);
-        let borrows = |access: &&Access| {
-            self.runs[access.run].placed > placed && access.left > 0 && !self.is_doomed(access.run)
-        };
-        let overdue = |access: &&Access| access.deadline < moment && borrows(access);
-        before
-            .clone()
-            .find(overdue)
-            .map(|access| (access.run, access.deadline))
+        let accesses = self.lineages[d].accesses.iter();
+        let mut before = accesses.take_while(|access| access.run != r);
+        before.find_map(|access| {
+            let x = access.run;
+            if self.runs[x].placed <= placed || access.left == 0 || self.is_doomed(x) {
+                return None;
+            }
+            let (span, used) = self.planned(x, d);
+            let deadline = span.to + used.span.div_ceil(10);
+            (deadline < moment).then_some((x, deadline))
+        })
     }
 
-    /// The step of a run that has a next command: it asks for its device.
-    fn ask(&mut self, r: usize) -> Turn<'a> {
-        if self.scheduler == Scheduler::Fcfs {
-            return self.command(r);
+    /// The lease on the device that is overdue for the run is revoked.
+    fn revokes(&mut self, lender: usize, device: usize) -> bool {
+        let moment = self.moment;
+        let Some((x, deadline)) = self.borrower(lender, device, moment) else {
+            return false;
+        };
+        self.doom(
+            x,
+            Cause::Revoked {
+                device,
+                lender,
+                deadline,
+                moment,
+            },
+        );
+        true
+    }
+
+    /// The run waits for the device, or for the end of another run.
+    fn waits_for(&self, r: usize, d: usize, device: Option<usize>) -> Turn<'a> {
+        if self.plans() && self.borrower(r, d, u64::MAX).is_some() {
+            Turn::Restless
+        } else {
+            Turn::Waits(device)
         }
-        let run = &self.runs[r];
-        let device = run.routine.commands[run.answers.len()].device;
-        if let Some((x, deadline)) = self.borrower(r, device, self.moment) {
-            let (lender, moment) = (r, self.moment);
-            self.doom(
-                x,
-                Cause::Revoked {
-                    device,
-                    lender,
-                    deadline,
-                    moment,
-                },
-            );
-            return Turn::Moved;
-        }
-        match self.command(r) {
-            Turn::Waits(_) if self.borrower(r, device, u64::MAX).is_some() => Turn::Restless,
-            turn => turn,
-        }
+    }
+
+    /// Whether the scheduler plans when runs use their devices.
+    pub fn plans(&self) -> bool {
+        self.scheduler != Scheduler::Fcfs
     }
 
     fn command(&mut self, r: usize) -> Turn<'a> {
@@ -412,27 +431,30 @@ impl<'a> Hub<'a> {
             device: d,
             job,
             value,
-            takes,
             ..
         } = run.routine.commands[c];
         let reads = matches!(job, Job::Check | Job::Load);
+        if self.plans() && self.revokes(r, d) {
+            return Turn::Moved;
+        }
+        let run = &self.runs[r];
         let lineage = &self.lineages[d];
         for access in &lineage.accesses {
             if access.run == r {
                 if reads && access.wrote.is_none() && self.reads_dirty(r, d) {
-                    return Turn::Waits(Some(d));
+                    return self.waits_for(r, d, Some(d));
                 }
                 break;
             }
             if self.holds(lineage, access) {
-                return Turn::Waits(Some(d));
+                return self.waits_for(r, d, Some(d));
             }
         }
         if self.waits_strictly(r) {
-            return Turn::Waits(None);
+            return self.waits_for(r, d, None);
         }
         if lineage.home.is_none() {
-            return Turn::Waits(Some(d));
+            return self.waits_for(r, d, Some(d));
         }
         self.lineages[d].touched |= 1 << r;
         if !self.lineages[d].up {
@@ -445,7 +467,7 @@ impl<'a> Hub<'a> {
             Job::Store => Task::Drive(self.devices[d].nearest(run.register)),
             Job::Check | Job::Load => Task::Sense,
         };
-        self.go(d, task, takes)
+        self.go(d, task)
     }
 
     /// Whether a live run before it has written what stands on the device.
@@ -503,7 +525,7 @@ impl<'a> Hub<'a> {
                     return Turn::Moved;
                 }
                 let value = lineage.standing();
-                return self.go(*d, Task::Undo(value), 0);
+                return self.go(*d, Task::Undo(value));
             }
         }
         for Use { device: d, .. } in &self.runs[r].routine.devices {
@@ -562,7 +584,12 @@ impl<'a> Hub<'a> {
     }
 
     /// A run's grip comes back.
+    #[inline]
     pub fn give(&mut self, r: usize, grip: Grip<'a>) {
+        if self.plans() && matches!(grip.task, Task::Drive(_) | Task::Sense) {
+            let run = &self.runs[r];
+            self.moment += u64::from(run.routine.commands[run.answers.len()].takes);
+        }
         let (d, found) = (grip.device, grip.sim.value);
         self.lineages[d].home = Some(grip.sim);
         match grip.task {
@@ -637,7 +664,6 @@ impl<'a> Hub<'a> {
             device: d,
             sim,
             task: Task::Probe(restored),
-            takes: 0,
             worked: false,
         })
     }

@@ -30,7 +30,6 @@ impl Player<'_, '_> {
     fn pick(&mut self, actor: usize) -> bool {
         if let Some(mut grip) = self.grips[actor].take() {
             grip.act();
-            self.hub.moment += grip.takes;
             if actor == 0 {
                 self.hub.give_probe(grip)
             } else {

@@ -38,8 +38,9 @@ pub struct Command {
 /// What a routine has to do on a device.
 pub struct Use {
     pub device: usize,
-    /// How many of its commands are on it.
+    /// How many of its commands are on it, and the number of the last one.
     pub count: u32,
+    pub last: usize,
     /// What its commands are estimated to take up to the last one there, in ms.
     pub span: u64,
     /// Whether the first of them reads, and whether one writes.
@@ -53,6 +54,8 @@ pub struct Routine<'a> {
     /// Its devices, ascending, and a bit for each.
     pub devices: Vec<Use>,
     pub bits: [u64; 4],
+    /// For each device its place among them.
+    pub places: Vec<u8>,
     /// Whether it begins on some device with a read.
     pub reads_first: bool,
 }
@@ -194,11 +197,12 @@ fn read_command<'a>(reader: &mut Reader<'a>, numbers: &HashMap<&str, usize>) -> 
 pub fn devices_of(commands: &[Command], devices: usize) -> Vec<Use> {
     let mut uses: Vec<Option<Use>> = (0..devices).map(|_| None).collect();
     let mut span = 0;
-    for command in commands {
+    for (c, command) in commands.iter().enumerate() {
         span += u64::from(command.estimate);
         let used = uses[command.device].get_or_insert(Use {
             device: command.device,
             count: 0,
+            last: 0,
             span,
             reads_first: matches!(command.job, Job::Check | Job::Load),
             writes: false,
@@ -206,6 +210,7 @@ pub fn devices_of(commands: &[Command], devices: usize) -> Vec<Use> {
         used.writes |= matches!(command.job, Job::Set | Job::Store);
         used.count += 1;
         used.span = span;
+        used.last = c;
     }
     uses.into_iter().flatten().collect()
 }
@@ -216,6 +221,7 @@ fn read_routine<'a>(reader: &mut Reader<'a>, numbers: &HashMap<&str, usize>) -> 
         commands: Vec::new(),
         devices: Vec::new(),
         bits: [0; 4],
+        places: Vec::new(),
         reads_first: false,
     };
     reader.members(|reader, member| match member {
@@ -226,6 +232,10 @@ fn read_routine<'a>(reader: &mut Reader<'a>, numbers: &HashMap<&str, usize>) -> 
     assert!(numbers.len() <= 256);
     routine.devices = devices_of(&routine.commands, numbers.len());
     routine.bits = bits(&routine.devices);
+    routine.places = vec![0; numbers.len()];
+    for (at, used) in routine.devices.iter().enumerate() {
+        routine.places[used.device] = at as u8;
+    }
     routine.reads_first = routine.devices.iter().any(|used| used.reads_first);
     routine
 }

@@ -20,6 +20,19 @@ fn meet(a: &Devices, b: &Devices) -> bool {
     a.iter().zip(b).any(|(a, b)| a & b != 0)
 }
 
+/// The devices that both have, ascending.
+fn shared(a: &Devices, b: &Devices) -> impl Iterator<Item = usize> {
+    let words = [a[0] & b[0], a[1] & b[1], a[2] & b[2], a[3] & b[3]];
+    words.into_iter().enumerate().flat_map(|(at, word)| {
+        let mut left = word;
+        std::iter::from_fn(move || {
+            let d = left.trailing_zeros() as usize;
+            left &= left.wrapping_sub(1);
+            (d < 64).then_some(64 * at + d)
+        })
+    })
+}
+
 /// A run that is to be placed: for each of its devices when that is free, and from and to when the run is planned to use it.
 struct Plan<'a> {
     routine: &'a Routine<'a>,
@@ -106,9 +119,7 @@ impl<'a> Hub<'a> {
         );
         let mut clock = self.moment;
         for command in &plan.routine.commands {
-            let at = uses
-                .binary_search_by_key(&command.device, |used| used.device)
-                .unwrap();
+            let at = usize::from(plan.routine.places[command.device]);
             let start = clock.max(plan.free[at]);
             clock = start + u64::from(command.estimate);
             plan.spans[at].from = plan.spans[at].from.min(start);
@@ -118,34 +129,31 @@ impl<'a> Hub<'a> {
 
     /// A live run stands before the one that is planned.
     fn pass(&self, plan: &mut Plan, x: usize) {
-        let mut whole = 0;
+        let (run, routine) = (&self.runs[x], plan.routine);
+        let answered = run.answers.len() + run.died;
         let is_doomed = self.is_doomed(x);
-        let uses = &plan.routine.devices;
-        for used in &self.runs[x].routine.devices {
-            let d = used.device;
-            if !plan.routine.reads_first && !has(&plan.routine.bits, d) {
-                continue;
-            }
-            let Some(access) = self.lineages[d]
-                .accesses
-                .iter()
-                .find(|access| access.run == x)
-            else {
-                continue;
-            };
-            whole = whole.max(access.span.to);
-            if access.left > 0 && !is_doomed && has(&plan.routine.bits, d) {
-                let at = uses.binary_search_by_key(&d, |used| used.device).unwrap();
-                plan.free[at] = plan.free[at].max(access.span.to);
+        for d in shared(&run.routine.bits, &routine.bits).filter(|_| !is_doomed) {
+            let (span, used) = self.planned(x, d);
+            if used.last >= answered {
+                let free = &mut plan.free[usize::from(routine.places[d])];
+                *free = span.to.max(*free);
             }
         }
-        if plan.routine.reads_first {
-            for used in &self.runs[x].routine.devices {
-                if let Ok(at) = uses.binary_search_by_key(&used.device, |used| used.device) {
-                    if used.writes && uses[at].reads_first {
-                        plan.free[at] = plan.free[at].max(whole);
-                    }
-                }
+        if !routine.reads_first {
+            return;
+        }
+        // what a committed run behind it has written counts no more
+        let is_kept = |used: &Use| {
+            let mut accesses = self.lineages[used.device].accesses.iter();
+            accesses.any(|access| access.run == x)
+        };
+        let uses = run.routine.devices.iter();
+        let kept = uses.zip(&run.spans).filter(|(used, _)| is_kept(used));
+        let whole = kept.map(|(_, span)| span.to).max().unwrap_or(0);
+        for d in shared(&run.routine.bits, &routine.bits) {
+            let at = usize::from(routine.places[d]);
+            if self.planned(x, d).1.writes && routine.devices[at].reads_first {
+                plan.free[at] = plan.free[at].max(whole);
             }
         }
     }
@@ -155,17 +163,13 @@ impl<'a> Hub<'a> {
         let mut some = false;
         for (item, flag) in self.line.iter().zip(set) {
             let Item::Ran(x) = item else { continue };
-            if *flag || !self.is_live(*x) || !meet(&self.runs[*x].routine.bits, &plan.routine.bits)
-            {
+            if *flag || !self.is_live(*x) {
                 continue;
             }
-            let overlaps = |(used, span): (&Use, &Span)| {
-                let accesses = &self.lineages[used.device].accesses;
-                accesses
-                    .iter()
-                    .any(|access| access.run == *x && access.span.from < span.to)
-            };
-            *flag = plan.routine.devices.iter().zip(&plan.spans).any(overlaps);
+            let routine = plan.routine;
+            *flag = shared(&self.runs[*x].routine.bits, &routine.bits).any(|d| {
+                self.planned(*x, d).0.from < plan.spans[usize::from(routine.places[d])].to
+            });
             some |= *flag;
         }
         some

@@ -54,6 +54,7 @@ pub fn trial_script(names: &Names) -> Script<'_> {
             devices: devices_of(&commands, 32),
             commands,
             bits: [0; 4],
+            places: Vec::new(),
             reads_first: false,
         }
     };
