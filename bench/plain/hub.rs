@@ -620,6 +620,7 @@ impl<'a> Hub<'a> {
         let was_touched = std::mem::replace(&mut access.touched, true);
         if !worked {
             self.runs[r].died = 1;
+            self.free_at(d);
             self.doom(
                 r,
                 if was_touched {

@@ -1,15 +1,16 @@
 //! A plain program by the rules of the hub, without proofs: what a replay and a run of the same day, its check and a trial cost
 //! at the least.
 //!
-//!     plain replay|run [--model gsv|psv|ev] < SCRIPT
+//!     plain replay [--model gsv|psv|ev] [--scheduler jit|timeline] < SCRIPT
+//!     plain run [--model gsv|psv|ev] < SCRIPT
 //!     plain check < SCRIPT-AND-RECORD
 //!     plain trial WINDOWS
 //!
-//! It serves first come first served what the days of dense_day.py need: `set` and `check` commands that must not fail,
-//! aborted runs, devices that fail, probes; and, where no device fails, what trials need: loads, stores, and checks that may
-//! fail. Runs that follow others, turns, traces, planned times and the other schedulers it does not know. It reads the members
-//! of a script in the order in which dense_day.py writes them, and panics at a script of another form. Its record is that of
-//! the program, byte for byte.
+//! It knows what the days of dense_day.py need: `set` and `check` commands that must not fail, aborted runs, devices that
+//! fail, probes, and in a replay both other schedulers, with leases and their ends; and, where no device fails, what trials
+//! need: loads, stores, and checks that may fail. Runs that follow others, turns, guards and traces it does not know. It reads
+//! the members of a script in the order in which dense_day.py writes them, and panics at a script of another form. Its record
+//! is that of the program, byte for byte.
 mod check;
 mod devices;
 mod hub;
@@ -107,7 +108,7 @@ fn main() {
         ["replay", "--scheduler", scheduler] => (replay_window, ("ev", scheduler)),
         ["run"] => (run_window, ("ev", "fcfs")),
         ["run", "--model", model] => (run_window, (model, "fcfs")),
-        _ => panic!("plain replay|run [--model gsv|psv|ev], plain check, plain trial WINDOWS"),
+        _ => panic!("no such call"),
     };
     let mut text = String::new();
     std::io::stdin().read_to_string(&mut text).unwrap();
