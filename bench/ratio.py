@@ -5,10 +5,12 @@
 
 PROGRAM is crates/hub_main/out/hub_main by default, which `rt run` builds; the plain program is built by `rustc -O`. Wants
 valgrind: callgrind counts the instructions of both, which no other work on the machine changes, on days of four windows drawn
-by dense_day.py, each under the models of which the plain program knows the rules. Both records must be the same. The whole call
-is counted, and the day alone, without its script's reading. Then both run the dense day of 288 windows with a thread for each
-run, in turn, five times: the least times count, and each record must be one with which the program's `check` agrees. In the
-same way the replay of that day is timed.
+by dense_day.py, each under the models with an order, just in time, and by the timeline. Both records must be the same. The
+whole call is counted, and the day alone, without its script's reading. Then both check these records, and play a trial of as
+many windows and one of six times as many: what they print must be the same, and the judging of the record is counted alone as
+well. Then both run the dense day of 288 windows with a thread for each run, in turn, five times: the least times count, and
+each record must be one with which the program's `check` agrees. In the same way the replay of that day is timed, its check, and
+a trial of as many windows.
 
 The tables are printed. With `--write` they take the place of what stands between the lines `<!-- ratios -->` and
 `<!-- end of ratios -->` of docs/PERFORMANCE.md. `--unproved` says above them that the program was built without proof.
@@ -28,10 +30,11 @@ from time_run import timed
 HERE = os.path.dirname(os.path.abspath(__file__))
 SOURCE = os.path.join(HERE, "plain", "main.rs")
 MARKS = "<!-- ratios -->", "<!-- end of ratios -->"
-MODELS = ["ev", "gsv", "psv"]
+MODES = ["ev", "gsv", "psv", "jit", "timeline"]
 WINDOWS, TIMES = 4, 5
-# the function that plays and prints a day which is read
+# the functions that play and print a day which is read, and that judge a record
 PLAYS = {"program": r"hub_commands::replays::replay_(day|next)\b", "plain": r"plain::play_day\b|main::play_day\b"}
+JUDGES = {"program": r"order_checker::records::check_record\b", "plain": r"plain::check::check_record\b"}
 
 
 def plain_program(folder):
@@ -40,8 +43,8 @@ def plain_program(folder):
     return path
 
 
-def counted(which, called, script):
-    """The instructions of a call, and of the day in it."""
+def counted(part, called, script):
+    """The instructions of a call, and of a part of it."""
     with tempfile.TemporaryDirectory() as room:
         out = os.path.join(room, "callgrind")
         subprocess.run(["valgrind", "--tool=callgrind", f"--callgrind-out-file={out}", *called], input=script,
@@ -52,7 +55,7 @@ def counted(which, called, script):
     def number(pattern):
         return next(int(line.split()[0].replace(",", "")) for line in lines if re.search(pattern, line))
 
-    return number("PROGRAM TOTALS"), number(PLAYS[which])
+    return number("PROGRAM TOTALS"), number(part)
 
 
 def record(called, script):
@@ -61,21 +64,42 @@ def record(called, script):
 
 def instructions(programs):
     """The table of instructions."""
-    head_row("Day", "Model", "Program", "Plain program", "Ratio", "without reading: program", "plain program", "Ratio")
+    head_row("Day", "Mode", "Program", "Plain program", "Ratio", "without reading: program", "plain program", "Ratio")
     for day, sizes in DAYS.items():
         script = with_windows(sizes, WINDOWS)
-        for model in MODELS:
-            calls = {which: [path, *words(model)] for which, path in programs.items()}
-            first, second = (record(called, script) for called in calls.values())
-            if first != second:
-                sys.exit(f"ratio: the records of the {day} day under {model} differ")
-            whole, played = zip(*(counted(which, called, script) for which, called in calls.items()))
-            row(day, f"`{model}`", *(f"{count:,}" for count in whole), f"{whole[0] / whole[1]:.2f}",
-                *(f"{count:,}" for count in played), f"{played[0] / played[1]:.2f}")
+        for mode in MODES:
+            compared(programs, words(mode), script, PLAYS, day, f"`{mode}`")
+
+
+def compared(programs, asked, given, parts, *cells):
+    """A row of the instructions of this call and of its part, by the program and the plain one, which must print the same."""
+    calls = {which: [path, *asked] for which, path in programs.items()}
+    first, second = (record(called, given) for called in calls.values())
+    if first != second:
+        sys.exit(f"ratio: the two differ in {' '.join(asked)}, {' '.join(cells)}")
+    whole, part = zip(*(counted(parts[which], called, given) for which, called in calls.items()))
+    row(*cells, *(f"{count:,}" for count in whole), f"{whole[0] / whole[1]:.2f}",
+        *(f"{count:,}" for count in part), f"{part[0] / part[1]:.2f}")
+
+
+def judged(programs):
+    """The table of checks and trials."""
+    print()
+    head_row("Call", "Of", "Program", "Plain program", "Ratio", "judging alone: program", "plain program", "Ratio")
+    for day, sizes in DAYS.items():
+        script = with_windows(sizes, WINDOWS)
+        given = with_record(script, record([programs["program"], "replay"], script))
+        compared(programs, ["check"], given, JUDGES, "`check`", f"{day}, `ev`")
+    for windows in [WINDOWS, 6 * WINDOWS]:
+        compared(programs, ["trial", str(windows)], b"", JUDGES, "`trial`", f"{windows} windows")
+
+
+def with_record(script, told):
+    return script + b"%%\n" + told
 
 
 def agrees(program, script, told):
-    return subprocess.run([program, "check"], input=script + b"%%\n" + told, stdout=subprocess.DEVNULL).returncode == 0
+    return subprocess.run([program, "check"], input=with_record(script, told), stdout=subprocess.DEVNULL).returncode == 0
 
 
 def spent(called, script):
@@ -88,7 +112,7 @@ def spent(called, script):
 def times(programs):
     """The table of the times of the dense day."""
     print()
-    head_row("The dense day", "Model", "Clock, s: program", "plain program", "Ratio", "Processor time, s: program",
+    head_row("The dense day", "Mode", "Clock, s: program", "plain program", "Ratio", "Processor time, s: program",
              "plain program", "Ratio", "Memory, MB: program", "plain program", "Threads slept: program", "plain program")
     script = dense_day()
     for command, model in [("replay", "ev"), ("replay", "gsv"), ("run", "ev"), ("run", "gsv")]:
@@ -96,12 +120,20 @@ def times(programs):
         for called in calls:
             if not agrees(programs["program"], script, record(called, script)):
                 sys.exit(f"ratio: the program does not agree with a record of the dense day by {called}")
-        tries = [[spent(called, script) for called in calls] for _ in range(TIMES)]
-        (clock, used, slept), (plain_clock, plain_used, plain_slept) = (map(min, zip(*of_one)) for of_one in zip(*tries))
-        heaps = [shown(memory(called, script), 1024) for called in calls]
-        sleeps = ["", ""] if command == "replay" else [f"{slept:,}", f"{plain_slept:,}"]
-        row(f"`{command}`", f"`{model}`", f"{clock:.2f}", f"{plain_clock:.2f}", f"{clock / plain_clock:.2f}", f"{used:.2f}",
-            f"{plain_used:.2f}", f"{used / plain_used:.2f}", *heaps, *sleeps)
+        timed_row(calls, script, f"`{command}`", f"`{model}`")
+    given = with_record(script, record([programs["program"], "replay"], script))
+    timed_row([[path, "check"] for path in programs.values()], given, "`check`", "`ev`")
+    timed_row([[path, "trial", "288"] for path in programs.values()], b"", "`trial 288`", "its own day")
+
+
+def timed_row(calls, given, *cells):
+    """A row of what the two calls take, in turn."""
+    tries = [[spent(called, given) for called in calls] for _ in range(TIMES)]
+    (clock, used, slept), (plain_clock, plain_used, plain_slept) = (map(min, zip(*of_one)) for of_one in zip(*tries))
+    heaps = [shown(memory(called, given), 1024) for called in calls]
+    sleeps = [f"{slept:,}", f"{plain_slept:,}"] if calls[0][1] == "run" else ["", ""]
+    row(*cells, f"{clock:.2f}", f"{plain_clock:.2f}", f"{clock / plain_clock:.2f}", f"{used:.2f}",
+        f"{plain_used:.2f}", f"{used / plain_used:.2f}", *heaps, *sleeps)
 
 
 def main():
@@ -114,7 +146,7 @@ def main():
         programs = {"program": os.path.realpath(built(given.program)), "plain": plain_program(folder)}
         compiler = subprocess.run(["rustc", "--version"], stdout=subprocess.PIPE, check=True).stdout.decode().strip()
         title = f"{heading(programs['program'], given.unproved)} The plain program by {compiler}."
-        text = made(title, lambda: instructions(programs), lambda: times(programs))
+        text = made(title, lambda: instructions(programs), lambda: judged(programs), lambda: times(programs))
     if given.write:
         write("PERFORMANCE.md", text, MARKS)
 

@@ -33,6 +33,16 @@ fn push_run(text: &mut String, script: &Script, r: usize, run: &Run) {
             words(text, " found ", found as usize);
         }
         Some(Cause::Lost(d)) => text.push_str(&format!(" aborted lost {}", script.devices[d].name)),
+        Some(Cause::Revoked {
+            device,
+            lender,
+            deadline,
+            moment,
+        }) => text.push_str(&format!(
+            " aborted revoked {} by {} deadline {deadline} at {moment}",
+            script.devices[device].name,
+            lender + 1
+        )),
         Some(Cause::DownAtEnd(d)) => {
             text.push_str(&format!(" aborted downatend {}", script.devices[d].name))
         }

@@ -3,6 +3,19 @@ use crate::devices::Grip;
 use crate::hub::{Hub, Stage, Turn};
 use crate::script::Window;
 
+/// The generator of picks.
+pub struct Draws(pub u64);
+
+impl Draws {
+    pub fn below(&mut self, k: usize) -> usize {
+        self.0 = self
+            .0
+            .wrapping_mul(6364136223846793005)
+            .wrapping_add(1442695040888963407);
+        ((self.0 >> 33) % k as u64) as usize
+    }
+}
+
 struct Player<'a, 'h> {
     hub: &'h mut Hub<'a>,
     grips: Vec<Option<Grip<'a>>>,
@@ -37,6 +50,7 @@ impl Player<'_, '_> {
                 self.waiting |= u64::from(!self.hub.is_doomed(actor - 1)) << (actor - 1);
                 return false;
             }
+            Turn::Restless => return false,
             _ => {}
         }
         true
@@ -54,15 +68,12 @@ impl Player<'_, '_> {
     }
 
     fn play(&mut self, seed: u64) {
-        let mut state = seed;
+        let mut draws = Draws(seed);
         let mut actors: Vec<usize> = (0..self.grips.len())
             .filter(|actor| !self.has_ended(*actor))
             .collect();
         while !actors.is_empty() {
-            state = state
-                .wrapping_mul(6364136223846793005)
-                .wrapping_add(1442695040888963407);
-            let mut at = ((state >> 33) % actors.len() as u64) as usize;
+            let mut at = draws.below(actors.len());
             while self.waits(actors[at]) || !self.pick(actors[at]) {
                 at = if at + 1 == actors.len() { 0 } else { at + 1 };
             }

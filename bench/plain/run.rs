@@ -37,6 +37,7 @@ impl<'a, 'h> Door<'a, 'h> {
                     hub.wait(r, device);
                     drop(self.bells[r].wait(hub).unwrap());
                 }
+                Turn::Restless => unreachable!(),
                 Turn::Over => return,
             }
         }

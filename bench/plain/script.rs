@@ -1,23 +1,63 @@
 //! The script, of the form in which dense_day.py writes it.
+use crate::timeline::bits;
 use std::collections::HashMap;
 
 pub struct Device<'a> {
     pub name: &'a str,
+    pub low: u32,
+    pub high: u32,
     pub start: u32,
     pub downs: Vec<(u64, u64)>,
 }
 
+impl Device<'_> {
+    pub fn nearest(&self, value: u32) -> u32 {
+        value.clamp(self.low, self.high)
+    }
+}
+
+#[derive(Clone, Copy, PartialEq)]
+pub enum Job {
+    Set,
+    Check,
+    Load,
+    Store,
+}
+
 pub struct Command {
     pub device: usize,
+    pub job: Job,
+    /// What a set drives, or a check compares with.
     pub value: u32,
-    pub reads: bool,
+    pub must: bool,
+    /// What it is estimated to take, and takes, in ms.
+    pub estimate: u32,
+    pub takes: u32,
+}
+
+/// What a routine has to do on a device.
+pub struct Use {
+    pub device: usize,
+    /// How many of its commands are on it, and the number of the last one.
+    pub count: u32,
+    pub last: usize,
+    /// What its commands are estimated to take up to the last one there, in ms.
+    pub span: u64,
+    /// Whether the first of them reads, and whether one writes.
+    pub reads_first: bool,
+    pub writes: bool,
 }
 
 pub struct Routine<'a> {
     pub name: &'a str,
     pub commands: Vec<Command>,
-    /// Its devices, ascending, and how many of its commands are on each.
-    pub devices: Vec<(usize, u32)>,
+    /// Its devices, ascending, and a bit for each.
+    pub devices: Vec<Use>,
+    pub bits: [u64; 4],
+    /// For each device its place among them.
+    pub places: Vec<u8>,
+    /// Whether it begins on some device with a read.
+    pub reads_first: bool,
 }
 
 pub struct Window<'a> {
@@ -63,7 +103,7 @@ impl<'a> Reader<'a> {
     fn text(&mut self) -> &'a str {
         self.need(b'"');
         let rest = &self.text[self.at..];
-        let text = &rest[..rest.find('"').unwrap()];
+        let text = &rest[..rest.bytes().position(|byte| byte == b'"').unwrap()];
         assert!(!text.contains('\\'));
         self.at += text.len() + 1;
         text
@@ -112,6 +152,8 @@ impl<'a> Reader<'a> {
 fn read_device<'a>(reader: &mut Reader<'a>) -> Device<'a> {
     let mut device = Device {
         name: "",
+        low: 0,
+        high: 0,
         start: 0,
         downs: Vec::new(),
     };
@@ -119,7 +161,8 @@ fn read_device<'a>(reader: &mut Reader<'a>) -> Device<'a> {
         "name" => device.name = reader.text(),
         "start" => device.start = reader.number() as u32,
         "down" => device.downs = reader.list(Reader::pair),
-        "low" | "high" => _ = reader.number(),
+        "low" => device.low = reader.number() as u32,
+        "high" => device.high = reader.number() as u32,
         other => panic!("unknown member {other}"),
     });
     device
@@ -128,23 +171,48 @@ fn read_device<'a>(reader: &mut Reader<'a>) -> Device<'a> {
 fn read_command<'a>(reader: &mut Reader<'a>, numbers: &HashMap<&str, usize>) -> Command {
     let mut command = Command {
         device: 0,
+        job: Job::Set,
         value: 0,
-        reads: false,
+        must: true,
+        estimate: 100,
+        takes: 100,
     };
     reader.members(|reader, member| match member {
         "on" => command.device = numbers[reader.text()],
         "do" => {
-            command.reads = match reader.text() {
-                "set" => false,
-                "check" => true,
+            command.job = match reader.text() {
+                "set" => Job::Set,
+                "check" => Job::Check,
                 other => panic!("unknown job {other}"),
             }
         }
         "to" => command.value = reader.number() as u32,
-        "ms" | "takes" => _ = reader.number(),
+        "takes" => command.takes = reader.number() as u32,
         other => panic!("unknown member {other}"),
     });
     command
+}
+
+/// The devices of the commands, ascending, of so many.
+pub fn devices_of(commands: &[Command], devices: usize) -> Vec<Use> {
+    let mut uses: Vec<Option<Use>> = (0..devices).map(|_| None).collect();
+    let mut span = 0;
+    for (c, command) in commands.iter().enumerate() {
+        span += u64::from(command.estimate);
+        let used = uses[command.device].get_or_insert(Use {
+            device: command.device,
+            count: 0,
+            last: 0,
+            span,
+            reads_first: matches!(command.job, Job::Check | Job::Load),
+            writes: false,
+        });
+        used.writes |= matches!(command.job, Job::Set | Job::Store);
+        used.count += 1;
+        used.span = span;
+        used.last = c;
+    }
+    uses.into_iter().flatten().collect()
 }
 
 fn read_routine<'a>(reader: &mut Reader<'a>, numbers: &HashMap<&str, usize>) -> Routine<'a> {
@@ -152,22 +220,23 @@ fn read_routine<'a>(reader: &mut Reader<'a>, numbers: &HashMap<&str, usize>) -> 
         name: "",
         commands: Vec::new(),
         devices: Vec::new(),
+        bits: [0; 4],
+        places: Vec::new(),
+        reads_first: false,
     };
     reader.members(|reader, member| match member {
         "name" => routine.name = reader.text(),
         "commands" => routine.commands = reader.list(|reader| read_command(reader, numbers)),
         other => panic!("unknown member {other}"),
     });
-    let mut counts = vec![0; numbers.len()];
-    routine
-        .commands
-        .iter()
-        .for_each(|command| counts[command.device] += 1);
-    routine.devices = counts
-        .into_iter()
-        .enumerate()
-        .filter(|(_, count)| *count > 0)
-        .collect();
+    assert!(numbers.len() <= 256);
+    routine.devices = devices_of(&routine.commands, numbers.len());
+    routine.bits = bits(&routine.devices);
+    routine.places = vec![0; numbers.len()];
+    for (at, used) in routine.devices.iter().enumerate() {
+        routine.places[used.device] = at as u8;
+    }
+    routine.reads_first = routine.devices.iter().any(|used| used.reads_first);
     routine
 }
 

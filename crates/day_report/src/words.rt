@@ -22,6 +22,7 @@ pub fn push_value(text: &mut String, states: &[Text], value: Value) -> Result<()
 
 /// Appends what a command was told, where its device has these states.
 #[tactic(auto, unfolding(crate::specs::Words::answer_text))]
+#[inline(always)]
 pub fn push_answer(text: &mut String, states: &[Text], answer: Answer) -> Result<(), AllocError>
     ensures { OnOk result (string_bytes text.new ≡ string_bytes text.old ++ answer_text states.now answer) }
 {

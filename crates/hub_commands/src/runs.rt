@@ -154,8 +154,8 @@ fn read_run_words(alloc: Global, words: &[String]) -> Result<Options, WordFault>
 
 /// Runs the command that may wait.
 ///
-/// `run` reads a day's script from the source, works its windows on devices of the bench with a thread for each run, at
-/// the moments of the clock, and writes the record to the sink. The turns and the seeds of windows are not heeded. The
+/// `run` reads a day's script from the source, works its windows on devices of the bench with threads, at most one for
+/// each run, at the moments of the clock, and writes the record to the sink. The turns and the seeds of windows are not heeded. The
 /// words are those on the command line, without the program's name; every other command is refused as words.
 ///
 /// The status tells how the call ended, as that of `still_command` does. It may wait: what is said of its answer holds if

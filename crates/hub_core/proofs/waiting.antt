@@ -1,5 +1,6 @@
 -- Runs that wait: what ends their waits, and what does not.
 pub mod AtCommands
+pub mod NearRuns
 pub mod QuietEntries
 pub mod OtherDevices
 pub mod KeptLeases

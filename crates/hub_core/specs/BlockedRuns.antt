@@ -1,17 +1,18 @@
 -- Runs that are known to wait at every moment, and the steps that end no wait of theirs.
-use Rattle.command_rules.specs.Rosters.{command_at, is_run}
+use Rattle.command_rules.specs.Rosters.{command_at, is_run, touches}
 use Rattle.history_book.specs.Histories.{entries_of}
-use Rattle.history_book.specs.Readings.{asks_on, is_doomed, is_live, next_command}
-use Rattle.history_book.specs.Settings.{Setting, is_weak}
+use Rattle.history_book.specs.Readings.{Reading, asks_on, is_doomed, is_live, next_command}
+use Rattle.history_book.specs.Settings.{Setting, is_strict, is_weak}
 use Rattle.history_book.specs.declared.entries.Entry.{Entry}
 use Rattle.history_book.specs.declared.entries.Entry.TheVariants.{Arrived, Did, Doomed, Ended, Fell, Placed, Rose, Undid}
 use Rattle.history_book.specs.declared.entries.Kept.{Kept}
+use Rattle.home_types.specs.declared.numbers.RunNo.{RunNo}
 use Rattle.hub_core.specs.Steps.{Absent, Choice, HandsOut, Moves, Over, Waits, choice_of}
 use Rattle.lock_leasing.specs.Configurations.{Configuration, read_of}
 use Rattle.lock_leasing.specs.Leases.{NeverOverdue}
 use Rattle.lock_leasing.specs.Waits.{grip_wait}
 use Rattle.std.specs.List.{list_all}
-use Rattle.std.specs.Prelude.{Bool, List, None, Option, false, if◌then◌else◌, is_none, not, option_map, true, ℕ, ◌&&◌, ◌++◌, ◌==◌, ◌≡◌, ◌≤◌}
+use Rattle.std.specs.Prelude.{Bool, List, None, Option, [], false, if◌then◌else◌, is_none, length, not, option_map, true, ℕ, ◌&&◌, ◌++◌, ◌+◌, ◌==◌, ◌∷◌, ◌≡◌, ◌≤◌, ◌⊎◌}
 
 -- the run is told to wait
 abbrev pub is_wait : Choice → Bool
@@ -39,22 +40,34 @@ pub record IsBlocked (s : Configuration) (r : ℕ) : Type 0 where
 abbrev pub NeverRevokes : Configuration → ℕ → ℕ → Type 0
 NeverRevokes s r d = is_weak s.setting.mode ≡ false → asks_on s.setting (read_of s) r d ≡ true → NeverOverdue s.setting (read_of s) s.grips r d
 
--- the entry ends no wait of a run whose next command is on the device: it is of another device, and no placing, doom or end
+-- the entry ends no wait of a run whose next command is on the device: it is of another device; or the doom of a run that does not use it, or under a model that is not strict its placing or its end
 abbrev pub is_quiet : Setting → ℕ → Entry → Bool
 is_quiet w d (Arrived r m) = true
-is_quiet w d (Placed r at m) = false
+is_quiet w d (Placed r at m) = not (is_strict w.mode) && not (touches w.runs r.0 d)
 is_quiet w d (Did r c a) = not ((command_at w.runs r.0 c).device.0 == d)
 is_quiet w d (Undid r e drove) = not (e.0 == d)
 is_quiet w d (Fell e) = not (e.0 == d)
 is_quiet w d (Rose e) = not (e.0 == d)
-is_quiet w d (Doomed r cause) = false
-is_quiet w d (Ended r e) = false
+is_quiet w d (Doomed r cause) = not (touches w.runs r.0 d)
+is_quiet w d (Ended r e) = not (is_strict w.mode) && not (touches w.runs r.0 d)
 
--- a step of another actor that is elsewhere: it makes these entries, which are quiet, leaves the grip of the device, and gives the run none
+-- the entries are the placing of a run at the end of the line, after which the window reads so
+pub record IsPlacedLast (n : Reading) (entries : List Entry) : Type 0 where
+  pub run : RunNo
+  pub place : ℕ
+  pub moment : ℕ
+  pub only : entries ≡ Placed run place moment ∷ []
+  pub last : length n.line ≡ place + 1
+
+-- the entries of a step, after which the window reads so, end no wait of a run whose next command is on the device
+abbrev pub EndNoWait : Setting → Reading → ℕ → List Entry → Type 0
+EndNoWait w n d entries = IsPlacedLast n entries ⊎ (list_all (is_quiet w d) entries ≡ true)
+
+-- a step of another actor that is elsewhere: it makes these entries, which end no wait, leaves the grip of the device, and gives the run none
 pub record IsElsewhere (s t : Configuration) (made : List Kept) (r d : ℕ) : Type 0 where
   pub setting : t.setting ≡ s.setting
   pub history : t.history ≡ s.history ++ made
-  pub quiet : list_all (is_quiet s.setting d) (entries_of made) ≡ true
+  pub quiet : EndNoWait s.setting (read_of t) d (entries_of made)
   pub moment : s.moment ≤ t.moment
   pub held : t.grips d ≡ s.grips d
   pub free : grip_wait s.setting t.grips r ≡ None

@@ -1,7 +1,9 @@
 //! The runs that are marked as blocked, each at a device.
-ghost use Rattle.std.specs.Prelude.{◌≡◌, ◌≢◌, ◌&&◌, ◌==◌, IfOk, ℕ};
+ghost use Rattle.std.specs.Prelude.{◌≡◌, ◌≢◌, ◌&&◌, ◌==◌, IfOk, IsTrue, not, true, ℕ};
+ghost use Rattle.command_rules.specs.Rosters.{is_run, runs_of, touches};
 ghost use Rattle.hub_core.specs.BlockedMarks.{AreLeft, HasMarked, NoneMarked, has_run, is_marked};
 
+use command_rules::IndexedRoster;
 use home_types::{DeviceNo, List, NoMemory, RunNo};
 use std::alloc::Global;
 use std::marker::Model;
@@ -72,6 +74,23 @@ impl BlockedRuns {
         };
         self.runs &= !*there;
         self.at.set(d.0 as u64, 0);
+    }
+
+    /// Those that were marked at a device of the run are marked no more.
+    pub(crate) fn unmark_among(&mut self, roster: &IndexedRoster, r: RunNo)
+        requires { IsTrue (is_run (runs_of roster.now) r.0) }
+        ensures { AreLeft self.old self.new (λ d. not (touches (runs_of roster.now) r.0 d) ≡ true) }
+    {
+        if self.runs == 0 {
+            return;
+        }
+        roster.kept();
+        let devices = roster.devices(r);
+        let mut from = DeviceNo(0);
+        'marked: while let Some(d) = devices.next(from) {
+            self.unmark_at(d);
+            from = DeviceNo(d.0 + 1);
+        }
     }
 
     /// No run is marked any more.

@@ -278,6 +278,7 @@ fn leave_skipped(history: &ReadHistory, order: &mut KeptOrder, r: RunNo, k: u32,
 }
 
 /// The run is doomed, where there is a cause.
+#[inline(always)]
 pub(crate) fn doom_for(
     history: &mut ReadHistory,
     order: &mut KeptOrder,

@@ -234,6 +234,7 @@ impl<D: Device> OpenWindow<D> {
     }
 
     /// What the grip of the run is to do for this purpose.
+    #[inline(always)]
     pub(crate) fn task(&self, r: RunNo, purpose: Purpose) -> Task
         requires command { (k : ℕ) → purpose_of purpose ≡ Commands k → IsTrue (is_run self.now.setting.runs r.0) × (k < length (commands_of self.now.setting.runs r.0)) }
         ensures { result ≡ task_of (configuration_of self.now) r.0 (purpose_of purpose) }
@@ -246,6 +247,7 @@ impl<D: Device> OpenWindow<D> {
     }
 
     /// What the command `k` of the run does with its device.
+    #[inline(always)]
     fn command_task(&self, r: RunNo, k: u32) -> Task
         requires run { IsTrue (is_run self.now.setting.runs r.0) }
         requires command { k < length (commands_of self.now.setting.runs r.0) }
@@ -262,6 +264,7 @@ impl<D: Device> OpenWindow<D> {
 }
 
 /// Whether the run sees the device down, as its access tells.
+#[inline(always)]
 fn sees_down(table: &Table, r: RunNo, d: DeviceNo) -> bool
     requires { d.0 < length table.now }
     ensures { result ≡ unwrap_or (option_map sees_it_down (access_of r.0 (accesses_at table.now d.0))) false }

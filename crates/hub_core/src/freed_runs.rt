@@ -1,10 +1,13 @@
 //! The runs that a step may have freed are blocked no more.
-ghost use Rattle.std.specs.Prelude.{◌≡◌, ◌≢◌, IsTrue, false, option_to_list, true, ◌⊎◌};
+ghost use Rattle.std.specs.Prelude.{◌≡◌, ◌≢◌, ◌&&◌, IsTrue, false, not, option_to_list, true, ◌⊎◌};
+ghost use Rattle.command_rules.specs.Rosters.{touches};
 ghost use Rattle.history_book.specs.Histories.{entries_made};
+ghost use Rattle.history_book.specs.Settings.{is_strict};
 ghost use Rattle.hub_core.specs.BlockedMarks.{AreFreedWeakly, AreLeft, MayBeMarked, is_waiting};
-ghost use Rattle.hub_core.specs.BlockedRuns.{is_quiet};
+ghost use Rattle.hub_core.specs.BlockedRuns.{EndNoWait, IsPlacedLast, is_quiet};
 ghost use Rattle.hub_core.specs.MarkedRuns.{IsAnsweredStill, is_out_for_command};
 ghost use Rattle.hub_core.specs.OpenHubs.{configuration_of};
+ghost use Rattle.lock_leasing.specs.Configurations.{read_of};
 ghost use Rattle.std.specs.List.{list_all};
 
 use crate::blocked_runs::BlockedRuns;
@@ -73,7 +76,7 @@ pub(crate) fn free_back<D: Device>(
         return;
     }
     blocked.unmark_at(d);
-    free_made(blocked, window, made);
+    free_each(blocked, window, made);
 }
 
 /// Whether a step has answered a command on the device, and made no other entry, and its run holds the device still.
@@ -91,9 +94,35 @@ fn is_answered_still<D: Device>(window: &OpenWindow<D>, d: DeviceNo, made: &Made
     }
 }
 
-/// A step has made these entries.
+/// A run's step has made these entries. Where the run was placed at the end of the line, nobody is free.
 #[inline(always)]
 pub(crate) fn free_made<D: Device>(blocked: &mut BlockedRuns, window: &OpenWindow<D>, made: &Made)
+    ensures { AreLeft blocked.old blocked.new (λ d. EndNoWait window.now.setting (read_of (configuration_of window.now)) d (entries_made made.now)) }
+{
+    if is_placed_last(window, made) {
+        return;
+    }
+    free_each(blocked, window, made);
+}
+
+/// Whether a step has placed a run at the end of the line, and made no other entry.
+#[inline(always)]
+fn is_placed_last<D: Device>(window: &OpenWindow<D>, made: &Made) -> bool
+    ensures { IsTrue result → IsPlacedLast (read_of (configuration_of window.now)) (entries_made made.now) }
+{
+    match *made {
+        Made {
+            a: Some(Entry::Placed(_, at, _)),
+            b: None,
+            c: None,
+        } => window.is_last_place(at),
+        _ => false,
+    }
+}
+
+/// A step has made these entries.
+#[inline(always)]
+fn free_each<D: Device>(blocked: &mut BlockedRuns, window: &OpenWindow<D>, made: &Made)
     ensures { AreLeft blocked.old blocked.new (λ d. list_all (is_quiet window.now.setting d) (entries_made made.now) ≡ true) }
 {
     free_some(blocked, window, made.a);
@@ -111,15 +140,17 @@ fn free_some<D: Device>(blocked: &mut BlockedRuns, window: &OpenWindow<D>, entry
     }
 }
 
-/// A step has made this entry. A placing, a doom and an end may free everybody, an entry on a device those that are
-/// blocked there.
+/// A step has made this entry. A doom may free those that are blocked at the devices of its run, as may a placing and an
+/// end, which free everybody under the two strict models; an entry on a device those that are blocked there.
 #[inline(always)]
 fn free_by<D: Device>(blocked: &mut BlockedRuns, window: &OpenWindow<D>, entry: Entry)
     ensures { AreLeft blocked.old blocked.new (λ d. is_quiet window.now.setting d entry ≡ true) }
 {
     match entry {
         Entry::Arrived(..) => {}
-        Entry::Placed(..) | Entry::Doomed(..) | Entry::Ended(..) => blocked.unmark_all(),
+        Entry::Placed(r, ..) => free_passed(blocked, window, r),
+        Entry::Doomed(r, _) => free_beside(blocked, window, r),
+        Entry::Ended(r, _) => free_passed(blocked, window, r),
         Entry::Undid(_, d, _) | Entry::Fell(d) | Entry::Rose(d) => blocked.unmark_at(d),
         Entry::Did(r, k, _) => match window.device_of(r, k) {
             Some(d) => blocked.unmark_at(d),
@@ -127,4 +158,25 @@ fn free_by<D: Device>(blocked: &mut BlockedRuns, window: &OpenWindow<D>, entry: 
             None => blocked.unmark_all(),
         },
     }
+}
+
+/// The run stands where it did not, or stands before the others no more.
+fn free_passed<D: Device>(blocked: &mut BlockedRuns, window: &OpenWindow<D>, r: RunNo)
+    ensures { AreLeft blocked.old blocked.new (λ d. (not (is_strict window.now.setting.mode) && not (touches window.now.setting.runs r.0 d)) ≡ true) }
+{
+    if window.is_strict() {
+        return blocked.unmark_all();
+    }
+    free_beside(blocked, window, r);
+}
+
+/// Those that are blocked at the devices of the run are free.
+fn free_beside<D: Device>(blocked: &mut BlockedRuns, window: &OpenWindow<D>, r: RunNo)
+    ensures { AreLeft blocked.old blocked.new (λ d. not (touches window.now.setting.runs r.0 d) ≡ true) }
+{
+    if !window.has_run(r) {
+        // There is such a run.
+        return blocked.unmark_all();
+    }
+    blocked.unmark_among(window.roster(), r);
 }

@@ -1,9 +1,9 @@
 //! An open window: its parts, and what is asked of them.
 ghost use Rattle.std.specs.Prelude.{◌≡◌, ◌+◌, ◌-◌, ◌<◌, ◌≤◌, ◌↔◌, IfSome, IsTrue, None, [], false, length, option_map, slice_get, take, true, ℕ};
-ghost use Rattle.command_rules.specs.Rosters.{command_at, runs_of};
+ghost use Rattle.command_rules.specs.Rosters.{command_at, is_run, runs_of};
 ghost use Rattle.history_book.specs.Histories.{entries_of, line_of};
 ghost use Rattle.history_book.specs.Sealed.{sealed_of};
-ghost use Rattle.history_book.specs.Settings.{is_weak};
+ghost use Rattle.history_book.specs.Settings.{is_strict, is_weak};
 ghost use Rattle.hub_core.specs.BlockedRuns.{next_device};
 ghost use Rattle.hub_core.specs.Bounds.{IsBounded};
 ghost use Rattle.hub_core.specs.HubCalls.{HubStands, SomeRunMoves, grip_takes, is_past};
@@ -22,6 +22,7 @@ use crate::known::{Counts, DeviceProgress, Events, NO_EVENTS};
 use crate::purposes::Purpose;
 use crate::read_histories::ReadHistory;
 use crate::refusals::NotQuiet;
+use command_rules::IndexedRoster;
 use device_gate::Gate;
 use device_states::Device;
 use home_types::{DeviceNo, Item, List, RunNo, Stand};
@@ -164,6 +165,34 @@ impl<D: Device> OpenWindow<D> {
         self.history.is_weak()
     }
 
+    /// Whether the window is one of the two models under which runs do not overlap.
+    pub(crate) fn is_strict(&self) -> bool
+        ensures { result ≡ is_strict self.now.setting.mode }
+    {
+        self.history.is_strict()
+    }
+
+    /// Whether the window has the run.
+    pub(crate) fn has_run(&self, r: RunNo) -> bool
+        ensures { result ≡ is_run self.now.setting.runs r.0 }
+    {
+        self.history.has_run(r)
+    }
+
+    /// The runs of the window, with their footprints.
+    pub(crate) fn roster(&self) -> &IndexedRoster
+        ensures { runs_of result.now ≡ self.now.setting.runs }
+    {
+        self.history.indexed_roster()
+    }
+
+    /// Whether this is the last place of the line, counted from 0.
+    pub(crate) fn is_last_place(&self, at: u32) -> bool
+        ensures { IsTrue result → length (read_of (configuration_of self.now)).line ≡ at + 1 }
+    {
+        self.order.line.len() as u64 == at as u64 + 1
+    }
+
     /// Whether nothing was done in the window: no entry, the last moment 0, no device out and no probe taken.
     pub(crate) fn fresh(&self) -> bool
         ensures { IsTrue result ↔ (configuration_of self.now ≡ opened self.now.setting self.now.rounds) }
@@ -244,6 +273,7 @@ impl<D: Device> OpenWindow<D> {
     }
 
     /// Whether the device is out for a command.
+    #[inline(always)]
     pub(crate) fn is_out_for_command(&self, d: DeviceNo) -> bool
         ensures { result ≡ is_out_for_command (configuration_of self.now) d.0 }
     {
@@ -285,6 +315,7 @@ impl<D: Device> OpenWindow<D> {
 
     /// Whether the run, whose last answered command is the one with the number `k`, on this device, holds the device
     /// still: it is not doomed and has a later command there.
+    #[inline(always)]
     pub(crate) fn holds_still(&self, r: RunNo, k: u32, d: DeviceNo) -> bool
         ensures { IsTrue result → HoldsStill (configuration_of self.now) r.0 k d.0 }
     {

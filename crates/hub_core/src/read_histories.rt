@@ -1,7 +1,7 @@
 //! The history of a window with the progress of each run, which every entry keeps up to date.
 ghost use Rattle.std.specs.Prelude.{◌≡◌, ◌+◌, ◌<◌, ◌^◌, ◌&&◌, ◌||◌, IfSome, IsTrue, None, Some, find, if◌then◌else◌, is_none, length, not, option_map, true, ℕ};
 ghost use Rattle.command_rules.specs.Rosters.{command_at, commands_of, followed_by, is_run, runs_of};
-ghost use Rattle.history_book.specs.Settings.{is_weak, run_numbers, scheduler_of};
+ghost use Rattle.history_book.specs.Settings.{is_strict, is_weak, run_numbers, scheduler_of};
 ghost use Rattle.history_book.specs.Readings.{is_doomed, is_live, next_command, next_of, pends};
 ghost use Rattle.home_types.specs.Kinds.{kind_at};
 ghost use Rattle.hub_core.specs.Decisions.{died_by, refuted_by};
@@ -112,6 +112,16 @@ impl ReadHistory {
         }
     }
 
+    /// Whether the window is one of the two models under which runs do not overlap.
+    pub(crate) fn is_strict(&self) -> bool
+        ensures { result ≡ is_strict self.now.setting.mode }
+    {
+        match self.mode.model {
+            Visibility::Global | Visibility::Partitioned => true,
+            Visibility::Weak | Visibility::Eventual => false,
+        }
+    }
+
     /// Whether the window has the run.
     pub(crate) fn has_run(&self, r: RunNo) -> bool
         ensures { result ≡ is_run self.now.setting.runs r.0 }
@@ -202,6 +212,7 @@ impl ReadHistory {
 
     /// Whether the run is done with the device, on which its last answered command is, the one with the number `k`: it is
     /// doomed, or has no later command there.
+    #[inline(always)]
     pub(crate) fn is_done(&self, r: RunNo, k: u32, d: DeviceNo) -> bool
         requires run { IsTrue (is_run self.now.setting.runs r.0) }
         requires there { k < length (commands_of self.now.setting.runs r.0) }
@@ -214,6 +225,7 @@ impl ReadHistory {
 
     /// For what the run is doomed with this answer to its command with the number `k`: a must `check` that found another
     /// value. A run that is doomed already is not doomed again.
+    #[inline(always)]
     pub(crate) fn refuted(&self, r: RunNo, k: u32, answer: Answer) -> Option<Cause>
         requires run { IsTrue (is_run self.now.setting.runs r.0) }
         requires there { k < length (commands_of self.now.setting.runs r.0) }

@@ -75,7 +75,10 @@ impl<D: Device> OpenWindow<D> {
         let known = *self.devices.get(grip.slip().device.0 as u64).unwrap();
         match known.purpose {
             Purpose::Command(k) => self.answer(grip, moment, k),
-            Purpose::Undo(_) => self.undo(grip, moment),
+            Purpose::Undo(_) => {
+                let Made { a, b, c } = self.undo(grip, moment);
+                Made { a, b, c }
+            }
             // The detector's grip is no run's.
             Purpose::Probe(_) => unreachable!(),
         }
@@ -91,7 +94,9 @@ impl<D: Device> OpenWindow<D> {
         ensures window { SameWindow self.old self.new }
     {
         if has_died(grip.told()) {
-            self.answer_died(grip, moment, k)
+            // Taken apart, so that the entries of a call that worked need no place in memory.
+            let Made { a, b, c } = self.answer_died(grip, moment, k);
+            Made { a, b, c }
         } else {
             self.answer_lived(grip, moment, k)
         }

@@ -1,18 +1,27 @@
 //! The four calls that make a step of a hub: the window's step, and then the marks. After each of them the items of the
 //! line that were final before stand first, in their order, and no fewer are final.
-ghost use Rattle.std.specs.Prelude.{◌≡◌, ℕ};
+ghost use Rattle.std.specs.Prelude.{◌≡◌, max, ℕ};
 ghost use Rattle.history_book.specs.Sealed.{StaysSealed};
+ghost use Rattle.hub_core.specs.BlockedMarks.{AreBlocked};
+ghost use Rattle.hub_core.specs.Decisions.{told_choice};
 ghost use Rattle.hub_core.specs.HubCalls.{IsGiven, IsProbeGiven, IsProbed, IsTurn, PlansEarliest, SameWindow};
+ghost use Rattle.hub_core.specs.HubsKept.{HubIsKept};
 ghost use Rattle.hub_core.specs.OpenHubs.{configuration_of};
+ghost use Rattle.hub_core.specs.PlannedPlaces.{HasSameRoom, HoldsChosen};
+ghost use Rattle.hub_core.specs.Steps.{choice_of};
 ghost use Rattle.lock_leasing.specs.Configurations.{read_of};
 
+use crate::blocked_runs::BlockedRuns;
+use crate::decisions::Chosen;
 use crate::freed_runs::{free_back, free_going, free_made, free_weakly, mark_waiting};
 use crate::hubs::Hub;
+use crate::open_windows::OpenWindow;
 use crate::turns::Turn;
 use device_gate::{Done, Grip, Ready, Stranger};
 use device_states::Device;
 use history_book::Made;
 use home_types::{DeviceNo, RunNo};
+use timeline_scheduler::Scratch;
 
 impl<D: Device> Hub<D> {
     /// Makes the step of the run `r` at this moment, in ms, or at the last one where that is later.
@@ -28,23 +37,29 @@ impl<D: Device> Hub<D> {
         ensures window { SameWindow self.old self.new }
     {
         self.window.whole();
-        let turn = self.window.take(r, moment, &mut self.scratch);
-        self.window.whole();
-        if self.window.is_weak() {
-            free_weakly(&mut self.blocked, &self.window, &turn, r);
-            return turn;
-        }
-        match &turn {
-            Turn::Go(grip) => {
-                let d = grip.slip().device;
-                free_going(&mut self.blocked, &self.window, d);
+        let chosen = self.window.decide(r, moment, &mut self.scratch);
+        match chosen {
+            Chosen::HandsOut(d, purpose) if !self.window.is_weak() => {
+                let grip = self.window.hand_out(r, moment, d, purpose);
+                self.window.whole();
+                free_going(&mut self.blocked, &self.window, grip.slip().device);
+                Turn::Go(grip)
             }
-            Turn::Moved(made) => free_made(&mut self.blocked, &self.window, made),
-            Turn::Over(_, made) => free_made(&mut self.blocked, &self.window, made),
-            Turn::Wait(_) => mark_waiting(&mut self.blocked, &self.window, r),
-            Turn::Absent => {}
+            Chosen::Waits(why) if !self.window.is_weak() => {
+                self.window.wait(r, moment, why);
+                self.window.whole();
+                mark_waiting(&mut self.blocked, &self.window, r);
+                Turn::Wait(why)
+            }
+            _ => make_step(
+                &mut self.window,
+                &mut self.blocked,
+                &mut self.scratch,
+                r,
+                moment,
+                chosen,
+            ),
         }
-        turn
     }
 
     /// Takes the device of a run's grip home, at this moment, in ms, or at the last one where that is later.
@@ -127,4 +142,45 @@ impl<D: Device> Hub<D> {
             Err(refused) => Err(refused),
         }
     }
+}
+
+/// Makes the step that is chosen, in the window and then in the marks.
+///
+/// It is apart from `take`, most of whose steps hand out or wait: only a call of it makes room for what the others make.
+#[inline(never)]
+fn make_step<D: Device>(
+    window: &mut OpenWindow<D>,
+    blocked: &mut BlockedRuns,
+    scratch: &mut Scratch,
+    r: RunNo,
+    moment: u64,
+    chosen: Chosen,
+) -> Turn<D>
+    requires chosen { told_choice r.0 (max window.old.moment moment) chosen ≡ choice_of (configuration_of window.old) r.0 moment }
+    requires planned { HoldsChosen scratch.old (configuration_of window.old) r.0 (max window.old.moment moment) chosen }
+    requires marks { AreBlocked (configuration_of window.old) blocked.old }
+    ensures turn { IsTurn window.old r.0 moment result window.new }
+    ensures window { SameWindow window.old window.new }
+    ensures size { HasSameRoom scratch.old scratch.new }
+    ensures kept { HubIsKept D.stands D.turns D.probes D.faults window.new }
+    ensures marks { AreBlocked (configuration_of window.new) blocked.new }
+{
+    window.whole();
+    let turn = window.follow(r, moment, chosen, scratch);
+    window.whole();
+    if window.is_weak() {
+        free_weakly(blocked, window, &turn, r);
+        return turn;
+    }
+    match &turn {
+        Turn::Go(grip) => {
+            let d = grip.slip().device;
+            free_going(blocked, window, d);
+        }
+        Turn::Moved(made) => free_made(blocked, window, made),
+        Turn::Over(_, made) => free_made(blocked, window, made),
+        Turn::Wait(_) => mark_waiting(blocked, window, r),
+        Turn::Absent => {}
+    }
+    turn
 }

@@ -1,30 +1,41 @@
 //! A run takes its turn in its window.
-ghost use Rattle.std.specs.Prelude.{ℕ};
+ghost use Rattle.std.specs.Prelude.{◌≡◌, max, ℕ};
+ghost use Rattle.hub_core.specs.Decisions.{told_choice};
 ghost use Rattle.hub_core.specs.HubCalls.{IsTurn, SameWindow};
-ghost use Rattle.hub_core.specs.PlannedPlaces.{HasSameRoom, IsForHome};
+ghost use Rattle.hub_core.specs.OpenHubs.{configuration_of};
+ghost use Rattle.hub_core.specs.PlannedPlaces.{HasSameRoom, HoldsChosen};
+ghost use Rattle.hub_core.specs.Steps.{choice_of};
 
 use crate::changes::NONE_MADE;
 use crate::decisions::Chosen;
 use crate::open_windows::OpenWindow;
 use crate::turns::Turn;
+use crate::waits::Why;
 use device_states::Device;
 use history_book::{End, Made};
 use home_types::RunNo;
 use timeline_scheduler::Scratch;
 
 impl<D: Device> OpenWindow<D> {
-    /// Makes the step of the run `r` at this moment, in ms, or at the last one where that is later.
+    /// Makes the step of the run `r` that is chosen at this moment, in ms, or at the last one where that is later.
     ///
     /// Answers what the run does: hands out a device, makes entries, waits, or is over. `Wait` and `Absent` change
-    /// nothing but the last moment. Places by the timeline are looked for in the scratch. Takes no memory.
+    /// nothing but the last moment. A place by the timeline stands in the scratch. Takes no memory.
     #[inline(always)]
-    pub(crate) fn take(&mut self, r: RunNo, moment: u64, scratch: &mut Scratch) -> Turn<D>
-        requires scratch { IsForHome self.old.setting self.old.rounds scratch.old }
+    pub(crate) fn follow(
+        &mut self,
+        r: RunNo,
+        moment: u64,
+        chosen: Chosen,
+        scratch: &mut Scratch,
+    ) -> Turn<D>
+        requires chosen { told_choice r.0 (max self.old.moment moment) chosen ≡ choice_of (configuration_of self.old) r.0 moment }
+        requires planned { HoldsChosen scratch.old (configuration_of self.old) r.0 (max self.old.moment moment) chosen }
         ensures turn { IsTurn self.old r.0 moment result self.new }
         ensures window { SameWindow self.old self.new }
         ensures size { HasSameRoom scratch.old scratch.new }
     {
-        match self.decide(r, moment, scratch) {
+        match chosen {
             Chosen::Absent => {
                 self.reach(moment);
                 Turn::Absent
@@ -34,7 +45,7 @@ impl<D: Device> OpenWindow<D> {
                 Turn::Over(end, NONE_MADE)
             }
             Chosen::Waits(why) => {
-                self.reach(moment);
+                self.wait(r, moment, why);
                 Turn::Wait(why)
             }
             Chosen::Arrives => Turn::Moved(self.arrive(r, moment)),
@@ -52,5 +63,15 @@ impl<D: Device> OpenWindow<D> {
             }
             Chosen::HandsOut(d, purpose) => Turn::Go(self.hand_out(r, moment, d, purpose)),
         }
+    }
+
+    /// The run waits: nothing changes, but that the last moment may be later.
+    #[inline(always)]
+    pub(crate) fn wait(&mut self, r: RunNo, moment: u64, why: Why)
+        requires { told_choice r.0 (max self.old.moment moment) (Chosen.Waits why) ≡ choice_of (configuration_of self.old) r.0 moment }
+        ensures turn { IsTurn self.old r.0 moment (Turn.Wait why) self.new }
+        ensures window { SameWindow self.old self.new }
+    {
+        self.reach(moment);
     }
 }

@@ -5,7 +5,7 @@ ghost use Rattle.hub_threads.specs.Names.{IsTimedBy};
 use crate::bells::Bells;
 use crate::held::{Lent, Steps};
 use crate::names::Name;
-use crate::workers::{Door, Spent, Unstarted, work};
+use crate::workers::{Door, Spent, Unstarted, Untaken, work};
 use day_clock::Clock;
 use device_states::Device;
 use grip_seats::{Desk, Pass};
@@ -165,12 +165,14 @@ fn work_named<D: Device, R: Wait, C: Clock, N: Name>(
         held: Mutex::new(Fake::new(moves, book, desk)),
         bells,
         unstarted: Unstarted::new(),
+        untaken: Untaken::new(0),
     };
     let Spent { mut share } = work::<D, N, Fake<N>, R, C>(rt, &door, all, RunNo(1), clock);
     let Door {
         held,
         bells: _,
         unstarted: _,
+        untaken: _,
     } = door;
     held.into_inner().ended(&mut share)
 }

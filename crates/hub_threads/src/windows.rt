@@ -1,4 +1,4 @@
-//! A window worked with a thread for each run.
+//! A window worked with threads, at most one for each run.
 ghost use Rattle.std.specs.Prelude.{◌≡◌, ◌+◌, ◌<◌, ◌≤◌, IfErr, IfOk, IsTrue, [], length, vec_capacity, ℕ};
 ghost use Rattle.device_gate.specs.Places.{AreNumbered};
 ghost use Rattle.hub_core.specs.HubCalls.{HubStands, IsClosed};
@@ -13,7 +13,7 @@ use crate::bells::{Bells, Naps};
 use crate::detectors::{detect, probe_again, probe_left_over};
 use crate::held::{Held, Lent};
 use crate::names::Name;
-use crate::workers::{Door, Spent, Unstarted, work};
+use crate::workers::{Door, Spent, Unstarted, Untaken, work};
 use day_clock::Clock;
 use device_states::Device;
 use grip_seats::Desk;
@@ -45,7 +45,7 @@ struct Window<'a, C> {
     means: Means,
 }
 
-/// A thread for each run.
+/// As many threads as runs.
 const USUAL: Means = Means {
     threads: u32::MAX,
     naps: Naps {
@@ -54,8 +54,10 @@ const USUAL: Means = Means {
     },
 };
 
-/// Works a window of a hub in which nothing was done yet: a thread for each run, which the system may refuse, and the
-/// calling thread as the detector, which comes so often to each device. Each moment is an answer of the clock.
+/// Works a window of a hub in which nothing was done yet: threads for the runs, which the system may refuse, and the calling
+/// thread as the detector, which comes so often to each device. A thread whose run is over takes the next one that none has
+/// taken, so there is one for each run where all take long, and fewer where some are over soon. Each moment is an answer of
+/// the clock.
 ///
 /// Answers `NoMemory` where there is none to be had, before any thread starts, and gives the hub back. It may wait: what
 /// is said of its answer holds if it returns.
@@ -181,12 +183,14 @@ fn run_counted<
         held: Mutex::new(Held::new(hub, book, desk)),
         bells,
         unstarted: Unstarted::new(),
+        untaken: Untaken::new(window.runs),
     };
     let mut all = in_threads(rt, &door, all, handles, window);
     let Door {
         held,
         bells: _,
         unstarted: _,
+        untaken: _,
     } = door;
     let last = held.into_inner().ended(&mut all);
     Ok((last, all))
@@ -239,7 +243,9 @@ fn in_threads<
             let mut all = all;
             let mut handles = handles;
             for i in 0..runs {
-                let r = RunNo(i + 1);
+                let Some(r) = door.untaken.take() else {
+                    break;
+                };
                 if means.threads <= i {
                     door.unstarted.add(r);
                     continue;

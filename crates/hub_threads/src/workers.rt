@@ -28,6 +28,14 @@ pub(crate) struct Door<S> {
     pub(crate) held: Mutex<S>,
     pub(crate) bells: Bells,
     pub(crate) unstarted: Unstarted,
+    pub(crate) untaken: Untaken,
+}
+
+/// The runs of a window that no thread has taken yet. Each is taken once, in the order of the numbers.
+#[derive(Drop)]
+pub(crate) struct Untaken {
+    taken: AtomicU64,
+    runs: u32,
 }
 
 /// The runs that have no thread of their own. The calling thread steps them, and it alone writes them down here.
@@ -49,6 +57,26 @@ pub(crate) enum Stepped {
 pub(crate) struct Spent<N: Name> {
     pub(crate) share: Share<N>,
     pub(crate) ghost one_part: { share.parts ≡ 1 },
+}
+
+impl Untaken {
+    /// So many runs, of which none is taken.
+    pub(crate) fn new(runs: u32) -> Untaken {
+        Untaken {
+            taken: AtomicU64::new(0),
+            runs,
+        }
+    }
+
+    /// Takes the next run. `None` where each is taken.
+    pub(crate) fn take(&self) -> Option<RunNo> {
+        let taken = self.taken.fetch_add(1, Ordering::SeqCst);
+        if taken < u64::from(self.runs) {
+            Some(RunNo(taken as u32 + 1))
+        } else {
+            None
+        }
+    }
 }
 
 impl Unstarted {
@@ -78,7 +106,7 @@ impl Unstarted {
     }
 }
 
-/// Works the run to its end, unless the calling thread steps it.
+/// Works the run to its end, unless the calling thread steps it, and then those that no thread has taken yet.
 pub(crate) fn work<D: Device, N: Name, S: Steps<D, N, Grip<D, Done>>, R: Wait, C: Clock>(
     rt: &R,
     door: &Door<S>,
@@ -93,9 +121,14 @@ pub(crate) fn work<D: Device, N: Name, S: Steps<D, N, Grip<D, Done>>, R: Wait, C
         return Spent { share };
     }
     let mut share = share;
+    let mut worked = r;
     for _ in rt.forever() {
-        if step(rt, door, &mut share, r, clock, true) == Stepped::Over {
-            break;
+        if step(rt, door, &mut share, worked, clock, true) != Stepped::Over {
+            continue;
+        }
+        match door.untaken.take() {
+            Some(next) => worked = next,
+            None => break,
         }
     }
     Spent { share }

@@ -19,7 +19,7 @@ use Rattle.history_book.specs.Readings.{put}
 use Rattle.hub_core.proofs.steps.HubAnswers.{gave_back, gave_probe_back, took_after, took_choice, took_probe}
 use Rattle.hub_core.proofs.waiting.BlockedSteps.{IsKept, back, goes, left_stay, may_mark, moved, probed, reached, waits}
 use Rattle.hub_core.specs.BlockedMarks.{AreBlocked, AreFreedWeakly, AreLeft, BlockedState, MayBeMarked, NoneMarked, is_waiting}
-use Rattle.hub_core.specs.BlockedRuns.{is_quiet}
+use Rattle.hub_core.specs.BlockedRuns.{EndNoWait, is_quiet}
 use Rattle.hub_core.specs.HubCalls.{Answers, GoesOut, IsGiven, IsProbeGiven, IsProbed, IsTurn, SameWindow, carried_by}
 use Rattle.hub_core.specs.HubSteps.{Carried, Gave, HubState, Returned, give_if, is_kept as is_kept_grip, same_carried}
 use Rattle.hub_core.specs.HubsKept.{HubIsKept}
@@ -59,19 +59,19 @@ after_answer s t r m choice answers = same_window s t r m choice (chosen s t r m
 home_grip : {D : Type 0} (s : OpenHub D) (d : ℕ) (device : D) → slice_get s.places d ≡ Some (Home device) → (configuration_of s).grips d ≡ None
 home_grip s d device at = ap (λ o. grip_in o (device_at s.devices d).purpose) at
 
-made_marks : (s u : Configuration) (r m : ℕ) (entries : List Entry) (b after : BlockedState) → IsKept s → IsKept u → u ≡ with_entries (at_moment s m) r entries → AreBlocked s b → AreLeft b after (λ d. list_all (is_quiet u.setting d) entries ≡ true) → AreBlocked u after
+made_marks : (s u : Configuration) (r m : ℕ) (entries : List Entry) (b after : BlockedState) → IsKept s → IsKept u → u ≡ with_entries (at_moment s m) r entries → AreBlocked s b → AreLeft b after (λ d. EndNoWait u.setting (read_of u) d entries) → AreBlocked u after
 made_marks s u r m entries b after was now is are left =
-    subst (λ x. AreBlocked x after) (sym is) (moved s r m entries b after was (subst IsKept is now) are (subst (λ (x : Configuration). AreLeft b after (λ d. list_all (is_quiet x.setting d) entries ≡ true)) is left))
+    subst (λ x. AreBlocked x after) (sym is) (moved s r m entries b after was (subst IsKept is now) are (subst (λ (x : Configuration). AreLeft b after (λ d. EndNoWait x.setting (read_of x) d entries)) is left))
 
 -- which makes entries
 pub marks_moved : {D : Type 0} (stands turns probes faults : D → ℕ) (s t : OpenHub D) (r m : ℕ) (made : Made) (b after : BlockedState) → is_weak s.setting.mode ≡ false → is_weak t.setting.mode ≡ false → HubIsKept stands turns probes faults s → HubIsKept stands turns probes faults t → Answers s r m (Moves (entries_made made)) t → AreBlocked (configuration_of s) b
-    → AreLeft b after (λ d. list_all (is_quiet t.setting d) (entries_made made) ≡ true) → AreBlocked (configuration_of t) after
+    → AreLeft b after (λ d. EndNoWait t.setting (read_of (configuration_of t)) d (entries_made made)) → AreBlocked (configuration_of t) after
 marks_moved stands turns probes faults s t r m made b after before then' was now answers are left =
     made_marks (configuration_of s) (configuration_of t) r m (entries_made made) b after (is_kept stands turns probes faults s before was) (is_kept stands turns probes faults t then' now) (after_answer s t r m (Moves (entries_made made)) answers) are left
 
 -- or ends its run
 pub marks_over : {D : Type 0} (stands turns probes faults : D → ℕ) (s t : OpenHub D) (r m : ℕ) (end : End) (made : Made) (b after : BlockedState) → is_weak s.setting.mode ≡ false → is_weak t.setting.mode ≡ false → HubIsKept stands turns probes faults s → HubIsKept stands turns probes faults t → Answers s r m (Over end (entries_made made)) t → AreBlocked (configuration_of s) b
-    → AreLeft b after (λ d. list_all (is_quiet t.setting d) (entries_made made) ≡ true) → AreBlocked (configuration_of t) after
+    → AreLeft b after (λ d. EndNoWait t.setting (read_of (configuration_of t)) d (entries_made made)) → AreBlocked (configuration_of t) after
 marks_over stands turns probes faults s t r m end made b after before then' was now answers are left =
     made_marks (configuration_of s) (configuration_of t) r m (entries_made made) b after (is_kept stands turns probes faults s before was) (is_kept stands turns probes faults t then' now) (after_answer s t r m (Over end (entries_made made)) answers) are left
 

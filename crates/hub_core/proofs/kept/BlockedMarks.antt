@@ -1,13 +1,13 @@
 -- What marking a run, and freeing the runs of a device, make of the marks.
 use Rattle.hub_core.proofs.kept.RunBits.{has_either, has_nothing, has_without}
-use Rattle.hub_core.specs.BlockedMarks.{AreBlocked, AreLeft, BlockedState, HasMarked, NoneMarked, has_run}
+use Rattle.hub_core.specs.BlockedMarks.{AreBlocked, AreLeft, BlockedState, HasMarked, NoneMarked, has_run, is_marked, is_marked_at}
 use Rattle.lock_leasing.specs.Configurations.{Configuration}
 use Rattle.std.proofs.Common.{ap, arith, inl, inr, refl, sym, ◌∙◌}
 use Rattle.std.proofs.lemmas.Grind.{common_steps}
 use Rattle.std.proofs.lemmas.List.{get_or-set_other, get_or-set_same}
 use Rattle.std.proofs.lemmas.Option.{unwrap_or-slice_get}
 use Rattle.std.specs.Int.{bit_not, w64}
-use Rattle.std.specs.Prelude.{List, None, Option, Some, bit_and, bit_or, false, length, not, slice_get, slice_index_or, slice_set, true, unwrap_or, ℕ, ◌&&◌, ◌<◌, ◌==◌, ◌^◌, ◌||◌, ◌≡◌, ◌≢◌, ◌⊎◌}
+use Rattle.std.specs.Prelude.{Bool, List, None, Option, Some, bit_and, bit_or, false, length, nat_lt, not, slice_get, slice_index_or, slice_set, true, unwrap_or, ℕ, ◌&&◌, ◌+◌, ◌<◌, ◌==◌, ◌^◌, ◌||◌, ◌≡◌, ◌≢◌, ◌≤◌, ◌⊎◌}
 
 -- where nothing changes, a run is left where this holds of every device
 pub all_left : {P : ℕ → Type 0} (b : BlockedState) → ((d : ℕ) → P d) → AreLeft b b P
@@ -64,6 +64,31 @@ are_unmarked b d word found within small = record { marked = λ r after. (both r
     there r e after before = word_set b.at d e 0 within
         (λ same is. let was : has_run word r ≡ true = sym (ap (λ w. has_run w r) (ap (λ x. slice_index_or b.at x 0) same ∙ word_found b.at d (Some word) found)) ∙ before in let gone = (both r after).1 in absurd (let no : true ≡ false = sym was ∙ gone in cc))
         (λ apart is. (apart, ap (λ w. has_run w r) is ∙ before))
+
+-- the devices up to here of which the test holds are seen to, and one more
+pub left_more : (b now after : BlockedState) (p : ℕ → Bool) (from d : ℕ) → AreLeft b now (λ e. e < from → p e ≡ false) → ((q : ℕ) → from ≤ q → q < d → p q ≡ false) → AreLeft now after (λ e. e ≢ d) → AreLeft b after (λ e. e < d + 1 → p e ≡ false)
+left_more b now after p from d left none one = record { marked = λ r marked. left.marked r (one.marked r marked); there = there }
+  where
+    there : (r e : ℕ) → is_marked after r ≡ true → is_marked_at b e r ≡ true → (e < d + 1 → p e ≡ false) × (is_marked_at after e r ≡ true)
+    there r e marked before =
+        let was = left.there r e (one.marked r marked) before in
+        let still = one.there r e marked was.1 in
+        (λ low. passed was.0 still.0 low, still.1)
+      where
+        passed : (e < from → p e ≡ false) → e ≢ d → e < d + 1 → p e ≡ false
+        passed seen other low = by_place (nat_lt e from) refl
+          where
+            by_place : (b : Bool) → nat_lt e from ≡ b → p e ≡ false
+            by_place true h = seen (grind (arith, common_steps))
+            by_place false h = none e (grind (arith, common_steps)) (grind (arith, common_steps))
+
+-- .. until no device is left
+pub left_done : (b now : BlockedState) (p : ℕ → Bool) (from : ℕ) → AreLeft b now (λ e. e < from → p e ≡ false) → ((q : ℕ) → from ≤ q → p q ≡ false) → AreLeft b now (λ e. not (p e) ≡ true)
+left_done b now p from left none = record { marked = left.marked; there = λ r e marked before. let at = left.there r e marked before in (ap not (by_place e at.0 (nat_lt e from) refl), at.1) }
+  where
+    by_place : (e : ℕ) → (e < from → p e ≡ false) → (b : Bool) → nat_lt e from ≡ b → p e ≡ false
+    by_place e seen true h = seen (grind (arith, common_steps))
+    by_place e seen false h = none e (grind (arith, common_steps))
 
 -- at no device of the home no run is marked
 pub none_there : (b : BlockedState) (d : ℕ) → None ≡ slice_get b.at d → AreLeft b b (λ e. e ≢ d)

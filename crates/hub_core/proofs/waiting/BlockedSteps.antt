@@ -25,9 +25,10 @@ use Rattle.hub_core.proofs.waiting.AtCommands.{at_command}
 use Rattle.hub_core.proofs.waiting.HeldDevices.{did_now, held_waits, next_after_answer, next_kept, read_after}
 use Rattle.hub_core.proofs.waiting.KeptLeases.{calm_answered, calm_grips, live_answered}
 use Rattle.hub_core.proofs.waiting.Moments.{blocked_calm, skip_blocked, waits_on}
-use Rattle.hub_core.proofs.waiting.OtherDevices.{stays_blocked, strict_by}
+use Rattle.hub_core.proofs.waiting.OtherDevices.{stays_blocked}
+use Rattle.hub_core.proofs.waiting.QuietEntries.{strict_by}
 use Rattle.hub_core.specs.BlockedMarks.{AreBlocked, AreLeft, BlockedState, Marks, MayBeMarked, Stays, is_marked, is_marked_at}
-use Rattle.hub_core.specs.BlockedRuns.{IsBlocked, NeverRevokes, is_quiet, is_wait, next_device}
+use Rattle.hub_core.specs.BlockedRuns.{EndNoWait, IsBlocked, NeverRevokes, is_quiet, is_wait, next_device}
 use Rattle.hub_core.specs.HubKept.{ConfigurationIsKept}
 use Rattle.hub_core.specs.MarkedRuns.{IsAnsweredStill, is_out_for_command}
 use Rattle.hub_core.specs.Steps.{Absent, Choice, HandsOut, Moves, Over, Waits, at_moment, choice_of, decide, give_entries, with_entries, with_grip}
@@ -98,11 +99,11 @@ stepped s maker entries m probes g = record { setting = s.setting; history = s.h
 entries_kept : (maker : ℕ) (entries : List Entry) → entries_of (kept_by maker entries) ≡ entries
 entries_kept maker entries = entries_on [] maker entries
 
-elsewhere : (s : Configuration) (maker : ℕ) (entries : List Entry) (m : ℕ) (probes : ℕ → ℕ) (g : Grips) (r d : ℕ) → IsKept s → IsKept (stepped s maker entries m probes g) → list_all (is_quiet s.setting d) entries ≡ true → s.moment ≤ m → g d ≡ s.grips d
+elsewhere : (s : Configuration) (maker : ℕ) (entries : List Entry) (m : ℕ) (probes : ℕ → ℕ) (g : Grips) (r d : ℕ) → IsKept s → IsKept (stepped s maker entries m probes g) → EndNoWait s.setting (read_of (stepped s maker entries m probes g)) d entries → s.moment ≤ m → g d ≡ s.grips d
     → grip_wait s.setting g r ≡ None → IsBlocked s r → next_device s r ≡ Some d → Lasts (stepped s maker entries m probes g) r d
 elsewhere s maker entries m probes g r d was now quiet later held free blocked next =
     stays_blocked s (stepped s maker entries m probes g) (kept_by maker entries) r d now.kept.history.well_formed
-    (record { setting = refl; history = refl; quiet = ap (list_all (is_quiet s.setting d)) (entries_kept maker entries) ∙ quiet; moment = later; held = held; free = free }) next blocked
+    (record { setting = refl; history = refl; quiet = subst (EndNoWait s.setting (read_of (stepped s maker entries m probes g)) d) (sym (entries_kept maker entries)) quiet; moment = later; held = held; free = free }) next blocked
 
 -- .. that makes none
 abbrev unchanged : Configuration → ℕ → (ℕ → ℕ) → Grips → Configuration
@@ -112,7 +113,7 @@ undisturbed : (s : Configuration) (m : ℕ) (probes : ℕ → ℕ) (g : Grips) (
 undisturbed s m probes g r d was now later held free blocked next =
     let same : s.history ++ [] ≡ s.history = append-nil s.history in
     let kept : IsKept (stepped s 0 [] m probes g) = subst (λ h. IsKept (record { setting = s.setting; history = h; moment = m; probes = probes; grips = g })) (sym same) now in
-    subst (λ h. Lasts (record { setting = s.setting; history = h; moment = m; probes = probes; grips = g }) r d) same (elsewhere s 0 [] m probes g r d was kept refl later held free blocked next)
+    subst (λ h. Lasts (record { setting = s.setting; history = h; moment = m; probes = probes; grips = g }) r d) same (elsewhere s 0 [] m probes g r d was kept (inr refl) later held free blocked next)
 
 later : (a m : ℕ) → a ≤ max a m
 later a m = omega (arith)
@@ -120,10 +121,10 @@ later a m = omega (arith)
 -- Steps of a run
 
 -- a step that makes entries
-pub moved : (s : Configuration) (r m : ℕ) (entries : List Entry) (b after : BlockedState) → IsKept s → IsKept (with_entries (at_moment s m) r entries) → AreBlocked s b → AreLeft b after (λ d. list_all (is_quiet s.setting d) entries ≡ true)
+pub moved : (s : Configuration) (r m : ℕ) (entries : List Entry) (b after : BlockedState) → IsKept s → IsKept (with_entries (at_moment s m) r entries) → AreBlocked s b → AreLeft b after (λ d. EndNoWait s.setting (read_of (with_entries (at_moment s m) r entries)) d entries)
     → AreBlocked (with_entries (at_moment s m) r entries) after
 moved s r m entries b after was now are left =
-    left_stay s (with_entries (at_moment s m) r entries) b after (λ d. list_all (is_quiet s.setting d) entries ≡ true) are left
+    left_stay s (with_entries (at_moment s m) r entries) b after (λ d. EndNoWait s.setting (read_of (with_entries (at_moment s m) r entries)) d entries) are left
     (λ q d blocked next quiet. elsewhere s r entries (max s.moment m) s.probes s.grips q d was now quiet (later s.moment m) refl blocked.free blocked next)
 
 -- one that makes none
@@ -289,7 +290,7 @@ back s m d grip told b after later out was now are left = left_stay s t b after 
     free q blocked = still_free s grip.maker d None q tt (subst (IsOf grip.maker) (sym out) refl) (not_maker q blocked) blocked.free
 
     away : (q e : ℕ) → IsBlocked s q → next_device s q ≡ Some e → e ≢ d → list_all (is_quiet s.setting e) entries ≡ true → Lasts t q e
-    away q e blocked next other quiet = elsewhere s grip.maker entries m s.probes g q e was now quiet later (put_other s.grips d None e other) (free q blocked) blocked next
+    away q e blocked next other quiet = elsewhere s grip.maker entries m s.probes g q e was now (inr quiet) later (put_other s.grips d None e other) (free q blocked) blocked next
 
     here : (q e : ℕ) → IsBlocked s q → next_device s q ≡ Some e → IsAnsweredStill t d entries → Lasts t q e
     here q e blocked next still = elim (e == d) as (λ x. (e == d) ≡ x → Lasts t q e) [

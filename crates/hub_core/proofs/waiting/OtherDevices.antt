@@ -1,36 +1,36 @@
 -- A step that is elsewhere leaves what a run at a command does as it was, at every moment.
-use Rattle.command_rules.specs.Rosters.{Run, commands_of, device_no, estimate_to_last, is_run, run_no, shares, touches}
+use Rattle.command_rules.specs.Rosters.{commands_of, device_no, estimate_to_last, is_run, run_no, touches}
 use Rattle.history_book.proofs.Searches.{map_some, none_is}
-use Rattle.history_book.proofs.Shapes.{IsShaped, shapes}
+use Rattle.history_book.proofs.Shapes.{IsShaped, Shaped, did_touches, shapes}
 use Rattle.history_book.proofs.Snoc.{along_on, reading_on}
 use Rattle.history_book.specs.Histories.{entries_of, entry, reading}
 use Rattle.history_book.specs.Plans.{greatest, planned_end}
-use Rattle.history_book.specs.Readings.{OfRun, Reading, is_doomed, is_live, next_command, next_of, nothing_read, sees_down}
+use Rattle.history_book.specs.Readings.{OfRun, PlacedAt, Reading, is_doomed, is_live, next_command, next_of, nothing_read, pends, sees_down}
 use Rattle.history_book.specs.Settings.{Setting, is_weak}
 use Rattle.history_book.specs.WellFormed.{IsWellFormed, along, may_follow}
 use Rattle.history_book.specs.declared.entries.Cause.TheVariants.{Revoked}
-use Rattle.history_book.specs.declared.entries.Entry.TheVariants.{Arrived, Doomed}
+use Rattle.history_book.specs.declared.entries.Entry.TheVariants.{Arrived, Doomed, Placed}
 use Rattle.history_book.specs.declared.entries.Entry.{Entry}
 use Rattle.history_book.specs.declared.entries.Kept.{Kept}
 use Rattle.home_types.specs.Commands.{holds, reads}
 use Rattle.home_types.specs.declared.commands.Command.{Command}
-use Rattle.home_types.specs.declared.kinds.Kind.{Kind}
-use Rattle.home_types.specs.declared.modes.Scheduler.{Scheduler}
-use Rattle.home_types.specs.declared.modes.Visibility.TheVariants.{Eventual, Global, Partitioned, Weak}
-use Rattle.home_types.specs.declared.modes.Visibility.{Visibility}
-use Rattle.home_types.specs.declared.worlds.Stand.{Stand}
 use Rattle.hub_core.proofs.kept.Finds.{none_there}
-use Rattle.hub_core.proofs.waiting.QuietEntries.{SameFor, quiet_along, write_same}
-use Rattle.hub_core.specs.BlockedRuns.{IsBlocked, IsElsewhere, is_wait, next_device}
-use Rattle.hub_core.specs.Steps.{Absent, HandsOut, Moves, Over, Waits, behind_case, busy_case, command_cases, decide, decide_answered, decide_arrived, decide_command, decide_doomed, dirty_case, down_case, down_entries, first_case, only_if, overdue_case, skip_entries, strict_case}
+use Rattle.hub_core.proofs.waiting.QuietEntries.{IsNextOn, SameFor, SameRun, last_placing_ends_no_wait, none_behind, quiet_along, write_same}
+use Rattle.hub_core.specs.BlockedRuns.{EndNoWait, IsBlocked, IsElsewhere, is_wait, next_device}
+use Rattle.hub_core.specs.Steps.{Absent, Choice, HandsOut, Moves, Over, Waits, behind_case, busy_case, command_cases, decide, decide_answered, decide_arrived, decide_command, decide_doomed, dirty_case, down_case, down_entries, first_case, only_if, overdue_case, skip_entries, strict_case}
 use Rattle.hub_core.specs.declared.waits.Why.TheVariants.{Behind, Busy, Dirty, Strict}
 use Rattle.lock_leasing.specs.Configurations.{Commands, Configuration, Grips, read_of}
-use Rattle.lock_leasing.specs.Waits.{grip_wait, strict_wait}
-use Rattle.lock_leasing.specs.Words.{effective_write, has_effect, holds_device, last_some, lease_deadline, live_before, stamp_of, tenth_up}
-use Rattle.std.proofs.Common.{ap, arith, refl, subst, sym, ◌∙◌}
+use Rattle.lock_leasing.specs.Waits.{grip_wait}
+use Rattle.lock_leasing.specs.Words.{effective_write, has_effect, holds_device, is_overdue, last_some, lease_deadline, live_before, stamp_of, tenth_up}
+use Rattle.std.proofs.Common.{ap, arith, inl, inr, refl, subst, sym, ◌∙◌}
 use Rattle.std.proofs.lemmas.Grind.{common_steps}
 use Rattle.std.proofs.lemmas.List.{map-append}
-use Rattle.std.specs.Prelude.{Bool, List, None, Option, Some, [], false, find, fold, if◌then◌else◌, is_none, is_some, length, max, min, nat_lt, not, option_map, slice_get, true, unwrap_or, ℕ, ◌&&◌, ◌++◌, ◌+◌, ◌||◌, ◌==◌, ◌∷◌, ◌≡◌}
+use Rattle.std.specs.Prelude.{Bool, List, None, Option, Some, [], false, find, fold, if◌then◌else◌, is_none, is_some, length, max, min, nat_lt, not, option_map, slice_get, true, unwrap_or, ℕ, ◌&&◌, ◌++◌, ◌+◌, ◌==◌, ◌||◌, ◌∷◌, ◌≡◌}
+use Rattle.lock_leasing.proofs.Facts.{pends_touches}
+use Rattle.lock_leasing.proofs.Effects.{effect_is}
+use Rattle.hub_core.proofs.waiting.NearRuns.{found_same, seen_same}
+use Rattle.hub_core.proofs.steps.GiveCauses.{next_pends}
+use Rattle.history_book.proofs.Standing.{standing}
 
 -- Words on the device
 
@@ -41,49 +41,71 @@ effect_same w n m g h r d same held = (λ i. last_some (λ y. write_same m m g h
 effects : (w : Setting) (n m : Reading) (g h : Grips) (r d : ℕ) → SameFor w n m r d → h d ≡ g d → (x : ℕ) → has_effect m h x d ≡ has_effect n g x d
 effects w n m g h r d same held x = λ i. unwrap_or (option_map (λ y. y == x) (option_map (λ e. e.run) (effect_same w n m g h r d same held i))) false
 
-holds_same : (w : Setting) (n m : Reading) (g h : Grips) (r d : ℕ) → SameFor w n m r d → h d ≡ g d → (x : ℕ) → holds_device w m h x d ≡ holds_device w n g x d
-holds_same w n m g h r d same held x = λ i. (is_some ((same.runs x).placed i) && is_none ((same.runs x).ended i)) && (if is_some ((same.runs x).doomed i) then touches w.runs x d && effects w n m g h r d same held x i else (same.runs x).pending i)
+holds_same : (w : Setting) (n m : Reading) (g h : Grips) (r d : ℕ) → SameFor w n m r d → h d ≡ g d → (x : ℕ) → SameRun w d x (n.run x) (m.run x) → holds_device w m h x d ≡ holds_device w n g x d
+holds_same w n m g h r d same held x run = λ i. (is_some (run.placed i) && is_none (run.ended i)) && (if is_some (run.doomed i) then touches w.runs x d && effects w n m g h r d same held x i else run.pending i)
+
+-- each of them is of runs that use the device
+effect_on : (w : Setting) (n : Reading) (g : Grips) (x d : ℕ) → Shaped w n → has_effect n g x d ≡ true → touches w.runs x d ≡ true
+effect_on w n g x d shaped has = did_touches w n x d shaped ((shaped x).wrote d (effect_is n g x d has).0)
+
+holding_on : (w : Setting) (n : Reading) (g : Grips) (x d : ℕ) → holds_device w n g x d ≡ true → touches w.runs x d ≡ true
+holding_on w n g x d holds = by_doom (is_doomed n x) holds
+  where
+    by_doom : (b : Bool) → (is_live n x && (if b then touches w.runs x d && has_effect n g x d else pends w n x d)) ≡ true → touches w.runs x d ≡ true
+    by_doom true holds = grind (arith, common_steps)
+    by_doom false holds = pends_touches w n x d (grind (arith, common_steps))
+
+overdue_on : (w : Setting) (n : Reading) (g : Grips) (r d t x : ℕ) → is_overdue w n g r d t x ≡ true → touches w.runs x d ≡ true
+overdue_on w n g r d t x overdue = holding_on w n g x d (grind (arith, common_steps))
 
 -- The cases of a command
 
--- the model asks for the live runs before the run alone
-pub strict_by : (runs : List Run) (kinds : List Kind) (first : List Stand) (model : Visibility) (scheduler : Scheduler) (n m : Reading) (r : ℕ) → live_before m r ≡ live_before n r
-    → strict_wait (record { runs = runs; mode = record { model = model; scheduler = scheduler }; kinds = kinds; first = first }) m r ≡ strict_wait (record { runs = runs; mode = record { model = model; scheduler = scheduler }; kinds = kinds; first = first }) n r
-strict_by runs kinds first Weak scheduler n m r same = refl
-strict_by runs kinds first Global scheduler n m r same = ap (find (λ x. true)) same
-strict_by runs kinds first Partitioned scheduler n m r same = ap (find (λ x. shares runs x r)) same
-strict_by runs kinds first Eventual scheduler n m r same = refl
-
 -- the run is told the same of its next command
-command_same : (w : Setting) (n m : Reading) (g h : Grips) (r t k : ℕ) (c : Command) → SameFor w n m r c.device.0 → h c.device.0 ≡ g c.device.0 → decide_command w m h r t k c ≡ decide_command w n g r t k c
-command_same w n m g h r t k c same held = λ i. if holds c.when (same.own i).register then by_model (is_weak w.mode) i else first_case (strict i ∷ []) (Moves (skip_entries r k))
+command_same : (w : Setting) (n m : Reading) (g h : Grips) (r t k : ℕ) (c : Command) → Shaped w n → Shaped w m → SameFor w n m r c.device.0 → h c.device.0 ≡ g c.device.0 → decide_command w m h r t k c ≡ decide_command w n g r t k c
+command_same w n m g h r t k c shaped then' same held = λ i. if holds c.when (same.own i).register then by_model (is_weak w.mode) i else first_case (strict i ∷ []) (Moves (skip_entries r k))
   where
     d : ℕ
     d = c.device.0
 
-    holding : (x : ℕ) → holds_device w m h x d ≡ holds_device w n g x d
+    holding : (x : ℕ) → SameRun w d x (n.run x) (m.run x) → holds_device w m h x d ≡ holds_device w n g x d
     holding = holds_same w n m g h r d same held
 
-    deadline : (x : ℕ) → lease_deadline w m x d ≡ lease_deadline w n x d
-    deadline x = λ i. min (planned_end ((same.runs x).planned i) d + tenth_up (estimate_to_last d (commands_of w.runs x))) greatest
+    deadline : (x : ℕ) → SameRun w d x (n.run x) (m.run x) → lease_deadline w m x d ≡ lease_deadline w n x d
+    deadline x run = λ i. min (planned_end (run.planned i) d + tenth_up (estimate_to_last d (commands_of w.runs x))) greatest
 
-    stamp : (x : ℕ) → stamp_of m x ≡ stamp_of n x
-    stamp x = λ i. unwrap_or (option_map (λ p. p.stamp) ((same.runs x).placed i)) 0
+    stamp : stamp_of m r ≡ stamp_of n r
+    stamp = λ i. unwrap_or (option_map (λ p. p.stamp) (same.own i).placed) 0
+
+    later : (x : ℕ) → SameRun w d x (n.run x) (m.run x) → stamp_of m x ≡ stamp_of n x
+    later x run = λ i. unwrap_or (option_map (λ p. p.stamp) (run.placed i)) 0
+
+    revokes : Reading → ℕ → Choice
+    revokes u x = Moves (Doomed (run_no x) (Revoked (run_no r) c.device (lease_deadline w u x d) t) ∷ [])
+
+    falls_due : (x : ℕ) → SameRun w d x (n.run x) (m.run x) → (is_overdue w m h r d t x ≡ is_overdue w n g r d t x) × (revokes m x ≡ revokes n x)
+    falls_due x run = (
+      λ i. not (is_some (run.doomed i)) && nat_lt (stamp i) (later x run i) && holding x run i && nat_lt (deadline x run i) t,
+      λ i. Moves (Doomed (run_no x) (Revoked (run_no r) c.device (deadline x run i) t) ∷ []),
+    )
 
     overdue : overdue_case w m h r t c ≡ overdue_case w n g r t c
-    overdue = λ i. option_map (λ x. Moves (Doomed (run_no x) (Revoked (run_no r) c.device (deadline x i) t) ∷ [])) (find (λ x. not (is_some ((same.runs x).doomed i)) && nat_lt (stamp r i) (stamp x i) && holding x i && nat_lt (deadline x i) t) (same.before i))
+    overdue = seen_same w n m r d (is_overdue w m h r d t) (is_overdue w n g r d t) (revokes m) (revokes n) same.near (overdue_on w m h r d t) (overdue_on w n g r d t) (λ x live on. falls_due x (same.runs x live on))
 
     behind : behind_case w m h r c ≡ behind_case w n g r c
-    behind = λ i. option_map (λ x. Waits (Behind c.device (run_no x))) (find (λ x. holding x i) (same.before i))
+    behind = ap (option_map (λ x. Waits (Behind c.device (run_no x))))
+        (found_same w n m r d (λ x. holds_device w m h x d) (λ x. holds_device w n g x d) same.near (λ x. holding_on w m h x d) (λ x. holding_on w n g x d) (λ x live on. holding x (same.runs x live on)))
+
+    writer : find (λ x. has_effect m h x d) (live_before m r) ≡ find (λ x. has_effect n g x d) (live_before n r)
+    writer = found_same w n m r d (λ x. has_effect m h x d) (λ x. has_effect n g x d) same.near (λ x. effect_on w m h x d then') (λ x. effect_on w n g x d shaped) (λ x live on. effects w n m g h r d same held x)
 
     down : sees_down m r d ≡ sees_down n r d
     down = λ i. unwrap_or (option_map not ((same.own i).on d).view) false
 
     dirty : dirty_case w m h r c ≡ dirty_case w n g r c
-    dirty = λ i. option_map (λ x. Waits (Dirty c.device (run_no x))) (if reads c.job && not (down i) && not (is_some ((same.own i).on d).wrote) then find (λ x. effects w n m g h r d same held x i) (same.before i) else None)
+    dirty = λ i. option_map (λ x. Waits (Dirty c.device (run_no x))) (if reads c.job && not (down i) && not (is_some ((same.own i).on d).wrote) then writer i else None)
 
     strict : strict_case w m r ≡ strict_case w n r
-    strict = ap (option_map (λ x. Waits (Strict (run_no x)))) (strict_by w.runs w.kinds w.first w.mode.model w.mode.scheduler n m r same.before)
+    strict = ap (option_map (λ x. Waits (Strict (run_no x)))) same.strict
 
     busy : busy_case w m h r c ≡ busy_case w n g r c
     busy = λ i. only_if ((is_weak w.mode || not (down i)) && is_some (held i)) (Waits (Busy c.device))
@@ -117,11 +139,11 @@ at_command w n g r t c at free = λ i. first_case (only_if (not (at.run i)) Abse
     ∷ option_map (decide_command w n g r t (next_of n r)) (at.next i) ∷ []) (decide_answered w n g r)
 
 -- what a run at a command does is the same where a reading tells it the same, and it holds no grip
-decide_same : (w : Setting) (n m : Reading) (g h : Grips) (r t : ℕ) (c : Command) → IsAt w r (n.run r) c → SameFor w n m r c.device.0 → h c.device.0 ≡ g c.device.0 → grip_wait w g r ≡ None → grip_wait w h r ≡ None
+decide_same : (w : Setting) (n m : Reading) (g h : Grips) (r t : ℕ) (c : Command) → Shaped w n → Shaped w m → IsAt w r (n.run r) c → SameFor w n m r c.device.0 → h c.device.0 ≡ g c.device.0 → grip_wait w g r ≡ None → grip_wait w h r ≡ None
     → decide w m h r t ≡ decide w n g r t
-decide_same w n m g h r t c at same held free still =
+decide_same w n m g h r t c shaped then' at same held free still =
     at_command w m h r t c (subst (λ o. IsAt w r o c) (sym same.own) at) still
-    ∙ command_same w n m g h r t (next_of m r) c same held
+    ∙ command_same w n m g h r t (next_of m r) c shaped then' same held
     ∙ ap (λ (o : OfRun). decide_command w n g r t (length o.answers) c) same.own
     ∙ sym (at_command w n g r t c at free)
 
@@ -193,14 +215,43 @@ other_device s t made r d well elsewhere at = (device, decides)
     parts : (along w (may_follow w) (nothing_read w) (entries_of s.history) ≡ true) × (along w (may_follow w) n es ≡ true)
     parts = let both : (along w (may_follow w) (nothing_read w) (entries_of s.history) && along w (may_follow w) n es) ≡ true = follow in (grind (arith, common_steps), grind (arith, common_steps))
 
+    shaped : Shaped w n
+    shaped = shapes w (entries_of s.history) parts.0
+
     found : IsAtOn w n s.grips r d
-    found = at_on w n s.grips r d (shapes w (entries_of s.history) parts.0 r) at
+    found = at_on w n s.grips r d (shaped r) at
+
+    next : IsNextOn w r d (n.run r)
+    next = record {
+      came = found.at.came;
+      live = (λ i. is_some (n.run r).placed && is_none (found.at.ended i)) ∙ some_placed (n.run r).placed found.at.placed;
+      sound = ap is_some found.at.doomed;
+      on = subst (λ e. touches w.runs r e ≡ true) found.there (pends_touches w n r found.command.device.0 (next_pends w n r found.command found.at.next));
+      next = ap (option_map (λ c. c.device.0)) found.at.next ∙ ap Some found.there;
+    }
+      where
+        some_placed : (o : Option PlacedAt) → is_none o ≡ false → (is_some o && true) ≡ true
+        some_placed None none = absurd (cc)
+        some_placed (Some p) none = refl
+
+    -- the entries end no wait
+    entries_same : EndNoWait w (read_of t) d es → SameFor w n m r d
+    entries_same (inr quiet) = quiet_along w n r d es shaped parts.1 quiet next
+    entries_same (inl placed) =
+        let follows : may_follow w n (Placed placed.run placed.place placed.moment) ≡ true = let both : along w (may_follow w) n (Placed placed.run placed.place placed.moment ∷ []) ≡ true = sym (ap (along w (may_follow w) n) placed.only) ∙ parts.1 in grind (arith, common_steps) in
+        let now : m ≡ entry w n (Placed placed.run placed.place placed.moment) = ap (fold (entry w) n) placed.only in
+        let last : length (entry w n (Placed placed.run placed.place placed.moment)).line ≡ placed.place + 1 = ap (λ (u : Reading). length u.line) (sym (read ∙ now)) ∙ placed.last in
+        subst (λ u. SameFor w n u r d) (sym now)
+        (last_placing_ends_no_wait w n r d placed.run placed.place placed.moment shaped follows next (standing w (entries_of s.history) parts.0) (none_behind w n placed.run placed.place placed.moment last))
 
     same : SameFor w n m r d
-    same = quiet_along w n r d es parts.1 elsewhere.quiet (record { came = found.at.came; sound = ap is_some found.at.doomed; next = ap (option_map (λ c. c.device.0)) found.at.next ∙ ap Some found.there })
+    same = entries_same elsewhere.quiet
+
+    after : Shaped w m
+    after = subst (Shaped w) (reading_on w (entries_of s.history) es) (shapes w (entries_of s.history ++ es) (subst (λ h. IsWellFormed w h) entries (subst (λ v. IsWellFormed v (entries_of t.history)) elsewhere.setting well)))
 
     steps : (k : ℕ) → decide w m t.grips r k ≡ decide w n s.grips r k
-    steps k = decide_same w n m s.grips t.grips r k found.command found.at (subst (SameFor w n m r) (sym found.there) same) (subst (λ e. t.grips e ≡ s.grips e) (sym found.there) elsewhere.held) found.free elsewhere.free
+    steps k = decide_same w n m s.grips t.grips r k found.command shaped after found.at (subst (SameFor w n m r) (sym found.there) same) (subst (λ e. t.grips e ≡ s.grips e) (sym found.there) elsewhere.held) found.free elsewhere.free
 
     decides : (k : ℕ) → decide t.setting (read_of t) t.grips r k ≡ decide s.setting (read_of s) s.grips r k
     decides k = (λ i. decide (elsewhere.setting i) (read i) t.grips r k) ∙ steps k

@@ -1,12 +1,12 @@
 -- What entries that end no wait leave of what the step of a run at a command looks at.
-use Rattle.command_rules.specs.Rosters.{command_at, commands_of, is_on, no_command, touches_from}
-use Rattle.history_book.proofs.Shapes.{put_all}
+use Rattle.command_rules.specs.Rosters.{Run, command_at, commands_of, is_on, no_command, shares, touches, touches_from}
+use Rattle.history_book.proofs.Shapes.{Shaped, did_touches, put_all, shapes_step}
 use Rattle.history_book.proofs.Searches.{map_some}
-use Rattle.history_book.proofs.Snoc.{put_other}
-use Rattle.history_book.specs.Histories.{entry}
-use Rattle.history_book.specs.Lines.{before, put_before}
-use Rattle.history_book.specs.Readings.{OfRun, Reading, is_doomed, is_live, next_of, put}
-use Rattle.history_book.specs.Settings.{Setting}
+use Rattle.history_book.proofs.Snoc.{put_keeps, put_other}
+use Rattle.history_book.specs.Histories.{entry, line_after}
+use Rattle.history_book.specs.Lines.{Split, before, is_item_on, put_before}
+use Rattle.history_book.specs.Readings.{OfRun, OnDevice, PlacedAt, Reading, is_doomed, is_live, next_of, put}
+use Rattle.history_book.specs.Settings.{Setting, is_strict}
 use Rattle.history_book.specs.WellFormed.{along, may_follow}
 use Rattle.history_book.specs.declared.entries.Entry.{Entry}
 use Rattle.history_book.specs.declared.entries.Entry.TheVariants.{Arrived, Did, Doomed, Ended, Fell, Placed, Rose, Undid}
@@ -19,15 +19,33 @@ use Rattle.home_types.specs.declared.numbers.RunNo.{RunNo}
 use Rattle.hub_core.proofs.kept.EventsKept.{IsEvent, front_with}
 use Rattle.hub_core.specs.BlockedRuns.{is_quiet}
 use Rattle.lock_leasing.specs.Configurations.{Grips, is_undo}
-use Rattle.lock_leasing.specs.Words.{effective_write, last_some, live_before, live_runs, write_of}
+use Rattle.lock_leasing.specs.Words.{Write, effective_write, is_undone, last_some, live_before, live_runs, write_of}
 use Rattle.std.proofs.Common.{ap, arith, refl, subst, sym, ◌∙◌}
 use Rattle.std.proofs.lemmas.Grind.{common_steps}
-use Rattle.std.proofs.lemmas.List.{drop_more}
+use Rattle.std.proofs.lemmas.List.Elements.{filter-append}
+use Rattle.std.proofs.lemmas.List.{append-nil, drop_more, length-append, length-drop, nil_from_length, take-append-drop}
 use Rattle.std.specs.List.{cons_option, list_all, list_any}
 use Rattle.std.specs.Option.{option_or}
-use Rattle.std.specs.Prelude.{Bool, List, None, Option, Some, [], drop, false, fold, if◌then◌else◌, is_none, is_some, length, option_map, slice_get, slice_index_or, true, unwrap_or, ℕ, ◌&&◌, ◌+◌, ◌<◌, ◌==◌, ◌||◌, ◌∷◌, ◌≡◌, ◌≢◌}
+use Rattle.std.specs.Prelude.{Bool, List, None, Option, Some, [], drop, false, filter, find, fold, if◌then◌else◌, is_none, is_some, length, not, option_map, slice_get, slice_index_or, take, true, unwrap_or, ℕ, ◌&&◌, ◌++◌, ◌+◌, ◌-◌, ◌<◌, ◌==◌, ◌||◌, ◌∷◌, ◌≡◌, ◌≢◌}
 use Rattle.window_order.proofs.AnsweredTables.{answered_run, left_after}
 use Rattle.window_order.proofs.Steps.{next_is}
+use Rattle.lock_leasing.specs.Waits.{strict_wait}
+use Rattle.lock_leasing.proofs.Places.{last_filter}
+use Rattle.lock_leasing.proofs.Facts.{live_stands}
+use Rattle.hub_core.proofs.waiting.NearRuns.{before_more, filter_insert, filter_twice, last_insert, near_part, near_same, none_left, runs_near, some_left}
+use Rattle.home_types.specs.declared.worlds.Stand.{Stand}
+use Rattle.home_types.specs.declared.modes.Visibility.TheVariants.{Eventual, Global, Partitioned, Weak}
+use Rattle.home_types.specs.declared.modes.Visibility.{Visibility}
+use Rattle.home_types.specs.declared.modes.Scheduler.{Scheduler}
+use Rattle.home_types.specs.declared.kinds.Kind.{Kind}
+use Rattle.history_book.specs.declared.entries.End.TheVariants.{Aborted, Committed}
+use Rattle.history_book.specs.declared.entries.End.{End}
+use Rattle.history_book.specs.declared.entries.Cause.{Cause}
+use Rattle.history_book.specs.Plans.{planned_times}
+use Rattle.history_book.specs.Gaps.{front_for, line_for, split_of}
+use Rattle.history_book.proofs.Splits.{part, split_part}
+use Rattle.history_book.proofs.Standing.{Standing, aborted}
+use Rattle.command_rules.specs.Items.{is_ran}
 
 -- What is the same
 
@@ -42,9 +60,10 @@ pub record SameRun (w : Setting) (d q : ℕ) (o p : OfRun) : Type 0 where
 
 -- what a reading tells to the run r at a command on the device
 pub record SameFor (w : Setting) (n m : Reading) (r d : ℕ) : Type 0 where
-  pub runs : (q : ℕ) → SameRun w d q (n.run q) (m.run q)
+  pub runs : (q : ℕ) → is_live n q ≡ true → touches w.runs q d ≡ true → SameRun w d q (n.run q) (m.run q)
   pub own : m.run r ≡ n.run r
-  pub before : live_before m r ≡ live_before n r
+  pub near : runs_near w m r d ≡ runs_near w n r d
+  pub strict : strict_wait w m r ≡ strict_wait w n r
   pub write : (g : Grips) → effective_write m g d ≡ effective_write n g d
   pub up : m.up d ≡ n.up d
 
@@ -62,18 +81,74 @@ run_after w d q o p u first then' = record {
 }
 
 same_itself : (w : Setting) (n : Reading) (r d : ℕ) → SameFor w n n r d
-same_itself w n r d = record { runs = λ q. run_itself w d q (n.run q); own = refl; before = refl; write = λ g. refl; up = refl }
+same_itself w n r d = record { runs = λ q live on. run_itself w d q (n.run q); own = refl; near = refl; strict = refl; write = λ g. refl; up = refl }
 
 same_after : (w : Setting) (n m u : Reading) (r d : ℕ) → SameFor w n m r d → SameFor w m u r d → SameFor w n u r d
 same_after w n m u r d first then' = record {
-  runs = λ q. run_after w d q (n.run q) (m.run q) (u.run q) (first.runs q) (then'.runs q);
+  runs = λ q live on. let one = first.runs q live on in run_after w d q (n.run q) (m.run q) (u.run q) one (then'.runs q ((λ i. is_some (one.placed i) && is_none (one.ended i)) ∙ live) on);
   own = then'.own ∙ first.own;
-  before = then'.before ∙ first.before;
+  near = then'.near ∙ first.near;
+  strict = then'.strict ∙ first.strict;
   write = λ g. then'.write g ∙ first.write g;
   up = then'.up ∙ first.up;
 }
 
+-- the model asks for the live runs before the run alone
+pub strict_by : (runs : List Run) (kinds : List Kind) (first : List Stand) (model : Visibility) (scheduler : Scheduler) (n m : Reading) (r : ℕ) → live_before m r ≡ live_before n r
+    → strict_wait (record { runs = runs; mode = record { model = model; scheduler = scheduler }; kinds = kinds; first = first }) m r ≡ strict_wait (record { runs = runs; mode = record { model = model; scheduler = scheduler }; kinds = kinds; first = first }) n r
+strict_by runs kinds first Weak scheduler n m r same = refl
+strict_by runs kinds first Global scheduler n m r same = ap (find (λ x. true)) same
+strict_by runs kinds first Partitioned scheduler n m r same = ap (find (λ x. shares runs x r)) same
+strict_by runs kinds first Eventual scheduler n m r same = refl
+
+strict_same : (w : Setting) (n m : Reading) (r : ℕ) → live_before m r ≡ live_before n r → strict_wait w m r ≡ strict_wait w n r
+strict_same w n m r same = strict_by w.runs w.kinds w.first w.mode.model w.mode.scheduler n m r same
+
+-- .. and but for the two strict ones for none
+never_strict : (w : Setting) (n m : Reading) (r : ℕ) → is_strict w.mode ≡ false → strict_wait w m r ≡ strict_wait w n r
+never_strict w n m r lax = by_model w.runs w.kinds w.first w.mode.model w.mode.scheduler lax
+  where
+    by_model : (runs : List Run) (kinds : List Kind) (first : List Stand) (model : Visibility) (scheduler : Scheduler) → is_strict (record { model = model; scheduler = scheduler }) ≡ false
+        → strict_wait (record { runs = runs; mode = record { model = model; scheduler = scheduler }; kinds = kinds; first = first }) m r ≡ strict_wait (record { runs = runs; mode = record { model = model; scheduler = scheduler }; kinds = kinds; first = first }) n r
+    by_model runs kinds first Weak scheduler lax' = refl
+    by_model runs kinds first Global scheduler lax' = absurd (cc)
+    by_model runs kinds first Partitioned scheduler lax' = absurd (cc)
+    by_model runs kinds first Eventual scheduler lax' = refl
+
 -- The line
+
+-- the two parts of a split are the line as it stands when the run is placed
+split_joined : (w : Setting) (n : Reading) (r at m : ℕ) → (split_of w n r at m).front ++ (split_of w n r at m).back ≡ line_for w n r m
+unfolding split_of
+split_joined w n r at m = take-append-drop at (line_for w n r m)
+
+-- .. which is the line itself under the two strict models
+served : (w : Setting) (n : Reading) (r m : ℕ) → is_strict w.mode ≡ true → line_for w n r m ≡ n.line
+served w n r m strict = by_model w.runs w.kinds w.first w.mode.model w.mode.scheduler strict
+  where
+    by_model : (runs : List Run) (kinds : List Kind) (first : List Stand) (model : Visibility) (scheduler : Scheduler) → is_strict (record { model = model; scheduler = scheduler }) ≡ true
+        → line_for (record { runs = runs; mode = record { model = model; scheduler = scheduler }; kinds = kinds; first = first }) n r m ≡ n.line
+    by_model runs kinds first Weak scheduler yes' = absurd (cc)
+    by_model runs kinds first Global scheduler yes' = refl
+    by_model runs kinds first Partitioned scheduler yes' = refl
+    by_model runs kinds first Eventual scheduler yes' = absurd (cc)
+
+-- nothing is behind a run whose place is the last one
+pub none_behind : (w : Setting) (n : Reading) (x : RunNo) (place t : ℕ) → length (entry w n (Placed x place t)).line ≡ place + 1 → (split_of w n x.0 place t).back ≡ []
+unfolding split_of
+none_behind w n x place t last = nil_from_length (drop place line) (omega (arith, whole, behind, longer, last))
+  where
+    line : List Item
+    line = line_for w n x.0 t
+
+    whole : length (take place line) + length (drop place line) ≡ length line
+    whole = sym (length-append (take place line) (drop place line)) ∙ ap length (take-append-drop place line)
+
+    behind : length (drop place line) ≡ length line - place
+    behind = length-drop place line
+
+    longer : length (take place line ++ Ran x ∷ drop place line) ≡ length (take place line) + length (Ran x ∷ drop place line)
+    longer = length-append (take place line) (Ran x ∷ drop place line)
 
 -- where the same runs are live
 pub live_same : (n m : Reading) (is : List Item) → ((q : ℕ) → is_live m q ≡ is_live n q) → live_runs m is ≡ live_runs n is
@@ -103,9 +178,10 @@ last_with f best t x (i ∷ is) none = by_test (t i) (last_with f (option_or (f 
 -- an entry of another run
 run_says : (w : Setting) (n m : Reading) (r d x : ℕ) (new : OfRun) → m.run ≡ put n.run x new → m.line ≡ n.line → m.up ≡ n.up → r ≢ x → SameRun w d x (n.run x) new → SameFor w n m r d
 run_says w n m r d x new read line up other same = record {
-  runs = runs;
+  runs = λ q live on. runs q;
   own = ap (λ f. f r) read ∙ put_other n.run x new r other;
-  before = ap (λ l. live_runs m (before r l)) line ∙ live_same n m (before r n.line) (λ q i. is_some ((runs q).placed i) && is_none ((runs q).ended i));
+  near = ap (filter (λ y. touches w.runs y d)) before_it;
+  strict = strict_same w n m r before_it;
   write = λ g. ap (last_some (write_of m g d)) line ∙ (λ i. last_some (λ y. write_same n m g g d y (λ q. (runs q).there) refl i) n.line);
   up = ap (λ f. f d) up;
 }
@@ -113,12 +189,16 @@ run_says w n m r d x new read line up other same = record {
     runs : (q : ℕ) → SameRun w d q (n.run q) (m.run q)
     runs q = subst (λ f. SameRun w d q (n.run q) (f q)) (sym read) (put_all (λ y o. SameRun w d y (n.run y) o) n.run x new (λ y. run_itself w d y (n.run y)) same q)
 
+    before_it : live_before m r ≡ live_before n r
+    before_it = ap (λ l. live_runs m (before r l)) line ∙ live_same n m (before r n.line) (λ q i. is_some ((runs q).placed i) && is_none ((runs q).ended i))
+
 -- the event of another device
 event_says : (w : Setting) (n m : Reading) (r d : ℕ) (t : Item → Bool) (x : Item) → m.run ≡ n.run → m.line ≡ put_before t x n.line → m.up d ≡ n.up d → IsEvent n x → ((g : Grips) → write_of n g d x ≡ None) → SameFor w n m r d
 event_says w n m r d t x read line up event none = record {
-  runs = runs;
+  runs = λ q live on. runs q;
   own = ap (λ f. f r) read;
-  before = live_same n m (before r m.line) (λ q i. is_some ((runs q).placed i) && is_none ((runs q).ended i)) ∙ ap (λ l. live_runs n (before r l)) line ∙ front_with n r t x n.line event;
+  near = ap (filter (λ y. touches w.runs y d)) before_it;
+  strict = strict_same w n m r before_it;
   write = λ g. (λ i. last_some (λ y. write_same n m g g d y (λ q. (runs q).there) refl i) m.line) ∙ ap (last_some (write_of n g d)) line ∙ last_with (write_of n g d) None t x n.line (none g);
   up = up;
 }
@@ -126,12 +206,17 @@ event_says w n m r d t x read line up event none = record {
     runs : (q : ℕ) → SameRun w d q (n.run q) (m.run q)
     runs q = subst (λ f. SameRun w d q (n.run q) (f q)) (sym read) (run_itself w d q (n.run q))
 
+    before_it : live_before m r ≡ live_before n r
+    before_it = live_same n m (before r m.line) (λ q i. is_some ((runs q).placed i) && is_none ((runs q).ended i)) ∙ ap (λ l. live_runs n (before r l)) line ∙ front_with n r t x n.line event
+
 -- The entries
 
 -- the run is at a command on the device, by its record
 pub record IsNextOn (w : Setting) (r d : ℕ) (o : OfRun) : Type 0 where
   pub came : is_none o.arrived ≡ false
+  pub live : (is_some o.placed && is_none o.ended) ≡ true
   pub sound : is_some o.doomed ≡ false
+  pub on : touches w.runs r d ≡ true
   pub next : option_map (λ c. c.device.0) (slice_get (commands_of w.runs r) (length o.answers)) ≡ Some d
 
 -- its next command is on the device
@@ -177,34 +262,224 @@ undid_same w n r d x e drove doomed elsewhere at = run_says w n (entry w n (Undi
     other : r ≢ x.0
     other same = let both : true ≡ false = sym doomed ∙ ap (is_doomed n) (sym same) ∙ at.sound in cc
 
+-- Runs that do not use the device
+
+-- a run that does not use the device has written nothing there
+unwritten : (w : Setting) (n : Reading) (q d : ℕ) → Shaped w n → touches w.runs q d ≡ false → ((n.run q).on d).wrote ≡ None
+unwritten w n q d shaped off = by_write ((n.run q).on d).wrote refl
+  where
+    by_write : (o : Option ℕ) → ((n.run q).on d).wrote ≡ o → o ≡ None
+    by_write None e = refl
+    by_write (Some v) e = absurd (let on = did_touches w n q d shaped ((shaped q).wrote d (ap is_some e)) in let both : true ≡ false = sym on ∙ off in cc)
+
+-- so neither does its item give a write, nor one of no run
+no_write : (n : Reading) (g : Grips) (d : ℕ) (q : RunNo) → ((n.run q.0).on d).wrote ≡ None → write_of n g d (Ran q) ≡ None
+no_write n g d q none = either (is_undone n g q.0 d) (option_map (λ v. record { run = q.0; value = v }) ((n.run q.0).on d).wrote) (λ i. option_map (λ v. record { run = q.0; value = v }) (none i))
+  where
+    either : (b : Bool) (o : Option Write) → o ≡ None → (if b then None else o) ≡ None
+    either true o none = refl
+    either false o none = none
+
+no_write_off : (w : Setting) (n : Reading) (g : Grips) (d : ℕ) → Shaped w n → (i : Item) → is_item_on w.runs d i ≡ false → write_of n g d i ≡ None
+no_write_off w n g d shaped (Ran q) off = no_write n g d q (unwritten w n q.0 d shaped off)
+no_write_off w n g d shaped (Failed e k) off = refl
+no_write_off w n g d shaped (Back e k) off = refl
+
+-- .. and it is no run that does
+apart : (w : Setting) (q x d : ℕ) → touches w.runs x d ≡ false → touches w.runs q d ≡ true → q ≢ x
+apart w q x d off on same = let both : true ≡ false = sym on ∙ ap (λ y. touches w.runs y d) same ∙ off in cc
+
+-- another run's record is the same
+other_run : (w : Setting) (n : Reading) (d q x : ℕ) (new : OfRun) → q ≢ x → SameRun w d q (n.run q) (put n.run x new q)
+other_run w n d q x new other = subst (SameRun w d q (n.run q)) (sym (put_other n.run x new q other)) (run_itself w d q (n.run q))
+
+live_other : (n : Reading) (q x : ℕ) (new : OfRun) → q ≢ x → (is_some (put n.run x new q).placed && is_none (put n.run x new q).ended) ≡ is_live n q
+live_other n q x new other = ap (λ (o : OfRun). is_some o.placed && is_none o.ended) (put_other n.run x new q other)
+
+-- its doom ends no wait there
+pub doom_ends_no_wait_elsewhere : (w : Setting) (n : Reading) (r d : ℕ) (x : RunNo) (cause : Cause) → touches w.runs x.0 d ≡ false → IsNextOn w r d (n.run r) → SameFor w n (entry w n (Doomed x cause)) r d
+doom_ends_no_wait_elsewhere w n r d x cause off at = record {
+  runs = λ q live on. other_run w n d q x.0 new (apart w q x.0 d off on);
+  own = put_other n.run x.0 new r (apart w r x.0 d off at.on);
+  near = ap (filter (λ y. touches w.runs y d)) before_it;
+  strict = strict_same w n m r before_it;
+  write = λ g i. last_some (λ y. write_same n m g g d y (put_keeps (λ (o : OfRun). o.on d) n.run x.0 new refl) refl i) n.line;
+  up = refl;
+}
+  where
+    new : OfRun
+    new = record (n.run x.0) { doomed = Some cause }
+
+    m : Reading
+    m = entry w n (Doomed x cause)
+
+    before_it : live_before m r ≡ live_before n r
+    before_it = live_same n m (before r n.line) (put_keeps (λ (o : OfRun). is_some o.placed && is_none o.ended) n.run x.0 new refl)
+
+-- nor does its end, but under a strict model
+pub end_ends_no_wait_elsewhere : (w : Setting) (n : Reading) (r d : ℕ) (x : RunNo) (e : End) → Shaped w n → is_strict w.mode ≡ false → touches w.runs x.0 d ≡ false → IsNextOn w r d (n.run r) → SameFor w n (entry w n (Ended x e)) r d
+end_ends_no_wait_elsewhere w n r d x e shaped lax off at = record {
+  runs = λ q live on. other_run w n d q x.0 new (apart w q x.0 d off on);
+  own = put_other n.run x.0 new r (apart w r x.0 d off at.on);
+  near = near_same w n m r d at.on (parts e) (λ q on. live_other n q x.0 new (apart w q x.0 d off on));
+  strict = never_strict w n m r lax;
+  write = λ g. (λ i. last_some (λ y. write_same n m g g d y (put_keeps (λ (o : OfRun). o.on d) n.run x.0 new refl) refl i) m.line) ∙ writes g e;
+  up = refl;
+}
+  where
+    new : OfRun
+    new = record (n.run x.0) { ended = Some e }
+
+    m : Reading
+    m = entry w n (Ended x e)
+
+    not_item : (q : RunNo) → touches w.runs q.0 d ≡ true → (b : Bool) → (q.0 == x.0) ≡ b → not b ≡ true
+    not_item q on true same = absurd (apart w q.0 x.0 d off on (grind (arith, common_steps)))
+    not_item q on false same = refl
+
+    other_item : (i : Item) → is_item_on w.runs d i ≡ true → not (is_ran x.0 i) ≡ true
+    other_item (Ran q) on = not_item q on (q.0 == x.0) refl
+    other_item (Failed f k) on = refl
+    other_item (Back f k) on = refl
+
+    parts : (e : End) → part w d (line_after x.0 e n.line) ≡ part w d n.line
+    parts Committed = refl
+    parts (Aborted cause) = filter_twice (is_item_on w.runs d) (λ i. not (is_ran x.0 i)) n.line other_item
+
+    gone : (g : Grips) (i : Item) → not (is_ran x.0 i) ≡ false → write_of n g d i ≡ None
+    gone g (Ran q) own = let same : q.0 ≡ x.0 = grind (arith, common_steps) in no_write n g d q (unwritten w n q.0 d shaped (ap (λ y. touches w.runs y d) same ∙ off))
+    gone g (Failed f k) own = absurd (cc)
+    gone g (Back f k) own = absurd (cc)
+
+    writes : (g : Grips) (e : End) → last_some (write_of n g d) (line_after x.0 e n.line) ≡ effective_write n g d
+    writes g Committed = refl
+    writes g (Aborted cause) = last_filter (write_of n g d) (λ i. not (is_ran x.0 i)) n.line None (gone g)
+
+-- A run that is placed
+
+module _ (w : Setting) (n : Reading) (r d : ℕ) (x : RunNo) (place t : ℕ) (shaped : Shaped w n) (follows : may_follow w n (Placed x place t) ≡ true) (at : IsNextOn w r d (n.run r)) where
+  abbrev new : OfRun
+  new = record (n.run x.0) { placed = Some (record { place = place; moment = t; stamp = n.size }); planned = planned_times w n x.0 (front_for w n x.0 place t) t }
+
+  abbrev m : Reading
+  m = entry w n (Placed x place t)
+
+  abbrev split : Split
+  split = split_of w n x.0 place t
+
+  unplaced : is_none (n.run x.0).placed ≡ true
+  unplaced = grind (arith, common_steps, follows)
+
+  -- it is no live run
+  not_live : (q : ℕ) → is_live n q ≡ true → q ≢ x.0
+  not_live q live same = by_place (n.run x.0).placed unplaced (sym (ap (is_live n) same) ∙ live)
+    where
+      by_place : (o : Option PlacedAt) → is_none o ≡ true → (is_some o && is_none (n.run x.0).ended) ≡ true → ⊥
+      by_place None none live = absurd (cc)
+      by_place (Some p) none live = absurd (cc)
+
+  on_same : (q : ℕ) → (m.run q).on d ≡ (n.run q).on d
+  on_same q = put_keeps (λ (o : OfRun). o.on d) n.run x.0 new refl q
+
+  out : (g : Grips) (i : Item) → is_item_on w.runs d i ≡ false → write_of n g d i ≡ None
+  out g = no_write_off w n g d shaped
+
+  write : (g : Grips) → effective_write m g d ≡ effective_write n g d
+  write g =
+      (λ i. last_some (λ y. write_same n m g g d y on_same refl i) m.line)
+      ∙ last_insert (write_of n g d) split.front split.back (Ran x) None (no_write n g d x (ap (λ (o : OnDevice). o.wrote) ((shaped x.0).clear unplaced d)))
+      ∙ sym (last_filter (write_of n g d) (is_item_on w.runs d) (split.front ++ split.back) None (out g))
+      ∙ ap (last_some (write_of n g d)) (split_part w n x.0 place t d)
+      ∙ last_filter (write_of n g d) (is_item_on w.runs d) n.line None (out g)
+
+  -- a placing ends no wait at a device that its run does not use, but under a strict model
+  pub placing_ends_no_wait_elsewhere : is_strict w.mode ≡ false → touches w.runs x.0 d ≡ false → SameFor w n m r d
+  placing_ends_no_wait_elsewhere lax off = record {
+    runs = λ q live on. other_run w n d q x.0 new (apart w q x.0 d off on);
+    own = put_other n.run x.0 new r (not_live r at.live);
+    near = near_same w n m r d at.on (filter_insert (is_item_on w.runs d) split.front split.back (Ran x) off ∙ split_part w n x.0 place t d) (λ q on. live_other n q x.0 new (apart w q x.0 d off on));
+    strict = never_strict w n m r lax;
+    write = write;
+    up = refl;
+  }
+
+  -- .. and one at the end of the line ends no wait at all
+  pub last_placing_ends_no_wait : Standing n → split.back ≡ [] → SameFor w n m r d
+  last_placing_ends_no_wait standing last = record {
+    runs = λ q live on. other_run w n d q x.0 new (not_live q live);
+    own = put_other n.run x.0 new r (not_live r at.live);
+    near = near;
+    strict = by_model (is_strict w.mode) refl;
+    write = write;
+    up = refl;
+  }
+    where
+      live : (q : ℕ) → q ≢ x.0 → is_live m q ≡ is_live n q
+      live q other = live_other n q x.0 new other
+
+      none : list_any (is_ran x.0) n.line ≡ false
+      none = standing.line x.0 ∙ by_place (n.run x.0).placed unplaced
+        where
+          by_place : (o : Option PlacedAt) → is_none o ≡ true → (is_some o && not (aborted (n.run x.0))) ≡ false
+          by_place None e = refl
+          by_place (Some p) e = absurd (cc)
+
+      there : list_any (is_ran r) n.line ≡ true
+      there = standing.line r ∙ live_stands n r at.live
+
+      own_item : (i : Item) → is_ran r i ≡ true → is_item_on w.runs d i ≡ true
+      own_item (Ran q) is = let same : q.0 ≡ r = grind (arith, common_steps) in ap (λ y. touches w.runs y d) same ∙ at.on
+      own_item (Failed e k) is = absurd (cc)
+      own_item (Back e k) is = absurd (cc)
+
+      front_part : part w d split.front ≡ part w d n.line
+      front_part = ap (part w d) (sym (append-nil split.front) ∙ ap (λ b. split.front ++ b) (sym last)) ∙ split_part w n x.0 place t d
+
+      near : runs_near w m r d ≡ runs_near w n r d
+      near =
+          near_part w m r d m.line at.on
+          ∙ ap (λ l. filter (λ y. touches w.runs y d) (live_runs m (before r l))) (filter-append (is_item_on w.runs d) split.front (Ran x ∷ split.back) ∙ ap (λ l. l ++ part w d (Ran x ∷ split.back)) front_part)
+          ∙ ap (filter (λ y. touches w.runs y d)) (before_more n m r x.0 (part w d n.line) (part w d (Ran x ∷ split.back)) live (none_left (is_ran x.0) (is_item_on w.runs d) n.line none) (some_left (is_ran r) (is_item_on w.runs d) n.line own_item ∙ there))
+          ∙ sym (near_part w n r d n.line at.on)
+
+      by_model : (b : Bool) → is_strict w.mode ≡ b → strict_wait w m r ≡ strict_wait w n r
+      by_model true strict = strict_same w n m r (ap (λ l. live_runs m (before r (l ++ Ran x ∷ split.back))) front ∙ before_more n m r x.0 n.line (Ran x ∷ split.back) live none there)
+        where
+          front : split.front ≡ n.line
+          front = sym (append-nil split.front) ∙ ap (λ b. split.front ++ b) (sym last) ∙ split_joined w n x.0 place t ∙ served w n x.0 t strict
+      by_model false lax = never_strict w n m r lax
+
 -- what an entry that is quiet for a device leaves to a run at a command there
-pub quiet_same : (w : Setting) (n : Reading) (r d : ℕ) (e : Entry) → may_follow w n e ≡ true → is_quiet w d e ≡ true → IsNextOn w r d (n.run r) → SameFor w n (entry w n e) r d
-quiet_same w n r d (Arrived x t) follows quiet at = run_says w n (entry w n (Arrived x t)) r d x.0 (record (n.run x.0) { arrived = Some t }) refl refl refl other (record { placed = refl; ended = refl; doomed = refl; planned = refl; pending = refl; there = refl })
+pub quiet_same : (w : Setting) (n : Reading) (r d : ℕ) (e : Entry) → Shaped w n → may_follow w n e ≡ true → is_quiet w d e ≡ true → IsNextOn w r d (n.run r) → SameFor w n (entry w n e) r d
+quiet_same w n r d (Arrived x t) shaped follows quiet at = run_says w n (entry w n (Arrived x t)) r d x.0 (record (n.run x.0) { arrived = Some t }) refl refl refl other (record { placed = refl; ended = refl; doomed = refl; planned = refl; pending = refl; there = refl })
   where
     new : is_none (n.run x.0).arrived ≡ true
     new = grind (arith, common_steps)
 
     other : r ≢ x.0
     other same = let both : true ≡ false = sym new ∙ ap (λ y. is_none (n.run y).arrived) (sym same) ∙ at.came in cc
-quiet_same w n r d (Placed x p t) follows quiet at = absurd (cc)
-quiet_same w n r d (Did x k a) follows quiet at = did_same w n r d k x a (grind (arith, common_steps)) (grind (arith, common_steps)) (grind (arith, common_steps)) at
-quiet_same w n r d (Undid x e drove) follows quiet at = undid_same w n r d x e drove (grind (arith, common_steps)) (grind (arith, common_steps)) at
-quiet_same w n r d (Fell e) follows quiet at = event_says w n (entry w n (Fell e)) r d _ (Failed e (n.fell e.0 + 1)) refl refl (put_other n.up e.0 false d (λ same. apart (sym same))) (record { none = λ q. refl; later = λ stamp. refl; order = λ is. refl; live = λ is. refl }) (λ g. refl)
+quiet_same w n r d (Placed x p t) shaped follows quiet at = placing_ends_no_wait_elsewhere w n r d x p t shaped follows at (grind (arith, common_steps)) (grind (arith, common_steps))
+quiet_same w n r d (Did x k a) shaped follows quiet at = did_same w n r d k x a (grind (arith, common_steps)) (grind (arith, common_steps)) (grind (arith, common_steps)) at
+quiet_same w n r d (Undid x e drove) shaped follows quiet at = undid_same w n r d x e drove (grind (arith, common_steps)) (grind (arith, common_steps)) at
+quiet_same w n r d (Fell e) shaped follows quiet at = event_says w n (entry w n (Fell e)) r d _ (Failed e (n.fell e.0 + 1)) refl refl (put_other n.up e.0 false d (λ same. apart (sym same))) (record { none = λ q. refl; later = λ stamp. refl; order = λ is. refl; live = λ is. refl }) (λ g. refl)
   where
     apart : e.0 ≢ d
     apart = grind (arith, common_steps)
-quiet_same w n r d (Rose e) follows quiet at = event_says w n (entry w n (Rose e)) r d _ (Back e (n.rose e.0 + 1)) refl refl (put_other n.up e.0 true d (λ same. apart (sym same))) (record { none = λ q. refl; later = λ stamp. refl; order = λ is. refl; live = λ is. refl }) (λ g. refl)
+quiet_same w n r d (Rose e) shaped follows quiet at = event_says w n (entry w n (Rose e)) r d _ (Back e (n.rose e.0 + 1)) refl refl (put_other n.up e.0 true d (λ same. apart (sym same))) (record { none = λ q. refl; later = λ stamp. refl; order = λ is. refl; live = λ is. refl }) (λ g. refl)
   where
     apart : e.0 ≢ d
     apart = grind (arith, common_steps)
-quiet_same w n r d (Doomed x cause) follows quiet at = absurd (cc)
-quiet_same w n r d (Ended x e) follows quiet at = absurd (cc)
+quiet_same w n r d (Doomed x cause) shaped follows quiet at = doom_ends_no_wait_elsewhere w n r d x cause (grind (arith, common_steps)) at
+quiet_same w n r d (Ended x e) shaped follows quiet at = end_ends_no_wait_elsewhere w n r d x e shaped (grind (arith, common_steps)) (grind (arith, common_steps)) at
 
 -- .. and what several leave
-pub quiet_along : (w : Setting) (n : Reading) (r d : ℕ) (es : List Entry) → along w (may_follow w) n es ≡ true → list_all (is_quiet w d) es ≡ true → IsNextOn w r d (n.run r) → SameFor w n (fold (entry w) n es) r d
-quiet_along w n r d [] follow quiet at = same_itself w n r d
-quiet_along w n r d (e ∷ es) follow quiet at =
-    same_after w n (entry w n e) (fold (entry w) (entry w n e) es) r d first (quiet_along w (entry w n e) r d es (grind (arith, common_steps)) (grind (arith, common_steps)) (subst (IsNextOn w r d) (sym first.own) at))
+pub quiet_along : (w : Setting) (n : Reading) (r d : ℕ) (es : List Entry) → Shaped w n → along w (may_follow w) n es ≡ true → list_all (is_quiet w d) es ≡ true → IsNextOn w r d (n.run r) → SameFor w n (fold (entry w) n es) r d
+quiet_along w n r d [] shaped follow quiet at = same_itself w n r d
+quiet_along w n r d (e ∷ es) shaped follow quiet at =
+    same_after w n (entry w n e) (fold (entry w) (entry w n e) es) r d first (quiet_along w (entry w n e) r d es (shapes_step w n e follows shaped) (grind (arith, common_steps)) (grind (arith, common_steps)) (subst (IsNextOn w r d) (sym first.own) at))
   where
+    follows : may_follow w n e ≡ true
+    follows = grind (arith, common_steps)
+
     first : SameFor w n (entry w n e) r d
-    first = quiet_same w n r d e (grind (arith, common_steps)) (grind (arith, common_steps)) at
+    first = quiet_same w n r d e shaped follows (grind (arith, common_steps)) at

@@ -13,8 +13,8 @@ answer-requires-clause-purpose g c =
     ap (λ s. (device_at s.devices c.args.grip.slip.device.0).purpose) (sym c.self.view_is)
     ∙ ap (λ (p : DeviceProgress). p.purpose) (at_index c.self.inside.devices.items c.args.grip.slip.device.0 _ (ap (λ s. slice_get c.self.inside.devices.items s.device.0) (sym c.slip.ensures) ∙ sym c.get.ensures ∙ ap option_copied c.unwrap-known.ensures)) ∙ c.in-Command.is
 
-pub undo-requires-clause-purpose : goal.undo-requires-clause-purpose
-undo-requires-clause-purpose g c =
+pub undo-a-requires-clause-purpose : goal.undo-a-requires-clause-purpose
+undo-a-requires-clause-purpose g c =
     ap (λ s. is_undo (purpose_of (device_at s.devices c.args.grip.slip.device.0).purpose)) (sym c.self.view_is)
     ∙ ap (λ p. is_undo (purpose_of p)) (ap (λ (p : DeviceProgress). p.purpose) (at_index c.self.inside.devices.items c.args.grip.slip.device.0 _ (ap (λ s. slice_get c.self.inside.devices.items s.device.0) (sym c.slip.ensures) ∙ sym c.get.ensures ∙ ap option_copied c.unwrap-known.ensures)) ∙ c.in-Undo.is)
 
