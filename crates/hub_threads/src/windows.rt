@@ -45,6 +45,11 @@ struct Window<'a, C> {
     means: Means,
 }
 
+/// How many threads are started at once. Each further one starts after a nap, where a run is left then that no thread has
+/// taken: where devices answer at once the first ones work the window alone, and where they are slow each run has a thread of
+/// its own, the last one after as many naps as there are further runs.
+const AT_ONCE: u32 = 4;
+
 /// As many threads as runs.
 const USUAL: Means = Means {
     threads: u32::MAX,
@@ -56,8 +61,8 @@ const USUAL: Means = Means {
 
 /// Works a window of a hub in which nothing was done yet: threads for the runs, which the system may refuse, and the calling
 /// thread as the detector, which comes so often to each device. A thread whose run is over takes the next one that none has
-/// taken, so there is one for each run where all take long, and fewer where some are over soon. Each moment is an answer of
-/// the clock.
+/// taken, and but for the first four a thread starts after a nap of a ms: so there is one for each run where all take long,
+/// and fewer where some are over soon. Each moment is an answer of the clock.
 ///
 /// Answers `NoMemory` where there is none to be had, before any thread starts, and gives the hub back. It may wait: what
 /// is said of its answer holds if it returns.
@@ -243,6 +248,9 @@ fn in_threads<
             let mut all = all;
             let mut handles = handles;
             for i in 0..runs {
+                if AT_ONCE <= i {
+                    door.bells.nap(rt);
+                }
                 let Some(r) = door.untaken.take() else {
                     break;
                 };
