@@ -332,9 +332,9 @@ input=$(printf '%s' "$input" | sed 's/^home lamp=on$/home lamp=off/')
 call check
 ends 7 'check: window 1 device lamp'
 
-# block FIRST: the example of docs/FORMATS.md that begins with these characters
+# block FIRST: the example of docs/FORMATS.md whose first line this is
 block() {
-    awk -v first="    $1" 'index($0, first) == 1 { inside = 1 } inside && !/^    / { exit } inside { print substr($0, 5) }' \
+    awk -v first="    $1" '$0 == first { inside = 1 } inside && !/^    / { exit } inside { print substr($0, 5) }' \
         ../../docs/FORMATS.md
 }
 
