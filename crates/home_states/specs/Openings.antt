@@ -13,7 +13,7 @@ use Rattle.home_states.specs.declared.refusals.NotOpened.{NotOpened}
 use Rattle.home_types.specs.declared.modes.Mode.{Mode}
 use Rattle.hub_core.specs.HubCalls.{IsClosed, IsOpened}
 use Rattle.hub_core.specs.Homes.{HomeState}
-use Rattle.hub_core.specs.LegalWindows.{history_of}
+use Rattle.legal_days.specs.LegalWindows.{history_of}
 use Rattle.hub_core.specs.OpenHubs.{OpenHub, configuration_of}
 use Rattle.hub_core.specs.Steps.{not_quiet}
 use Rattle.routine_reader.specs.Rosters.{script_runs}

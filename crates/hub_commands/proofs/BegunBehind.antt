@@ -8,8 +8,8 @@ use Rattle.hub_commands.proofs.DaysUnderWay.{new_left, new_unprobed, starts_on}
 use Rattle.hub_commands.specs.Days.{IsUnderWayOn, course_behind}
 use Rattle.hub_commands.specs.KeptDays.{HomeBegins, HomeGoesOn, kept_course}
 use Rattle.hub_core.specs.Homes.{AreNew, HomeState}
-use Rattle.hub_core.specs.LegalDays.{AreLeftFrom, Beginning, new_day}
-use Rattle.hub_core.specs.ResumedDays.{GoesOnBehind, IsStateResumed, resumed_day}
+use Rattle.legal_days.specs.LegalDays.{AreLeftFrom, Beginning, new_day}
+use Rattle.legal_days.specs.ResumedDays.{GoesOnBehind, IsStateResumed, resumed_day}
 use Rattle.routine_reader.specs.Rosters.{kinds_of, start_home, start_stand}
 use Rattle.routine_reader.specs.declared.scripts.Script.{Script}
 use Rattle.routine_reader.specs.declared.scripts.WindowText.{WindowText}

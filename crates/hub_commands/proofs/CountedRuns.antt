@@ -16,9 +16,9 @@ use Rattle.hub_commands.specs.Days.{WindowsArePlayed, new_course}
 use Rattle.hub_commands.specs.Finishes.{Shown}
 use Rattle.hub_commands.specs.Going.{IsNextToTell, NextIs}
 use Rattle.hub_commands.specs.declared.plays.DayUnderWay.{DayUnderWay}
-use Rattle.hub_core.proofs.calls.HubCloses.{at_place}
-use Rattle.hub_core.specs.LegalDays.{setting_of}
-use Rattle.hub_core.specs.LegalWindows.{IsLegalWindow, all_ended, history_of}
+use Rattle.legal_days.proofs.Lists.{at_place}
+use Rattle.legal_days.specs.LegalDays.{setting_of}
+use Rattle.legal_days.specs.LegalWindows.{IsLegalWindow, all_ended, history_of}
 use Rattle.order_checker.proofs.SoundRuns.{window_sound}
 use Rattle.printed_records.proofs.EndCounts.{all-ended}
 use Rattle.routine_reader.proofs.RosterLemmas.{runs-there}

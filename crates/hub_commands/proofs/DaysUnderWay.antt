@@ -5,12 +5,12 @@ use Rattle.home_types.proofs.Snocs.{snoc_get}
 use Rattle.home_types.specs.HomeStates.{stand_at}
 use Rattle.home_types.specs.declared.modes.Mode.{Mode}
 use Rattle.hub_core.specs.Homes.{AreNew, HomeIsKept, HomeState}
-use Rattle.hub_core.specs.LegalDays.{AreLeftFrom, IsLegalCutDayFrom, IsLegalDayFrom, new_day, one_more_where, setting_from, state_from, total}
-use Rattle.hub_core.specs.LegalWindows.{IsLegalWindow}
+use Rattle.legal_days.proofs.Lists.{at_place}
+use Rattle.legal_days.specs.LegalDays.{AreLeftFrom, IsLegalCutDayFrom, IsLegalDayFrom, new_day, one_more_where, setting_from, state_from, total}
+use Rattle.legal_days.specs.LegalWindows.{IsLegalWindow}
 use Rattle.hub_commands.proofs.Snocs.{length_more, sum_more}
 use Rattle.hub_commands.specs.Days.{Course, HaveCommitted, IsUnderWayOn, NoneHasFailedOn, WindowsArePlayedOn, new_course, script_of}
 use Rattle.hub_commands.specs.Played.{HasGoneOn, IsPlayed, setting_on}
-use Rattle.hub_core.proofs.calls.HubCloses.{at_place}
 use Rattle.hub_core.proofs.calls.HubOpens.{get_front, get_last}
 use Rattle.routine_reader.specs.Rosters.{kinds_of, script_runs, start_home, start_stand}
 use Rattle.routine_reader.specs.declared.scripts.DeviceText.{DeviceText}

@@ -21,7 +21,7 @@ use Rattle.hub_commands.specs.declared.faults.Fault.TheVariants.{Check, Cross, D
 use Rattle.hub_commands.specs.declared.faults.Fault.{Fault}
 use Rattle.hub_commands.specs.declared.finishes.Day.{Day}
 use Rattle.hub_core.specs.Homes.{HomeState}
-use Rattle.hub_core.specs.LegalDays.{IsLegalCutDayFrom, windows_behind}
+use Rattle.legal_days.specs.LegalDays.{IsLegalCutDayFrom, windows_behind}
 use Rattle.routine_reader.specs.Rosters.{kinds_of}
 use Rattle.routine_reader.specs.declared.scripts.Script.{Script}
 use Rattle.routine_reader.specs.declared.scripts.WindowText.{WindowText}

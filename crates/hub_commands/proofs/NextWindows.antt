@@ -12,7 +12,7 @@ use Rattle.hub_commands.specs.Played.{HasGoneOn, IsWorkedAs, NextIsOpened, setti
 use Rattle.hub_commands.specs.declared.plays.DayUnderWay.{DayUnderWay}
 use Rattle.hub_core.specs.HubCalls.{IsOpened}
 use Rattle.hub_core.specs.Homes.{HomeIsKept, HomeState}
-use Rattle.hub_core.specs.LegalDays.{windows_behind}
+use Rattle.legal_days.specs.LegalDays.{windows_behind}
 use Rattle.hub_core.specs.OpenHubs.{OpenHub, configuration_of}
 use Rattle.hub_core.specs.Steps.{opened}
 use Rattle.routine_reader.specs.Rosters.{run_of_text, script_runs}

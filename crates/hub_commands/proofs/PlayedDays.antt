@@ -7,7 +7,7 @@ use Rattle.day_clock.specs.Sinks.{AppendsPart}
 use Rattle.home_types.specs.Listed.{Listed}
 use Rattle.home_types.specs.declared.modes.Mode.{Mode}
 use Rattle.hub_core.specs.Homes.{HomeState}
-use Rattle.hub_core.specs.LegalDays.{IsLegalCutDayFrom, IsLegalDayFrom}
+use Rattle.legal_days.specs.LegalDays.{IsLegalCutDayFrom, IsLegalDayFrom}
 use Rattle.hub_commands.proofs.DaysUnderWay.{cut_is_legal, day_is_legal, no_window}
 use Rattle.hub_commands.proofs.Snocs.{no_snoc, snoc_front}
 use Rattle.hub_commands.proofs.Texts.{appends_keeps, appends_more, due_whole, keeps_appends, part_more, part_wider, text_more, text_starts, text_whole, whole_first}

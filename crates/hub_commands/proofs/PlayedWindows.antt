@@ -7,7 +7,7 @@ use Rattle.history_book.specs.declared.records.WindowRecord.{WindowRecord}
 use Rattle.home_types.specs.declared.modes.Mode.{Mode}
 use Rattle.hub_core.specs.Homes.{HomeState}
 use Rattle.hub_core.specs.HubCalls.{IsOpened, NoneFails, RunsHaveEnded}
-use Rattle.hub_core.specs.LegalWindows.{IsLegalWindow}
+use Rattle.legal_days.specs.LegalWindows.{IsLegalWindow}
 use Rattle.hub_core.specs.OpenHubs.{OpenHub}
 use Rattle.hub_commands.specs.Played.{IsPlayed, IsWorkedAs, setting_on}
 use Rattle.routine_reader.specs.declared.scripts.Script.{Script}

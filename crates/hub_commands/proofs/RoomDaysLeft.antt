@@ -10,9 +10,9 @@ use Rattle.hub_commands.specs.RoomDays.{RoomsAreLeft, RoomsArePlayed, RoomsAreUn
 use Rattle.hub_commands.specs.RoomDevices.{AreAllPlaced, HasDevicesOf}
 use Rattle.hub_commands.specs.RoomGoing.{AreNewHomes}
 use Rattle.hub_commands.specs.Ways.{IsRunWithin}
-use Rattle.hub_core.proofs.calls.HubCloses.{at_place}
 use Rattle.hub_core.specs.Homes.{HomeState}
-use Rattle.hub_core.specs.LegalDays.{RecordsAreLegal}
+use Rattle.legal_days.proofs.Lists.{at_place}
+use Rattle.legal_days.specs.LegalDays.{RecordsAreLegal}
 use Rattle.room_hubs.proofs.SoundRuns.{rooms_size}
 use Rattle.room_hubs.specs.Merges.{HasOwnOrder, room_order}
 use Rattle.room_hubs.specs.RoomScripts.{own_script}

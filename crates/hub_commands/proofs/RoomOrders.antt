@@ -15,9 +15,9 @@ use Rattle.home_types.specs.declared.worlds.Stand.{Stand}
 use Rattle.hub_commands.proofs.MergedLists.{HaveRoom, answered, each_item, record_at, same_order}
 use Rattle.hub_commands.proofs.OwnItems.{is_stray, none_strays}
 use Rattle.hub_commands.specs.RoomDays.{AgreesWithRooms, AreSplit, EachOrderAgrees, Windows, home_before, home_executed, records_of, room_count}
-use Rattle.hub_core.proofs.calls.HubCloses.{at_place}
-use Rattle.hub_core.specs.LegalDays.{RecordsAreLegal, setting_of, state_after}
-use Rattle.hub_core.specs.LegalWindows.{IsLegalWindow, IsSeriallyLegal, IsWeaklyLegal, history_of}
+use Rattle.legal_days.proofs.Lists.{at_place}
+use Rattle.legal_days.specs.LegalDays.{RecordsAreLegal, setting_of, state_after}
+use Rattle.legal_days.specs.LegalWindows.{IsLegalWindow, IsSeriallyLegal, IsWeaklyLegal, history_of}
 use Rattle.room_hubs.proofs.JoinedHomes.{home_of_rooms}
 use Rattle.room_hubs.proofs.JoinedOrders.{joined_is, own_is}
 use Rattle.room_hubs.proofs.Merges.{whole}

@@ -2,8 +2,8 @@
 use Rattle.home_types.specs.Listed.{Listed}
 use Rattle.hub_commands.proofs.Snocs.{snoc_front}
 use Rattle.hub_commands.specs.RoomDevices.{AreAllPlaced, HasDevicesOf, IsRoomed}
-use Rattle.hub_core.proofs.calls.HubCloses.{at_place}
 use Rattle.hub_core.specs.Homes.{HomeState}
+use Rattle.legal_days.proofs.Lists.{at_place}
 use Rattle.room_hubs.proofs.Loops.{all_numbers, next_number}
 use Rattle.room_hubs.proofs.Parts.{filtered}
 use Rattle.room_hubs.specs.Splits.{device_room, devices_in}

@@ -16,13 +16,13 @@ use Rattle.hub_commands.specs.Played.{setting_on}
 use Rattle.hub_commands.specs.RoomDays.{RoomsAreUnderWay, Windows, records_of, room_count}
 use Rattle.hub_commands.specs.RoomPlays.{AreOpened, AreTakenApart, MayAllOpen, RoomWent, RoomsWent}
 use Rattle.hub_commands.specs.Ways.{IsRunWithin}
-use Rattle.hub_core.proofs.calls.HubCloses.{at_place}
 use Rattle.hub_core.specs.HubCalls.{IsOpened}
 use Rattle.hub_core.specs.Homes.{HomeIsKept, HomeState, setting_for}
 use Rattle.hub_core.specs.Openings.{MayOpen, is_mode, names_values_of}
 use Rattle.hub_threads.specs.WorkedRooms.{AreRoomsWorked, IsReady}
 use Rattle.hub_threads.specs.declared.rooms.RoomDone.{RoomDone}
 use Rattle.hub_threads.specs.declared.rooms.RoomHub.{RoomHub}
+use Rattle.legal_days.proofs.Lists.{at_place}
 use Rattle.room_hubs.proofs.OwnRuns.{OwnRunsAreSound, own_runs_sound}
 use Rattle.room_hubs.proofs.Parts.{filtered}
 use Rattle.room_hubs.proofs.RoomScripts.{own_kinds_are, own_runs_are}

@@ -7,7 +7,7 @@ use Rattle.hub_commands.specs.Ways.{IsReplayOf}
 use Rattle.hub_commands.specs.declared.faults.Fault.TheVariants.{Check, Cross, Damaged, Disk, Memory, Read, Script as Refuses, Words, Write}
 use Rattle.hub_commands.specs.declared.faults.Fault.{Fault}
 use Rattle.hub_commands.specs.declared.finishes.Day.{Day}
-use Rattle.hub_core.specs.LegalDays.{RecordsAreLegal}
+use Rattle.legal_days.specs.LegalDays.{RecordsAreLegal}
 use Rattle.order_checker.specs.declared.verdicts.Verdict.TheVariants.{Agrees}
 use Rattle.routine_reader.specs.Scripts.{plain_script}
 use Rattle.routine_reader.specs.declared.scripts.Script.{Script}

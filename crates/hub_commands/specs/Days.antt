@@ -11,9 +11,9 @@ use Rattle.home_types.specs.declared.modes.Scheduler.TheVariants.{Fcfs}
 use Rattle.hub_commands.specs.Boards.{board_text}
 use Rattle.hub_core.specs.Homes.{HomeState}
 use Rattle.hub_core.specs.HubCalls.{RunsHaveEnded}
-use Rattle.hub_core.specs.LegalDays.{AreLeftFrom, AreLegalFrom, Beginning, new_day, one_more_where, setting_from, state_from, to_come, total}
-use Rattle.hub_core.specs.LegalWindows.{history_of}
 use Rattle.hub_core.specs.MustChecks.{has_must_check}
+use Rattle.legal_days.specs.LegalDays.{AreLeftFrom, AreLegalFrom, Beginning, new_day, one_more_where, setting_from, state_from, to_come, total}
+use Rattle.legal_days.specs.LegalWindows.{history_of}
 use Rattle.routine_reader.specs.Rosters.{kinds_of}
 use Rattle.routine_reader.specs.declared.scripts.Script.{Script}
 use Rattle.routine_reader.specs.declared.scripts.WindowText.{WindowText}

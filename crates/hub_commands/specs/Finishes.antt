@@ -4,7 +4,7 @@ use Rattle.day_clock.specs.Sinks.{AppendsPart}
 use Rattle.day_clock.specs.Sources.{TakesCount, TakesUpTo}
 use Rattle.home_types.specs.Limits.{most_script_bytes}
 use Rattle.home_types.specs.Listed.{Listed}
-use Rattle.hub_core.specs.LegalDays.{IsLegalCutDayFrom, IsLegalDayFrom}
+use Rattle.legal_days.specs.LegalDays.{IsLegalCutDayFrom, IsLegalDayFrom}
 use Rattle.history_book.specs.Settings.{Setting}
 use Rattle.history_book.specs.declared.records.WindowRecord.{WindowRecord}
 use Rattle.hub_commands.specs.Days.{Closing, Course, DevicesAreProbed, WindowsArePlayedOn, new_course, record_text_on, text_due_on, text_on}

@@ -22,8 +22,8 @@ use Rattle.hub_commands.specs.declared.finishes.Finish.{Finish}
 use Rattle.hub_commands.specs.declared.kept_days.KeptDay.{KeptDay}
 use Rattle.hub_commands.specs.declared.plays.DayUnderWay.{DayUnderWay}
 use Rattle.hub_core.specs.Homes.{HomeState}
-use Rattle.hub_core.specs.LegalDays.{AreLeftFrom, Beginning, IsLegalCutDayFrom}
-use Rattle.hub_core.specs.ResumedDays.{GoesOnBehind}
+use Rattle.legal_days.specs.LegalDays.{AreLeftFrom, Beginning, IsLegalCutDayFrom}
+use Rattle.legal_days.specs.ResumedDays.{GoesOnBehind}
 use Rattle.routine_reader.specs.Rosters.{kinds_of}
 use Rattle.routine_reader.specs.declared.scripts.Script.{Script}
 use Rattle.routine_reader.specs.declared.scripts.WindowText.{WindowText}

@@ -7,7 +7,7 @@ use Rattle.home_types.specs.HomeStates.{stand_at}
 use Rattle.hub_core.specs.HubCalls.{IsOpened, NoneFails, RunsHaveEnded}
 use Rattle.home_types.specs.declared.modes.Mode.{Mode}
 use Rattle.hub_core.specs.Homes.{HomeState}
-use Rattle.hub_core.specs.LegalWindows.{IsLegalWindow}
+use Rattle.legal_days.specs.LegalWindows.{IsLegalWindow}
 use Rattle.hub_core.specs.OpenHubs.{OpenHub, device_at}
 use Rattle.hub_commands.specs.Days.{Course, IsPlayedOn, IsUnderWayOn}
 use Rattle.routine_reader.specs.Rosters.{script_runs}

@@ -12,8 +12,8 @@ use Rattle.hub_commands.specs.Days.{DevicesAreProbed, IsUnderWay, WindowsArePlay
 use Rattle.hub_commands.specs.Finishes.{Shown}
 use Rattle.hub_commands.specs.Ways.{IsRunWithin}
 use Rattle.hub_core.specs.Homes.{HomeState}
-use Rattle.hub_core.specs.LegalDays.{DevicesAreLeft, setting_of}
-use Rattle.hub_core.specs.LegalWindows.{history_of}
+use Rattle.legal_days.specs.LegalDays.{DevicesAreLeft, setting_of}
+use Rattle.legal_days.specs.LegalWindows.{history_of}
 use Rattle.room_hubs.specs.Merges.{Merge, answers_of, home_order, joined_order, order_in, own_order, room_in, room_order}
 use Rattle.room_hubs.specs.Numbers.{IsOwnDevice, home_device, home_run, plain_room}
 use Rattle.room_hubs.specs.RoomScripts.{own_script}

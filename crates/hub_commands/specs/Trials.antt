@@ -13,7 +13,7 @@ use Rattle.hub_commands.specs.Ways.{IsReplayOf}
 use Rattle.hub_commands.specs.declared.faults.Fault.TheVariants.{Check, Cross, Damaged, Disk, Memory, Read, Script as Refuses, Words, Write}
 use Rattle.hub_commands.specs.declared.faults.Fault.{Fault}
 use Rattle.hub_commands.specs.declared.finishes.Day.{Day}
-use Rattle.hub_core.specs.LegalDays.{IsLegalDay}
+use Rattle.legal_days.specs.LegalDays.{IsLegalDay}
 use Rattle.order_checker.specs.Records.{verdict_of}
 use Rattle.order_checker.specs.declared.verdicts.Verdict.TheVariants.{Agrees, Differs}
 use Rattle.order_checker.specs.declared.verdicts.Verdict.{Verdict}

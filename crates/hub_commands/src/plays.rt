@@ -3,7 +3,7 @@ ghost use Rattle.std.specs.Prelude.{◌≡◌, ◌+◌, ◌<◌, ◌≤◌, ◌+
 ghost use Rattle.home_types.specs.Limits.{most_windows};
 ghost use Rattle.hub_commands.specs.Played.{NextIsOpened};
 ghost use Rattle.hub_core.specs.Homes.{HomeIsKept};
-ghost use Rattle.hub_core.specs.LegalDays.{windows_behind};
+ghost use Rattle.legal_days.specs.LegalDays.{windows_behind};
 ghost use Rattle.hub_core.specs.Openings.{is_mode};
 ghost use Rattle.routine_reader.specs.Rosters.{kinds_of};
 ghost use Rattle.routine_reader.specs.Scripts.{plain_script};

@@ -5,7 +5,7 @@ ghost use Rattle.home_types.specs.Limits.{most_windows};
 ghost use Rattle.hub_commands.specs.Finishes.{shown_by, written};
 ghost use Rattle.hub_commands.specs.Statuses.{status_of};
 ghost use Rattle.hub_commands.specs.Trials.{HasJudged, TrialEnds, agreeing, finding, trial_mode};
-ghost use Rattle.hub_core.specs.LegalDays.{RecordsAreLegal};
+ghost use Rattle.legal_days.specs.LegalDays.{RecordsAreLegal};
 ghost use Rattle.order_checker.specs.declared.verdicts.Verdict.TheVariants.{Agrees};
 ghost use Rattle.routine_reader.specs.Scripts.{plain_script};
 ghost use Rattle.routine_reader.specs.Sound.{IsSound};

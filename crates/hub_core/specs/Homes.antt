@@ -9,8 +9,8 @@ use Rattle.home_types.specs.Limits.{most_devices}
 use Rattle.home_types.specs.declared.kinds.Kind.{Kind}
 use Rattle.home_types.specs.declared.modes.Mode.{Mode}
 use Rattle.home_types.specs.declared.worlds.Stand.{Stand}
-use Rattle.hub_core.specs.Agreement.{UpDevicesStand}
-use Rattle.hub_core.specs.LegalDays.{IsDeviceOf}
+use Rattle.legal_days.specs.Agreement.{UpDevicesStand}
+use Rattle.legal_days.specs.LegalDays.{IsDeviceOf}
 use Rattle.routine_reader.specs.declared.scripts.DeviceText.{DeviceText}
 use Rattle.std.specs.Prelude.{IsTrue, List, Option, Some, length, slice_get, ℕ, ◌*◌, ◌+◌, ◌<◌, ◌^◌, ◌≡◌, ◌≤◌}
 

@@ -17,12 +17,12 @@ use Rattle.history_book.specs.declared.records.WindowRecord.{WindowRecord}
 use Rattle.home_types.specs.HomeStates.{stand_at}
 use Rattle.home_types.specs.Limits.{most_devices, most_runs}
 use Rattle.home_types.specs.declared.modes.Scheduler.TheVariants.{Fcfs, Timeline}
-use Rattle.hub_core.specs.AccountedCalls.{told_calls, told_falls}
-use Rattle.hub_core.specs.CleanReads.{ReadsAreClean}
+use Rattle.legal_days.specs.AccountedCalls.{told_calls, told_falls}
+use Rattle.legal_days.specs.CleanReads.{ReadsAreClean}
 use Rattle.hub_core.specs.Homes.{HomeState}
 use Rattle.hub_core.specs.HubSteps.{Carried, Chose, Give, GiveProbe, Gave, HubStep, Probed, Refused, Returned, Take, TakeProbe, task_of}
-use Rattle.hub_core.specs.JustifiedAborts.{IsJustified}
-use Rattle.hub_core.specs.LegalWindows.{IsLegalWindow, history_of, weakly_allowed}
+use Rattle.legal_days.specs.JustifiedAborts.{IsJustified}
+use Rattle.legal_days.specs.LegalWindows.{IsLegalWindow, history_of, weakly_allowed}
 use Rattle.hub_core.specs.MustChecks.{has_must_check}
 use Rattle.hub_core.specs.OpenHubs.{OpenHub, configuration_of, device_at, state_of}
 use Rattle.hub_core.specs.Steps.{Absent as IsAbsent, Choice, HandsOut, Moves, Over as IsOver, Waits, choice_of, opened}

@@ -16,9 +16,9 @@ use Rattle.home_types.specs.declared.items.Item.TheVariants.{Back, Failed, Ran}
 use Rattle.home_types.specs.declared.kinds.Kind.{Kind}
 use Rattle.home_types.specs.declared.modes.Scheduler.TheVariants.{Fcfs}
 use Rattle.home_types.specs.declared.numbers.RunNo.{RunNo}
-use Rattle.hub_core.specs.CleanReads.{ReadsAreClean}
-use Rattle.hub_core.specs.Isolation.{IsStrict}
-use Rattle.hub_core.specs.JustifiedAborts.{IsJustified}
+use Rattle.legal_days.specs.CleanReads.{ReadsAreClean}
+use Rattle.legal_days.specs.Isolation.{IsStrict}
+use Rattle.legal_days.specs.JustifiedAborts.{IsJustified}
 use Rattle.hub_core.specs.Openings.{MayOpen}
 use Rattle.lock_leasing.specs.Configurations.{Commands, Configuration, Grip, Grips, Probes, Purpose, Undoes, has_grip, is_command, read_of}
 use Rattle.lock_leasing.specs.Order.{is_in_line}

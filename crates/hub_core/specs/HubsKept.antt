@@ -9,7 +9,7 @@ use Rattle.history_book.specs.Settings.{Setting}
 use Rattle.home_types.specs.Kinds.{has_value, kind_at}
 use Rattle.home_types.specs.Listed.{Listed}
 use Rattle.home_types.specs.declared.numbers.DeviceNo.{DeviceNo}
-use Rattle.hub_core.specs.AccountedCalls.{told_calls}
+use Rattle.legal_days.specs.AccountedCalls.{told_calls}
 use Rattle.hub_core.specs.Homes.{CountsAreLow}
 use Rattle.hub_core.specs.Bounds.{most_entries, most_items}
 use Rattle.hub_core.specs.HubCalls.{faults_told, probes_taken}

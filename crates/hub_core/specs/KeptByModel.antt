@@ -5,9 +5,9 @@ use Rattle.history_book.specs.WellFormed.{IsWellFormed}
 use Rattle.home_types.specs.HomeStates.{stand_at}
 use Rattle.home_types.specs.Kinds.{has_value, kind_at}
 use Rattle.hub_core.specs.HubKept.{ConfigurationIsKept, probes_of}
-use Rattle.hub_core.specs.JustifiedAborts.{IsJustified}
 use Rattle.hub_core.specs.Openings.{MayOpen}
 use Rattle.hub_core.specs.WeakKept.{WeakIsKept}
+use Rattle.legal_days.specs.JustifiedAborts.{IsJustified}
 use Rattle.lock_leasing.specs.Configurations.{Configuration, read_of}
 use Rattle.lock_leasing.specs.Places.{GripsFit}
 use Rattle.std.specs.Prelude.{IsTrue, false, length, true, ℕ, ◌<◌, ◌≡◌, ◌≤◌}

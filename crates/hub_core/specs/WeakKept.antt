@@ -7,8 +7,8 @@ use Rattle.history_book.specs.WellFormed.{IsWellFormed, each_entry}
 use Rattle.home_types.specs.HomeStates.{stand_at}
 use Rattle.home_types.specs.Kinds.{has_value, kind_at}
 use Rattle.hub_core.specs.HubKept.{EachOut, probes_of}
-use Rattle.hub_core.specs.LegalWindows.{none_fails, weakly_allowed}
 use Rattle.hub_core.specs.Openings.{MayOpen}
+use Rattle.legal_days.specs.LegalWindows.{none_fails, weakly_allowed}
 use Rattle.lock_leasing.specs.Configurations.{Commands, Configuration, Grip, Probes, Purpose, Undoes, read_of}
 use Rattle.lock_leasing.specs.Places.{GripsFit}
 use Rattle.std.specs.Prelude.{Bool, IsTrue, None, Some, false, length, not, true, ℕ, ◌&&◌, ◌<◌, ◌==◌, ◌≡◌, ◌≤◌}

@@ -7,7 +7,7 @@ ghost use Rattle.hub_core.specs.BlockedMarks.{has_run};
 ghost use Rattle.hub_core.specs.BlockedRuns.{IsBlocked};
 ghost use Rattle.hub_core.specs.Bounds.{IsBounded};
 ghost use Rattle.hub_core.specs.HubCalls.{HubStands, IsClosed, SomeRunMoves, grip_takes, is_past};
-ghost use Rattle.hub_core.specs.LegalWindows.{history_of};
+ghost use Rattle.legal_days.specs.LegalWindows.{history_of};
 ghost use Rattle.hub_core.specs.OpenHubs.{configuration_of};
 ghost use Rattle.hub_core.specs.Steps.{not_quiet, opened};
 ghost use Rattle.lineage_table.specs.Accesses.{IsDisciplined};

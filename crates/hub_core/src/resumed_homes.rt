@@ -2,8 +2,8 @@
 ghost use Rattle.std.specs.Prelude.{◌≡◌, ◌≤◌, IfOk, Some, [], length, slice_get, ℕ};
 ghost use Rattle.home_journal.specs.Journals.{IsStateOf};
 ghost use Rattle.home_types.specs.Limits.{most_devices};
-ghost use Rattle.hub_core.specs.LegalDays.{AreLeftFrom};
-ghost use Rattle.hub_core.specs.ResumedDays.{AreResumed, IsDeviceResumed, IsStateResumed, resumed_day};
+ghost use Rattle.legal_days.specs.LegalDays.{AreLeftFrom};
+ghost use Rattle.legal_days.specs.ResumedDays.{AreResumed, IsDeviceResumed, IsStateResumed, resumed_day};
 ghost use Rattle.routine_reader.specs.Rosters.{kinds_of};
 ghost use Rattle.routine_reader.specs.Scripts.{plain_script};
 ghost use Rattle.routine_reader.specs.Sound.{IsSound};

@@ -8,7 +8,7 @@ ghost use Rattle.history_book.specs.Sealed.{BeginsWithSealed, StaysSealed};
 ghost use Rattle.history_book.specs.Settings.{is_weak};
 ghost use Rattle.hub_core.specs.Homes.{setting_for};
 ghost use Rattle.hub_core.specs.HubCalls.{IsClosed, IsOpened, IsProbed, IsTurn, PlansEarliest, SameWindow};
-ghost use Rattle.hub_core.specs.LegalWindows.{history_of};
+ghost use Rattle.legal_days.specs.LegalWindows.{history_of};
 ghost use Rattle.hub_core.specs.OpenHubs.{configuration_of};
 ghost use Rattle.hub_core.specs.Openings.{MayOpen};
 ghost use Rattle.hub_core.specs.Steps.{not_quiet};

@@ -5,12 +5,12 @@ use Rattle.device_gate.specs.declared.gates.Place.TheVariants.{Home}
 use Rattle.history_book.specs.declared.records.WindowRecord.{WindowRecord}
 use Rattle.hub_core.specs.Homes.{HomeState}
 use Rattle.hub_core.specs.HubCalls.{HubStands, IsClosed, NoneFails, RunsHaveEnded}
-use Rattle.hub_core.specs.LegalWindows.{IsLegalWindow}
 use Rattle.hub_core.specs.OpenHubs.{OpenHub, device_at}
 use Rattle.hub_threads.specs.Moments.{AreWithin}
 use Rattle.hub_threads.specs.Named.{IsNamed, plan_in}
 use Rattle.hub_threads.specs.Names.{NamedWindow, Plan}
 use Rattle.hub_threads.specs.WorkedWindows.{IsWorked, NoneIsLeft}
+use Rattle.legal_days.specs.LegalWindows.{IsLegalWindow}
 use Rattle.std.proofs.Common.{ap, arith, subst, sym, ◌∙◌}
 use Rattle.std.proofs.lemmas.List.{length-map}
 use Rattle.std.proofs.lemmas.Option.{slice_get_within}

@@ -1,6 +1,6 @@
 -- For what a run waits. Each reason is a case of its own: it tells its run or device where it applies.
 -- They are not tried alone: the order of a step's cases says which one a run is told.
-use Rattle.command_rules.specs.Rosters.{followed_by, shares}
+use Rattle.command_rules.specs.Rosters.{Run, followed_by, shares}
 use Rattle.history_book.specs.Readings.{Reading, has_written, is_open, sees_down, sees_up}
 use Rattle.history_book.specs.Settings.{Setting, device_numbers, devices_of, is_strict, is_weak}
 use Rattle.home_types.specs.Commands.{reads}
@@ -10,7 +10,7 @@ use Rattle.home_types.specs.declared.modes.Visibility.TheVariants.{Eventual, Glo
 use Rattle.home_types.specs.declared.numbers.RunNo.{RunNo}
 use Rattle.lock_leasing.specs.Configurations.{Grips, has_grip, is_out}
 use Rattle.lock_leasing.specs.Words.{has_effect, has_touched, holds_device, live_before, live_runs, next_undo_of}
-use Rattle.std.specs.Prelude.{Bool, None, Option, Some, find, if◌then◌else◌, is_none, not, true, ℕ, ◌&&◌, ◌||◌}
+use Rattle.std.specs.Prelude.{Bool, List, None, Option, Some, false, find, if◌then◌else◌, is_none, not, true, ℕ, ◌&&◌, ◌||◌}
 
 -- r follows a run that has not ended
 abbrev pub follow_wait : Setting → Reading → ℕ → Option RunNo
@@ -41,6 +41,13 @@ abbrev pub dirty_wait : Setting → Reading → Grips → ℕ → Command → Op
 dirty_wait w n g r c =
     if reads c.job && not (sees_down n r c.device.0) && not (has_written n r c.device.0)
     then find (λ x. has_effect n g x c.device.0) (live_before n r) else None
+
+-- under the model, r does not go on while x is live before it
+abbrev pub bars : Visibility → List Run → ℕ → ℕ → Bool
+bars Weak runs r x = false
+bars Global runs r x = true
+bars Partitioned runs r x = shares runs x r
+bars Eventual runs r x = false
 
 -- the first live run before r under the global model, the first that shares a device with r under the partitioned one
 abbrev pub strict_wait : Setting → Reading → ℕ → Option ℕ

@@ -14,7 +14,7 @@ use Rattle.history_book.specs.declared.entries.End.{End}
 use Rattle.history_book.specs.declared.entries.Entry.TheVariants.{Arrived, Did, Doomed, Ended, Fell, Placed, Rose, Undid}
 use Rattle.history_book.specs.declared.entries.Entry.{Entry}
 use Rattle.history_book.specs.declared.entries.Kept.{Kept}
-use Rattle.hub_core.proofs.kept.Sizes.{count_cons}
+use Rattle.legal_days.proofs.Lists.{count_cons}
 use Rattle.printed_records.proofs.CausesKept.{run-among}
 use Rattle.printed_records.specs.Ends.{ends_of, told_end}
 use Rattle.routine_reader.specs.declared.scripts.RunText.{RunText}

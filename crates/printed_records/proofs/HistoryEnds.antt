@@ -15,7 +15,7 @@ use Rattle.history_book.specs.declared.entries.Entry.TheVariants.{Arrived, Did, 
 use Rattle.history_book.specs.declared.entries.Entry.{Entry}
 use Rattle.history_book.specs.declared.entries.Kept.{Kept}
 use Rattle.home_types.specs.declared.commands.Answer.{Answer}
-use Rattle.hub_core.proofs.calls.HubCloses.{at_place}
+use Rattle.legal_days.proofs.Lists.{at_place}
 use Rattle.order_checker.specs.RunLines.{told_of}
 use Rattle.order_checker.specs.RunLines as checked
 use Rattle.printed_records.proofs.ToldEnds.{told_at}

@@ -19,8 +19,8 @@ use Rattle.home_types.specs.declared.items.Item.TheVariants.{Back, Failed, Ran}
 use Rattle.home_types.specs.declared.items.Item.{Item}
 use Rattle.home_types.specs.declared.modes.Mode.{Mode}
 use Rattle.home_types.specs.declared.worlds.Stand.{Stand}
-use Rattle.hub_core.specs.JustifiedAborts.{abort_is_justified}
-use Rattle.hub_core.specs.LegalWindows.{IsSeriallyLegal}
+use Rattle.legal_days.specs.JustifiedAborts.{abort_is_justified}
+use Rattle.legal_days.specs.LegalWindows.{IsSeriallyLegal}
 use Rattle.order_checker.specs.Answers.{home_behind}
 use Rattle.order_checker.specs.RunLines as checked
 use Rattle.printed_records.proofs.CausesKept.{NamesWell, all_name_well, found_shown}

@@ -1,6 +1,6 @@
 //! That the records of a legal day agree with their script, of records that a program holds.
 ghost use Rattle.day_report.specs.Days.{day_text};
-ghost use Rattle.hub_core.specs.LegalDays.{RecordsAreLegal};
+ghost use Rattle.legal_days.specs.LegalDays.{RecordsAreLegal};
 ghost use Rattle.order_checker.specs.Records.{verdict_of};
 ghost use Rattle.order_checker.specs.declared.verdicts.Verdict.TheVariants.{Agrees};
 ghost use Rattle.printed_records.specs.Modes.{prints_order};

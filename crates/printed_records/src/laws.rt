@@ -4,7 +4,7 @@
 ghost use Rattle.day_report.specs.Days.{day_text};
 ghost use Rattle.history_book.specs.declared.records.WindowRecord.{WindowRecord};
 ghost use Rattle.home_types.specs.declared.modes.Mode.{Mode};
-ghost use Rattle.hub_core.specs.LegalDays.{RecordsAreLegal};
+ghost use Rattle.legal_days.specs.LegalDays.{RecordsAreLegal};
 ghost use Rattle.order_checker.specs.Records.{verdict_of};
 ghost use Rattle.order_checker.specs.declared.verdicts.Verdict.TheVariants.{Agrees};
 ghost use Rattle.printed_records.specs.FitWindows.{DayFits};

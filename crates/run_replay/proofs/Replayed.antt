@@ -6,9 +6,9 @@ use Rattle.device_gate.specs.declared.slips.Told.TheVariants.{Worked}
 use Rattle.history_book.specs.declared.records.WindowRecord.{WindowRecord}
 use Rattle.hub_core.specs.Homes.{HomeState}
 use Rattle.hub_core.specs.HubCalls.{HubStands, IsClosed, NoneFails, RunsHaveEnded, SameWindow}
-use Rattle.hub_core.specs.LegalWindows.{IsLegalWindow}
 use Rattle.hub_core.specs.OpenHubs.{OpenHub, configuration_of, device_at}
 use Rattle.hub_core.specs.Steps.{not_quiet}
+use Rattle.legal_days.specs.LegalWindows.{IsLegalWindow}
 use Rattle.run_replay.proofs.Ending.{quiet_at_end}
 use Rattle.run_replay.proofs.Living.{actors_are}
 use Rattle.run_replay.proofs.Tellings.{replays}

@@ -5,8 +5,8 @@ use Rattle.history_book.specs.declared.records.WindowRecord.{WindowRecord}
 use Rattle.home_types.specs.HomeStates.{stand_at}
 use Rattle.hub_core.specs.Homes.{HomeState}
 use Rattle.hub_core.specs.HubCalls.{NoneFails, RunsHaveEnded}
-use Rattle.hub_core.specs.LegalWindows.{IsLegalWindow}
 use Rattle.hub_core.specs.OpenHubs.{OpenHub, device_at}
+use Rattle.legal_days.specs.LegalWindows.{IsLegalWindow}
 use Rattle.run_replay.specs.Replays.{IsReplay, Play}
 use Rattle.std.specs.Prelude.{List, Option, Some, length, slice_get, slice_index_or, true, ℕ, ◌+◌, ◌-◌, ◌<◌, ◌≡◌}
 

@@ -12,7 +12,7 @@ use Rattle.home_types.specs.declared.modes.Visibility.{Visibility}
 use Rattle.lineage_table.specs.Lineages.{LineageState}
 use Rattle.lock_leasing.specs.Configurations.{Configuration, read_of}
 use Rattle.lock_leasing.specs.Standings.{IsStandingOf}
-use Rattle.lock_leasing.specs.Waits.{strict_wait}
+use Rattle.lock_leasing.specs.Waits.{bars, strict_wait}
 use Rattle.lock_leasing.specs.Words.{live_runs}
 use Rattle.serial_line.specs.Marks.{Mark, items_of}
 use Rattle.std.proofs.Common.{ap, arith, refl, sym, ◌∙◌}
@@ -23,7 +23,7 @@ use Rattle.std.specs.Option.{option_or}
 use Rattle.std.specs.Prelude.{Bool, List, None, [], false, find, if◌then◌else◌, is_none, not, option_map, true, ℕ, ◌==◌, ◌∷◌, ◌≡◌}
 use Rattle.visibility_models.proofs.LineRuns.{live_in_line}
 use Rattle.visibility_models.specs.Models.{under}
-use Rattle.visibility_models.specs.Searches.{bars, first_unended_before, unended_run}
+use Rattle.visibility_models.specs.Searches.{first_unended_before, unended_run}
 
 -- the first live run before r of which the test holds, where live is what the ends tell of the runs of the line
 found_before : (test : ℕ → Bool) (n : Reading) (history : List Kept) (r : ℕ) (items : List Item) → ((x : ℕ) → list_any (is_ran x) items ≡ true → is_live n x ≡ is_none (end_of history x))

@@ -1,6 +1,6 @@
 -- What the line, the ends in the history and the table tell of the runs before a run, and of the devices that it has touched.
 use Rattle.command_rules.specs.Items.{is_ran}
-use Rattle.command_rules.specs.Rosters.{Run, is_run, shares, touches}
+use Rattle.command_rules.specs.Rosters.{Run, is_run, touches}
 use Rattle.history_book.specs.Books.{end_of}
 use Rattle.history_book.specs.declared.entries.Kept.{Kept}
 use Rattle.home_types.specs.declared.items.Item.TheVariants.{Back, Failed, Ran}
@@ -13,13 +13,6 @@ use Rattle.serial_line.specs.Marks.{Mark, has_touched}
 use Rattle.std.specs.List.{range_with_len}
 use Rattle.std.specs.Option.{option_or}
 use Rattle.std.specs.Prelude.{Bool, IsTrue, List, None, Option, Some, [], false, find, if◌then◌else◌, is_none, length, not, slice_get, true, ℕ, ⊤, ◌&&◌, ◌∷◌, ◌≡◌}
-
--- under the model, r does not go on while x is live before it
-abbrev pub bars : Visibility → List Run → ℕ → ℕ → Bool
-bars Weak runs r x = false
-bars Global runs r x = true
-bars Partitioned runs r x = shares runs x r
-bars Eventual runs r x = false
 
 abbrev pub is_strict_model : Visibility → Bool
 is_strict_model Weak = false

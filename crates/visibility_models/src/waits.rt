@@ -1,10 +1,11 @@
 //! For which run a model lets a run wait.
+ghost use Rattle.lock_leasing.specs.Waits.{bars};
 ghost use Rattle.std.specs.Prelude.{◌≡◌, IsTrue, None, drop};
 ghost use Rattle.command_rules.specs.Items.{is_ran};
 ghost use Rattle.command_rules.specs.Rosters.{is_run, runs_of};
 ghost use Rattle.serial_line.specs.Marks.{front_of, items_of};
 ghost use Rattle.visibility_models.specs.Models.{IsStrictWaitOf, MayAsk};
-ghost use Rattle.visibility_models.specs.Searches.{AreRunsOf, IsRunOf, bars, first_unended_before, unended_run};
+ghost use Rattle.visibility_models.specs.Searches.{AreRunsOf, IsRunOf, first_unended_before, unended_run};
 
 use crate::models::is_strict;
 use command_rules::IndexedRoster;

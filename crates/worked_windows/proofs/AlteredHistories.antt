@@ -21,7 +21,7 @@ use Rattle.worked_windows.proofs.StoreAndLoad as store_and_load
 use Rattle.worked_windows.proofs.UndoDies as undo_dies
 use Rattle.worked_windows.proofs.WeakReadsLiveWriter as weak_reads_live_writer
 use Rattle.history_book.specs.WellFormed.{each_entry, is_well_formed}
-use Rattle.hub_core.specs.LegalWindows.{weakly_allowed}
+use Rattle.legal_days.specs.LegalWindows.{weakly_allowed}
 use Rattle.worked_windows.proofs.Edits.{exchanged, left_out, put_in, replaced}
 use Rattle.worked_windows.proofs.Points.{verdict}
 use Rattle.worked_windows.proofs.Words.{Aborted, Arrived, Committed, Did, Doomed, Down, DownAtEnd, Ended, Fell, Fine, Found, Lost, MustDown, Placed, Refuted, Revoked, Rose, Skipped, Undid, device_no, false, refl, run_no, split_of, true, ◌≡◌}

@@ -7,11 +7,11 @@ use Rattle.history_book.specs.declared.records.WindowRecord.{WindowRecord}
 use Rattle.home_types.specs.HomeStates.{stand_at}
 use Rattle.home_types.specs.declared.items.Item.{Item}
 use Rattle.home_types.specs.declared.modes.Mode.{Mode}
-use Rattle.hub_core.specs.AccountedCalls.{CallsAreAccounted}
-use Rattle.hub_core.specs.Agreement.{AgreesWithSerial}
-use Rattle.hub_core.specs.LegalDays.{DevicesAreLeft, IsDeviceOf, IsLegalDay, RecordsAreLegal, setting_of, total}
-use Rattle.hub_core.specs.LegalWindows.{IsLegalWindow}
-use Rattle.hub_core.specs.Orders.{IsOrderFor}
+use Rattle.legal_days.specs.AccountedCalls.{CallsAreAccounted}
+use Rattle.legal_days.specs.Agreement.{AgreesWithSerial}
+use Rattle.legal_days.specs.LegalDays.{DevicesAreLeft, IsDeviceOf, IsLegalDay, RecordsAreLegal, setting_of, total}
+use Rattle.legal_days.specs.LegalWindows.{IsLegalWindow}
+use Rattle.legal_days.specs.Orders.{IsOrderFor}
 use Rattle.lock_leasing.specs.Places.{MayBeOut}
 use Rattle.routine_reader.specs.declared.scripts.DeviceText.{DeviceText}
 use Rattle.routine_reader.specs.declared.scripts.Script.{Script}

@@ -3,10 +3,10 @@ use Rattle.worked_windows.proofs.FailureAfterLastAccess as worked
 use Rattle.history_book.specs.Histories.{kept_by, reading}
 use Rattle.history_book.specs.declared.entries.Kept.{Kept}
 use Rattle.history_book.specs.declared.records.WindowRecord.{WindowRecord}
-use Rattle.hub_core.specs.AccountedCalls.{CallsAreAccounted}
-use Rattle.hub_core.specs.Agreement.{AgreesWithSerial}
-use Rattle.hub_core.specs.LegalWindows.{IsLegalWindow}
-use Rattle.hub_core.specs.Orders.{IsOrderFor}
+use Rattle.legal_days.specs.AccountedCalls.{CallsAreAccounted}
+use Rattle.legal_days.specs.Agreement.{AgreesWithSerial}
+use Rattle.legal_days.specs.LegalWindows.{IsLegalWindow}
+use Rattle.legal_days.specs.Orders.{IsOrderFor}
 use Rattle.lock_leasing.specs.Places.{MayBeOut}
 use Rattle.std.proofs.Common.{arith}
 use Rattle.std.proofs.lemmas.Grind.{common_steps}

@@ -3,7 +3,7 @@ use Rattle.worked_windows.proofs.LegalWindow as first_window
 use Rattle.history_book.specs.Gaps.{split_of}
 use Rattle.history_book.specs.declared.records.WindowRecord.{WindowRecord}
 use Rattle.home_types.specs.HomeStates.{stand_at}
-use Rattle.hub_core.specs.LegalDays.{IsLegalDay}
+use Rattle.legal_days.specs.LegalDays.{IsLegalDay}
 use Rattle.std.proofs.Common.{ap}
 use Rattle.std.specs.Prelude.{List, Some, [], drop, length, refl, ◌∷◌}
 use Rattle.worked_windows.proofs.LegalDay.{LeftDevice, closed, devices, light, light_left, mode, records, script}

@@ -10,9 +10,9 @@ use Rattle.worked_windows.proofs.UndoDies as undo_dies
 use Rattle.command_rules.specs.Serial.{Served}
 use Rattle.home_types.specs.HomeStates.{stand_at}
 use Rattle.home_types.specs.declared.commands.Answer.{Answer}
-use Rattle.hub_core.specs.AccountedCalls.{CallsAreAccounted}
-use Rattle.hub_core.specs.Agreement.{AgreesWithSerial}
-use Rattle.hub_core.specs.Orders.{IsOrderFor}
+use Rattle.legal_days.specs.AccountedCalls.{CallsAreAccounted}
+use Rattle.legal_days.specs.Agreement.{AgreesWithSerial}
+use Rattle.legal_days.specs.Orders.{IsOrderFor}
 use Rattle.lock_leasing.specs.Places.{At, DeniedBy, PlacesAreScheduled, Placing}
 use Rattle.std.proofs.Common.{ap, arith}
 use Rattle.std.proofs.lemmas.Grind.{common_steps}

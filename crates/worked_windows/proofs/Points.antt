@@ -7,10 +7,10 @@ use Rattle.history_book.specs.Settings.{Setting, device_numbers, devices_of, is_
 use Rattle.history_book.specs.WellFormed.{each_entry, is_well_formed}
 use Rattle.history_book.specs.declared.entries.Entry.{Entry}
 use Rattle.home_types.specs.declared.items.Item.{Item}
-use Rattle.hub_core.specs.CleanReads.{entry_is_clean}
-use Rattle.hub_core.specs.Isolation.{is_isolated}
-use Rattle.hub_core.specs.JustifiedAborts.{abort_is_justified}
 use Rattle.hub_core.specs.Steps.{Choice, decide}
+use Rattle.legal_days.specs.CleanReads.{entry_is_clean}
+use Rattle.legal_days.specs.Isolation.{is_isolated}
+use Rattle.legal_days.specs.JustifiedAborts.{abort_is_justified}
 use Rattle.lock_leasing.specs.Configurations.{Grips}
 use Rattle.lock_leasing.specs.Order.{committed_home, firsts_of_line, firsts_of_log, is_in_line, live_writes_are_covered, marks_of_line, marks_of_log, open_runs_are_last, settled_items}
 use Rattle.lock_leasing.specs.Places.{Placing, first_place, scheduled_place}

@@ -13,9 +13,9 @@ use Rattle.home_types.specs.declared.kinds.Kind.TheVariants.{Range, States}
 use Rattle.home_types.specs.declared.modes.Scheduler.TheVariants.{Fcfs}
 use Rattle.home_types.specs.declared.modes.Visibility.TheVariants.{Eventual}
 use Rattle.home_types.specs.declared.worlds.Stand.{Stand}
-use Rattle.hub_core.specs.AccountedCalls.{told_calls}
-use Rattle.hub_core.specs.LegalWindows.{all_ended, weakly_allowed}
 use Rattle.hub_core.specs.Steps.{give_entries}
+use Rattle.legal_days.specs.AccountedCalls.{told_calls}
+use Rattle.legal_days.specs.LegalWindows.{all_ended, weakly_allowed}
 use Rattle.lock_leasing.specs.Configurations.{Grip, Grips, Purpose}
 use Rattle.std.specs.List.{list_all}
 use Rattle.std.specs.Prelude.{Bool, List, Some, [], drop, false, map, not, take, true, ℕ, ◌&&◌, ◌++◌, ◌+◌, ◌==◌, ◌∷◌, ◌≡◌}

@@ -1,4 +1,5 @@
 -- A device that goes out keeps what the type of a hub keeps, for whom it goes.
+use Rattle.legal_days.proofs.Lists.{count_cons}
 use Rattle.std.specs.Option.{option_copied}
 use Rattle.device_gate.specs.Calls.{probed}
 use Rattle.device_gate.specs.Grips.{Gripped}
@@ -17,8 +18,7 @@ use Rattle.history_book.specs.declared.entries.Kept.{Kept}
 use Rattle.hub_core.proofs.calls.HubChanges.{few_entries, task_same}
 use Rattle.hub_core.proofs.kept.HubReads.{get_set}
 use Rattle.hub_core.proofs.calls.HubStates.{carried_set, device_here, device_there, grips_set, known_same, known_set}
-use Rattle.hub_core.proofs.kept.Sizes.{count_cons}
-use Rattle.hub_core.specs.AccountedCalls.{tells_call, told_calls, told_falls}
+use Rattle.legal_days.specs.AccountedCalls.{tells_call, told_calls, told_falls}
 use Rattle.hub_core.specs.Homes.{CountsAreLow}
 use Rattle.home_types.specs.Kinds.{has_value, kind_at}
 use Rattle.hub_core.specs.HubKept.{probes_of}

@@ -4,7 +4,7 @@ use Rattle.history_book.specs.Histories.{reading}
 use Rattle.history_book.specs.Settings.{Setting, is_weak, run_numbers}
 use Rattle.history_book.specs.declared.records.WindowRecord.{WindowRecord}
 use Rattle.hub_core.proofs.kept.Sizes.{run_within}
-use Rattle.hub_core.specs.LegalWindows.{IsLegalWindow, IsSeriallyLegal, IsWeaklyLegal, all_ended, history_of}
+use Rattle.legal_days.specs.LegalWindows.{IsLegalWindow, IsSeriallyLegal, IsWeaklyLegal, all_ended, history_of}
 use Rattle.std.proofs.Common.{arith, get_or, subst, ◌∙◌}
 use Rattle.std.proofs.lemmas.List.Elements.{All-get_or}
 use Rattle.std.proofs.lemmas.List.FromFn.{get_or-range_with_len, length-range_with_len}

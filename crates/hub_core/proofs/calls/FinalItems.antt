@@ -32,7 +32,7 @@ use Rattle.hub_core.proofs.steps.Takes.{made_by}
 use Rattle.hub_core.specs.HubCalls.{IsGiven, IsProbeGiven, IsProbed, IsTurn, carried_by}
 use Rattle.hub_core.specs.HubSteps.{Carried, Gave, HubState, Returned, give_if}
 use Rattle.hub_core.specs.HubsKept.{HubIsKept, IsWhole, open_of}
-use Rattle.hub_core.specs.LegalWindows.{IsLegalWindow, IsSeriallyLegal, IsWeaklyLegal, history_of}
+use Rattle.legal_days.specs.LegalWindows.{IsLegalWindow, IsSeriallyLegal, IsWeaklyLegal, history_of}
 use Rattle.hub_core.specs.OpenHubs.{OpenHub, configuration_of, state_of}
 use Rattle.hub_core.specs.Steps.{Absent, Choice, HandsOut, Moves, Over, Waits, after_choice, after_give, after_take_probe, at_moment, choice_of, command_entries, decide, down_entries, give_entries, may_probe, probe_entries, probe_grip, undo_entries, after_take}
 use Rattle.hub_core.specs.declared.open_windows.OpenWindow.TheInside.{Inside}

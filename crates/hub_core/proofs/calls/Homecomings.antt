@@ -18,8 +18,9 @@ use Rattle.hub_core.proofs.calls.Departures.{one_for, other_home, other_out, tak
 use Rattle.hub_core.proofs.calls.HubChanges.{length_with}
 use Rattle.hub_core.proofs.calls.HubStates.{carried_set, device_here, device_there, grips_set, known_same, known_set}
 use Rattle.hub_core.proofs.kept.HubReads.{get_set}
-use Rattle.hub_core.proofs.kept.Sizes.{count_cons, history_fits}
-use Rattle.hub_core.specs.AccountedCalls.{told_calls, told_falls}
+use Rattle.hub_core.proofs.kept.Sizes.{history_fits}
+use Rattle.legal_days.proofs.Lists.{count_cons}
+use Rattle.legal_days.specs.AccountedCalls.{told_calls, told_falls}
 use Rattle.hub_core.specs.Bounds.{most_entries}
 use Rattle.hub_core.specs.Homes.{CountsAreLow}
 use Rattle.hub_core.specs.HubCalls.{SameWindow}

@@ -19,7 +19,7 @@ use Rattle.command_rules.specs.Rosters.{command_at, run_no}
 use Rattle.device_gate.specs.declared.slips.Task.TheVariants.{Drive, Sense}
 use Rattle.hub_core.proofs.steps.Calls.{take_calls, take_counted, take_falls, take_registers, take_rises}
 use Rattle.hub_core.proofs.kept.Sizes.{history_fits}
-use Rattle.hub_core.specs.AccountedCalls.{told_calls, told_falls}
+use Rattle.legal_days.specs.AccountedCalls.{told_calls, told_falls}
 use Rattle.hub_core.specs.Bounds.{most_entries}
 use Rattle.hub_core.specs.Decisions.{told_choice}
 use Rattle.hub_core.specs.HubCalls.{Answers}

@@ -1,4 +1,5 @@
 -- A window that closes: its devices are home, its record is legal, and the home that is left is as every home is kept.
+use Rattle.legal_days.proofs.Lists.{at_place}
 use Rattle.lock_leasing.specs.Words.{standing_value}
 use Rattle.hub_core.specs.ReadHistories.{read_in}
 use Rattle.history_book.specs.declared.entries.End.TheVariants.{Committed}
@@ -25,31 +26,24 @@ use Rattle.hub_core.proofs.windows.Closings.{IsLastState, IsQuiet, ended_committ
 use Rattle.hub_core.proofs.kept.Kept.{values_fit}
 use Rattle.hub_core.proofs.kept.Sizes.{line_fits, stays_up}
 use Rattle.hub_core.proofs.kept.WrittenValues.{standing_fits, writes_fit}
-use Rattle.hub_core.specs.AccountedCalls.{CallsAreAccounted, tells_call, told_calls, told_falls}
-use Rattle.hub_core.specs.Agreement.{UpDevicesStand}
+use Rattle.legal_days.specs.AccountedCalls.{CallsAreAccounted, tells_call, told_calls, told_falls}
+use Rattle.legal_days.specs.Agreement.{UpDevicesStand}
 use Rattle.hub_core.specs.ClosedHomes.{HaveRisen, NoneFell, all_known_left, known_left, stand_left}
 use Rattle.hub_core.specs.Homes.{CountsAreLow, HomeIsKept}
 use Rattle.hub_core.specs.HubCalls.{IsClosed, NoneFails, probes_taken}
 use Rattle.hub_core.specs.HubsKept.{FitsAtHome, HubIsKept, IsEmptyFor, IsWhole, open_of}
 use Rattle.hub_core.specs.OpenHubs.{OpenHub, configuration_of, device_at, grip_in, held_in}
-use Rattle.hub_core.specs.LegalWindows.{IsLegalWindow}
+use Rattle.legal_days.specs.LegalWindows.{IsLegalWindow}
 use Rattle.hub_core.specs.Steps.{not_quiet}
 use Rattle.hub_core.specs.declared.open_windows.OpenWindow.TheInside.{Inside}
 use Rattle.lock_leasing.specs.Configurations.{Configuration, read_of}
 use Rattle.serial_line.specs.Marks.{Mark}
-use Rattle.std.proofs.Common.{ap, arith, inl, inr, length-append, refl, subst, sym, ◌∙◌}
+use Rattle.std.proofs.Common.{ap, arith, length-append, refl, subst, sym, ◌∙◌}
 use Rattle.std.proofs.lemmas.Grind.{common_steps}
 use Rattle.std.proofs.lemmas.List.{length-map}
 use Rattle.std.proofs.lemmas.List.Sums.{count_by-le-length}
-use Rattle.std.proofs.lemmas.Option.{slice_get-map, slice_get_cases, slice_get_within}
+use Rattle.std.proofs.lemmas.Option.{slice_get-map, slice_get_within}
 use Rattle.std.specs.Prelude.{Bool, IsTrue, List, None, Some, [], count_by, false, length, map, nat_lt, option_map, slice_get, slice_index_or, suc, take, true, zero, ℕ, ◌*◌, ◌++◌, ◌+◌, ◌<◌, ◌^◌, ◌∷◌, ◌≡◌, ◌≤◌}
-
--- what is within a list is at its place
-pub at_place : {X : Type 0} (xs : List X) (i : ℕ) → i < length xs → (x : X) × (slice_get xs i ≡ Some x)
-at_place xs i lt = elim (slice_get_cases xs i).1 [
-  | inl p ↦ (p.0, p.2)
-  | inr p ↦ absurd (let past = p.0 in omega (arith, lt, past))
-]
 
 -- where nothing is left to do, no device is out
 home_when_quiet : (s : Configuration) (rounds opened : ℕ) (held : ℕ → ℕ) (d : ℕ) → IsKeptByModel s rounds opened held → IsQuiet s → s.grips d ≡ None

@@ -40,7 +40,7 @@ use Rattle.hub_core.proofs.kept.KeptByModel.{given_kept, undo_ordered}
 use Rattle.hub_core.proofs.kept.ReturnsKept.{BringsFor, IsOut, out_is}
 use Rattle.hub_core.proofs.steps.Takes.{command_is, live_run}
 use Rattle.hub_core.proofs.kept.WrittenValues.{nearest_has}
-use Rattle.hub_core.specs.AccountedCalls.{told_calls, told_falls}
+use Rattle.legal_days.specs.AccountedCalls.{told_calls, told_falls}
 use Rattle.hub_core.specs.HubCalls.{IsGiven, IsPacked, SameWindow, carried_by}
 use Rattle.hub_core.specs.Decisions.{refuted_by}
 use Rattle.hub_core.specs.HubKept.{is_of_run}

@@ -4,24 +4,18 @@ use Rattle.home_types.specs.Kinds.{has_value, kind_at}
 use Rattle.home_types.specs.declared.kinds.Kind.TheVariants.{States}
 use Rattle.home_types.specs.declared.kinds.Kind.{Kind}
 use Rattle.home_types.specs.declared.worlds.Stand.{Stand}
-use Rattle.hub_core.specs.Agreement.{UpDevicesStand}
 use Rattle.hub_core.specs.Homes.{AreNew, HomeIsKept, IsNew}
+use Rattle.legal_days.proofs.Lists.{at_place}
+use Rattle.legal_days.specs.Agreement.{UpDevicesStand}
 use Rattle.routine_reader.specs.Rosters.{kinds_of, start_home, start_stand}
 use Rattle.routine_reader.specs.Scripts.{PlainDevice, plain_device, plain_script}
 use Rattle.routine_reader.specs.Sound.{IsSound}
 use Rattle.routine_reader.specs.declared.scripts.DeviceText.{DeviceText}
 use Rattle.routine_reader.specs.declared.scripts.Script.{Script}
-use Rattle.std.proofs.Common.{ap, arith, get_or, inl, inr, subst, sym, ◌∙◌}
+use Rattle.std.proofs.Common.{ap, arith, get_or, subst, sym, ◌∙◌}
 use Rattle.std.proofs.lemmas.List.{get_or-map, length-map}
-use Rattle.std.proofs.lemmas.Option.{get_or_from_slice_get, slice_get_cases, slice_get_within}
+use Rattle.std.proofs.lemmas.Option.{get_or_from_slice_get, slice_get_within}
 use Rattle.std.specs.Prelude.{IsTrue, List, Option, Some, length, map, slice_get, true, ℕ, ◌<◌, ◌≡◌, ◌≤◌}
-
--- what is within a list is at its place
-at_place : {X : Type 0} (xs : List X) (i : ℕ) → i < length xs → (x : X) × (slice_get xs i ≡ Some x)
-at_place xs i lt = elim (slice_get_cases xs i).1 [
-  | inl p ↦ (p.0, p.2)
-  | inr p ↦ absurd (let past = p.0 in omega (arith, lt, past))
-]
 
 -- the item of a list of which each was made of one
 made_of : {X Y : Type 0} (f : X → Y) (xs : List X) (i : ℕ) (x : X) (e : Y) → slice_get xs i ≡ Some x → get_or (map f xs) i e ≡ f x

@@ -27,7 +27,7 @@ use Rattle.hub_core.proofs.kept.Hands.{probe_comes}
 use Rattle.hub_core.proofs.kept.ReturnsKept.{BringsFor}
 use Rattle.hub_core.proofs.steps.Afters.{read_with}
 use Rattle.hub_core.proofs.steps.Calls.{calls_with, falls_with}
-use Rattle.hub_core.specs.AccountedCalls.{told_calls, told_falls}
+use Rattle.legal_days.specs.AccountedCalls.{told_calls, told_falls}
 use Rattle.hub_core.specs.HubCalls.{IsPacked, IsProbeGiven, SameWindow, carried_by}
 use Rattle.hub_core.specs.KeptByModel.{IsKeptByModel}
 use Rattle.hub_core.specs.HubSteps.{Gave, Given, Returned, give_if, give_probe, task_of}

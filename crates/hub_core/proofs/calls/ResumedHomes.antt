@@ -6,8 +6,9 @@ use Rattle.home_types.specs.Kinds.{has_value, kind_at}
 use Rattle.home_types.specs.declared.kinds.Kind.{Kind}
 use Rattle.home_types.specs.declared.worlds.Stand.{Stand}
 use Rattle.hub_core.specs.Homes.{HomeIsKept}
-use Rattle.hub_core.specs.LegalDays.{AreLeftFrom, IsDeviceOf, one_more_where}
-use Rattle.hub_core.specs.ResumedDays.{AreResumed, IsDeviceResumed, IsStateResumed, has_died, resumed_day}
+use Rattle.legal_days.proofs.Lists.{at_place}
+use Rattle.legal_days.specs.LegalDays.{AreLeftFrom, IsDeviceOf, one_more_where}
+use Rattle.legal_days.specs.ResumedDays.{AreResumed, IsDeviceResumed, IsStateResumed, has_died, resumed_day}
 use Rattle.routine_reader.specs.Rosters.{kinds_of}
 use Rattle.routine_reader.specs.Scripts.{plain_device, plain_script}
 use Rattle.routine_reader.specs.Sound.{IsSound}
@@ -15,7 +16,7 @@ use Rattle.routine_reader.specs.declared.scripts.DeviceText.{DeviceText}
 use Rattle.routine_reader.specs.declared.scripts.Script.{Script}
 use Rattle.std.proofs.Common.{ap, arith, get_or, inl, inr, refl, subst, sym, ◌∙◌}
 use Rattle.std.proofs.lemmas.List.{length-append, length-map}
-use Rattle.std.proofs.lemmas.Option.{get_or_from_slice_get, slice_get_cases, slice_get_within}
+use Rattle.std.proofs.lemmas.Option.{get_or_from_slice_get, slice_get_within}
 use Rattle.std.specs.Prelude.{Bool, List, Option, Some, [], false, if◌then◌else◌, length, map, slice_get, true, ℕ, ◌*◌, ◌+◌, ◌++◌, ◌<◌, ◌^◌, ◌∷◌, ◌≡◌, ◌≤◌}
 
 -- no device is resumed yet
@@ -53,13 +54,6 @@ low_once : (b : Bool) (n : ℕ) → n ≡ (if b then 1 else 0) → n ≤ 0 * 2 ^
 low_once true n is = omega (arith, is)
 low_once false n is = omega (arith, is)
 
--- what is within a list is at its place
-place_of : {X : Type 0} (xs : List X) (i : ℕ) → i < length xs → (x : X) × (slice_get xs i ≡ Some x)
-place_of xs i lt = elim (slice_get_cases xs i).1 [
-  | inl p ↦ (p.0, p.2)
-  | inr p ↦ absurd (let past = p.0 in omega (arith, lt, past))
-]
-
 module _ {D : Type 0} (tag : D → ℕ) (plan : D → Option (List (ℕ × ℕ))) (stands turns probes faults : D → ℕ) (script : Script) (before now : List Stand) (devices : List D)
     (values : IsStateOf (kinds_of script) before) (are : AreResumed tag plan stands turns probes faults script.devices.items before (length script.devices.items) now devices) where
   abbrev texts : List DeviceText
@@ -73,14 +67,14 @@ module _ {D : Type 0} (tag : D → ℕ) (plan : D → Option (List (ℕ × ℕ))
       → (text : DeviceText) × (slice_get texts d ≡ Some text) × IsDeviceResumed tag plan stands turns probes faults text d (stand_at before d) (stand_at now d) device
   of_number d device at =
       let inside = slice_get_within devices d device at in
-      let text = place_of texts d (omega (arith, inside, are.size)) in
-      let stand = place_of now d (omega (arith, inside, are.size, are.stands_size)) in
+      let text = at_place texts d (omega (arith, inside, are.size)) in
+      let stand = at_place now d (omega (arith, inside, are.size, are.stands_size)) in
       (text.0, text.1, subst (λ s. IsDeviceResumed tag plan stands turns probes faults text.0 d (stand_at before d) s device) (sym (get_or_from_slice_get now d stand.0 nowhere stand.1)) (are.each d device text.0 stand.0 at text.1 stand.1))
 
   pub state_resumed : IsStateResumed before now
   state_resumed = record {
     size = are.stands_size ∙ sym same_size;
-    each = λ d lt. let device = place_of devices d (omega (arith, lt, same_size, are.size)) in let is = of_number d device.0 device.1 in is.2.as_told;
+    each = λ d lt. let device = at_place devices d (omega (arith, lt, same_size, are.size)) in let is = of_number d device.0 device.1 in is.2.as_told;
   }
 
   pub left_resumed : (k : ℕ) → AreLeftFrom tag plan stands turns faults (resumed_day script k before now) [] devices

@@ -8,8 +8,9 @@ use Rattle.history_book.specs.declared.entries.End.TheVariants.{Aborted, Committ
 use Rattle.history_book.specs.declared.entries.End.{End}
 use Rattle.history_book.specs.declared.entries.Entry.TheVariants.{Arrived, Did, Doomed, Ended, Fell, Placed, Rose, Undid}
 use Rattle.history_book.specs.declared.entries.Entry.{Entry}
-use Rattle.hub_core.proofs.kept.Sizes.{at_most_one, count_cons, one_if, run_within, sum_below, sum_fits, sum_more, sum_same}
+use Rattle.hub_core.proofs.kept.Sizes.{at_most_one, one_if, run_within, sum_below, sum_fits, sum_more, sum_same}
 use Rattle.hub_core.specs.Bounds.{is_doom, is_end}
+use Rattle.legal_days.proofs.Lists.{count_cons}
 use Rattle.std.proofs.Common.{ap, arith, cond, refl, ◌∙◌}
 use Rattle.std.proofs.lemmas.Grind.{common_steps}
 use Rattle.std.specs.Prelude.{Bool, IsTrue, List, None, Option, Some, [], count_by, false, fold, is_none, is_some, length, suc, true, zero, ℕ, ◌*◌, ◌+◌, ◌<◌, ◌∷◌, ◌≡◌, ◌≤◌}

@@ -27,10 +27,10 @@ use Rattle.hub_core.proofs.kept.Followed.{followed_placed, followed_step}
 use Rattle.hub_core.proofs.steps.Afters.{read_with}
 use Rattle.hub_core.proofs.kept.LineOrder.{StampsAreBelow, before_more, end_line, is_alone_by, live_before_without, order_at_end, order_without, same_order, stamps_below, strict_fewer_by}
 use Rattle.hub_core.proofs.windows.StrongChoices.{IsPlacing, live_stands}
-use Rattle.hub_core.specs.CleanReads.{entry_is_clean}
+use Rattle.legal_days.specs.CleanReads.{entry_is_clean}
 use Rattle.hub_core.specs.HubKept.{ActsInTurn, FollowersStand, HistoryIsKept, NoneAnsweredDoomed, keeps_leases, placed_in_order}
-use Rattle.hub_core.specs.Isolation.{is_alone, is_isolated}
-use Rattle.hub_core.specs.JustifiedAborts.{abort_is_justified, shows}
+use Rattle.legal_days.specs.Isolation.{is_alone, is_isolated}
+use Rattle.legal_days.specs.JustifiedAborts.{abort_is_justified, shows}
 use Rattle.hub_core.specs.Openings.{MayOpen, is_fcfs, is_mode}
 use Rattle.lock_leasing.specs.Configurations.{Commands, Configuration, Grip, Grips, Purpose, grips_command, has_grip, is_command, read_of}
 use Rattle.lock_leasing.specs.Places.{IsScheduled, PlacesAreScheduled}

@@ -27,9 +27,9 @@ use Rattle.hub_core.proofs.kept.HistoryKept.{MayAdd, ServesStrict, aborted_may, 
 use Rattle.hub_core.proofs.windows.StrongChoices.{IsPlacing, StrongSteps, served_in_turn, strong_steps, take_all}
 use Rattle.hub_core.proofs.steps.Takes.{Follows, take_follows}
 use Rattle.hub_core.proofs.kept.WrittenValues.{ValuesFit, undo_value, writes_fit}
-use Rattle.hub_core.specs.CleanReads.{entry_is_clean}
+use Rattle.legal_days.specs.CleanReads.{entry_is_clean}
 use Rattle.hub_core.specs.HubKept.{ActsInTurn, ConfigurationIsKept, EachOut, HistoryIsKept, NoneAnsweredDoomed, UndosFit, is_of_run, is_probed, probes_of, undo_fits}
-use Rattle.hub_core.specs.JustifiedAborts.{abort_is_justified, shows}
+use Rattle.legal_days.specs.JustifiedAborts.{abort_is_justified, shows}
 use Rattle.hub_core.specs.Openings.{MayOpen, names_values_of}
 use Rattle.hub_core.specs.Steps.{HandsOut, Moves, after_choice, after_take, answers_down, at_moment, down_entries, opened}
 use Rattle.lock_leasing.proofs.ClearPlaces.{scheduled_is_clear, scheduled_stands}

@@ -20,7 +20,7 @@ use Rattle.home_types.specs.declared.modes.Visibility.TheVariants.{Eventual, Glo
 use Rattle.home_types.specs.declared.worlds.Stand.{Stand}
 use Rattle.hub_core.proofs.windows.StrongChoices.{placed_after}
 use Rattle.hub_core.specs.HubKept.{is_later, placed_in_order}
-use Rattle.hub_core.specs.Isolation.{is_alone, is_placed_before}
+use Rattle.legal_days.specs.Isolation.{is_alone, is_placed_before}
 use Rattle.lock_leasing.specs.Waits.{strict_wait}
 use Rattle.lock_leasing.specs.Words.{live_before, live_runs, stamp_of}
 use Rattle.std.proofs.Common.{ap, arith, cond, refl, subst, sym, ◌∙◌}

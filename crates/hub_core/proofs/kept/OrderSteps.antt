@@ -26,6 +26,7 @@ use Rattle.home_types.specs.declared.items.Item.{Item}
 use Rattle.hub_core.specs.Bounds.{most_items}
 use Rattle.hub_core.specs.KeptOrders.{IsOrderOf, IsSealed, IsUnreleased, MayNote, OrderIsBeside, TableFits, is_first, noted_first}
 use Rattle.hub_core.specs.ReadHistories.{HistoryState, read_in, with_doom, with_entry}
+use Rattle.legal_days.proofs.Lists.{count_cons}
 use Rattle.lineage_table.specs.Accesses.{is_scheduled, status_of}
 use Rattle.lineage_table.specs.Lineages.{IsOpened, LineageState, committed_lineage, lineage_at, removed, undone, with_lineage}
 use Rattle.lineage_table.specs.declared.accesses.Status.TheVariants.{Acquired, Scheduled}
@@ -35,7 +36,7 @@ use Rattle.serial_line.specs.Marks.{Mark, Marked, front_of, items_of, settling, 
 use Rattle.std.proofs.Common.{ap, arith, cond, length-append, refl, subst, sym, ◌∙◌}
 use Rattle.hub_core.proofs.kept.Arranged.{as_they_stand, long_arranged, marks_arranged, marks_for, marks_joined}
 use Rattle.hub_core.proofs.kept.SealedOrders.{placed_sealed, same_sealed, sealed_is, touched_sealed}
-use Rattle.hub_core.proofs.kept.Sizes.{count_cons, one_at_most}
+use Rattle.hub_core.proofs.kept.Sizes.{one_at_most}
 use Rattle.hub_core.proofs.kept.TableFits.{committed_bare, doomed_bare, fits_changed, fits_ordered, fits_still, fits_weakly, removed_bare, undone_change_bare}
 use Rattle.std.proofs.lemmas.List.{length-map, take-append-drop}
 use Rattle.std.specs.Prelude.{Bool, IsSome, IsTrue, List, None, Option, Some, [], count_by, drop, false, if◌then◌else◌, is_some, length, not, option_map, suc, take, true, unwrap_or, ℕ, ◌&&◌, ◌++◌, ◌+◌, ◌<◌, ◌==◌, ◌||◌, ◌∷◌, ◌≡◌, ◌≤◌}

@@ -24,10 +24,10 @@ use Rattle.hub_core.proofs.steps.Causes.{and_is, and_three}
 use Rattle.hub_core.proofs.steps.GiveCauses.{command_back_shows, probe_shows}
 use Rattle.hub_core.proofs.steps.Gives.{MayUndo, command_back_follows, probe_back_follows, undo_back_follows}
 use Rattle.hub_core.proofs.steps.Takes.{command_is, live_run}
-use Rattle.hub_core.specs.CleanReads.{answer_is_clean, clean_value, entry_is_clean}
 use Rattle.hub_core.specs.HubKept.{ConfigurationIsKept, HistoryIsKept, is_of_run, is_probed, keeps_leases, probes_of, undo_fits}
-use Rattle.hub_core.specs.JustifiedAborts.{abort_is_justified, shows}
 use Rattle.hub_core.specs.Steps.{after_give, answer_told, at_moment, command_entries, give_entries, probe_entries}
+use Rattle.legal_days.specs.CleanReads.{answer_is_clean, clean_value, entry_is_clean}
+use Rattle.legal_days.specs.JustifiedAborts.{abort_is_justified, shows}
 use Rattle.lock_leasing.specs.Configurations.{Commands, Configuration, Grip, Grips, Probes, Purpose, Undoes, no_grips, read_of}
 use Rattle.lock_leasing.specs.Places.{MayBeOut}
 use Rattle.lock_leasing.specs.Waits.{lost_by}

@@ -24,7 +24,8 @@ use Rattle.home_types.specs.declared.commands.Command.{Command}
 use Rattle.home_types.specs.declared.items.Item.TheVariants.{Back, Failed, Ran}
 use Rattle.home_types.specs.declared.items.Item.{Item}
 use Rattle.home_types.specs.declared.numbers.DeviceNo.{DeviceNo}
-use Rattle.hub_core.specs.AccountedCalls.{told_falls}
+use Rattle.legal_days.proofs.Lists.{count_cons}
+use Rattle.legal_days.specs.AccountedCalls.{told_falls}
 use Rattle.hub_core.specs.Bounds.{most_entries, most_events, most_items}
 use Rattle.hub_core.specs.HubKept.{probes_of}
 use Rattle.hub_core.specs.KeptByModel.{IsKeptByModel}
@@ -32,14 +33,10 @@ use Rattle.lock_leasing.specs.Configurations.{Configuration, read_of}
 use Rattle.std.proofs.Common.{ap, arith, cond, length-append, refl, subst, sym, ◌∙◌}
 use Rattle.std.proofs.lemmas.Bool.{eq-eqb, ltb-true, or_right}
 use Rattle.std.proofs.lemmas.Grind.{common_steps}
-use Rattle.std.proofs.lemmas.List.Sums.{sum_by-cons}
 use Rattle.std.proofs.lemmas.Option.{slice_get_within}
 use Rattle.window_order.proofs.ReadFacts.{IsRead, read_facts}
 use Rattle.std.specs.List.{list_any}
 use Rattle.std.specs.Prelude.{Bool, IsTrue, List, None, Option, Some, [], count_by, false, fold, if◌then◌else◌, is_none, is_some, length, map, not, slice_get, suc, true, zero, ℕ, ◌*◌, ◌+◌, ◌<◌, ◌==◌, ◌||◌, ◌∷◌, ◌≡◌, ◌≢◌, ◌≤◌}
-
-pub count_cons : {A : Type 0} (p : A → Bool) (x : A) (xs : List A) → count_by p (x ∷ xs) ≡ cond (p x) 1 0 + count_by p xs
-count_cons p x xs = sum_by-cons (λ y. cond (p y) 1 0) x xs
 
 -- the sum of what is counted of the first so many, from 0
 pub sum_below : (ℕ → ℕ) → ℕ → ℕ

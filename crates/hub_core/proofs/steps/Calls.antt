@@ -19,7 +19,7 @@ use Rattle.home_types.specs.declared.commands.Job.TheVariants.{Check, Load, Set,
 use Rattle.hub_core.proofs.steps.Afters.{read_with, take_history}
 use Rattle.hub_core.proofs.steps.Choices.{decide_is}
 use Rattle.hub_core.proofs.steps.Takes.{made_by}
-use Rattle.hub_core.specs.AccountedCalls.{tells_call, told_calls, told_falls}
+use Rattle.legal_days.specs.AccountedCalls.{tells_call, told_calls, told_falls}
 use Rattle.hub_core.specs.HubKept.{is_of_run}
 use Rattle.hub_core.specs.Steps.{Choice, Moves, after_give, after_take, choice_of, decide, down_entries, give_entries, with_entries}
 use Rattle.lock_leasing.specs.Configurations.{Commands, Configuration, Grip, Grips, Probes, Purpose, Undoes, read_of}

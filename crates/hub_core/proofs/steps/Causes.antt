@@ -18,9 +18,9 @@ use Rattle.home_types.specs.declared.modes.Visibility.TheVariants.{Eventual, Glo
 use Rattle.hub_core.proofs.steps.Choices.{decide_is}
 use Rattle.hub_core.proofs.steps.Revoked.{revocation_is_shown}
 use Rattle.hub_core.proofs.steps.Takes.{command_is, made_by}
-use Rattle.hub_core.specs.CleanReads.{answer_is_clean, entry_is_clean}
-use Rattle.hub_core.specs.JustifiedAborts.{abort_is_justified, equals_some, has_answer}
-use Rattle.hub_core.specs.LegalWindows.{none_fails, weakly_allowed}
+use Rattle.legal_days.specs.CleanReads.{answer_is_clean, entry_is_clean}
+use Rattle.legal_days.specs.JustifiedAborts.{abort_is_justified, equals_some, has_answer}
+use Rattle.legal_days.specs.LegalWindows.{none_fails, weakly_allowed}
 use Rattle.hub_core.specs.Steps.{Choice, Moves, answers_down, decide, down_entries}
 use Rattle.lock_leasing.specs.Configurations.{Grip, Grips, grips_command, has_grip, is_command, no_grips}
 use Rattle.lock_leasing.specs.Waits.{down_at_end, grip_wait, strict_wait}

@@ -17,7 +17,7 @@ use Rattle.home_types.specs.declared.items.Item.TheVariants.{Failed}
 use Rattle.hub_core.proofs.steps.Causes.{and_is, answered_last}
 use Rattle.hub_core.proofs.steps.Gives.{lost_is}
 use Rattle.hub_core.proofs.steps.Takes.{command_is}
-use Rattle.hub_core.specs.JustifiedAborts.{abort_is_justified, shows}
+use Rattle.legal_days.specs.JustifiedAborts.{abort_is_justified, shows}
 use Rattle.hub_core.specs.Steps.{command_entries, probe_entries}
 use Rattle.device_gate.specs.declared.slips.Told.{Told}
 use Rattle.device_gate.specs.declared.slips.Told.TheVariants.{Died, Sensed, Worked}

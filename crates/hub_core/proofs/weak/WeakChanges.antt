@@ -13,8 +13,8 @@ use Rattle.home_types.specs.declared.commands.Answer.{Answer}
 use Rattle.home_types.specs.declared.commands.Command.{Command}
 use Rattle.hub_core.proofs.steps.Afters.{each_with, read_with}
 use Rattle.hub_core.specs.HubKept.{EachOut, probes_of}
-use Rattle.hub_core.specs.LegalWindows.{none_fails, weakly_allowed}
 use Rattle.hub_core.specs.WeakKept.{NoneHasFailed, WeakIsKept, goes_weakly}
+use Rattle.legal_days.specs.LegalWindows.{none_fails, weakly_allowed}
 use Rattle.lock_leasing.specs.Configurations.{Commands, Configuration, Grip, Grips, Probes, Purpose, Undoes, read_of}
 use Rattle.lock_leasing.specs.Places.{GripsFit}
 use Rattle.std.proofs.Common.{ap, arith, refl, subst, sym, ◌∙◌}

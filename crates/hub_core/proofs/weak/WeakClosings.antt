@@ -14,10 +14,10 @@ use Rattle.home_types.specs.declared.worlds.Stand.{Stand}
 use Rattle.hub_core.proofs.kept.Sizes.{steady_up}
 use Rattle.hub_core.proofs.windows.CalmHistories.{IsPlain, NoneFailed, all_homed, along_less, downs_told}
 use Rattle.hub_core.proofs.windows.Closings.{IsQuiet, all_have_ended, homed_in, plain_committed}
-use Rattle.hub_core.specs.AccountedCalls.{CallsAreAccounted}
+use Rattle.legal_days.specs.AccountedCalls.{CallsAreAccounted}
 use Rattle.hub_core.specs.HubKept.{keeps_leases}
-use Rattle.hub_core.specs.JustifiedAborts.{IsJustified, abort_is_justified}
-use Rattle.hub_core.specs.LegalWindows.{IsLegalWindow, IsSeriallyLegal, IsWeaklyLegal, all_ended, history_of, weakly_allowed}
+use Rattle.legal_days.specs.JustifiedAborts.{IsJustified, abort_is_justified}
+use Rattle.legal_days.specs.LegalWindows.{IsLegalWindow, IsSeriallyLegal, IsWeaklyLegal, all_ended, history_of, weakly_allowed}
 use Rattle.hub_core.specs.MustChecks.{has_must_check}
 use Rattle.hub_core.specs.WeakKept.{WeakIsKept}
 use Rattle.lock_leasing.specs.Configurations.{Configuration, read_of}

@@ -26,10 +26,10 @@ use Rattle.hub_core.proofs.steps.Gives.{command_back_follows}
 use Rattle.hub_core.proofs.steps.Takes.{command_is, live_run}
 use Rattle.hub_core.proofs.weak.WeakChanges.{IsStillOut, made_with, maker_sound, out_stays, passes_did, passes_doomed, weak_made}
 use Rattle.hub_core.specs.HubKept.{probes_of}
-use Rattle.hub_core.specs.JustifiedAborts.{has_answer}
-use Rattle.hub_core.specs.LegalWindows.{weakly_allowed}
 use Rattle.hub_core.specs.Steps.{after_give, answer_told, at_moment, command_entries, give_entries, probe_entries}
 use Rattle.hub_core.specs.WeakKept.{NoneHasFailed, WeakIsKept}
+use Rattle.legal_days.specs.JustifiedAborts.{has_answer}
+use Rattle.legal_days.specs.LegalWindows.{weakly_allowed}
 use Rattle.lock_leasing.specs.Configurations.{Commands, Configuration, Grip, Grips, Probes, Purpose, Undoes, read_of}
 use Rattle.lock_leasing.specs.Places.{GripsFit}
 use Rattle.lock_leasing.specs.Words.{live_runs}

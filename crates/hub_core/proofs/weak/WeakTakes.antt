@@ -21,7 +21,7 @@ use Rattle.hub_core.proofs.steps.Causes.{IsAllowed, never_down_at_end, take_is_a
 use Rattle.hub_core.proofs.steps.Choices.{Commanding, IsNext, decide_is}
 use Rattle.hub_core.proofs.steps.Takes.{Follows, IsHomed, take_follows}
 use Rattle.hub_core.proofs.weak.WeakChanges.{maker_sound, out_stays, passes_did, passes_doomed, passes_same, weak_made, weak_same}
-use Rattle.hub_core.specs.LegalWindows.{none_fails, weakly_allowed}
+use Rattle.legal_days.specs.LegalWindows.{none_fails, weakly_allowed}
 use Rattle.hub_core.specs.Openings.{MayOpen, names_values_of}
 use Rattle.hub_core.specs.Steps.{HandsOut, Moves, after_choice, after_take, answers_down, at_moment, down_entries, opened}
 use Rattle.hub_core.specs.WeakKept.{NoneHasFailed, WeakIsKept, goes_weakly}

@@ -20,11 +20,11 @@ use Rattle.home_types.specs.declared.commands.Answer.TheVariants.{Down, Fine, Fo
 use Rattle.home_types.specs.declared.commands.Command.{Command}
 use Rattle.home_types.specs.declared.kinds.Kind.{Kind}
 use Rattle.home_types.specs.declared.modes.Scheduler.TheVariants.{Fcfs}
-use Rattle.hub_core.proofs.kept.Sizes.{count_cons}
-use Rattle.hub_core.specs.AccountedCalls.{told_falls}
-use Rattle.hub_core.specs.CleanReads.{entry_is_clean}
+use Rattle.legal_days.proofs.Lists.{count_cons}
+use Rattle.legal_days.specs.AccountedCalls.{told_falls}
+use Rattle.legal_days.specs.CleanReads.{entry_is_clean}
 use Rattle.hub_core.specs.HubKept.{ConfigurationIsKept, keeps_leases}
-use Rattle.hub_core.specs.JustifiedAborts.{IsJustified, abort_is_justified, equals_some, has_answer}
+use Rattle.legal_days.specs.JustifiedAborts.{IsJustified, abort_is_justified, equals_some, has_answer}
 use Rattle.hub_core.specs.Openings.{MayOpen, names_values_of}
 use Rattle.lock_leasing.specs.Configurations.{Configuration, no_grips}
 use Rattle.lock_leasing.specs.Waits.{down_at_end}

@@ -27,15 +27,15 @@ use Rattle.hub_core.proofs.kept.Finds.{none_does}
 use Rattle.hub_core.proofs.kept.Followed.{committed_behind}
 use Rattle.hub_core.proofs.kept.Sizes.{run_there, run_within}
 use Rattle.hub_core.proofs.windows.CalmHistories.{IsPlain, NoneFailed, dooms_are_refuted, is_plain, is_refuted}
-use Rattle.hub_core.specs.AccountedCalls.{CallsAreAccounted}
-use Rattle.hub_core.specs.Agreement.{AgreesWithSerial}
-use Rattle.hub_core.specs.CleanReads.{ReadsAreClean}
+use Rattle.legal_days.specs.AccountedCalls.{CallsAreAccounted}
+use Rattle.legal_days.specs.Agreement.{AgreesWithSerial}
+use Rattle.legal_days.specs.CleanReads.{ReadsAreClean}
 use Rattle.hub_core.specs.ClosedHomes.{stand_left}
 use Rattle.hub_core.specs.HubKept.{ConfigurationIsKept}
-use Rattle.hub_core.specs.Isolation.{IsStrict}
-use Rattle.hub_core.specs.JustifiedAborts.{IsJustified}
-use Rattle.hub_core.specs.LegalWindows.{IsLegalWindow, IsSeriallyLegal, IsWeaklyLegal, all_ended, history_of}
-use Rattle.hub_core.specs.Orders.{IsOrderFor}
+use Rattle.legal_days.specs.Isolation.{IsStrict}
+use Rattle.legal_days.specs.JustifiedAborts.{IsJustified}
+use Rattle.legal_days.specs.LegalWindows.{IsLegalWindow, IsSeriallyLegal, IsWeaklyLegal, all_ended, history_of}
+use Rattle.legal_days.specs.Orders.{IsOrderFor}
 use Rattle.hub_core.specs.MustChecks.{has_must_check, is_check, is_must_check}
 use Rattle.hub_core.specs.Steps.{not_quiet}
 use Rattle.hub_core.specs.declared.refusals.NotQuiet.TheVariants.{StillLive, StillOut}

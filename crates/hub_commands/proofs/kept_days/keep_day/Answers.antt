@@ -7,7 +7,7 @@ use Rattle.hub_commands.specs.Finishes.{shown_by, written}
 use Rattle.hub_commands.specs.Going.{IsGoingOn}
 use Rattle.hub_commands.specs.KeptDays.{HasEndedBehind, HasEndedKept, kept_course}
 use Rattle.hub_commands.specs.Ways.{IsReplayOf}
-use Rattle.hub_core.specs.ResumedDays.{GoesOnBehind}
+use Rattle.legal_days.specs.ResumedDays.{GoesOnBehind}
 use Rattle.routine_reader.specs.Scripts.{plain_window}
 use Rattle.std.proofs.Common.{None, [], arith, drop, length, refl, subst, sym, ◌∙◌, ◌≡◌, ◌≤◌}
 use Rattle.std.proofs.lemmas.List.{length-drop, length-map}

@@ -1,7 +1,7 @@
 use Rattle.hub_commands.proofs.NextWindows.{opened_behind}
 use Rattle.hub_commands.proofs.plays.open_next.Goals as goal
 use Rattle.hub_commands.specs.Played.{NextIsOpened}
-use Rattle.hub_core.specs.LegalDays.{windows_behind}
+use Rattle.legal_days.specs.LegalDays.{windows_behind}
 use Rattle.std.proofs.Common.{ap, length, subst, ◌∙◌}
 
 pub returns-in-Ok-clause-opened : goal.returns-in-Ok-clause-opened

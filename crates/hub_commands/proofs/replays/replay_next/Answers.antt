@@ -4,7 +4,7 @@ use Rattle.hub_commands.proofs.replays.replay_next.Goals as goal
 use Rattle.hub_commands.specs.Days.{course_behind}
 use Rattle.hub_commands.specs.Played.{HasGoneOn}
 use Rattle.hub_commands.specs.Ways.{IsReplayOf}
-use Rattle.hub_core.specs.LegalDays.{windows_behind}
+use Rattle.legal_days.specs.LegalDays.{windows_behind}
 use Rattle.routine_reader.proofs.RosterLemmas.{window-there}
 use Rattle.routine_reader.specs.declared.scripts.Script.{Script}
 use Rattle.routine_reader.specs.declared.scripts.WindowText.{WindowText}

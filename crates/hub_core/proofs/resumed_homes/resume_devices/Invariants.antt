@@ -1,5 +1,5 @@
 use Rattle.hub_core.proofs.resumed_homes.resume_devices.Given as goal
-use Rattle.hub_core.specs.ResumedDays.{AreResumed}
+use Rattle.legal_days.specs.ResumedDays.{AreResumed}
 
 -- the devices up to here are resumed
 abbrev pub invariant-texts : goal.invariant-texts

@@ -1,10 +1,10 @@
 use Rattle.command_rules.specs.Rosters.{runs_of}
+use Rattle.lock_leasing.specs.Waits.{bars}
 use Rattle.std.proofs.Common.{sym, ◌∙◌}
 use Rattle.visibility_models.proofs.Fronts.{waits_from_front}
 use Rattle.visibility_models.proofs.LineRuns.{on_its_way}
 use Rattle.visibility_models.proofs.StrictWaits.{wait_is}
 use Rattle.visibility_models.proofs.waits.may_go.Goals as goal
-use Rattle.visibility_models.specs.Searches.{bars}
 
 pub find_unended-requires-clause-run : goal.find_unended-requires-clause-run
 find_unended-requires-clause-run c = (on_its_way c.args.model c.args.s.now.table.now c.args.s.now.line.now.marks c.args.s.now.book.now.items (runs_of c.args.s.now.roster.now) c.args.r c.requires (sym c.is_strict.ensures ∙ c.if-is_strict.true)).run

@@ -1,7 +1,7 @@
 use Rattle.hub_core.proofs.calls.FinalItems.{legal_begins}
 use Rattle.hub_core.proofs.hubs.Hub.close_window.Goals as goal
-use Rattle.hub_core.specs.LegalWindows.{IsLegalWindow}
 use Rattle.hub_core.specs.OpenHubs.{OpenHub}
+use Rattle.legal_days.specs.LegalWindows.{IsLegalWindow}
 use Rattle.std.proofs.Common.{subst}
 
 pub returns-in-Ok-clause-sealed : goal.returns-in-Ok-clause-sealed

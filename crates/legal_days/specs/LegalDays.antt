@@ -3,8 +3,8 @@ use Rattle.history_book.specs.Settings.{Setting}
 use Rattle.history_book.specs.declared.records.WindowRecord.{WindowRecord}
 use Rattle.home_types.specs.declared.modes.Mode.{Mode}
 use Rattle.home_types.specs.declared.worlds.Stand.{Stand}
-use Rattle.hub_core.specs.Agreement.{UpDevicesStand}
-use Rattle.hub_core.specs.LegalWindows.{IsLegalWindow}
+use Rattle.legal_days.specs.Agreement.{UpDevicesStand}
+use Rattle.legal_days.specs.LegalWindows.{IsLegalWindow}
 use Rattle.routine_reader.specs.Rosters.{kinds_of, script_runs, start_home}
 use Rattle.routine_reader.specs.declared.scripts.DeviceText.{DeviceText}
 use Rattle.routine_reader.specs.declared.scripts.Script.{Script}

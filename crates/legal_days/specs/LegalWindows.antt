@@ -14,12 +14,12 @@ use Rattle.home_types.specs.HomeStates.{stand_at}
 use Rattle.home_types.specs.declared.commands.Answer.{Answer}
 use Rattle.home_types.specs.declared.commands.Answer.TheVariants.{Down, Fine, Found, Skipped}
 use Rattle.home_types.specs.declared.commands.Command.{Command}
-use Rattle.hub_core.specs.AccountedCalls.{CallsAreAccounted}
-use Rattle.hub_core.specs.Agreement.{AgreesWithSerial}
-use Rattle.hub_core.specs.CleanReads.{ReadsAreClean}
-use Rattle.hub_core.specs.Isolation.{IsStrict}
-use Rattle.hub_core.specs.JustifiedAborts.{IsJustified, shows}
-use Rattle.hub_core.specs.Orders.{IsOrderFor}
+use Rattle.legal_days.specs.AccountedCalls.{CallsAreAccounted}
+use Rattle.legal_days.specs.Agreement.{AgreesWithSerial}
+use Rattle.legal_days.specs.CleanReads.{ReadsAreClean}
+use Rattle.legal_days.specs.Isolation.{IsStrict}
+use Rattle.legal_days.specs.JustifiedAborts.{IsJustified, shows}
+use Rattle.legal_days.specs.Orders.{IsOrderFor}
 use Rattle.lock_leasing.specs.Places.{PlacesAreScheduled}
 use Rattle.std.specs.List.{list_all}
 use Rattle.std.specs.Prelude.{Bool, IsTrue, List, [], false, is_some, length, not, true, ℕ, ◌&&◌, ◌<◌, ◌==◌, ◌∷◌, ◌≡◌}

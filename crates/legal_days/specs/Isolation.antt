@@ -5,10 +5,10 @@ use Rattle.history_book.specs.WellFormed.{each_entry}
 use Rattle.history_book.specs.declared.entries.End.TheVariants.{Committed}
 use Rattle.history_book.specs.declared.entries.Entry.{Entry}
 use Rattle.history_book.specs.declared.entries.Entry.TheVariants.{Did, Ended, Undid}
+use Rattle.lock_leasing.specs.Waits.{bars}
 use Rattle.lock_leasing.specs.Words.{stamp_of}
 use Rattle.std.specs.List.{list_all}
 use Rattle.std.specs.Prelude.{Bool, IsTrue, List, is_some, nat_lt, not, true, ℕ, ◌&&◌, ◌||◌}
-use Rattle.visibility_models.specs.Searches.{bars}
 
 -- a was placed before b
 abbrev pub is_placed_before : Reading → ℕ → ℕ → Bool

@@ -1,7 +1,7 @@
 -- Days that go on behind windows that were worked before: how the home is resumed, and where the day begins then.
 use Rattle.home_types.specs.HomeStates.{stand_at}
 use Rattle.home_types.specs.declared.worlds.Stand.{Stand}
-use Rattle.hub_core.specs.LegalDays.{Beginning, IsDeviceOf, new_day}
+use Rattle.legal_days.specs.LegalDays.{Beginning, IsDeviceOf, new_day}
 use Rattle.routine_reader.specs.declared.scripts.DeviceText.{DeviceText}
 use Rattle.routine_reader.specs.declared.scripts.Script.{Script}
 use Rattle.std.specs.Prelude.{Bool, List, None, Option, Some, false, if◌then◌else◌, length, slice_get, true, ℕ, ◌<◌, ◌≡◌}

@@ -1,0 +1,9 @@
+pub mod AccountedCalls
+pub mod Agreement
+pub mod CleanReads
+pub mod Isolation
+pub mod JustifiedAborts
+pub mod LegalDays
+pub mod LegalWindows
+pub mod Orders
+pub mod ResumedDays
