@@ -1,19 +1,8 @@
 //! A case of the table: a script, and a record to judge by it.
+use crate::verdicts::write_verdict;
 use std::alloc::{AllocError, Global};
-
-/// Why a line of the table was not added to its case.
-#[derive(Clone, Copy, Debug, PartialEq, Eq)]
-pub enum Unread {
-    /// It is no line of a case.
-    Line,
-    NoMemory,
-}
-
-impl From<AllocError> for Unread {
-    fn from(_: AllocError) -> Unread {
-        Unread::NoMemory
-    }
-}
+use std::io::{self, Write};
+use table_lines::{LineFault, TableCase, push_bytes};
 
 /// A record, and the script that it is judged by.
 #[derive(Drop)]
@@ -32,22 +21,8 @@ impl Case {
         }
     }
 
-    /// Adds what a line of the table says: a verb, and behind the first blank what it is about.
-    pub fn add(&mut self, line: &str) -> Result<(), Unread> {
-        let (verb, rest) = line.split_once(" ").unwrap_or((line, ""));
-        match verb {
-            "script" => self.set_script(rest)?,
-            "case" => self.name.push_str(rest)?,
-            "text" => self.record.extend_from_slice(rest.as_bytes())?,
-            "line" => self.add_line(rest)?,
-            "byte" => self.add_byte(rest.parse().map_err(|_| Unread::Line)?)?,
-            _ => return Err(Unread::Line),
-        }
-        Ok(())
-    }
-
     /// Forgets the name and the record. The script stays for the cases behind it.
-    pub fn end(&mut self) {
+    fn end(&mut self) {
         self.name.clear();
         self.record.clear();
     }
@@ -57,14 +32,21 @@ impl Case {
         self.script.push_str(text)?;
         Ok(())
     }
+}
 
-    fn add_byte(&mut self, byte: u8) -> Result<(), AllocError> {
-        self.record.push(byte)?;
+impl<W: Write> TableCase<W> for Case {
+    fn add(&mut self, _alloc: Global, verb: &str, rest: &str) -> Result<(), LineFault> {
+        match verb {
+            "script" => self.set_script(rest)?,
+            "case" => self.name.push_str(rest)?,
+            _ => push_bytes(&mut self.record, verb, rest)?,
+        }
         Ok(())
     }
 
-    fn add_line(&mut self, text: &str) -> Result<(), AllocError> {
-        self.record.extend_from_slice(text.as_bytes())?;
-        self.add_byte(b'\n')
+    fn play(&mut self, alloc: Global, out: &mut W) -> io::Result<()> {
+        write_verdict(alloc, self, out)?;
+        self.end();
+        Ok(())
     }
 }

@@ -1,19 +1,8 @@
 //! A case of the table: the words, the input, and the calls that fail.
+use crate::outcomes::write_outcome;
 use std::alloc::{AllocError, Global};
-
-/// Why a line of the table was not added to its case.
-#[derive(Clone, Copy, Debug, PartialEq, Eq)]
-pub enum Unread {
-    /// It is no line of a case.
-    Line,
-    NoMemory,
-}
-
-impl From<AllocError> for Unread {
-    fn from(_: AllocError) -> Unread {
-        Unread::NoMemory
-    }
-}
+use std::io::{self, Write};
+use table_lines::{LineFault, TableCase, push_byte, push_bytes};
 
 /// Which call of a source or a sink fails, 0 for none, and how many bytes a call moves at most.
 #[derive(Clone, Copy, Debug, PartialEq, Eq)]
@@ -95,9 +84,14 @@ impl Case {
         }
     }
 
-    /// Adds what a line of the table says: a verb, and behind the first blank what it is about.
-    pub fn add(&mut self, alloc: Global, before: &mut Before, line: &str) -> Result<(), Unread> {
-        let (verb, rest) = line.split_once(" ").unwrap_or((line, ""));
+    /// Adds what a line of the table says.
+    fn add_line(
+        &mut self,
+        alloc: Global,
+        before: &mut Before,
+        verb: &str,
+        rest: &str,
+    ) -> Result<(), LineFault> {
         match verb {
             "case" => self.name.push_str(rest)?,
             "word" => self.add_word(alloc, rest)?,
@@ -115,16 +109,13 @@ impl Case {
     }
 
     /// Adds more bytes of the input.
-    fn add_input(&mut self, before: &Before, verb: &str, rest: &str) -> Result<(), Unread> {
+    fn add_input(&mut self, before: &Before, verb: &str, rest: &str) -> Result<(), LineFault> {
         match verb {
-            "text" => self.input.extend_from_slice(rest.as_bytes())?,
-            "line" => self.add_line(rest)?,
-            "byte" => self.add_byte(rest.parse().map_err(|_| Unread::Line)?)?,
             "times" => self.add_times(rest)?,
             "kept" => self.input.extend_from_slice(before.kept.as_slice())?,
             "first" => self.add_first(before.kept.as_slice(), number_of(rest)?)?,
             "record" => self.input.extend_from_slice(before.record.as_slice())?,
-            _ => return Err(Unread::Line),
+            _ => push_bytes(&mut self.input, verb, rest)?,
         }
         Ok(())
     }
@@ -134,26 +125,11 @@ impl Case {
         Ok(())
     }
 
-    fn add_byte(&mut self, byte: u8) -> Result<(), AllocError> {
-        self.input.push(byte)?;
-        Ok(())
-    }
-
-    fn add_line(&mut self, text: &str) -> Result<(), AllocError> {
-        self.input.extend_from_slice(text.as_bytes())?;
-        self.add_byte(b'\n')
-    }
-
     /// Adds these bytes to the file, whose numbers stand between blanks.
-    fn add_file(&mut self, rest: &str) -> Result<(), Unread> {
+    fn add_file(&mut self, rest: &str) -> Result<(), LineFault> {
         for byte in rest.split(' ') {
-            self.add_file_byte(byte.parse().map_err(|_| Unread::Line)?)?;
+            push_byte(&mut self.file, byte)?;
         }
-        Ok(())
-    }
-
-    fn add_file_byte(&mut self, byte: u8) -> Result<(), AllocError> {
-        self.file.push(byte)?;
         Ok(())
     }
 
@@ -163,18 +139,46 @@ impl Case {
     }
 
     /// Adds the first bytes, so many.
-    fn add_first(&mut self, bytes: &[u8], count: u64) -> Result<(), Unread> {
+    fn add_first(&mut self, bytes: &[u8], count: u64) -> Result<(), LineFault> {
         let count = count.min(bytes.len() as u64) as usize;
         self.input.extend_from_slice(&bytes[..count])?;
         Ok(())
     }
 
     /// Adds a text a number of times: the number, a blank and the text.
-    fn add_times(&mut self, rest: &str) -> Result<(), Unread> {
-        let (count, text) = rest.split_once(" ").ok_or(Unread::Line)?;
+    fn add_times(&mut self, rest: &str) -> Result<(), LineFault> {
+        let (count, text) = rest.split_once(" ").ok_or(LineFault::Unknown)?;
         for _ in 0..number_of(count)? {
             self.input.extend_from_slice(text.as_bytes())?;
         }
+        Ok(())
+    }
+}
+
+/// The cases of the table: the one that is made, and what it may take from those before it.
+#[derive(Drop)]
+pub struct Cases {
+    case: Case,
+    before: Before,
+}
+
+impl Cases {
+    pub fn new(alloc: Global) -> Cases {
+        Cases {
+            case: Case::new(alloc),
+            before: Before::new(alloc),
+        }
+    }
+}
+
+impl<W: Write> TableCase<W> for Cases {
+    fn add(&mut self, alloc: Global, verb: &str, rest: &str) -> Result<(), LineFault> {
+        self.case.add_line(alloc, &mut self.before, verb, rest)
+    }
+
+    fn play(&mut self, alloc: Global, out: &mut W) -> io::Result<()> {
+        write_outcome(alloc, &self.case, &mut self.before, out)?;
+        self.case = Case::new(alloc);
         Ok(())
     }
 }
@@ -186,8 +190,8 @@ pub fn copy_of(alloc: Global, bytes: &[u8]) -> Result<Vec<u8>, AllocError> {
 }
 
 /// Reads the call that fails and the bytes of a call.
-fn behaviour_of(text: &str) -> Result<Behaviour, Unread> {
-    let (fails, most) = text.split_once(" ").ok_or(Unread::Line)?;
+fn behaviour_of(text: &str) -> Result<Behaviour, LineFault> {
+    let (fails, most) = text.split_once(" ").ok_or(LineFault::Unknown)?;
     Ok(Behaviour {
         fails: number_of(fails)?,
         most: number_of(most)?,
@@ -195,14 +199,14 @@ fn behaviour_of(text: &str) -> Result<Behaviour, Unread> {
 }
 
 /// Reads the call from which on a disk fails and the bytes that it holds.
-fn failing_of(text: &str) -> Result<Failing, Unread> {
-    let (from, room) = text.split_once(" ").ok_or(Unread::Line)?;
+fn failing_of(text: &str) -> Result<Failing, LineFault> {
+    let (from, room) = text.split_once(" ").ok_or(LineFault::Unknown)?;
     Ok(Failing {
         from: number_of(from)?,
         room: number_of(room)?,
     })
 }
 
-fn number_of(text: &str) -> Result<u64, Unread> {
-    text.parse().map_err(|_| Unread::Line)
+fn number_of(text: &str) -> Result<u64, LineFault> {
+    text.parse().map_err(|_| LineFault::Unknown)
 }
