@@ -1,4 +1,5 @@
 -- Sets of the items of a line, as a flag for each item; closed sets, and the least one that holds what it needs.
+use Rattle.home_types.specs.Numbers.{LinePlace}
 use Rattle.std.specs.List.{list_any}
 use Rattle.std.specs.Prelude.{Bool, List, Some, [], drop, false, fold, if◌then◌else◌, map, not, option_and_then, option_map, slice_get, suc, take, true, unwrap_or, zero, ℕ, ◌+◌, ◌<◌, ◌||◌, ◌∷◌, ◌≡◌, ◌++◌}
 
@@ -80,24 +81,24 @@ abbrev pub Rises : {A : Type 0} → (List Bool → A → Bool) → Type 0
 Rises {A} bars = (bs cs : List Bool) (i : A) → IsPart bs cs → bars bs i ≡ true → bars cs i ≡ true
 
 -- the items at this place and the next one exchanged, where both are there
-unfoldable pub exchanged : {A : Type 0} → ℕ → List A → List A
+unfoldable pub exchanged : {A : Type 0} → LinePlace → List A → List A
 exchanged at [] = []
 exchanged zero (i ∷ []) = i ∷ []
 exchanged zero (i ∷ j ∷ is) = j ∷ i ∷ is
 exchanged (suc at) (i ∷ is) = i ∷ exchanged at is
 
 -- items stand at this place and the next one, and do not meet
-abbrev pub are_apart : {A : Type 0} → (A → A → Bool) → ℕ → List A → Bool
+abbrev pub are_apart : {A : Type 0} → (A → A → Bool) → LinePlace → List A → Bool
 are_apart meets at items = unwrap_or (option_and_then (λ i. option_map (λ j. not (meets i j)) (slice_get items (at + 1))) (slice_get items at)) false
 
 -- the item at this place stands first, the others in their order
-unfoldable pub brought : {A : Type 0} → ℕ → List A → List A
+unfoldable pub brought : {A : Type 0} → LinePlace → List A → List A
 brought at [] = []
 brought zero (i ∷ is) = i ∷ is
 brought (suc at) (i ∷ is) = exchanged 0 (i ∷ brought at is)
 
 -- the item at the place `from` meets none of those from the place `to` on before it
-abbrev pub may_pass : {A : Type 0} → (A → A → Bool) → ℕ → ℕ → List A → Bool
+abbrev pub may_pass : {A : Type 0} → (A → A → Bool) → LinePlace → LinePlace → List A → Bool
 may_pass meets to from items = unwrap_or (option_map (λ i. not (list_any (λ j. meets j i) (drop to (take from items)))) (slice_get items from)) false
 
 -- so many of the first items are in the set

@@ -9,11 +9,12 @@ use Rattle.device_order.specs.declared.records.Stage.TheVariants.{Committed, Don
 use Rattle.device_order.specs.declared.records.Stage.{Stage}
 use Rattle.device_order.specs.declared.records.Usage.{Usage}
 use Rattle.home_types.specs.Commands.{reads}
+use Rattle.home_types.specs.Numbers.{DeviceId}
 use Rattle.home_types.specs.declared.commands.Job.{Job}
 use Rattle.home_types.specs.declared.items.Item.TheVariants.{Back, Failed, Ran}
 use Rattle.home_types.specs.declared.items.Item.{Item}
 use Rattle.home_types.specs.declared.kinds.Kind.{Kind}
-use Rattle.std.specs.Prelude.{Bool, List, None, Option, Some, [], false, if◌then◌else◌, true, ℕ, ◌==◌, ◌∷◌}
+use Rattle.std.specs.Prelude.{Bool, List, None, Option, Some, [], false, if◌then◌else◌, true, ◌==◌, ◌∷◌}
 
 -- the stage of a run at a device: by whether it is committed, whether it is doomed, and whether a command on the device has no answer
 abbrev pub stage_of : Bool → Bool → Bool → Stage
@@ -24,7 +25,7 @@ stage_of false true true = DoomedPending
 stage_of false true false = DoomedDone
 
 -- the use that a run makes of a device
-abbrev pub usage : List Kind → RunState → ℕ → Usage
+abbrev pub usage : List Kind → RunState → DeviceId → Usage
 usage kinds r d = record {
   stage = stage_of r.committed r.doomed (uses d (rest r));
   view = (device_summary kinds r d).view;
@@ -44,7 +45,7 @@ entry_if true x = Some x
 entry_if false x = None
 
 -- what an item is in the order of the device: a run with a command on it is its use, an event of the device that event, and anything else nothing
-abbrev pub entry_of : List Kind → RunStates → ℕ → Item → Option OrderEntry
+abbrev pub entry_of : List Kind → RunStates → DeviceId → Item → Option OrderEntry
 entry_of kinds states d (Ran r) = entry_if (uses d (states r.0).commands) (Used (usage kinds (states r.0) d))
 entry_of kinds states d (Failed e k) = entry_if (e.0 == d) (Occurred Failure)
 entry_of kinds states d (Back e k) = entry_if (e.0 == d) (Occurred Restart)
@@ -55,6 +56,6 @@ with_entry None xs = xs
 with_entry (Some x) xs = x ∷ xs
 
 -- the order of the device that a line makes
-unfoldable pub entries : List Kind → RunStates → ℕ → List Item → List OrderEntry
+unfoldable pub entries : List Kind → RunStates → DeviceId → List Item → List OrderEntry
 entries kinds states d [] = []
 entries kinds states d (i ∷ is) = with_entry (entry_of kinds states d i) (entries kinds states d is)

@@ -5,6 +5,7 @@ use Rattle.device_order.specs.LineEntries.{entries}
 use Rattle.device_order.specs.RunStates.{RunStates}
 use Rattle.device_order.specs.Walks.{WalkState, walk_end}
 use Rattle.home_types.specs.HomeStates.{stand_at}
+use Rattle.home_types.specs.Numbers.{DeviceId}
 use Rattle.home_types.specs.declared.items.Item.TheVariants.{Back, Failed, Ran}
 use Rattle.home_types.specs.declared.items.Item.{Item}
 use Rattle.home_types.specs.declared.kinds.Kind.{Kind}
@@ -37,11 +38,11 @@ abbrev pub walk_stand : WalkState → Stand
 walk_stand z = record { value = z.value; up = z.up }
 
 -- from here on, the serial execution of the line's order is not refused, gives the committed runs their answers, and leaves each device where the walk along its entries ends
-pub record LineIsSerial (kinds : List Kind) (runs : List Run) (states : RunStates) (s : SerialRun) (z : ℕ → WalkState) (line : List Item) : Type 0 where
+pub record LineIsSerial (kinds : List Kind) (runs : List Run) (states : RunStates) (s : SerialRun) (z : DeviceId → WalkState) (line : List Item) : Type 0 where
   pub refused : (fold (serve runs kinds) s (serial_order states line)).refused ≡ false
   pub answers : (fold (serve runs kinds) s (serial_order states line)).answers ≡ s.answers ++ served states line
   pub size : length (fold (serve runs kinds) s (serial_order states line)).home ≡ length s.home
-  pub stands : (d : ℕ) → d < length s.home → stand_at (fold (serve runs kinds) s (serial_order states line)).home d ≡ walk_stand (walk_end (z d) (entries kinds states d line))
+  pub stands : (d : DeviceId) → d < length s.home → stand_at (fold (serve runs kinds) s (serial_order states line)).home d ≡ walk_stand (walk_end (z d) (entries kinds states d line))
 
 -- each run of the line has committed
 unfoldable pub all_committed : RunStates → List Item → Bool

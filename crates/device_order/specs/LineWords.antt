@@ -5,6 +5,7 @@ use Rattle.device_order.specs.LineEntries.{usage}
 use Rattle.device_order.specs.RunStates.{RunStates, device_summary, uses}
 use Rattle.device_order.specs.Usages.{has_effect, has_touched}
 use Rattle.device_order.specs.declared.records.Usage.{Usage}
+use Rattle.home_types.specs.Numbers.{DeviceId, RunId}
 use Rattle.home_types.specs.declared.items.Item.TheVariants.{Back, Failed, Ran}
 use Rattle.home_types.specs.declared.items.Item.{Item}
 use Rattle.home_types.specs.declared.kinds.Kind.{Kind}
@@ -12,32 +13,32 @@ use Rattle.std.specs.Option.{option_map_or}
 use Rattle.std.specs.Prelude.{Bool, List, None, Option, Some, [], false, if◌then◌else◌, not, true, unwrap_or, ℕ, ◌&&◌, ◌++◌, ◌==◌, ◌||◌, ◌≡◌, ◌∷◌}
 
 -- some run of the line is so
-unfoldable pub any_run : (ℕ → Bool) → List Item → Bool
+unfoldable pub any_run : (RunId → Bool) → List Item → Bool
 any_run p [] = false
 any_run p (Ran r ∷ is) = p r.0 || any_run p is
 any_run p (Failed e k ∷ is) = any_run p is
 any_run p (Back e k ∷ is) = any_run p is
 
 -- the run uses the device, and its use of it is so
-abbrev pub at_device : List Kind → RunStates → ℕ → (Usage → Bool) → ℕ → Bool
+abbrev pub at_device : List Kind → RunStates → DeviceId → (Usage → Bool) → RunId → Bool
 at_device kinds states d p r = uses d (states r).commands && p (usage kinds (states r) d)
 
 -- no run of the line touched the device, and no event of it stands there
-unfoldable pub is_calm_line : List Kind → RunStates → ℕ → List Item → Bool
+unfoldable pub is_calm_line : List Kind → RunStates → DeviceId → List Item → Bool
 is_calm_line kinds states d [] = true
 is_calm_line kinds states d (Ran r ∷ is) = not (at_device kinds states d has_touched r.0) && is_calm_line kinds states d is
 is_calm_line kinds states d (Failed e k ∷ is) = not (e.0 == d) && is_calm_line kinds states d is
 is_calm_line kinds states d (Back e k ∷ is) = not (e.0 == d) && is_calm_line kinds states d is
 
 -- the run with the effective write on the device: the last that wrote it and is not undone; the given one where the line has none
-unfoldable pub effective_writer : List Kind → RunStates → ℕ → Option ℕ → List Item → Option ℕ
+unfoldable pub effective_writer : List Kind → RunStates → DeviceId → Option RunId → List Item → Option RunId
 effective_writer kinds states d o [] = o
 effective_writer kinds states d o (Ran r ∷ is) = effective_writer kinds states d (if at_device kinds states d has_effect r.0 then Some r.0 else o) is
 effective_writer kinds states d o (Failed e k ∷ is) = effective_writer kinds states d o is
 effective_writer kinds states d o (Back e k ∷ is) = effective_writer kinds states d o is
 
 -- the value at which the device is to stand: of the effective write, else the first one
-abbrev pub standing_value_on : List Kind → RunStates → ℕ → ℕ → List Item → ℕ
+abbrev pub standing_value_on : List Kind → RunStates → DeviceId → ℕ → List Item → ℕ
 standing_value_on kinds states d first line = option_map_or (λ r. unwrap_or (device_summary kinds (states r) d).wrote first) (effective_writer kinds states d None line) first
 
 -- each run stands in the line once
@@ -48,7 +49,7 @@ RunsAreDistinct (Failed e k ∷ is) = RunsAreDistinct is
 RunsAreDistinct (Back e k ∷ is) = RunsAreDistinct is
 
 -- a line cut at a run
-pub record CutAt (r : ℕ) (line : List Item) : Type 0 where
+pub record CutAt (r : RunId) (line : List Item) : Type 0 where
   pub front : List Item
   pub back : List Item
   pub at : line ≡ front ++ Ran (run_no r) ∷ back

@@ -2,6 +2,7 @@
 use Rattle.command_rules.specs.Rosters.{is_on}
 use Rattle.device_order.specs.Summaries.{Answered, AnswersFit, AreHomed, DeviceSummary, NoneFails, Summary, blank, summary}
 use Rattle.device_order.specs.declared.records.Grip.{Grip}
+use Rattle.home_types.specs.Numbers.{DeviceId, RunId}
 use Rattle.home_types.specs.declared.commands.Answer.{Answer}
 use Rattle.home_types.specs.declared.commands.Command.{Command}
 use Rattle.home_types.specs.declared.kinds.Kind.{Kind}
@@ -14,12 +15,12 @@ pub record RunState : Type 0 where
   pub answers : List Answer
   pub committed : Bool
   pub doomed : Bool
-  pub undid : ℕ → Bool
-  pub grip : ℕ → Grip
+  pub undid : DeviceId → Bool
+  pub grip : DeviceId → Grip
 
 -- of each run, by its number
 abbrev pub RunStates : Type 0
-RunStates = ℕ → RunState
+RunStates = RunId → RunState
 
 -- the commands that have an answer, with it, ..
 unfoldable pub paired : List Command → List Answer → List Answered
@@ -34,7 +35,7 @@ remaining (c ∷ cs) [] = c ∷ cs
 remaining (c ∷ cs) (a ∷ xs) = remaining cs xs
 
 -- a command is on the device
-abbrev pub uses : ℕ → List Command → Bool
+abbrev pub uses : DeviceId → List Command → Bool
 uses d cs = list_any (is_on d) cs
 
 -- its commands that have an answer, with it
@@ -50,7 +51,7 @@ abbrev pub summary_of : List Kind → RunState → Summary
 summary_of kinds r = summary kinds blank (answered r)
 
 -- what its answers on the device say
-abbrev pub device_summary : List Kind → RunState → ℕ → DeviceSummary
+abbrev pub device_summary : List Kind → RunState → DeviceId → DeviceSummary
 device_summary kinds r d = (summary_of kinds r).on d
 
 -- all commands of the run are answered, each answer fits those before it, and no must command failed

@@ -3,6 +3,7 @@ use Rattle.device_order.specs.Usages.{is_down, is_up}
 use Rattle.home_types.specs.Commands.{driven, fails, holds, reads, register_after}
 use Rattle.home_types.specs.HomeStates.{stand_at}
 use Rattle.home_types.specs.Kinds.{kind_at}
+use Rattle.home_types.specs.Numbers.{DeviceId}
 use Rattle.home_types.specs.declared.commands.Answer.TheVariants.{Down, Fine, Found, Skipped}
 use Rattle.home_types.specs.declared.commands.Answer.{Answer}
 use Rattle.home_types.specs.declared.commands.Command.{Command}
@@ -34,7 +35,7 @@ pub record DeviceSummary : Type 0 where
 -- what all answers of a run say: its register, and each device
 pub record Summary : Type 0 where
   pub register : ℕ
-  pub on : ℕ → DeviceSummary
+  pub on : DeviceId → DeviceSummary
 
 -- a device on which nothing is answered
 abbrev pub unanswered : DeviceSummary
@@ -109,7 +110,7 @@ pub record Meets (s : Stand) (t : DeviceSummary) : Type 0 where
 
 -- each device of the home is as the summary says
 abbrev pub MeetsHome : List Stand → Summary → Type 0
-MeetsHome home s = (d : ℕ) → d < length home → Meets (stand_at home d) (s.on d)
+MeetsHome home s = (d : DeviceId) → d < length home → Meets (stand_at home d) (s.on d)
 
 -- a device with a run's last write put over its value
 abbrev pub overwritten : Stand → Option ℕ → Stand

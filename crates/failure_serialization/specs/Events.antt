@@ -1,6 +1,7 @@
 -- Where an event of a device stands in the line, and which run its failure loses: as the accesses to the device, the line and the history's dooms tell.
 use Rattle.history_book.specs.Books.{doom_of}
 use Rattle.history_book.specs.declared.entries.Kept.{Kept}
+use Rattle.home_types.specs.Numbers.{LinePlace}
 use Rattle.home_types.specs.declared.commands.View.TheVariants.{Down, Up}
 use Rattle.home_types.specs.declared.commands.View.{View}
 use Rattle.home_types.specs.declared.items.Item.TheVariants.{Ran}
@@ -8,7 +9,7 @@ use Rattle.home_types.specs.declared.numbers.RunNo.{RunNo}
 use Rattle.lineage_table.specs.Accesses.{is_acquired, is_scheduled}
 use Rattle.lineage_table.specs.declared.accesses.Access.{Access}
 use Rattle.serial_line.specs.Marks.{Mark, place_of}
-use Rattle.std.specs.Prelude.{Bool, List, None, Option, Some, false, find, is_none, length, option_map, true, unwrap_or, ℕ, ◌&&◌, ◌==◌, ◌||◌}
+use Rattle.std.specs.Prelude.{Bool, List, None, Option, Some, false, find, is_none, length, option_map, true, unwrap_or, ◌&&◌, ◌==◌, ◌||◌}
 
 -- the history does not doom the run of the access
 abbrev pub is_sound : List Kept → Access → Bool
@@ -29,12 +30,12 @@ abbrev pub first_waiting : List Kept → Option RunNo → List Access → Option
 first_waiting history first accesses = option_map (λ x. x.run) (find (waits history first) accesses)
 
 -- the place of this run, the end of the line where there is none
-abbrev pub place_or_end : Option RunNo → List Mark → ℕ
+abbrev pub place_or_end : Option RunNo → List Mark → LinePlace
 place_or_end None line = length line
 place_or_end (Some r) line = unwrap_or (place_of (Ran r) line) (length line)
 
 -- immediately before the first run that waits, else at the end
-abbrev pub event_place : List Kept → Option RunNo → List Access → List Mark → ℕ
+abbrev pub event_place : List Kept → Option RunNo → List Access → List Mark → LinePlace
 event_place history first accesses line = place_or_end (first_waiting history first accesses) line
 
 -- The run that is lost

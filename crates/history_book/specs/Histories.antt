@@ -17,6 +17,7 @@ use Rattle.history_book.specs.declared.entries.Kept.{Kept}
 use Rattle.history_book.specs.declared.entries.Made.{Made}
 use Rattle.home_types.specs.Commands.{driven, register_after}
 use Rattle.home_types.specs.Kinds.{kind_at}
+use Rattle.home_types.specs.Numbers.{ActorId, CommandIndex, DeviceId, LinePlace, Moment, RunId}
 use Rattle.home_types.specs.declared.commands.Answer.{Answer}
 use Rattle.home_types.specs.declared.commands.Answer.TheVariants.{Down, Fine, Found, Skipped}
 use Rattle.home_types.specs.declared.commands.Command.{Command}
@@ -58,12 +59,12 @@ abbrev pub more_if : {A : Type 0} → Bool → A → List A → List A
 more_if b x xs = if b then xs ++ x ∷ [] else xs
 
 -- the line when the run has ended: a run that is aborted leaves it
-abbrev pub line_after : ℕ → End → List Item → List Item
+abbrev pub line_after : RunId → End → List Item → List Item
 line_after r Committed line = line
 line_after r (Aborted cause) line = without r line
 
 -- the moment when the cause came up
-abbrev pub moment_of : Cause → ℕ → ℕ
+abbrev pub moment_of : Cause → Moment → Moment
 moment_of (MustDown c) moment = moment
 moment_of (Refuted c x) moment = moment
 moment_of (Lost d) moment = moment
@@ -71,10 +72,10 @@ moment_of (Revoked lender d deadline m) moment = max moment m
 moment_of (DownAtEnd d) moment = moment
 
 -- one entry more, that says this of its run
-abbrev pub with_run : Reading → ℕ → OfRun → Reading
+abbrev pub with_run : Reading → RunId → OfRun → Reading
 with_run n r q = record n { run = put n.run r q; size = n.size + 1 }
 
-abbrev pub with_placed : Reading → RunNo → ℕ → ℕ → List Planned → Split → Reading
+abbrev pub with_placed : Reading → RunNo → LinePlace → Moment → List Planned → Split → Reading
 with_placed n r at m planned s =
     record (with_run n r.0 (record (n.run r.0) { placed = Some (record { place = at; moment = m; stamp = n.size }); planned = planned })) {
       moment = max n.moment m;
@@ -82,7 +83,7 @@ with_placed n r at m planned s =
     }
 
 -- the run's command c, of the number k, is answered
-abbrev pub with_answer : Setting → Reading → ℕ → Command → ℕ → Answer → Reading
+abbrev pub with_answer : Setting → Reading → RunId → Command → CommandIndex → Answer → Reading
 with_answer w n r c k a =
     record (with_run n r (record q {
       answers = q.answers ++ a ∷ [];
@@ -129,14 +130,14 @@ line_of w history = (reading w history).line
 abbrev pub entries_of : List Kept → List Entry
 entries_of history = map (λ k. k.entry) history
 
-abbrev pub kept_by : ℕ → List Entry → List Kept
+abbrev pub kept_by : ActorId → List Entry → List Kept
 kept_by maker entries = map (λ e. record { maker = maker; entry = e }) entries
 
 -- the entries of a step, in order
 abbrev pub entries_made : Made → List Entry
 entries_made made = option_to_list made.a ++ option_to_list made.b ++ option_to_list made.c
 
-abbrev pub is_fall_of : ℕ → Entry → Bool
+abbrev pub is_fall_of : DeviceId → Entry → Bool
 is_fall_of d (Fell e) = e.0 == d
 is_fall_of d (Arrived r m) = false
 is_fall_of d (Placed r at m) = false

@@ -6,6 +6,7 @@ use Rattle.history_book.specs.declared.entries.End.{End}
 use Rattle.history_book.specs.declared.entries.End.TheVariants.{Aborted, Committed}
 use Rattle.home_types.specs.Commands.{holds}
 use Rattle.home_types.specs.HomeStates.{stand_at}
+use Rattle.home_types.specs.Numbers.{CommandIndex, DeviceId, LinePlace, Moment, RunId}
 use Rattle.home_types.specs.declared.commands.Answer.{Answer}
 use Rattle.home_types.specs.declared.commands.Answer.TheVariants.{Down, Fine, Found, Skipped}
 use Rattle.home_types.specs.declared.commands.Command.{Command}
@@ -28,18 +29,18 @@ pub record OnDevice : Type 0 where
 
 -- the planned times of one command, in ms
 pub record Planned : Type 0 where
-  pub device : ℕ
-  pub from : ℕ
-  pub to : ℕ
+  pub device : DeviceId
+  pub from : Moment
+  pub to : Moment
 
 pub record PlacedAt : Type 0 where
-  pub place : ℕ
-  pub moment : ℕ
+  pub place : LinePlace
+  pub moment : Moment
   -- the number of entries before it
   pub stamp : ℕ
 
 pub record OfRun : Type 0 where
-  pub arrived : Option ℕ
+  pub arrived : Option Moment
   pub placed : Option PlacedAt
   pub planned : List Planned
   pub answers : List Answer
@@ -48,30 +49,30 @@ pub record OfRun : Type 0 where
   -- a command was answered after that
   pub answered_doomed : Bool
   pub ended : Option End
-  pub on : ℕ → OnDevice
+  pub on : DeviceId → OnDevice
 
 -- what stands in a device's own log
 pub data Mark : Type 0 where
   -- this run had its first access on the device
-  First : ℕ → Mark
+  First : RunId → Mark
   -- the device failed or came back
   Event : Item → Mark
   -- the last command of this run on the device was answered
-  Last : ℕ → Mark
+  Last : RunId → Mark
 
 pub record Reading : Type 0 where
-  pub run : ℕ → OfRun
+  pub run : RunId → OfRun
   -- counted up
-  pub up : ℕ → Bool
+  pub up : DeviceId → Bool
   -- how often the device failed, and came back
-  pub fell : ℕ → ℕ
-  pub rose : ℕ → ℕ
+  pub fell : DeviceId → ℕ
+  pub rose : DeviceId → ℕ
   -- the value of the last write that worked, in history order
-  pub last : ℕ → ℕ
+  pub last : DeviceId → ℕ
   -- the serialization line
   pub line : List Item
-  pub log : ℕ → List Mark
-  pub moment : ℕ
+  pub log : DeviceId → List Mark
+  pub moment : Moment
   -- the number of entries
   pub size : ℕ
 
@@ -137,71 +138,71 @@ same_answer a b = false
 -- Runs
 
 -- placed and not ended
-abbrev pub is_live : Reading → ℕ → Bool
+abbrev pub is_live : Reading → RunId → Bool
 is_live n r = is_some (n.run r).placed && is_none (n.run r).ended
 
-abbrev pub is_doomed : Reading → ℕ → Bool
+abbrev pub is_doomed : Reading → RunId → Bool
 is_doomed n r = is_some (n.run r).doomed
 
 abbrev pub is_committing : End → Bool
 is_committing Committed = true
 is_committing (Aborted cause) = false
 
-abbrev pub is_committed : Reading → ℕ → Bool
+abbrev pub is_committed : Reading → RunId → Bool
 is_committed n r = unwrap_or (option_map is_committing (n.run r).ended) false
 
 -- the number of its next command
-abbrev pub next_of : Reading → ℕ → ℕ
+abbrev pub next_of : Reading → RunId → CommandIndex
 next_of n r = length (n.run r).answers
 
-abbrev pub next_command : Setting → Reading → ℕ → Option Command
+abbrev pub next_command : Setting → Reading → RunId → Option Command
 next_command w n r = slice_get (commands_of w.runs r) (next_of n r)
 
-abbrev pub is_next_on : Setting → Reading → ℕ → ℕ → Bool
+abbrev pub is_next_on : Setting → Reading → RunId → DeviceId → Bool
 is_next_on w n r d = unwrap_or (option_map (is_on d) (next_command w n r)) false
 
 -- .. and the guard of that command holds of its register
-abbrev pub asks_on : Setting → Reading → ℕ → ℕ → Bool
+abbrev pub asks_on : Setting → Reading → RunId → DeviceId → Bool
 asks_on w n r d = unwrap_or (option_map (λ c. is_on d c && holds c.when (n.run r).register) (next_command w n r)) false
 
 -- Runs and devices
 
-abbrev pub view_of : Reading → ℕ → ℕ → Option Bool
+abbrev pub view_of : Reading → RunId → DeviceId → Option Bool
 view_of n r d = ((n.run r).on d).view
 
 -- it has an answer on the device that counts as an access
-abbrev pub did : Reading → ℕ → ℕ → Bool
+abbrev pub did : Reading → RunId → DeviceId → Bool
 did n r d = is_some (view_of n r d)
 
-abbrev pub sees_down : Reading → ℕ → ℕ → Bool
+abbrev pub sees_down : Reading → RunId → DeviceId → Bool
 sees_down n r d = unwrap_or (option_map not (view_of n r d)) false
 
-abbrev pub sees_up : Reading → ℕ → ℕ → Bool
+abbrev pub sees_up : Reading → RunId → DeviceId → Bool
 sees_up n r d = unwrap_or (view_of n r d) false
 
 -- a command of it on the device is still pending: it has no answer yet
-abbrev pub pends : Setting → Reading → ℕ → ℕ → Bool
+abbrev pub pends : Setting → Reading → RunId → DeviceId → Bool
 pends w n r d = touches_from w.runs r d (next_of n r)
 
-abbrev pub has_written : Reading → ℕ → ℕ → Bool
+abbrev pub has_written : Reading → RunId → DeviceId → Bool
 has_written n r d = is_some ((n.run r).on d).wrote
 
 -- live, not doomed, and a command on the device is pending
-abbrev pub is_open : Setting → Reading → ℕ → ℕ → Bool
+abbrev pub is_open : Setting → Reading → RunId → DeviceId → Bool
 is_open w n r d = is_live n r && not (is_doomed n r) && pends w n r d
 
 -- its commands on the device are all answered, and none of the answers was an access
-abbrev pub passed_by : Setting → Reading → ℕ → ℕ → Bool
+abbrev pub passed_by : Setting → Reading → RunId → DeviceId → Bool
 passed_by w n r d = touches w.runs r d && not (pends w n r d) && not (did n r d)
 
 -- The log of a device
 
-abbrev pub is_first : ℕ → Mark → Bool
+abbrev pub is_first : RunId → Mark → Bool
 is_first r (First q) = q == r
 is_first r (Event i) = false
 is_first r (Last q) = false
 
-abbrev pub is_last : ℕ → Mark → Bool
+abbrev pub is_last : RunId → Mark → Bool
 is_last r (First q) = false
 is_last r (Event i) = false
 is_last r (Last q) = q == r
@@ -222,7 +223,7 @@ is_fall (Event i) = is_failure i
 is_fall (Last r) = false
 
 -- the run's span in the log: what stands behind its first access, up to the answer to its last command
-abbrev pub span_of : ℕ → List Mark → List Mark
+abbrev pub span_of : RunId → List Mark → List Mark
 span_of r [] = []
 span_of r (m ∷ ms) = if is_first r m then take_while (λ x. not (is_last r x)) ms else span_of r ms
 

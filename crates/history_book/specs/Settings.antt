@@ -1,5 +1,6 @@
 -- What is fixed while a window is open: its runs, its mode, and the kinds and the first state of the home's devices.
 use Rattle.command_rules.specs.Rosters.{Run, touches}
+use Rattle.home_types.specs.Numbers.{DeviceId, RunId}
 use Rattle.home_types.specs.declared.kinds.Kind.{Kind}
 use Rattle.home_types.specs.declared.modes.Mode.{Mode}
 use Rattle.home_types.specs.declared.modes.Scheduler.{Scheduler}
@@ -8,7 +9,7 @@ use Rattle.home_types.specs.declared.modes.Visibility.{Visibility}
 use Rattle.home_types.specs.declared.modes.Visibility.TheVariants.{Eventual, Global, Partitioned, Weak}
 use Rattle.home_types.specs.declared.worlds.Stand.{Stand}
 use Rattle.std.specs.List.{range_with_len}
-use Rattle.std.specs.Prelude.{Bool, List, false, filter, length, nat_lt, true, ℕ}
+use Rattle.std.specs.Prelude.{Bool, List, false, filter, length, nat_lt, true}
 
 pub record Setting : Type 0 where
   pub runs : List Run
@@ -17,18 +18,18 @@ pub record Setting : Type 0 where
   pub first : List Stand
 
 -- the numbers of the runs, from 1
-abbrev pub run_numbers : Setting → List ℕ
+abbrev pub run_numbers : Setting → List RunId
 run_numbers w = range_with_len 1 (length w.runs)
 
 -- the numbers of the home's devices, from 0
-abbrev pub device_numbers : Setting → List ℕ
+abbrev pub device_numbers : Setting → List DeviceId
 device_numbers w = range_with_len 0 (length w.first)
 
-abbrev pub is_device : Setting → ℕ → Bool
+abbrev pub is_device : Setting → DeviceId → Bool
 is_device w d = nat_lt d (length w.first)
 
 -- the devices of a run, ascending
-abbrev pub devices_of : Setting → ℕ → List ℕ
+abbrev pub devices_of : Setting → RunId → List DeviceId
 devices_of w r = filter (touches w.runs r) (device_numbers w)
 
 abbrev pub is_weak : Mode → Bool

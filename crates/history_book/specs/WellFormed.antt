@@ -10,10 +10,11 @@ use Rattle.history_book.specs.declared.entries.Entry.{Entry}
 use Rattle.history_book.specs.declared.entries.Entry.TheVariants.{Arrived, Did, Doomed, Ended, Fell, Placed, Rose, Undid}
 use Rattle.home_types.specs.Commands.{holds, reads, writes}
 use Rattle.home_types.specs.Kinds.{has_value, kind_at}
+use Rattle.home_types.specs.Numbers.{RunId}
 use Rattle.home_types.specs.declared.commands.Answer.{Answer}
 use Rattle.home_types.specs.declared.commands.Answer.TheVariants.{Down, Fine, Found, Skipped}
 use Rattle.home_types.specs.declared.commands.Command.{Command}
-use Rattle.std.specs.Prelude.{Bool, IsTrue, List, [], false, is_none, is_some, length, nat_le, nat_lt, not, option_map, true, unwrap_or, ℕ, ⊤, ◌&&◌, ◌==◌, ◌∷◌}
+use Rattle.std.specs.Prelude.{Bool, IsTrue, List, [], false, is_none, is_some, length, nat_le, nat_lt, not, option_map, true, unwrap_or, ⊤, ◌&&◌, ◌==◌, ◌∷◌}
 
 -- the test holds of each entry and the reading of what stands before it
 abbrev pub along : Setting → (Reading → Entry → Bool) → Reading → List Entry → Bool
@@ -37,19 +38,19 @@ same_cause (DownAtEnd d) (DownAtEnd e) = d.0 == e.0
 same_cause a b = false
 
 -- a run of the window, placed and not ended
-abbrev pub may_act : Setting → Reading → ℕ → Bool
+abbrev pub may_act : Setting → Reading → RunId → Bool
 may_act w n r = is_run w.runs r && is_live n r
 
 -- a write is answered Fine, a read with a value of its device, and each of them Down; it is Skipped exactly where its guard does not hold
 -- of the run's register, and a doomed run skips none
-abbrev pub suits : Setting → Reading → ℕ → Command → Answer → Bool
+abbrev pub suits : Setting → Reading → RunId → Command → Answer → Bool
 suits w n r c Fine = holds c.when (n.run r).register && writes c.job
 suits w n r c (Found x) = holds c.when (n.run r).register && reads c.job && has_value (kind_at w.kinds c.device.0) x
 suits w n r c Down = holds c.when (n.run r).register
 suits w n r c Skipped = not (holds c.when (n.run r).register) && not (is_doomed n r)
 
 -- the cause names commands of the run, and devices and runs that there are; a revocation's moment is not before the last one
-abbrev pub cause_fits : Setting → Reading → ℕ → Cause → Bool
+abbrev pub cause_fits : Setting → Reading → RunId → Cause → Bool
 cause_fits w n r (MustDown c) = nat_lt c (length (commands_of w.runs r))
 cause_fits w n r (Refuted c x) = nat_lt c (length (commands_of w.runs r))
 cause_fits w n r (Lost d) = is_device w d.0
@@ -57,7 +58,7 @@ cause_fits w n r (Revoked lender d deadline m) = is_run w.runs lender.0 && is_de
 cause_fits w n r (DownAtEnd d) = is_device w d.0
 
 -- the run was doomed for this cause
-abbrev pub is_cause_of : Reading → ℕ → Cause → Bool
+abbrev pub is_cause_of : Reading → RunId → Cause → Bool
 is_cause_of n r cause = unwrap_or (option_map (same_cause cause) (n.run r).doomed) false
 
 -- the entry may stand after what was read

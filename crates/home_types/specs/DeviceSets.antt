@@ -1,5 +1,6 @@
 -- The set of devices that a few words of bits stand for.
 use Rattle.home_types.specs.Limits.{most_devices}
+use Rattle.home_types.specs.Numbers.{DeviceId}
 use Rattle.std.specs.FinSet as set
 use Rattle.std.specs.Int.{bit_at}
 use Rattle.std.specs.List.{range_with_len}
@@ -11,7 +12,7 @@ abbrev pub Devices : Type 0
 Devices = set.FinSet nat_cmp
 
 -- the device's bit is set
-abbrev pub has_bit : List ℕ → ℕ → Bool
+abbrev pub has_bit : List ℕ → DeviceId → Bool
 has_bit words d = bit_at (slice_index words (d / 64)) (d % 64) == 1
 
 -- the devices of a home whose bits are set
@@ -24,7 +25,7 @@ HasBit word = (k : ℕ) × (k < 64) × (bit_at word k ≡ 1)
 
 -- some device is in both
 abbrev pub Meet : Devices → Devices → Type 0
-Meet a b = (d : ℕ) × (set.contains a d ≡ true) × (set.contains b d ≡ true)
+Meet a b = (d : DeviceId) × (set.contains a d ≡ true) × (set.contains b d ≡ true)
 
 -- the smallest number from this one on that passes the test; none where none passes
 abbrev pub IsFirstFrom : (ℕ → Bool) → ℕ → Option ℕ → Type 0

@@ -1,4 +1,5 @@
 -- Which values a device has.
+use Rattle.home_types.specs.Numbers.{DeviceId}
 use Rattle.home_types.specs.declared.kinds.Kind.TheVariants.{Range, States}
 use Rattle.home_types.specs.declared.kinds.Kind.{Kind}
 use Rattle.std.specs.Prelude.{Bool, List, max, min, nat_le, nat_lt, slice_index_or, ℕ, ◌&&◌, ◌-◌}
@@ -14,5 +15,5 @@ nearest (States n) v = min v (n - 1)
 nearest (Range low high) v = max (min v high) low
 
 -- the kind of the device with this number
-abbrev pub kind_at : List Kind → ℕ → Kind
+abbrev pub kind_at : List Kind → DeviceId → Kind
 kind_at kinds d = slice_index_or kinds d (States 0)

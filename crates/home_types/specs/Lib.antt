@@ -1,4 +1,5 @@
 pub mod Limits
+pub mod Numbers
 pub mod Listed
 pub mod Kinds
 pub mod HomeStates

@@ -5,6 +5,7 @@ use Rattle.command_words.specs.declared.command_lines.Options.{Options}
 use Rattle.history_book.specs.Settings.{Setting}
 use Rattle.history_book.specs.declared.records.WindowRecord.{WindowRecord}
 use Rattle.home_types.specs.Listed.{Listed}
+use Rattle.home_types.specs.Numbers.{DeviceId}
 use Rattle.hub_commands.specs.Checks.{CheckEnds}
 use Rattle.hub_commands.specs.Days.{Closing, boarded, plain}
 use Rattle.hub_commands.specs.Finishes.{DayEnds, InputFails, InputIsStarved, IsRead, IsRefused, IsUnread, IsUnwritten, Reads, Shown, Writes}
@@ -22,7 +23,7 @@ AsksFor plain line options = (line ≡ Some (Replay options)) ⊎ (line ≡ Some
 AsksFor boarded line options = line ≡ Some (Watch options)
 
 -- the day of the script that was read is played
-pub record DayIsPlayed {D : Type 0} (works : Setting → WindowText → WindowRecord → (ℕ → ℕ) → Type 0) (shown : Shown D) (line : Option CommandLine) (source : Reads) (sink : Writes) (day : Option (Day D)) (fault : Option Fault) : Type 0 where
+pub record DayIsPlayed {D : Type 0} (works : Setting → WindowText → WindowRecord → (DeviceId → ℕ) → Type 0) (shown : Shown D) (line : Option CommandLine) (source : Reads) (sink : Writes) (day : Option (Day D)) (fault : Option Fault) : Type 0 where
   pub closing : Closing
   pub options : Options
   pub asked : AsksFor closing line options
@@ -52,7 +53,7 @@ pub record TrialIsMade {D : Type 0} (shown : Shown D) (line : Option CommandLine
   pub ends : TrialEnds shown number sink day fault
 
 -- how a call ends that works windows in this way, by its fault, for the command line that it takes the words for, if any
-abbrev pub CallEnds : {D : Type 0} → (Setting → WindowText → WindowRecord → (ℕ → ℕ) → Type 0) → Shown D → Option CommandLine → Reads → Writes → Option (Day D) → Option Fault → Type 0
+abbrev pub CallEnds : {D : Type 0} → (Setting → WindowText → WindowRecord → (DeviceId → ℕ) → Type 0) → Shown D → Option CommandLine → Reads → Writes → Option (Day D) → Option Fault → Type 0
 CallEnds works shown line source sink day None =
     DayIsPlayed works shown line source sink day None ⊎ (RecordIsChecked line source sink day None ⊎ TrialIsMade shown line source sink day None)
 CallEnds works shown line source sink day (Some (Refuses fault)) =
@@ -77,4 +78,4 @@ pub record IsProbedInAll {D : Type 0} (probes : D → ℕ) (source : Reads) (o :
   pub given : o ≡ Some day
   pub devices : Listed D
   pub there : day.devices ≡ Some devices
-  pub probed : (d : ℕ) (device : D) → slice_get devices.items d ≡ Some device → probes device ≡ sum_by (λ window. window.probes) script.windows.items
+  pub probed : (d : DeviceId) (device : D) → slice_get devices.items d ≡ Some device → probes device ≡ sum_by (λ window. window.probes) script.windows.items

@@ -6,6 +6,7 @@ use Rattle.history_book.specs.Settings.{Setting}
 use Rattle.history_book.specs.declared.entries.End.TheVariants.{Committed}
 use Rattle.history_book.specs.declared.records.WindowRecord.{WindowRecord}
 use Rattle.home_types.specs.HomeStates.{stand_at}
+use Rattle.home_types.specs.Numbers.{DeviceId, RunId}
 use Rattle.home_types.specs.declared.modes.Mode.{Mode}
 use Rattle.home_types.specs.declared.modes.Scheduler.TheVariants.{Fcfs}
 use Rattle.hub_commands.specs.Boards.{board_text}
@@ -22,7 +23,7 @@ use Rattle.std.specs.Prelude.{Bool, List, Option, Some, [], false, if◌then◌e
 -- the course of a day: where it begins, which devices are down there, and the lines that stand between the head and its windows
 pub record Course : Type 0 where
   pub begins : Beginning
-  pub down : ℕ → Bool
+  pub down : DeviceId → Bool
   pub above : List ℕ
 
 -- a script's day, from its start
@@ -42,13 +43,13 @@ abbrev pub script_of : Course → Script
 script_of course = to_come course.begins
 
 -- each record is that of a window that was worked in this way, with so many probes of each device, in order
-pub record AreWorkedOn (works : Setting → WindowText → WindowRecord → (ℕ → ℕ) → Type 0) (course : Course) (mode : Mode) (records : List WindowRecord) (takes : List (ℕ → ℕ)) : Type 0 where
+pub record AreWorkedOn (works : Setting → WindowText → WindowRecord → (DeviceId → ℕ) → Type 0) (course : Course) (mode : Mode) (records : List WindowRecord) (takes : List (DeviceId → ℕ)) : Type 0 where
   pub count : length takes ≡ length records
   pub each : (k : ℕ) (window : WindowText) (closed : WindowRecord) (taken : ℕ → ℕ) → slice_get (script_of course).windows.items k ≡ Some window → slice_get records k ≡ Some closed → slice_get takes k ≡ Some taken
       → works (setting_from course.begins mode records k) window closed taken
 
 -- the probes that were taken of the device in all these windows
-abbrev pub probes_taken : List (ℕ → ℕ) → ℕ → ℕ
+abbrev pub probes_taken : List (DeviceId → ℕ) → DeviceId → ℕ
 probes_taken takes d = sum_by (λ taken. taken d) takes
 
 -- in each window every run has ended, and where runs are served as they come and no device fails in it each that has no must `check` has committed
@@ -57,18 +58,18 @@ AllHaveEndedOn course mode records = (k : ℕ) (closed : WindowRecord) → slice
 
 -- no device was down as the day began, and none's faults rose in these windows
 abbrev pub NoneHasFailedOn : Course → List WindowRecord → Type 0
-NoneHasFailedOn course records = (d : ℕ) → d < length course.begins.script.devices.items → one_more_where (course.down d) (total (λ closed. closed.faults.items) records d) ≡ 0
+NoneHasFailedOn course records = (d : DeviceId) → d < length course.begins.script.devices.items → one_more_where (course.down d) (total (λ closed. closed.faults.items) records d) ≡ 0
 
 -- each run of the window that has no must `check` has committed
 abbrev pub HaveCommitted : Setting → WindowRecord → Type 0
-HaveCommitted w closed = (r : ℕ) → is_run w.runs r ≡ true → has_must_check w.runs r ≡ false → ((reading w (history_of closed)).run r).ended ≡ Some Committed
+HaveCommitted w closed = (r : RunId) → is_run w.runs r ≡ true → has_must_check w.runs r ≡ false → ((reading w (history_of closed)).run r).ended ≡ Some Committed
 
 -- the same of each of these windows
 abbrev pub AllHaveCommittedOn : Course → Mode → List WindowRecord → Type 0
 AllHaveCommittedOn course mode records = (k : ℕ) (closed : WindowRecord) → slice_get records k ≡ Some closed → HaveCommitted (setting_from course.begins mode records k) closed
 
 -- the windows so far are legal, each was worked in this way with these probes, and every run has ended; where runs are served as they come, no device was down as the day began and none has failed since, each run that has no must `check` has committed
-pub record WindowsArePlayedOn (works : Setting → WindowText → WindowRecord → (ℕ → ℕ) → Type 0) (course : Course) (mode : Mode) (records : List WindowRecord) (takes : List (ℕ → ℕ)) : Type 0 where
+pub record WindowsArePlayedOn (works : Setting → WindowText → WindowRecord → (DeviceId → ℕ) → Type 0) (course : Course) (mode : Mode) (records : List WindowRecord) (takes : List (DeviceId → ℕ)) : Type 0 where
   pub count : length records ≤ length (script_of course).windows.items
   pub legal : AreLegalFrom course.begins mode records
   pub worked : AreWorkedOn works course mode records takes
@@ -76,12 +77,12 @@ pub record WindowsArePlayedOn (works : Setting → WindowText → WindowRecord �
   pub commits : mode.scheduler ≡ Fcfs → NoneHasFailedOn course records → AllHaveCommittedOn course mode records
 
 -- the devices were probed as often as probes were taken of them in the windows
-abbrev pub DevicesAreProbed : {D : Type 0} → (D → ℕ) → List (ℕ → ℕ) → List D → Type 0
-DevicesAreProbed {D} probes takes devices = (d : ℕ) (device : D) → slice_get devices d ≡ Some device → probes device ≡ probes_taken takes d
+abbrev pub DevicesAreProbed : {D : Type 0} → (D → ℕ) → List (DeviceId → ℕ) → List D → Type 0
+DevicesAreProbed {D} probes takes devices = (d : DeviceId) (device : D) → slice_get devices d ≡ Some device → probes device ≡ probes_taken takes d
 
 -- the home after the windows so far
-pub record IsUnderWayOn {D : Type 0} (works : Setting → WindowText → WindowRecord → (ℕ → ℕ) → Type 0) (tag : D → ℕ) (plan : D → Option (List (ℕ × ℕ))) (stands turns probes faults : D → ℕ) (course : Course) (mode : Mode) (home : HomeState D) (records : List WindowRecord) : Type 0 where
-  pub takes : List (ℕ → ℕ)
+pub record IsUnderWayOn {D : Type 0} (works : Setting → WindowText → WindowRecord → (DeviceId → ℕ) → Type 0) (tag : D → ℕ) (plan : D → Option (List (ℕ × ℕ))) (stands turns probes faults : D → ℕ) (course : Course) (mode : Mode) (home : HomeState D) (records : List WindowRecord) : Type 0 where
+  pub takes : List (DeviceId → ℕ)
   pub played : WindowsArePlayedOn works course mode records takes
   pub left : AreLeftFrom tag plan stands turns faults course.begins records home.devices
   pub probed : DevicesAreProbed probes takes home.devices
@@ -89,15 +90,15 @@ pub record IsUnderWayOn {D : Type 0} (works : Setting → WindowText → WindowR
   pub world : home.world ≡ state_from course.begins records (length records)
   pub size : length home.world ≡ length course.begins.script.devices.items
   -- where no device has failed, each is up
-  pub up : NoneHasFailedOn course records → (d : ℕ) → d < length home.world → (stand_at home.world d).up ≡ true
+  pub up : NoneHasFailedOn course records → (d : DeviceId) → d < length home.world → (stand_at home.world d).up ≡ true
   pub opened : home.opened ≡ length records
 
 -- The same of a script's day
 
-abbrev pub WindowsArePlayed : (Setting → WindowText → WindowRecord → (ℕ → ℕ) → Type 0) → Script → Mode → List WindowRecord → List (ℕ → ℕ) → Type 0
+abbrev pub WindowsArePlayed : (Setting → WindowText → WindowRecord → (DeviceId → ℕ) → Type 0) → Script → Mode → List WindowRecord → List (DeviceId → ℕ) → Type 0
 WindowsArePlayed works script mode records takes = WindowsArePlayedOn works (new_course script) mode records takes
 
-abbrev pub IsUnderWay : {D : Type 0} → (Setting → WindowText → WindowRecord → (ℕ → ℕ) → Type 0) → (D → ℕ) → (D → Option (List (ℕ × ℕ))) → (D → ℕ) → (D → ℕ) → (D → ℕ) → (D → ℕ) → Script → Mode → HomeState D → List WindowRecord → Type 0
+abbrev pub IsUnderWay : {D : Type 0} → (Setting → WindowText → WindowRecord → (DeviceId → ℕ) → Type 0) → (D → ℕ) → (D → Option (List (ℕ × ℕ))) → (D → ℕ) → (D → ℕ) → (D → ℕ) → (D → ℕ) → Script → Mode → HomeState D → List WindowRecord → Type 0
 IsUnderWay works tag plan stands turns probes faults script mode home records = IsUnderWayOn works tag plan stands turns probes faults (new_course script) mode home records
 
 -- the device after a window: the same one, whose calls rose as the record says, and its probes by those that were taken

@@ -2,15 +2,16 @@
 use Rattle.command_words.specs.declared.command_lines.Options.{Options}
 use Rattle.day_clock.specs.Sinks.{AppendsPart}
 use Rattle.day_clock.specs.Sources.{TakesCount, TakesUpTo}
-use Rattle.home_types.specs.Limits.{most_script_bytes}
-use Rattle.home_types.specs.Listed.{Listed}
-use Rattle.legal_days.specs.LegalDays.{IsLegalCutDayFrom, IsLegalDayFrom}
 use Rattle.history_book.specs.Settings.{Setting}
 use Rattle.history_book.specs.declared.records.WindowRecord.{WindowRecord}
+use Rattle.home_types.specs.Limits.{most_script_bytes}
+use Rattle.home_types.specs.Listed.{Listed}
+use Rattle.home_types.specs.Numbers.{DeviceId}
 use Rattle.hub_commands.specs.Days.{Closing, Course, DevicesAreProbed, WindowsArePlayedOn, new_course, record_text_on, text_due_on, text_on}
 use Rattle.hub_commands.specs.declared.faults.Fault.TheVariants.{Check, Cross, Damaged, Disk, Memory, Read, Script as Refuses, Words, Write}
 use Rattle.hub_commands.specs.declared.faults.Fault.{Fault}
 use Rattle.hub_commands.specs.declared.finishes.Day.{Day}
+use Rattle.legal_days.specs.LegalDays.{IsLegalCutDayFrom, IsLegalDayFrom}
 use Rattle.routine_reader.specs.Readings.{script_reading}
 use Rattle.routine_reader.specs.Scripts.{plain_script}
 use Rattle.routine_reader.specs.Sound.{IsSound}
@@ -19,7 +20,7 @@ use Rattle.routine_reader.specs.declared.faults.ReadFault.{ReadFault}
 use Rattle.routine_reader.specs.declared.scripts.Script.{Script}
 use Rattle.routine_reader.specs.declared.scripts.WindowText.{WindowText}
 use Rattle.std.specs.Io.KnownBytes.{Appends, IsAtEnd, Keeps}
-use Rattle.std.specs.Prelude.{Err, IfSome, List, None, Ok, Option, Result, Some, [], false, take, ℕ, ◌+◌, ◌++◌, ◌<◌, ◌∷◌, ◌≡◌, ◌⊎◌}
+use Rattle.std.specs.Prelude.{Err, IfSome, List, None, Ok, Option, Result, Some, [], false, take, ℕ, ◌++◌, ◌+◌, ◌<◌, ◌∷◌, ◌≡◌, ◌⊎◌}
 
 -- what the call does to its source: the bytes to come before and after it, where the source tells them, and its faults
 pub record Reads : Type 0 where
@@ -121,26 +122,26 @@ shown_by tag plan stands turns probes faults = record { tag = tag; plan = plan; 
 
 -- the day that is handed back is whole and legal in the mode of the words, each of its windows was worked in this way, in each every run has ended, and where runs are served as they come and no device fails each that has no must `check` has committed, and the sink got its text;
 -- outside the weak model the printed order of each window holds each committed run once, and the answers and the last state are those of its serial execution; under it no order is claimed; at the day's end each device that is up stands so
-pub record IsWholeOn {D : Type 0} (works : Setting → WindowText → WindowRecord → (ℕ → ℕ) → Type 0) (shown : Shown D) (closing : Closing) (course : Course) (options : Options) (sink : Writes) (o : Option (Day D)) : Type 0 where
+pub record IsWholeOn {D : Type 0} (works : Setting → WindowText → WindowRecord → (DeviceId → ℕ) → Type 0) (shown : Shown D) (closing : Closing) (course : Course) (options : Options) (sink : Writes) (o : Option (Day D)) : Type 0 where
   pub day : Day D
   pub given : o ≡ Some day
   pub devices : Listed D
   pub there : day.devices ≡ Some devices
   pub legal : IsLegalDayFrom shown.tag shown.plan shown.stands shown.turns shown.faults course.begins options.mode day.windows.items devices.items
-  pub takes : List (ℕ → ℕ)
+  pub takes : List (DeviceId → ℕ)
   pub played : WindowsArePlayedOn works course options.mode day.windows.items takes
   pub probed : DevicesAreProbed shown.probes takes devices.items
   pub text : Appends sink.held sink.holds (record_text_on closing course day.windows.items options.mode options.trace)
   pub calm : sink.faults_after ≡ sink.faults
 
 -- the day was cut short where the sink failed: it is legal up to there, and the sink got a first part of its text, and not all
-pub record IsCutOn {D : Type 0} (works : Setting → WindowText → WindowRecord → (ℕ → ℕ) → Type 0) (shown : Shown D) (closing : Closing) (course : Course) (options : Options) (sink : Writes) (o : Option (Day D)) : Type 0 where
+pub record IsCutOn {D : Type 0} (works : Setting → WindowText → WindowRecord → (DeviceId → ℕ) → Type 0) (shown : Shown D) (closing : Closing) (course : Course) (options : Options) (sink : Writes) (o : Option (Day D)) : Type 0 where
   pub day : Day D
   pub given : o ≡ Some day
   pub devices : Listed D
   pub there : day.devices ≡ Some devices
   pub legal : IsLegalCutDayFrom shown.tag shown.plan shown.stands shown.turns shown.faults course.begins options.mode day.windows.items devices.items
-  pub takes : List (ℕ → ℕ)
+  pub takes : List (DeviceId → ℕ)
   pub played : WindowsArePlayedOn works course options.mode day.windows.items takes
   pub probed : DevicesAreProbed shown.probes takes devices.items
   pub text : AppendsPart sink.held sink.holds (text_due_on closing course options.mode options.trace day.windows.items)
@@ -148,18 +149,18 @@ pub record IsCutOn {D : Type 0} (works : Setting → WindowText → WindowRecord
   pub failed : sink.faults < sink.faults_after
 
 -- the day was cut short for want of memory: its windows are legal up to there, no device is handed back, and the sink got a first part of its text
-pub record IsStarvedOn {D : Type 0} (works : Setting → WindowText → WindowRecord → (ℕ → ℕ) → Type 0) (closing : Closing) (course : Course) (options : Options) (sink : Writes) (o : Option (Day D)) : Type 0 where
+pub record IsStarvedOn {D : Type 0} (works : Setting → WindowText → WindowRecord → (DeviceId → ℕ) → Type 0) (closing : Closing) (course : Course) (options : Options) (sink : Writes) (o : Option (Day D)) : Type 0 where
   pub day : Day D
   pub given : o ≡ Some day
   pub no_devices : day.devices ≡ None
-  pub takes : List (ℕ → ℕ)
+  pub takes : List (DeviceId → ℕ)
   pub played : WindowsArePlayedOn works course options.mode day.windows.items takes
   pub text : AppendsFirst sink.held sink.holds (text_due_on closing course options.mode options.trace day.windows.items)
   pub as_closed : IsWrittenAsClosedOn course options sink day.windows.items
   pub calm : sink.faults_after ≡ sink.faults
 
 -- how a day of this course ends, with a record of this closing
-abbrev pub DayEndsOn : {D : Type 0} → (Setting → WindowText → WindowRecord → (ℕ → ℕ) → Type 0) → Shown D → Closing → Course → Options → Writes → Option (Day D) → Option Fault → Type 0
+abbrev pub DayEndsOn : {D : Type 0} → (Setting → WindowText → WindowRecord → (DeviceId → ℕ) → Type 0) → Shown D → Closing → Course → Options → Writes → Option (Day D) → Option Fault → Type 0
 DayEndsOn works shown closing course options sink day None = IsWholeOn works shown closing course options sink day
 DayEndsOn works shown closing course options sink day (Some (Refuses fault)) = ⊥
 DayEndsOn works shown closing course options sink day (Some Words) = ⊥
@@ -176,15 +177,15 @@ DayEndsOn works shown closing course options sink day (Some (Damaged slot)) = �
 abbrev pub IsWrittenAsClosed : Script → Options → Writes → List WindowRecord → Type 0
 IsWrittenAsClosed script options sink records = IsWrittenAsClosedOn (new_course script) options sink records
 
-abbrev pub IsWhole : {D : Type 0} → (Setting → WindowText → WindowRecord → (ℕ → ℕ) → Type 0) → Shown D → Closing → Script → Options → Writes → Option (Day D) → Type 0
+abbrev pub IsWhole : {D : Type 0} → (Setting → WindowText → WindowRecord → (DeviceId → ℕ) → Type 0) → Shown D → Closing → Script → Options → Writes → Option (Day D) → Type 0
 IsWhole works shown closing script options sink o = IsWholeOn works shown closing (new_course script) options sink o
 
-abbrev pub IsCut : {D : Type 0} → (Setting → WindowText → WindowRecord → (ℕ → ℕ) → Type 0) → Shown D → Closing → Script → Options → Writes → Option (Day D) → Type 0
+abbrev pub IsCut : {D : Type 0} → (Setting → WindowText → WindowRecord → (DeviceId → ℕ) → Type 0) → Shown D → Closing → Script → Options → Writes → Option (Day D) → Type 0
 IsCut works shown closing script options sink o = IsCutOn works shown closing (new_course script) options sink o
 
-abbrev pub IsStarved : {D : Type 0} → (Setting → WindowText → WindowRecord → (ℕ → ℕ) → Type 0) → Closing → Script → Options → Writes → Option (Day D) → Type 0
+abbrev pub IsStarved : {D : Type 0} → (Setting → WindowText → WindowRecord → (DeviceId → ℕ) → Type 0) → Closing → Script → Options → Writes → Option (Day D) → Type 0
 IsStarved {D} works closing script options sink o = IsStarvedOn {D = D} works closing (new_course script) options sink o
 
 -- how the day of a script ends, with a record of this closing
-abbrev pub DayEnds : {D : Type 0} → (Setting → WindowText → WindowRecord → (ℕ → ℕ) → Type 0) → Shown D → Closing → Script → Options → Writes → Option (Day D) → Option Fault → Type 0
+abbrev pub DayEnds : {D : Type 0} → (Setting → WindowText → WindowRecord → (DeviceId → ℕ) → Type 0) → Shown D → Closing → Script → Options → Writes → Option (Day D) → Option Fault → Type 0
 DayEnds works shown closing script options sink day fault = DayEndsOn works shown closing (new_course script) options sink day fault

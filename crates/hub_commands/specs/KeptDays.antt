@@ -8,6 +8,7 @@ use Rattle.home_journal.specs.Journals.{JournalState, KeepsFirst}
 use Rattle.home_journal.specs.KeptStates.{kept_states}
 use Rattle.home_types.specs.HomeStates.{stand_at}
 use Rattle.home_types.specs.Listed.{Listed}
+use Rattle.home_types.specs.Numbers.{DeviceId}
 use Rattle.home_types.specs.declared.kinds.Kind.{Kind}
 use Rattle.home_types.specs.declared.worlds.Stand.{Stand}
 use Rattle.hub_commands.specs.Days.{Course, DevicesAreProbed, WindowsArePlayedOn, course_behind, plain, text_on}
@@ -46,7 +47,7 @@ windows_of (Some day) = day.windows.items
 -- the home is one in which a day begins so
 pub record HomeBegins {D : Type 0} (tag : D → ℕ) (plan : D → Option (List (ℕ × ℕ))) (stands turns probes faults : D → ℕ) (begins : Beginning) (home : HomeState D) : Type 0 where
   pub left : AreLeftFrom tag plan stands turns faults begins [] home.devices
-  pub unprobed : (d : ℕ) (device : D) → slice_get home.devices d ≡ Some device → probes device ≡ 0
+  pub unprobed : (d : DeviceId) (device : D) → slice_get home.devices d ≡ Some device → probes device ≡ 0
   pub kinds : home.kinds ≡ kinds_of begins.script
   pub world : home.world ≡ begins.first
   pub size : length home.world ≡ length begins.script.devices.items
@@ -59,7 +60,7 @@ pub record HomeGoesOn {D : Type 0} (tag : D → ℕ) (plan : D → Option (List 
   pub home_begins : HomeBegins tag plan stands turns probes faults begins home
 
 -- the day goes on so with its head, or it has ended
-pub record BeginsBehind {D : Type 0} (works : Setting → WindowText → WindowRecord → (ℕ → ℕ) → Type 0) (shown : Shown D) (script : Script) (kept : ℕ) (last : Option (List Stand)) (options : Options) (sink : Writes) (result : Result (DayUnderWay D) (Finish D)) : Type 0 where
+pub record BeginsBehind {D : Type 0} (works : Setting → WindowText → WindowRecord → (DeviceId → ℕ) → Type 0) (shown : Shown D) (script : Script) (kept : ℕ) (last : Option (List Stand)) (options : Options) (sink : Writes) (result : Result (DayUnderWay D) (Finish D)) : Type 0 where
   pub begins : Beginning
   pub goes_on : GoesOnBehind script kept last begins
   pub begun : GoesOn works shown (kept_course kept begins) options sink 0 result
@@ -71,13 +72,13 @@ HandsAllBack {D} items windows day = (devices : Listed D) × (devices.items ≡ 
 -- How such a day ends
 
 -- the disk failed as the state of the day's last window was to be kept: the day is legal up to there, and the sink got the texts of the windows before that one
-pub record IsUnkeptOn {D : Type 0} (works : Setting → WindowText → WindowRecord → (ℕ → ℕ) → Type 0) (shown : Shown D) (course : Course) (options : Options) (sink : Writes) (o : Option (Day D)) : Type 0 where
+pub record IsUnkeptOn {D : Type 0} (works : Setting → WindowText → WindowRecord → (DeviceId → ℕ) → Type 0) (shown : Shown D) (course : Course) (options : Options) (sink : Writes) (o : Option (Day D)) : Type 0 where
   pub day : Day D
   pub given : o ≡ Some day
   pub devices : Listed D
   pub there : day.devices ≡ Some devices
   pub legal : IsLegalCutDayFrom shown.tag shown.plan shown.stands shown.turns shown.faults course.begins options.mode day.windows.items devices.items
-  pub takes : List (ℕ → ℕ)
+  pub takes : List (DeviceId → ℕ)
   pub played : WindowsArePlayedOn works course options.mode day.windows.items takes
   pub probed : DevicesAreProbed shown.probes takes devices.items
   pub before : List WindowRecord
@@ -87,7 +88,7 @@ pub record IsUnkeptOn {D : Type 0} (works : Setting → WindowText → WindowRec
   pub calm : sink.faults_after ≡ sink.faults
 
 -- how a day of this course ends that is kept
-abbrev pub KeptDayEnds : {D : Type 0} → (Setting → WindowText → WindowRecord → (ℕ → ℕ) → Type 0) → Shown D → Course → Options → Writes → Option (Day D) → Option Fault → Type 0
+abbrev pub KeptDayEnds : {D : Type 0} → (Setting → WindowText → WindowRecord → (DeviceId → ℕ) → Type 0) → Shown D → Course → Options → Writes → Option (Day D) → Option Fault → Type 0
 KeptDayEnds works shown course options sink day None = IsWholeOn works shown plain course options sink day
 KeptDayEnds works shown course options sink day (Some (Refuses fault)) = ⊥
 KeptDayEnds works shown course options sink day (Some Words) = ⊥
@@ -128,7 +129,7 @@ DiskIsLeft seen images moment since script first now records fault =
     → IsDiskLeft seen images moment since (kinds_of script) (length script.windows.items) homes first now records fault
 
 -- the day of this course has ended, and this disk is handed back
-pub record HasEndedKept {D Q : Type 0} (works : Setting → WindowText → WindowRecord → (ℕ → ℕ) → Type 0) (shown : Shown D) (told : Bool) (seen : Q → List ℕ) (images : Q → List ℕ → Type 0) (moment : Q → ℕ) (since : Q → ℕ → List ℕ → Type 0) (failures : Q → ℕ)
+pub record HasEndedKept {D Q : Type 0} (works : Setting → WindowText → WindowRecord → (DeviceId → ℕ) → Type 0) (shown : Shown D) (told : Bool) (seen : Q → List ℕ) (images : Q → List ℕ → Type 0) (moment : Q → ℕ) (since : Q → ℕ → List ℕ → Type 0) (failures : Q → ℕ)
     (script : Script) (course : Course) (options : Options) (sink : Writes) (first now : Q) (day : Option (Day D)) (fault : Option Fault) : Type 0 where
   pub ends : KeptDayEnds works shown course options sink day fault
   pub later : failures first ≤ failures now
@@ -149,13 +150,13 @@ pub record IsJournalSoFar {Q : Type 0} (told : Bool) (seen : Q → List ℕ) (im
       × LeavesOnly moment since first journal.disk (λ c. images first c ⊎ KeepsFirst (kinds_of script) (length script.windows.items) homes (last_states records) c)
 
 -- on such a course these windows were played and written, too
-pub record IsKeptSoFar {D Q : Type 0} (works : Setting → WindowText → WindowRecord → (ℕ → ℕ) → Type 0) (shown : Shown D) (told : Bool) (seen : Q → List ℕ) (images : Q → List ℕ → Type 0) (moment : Q → ℕ) (since : Q → ℕ → List ℕ → Type 0) (failures : Q → ℕ)
+pub record IsKeptSoFar {D Q : Type 0} (works : Setting → WindowText → WindowRecord → (DeviceId → ℕ) → Type 0) (shown : Shown D) (told : Bool) (seen : Q → List ℕ) (images : Q → List ℕ → Type 0) (moment : Q → ℕ) (since : Q → ℕ → List ℕ → Type 0) (failures : Q → ℕ)
     (script : Script) (before : ℕ) (course : Course) (options : Options) (sink : Writes) (first : Q) (home : HomeState D) (records : List WindowRecord) (journal : JournalState Q) : Type 0 where
   pub going : IsGoingOn works shown (course_behind script before course) options sink home records
   pub on_disk : IsJournalSoFar told seen images moment since failures script before first records journal
 
 -- the day goes on with so many windows, or it has ended
-abbrev pub KeepsOn : {D Q : Type 0} → (Setting → WindowText → WindowRecord → (ℕ → ℕ) → Type 0) → Shown D → Bool → (Q → List ℕ) → (Q → List ℕ → Type 0) → (Q → ℕ) → (Q → ℕ → List ℕ → Type 0) → (Q → ℕ)
+abbrev pub KeepsOn : {D Q : Type 0} → (Setting → WindowText → WindowRecord → (DeviceId → ℕ) → Type 0) → Shown D → Bool → (Q → List ℕ) → (Q → List ℕ → Type 0) → (Q → ℕ) → (Q → ℕ → List ℕ → Type 0) → (Q → ℕ)
     → Script → ℕ → Course → Options → Writes → Q → ℕ → Result (KeptDay D Q) (Finish D × Q) → Type 0
 KeepsOn works shown told seen images moment since failures script before course options sink first count (Ok kept) =
     (length kept.day.windows.items ≡ count) × IsKeptSoFar works shown told seen images moment since failures script before course options sink first kept.day.home kept.day.windows.items kept.journal
@@ -163,7 +164,7 @@ KeepsOn works shown told seen images moment since failures script before course 
     (ended.0.status ≡ status_of ended.0.fault) × HasEndedKept works shown told seen images moment since failures script (course_behind script before course) options sink first ended.1 ended.0.day ended.0.fault
 
 -- the state in which the next window left the home was kept, and its lines were written, on any course behind so many windows of the script, whatever the sink held and the disk kept as the day began
-abbrev pub HasKept : {D Q : Type 0} → (Setting → WindowText → WindowRecord → (ℕ → ℕ) → Type 0) → Shown D → Bool → (Q → List ℕ) → (Q → List ℕ → Type 0) → (Q → ℕ) → (Q → ℕ → List ℕ → Type 0) → (Q → ℕ)
+abbrev pub HasKept : {D Q : Type 0} → (Setting → WindowText → WindowRecord → (DeviceId → ℕ) → Type 0) → Shown D → Bool → (Q → List ℕ) → (Q → List ℕ → Type 0) → (Q → ℕ) → (Q → ℕ → List ℕ → Type 0) → (Q → ℕ)
     → Script → ℕ → Options → Writes → KeptDay D Q → Result (KeptDay D Q) (Finish D × Q) → Type 0
 HasKept {D} {Q} works shown told seen images moment since failures script before options sink next result = (course : Course) (held : Option (List ℕ)) (f : ℕ) (first : Q) (home : HomeState D) (records : List WindowRecord)
     → IsKeptSoFar works shown told seen images moment since failures script before course options (written held sink.held f sink.faults) first home records next.journal
@@ -171,14 +172,14 @@ HasKept {D} {Q} works shown told seen images moment since failures script before
     → KeepsOn works shown told seen images moment since failures script before course options (written held sink.holds f sink.faults_after) first (suc (length records)) result
 
 -- the next window was played, kept and written, on any such course
-abbrev pub HasKeptNext : {D Q : Type 0} → (Setting → WindowText → WindowRecord → (ℕ → ℕ) → Type 0) → Shown D → Bool → (Q → List ℕ) → (Q → List ℕ → Type 0) → (Q → ℕ) → (Q → ℕ → List ℕ → Type 0) → (Q → ℕ)
+abbrev pub HasKeptNext : {D Q : Type 0} → (Setting → WindowText → WindowRecord → (DeviceId → ℕ) → Type 0) → Shown D → Bool → (Q → List ℕ) → (Q → List ℕ → Type 0) → (Q → ℕ) → (Q → ℕ → List ℕ → Type 0) → (Q → ℕ)
     → Script → ℕ → Options → Writes → KeptDay D Q → Result (KeptDay D Q) (Finish D × Q) → Type 0
 HasKeptNext {D} {Q} works shown told seen images moment since failures script before options sink kept result = (course : Course) (held : Option (List ℕ)) (f : ℕ) (first : Q)
     → IsKeptSoFar works shown told seen images moment since failures script before course options (written held sink.held f sink.faults) first kept.day.home kept.day.windows.items kept.journal
     → KeepsOn works shown told seen images moment since failures script before course options (written held sink.holds f sink.faults_after) first (suc (length kept.day.windows.items)) result
 
 -- the day that goes on behind so many kept states, of which this is the last, has ended
-pub record HasEndedBehind {D Q : Type 0} (works : Setting → WindowText → WindowRecord → (ℕ → ℕ) → Type 0) (shown : Shown D) (told : Bool) (seen : Q → List ℕ) (images : Q → List ℕ → Type 0) (moment : Q → ℕ) (since : Q → ℕ → List ℕ → Type 0) (failures : Q → ℕ)
+pub record HasEndedBehind {D Q : Type 0} (works : Setting → WindowText → WindowRecord → (DeviceId → ℕ) → Type 0) (shown : Shown D) (told : Bool) (seen : Q → List ℕ) (images : Q → List ℕ → Type 0) (moment : Q → ℕ) (since : Q → ℕ → List ℕ → Type 0) (failures : Q → ℕ)
     (script : Script) (kept : ℕ) (last : Option (List Stand)) (options : Options) (sink : Writes) (first now : Q) (day : Option (Day D)) (fault : Option Fault) : Type 0 where
   pub begins : Beginning
   pub goes_on : GoesOnBehind script kept last begins

@@ -2,6 +2,7 @@
 use Rattle.day_clock.specs.Sinks.{AppendsPart}
 use Rattle.day_report.specs.Days.{day_text}
 use Rattle.home_types.specs.Listed.{Listed}
+use Rattle.home_types.specs.Numbers.{Moment}
 use Rattle.home_types.specs.declared.modes.Mode.{Mode}
 use Rattle.home_types.specs.declared.numbers.RunNo.{RunNo}
 use Rattle.hub_commands.specs.Days.{plain, text_due, text_so_far}
@@ -23,7 +24,7 @@ RoomsAreWrittenAsClosed script mode sink windows = (before : Windows) (closed : 
     → AppendsAtLeast sink.held sink.holds (text_so_far script mode false (told_records script mode before))
 
 -- the day is whole: there is a window of each room for each window of the script, and the sink got the text
-pub record RoomDayIsWhole {D : Type 0} (earliest latest : ℕ) (shown : Shown D) (script : Script) (mode : Mode) (sink : Writes) (windows : Windows) (o : Option (Listed D)) : Type 0 where
+pub record RoomDayIsWhole {D : Type 0} (earliest latest : Moment) (shown : Shown D) (script : Script) (mode : Mode) (sink : Writes) (windows : Windows) (o : Option (Listed D)) : Type 0 where
   pub devices : Listed D
   pub there : o ≡ Some devices
   pub all : length windows ≡ length script.windows.items
@@ -32,7 +33,7 @@ pub record RoomDayIsWhole {D : Type 0} (earliest latest : ℕ) (shown : Shown D)
   pub calm : sink.faults_after ≡ sink.faults
 
 -- the day was cut short where the sink failed: it is legal up to there, and the sink got a first part of its text, and not all
-pub record RoomDayIsCut {D : Type 0} (earliest latest : ℕ) (shown : Shown D) (script : Script) (mode : Mode) (sink : Writes) (windows : Windows) (o : Option (Listed D)) : Type 0 where
+pub record RoomDayIsCut {D : Type 0} (earliest latest : Moment) (shown : Shown D) (script : Script) (mode : Mode) (sink : Writes) (windows : Windows) (o : Option (Listed D)) : Type 0 where
   pub devices : Listed D
   pub there : o ≡ Some devices
   pub left : RoomsAreLeft earliest latest shown script mode windows devices.items
@@ -41,7 +42,7 @@ pub record RoomDayIsCut {D : Type 0} (earliest latest : ℕ) (shown : Shown D) (
   pub failed : sink.faults < sink.faults_after
 
 -- the day was cut short for want of memory: its windows are legal up to there, no device is handed back, and the sink got a first part of its text
-pub record RoomDayIsStarved {D : Type 0} (earliest latest : ℕ) (script : Script) (mode : Mode) (sink : Writes) (windows : Windows) (o : Option (Listed D)) : Type 0 where
+pub record RoomDayIsStarved {D : Type 0} (earliest latest : Moment) (script : Script) (mode : Mode) (sink : Writes) (windows : Windows) (o : Option (Listed D)) : Type 0 where
   pub no_devices : o ≡ None
   pub played : RoomsArePlayed earliest latest script mode windows
   pub text : AppendsFirst sink.held sink.holds (text_due plain script mode false (told_records script mode windows))
@@ -49,7 +50,7 @@ pub record RoomDayIsStarved {D : Type 0} (earliest latest : ℕ) (script : Scrip
   pub calm : sink.faults_after ≡ sink.faults
 
 -- how the day of a script ends whose windows can all be split
-abbrev pub RoomDayEnds : {D : Type 0} → ℕ → ℕ → Shown D → Script → Mode → Writes → Windows → Option (Listed D) → Option Fault → Type 0
+abbrev pub RoomDayEnds : {D : Type 0} → Moment → Moment → Shown D → Script → Mode → Writes → Windows → Option (Listed D) → Option Fault → Type 0
 RoomDayEnds earliest latest shown script mode sink windows devices None = RoomDayIsWhole earliest latest shown script mode sink windows devices
 RoomDayEnds earliest latest shown script mode sink windows devices (Some (Refuses fault)) = ⊥
 RoomDayEnds earliest latest shown script mode sink windows devices (Some Words) = ⊥
@@ -108,7 +109,7 @@ pub record NothingIsWorked {D : Type 0} (sink : Writes) (windows : Windows) (dev
   pub unwritten : IsUnwritten sink
 
 -- the day of the script that was read ends so; each of its windows can be split
-pub record RoomDayIsWorked {D : Type 0} (earliest latest : ℕ) (shown : Shown D) (asked : Option Mode) (source : Reads) (sink : Writes) (windows : Windows) (devices : Option (Listed D)) (fault : Option Fault) : Type 0 where
+pub record RoomDayIsWorked {D : Type 0} (earliest latest : Moment) (shown : Shown D) (asked : Option Mode) (source : Reads) (sink : Writes) (windows : Windows) (devices : Option (Listed D)) (fault : Option Fault) : Type 0 where
   pub mode : Mode
   pub asked_for : asked ≡ Some mode
   pub script : Script
@@ -136,7 +137,7 @@ abbrev pub IsAsked : Option Mode → Type 0
 IsAsked asked = (mode : Mode) × (asked ≡ Some mode)
 
 -- how the call ends, by its fault, for the mode that its words ask for, if any
-abbrev pub RoomCallEnds : {D : Type 0} → ℕ → ℕ → Shown D → Option Mode → Reads → Writes → Windows → Option (Listed D) → Option Fault → Type 0
+abbrev pub RoomCallEnds : {D : Type 0} → Moment → Moment → Shown D → Option Mode → Reads → Writes → Windows → Option (Listed D) → Option Fault → Type 0
 RoomCallEnds earliest latest shown asked source sink windows devices None = RoomDayIsWorked earliest latest shown asked source sink windows devices None
 RoomCallEnds earliest latest shown asked source sink windows devices (Some (Refuses fault)) = IsAsked asked × NothingIsWorked sink windows devices × IsRefused source fault
 RoomCallEnds earliest latest shown asked source sink windows devices (Some Words) = (asked ≡ None) × NothingIsWorked sink windows devices × IsUnread source

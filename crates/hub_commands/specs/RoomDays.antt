@@ -4,6 +4,7 @@ use Rattle.history_book.specs.Readings.{is_committed}
 use Rattle.history_book.specs.declared.records.WindowRecord.{WindowRecord}
 use Rattle.home_types.specs.HomeStates.{stand_at}
 use Rattle.home_types.specs.Listed.{Listed}
+use Rattle.home_types.specs.Numbers.{DeviceId, Moment}
 use Rattle.home_types.specs.declared.items.Item.{Item}
 use Rattle.home_types.specs.declared.modes.Mode.{Mode}
 use Rattle.home_types.specs.declared.worlds.Stand.{Stand}
@@ -41,7 +42,7 @@ abbrev pub AreSplit : Script → Windows → Type 0
 AreSplit script windows = (w : ℕ) (ws : Listed RoomWindow) → slice_get windows w ≡ Some ws → split_of script w ≡ Ok (map (λ x. plain_room x.roster) ws.items)
 
 -- the homes of the rooms after these windows
-pub record RoomsAreUnderWay {D : Type 0} (earliest latest : ℕ) (shown : Shown D) (script : Script) (mode : Mode) (homes : List (HomeState D)) (windows : Windows) : Type 0 where
+pub record RoomsAreUnderWay {D : Type 0} (earliest latest : Moment) (shown : Shown D) (script : Script) (mode : Mode) (homes : List (HomeState D)) (windows : Windows) : Type 0 where
   pub count : length windows ≤ length script.windows.items
   pub homed : length homes ≡ room_count script
   pub split : AreSplit script windows
@@ -78,13 +79,13 @@ pub record EachOrderAgrees (script : Script) (mode : Mode) (windows : Windows) :
 -- Rooms, one by one
 
 -- the windows of a room are legal windows of its own script, worked with threads at moments of the clock: the first begins with every device up at its start, and each later one as the room's last one ended
-pub record RoomIsPlayed (earliest latest : ℕ) (script : Script) (mode : Mode) (windows : Windows) (k : ℕ) : Type 0 where
-  pub takes : List (ℕ → ℕ)
+pub record RoomIsPlayed (earliest latest : Moment) (script : Script) (mode : Mode) (windows : Windows) (k : ℕ) : Type 0 where
+  pub takes : List (DeviceId → ℕ)
   pub played : WindowsArePlayed (IsRunWithin earliest latest) (own_script script k) mode (records_of k windows) takes
 
 -- the room's devices are left as its windows say, each in the place that it has among the devices of the home
-pub record RoomIsLeft {D : Type 0} (earliest latest : ℕ) (shown : Shown D) (script : Script) (mode : Mode) (windows : Windows) (devices : List D) (k : ℕ) : Type 0 where
-  pub takes : List (ℕ → ℕ)
+pub record RoomIsLeft {D : Type 0} (earliest latest : Moment) (shown : Shown D) (script : Script) (mode : Mode) (windows : Windows) (devices : List D) (k : ℕ) : Type 0 where
+  pub takes : List (DeviceId → ℕ)
   pub played : WindowsArePlayed (IsRunWithin earliest latest) (own_script script k) mode (records_of k windows) takes
   pub own : List D
   pub left : DevicesAreLeft shown.tag shown.plan shown.stands shown.turns shown.faults (own_script script k) (records_of k windows) own
@@ -92,14 +93,14 @@ pub record RoomIsLeft {D : Type 0} (earliest latest : ℕ) (shown : Shown D) (sc
   pub placed : (a : ℕ) (device : D) → slice_get own a ≡ Some device → slice_get devices (slice_index_or (devices_in (rooms_of script).room_of k) a 0) ≡ Some device
 
 -- the windows of a day of rooms, up to where it is
-pub record RoomsArePlayed (earliest latest : ℕ) (script : Script) (mode : Mode) (windows : Windows) : Type 0 where
+pub record RoomsArePlayed (earliest latest : Moment) (script : Script) (mode : Mode) (windows : Windows) : Type 0 where
   pub count : length windows ≤ length script.windows.items
   pub split : AreSplit script windows
   pub rooms : (k : ℕ) → k < room_count script → RoomIsPlayed earliest latest script mode windows k
   pub orders : EachOrderAgrees script mode windows
 
 -- and the devices, in the order of the script
-pub record RoomsAreLeft {D : Type 0} (earliest latest : ℕ) (shown : Shown D) (script : Script) (mode : Mode) (windows : Windows) (devices : List D) : Type 0 where
+pub record RoomsAreLeft {D : Type 0} (earliest latest : Moment) (shown : Shown D) (script : Script) (mode : Mode) (windows : Windows) (devices : List D) : Type 0 where
   pub played : RoomsArePlayed earliest latest script mode windows
   pub size : length devices ≡ length script.devices.items
   pub rooms : (k : ℕ) → k < room_count script → RoomIsLeft earliest latest shown script mode windows devices k

@@ -1,4 +1,5 @@
 -- The devices of the rooms' homes in the order of the script.
+use Rattle.home_types.specs.Numbers.{DeviceId}
 use Rattle.hub_commands.specs.declared.room_devices.DeviceRoom.{DeviceRoom}
 use Rattle.hub_core.specs.Homes.{HomeState}
 use Rattle.room_hubs.specs.Splits.{device_room, devices_in}
@@ -15,7 +16,7 @@ pub record HasRoomFor {D : Type 0} (rooms devices : ℕ) (room : DeviceRoom D) :
 
 -- each device is in one of so many rooms
 abbrev pub IsRoomed : List ℕ → ℕ → Type 0
-IsRoomed room_of rooms = (d : ℕ) → d < length room_of → device_room room_of d < rooms
+IsRoomed room_of rooms = (d : DeviceId) → d < length room_of → device_room room_of d < rooms
 
 -- each room's home has as many devices as there are in the room
 abbrev pub HasDevicesOf : {D : Type 0} → List ℕ → List (HomeState D) → Type 0

@@ -3,6 +3,7 @@ use Rattle.day_report.specs.Days.{window_text}
 use Rattle.history_book.specs.declared.entries.Kept.{Kept}
 use Rattle.history_book.specs.declared.records.WindowRecord.{WindowRecord}
 use Rattle.home_types.specs.Listed.{Listed}
+use Rattle.home_types.specs.Numbers.{Moment}
 use Rattle.home_types.specs.declared.items.Item.{Item}
 use Rattle.home_types.specs.declared.modes.Mode.{Mode}
 use Rattle.home_types.specs.declared.worlds.Stand.{Stand}
@@ -47,7 +48,7 @@ abbrev pub HasRoomForWindows : ℕ → Listed (Listed RoomWindow) → Type 0
 HasRoomForWindows n windows = n ≤ length windows.items + windows.spare
 
 -- the homes of the rooms, their windows, and what was told of these windows
-pub record IsRoomDay {D : Type 0} (earliest latest : ℕ) (shown : Shown D) (script : Script) (mode : Mode) (told : Windows) (day : RoomDay D) : Type 0 where
+pub record IsRoomDay {D : Type 0} (earliest latest : Moment) (shown : Shown D) (script : Script) (mode : Mode) (told : Windows) (day : RoomDay D) : Type 0 where
   pub under_way : RoomsAreUnderWay earliest latest shown script mode day.homes.items day.windows.items
   pub told_are : AreTold script mode told day.told.items
   pub room : HasRoomFor (length day.homes.items) (length (rooms_of script).room_of) day.room
@@ -59,20 +60,20 @@ pub record IsWrittenSoFar (script : Script) (mode : Mode) (sink : Writes) (windo
   pub calm : sink.faults_after ≡ sink.faults
 
 -- what came of the next window: it was worked in every room, and is not told yet; or memory was wanted
-abbrev pub RoomNextIs : {D : Type 0} → ℕ → ℕ → Shown D → Script → Mode → Windows → Result (RoomDay D) (Listed (Listed RoomWindow)) → Type 0
+abbrev pub RoomNextIs : {D : Type 0} → Moment → Moment → Shown D → Script → Mode → Windows → Result (RoomDay D) (Listed (Listed RoomWindow)) → Type 0
 RoomNextIs earliest latest shown script mode before (Ok day) =
     (closed : Listed RoomWindow) × (day.windows.items ≡ before ++ closed ∷ []) × IsRoomDay earliest latest shown script mode before day
 RoomNextIs earliest latest shown script mode before (Err windows) = (windows.items ≡ before) × RoomsArePlayed earliest latest script mode before
 
 -- the day goes on with so many windows, all of them told and written, or it has ended
-abbrev pub RoomGoesOn : {D : Type 0} → ℕ → ℕ → Shown D → Script → Mode → Writes → ℕ → Result (RoomDay D) (RoomFinish D) → Type 0
+abbrev pub RoomGoesOn : {D : Type 0} → Moment → Moment → Shown D → Script → Mode → Writes → ℕ → Result (RoomDay D) (RoomFinish D) → Type 0
 RoomGoesOn earliest latest shown script mode sink count (Ok day) =
     (length day.windows.items ≡ count) × IsRoomDay earliest latest shown script mode day.windows.items day × IsWrittenSoFar script mode sink day.windows.items
 RoomGoesOn earliest latest shown script mode sink count (Err finish) =
     (finish.status ≡ status_of finish.fault) × RoomDayEnds earliest latest shown script mode sink finish.windows.items finish.devices finish.fault
 
 -- what came of the next window was written, whatever the sink held as the day began
-abbrev pub RoomHasWritten : {D : Type 0} → ℕ → ℕ → Shown D → Script → Mode → Writes → Result (RoomDay D) (Listed (Listed RoomWindow)) → Result (RoomDay D) (RoomFinish D) → Type 0
+abbrev pub RoomHasWritten : {D : Type 0} → Moment → Moment → Shown D → Script → Mode → Writes → Result (RoomDay D) (Listed (Listed RoomWindow)) → Result (RoomDay D) (RoomFinish D) → Type 0
 RoomHasWritten {D} earliest latest shown script mode sink next result = (held : Option (List ℕ)) (f : ℕ) (before : Windows)
     → IsWrittenSoFar script mode (written held sink.held f sink.faults) before → RoomNextIs earliest latest shown script mode before next
     → RoomGoesOn earliest latest shown script mode (written held sink.holds f sink.faults_after) (suc (length before)) result
@@ -98,7 +99,7 @@ pub record IsFirstDay {D : Type 0} (shown : Shown D) (script : Script) (day : Ro
   pub windows_room : HasRoomForWindows (length script.windows.items) day.windows
 
 -- what came of the next window, behind windows that were told
-abbrev pub IsNextRoomDay : {D : Type 0} → ℕ → ℕ → Shown D → Script → Mode → Result (RoomDay D) (Listed (Listed RoomWindow)) → Type 0
+abbrev pub IsNextRoomDay : {D : Type 0} → Moment → Moment → Shown D → Script → Mode → Result (RoomDay D) (Listed (Listed RoomWindow)) → Type 0
 IsNextRoomDay earliest latest shown script mode next = (before : Windows) × RoomNextIs earliest latest shown script mode before next
 
 -- the day ends: with the devices of the homes, in the order of the script, where the sink failed, and without them where memory was wanted
@@ -107,7 +108,7 @@ RoomStopEnds {D} room_of homes Sink given fault = (devices : Listed D) × (given
 RoomStopEnds {D} room_of homes Memory given fault = (given ≡ None) × (fault ≡ Some WantsMemory)
 
 -- the day ended behind its last window, whatever the sink held as it began
-abbrev pub RoomHasEnded : {D : Type 0} → ℕ → ℕ → Shown D → Script → Mode → Writes → RoomDay D → RoomFinish D → Type 0
+abbrev pub RoomHasEnded : {D : Type 0} → Moment → Moment → Shown D → Script → Mode → Writes → RoomDay D → RoomFinish D → Type 0
 RoomHasEnded earliest latest shown script mode sink last finish = (held : Option (List ℕ)) (f : ℕ)
     → IsWrittenSoFar script mode (written held sink.held f sink.faults) last.windows.items
     → RoomDayEnds earliest latest shown script mode (written held sink.holds f sink.faults_after) finish.windows.items finish.devices finish.fault

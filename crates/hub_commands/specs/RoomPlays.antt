@@ -1,4 +1,5 @@
 -- The next window of every room: opened, worked and closed.
+use Rattle.home_types.specs.Numbers.{Moment}
 use Rattle.home_types.specs.declared.modes.Mode.{Mode}
 use Rattle.hub_commands.specs.Finishes.{Shown}
 use Rattle.hub_core.specs.HubCalls.{IsOpened}
@@ -37,14 +38,14 @@ pub record AreTakenApart {D : Type 0} (tag stands turns probes faults : D → �
   pub kept : (k : ℕ) (home : HomeState D) → slice_get homes k ≡ Some home → HomeIsKept tag stands turns probes faults home
 
 -- a room's window was opened on its home, and worked by threads
-pub record RoomWent {D : Type 0} (shown : Shown D) (earliest latest : ℕ) (mode : Mode) (rounds : ℕ) (before after : HomeState D) (window : RoomWindow) : Type 0 where
+pub record RoomWent {D : Type 0} (shown : Shown D) (earliest latest : Moment) (mode : Mode) (rounds : ℕ) (before after : HomeState D) (window : RoomWindow) : Type 0 where
   pub hub : OpenHub D
   pub opened : IsOpened shown.turns shown.probes shown.faults (setting_for before window.roster.roster mode) rounds before hub
   pub worked : IsWorked shown.tag shown.plan shown.turns shown.probes shown.faults earliest latest hub after window.closed
   pub kept : HomeIsKept shown.tag shown.stands shown.turns shown.probes shown.faults after
 
 -- the script's window of this number was worked in every room, with so many rounds of probes
-pub record RoomsWent {D : Type 0} (shown : Shown D) (earliest latest : ℕ) (script : Script) (mode : Mode) (number rounds : ℕ) (before after : List (HomeState D)) (windows : List RoomWindow) : Type 0 where
+pub record RoomsWent {D : Type 0} (shown : Shown D) (earliest latest : Moment) (script : Script) (mode : Mode) (number rounds : ℕ) (before after : List (HomeState D)) (windows : List RoomWindow) : Type 0 where
   pub split : split_of script number ≡ Ok (map (λ x. plain_room x.roster) windows)
   pub homed : length after ≡ length before
   pub count : length windows ≡ length before

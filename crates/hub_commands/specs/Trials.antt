@@ -3,6 +3,7 @@ use Rattle.day_clock.specs.Sinks.{AppendsPart}
 use Rattle.day_report.specs.Days.{day_text}
 use Rattle.day_report.specs.Trials.{trial_text}
 use Rattle.home_types.specs.Listed.{Listed}
+use Rattle.home_types.specs.Numbers.{DeviceId}
 use Rattle.home_types.specs.declared.modes.Mode.{Mode}
 use Rattle.home_types.specs.declared.modes.Scheduler.TheVariants.{Fcfs}
 use Rattle.home_types.specs.declared.modes.Visibility.TheVariants.{Eventual}
@@ -43,7 +44,7 @@ pub record IsTrialDay {D : Type 0} (shown : Shown D) (n : ℕ) (day : Day D) : T
   pub devices : Listed D
   pub there : day.devices ≡ Some devices
   pub legal : IsLegalDay shown.tag shown.plan shown.stands shown.turns shown.faults script trial_mode day.windows.items devices.items
-  pub takes : List (ℕ → ℕ)
+  pub takes : List (DeviceId → ℕ)
   pub played : WindowsArePlayed IsReplayOf script trial_mode day.windows.items takes
   pub probed : DevicesAreProbed shown.probes takes devices.items
   pub agrees : finding script day ≡ Agrees
@@ -76,7 +77,7 @@ pub record TrialDayIsStarved {D : Type 0} (n : ℕ) (o : Option (Day D)) : Type 
   pub day : Day D
   pub given : o ≡ Some day
   pub no_devices : day.devices ≡ None
-  pub takes : List (ℕ → ℕ)
+  pub takes : List (DeviceId → ℕ)
   pub played : WindowsArePlayed IsReplayOf script trial_mode day.windows.items takes
 
 -- memory was wanted before the script was made or behind it, and nothing was written

@@ -6,6 +6,7 @@ use Rattle.history_book.specs.Settings.{Setting}
 use Rattle.home_types.specs.HomeStates.{stand_at}
 use Rattle.home_types.specs.Kinds.{has_value, kind_at}
 use Rattle.home_types.specs.Limits.{most_devices}
+use Rattle.home_types.specs.Numbers.{DeviceId}
 use Rattle.home_types.specs.declared.kinds.Kind.{Kind}
 use Rattle.home_types.specs.declared.modes.Mode.{Mode}
 use Rattle.home_types.specs.declared.worlds.Stand.{Stand}
@@ -38,16 +39,16 @@ pub record HomeIsKept {D : Type 0} (tag stands turns probes faults : D → ℕ) 
   pub size : length s.devices ≡ length s.world
   pub few : length s.world ≤ most_devices
   pub opened : s.opened ≤ 2 ^ 31
-  pub values : (d : ℕ) → d < length s.world → IsTrue (has_value (kind_at s.kinds d) (stand_at s.world d).value)
+  pub values : (d : DeviceId) → d < length s.world → IsTrue (has_value (kind_at s.kinds d) (stand_at s.world d).value)
   pub stand : UpDevicesStand stands s.devices s.world
-  pub counts : (d : ℕ) (device : D) → slice_get s.devices d ≡ Some device → CountsAreLow s.opened (turns device) (probes device) (faults device)
+  pub counts : (d : DeviceId) (device : D) → slice_get s.devices d ≡ Some device → CountsAreLow s.opened (turns device) (probes device) (faults device)
 
 -- a window of the roster, on the home as it is
 abbrev pub setting_for : {D : Type 0} → HomeState D → Roster → Mode → Setting
 setting_for home roster mode = record { runs = runs_of roster; mode = mode; kinds = home.kinds; first = home.world }
 
 -- a new device of the script: it stands at its start, and was not called
-pub record IsNew {D : Type 0} (tag : D → ℕ) (plan : D → Option (List (ℕ × ℕ))) (stands turns probes faults : D → ℕ) (text : DeviceText) (d : ℕ) (device : D) : Type 0 where
+pub record IsNew {D : Type 0} (tag : D → ℕ) (plan : D → Option (List (ℕ × ℕ))) (stands turns probes faults : D → ℕ) (text : DeviceText) (d : DeviceId) (device : D) : Type 0 where
   pub own : IsDeviceOf tag plan text d device
   pub at_start : stands device ≡ text.start
   pub no_turns : turns device ≡ 0
@@ -57,4 +58,4 @@ pub record IsNew {D : Type 0} (tag : D → ℕ) (plan : D → Option (List (ℕ 
 -- one new device for each of the script's, in its order
 pub record AreNew {D : Type 0} (tag : D → ℕ) (plan : D → Option (List (ℕ × ℕ))) (stands turns probes faults : D → ℕ) (texts : List DeviceText) (devices : List D) : Type 0 where
   pub size : length devices ≡ length texts
-  pub each : (d : ℕ) (device : D) (text : DeviceText) → slice_get devices d ≡ Some device → slice_get texts d ≡ Some text → IsNew tag plan stands turns probes faults text d device
+  pub each : (d : DeviceId) (device : D) (text : DeviceText) → slice_get devices d ≡ Some device → slice_get texts d ≡ Some text → IsNew tag plan stands turns probes faults text d device

@@ -16,6 +16,7 @@ use Rattle.history_book.specs.declared.entries.Made.{Made}
 use Rattle.history_book.specs.declared.records.WindowRecord.{WindowRecord}
 use Rattle.home_types.specs.HomeStates.{stand_at}
 use Rattle.home_types.specs.Limits.{most_devices, most_runs}
+use Rattle.home_types.specs.Numbers.{DeviceId, LinePlace, Moment, RunId}
 use Rattle.home_types.specs.declared.modes.Scheduler.TheVariants.{Fcfs, Timeline}
 use Rattle.legal_days.specs.AccountedCalls.{told_calls, told_falls}
 use Rattle.legal_days.specs.CleanReads.{ReadsAreClean}
@@ -41,7 +42,7 @@ pub record SameWindow {D : Type 0} (s t : OpenHub D) : Type 0 where
   pub setting : t.setting ≡ s.setting
   pub rounds : t.rounds ≡ s.rounds
   pub opened : t.opened ≡ s.opened
-  pub at_opening : (d : ℕ) → (device_at t.devices d).at_opening ≡ (device_at s.devices d).at_opening
+  pub at_opening : (d : DeviceId) → (device_at t.devices d).at_opening ≡ (device_at s.devices d).at_opening
 
 -- the entries stand in the first places: one in the second only behind one in the first, and one in the third only behind one in the second
 pub record IsPacked (made : Made) : Type 0 where
@@ -49,7 +50,7 @@ pub record IsPacked (made : Made) : Type 0 where
   pub third : made.b ≡ None → made.c ≡ None
 
 -- the step of the run answers so and hands no device out
-pub record Answers {D : Type 0} (s : OpenHub D) (r m : ℕ) (choice : Choice) (t : OpenHub D) : Type 0 where
+pub record Answers {D : Type 0} (s : OpenHub D) (r : RunId) (m : Moment) (choice : Choice) (t : OpenHub D) : Type 0 where
   pub step : (slip : Slip) → HubStep (state_of s) (Take r m slip) (Chose choice) (state_of t)
   pub places : t.places ≡ s.places
   pub tickets : t.tickets ≡ s.tickets
@@ -61,7 +62,7 @@ pub record IsNextGrip {D : Type 0} (s : OpenHub D) (grip : Gripped D Ready) (t :
   pub stood : grip.slip.stood ≡ (device_at s.devices grip.slip.device.0).held
 
 -- the step of the run hands this device out, for what it needs it
-pub record GoesOut {D : Type 0} (s : OpenHub D) (r m : ℕ) (grip : Gripped D Ready) (t : OpenHub D) : Type 0 where
+pub record GoesOut {D : Type 0} (s : OpenHub D) (r : RunId) (m : Moment) (grip : Gripped D Ready) (t : OpenHub D) : Type 0 where
   pub purpose : Purpose
   pub step : HubStep (state_of s) (Take r m grip.slip) (Chose (HandsOut grip.slip.device.0 purpose)) (state_of t)
   pub task : grip.task ≡ task_of (configuration_of s) r purpose
@@ -70,7 +71,7 @@ pub record GoesOut {D : Type 0} (s : OpenHub D) (r m : ℕ) (grip : Gripped D Re
   pub next : IsNextGrip s grip t
 
 -- what the step of a run answers, and the hub after it: where the run waits, or is none of the window, its last moment alone may be another
-abbrev pub IsTurn : {D : Type 0} → OpenHub D → ℕ → ℕ → Turn D → OpenHub D → Type 0
+abbrev pub IsTurn : {D : Type 0} → OpenHub D → RunId → Moment → Turn D → OpenHub D → Type 0
 IsTurn s r m (Go grip) t = GoesOut s r m grip t
 IsTurn s r m (Moved made) t = Answers s r m (Moves (entries_made made)) t × IsPacked made
 IsTurn s r m (Wait why) t = Answers s r m (Waits why) t × (t ≡ record s { moment = max s.moment m })
@@ -78,9 +79,9 @@ IsTurn s r m (Over end made) t = Answers s r m (IsOver end (entries_made made)) 
 IsTurn s r m Absent t = Answers s r m IsAbsent t × (t ≡ record s { moment = max s.moment m })
 
 -- where the step places the run by the timeline, the set taken is closed, holds the base and fits, and no other one that does plans an earlier end of the run
-abbrev pub PlansEarliest : {D : Type 0} → Configuration → ℕ → Turn D → Type 0
+abbrev pub PlansEarliest : {D : Type 0} → Configuration → RunId → Turn D → Type 0
 PlansEarliest s r (Go grip) = ⊤
-PlansEarliest s r (Moved made) = scheduler_of s.setting.mode ≡ Timeline → (at m : ℕ) → entries_made made ≡ Placed (run_no r) at m ∷ []
+PlansEarliest s r (Moved made) = scheduler_of s.setting.mode ≡ Timeline → (at : LinePlace) (m : Moment) → entries_made made ≡ Placed (run_no r) at m ∷ []
     → IsFittingSet s.setting (read_of s) r m (gap_set s.setting (read_of s) r m) × IsEarliestSet s.setting (read_of s) r m (gap_set s.setting (read_of s) r m)
 PlansEarliest s r (Wait why) = ⊤
 PlansEarliest s r (Over end made) = ⊤
@@ -91,7 +92,7 @@ abbrev pub carried_by : {D S : Type 0} → Gripped D S → Carried
 carried_by grip = record { slip = grip.slip; task = grip.task }
 
 -- a grip that comes back is taken in: the step back, and the device is home again; or it is refused and nothing changes
-abbrev pub IsGiven : {D : Type 0} → OpenHub D → Gripped D Done → ℕ → Result Made (Gripped D Done × Stranger) → OpenHub D → Type 0
+abbrev pub IsGiven : {D : Type 0} → OpenHub D → Gripped D Done → Moment → Result Made (Gripped D Done × Stranger) → OpenHub D → Type 0
 IsGiven s grip m (Ok made) t =
     HubStep (state_of s) (Give (carried_by grip) grip.stage.told m) (Returned (Gave (entries_made made))) (state_of t)
     × (t.places ≡ slice_set s.places grip.slip.device.0 (Home grip.device))
@@ -101,7 +102,7 @@ IsGiven s grip m (Err refused) t =
     × (refused.0 ≡ grip) × (t ≡ s)
 
 -- a probe of the device goes out, or none may
-abbrev pub IsProbed : {D : Type 0} → OpenHub D → ℕ → Option (Gripped D Ready) → OpenHub D → Type 0
+abbrev pub IsProbed : {D : Type 0} → OpenHub D → DeviceId → Option (Gripped D Ready) → OpenHub D → Type 0
 IsProbed s d (Some grip) t =
     HubStep (state_of s) (TakeProbe d grip.slip) (Probed (Some grip.task)) (state_of t)
     × (slice_get s.places d ≡ Some (Home grip.device))
@@ -126,19 +127,19 @@ pub record IsOpened {D : Type 0} (turns probes faults : D → ℕ) (w : Setting)
   pub rounds_are : hub.rounds ≡ rounds
   pub windows : hub.opened ≡ home.opened
   pub tickets : hub.tickets ≡ 0
-  pub turns_then : (d : ℕ) (device : D) → slice_get home.devices d ≡ Some device → (device_at hub.devices d).at_opening.turns ≡ turns device
-  pub probes_then : (d : ℕ) (device : D) → slice_get home.devices d ≡ Some device → (device_at hub.devices d).at_opening.probes ≡ probes device
-  pub faults_then : (d : ℕ) (device : D) → slice_get home.devices d ≡ Some device → (device_at hub.devices d).at_opening.faults ≡ faults device
+  pub turns_then : (d : DeviceId) (device : D) → slice_get home.devices d ≡ Some device → (device_at hub.devices d).at_opening.turns ≡ turns device
+  pub probes_then : (d : DeviceId) (device : D) → slice_get home.devices d ≡ Some device → (device_at hub.devices d).at_opening.probes ≡ probes device
+  pub faults_then : (d : DeviceId) (device : D) → slice_get home.devices d ≡ Some device → (device_at hub.devices d).at_opening.faults ≡ faults device
 
 -- no device fails in the window: each is up as it opens, and its faults do not rise
 pub record NoneFails (w : Setting) (faults : List ℕ) : Type 0 where
-  pub up : (d : ℕ) → d < length w.first → (stand_at w.first d).up ≡ true
-  pub steady : (d : ℕ) → d < length w.first → slice_index_or faults d 0 ≡ 0
+  pub up : (d : DeviceId) → d < length w.first → (stand_at w.first d).up ≡ true
+  pub steady : (d : DeviceId) → d < length w.first → slice_index_or faults d 0 ≡ 0
 
 -- every run of the window has ended, and where runs are served as they come and no device fails, each that has no must `check` has committed
 pub record RunsHaveEnded (w : Setting) (closed : WindowRecord) : Type 0 where
-  pub ended : (r : ℕ) → is_run w.runs r ≡ true → is_some ((reading w (history_of closed)).run r).ended ≡ true
-  pub commits : w.mode.scheduler ≡ Fcfs → NoneFails w closed.faults.items → (r : ℕ) → is_run w.runs r ≡ true → has_must_check w.runs r ≡ false → ((reading w (history_of closed)).run r).ended ≡ Some Committed
+  pub ended : (r : RunId) → is_run w.runs r ≡ true → is_some ((reading w (history_of closed)).run r).ended ≡ true
+  pub commits : w.mode.scheduler ≡ Fcfs → NoneFails w closed.faults.items → (r : RunId) → is_run w.runs r ≡ true → has_must_check w.runs r ≡ false → ((reading w (history_of closed)).run r).ended ≡ Some Committed
 
 -- the window was closed with this record, and leaves this home: its devices are those of the hub, and their counts rose as the record says, the probes by those that were taken
 pub record IsClosed {D : Type 0} (turns probes faults : D → ℕ) (s : OpenHub D) (home : HomeState D) (closed : WindowRecord) : Type 0 where
@@ -150,15 +151,15 @@ pub record IsClosed {D : Type 0} (turns probes faults : D → ℕ) (s : OpenHub 
   pub places : s.places ≡ all_home home.devices
   pub ends : RunsHaveEnded s.setting closed
   -- where no device fails, each is up
-  pub up : NoneFails s.setting closed.faults.items → (d : ℕ) → d < length home.world → (stand_at home.world d).up ≡ true
-  pub turns_rose : (d : ℕ) (device : D) → slice_get home.devices d ≡ Some device → turns device ≡ (device_at s.devices d).at_opening.turns + slice_index_or closed.turns.items d 0
-  pub probes_rose : (d : ℕ) (device : D) → slice_get home.devices d ≡ Some device → probes device ≡ (device_at s.devices d).at_opening.probes + (s.rounds - (device_at s.devices d).probes_left)
-  pub faults_rose : (d : ℕ) (device : D) → slice_get home.devices d ≡ Some device → faults device ≡ (device_at s.devices d).at_opening.faults + slice_index_or closed.faults.items d 0
+  pub up : NoneFails s.setting closed.faults.items → (d : DeviceId) → d < length home.world → (stand_at home.world d).up ≡ true
+  pub turns_rose : (d : DeviceId) (device : D) → slice_get home.devices d ≡ Some device → turns device ≡ (device_at s.devices d).at_opening.turns + slice_index_or closed.turns.items d 0
+  pub probes_rose : (d : DeviceId) (device : D) → slice_get home.devices d ≡ Some device → probes device ≡ (device_at s.devices d).at_opening.probes + (s.rounds - (device_at s.devices d).probes_left)
+  pub faults_rose : (d : DeviceId) (device : D) → slice_get home.devices d ≡ Some device → faults device ≡ (device_at s.devices d).at_opening.faults + slice_index_or closed.faults.items d 0
 
 -- What a hub tells
 
 -- there is nothing to do for the run: the window has no such run, or it has ended
-abbrev pub is_past : Configuration → ℕ → Bool
+abbrev pub is_past : Configuration → RunId → Bool
 is_past s r = not (is_run s.setting.runs r) || is_some ((read_of s).run r).ended
 
 -- by how many ms a replay's moment rises with what the device is out for: that of a command, 0 for an undo or a probe
@@ -175,29 +176,29 @@ grip_takes w (Some grip) = by_purpose grip.purpose
 
 -- a device that is home, and counted up, stands at its standing value
 abbrev pub DevicesStand : {D : Type 0} → (D → ℕ) → OpenHub D → Type 0
-DevicesStand {D} stands s = (d : ℕ) (device : D) → slice_get s.places d ≡ Some (Home device) → (read_of (configuration_of s)).up d ≡ true
+DevicesStand {D} stands s = (d : DeviceId) (device : D) → slice_get s.places d ≡ Some (Home device) → (read_of (configuration_of s)).up d ≡ true
     → stands device ≡ standing_value s.setting (read_of (configuration_of s)) (configuration_of s).grips d
 
 -- how many probes of the device were taken
-abbrev pub probes_taken : {D : Type 0} → OpenHub D → ℕ → ℕ
+abbrev pub probes_taken : {D : Type 0} → OpenHub D → DeviceId → ℕ
 probes_taken s d = s.rounds - (device_at s.devices d).probes_left
 
 -- how often it has failed up to now at least: its faults at the opening, and the failures that the history tells of
-abbrev pub faults_told : {D : Type 0} → OpenHub D → ℕ → ℕ
+abbrev pub faults_told : {D : Type 0} → OpenHub D → DeviceId → ℕ
 faults_told s d = (device_at s.devices d).at_opening.faults + told_falls (entries_of s.history) d
 
 -- the calls of a device that is home rose since the opening by those that the history tells of, its probes by those that were taken, and its faults by its failures at least, and at most by these and its probes
 pub record CallsAreTold {D : Type 0} (turns probes faults : D → ℕ) (s : OpenHub D) : Type 0 where
-  pub turns_rose : (d : ℕ) (device : D) → slice_get s.places d ≡ Some (Home device) → turns device ≡ (device_at s.devices d).at_opening.turns + told_calls s.setting.runs (entries_of s.history) d
-  pub probes_rose : (d : ℕ) (device : D) → slice_get s.places d ≡ Some (Home device) → probes device ≡ (device_at s.devices d).at_opening.probes + probes_taken s d
-  pub falls_told : (d : ℕ) (device : D) → slice_get s.places d ≡ Some (Home device) → faults_told s d ≤ faults device
-  pub few_faults : (d : ℕ) (device : D) → slice_get s.places d ≡ Some (Home device) → faults device ≤ faults_told s d + probes_taken s d
+  pub turns_rose : (d : DeviceId) (device : D) → slice_get s.places d ≡ Some (Home device) → turns device ≡ (device_at s.devices d).at_opening.turns + told_calls s.setting.runs (entries_of s.history) d
+  pub probes_rose : (d : DeviceId) (device : D) → slice_get s.places d ≡ Some (Home device) → probes device ≡ (device_at s.devices d).at_opening.probes + probes_taken s d
+  pub falls_told : (d : DeviceId) (device : D) → slice_get s.places d ≡ Some (Home device) → faults_told s d ≤ faults device
+  pub few_faults : (d : DeviceId) (device : D) → slice_get s.places d ≡ Some (Home device) → faults device ≤ faults_told s d + probes_taken s d
 
 -- in every hub each device has a place, and one that is home stands in that of its number, the history is well formed, the grips that are out fit it, aborts are justified, devices stand where they should, and their calls are told;
 -- outside the weak model the four clauses of the order hold, reads are clean, and places are the scheduler's; and under it answers, dooms and ends are such as the weak model allows
 pub record HubStands {D : Type 0} (tag stands turns probes faults : D → ℕ) (s : OpenHub D) : Type 0 where
   pub size : length s.places ≡ length s.setting.first
-  pub numbered : (d : ℕ) (device : D) → slice_get s.places d ≡ Some (Home device) → tag device ≡ d
+  pub numbered : (d : DeviceId) (device : D) → slice_get s.places d ≡ Some (Home device) → tag device ≡ d
   pub few_runs : length s.setting.runs ≤ most_runs
   pub few_devices : length s.setting.first ≤ most_devices
   pub well_formed : IsWellFormed s.setting (entries_of s.history)
@@ -214,5 +215,5 @@ pub record HubStands {D : Type 0} (tag stands turns probes faults : D → ℕ) (
 
 -- where no device is out and some run has not ended, some run that has not ended does not wait, at any moment
 abbrev pub SomeRunMoves : Configuration → Type 0
-SomeRunMoves s = (r : ℕ) → is_run s.setting.runs r ≡ true → ((read_of s).run r).ended ≡ None → ((d : ℕ) → s.grips d ≡ None)
-    → (q : ℕ) × (is_run s.setting.runs q ≡ true) × (((read_of s).run q).ended ≡ None) × ((m : ℕ) (why : Why) → choice_of s q m ≢ Waits why)
+SomeRunMoves s = (r : RunId) → is_run s.setting.runs r ≡ true → ((read_of s).run r).ended ≡ None → ((d : DeviceId) → s.grips d ≡ None)
+    → (q : RunId) × (is_run s.setting.runs q ≡ true) × (((read_of s).run q).ended ≡ None) × ((m : Moment) (why : Why) → choice_of s q m ≢ Waits why)

@@ -11,6 +11,7 @@ use Rattle.history_book.specs.declared.entries.Entry.{Entry}
 use Rattle.history_book.specs.declared.entries.Entry.TheVariants.{Arrived, Did, Doomed, Ended, Fell, Placed, Rose, Undid}
 use Rattle.home_types.specs.HomeStates.{stand_at}
 use Rattle.home_types.specs.Kinds.{has_value, kind_at}
+use Rattle.home_types.specs.Numbers.{DeviceId, RunId}
 use Rattle.home_types.specs.declared.items.Item.{Item}
 use Rattle.home_types.specs.declared.items.Item.TheVariants.{Back, Failed, Ran}
 use Rattle.home_types.specs.declared.kinds.Kind.{Kind}
@@ -44,12 +45,12 @@ placed_in_order n (Back d k ∷ is) = placed_in_order n is
 
 -- a live run that has touched a device, or has out a grip, waits for no run by its model
 abbrev pub ActsInTurn : Setting → Reading → Grips → Type 0
-ActsInTurn w n g = (r d : ℕ) → IsTrue (is_live n r && (has_touched n g r d || has_grip g r d)) → strict_wait w n r ≡ None
+ActsInTurn w n g = (r : RunId) (d : DeviceId) → IsTrue (is_live n r && (has_touched n g r d || has_grip g r d)) → strict_wait w n r ≡ None
 
 -- a run that follows another is placed after the end of that one, and stands behind it where both stand in the line
 pub record FollowersStand (w : Setting) (n : Reading) : Type 0 where
-  pub ended : (r : ℕ) (f : RunNo) → followed_by w.runs r ≡ Some f → is_some (n.run r).placed ≡ true → is_some (n.run f.0).ended ≡ true
-  pub behind_it : (r : ℕ) (f : RunNo) → followed_by w.runs r ≡ Some f → is_in_line n r ≡ true → is_in_line n f.0 ≡ true → list_any (is_ran r) (behind f.0 n.line) ≡ true
+  pub ended : (r : RunId) (f : RunNo) → followed_by w.runs r ≡ Some f → is_some (n.run r).placed ≡ true → is_some (n.run f.0).ended ≡ true
+  pub behind_it : (r : RunId) (f : RunNo) → followed_by w.runs r ≡ Some f → is_in_line n r ≡ true → is_in_line n f.0 ≡ true → list_any (is_ran r) (behind f.0 n.line) ≡ true
 
 -- no run is doomed for a lease that it kept too long
 abbrev pub keeps_leases : Entry → Bool
@@ -67,8 +68,8 @@ keeps_leases (Doomed r (DownAtEnd d)) = true
 keeps_leases (Ended r e) = true
 
 -- the test holds of each device that is out and its grip
-abbrev pub EachOut : Grips → (ℕ → Grip → Bool) → Type 0
-EachOut g test = (d : ℕ) (grip : Grip) → g d ≡ Some grip → test d grip ≡ true
+abbrev pub EachOut : Grips → (DeviceId → Grip → Bool) → Type 0
+EachOut g test = (d : DeviceId) (grip : Grip) → g d ≡ Some grip → test d grip ≡ true
 
 -- what a run does with a device: a command, or an undo
 abbrev pub is_of_run : Purpose → Bool
@@ -77,11 +78,11 @@ is_of_run (Undoes v) = true
 is_of_run (Probes v) = false
 
 -- a probe of the device is out
-abbrev pub is_probed : Grips → ℕ → Bool
+abbrev pub is_probed : Grips → DeviceId → Bool
 is_probed g d = unwrap_or (option_map (λ grip. not (is_of_run grip.purpose)) (g d)) false
 
 -- how often the device came back, its probe that is out, and those that are left
-abbrev pub probes_of : Configuration → ℕ → ℕ
+abbrev pub probes_of : Configuration → DeviceId → ℕ
 probes_of s d = (read_of s).rose d + (if is_probed s.grips d then 1 else 0) + s.probes d
 
 -- a run that has a command out has had no answer since it was doomed
@@ -113,13 +114,13 @@ pub record HistoryIsKept (s : Configuration) : Type 0 where
   pub first : NoneAnsweredDoomed (read_of s) s.grips
 
 -- what is kept of a configuration in which each device stands, or stood as it went out, at this value: of a window under a model with an order, that may be opened
-pub record ConfigurationIsKept (s : Configuration) (rounds opened : ℕ) (held : ℕ → ℕ) : Type 0 where
+pub record ConfigurationIsKept (s : Configuration) (rounds opened : ℕ) (held : DeviceId → ℕ) : Type 0 where
   pub opens : MayOpen s.setting rounds opened
   pub strong : is_weak s.setting.mode ≡ false
   pub kinds : length s.setting.kinds ≡ length s.setting.first
   -- each restart answers a probe, and no more probes of a device are taken than there are rounds
-  pub probes : (d : ℕ) → probes_of s d ≤ rounds
-  pub values : (d : ℕ) → d < length s.setting.first → IsTrue (has_value (kind_at s.setting.kinds d) (stand_at s.setting.first d).value)
+  pub probes : (d : DeviceId) → probes_of s d ≤ rounds
+  pub values : (d : DeviceId) → d < length s.setting.first → IsTrue (has_value (kind_at s.setting.kinds d) (stand_at s.setting.first d).value)
   pub undos : UndosFit s.setting s.grips
   pub history : HistoryIsKept s
   pub order : OrderIsKept s.setting (read_of s) s.grips held

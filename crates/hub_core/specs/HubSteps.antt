@@ -4,6 +4,7 @@ use Rattle.history_book.specs.Readings.{put}
 use Rattle.history_book.specs.declared.entries.Entry.{Entry}
 use Rattle.home_types.specs.Commands.{driven, reads}
 use Rattle.home_types.specs.Kinds.{kind_at}
+use Rattle.home_types.specs.Numbers.{ActorId, DeviceId, Moment, RunId}
 use Rattle.home_types.specs.declared.commands.Command.{Command}
 use Rattle.hub_core.specs.Steps.{Absent, Choice, HandsOut, Moves, Over, Waits, after_give, after_take, after_take_probe, at_moment, choice_of, give_entries, may_probe, probe_grip}
 use Rattle.device_gate.specs.declared.slips.Slip.{Slip}
@@ -22,13 +23,13 @@ pub record Carried : Type 0 where
 -- what a hub shows: its configuration, and what the grip of each device that is out carries
 pub record HubState : Type 0 where
   pub configuration : Configuration
-  pub carried : ℕ → Option Carried
+  pub carried : DeviceId → Option Carried
 
 -- what a command of the run does with its device
-abbrev pub command_task : Configuration → ℕ → Command → Task
+abbrev pub command_task : Configuration → RunId → Command → Task
 command_task s r c = if reads c.job then Sense else Drive (driven (kind_at s.setting.kinds c.device.0) c.job ((read_of s).run r).register)
 
-abbrev pub task_of : Configuration → ℕ → Purpose → Task
+abbrev pub task_of : Configuration → ActorId → Purpose → Task
 task_of s r (Commands k) = command_task s r (command_at s.setting.runs r k)
 task_of s r (Undoes v) = Drive v
 task_of s r (Probes value) = Probe value
@@ -78,10 +79,10 @@ pub record ProbeTaken : Type 0 where
   pub next : HubState
 
 -- the device leaves with this slip
-abbrev pub carrying : HubState → ℕ → ℕ → Purpose → Slip → ℕ → Option Carried
+abbrev pub carrying : HubState → ActorId → DeviceId → Purpose → Slip → DeviceId → Option Carried
 carrying s r d purpose slip = put s.carried d (Some (record { slip = slip; task = task_of s.configuration r purpose }))
 
-abbrev pub carried_after : HubState → ℕ → Choice → Slip → ℕ → Option Carried
+abbrev pub carried_after : HubState → RunId → Choice → Slip → DeviceId → Option Carried
 carried_after s r Absent slip = s.carried
 carried_after s r (Over e entries) slip = s.carried
 carried_after s r (Moves entries) slip = s.carried
@@ -89,7 +90,7 @@ carried_after s r (Waits why) slip = s.carried
 carried_after s r (HandsOut d purpose) slip = carrying s r d purpose slip
 
 -- the step of a run; a device that goes out leaves with the slip that is written for it
-abbrev pub take : HubState → ℕ → ℕ → Slip → Taken
+abbrev pub take : HubState → RunId → Moment → Slip → Taken
 take s r m slip =
     record {
       choice = choice_of s.configuration r m;
@@ -114,7 +115,7 @@ give_if true s c told result = record { answer = Gave (entries_back c told resul
 give_if false s c told result = record { answer = Refused (stranger s told); next = s }
 
 -- the grip of a run
-abbrev pub give : HubState → Carried → Told → ℕ → Given
+abbrev pub give : HubState → Carried → Told → Moment → Given
 give s told result m = give_if (is_kept s told && nat_lt 0 told.slip.maker) s (at_moment s.configuration m) told result
 
 -- the grip of the detector
@@ -122,7 +123,7 @@ abbrev pub give_probe : HubState → Carried → Told → Given
 give_probe s told result = give_if (is_kept s told && (told.slip.maker == 0)) s s.configuration told result
 
 -- a probe of the device goes out, where it may
-abbrev pub take_probe : HubState → ℕ → Slip → ProbeTaken
+abbrev pub take_probe : HubState → DeviceId → Slip → ProbeTaken
 take_probe s d slip =
     if may_probe s.configuration d then record {
       task = Some (task_of s.configuration 0 (probe_grip s.configuration d).purpose);
@@ -132,9 +133,9 @@ take_probe s d slip =
 -- a call of a hub, and its answer; the slip is that of the grip that the call hands out, if it does
 
 pub data Call : Type 0 where
-  Take : ℕ → ℕ → Slip → Call
-  Give : Carried → Told → ℕ → Call
-  TakeProbe : ℕ → Slip → Call
+  Take : RunId → Moment → Slip → Call
+  Give : Carried → Told → Moment → Call
+  TakeProbe : DeviceId → Slip → Call
   GiveProbe : Carried → Told → Call
 
 pub data CallAnswer : Type 0 where
@@ -143,12 +144,12 @@ pub data CallAnswer : Type 0 where
   Probed : Option Task → CallAnswer
 
 -- a slip names its device and its maker
-pub record IsSlipOf (r d : ℕ) (slip : Slip) : Type 0 where
+pub record IsSlipOf (r : ActorId) (d : DeviceId) (slip : Slip) : Type 0 where
   pub device : slip.device.0 ≡ d
   pub maker : slip.maker ≡ r
 
 -- the slip fits what goes out
-abbrev pub SlipFits : ℕ → Choice → Slip → Type 0
+abbrev pub SlipFits : RunId → Choice → Slip → Type 0
 SlipFits r (HandsOut d purpose) slip = IsSlipOf r d slip
 SlipFits r choice slip = ⊤
 

@@ -8,6 +8,7 @@ use Rattle.history_book.specs.Histories.{entries_of}
 use Rattle.history_book.specs.Settings.{Setting}
 use Rattle.home_types.specs.Kinds.{has_value, kind_at}
 use Rattle.home_types.specs.Listed.{Listed}
+use Rattle.home_types.specs.Numbers.{DeviceId}
 use Rattle.home_types.specs.declared.numbers.DeviceNo.{DeviceNo}
 use Rattle.legal_days.specs.AccountedCalls.{told_calls}
 use Rattle.hub_core.specs.Homes.{CountsAreLow}
@@ -25,10 +26,10 @@ use Rattle.lock_leasing.specs.Waits.{grip_wait}
 use Rattle.std.specs.Prelude.{Bool, IsTrue, List, Option, Some, [], count_by, false, length, nat_lt, option_map, slice_get, suc, sum_by, true, ℕ, ◌+◌, ◌-◌, ◌<◌, ◌≡◌, ◌≤◌}
 
 -- how often the device was called up to now: its counts at the opening, and what the window made of them
-abbrev pub turns_now : {D : Type 0} → OpenHub D → ℕ → ℕ
+abbrev pub turns_now : {D : Type 0} → OpenHub D → DeviceId → ℕ
 turns_now s d = (device_at s.devices d).at_opening.turns + told_calls s.setting.runs (entries_of s.history) d
 
-abbrev pub probes_now : {D : Type 0} → OpenHub D → ℕ → ℕ
+abbrev pub probes_now : {D : Type 0} → OpenHub D → DeviceId → ℕ
 probes_now s d = (device_at s.devices d).at_opening.probes + probes_taken s d
 
 -- how many probes were taken of all devices
@@ -36,7 +37,7 @@ abbrev pub all_probes_taken : {D : Type 0} → OpenHub D → ℕ
 all_probes_taken s = sum_by (λ known. s.rounds - known.probes_left) s.devices
 
 -- a device that is home stands at its value if it is counted up, and its calls are told
-pub record FitsAtHome {D : Type 0} (stands turns probes faults : D → ℕ) (s : OpenHub D) (d : ℕ) (device : D) : Type 0 where
+pub record FitsAtHome {D : Type 0} (stands turns probes faults : D → ℕ) (s : OpenHub D) (d : DeviceId) (device : D) : Type 0 where
   pub stand : (read_of (configuration_of s)).up d ≡ true → stands device ≡ held_in s d
   pub turns_are : turns device ≡ turns_now s d
   pub probes_are : probes device ≡ probes_now s d
@@ -44,7 +45,7 @@ pub record FitsAtHome {D : Type 0} (stands turns probes faults : D → ℕ) (s :
   pub few_faults : faults device ≤ faults_told s d + probes_taken s d
 
 -- a slip says the same of a device that is out, whose task is that of its purpose
-pub record FitsOut {D : Type 0} (s : OpenHub D) (d : ℕ) (slip : Slip) (task : Task) : Type 0 where
+pub record FitsOut {D : Type 0} (s : OpenHub D) (d : DeviceId) (slip : Slip) (task : Task) : Type 0 where
   pub device : slip.device.0 ≡ d
   pub stand : IsTrue (is_counted_up task) → slip.stood ≡ held_in s d
   pub turns_are : slip.turns ≡ turns_now s d
@@ -59,16 +60,16 @@ is_away (Home device) = false
 is_away (Out slip task) = nat_lt 0 slip.maker
 
 -- what is kept of what a hub shows, where this is kept of its configuration
-pub record HubIsKeptBy (Kept : Configuration → ℕ → ℕ → (ℕ → ℕ) → Type 0) {D : Type 0} (stands turns probes faults : D → ℕ) (s : OpenHub D) : Type 0 where
+pub record HubIsKeptBy (Kept : Configuration → ℕ → ℕ → (DeviceId → ℕ) → Type 0) {D : Type 0} (stands turns probes faults : D → ℕ) (s : OpenHub D) : Type 0 where
   pub configuration : Kept (configuration_of s) s.rounds s.opened (held_in s)
   pub devices_size : length s.devices ≡ length s.setting.first
   pub places_size : length s.places ≡ length s.setting.first
-  pub home : (d : ℕ) (device : D) → slice_get s.places d ≡ Some (Home device) → FitsAtHome stands turns probes faults s d device
-  pub out : (d : ℕ) (slip : Slip) (task : Task) → slice_get s.places d ≡ Some (Out slip task) → FitsOut s d slip task
-  pub low : (d : ℕ) → CountsAreLow s.opened (device_at s.devices d).at_opening.turns (device_at s.devices d).at_opening.probes (device_at s.devices d).at_opening.faults
-  pub values : (d : ℕ) → d < length s.setting.first → IsTrue (has_value (kind_at s.setting.kinds d) (held_in s d))
+  pub home : (d : DeviceId) (device : D) → slice_get s.places d ≡ Some (Home device) → FitsAtHome stands turns probes faults s d device
+  pub out : (d : DeviceId) (slip : Slip) (task : Task) → slice_get s.places d ≡ Some (Out slip task) → FitsOut s d slip task
+  pub low : (d : DeviceId) → CountsAreLow s.opened (device_at s.devices d).at_opening.turns (device_at s.devices d).at_opening.probes (device_at s.devices d).at_opening.faults
+  pub values : (d : DeviceId) → d < length s.setting.first → IsTrue (has_value (kind_at s.setting.kinds d) (held_in s d))
   -- the hub has counted the failures and restarts of each device as the history tells them
-  pub events : (d : ℕ) → d < length s.setting.first → (device_at s.devices d).events ≡ events_in (read_of (configuration_of s)) d
+  pub events : (d : DeviceId) → d < length s.setting.first → (device_at s.devices d).events ≡ events_in (read_of (configuration_of s)) d
   -- each ticket is of a call that is told, of a device that is out for a run, or of a probe
   pub few_tickets : s.tickets ≤ length s.history + count_by is_away s.places + all_probes_taken s
 

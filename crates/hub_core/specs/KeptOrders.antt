@@ -4,6 +4,7 @@ use Rattle.command_rules.specs.ClosedSets.{HoldsFirst, IsClosed, rearranged}
 use Rattle.command_rules.specs.Rosters.{Run, command_at, commands_of, is_run, run_no, touches}
 use Rattle.history_book.specs.Readings.{Reading, next_of}
 use Rattle.history_book.specs.Settings.{Setting, is_weak}
+use Rattle.home_types.specs.Numbers.{CommandIndex, DeviceId, RunId}
 use Rattle.hub_core.specs.Bounds.{most_items}
 use Rattle.hub_core.specs.ReadHistories.{HistoryState, read_in}
 use Rattle.hub_core.specs.declared.plans.PlannedUse.{PlannedUse}
@@ -45,34 +46,34 @@ pub record MayArrange (set : List Bool) (line : Marked) : Type 0 where
   pub sealed : HoldsFirst line.sealed set
 
 -- the run has not touched the device: its access is scheduled
-abbrev pub is_first : ℕ → LineageState → Bool
+abbrev pub is_first : RunId → LineageState → Bool
 is_first r s = unwrap_or (option_map is_scheduled (status_of r s.accesses)) false
 
 -- the run is not done with the device: its access is acquired, or scheduled
-abbrev pub IsUnreleased : ℕ → LineageState → Type 0
+abbrev pub IsUnreleased : RunId → LineageState → Type 0
 IsUnreleased r s = status_of r s.accesses ≡ Some (if is_first r s then Scheduled else Acquired)
 
 -- the run may have an access on the device: that is acquired, or scheduled where none is
-pub record MayNote (r : ℕ) (s : LineageState) : Type 0 where
+pub record MayNote (r : RunId) (s : LineageState) : Type 0 where
   pub status : IsUnreleased r s
   pub first : is_first r s ≡ true → IsWaiting r s
 
 -- the lineage of a device on which the run, which is planned to use it so, stands before those of these items; as it is where no use is planned
-abbrev pub scheduled_so : ℕ → List Item → Option PlannedUse → LineageState → LineageState
+abbrev pub scheduled_so : RunId → List Item → Option PlannedUse → LineageState → LineageState
 scheduled_so r back None s = s
 scheduled_so r back (Some used) s =
     scheduled (first_with_access s.accesses back) (record { run = run_no r; status = Scheduled; view = None; wrote = None; from = used.from; to = used.to }) (rescheduled (first_with_access s.accesses back) s)
 
 -- .. on each of its devices, with these uses
-abbrev pub scheduled_with : List Run → ℕ → List (Option PlannedUse) → List Item → ℕ → LineageState → LineageState
+abbrev pub scheduled_with : List Run → RunId → List (Option PlannedUse) → List Item → DeviceId → LineageState → LineageState
 scheduled_with runs r uses back d s = if touches runs r d then scheduled_so r back (get_or uses d None) s else s
 
 -- the run's answer on the device is noted; where it has not touched it before, the scheduled accesses before its own are passed first, and its own is acquired
-abbrev pub noted_first : ℕ → Bool → View → Option ℕ → Bool → LineageState → LineageState
+abbrev pub noted_first : RunId → Bool → View → Option ℕ → Bool → LineageState → LineageState
 noted_first r first view wrote last s = noted r first view wrote last (passed_if first r s)
 
 -- .. to the command of this number, which was just answered
-pub record MayNoteAnswer (h : HistoryState) (r k d : ℕ) (table : List LineageState) : Type 0 where
+pub record MayNoteAnswer (h : HistoryState) (r : RunId) (k : CommandIndex) (d : DeviceId) (table : List LineageState) : Type 0 where
   pub run : is_run h.setting.runs r ≡ true
   pub there : k < length (commands_of h.setting.runs r)
   pub device : (command_at h.setting.runs r k).device.0 ≡ d
@@ -81,11 +82,11 @@ pub record MayNoteAnswer (h : HistoryState) (r k d : ℕ) (table : List LineageS
   pub turn : MayNote r (lineage_at table d)
 
 -- the run has skipped its last command on the device: its access is gone where the run has not touched the device, and else released
-abbrev pub left_by : ℕ → Bool → LineageState → LineageState
+abbrev pub left_by : RunId → Bool → LineageState → LineageState
 left_by r first s = if first then removed r s else released r s
 
 -- .. the command of this number, which was just answered; under the weak model it has no access there
-pub record MayLeave (h : HistoryState) (r k d : ℕ) (table : List LineageState) : Type 0 where
+pub record MayLeave (h : HistoryState) (r : RunId) (k : CommandIndex) (d : DeviceId) (table : List LineageState) : Type 0 where
   pub run : is_run h.setting.runs r ≡ true
   pub there : k < length (commands_of h.setting.runs r)
   pub device : (command_at h.setting.runs r k).device.0 ≡ d
@@ -123,7 +124,7 @@ abbrev pub HasRisen : HistoryState → DeviceNo → ℕ → Marked → Marked �
 HasRisen h d number line after table later = HasTurned true (Back d number) h d None line after table later
 
 -- the device whose grip the run holds
-abbrev pub hand_of : List (Option DeviceNo) → ℕ → Option DeviceNo
+abbrev pub hand_of : List (Option DeviceNo) → RunId → Option DeviceNo
 hand_of hands r = slice_index_or hands (r - 1) None
 
 -- the run that a failure loses, where there is one, is done with each device but the one that is out for it
@@ -132,7 +133,7 @@ IsLostTo None hands table later = later ≡ table
 IsLostTo (Some r) hands table later = ChangesEach (doomed_unless (hand_of hands r.0) r.0) table later
 
 -- the lineage of a device tells how it is counted, and has no access: under the weak model no run asks for more
-pub record LineageIsBare (n : Reading) (d : ℕ) (s : LineageState) : Type 0 where
+pub record LineageIsBare (n : Reading) (d : DeviceId) (s : LineageState) : Type 0 where
   pub accesses : s.accesses ≡ []
   pub up : s.up ≡ n.up d
 
@@ -140,7 +141,7 @@ pub record LineageIsBare (n : Reading) (d : ℕ) (s : LineageState) : Type 0 whe
 pub record TableFits (w : Setting) (n : Reading) (g : Grips) (table : List LineageState) : Type 0 where
   pub devices : length table ≡ length w.first
   pub ordered : is_weak w.mode ≡ false → TableIsKept w n g table
-  pub weakly : is_weak w.mode ≡ true → (d : ℕ) → d < length w.first → LineageIsBare n d (lineage_at table d)
+  pub weakly : is_weak w.mode ≡ true → (d : DeviceId) → d < length w.first → LineageIsBare n d (lineage_at table d)
 
 -- .. and the line is theirs too, each item with what it has touched, sealed up to the first live run; it keeps the devices of the runs, and whom they follow; and it has room for all its items, where there are so many rounds of probes
 pub record IsOrderOf (rounds : ℕ) (w : Setting) (n : Reading) (g : Grips) (line : Marked) (table : List LineageState) : Type 0 where

@@ -7,6 +7,7 @@ use Rattle.device_gate.specs.declared.gates.Place.{Place}
 use Rattle.history_book.specs.Readings.{OfRun, Reading}
 use Rattle.history_book.specs.Settings.{Setting}
 use Rattle.history_book.specs.declared.entries.Kept.{Kept}
+use Rattle.home_types.specs.Numbers.{DeviceId, Moment}
 use Rattle.hub_core.specs.HubSteps.{Carried, HubState}
 use Rattle.hub_core.specs.declared.known.Counts.{Counts}
 use Rattle.hub_core.specs.declared.known.DeviceProgress.{DeviceProgress}
@@ -23,7 +24,7 @@ pub record OpenHub (D : Type 0) : Type 0 where
   pub rounds : ℕ
   pub opened : ℕ
   pub history : List Kept
-  pub moment : ℕ
+  pub moment : Moment
   pub devices : List DeviceProgress
   pub places : List (Place D)
   pub tickets : ℕ
@@ -35,14 +36,14 @@ abbrev pub no_events : Events
 no_events = record { fell = 0; rose = 0 }
 
 -- how often the device failed and came back, by the history
-abbrev pub events_in : Reading → ℕ → Events
+abbrev pub events_in : Reading → DeviceId → Events
 events_in n d = record { fell = n.fell d; rose = n.rose d }
 
 abbrev pub no_device : DeviceProgress
 no_device = record { held = 0; probes_left = 0; purpose = Command 0; at_opening = no_counts; events = no_events }
 
 -- what is known of the device
-abbrev pub device_at : List DeviceProgress → ℕ → DeviceProgress
+abbrev pub device_at : List DeviceProgress → DeviceId → DeviceProgress
 device_at devices d = slice_index_or devices d no_device
 
 abbrev pub purpose_of : KeptPurpose → Purpose
@@ -79,7 +80,7 @@ abbrev pub held_after : Told → Task → ℕ → ℕ
 held_after told task held = if has_died told then held else value_after task held
 
 -- where the device stands, or stood as it went out
-abbrev pub held_in : {D : Type 0} → OpenHub D → ℕ → ℕ
+abbrev pub held_in : {D : Type 0} → OpenHub D → DeviceId → ℕ
 held_in s d = (device_at s.devices d).held
 
 -- what a reading says of a run, in short

@@ -2,6 +2,7 @@
 use Rattle.command_rules.specs.Rosters.{Run}
 use Rattle.home_types.specs.HomeStates.{stand_at}
 use Rattle.home_types.specs.Listed.{Listed}
+use Rattle.home_types.specs.Numbers.{DeviceId}
 use Rattle.home_types.specs.declared.worlds.Stand.{Stand}
 use Rattle.history_book.specs.declared.entries.Kept.{Kept}
 use Rattle.hub_core.specs.Homes.{HomeState}
@@ -59,4 +60,4 @@ known_first rounds value turns probes faults =
 -- the first n devices of the home are known as they are
 pub record AreKnown {D : Type 0} (turns probes faults : D → ℕ) (home : HomeState D) (rounds n : ℕ) (known : List DeviceProgress) : Type 0 where
   pub size : length known ≡ n
-  pub each : (d : ℕ) (device : D) → d < n → slice_get home.devices d ≡ Some device → slice_get known d ≡ Some (known_first rounds (stand_at home.world d).value (turns device) (probes device) (faults device))
+  pub each : (d : DeviceId) (device : D) → d < n → slice_get home.devices d ≡ Some device → slice_get known d ≡ Some (known_first rounds (stand_at home.world d).value (turns device) (probes device) (faults device))

@@ -3,6 +3,7 @@ use Rattle.command_rules.specs.Rosters.{commands_of, followed_by}
 use Rattle.history_book.specs.Settings.{Setting, is_device}
 use Rattle.home_types.specs.Kinds.{has_value, kind_at}
 use Rattle.home_types.specs.Limits.{most_commands, most_devices, most_probes, most_runs}
+use Rattle.home_types.specs.Numbers.{CommandIndex, RunId}
 use Rattle.home_types.specs.declared.commands.Command.{Command}
 use Rattle.home_types.specs.declared.commands.Job.{Job}
 use Rattle.home_types.specs.declared.commands.Job.TheVariants.{Check, Load, Set, Store}
@@ -41,11 +42,11 @@ is_mode mode = by_model mode.model
 pub record MayOpen (w : Setting) (rounds opened : ℕ) : Type 0 where
   pub few_devices : length w.first ≤ most_devices
   pub few_runs : length w.runs ≤ most_runs
-  pub few_commands : (r : ℕ) → length (commands_of w.runs r) ≤ most_commands
+  pub few_commands : (r : RunId) → length (commands_of w.runs r) ≤ most_commands
   -- each command is on a device of the home, and names values of its kind
-  pub homed : (r k : ℕ) (c : Command) → slice_get (commands_of w.runs r) k ≡ Some c → IsTrue (is_device w c.device.0 && names_values_of (kind_at w.kinds c.device.0) c.job)
+  pub homed : (r : RunId) (k : CommandIndex) (c : Command) → slice_get (commands_of w.runs r) k ≡ Some c → IsTrue (is_device w c.device.0 && names_values_of (kind_at w.kinds c.device.0) c.job)
   -- a run follows an earlier run, or none
-  pub follows : (r : ℕ) (f : RunNo) → followed_by w.runs r ≡ Some f → IsTrue (nat_lt 0 f.0 && nat_lt f.0 r)
+  pub follows : (r : RunId) (f : RunNo) → followed_by w.runs r ≡ Some f → IsTrue (nat_lt 0 f.0 && nat_lt f.0 r)
   pub mode : IsTrue (is_mode w.mode)
   pub few_rounds : rounds ≤ most_probes
   pub few_windows : opened < 2 ^ 31

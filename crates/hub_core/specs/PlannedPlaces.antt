@@ -5,6 +5,7 @@ use Rattle.history_book.specs.Plans.{planned_times}
 use Rattle.history_book.specs.Readings.{Planned}
 use Rattle.history_book.specs.Settings.{Setting, scheduler_of}
 use Rattle.home_types.specs.Limits.{most_devices}
+use Rattle.home_types.specs.Numbers.{DeviceId, LinePlace, Moment, RunId}
 use Rattle.home_types.specs.declared.modes.Scheduler.TheVariants.{Timeline}
 use Rattle.home_types.specs.declared.commands.Command.{Command}
 use Rattle.hub_core.specs.BlockedMarks.{AreBlocked, BlockedState}
@@ -30,16 +31,16 @@ pub record HasSameRoom (before after : Room) : Type 0 where
   pub items : after.items ≡ before.items
 
 -- the scratch holds the set of items that stand before the run at this moment, and its times at this place
-pub record HoldsGap (room : Room) (s : Configuration) (r m at : ℕ) : Type 0 where
+pub record HoldsGap (room : Room) (s : Configuration) (r : RunId) (m : Moment) (at : LinePlace) : Type 0 where
   pub set : room.before ≡ gap_set s.setting (read_of s) r m
   pub times : HoldsTimes room.slots (planned_times s.setting (read_of s) r (front_for s.setting (read_of s) r at m) m)
 
 -- .. where runs are placed by the timeline
-abbrev pub HoldsPlan : Room → Configuration → ℕ → ℕ → ℕ → Type 0
+abbrev pub HoldsPlan : Room → Configuration → RunId → Moment → LinePlace → Type 0
 HoldsPlan room s r m at = scheduler_of s.setting.mode ≡ Timeline → HoldsGap room s r m at
 
 -- .. where the run, which has no place yet, is to be placed
-abbrev pub HoldsChosen : Room → Configuration → ℕ → ℕ → Chosen → Type 0
+abbrev pub HoldsChosen : Room → Configuration → RunId → Moment → Chosen → Type 0
 HoldsChosen room s r m chosen = ((read_of s).run r).placed ≡ None → by_chosen chosen
   where
     by_chosen : Chosen → Type 0
@@ -59,14 +60,14 @@ HoldsChosen room s r m chosen = ((read_of s).run r).placed ≡ None → by_chose
 
 -- these are the uses of each device in a run's plan
 abbrev pub AreUsesOf : List (Option PlannedUse) → List Planned → Type 0
-AreUsesOf uses planned = (d : ℕ) → d < most_devices → slice_get uses d ≡ Some (planned_use planned d)
+AreUsesOf uses planned = (d : DeviceId) → d < most_devices → slice_get uses d ≡ Some (planned_use planned d)
 
 -- the use of a device that is planned from and to these times
-abbrev pub use_between : ℕ × ℕ → PlannedUse
+abbrev pub use_between : Moment × Moment → PlannedUse
 use_between (from, to) = record { from = from; to = to }
 
 -- the use of the device that the scratch holds for a run with these commands
-abbrev pub held_use : List Slot → List Command → ℕ → Option PlannedUse
+abbrev pub held_use : List Slot → List Command → DeviceId → Option PlannedUse
 held_use slots commands d = if list_any (is_on d) commands then option_map use_between (planned_in slots d) else None
 
 -- what is kept of a hub besides its window, with so many rounds of probes: each run that is marked is blocked, and the scratch is for the home and the line

@@ -8,6 +8,7 @@ use Rattle.history_book.specs.declared.entries.Cause.{Cause}
 use Rattle.history_book.specs.declared.entries.Entry.TheVariants.{Doomed}
 use Rattle.history_book.specs.declared.entries.Entry.{Entry}
 use Rattle.history_book.specs.declared.entries.Kept.{Kept}
+use Rattle.home_types.specs.Numbers.{ActorId, RunId}
 use Rattle.home_types.specs.declared.numbers.DeviceNo.{DeviceNo}
 use Rattle.home_types.specs.declared.numbers.RunNo.{RunNo}
 use Rattle.hub_core.specs.OpenHubs.{progress_of}
@@ -25,15 +26,15 @@ abbrev pub read_in : HistoryState → Reading
 read_in s = reading s.setting (entries_of s.history)
 
 -- the entry is appended, and takes one place of the room
-abbrev pub with_entry : HistoryState → ℕ → Entry → HistoryState
+abbrev pub with_entry : HistoryState → ActorId → Entry → HistoryState
 with_entry s maker entry = record s { history = s.history ++ kept_by maker (entry ∷ []); spare = s.spare - 1 }
 
 -- .. or the entries of a step
-abbrev pub with_more : HistoryState → ℕ → List Entry → HistoryState
+abbrev pub with_more : HistoryState → ActorId → List Entry → HistoryState
 with_more s maker entries = record s { history = s.history ++ kept_by maker entries; spare = s.spare - length entries }
 
 -- the run is doomed, where there is a cause
-abbrev pub with_doom : HistoryState → ℕ → Option Cause → HistoryState
+abbrev pub with_doom : HistoryState → RunId → Option Cause → HistoryState
 with_doom s r None = s
 with_doom s r (Some cause) = with_entry s r (Doomed (run_no r) cause)
 

@@ -5,18 +5,19 @@ use Rattle.history_book.specs.Settings.{Setting}
 use Rattle.history_book.specs.declared.entries.End.TheVariants.{Committed}
 use Rattle.history_book.specs.declared.entries.Entry.TheVariants.{Ended}
 use Rattle.home_types.specs.Commands.{holds}
+use Rattle.home_types.specs.Numbers.{CommandIndex, RunId}
 use Rattle.home_types.specs.declared.commands.Command.{Command}
 use Rattle.hub_core.specs.Steps.{Choice, HandsOut, Moves, Over, Waits, aborts, down_entries, first_case, only_if, skip_entries}
 use Rattle.hub_core.specs.declared.waits.Why.TheVariants.{Busy}
 use Rattle.lock_leasing.specs.Configurations.{Commands, Grips, is_out}
-use Rattle.std.specs.Prelude.{[], if◌then◌else◌, not, option_map, ℕ, ◌∷◌}
+use Rattle.std.specs.Prelude.{[], if◌then◌else◌, not, option_map, ◌∷◌}
 
 -- the next command, with the number k: it is skipped, its device is out, the answer is Down with no call, or the device goes out
-abbrev pub weak_command : Reading → Grips → ℕ → ℕ → Command → Choice
+abbrev pub weak_command : Reading → Grips → RunId → CommandIndex → Command → Choice
 weak_command n g r k c =
     if holds c.when (n.run r).register then first_case (only_if (is_out g c.device.0) (Waits (Busy c.device)) ∷ only_if (not (n.up c.device.0)) (Moves (down_entries r k c)) ∷ []) (HandsOut c.device.0 (Commands k))
     else Moves (skip_entries r k)
 
 -- what a run does that is placed and has not ended: it ends where it is doomed, else has its next command, and at last commits
-abbrev pub weak_rest : Setting → Reading → Grips → ℕ → Choice
+abbrev pub weak_rest : Setting → Reading → Grips → RunId → Choice
 weak_rest w n g r = first_case (option_map (aborts r) (n.run r).doomed ∷ option_map (weak_command n g r (next_of n r)) (next_command w n r) ∷ []) (Over Committed (Ended (run_no r) Committed ∷ []))

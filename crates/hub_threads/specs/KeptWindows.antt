@@ -1,5 +1,6 @@
 -- A window whose last state is kept before its record is handed out.
 use Rattle.home_journal.specs.Journals.{JournalState, LeavesFirst}
+use Rattle.home_types.specs.Numbers.{Moment}
 use Rattle.home_types.specs.declared.worlds.Stand.{Stand}
 use Rattle.hub_core.specs.OpenHubs.{OpenHub}
 use Rattle.hub_threads.specs.WorkedWindows.{IsWorked}
@@ -15,7 +16,7 @@ pub record KeepsOneMore {Q : Type 0} (old new : JournalState Q) (home : List Sta
   pub last : new.last ≡ Some home
 
 -- where memory was wanted nothing is changed; else the window was worked, the disk has failed, and a crash leaves what was kept, with the last state of the window or without
-abbrev pub KeepFails : {D Q : Type 0} → (D → ℕ) → (D → Option (List (ℕ × ℕ))) → (D → ℕ) → (D → ℕ) → (D → ℕ) → ℕ → ℕ
+abbrev pub KeepFails : {D Q : Type 0} → (D → ℕ) → (D → Option (List (ℕ × ℕ))) → (D → ℕ) → (D → ℕ) → (D → ℕ) → Moment → Moment
     → Bool → (Q → List ℕ) → (Q → ℕ) → (Q → ℕ → List ℕ → Type 0) → (Q → ℕ) → OpenHub D → JournalState Q → KeepFault D Q → Type 0
 KeepFails tag plan turns probes faults earliest latest told seen moment since failures hub journal (NoMemory same unmoved) = (same ≡ hub) × (unmoved ≡ journal)
 KeepFails tag plan turns probes faults earliest latest told seen moment since failures hub journal (Failed home closed disk) =

@@ -1,5 +1,6 @@
 -- What the name of a window says.
 use Rattle.history_book.specs.Settings.{Setting}
+use Rattle.home_types.specs.Numbers.{DeviceId, Moment}
 use Rattle.home_types.specs.declared.modes.Scheduler.TheVariants.{Fcfs}
 use Rattle.home_types.specs.declared.modes.Visibility.TheVariants.{Weak}
 use Rattle.hub_core.specs.OpenHubs.{no_counts}
@@ -18,10 +19,10 @@ pub record NamedWindow : Type 0 where
   -- how many windows were opened before
   pub opened : ℕ
   -- the counts of each device as the window was opened
-  pub opening : ℕ → Counts
-  pub plans : ℕ → Plan
-  pub earliest : ℕ
-  pub latest : ℕ
+  pub opening : DeviceId → Counts
+  pub plans : DeviceId → Plan
+  pub earliest : Moment
+  pub latest : Moment
 
 -- a window with no run and no device
 abbrev pub no_window : NamedWindow
@@ -36,9 +37,9 @@ no_window = record {
 }
 
 -- the moment is one of the window's
-abbrev pub IsWithin : NamedWindow → ℕ → Type 0
+abbrev pub IsWithin : NamedWindow → Moment → Type 0
 IsWithin window moment = (window.earliest ≤ moment) × (moment ≤ window.latest)
 
 -- a clock with this least and this greatest moment is the window's
-abbrev pub IsTimedBy : NamedWindow → ℕ → ℕ → Type 0
+abbrev pub IsTimedBy : NamedWindow → Moment → Moment → Type 0
 IsTimedBy window earliest latest = (earliest ≡ window.earliest) × (latest ≡ window.latest)

@@ -2,6 +2,7 @@
 use Rattle.history_book.specs.declared.entries.Entry.TheVariants.{Arrived, Did, Doomed, Ended, Fell, Placed, Rose, Undid}
 use Rattle.history_book.specs.declared.entries.Entry.{Entry}
 use Rattle.history_book.specs.declared.entries.Made.{Made}
+use Rattle.home_types.specs.Numbers.{RunId}
 use Rattle.hub_core.specs.BlockedMarks.{has_run}
 use Rattle.hub_core.specs.BlockedRuns.{IsBlocked}
 use Rattle.hub_core.specs.declared.waits.Why.TheVariants.{Behind, Busy, Denied, Dirty, Follow, Strict}
@@ -17,7 +18,7 @@ pub record SleepersState : Type 0 where
   pub called : ℕ
 
 -- the run has a bit in a word
-abbrev pub has_bit : ℕ → Bool
+abbrev pub has_bit : RunId → Bool
 has_bit r = nat_lt 0 r && nat_lt (r - 1) 64
 
 -- nobody sleeps, and nobody is to be called
@@ -29,7 +30,7 @@ pub record NoneSleep (s : SleepersState) : Type 0 where
 
 -- each run of the word is blocked
 abbrev pub SleepersAreBlocked : Configuration → ℕ → Type 0
-SleepersAreBlocked s word = (r : ℕ) → has_run word r ≡ true → IsBlocked s r
+SleepersAreBlocked s word = (r : RunId) → has_run word r ≡ true → IsBlocked s r
 
 -- who waits so waits for its place
 abbrev pub is_unplaced : Why → Bool

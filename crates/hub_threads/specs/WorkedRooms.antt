@@ -1,5 +1,6 @@
 -- The windows of all rooms of a home, worked at once.
 use Rattle.command_rules.specs.Rosters.{runs_of}
+use Rattle.home_types.specs.Numbers.{DeviceId, Moment}
 use Rattle.hub_core.specs.OpenHubs.{configuration_of}
 use Rattle.hub_core.specs.Steps.{opened}
 use Rattle.hub_threads.specs.WorkedWindows.{IsWorked}
@@ -11,14 +12,14 @@ use Rattle.std.specs.Prelude.{List, Option, Some, length, slice_get, ℕ, ◌<�
 pub record IsReady {D : Type 0} (n : ℕ) (job : RoomHub D) : Type 0 where
   pub runs : job.hub.setting.runs ≡ runs_of job.roster.roster
   pub fresh : configuration_of job.hub ≡ opened job.hub.setting job.hub.rounds
-  pub rounds : (d : ℕ) → d < length job.hub.setting.first → (configuration_of job.hub).probes d ≡ n
+  pub rounds : (d : DeviceId) → d < length job.hub.setting.first → (configuration_of job.hub).probes d ≡ n
 
 -- the window of the room was worked
-pub record IsRoomWorked {D : Type 0} (tag : D → ℕ) (plan : D → Option (List (ℕ × ℕ))) (turns probes faults : D → ℕ) (earliest latest : ℕ) (job : RoomHub D) (done : RoomDone D) : Type 0 where
+pub record IsRoomWorked {D : Type 0} (tag : D → ℕ) (plan : D → Option (List (ℕ × ℕ))) (turns probes faults : D → ℕ) (earliest latest : Moment) (job : RoomHub D) (done : RoomDone D) : Type 0 where
   pub roster : done.window.roster ≡ job.roster
   pub worked : IsWorked tag plan turns probes faults earliest latest job.hub done.home done.window.closed
 
 -- one for each room, in order
-pub record AreRoomsWorked {D : Type 0} (tag : D → ℕ) (plan : D → Option (List (ℕ × ℕ))) (turns probes faults : D → ℕ) (earliest latest : ℕ) (jobs : List (RoomHub D)) (all : List (RoomDone D)) : Type 0 where
+pub record AreRoomsWorked {D : Type 0} (tag : D → ℕ) (plan : D → Option (List (ℕ × ℕ))) (turns probes faults : D → ℕ) (earliest latest : Moment) (jobs : List (RoomHub D)) (all : List (RoomDone D)) : Type 0 where
   pub count : length all ≡ length jobs
   pub each : (k : ℕ) (job : RoomHub D) (done : RoomDone D) → slice_get jobs k ≡ Some job → slice_get all k ≡ Some done → IsRoomWorked tag plan turns probes faults earliest latest job done

@@ -4,6 +4,7 @@ use Rattle.history_book.specs.Lines.{split_at}
 use Rattle.history_book.specs.Readings.{Reading}
 use Rattle.history_book.specs.Settings.{Setting}
 use Rattle.history_book.specs.declared.entries.Kept.{Kept}
+use Rattle.home_types.specs.Numbers.{LinePlace, Moment, RunId}
 use Rattle.home_types.specs.declared.items.Item.{Item}
 use Rattle.jit_scheduler.specs.declared.answers.Admit.TheVariants.{At, Denied, Patience}
 use Rattle.jit_scheduler.specs.declared.answers.Admit.{Admit}
@@ -13,15 +14,15 @@ use Rattle.lock_leasing.specs.Configurations.{Configuration, Grips, read_of}
 use Rattle.lock_leasing.specs.Places.{At as PlacedAt, Denial, DeniedBy, Placing, denial_of, first_place, just_in_time, patience}
 use Rattle.lock_leasing.specs.Standings.{IsStandingOf}
 use Rattle.serial_line.specs.Marks.{Mark}
-use Rattle.std.specs.Prelude.{List, None, Option, Some, if◌then◌else◌, is_none, length, nat_le, true, unwrap_or, ℕ, ⊤, ◌+◌, ◌≡◌, ◌≤◌}
+use Rattle.std.specs.Prelude.{List, None, Option, Some, if◌then◌else◌, is_none, length, nat_le, true, unwrap_or, ⊤, ◌+◌, ◌≡◌, ◌≤◌}
 
 -- the run arrived at this moment, and is not placed
-pub record IsToBePlaced (n : Reading) (r came : ℕ) : Type 0 where
+pub record IsToBePlaced (n : Reading) (r : RunId) (came : Moment) : Type 0 where
   pub arrived : (n.run r).arrived ≡ Some came
   pub unplaced : is_none (n.run r).placed ≡ true
 
 -- the parts belong to one window, which is not of the weak model, and the run is to be placed in it
-pub data MayAdmit (table : List LineageState) (line : List Mark) (history : List Kept) (runs : List Run) (r came : ℕ) : Type 0 where
+pub data MayAdmit (table : List LineageState) (line : List Mark) (history : List Kept) (runs : List Run) (r : RunId) (came : Moment) : Type 0 where
   Admitting : (s : Configuration) (parts : IsStandingOf s table line history runs) (turn : IsToBePlaced (read_of s) r came) → MayAdmit table line history runs r came
 
 -- what the scheduler says where this is the answer
@@ -31,7 +32,7 @@ placing_of line (Denied d x) = DeniedBy d.0 x.0
 placing_of line Patience = PlacedAt (split_at line (length line))
 
 -- the answer: the first place, where no device is denied; else that the run has waited long enough, where it has; else the first denial
-abbrev pub admission : Setting → Reading → Grips → ℕ → ℕ → Admit
+abbrev pub admission : Setting → Reading → Grips → RunId → Moment → Admit
 admission w n g r m = by_denial (denial_of w n g r)
   where
     by_denial : Option Denial → Admit
@@ -39,17 +40,17 @@ admission w n g r m = by_denial (denial_of w n g r)
     by_denial (Some x) = if nat_le (unwrap_or (n.run r).arrived 0 + patience) m then Patience else Denied (device_no x.device) (run_no x.run)
 
 -- the answer where this is the first place and this the first denial
-abbrev pub answer_by : ℕ → Option FoundDenial → ℕ → ℕ → Admit
+abbrev pub answer_by : LinePlace → Option FoundDenial → Moment → Moment → Admit
 answer_by place None came m = At place
 answer_by place (Some x) came m = if nat_le (came + patience) m then Patience else Denied x.device x.run
 
 -- the answer says what just-in-time admission says, in each configuration to which the parts belong and in which the run is to be placed
-abbrev pub IsPlacingOf : List LineageState → List Mark → List Kept → List Run → ℕ → ℕ → ℕ → Admit → Type 0
+abbrev pub IsPlacingOf : List LineageState → List Mark → List Kept → List Run → RunId → Moment → Moment → Admit → Type 0
 IsPlacingOf table line history runs r came m answer =
     (s : Configuration) → IsStandingOf s table line history runs → IsToBePlaced (read_of s) r came → placing_of (read_of s).line answer ≡ just_in_time s.setting (read_of s) s.grips r m
 
 -- .. and tells a first place from the end after a wait
-abbrev pub IsAdmissionOf : List LineageState → List Mark → List Kept → List Run → ℕ → ℕ → ℕ → Admit → Type 0
+abbrev pub IsAdmissionOf : List LineageState → List Mark → List Kept → List Run → RunId → Moment → Moment → Admit → Type 0
 IsAdmissionOf table line history runs r came m answer =
     (s : Configuration) → IsStandingOf s table line history runs → IsToBePlaced (read_of s) r came → answer ≡ admission s.setting (read_of s) s.grips r m
 

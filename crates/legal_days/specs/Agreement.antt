@@ -3,6 +3,7 @@ use Rattle.history_book.specs.Histories.{answers_in, executed, reading}
 use Rattle.history_book.specs.Settings.{Setting}
 use Rattle.history_book.specs.declared.entries.Entry.{Entry}
 use Rattle.home_types.specs.HomeStates.{stand_at}
+use Rattle.home_types.specs.Numbers.{DeviceId}
 use Rattle.home_types.specs.declared.items.Item.{Item}
 use Rattle.home_types.specs.declared.worlds.Stand.{Stand}
 use Rattle.std.specs.Prelude.{List, Some, false, length, slice_get, true, ℕ, ◌<◌, ◌≡◌}
@@ -16,8 +17,8 @@ pub record AgreesWithSerial (w : Setting) (history : List Entry) (order : List I
   -- and leaves the last state
   pub home : (executed w order).home ≡ last
   -- in which a device is up where it is counted up
-  pub counted : (d : ℕ) → d < length w.first → (stand_at last d).up ≡ (reading w history).up d
+  pub counted : (d : DeviceId) → d < length w.first → (stand_at last d).up ≡ (reading w history).up d
 
 -- the real devices: each one that is up in the last state stands at its value there
 abbrev pub UpDevicesStand : {D : Type 0} → (D → ℕ) → List D → List Stand → Type 0
-UpDevicesStand {D} stands devices last = (d : ℕ) (device : D) → slice_get devices d ≡ Some device → (stand_at last d).up ≡ true → stands device ≡ (stand_at last d).value
+UpDevicesStand {D} stands devices last = (d : DeviceId) (device : D) → slice_get devices d ≡ Some device → (stand_at last d).up ≡ true → stands device ≡ (stand_at last d).value

@@ -7,6 +7,7 @@ use Rattle.history_book.specs.WellFormed.{each_entry}
 use Rattle.history_book.specs.declared.entries.Entry.{Entry}
 use Rattle.history_book.specs.declared.entries.Entry.TheVariants.{Did}
 use Rattle.home_types.specs.HomeStates.{stand_at}
+use Rattle.home_types.specs.Numbers.{DeviceId, RunId}
 use Rattle.home_types.specs.declared.commands.Answer.{Answer}
 use Rattle.home_types.specs.declared.commands.Answer.TheVariants.{Down, Fine, Found, Skipped}
 use Rattle.lock_leasing.specs.Configurations.{no_grips}
@@ -16,15 +17,15 @@ use Rattle.std.specs.Option.{option_or}
 use Rattle.std.specs.Prelude.{Bool, IsTrue, List, not, true, unwrap_or, ℕ, ◌&&◌, ◌==◌, ◌||◌}
 
 -- what the run has to find on the device: its own last write, else the last write of the committed runs before it in the line, else the first value
-abbrev pub clean_value : Setting → Reading → ℕ → ℕ → ℕ
+abbrev pub clean_value : Setting → Reading → RunId → DeviceId → ℕ
 clean_value w n r d = unwrap_or (option_or ((n.run r).on d).wrote (last_some (committed_write n d) (before r n.line))) (stand_at w.first d).value
 
 -- no live run before r has the effective write on the device
-abbrev pub no_dirty_write : Reading → ℕ → ℕ → Bool
+abbrev pub no_dirty_write : Reading → RunId → DeviceId → Bool
 no_dirty_write n r d = not (list_any (λ x. has_effect n no_grips x d) (live_before n r))
 
 -- Down is answered where the device is counted down, or where the run saw it down before
-abbrev pub answer_is_clean : Setting → Reading → ℕ → ℕ → Answer → Bool
+abbrev pub answer_is_clean : Setting → Reading → RunId → DeviceId → Answer → Bool
 answer_is_clean w n r d Fine = true
 answer_is_clean w n r d Skipped = true
 answer_is_clean w n r d (Found x) = (x == clean_value w n r d) && no_dirty_write n r d

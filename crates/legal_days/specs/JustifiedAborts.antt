@@ -8,6 +8,7 @@ use Rattle.history_book.specs.declared.entries.Cause.TheVariants.{DownAtEnd, Los
 use Rattle.history_book.specs.declared.entries.Entry.{Entry}
 use Rattle.history_book.specs.declared.entries.Entry.TheVariants.{Doomed}
 use Rattle.home_types.specs.Commands.{fails}
+use Rattle.home_types.specs.Numbers.{CommandIndex, RunId}
 use Rattle.home_types.specs.declared.commands.Answer.{Answer}
 use Rattle.home_types.specs.declared.commands.Answer.TheVariants.{Down, Found}
 use Rattle.lock_leasing.specs.Configurations.{no_grips}
@@ -17,7 +18,7 @@ use Rattle.std.specs.List.{list_any}
 use Rattle.std.specs.Prelude.{Bool, IsTrue, List, Option, false, is_none, option_map, slice_get, true, unwrap_or, ℕ, ◌&&◌, ◌==◌}
 
 -- the run's command has this answer
-abbrev pub has_answer : Reading → ℕ → ℕ → Answer → Bool
+abbrev pub has_answer : Reading → RunId → CommandIndex → Answer → Bool
 has_answer n r c a = unwrap_or (option_map (same_answer a) (slice_get (n.run r).answers c)) false
 
 abbrev pub equals_some : Option ℕ → ℕ → Bool
@@ -28,7 +29,7 @@ equals_some o x = unwrap_or (option_map (λ y. y == x) o) false
 -- the device failed within the span on it of a run that sees it up;
 -- the lease was overdue when the lender asked for the device;
 -- or, under a strict model, the run came to its end with a device down that it has touched
-abbrev pub shows : Setting → Reading → ℕ → Cause → Bool
+abbrev pub shows : Setting → Reading → RunId → Cause → Bool
 shows w n r (MustDown c) = (command_at w.runs r c).must && has_answer n r c Down
 shows w n r (Refuted c x) = fails (command_at w.runs r c) (Found x) && has_answer n r c (Found x)
 shows w n r (Lost d) = sees_up n r d.0 && list_any is_fall (span_of r (n.log d.0))

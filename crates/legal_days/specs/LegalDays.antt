@@ -1,6 +1,7 @@
 -- Legal days: the records of a script's windows, and the devices that are left.
 use Rattle.history_book.specs.Settings.{Setting}
 use Rattle.history_book.specs.declared.records.WindowRecord.{WindowRecord}
+use Rattle.home_types.specs.Numbers.{DeviceId}
 use Rattle.home_types.specs.declared.modes.Mode.{Mode}
 use Rattle.home_types.specs.declared.worlds.Stand.{Stand}
 use Rattle.legal_days.specs.Agreement.{UpDevicesStand}
@@ -15,8 +16,8 @@ pub record Beginning : Type 0 where
   pub script : Script
   pub before : ℕ
   pub first : List Stand
-  pub called : ℕ → Bool
-  pub failed : ℕ → Bool
+  pub called : DeviceId → Bool
+  pub failed : DeviceId → Bool
 
 -- a script's day begins with every device up at its start, and none of them called
 abbrev pub new_day : Script → Beginning
@@ -44,7 +45,7 @@ abbrev pub AreLegalFrom : Beginning → Mode → List WindowRecord → Type 0
 AreLegalFrom begins mode records = (k : ℕ) (closed : WindowRecord) → slice_get records k ≡ Some closed → IsLegalWindow (setting_from begins mode records k) closed
 
 -- the sum over the windows
-abbrev pub total : (WindowRecord → List ℕ) → List WindowRecord → ℕ → ℕ
+abbrev pub total : (WindowRecord → List ℕ) → List WindowRecord → DeviceId → ℕ
 total rises records d = sum_by (λ closed. slice_index_or (rises closed) d 0) records
 
 -- one more, where it is so
@@ -53,17 +54,17 @@ one_more_where false n = n
 one_more_where true n = n + 1
 
 -- the device is the script's: it tells its number, and, where it tells a plan, the ranges in which the script has it down
-pub record IsDeviceOf {D : Type 0} (tag : D → ℕ) (plan : D → Option (List (ℕ × ℕ))) (text : DeviceText) (d : ℕ) (device : D) : Type 0 where
+pub record IsDeviceOf {D : Type 0} (tag : D → ℕ) (plan : D → Option (List (ℕ × ℕ))) (text : DeviceText) (d : DeviceId) (device : D) : Type 0 where
   pub tag_is : tag device ≡ d
   pub plan_is : (p : List (ℕ × ℕ)) → plan device ≡ Some p → p ≡ text.downs.items
 
 -- the devices after these windows, in script order
 pub record AreLeftFrom {D : Type 0} (tag : D → ℕ) (plan : D → Option (List (ℕ × ℕ))) (stands turns faults : D → ℕ) (begins : Beginning) (records : List WindowRecord) (devices : List D) : Type 0 where
   pub size : length devices ≡ length begins.script.devices.items
-  pub own : (d : ℕ) (device : D) (text : DeviceText) → slice_get devices d ≡ Some device → slice_get begins.script.devices.items d ≡ Some text → IsDeviceOf tag plan text d device
+  pub own : (d : DeviceId) (device : D) (text : DeviceText) → slice_get devices d ≡ Some device → slice_get begins.script.devices.items d ≡ Some text → IsDeviceOf tag plan text d device
   pub stand : UpDevicesStand stands devices (state_from begins records (length records))
-  pub turns_are : (d : ℕ) (device : D) → slice_get devices d ≡ Some device → turns device ≡ one_more_where (begins.called d) (total (λ closed. closed.turns.items) records d)
-  pub faults_are : (d : ℕ) (device : D) → slice_get devices d ≡ Some device → faults device ≡ one_more_where (begins.failed d) (total (λ closed. closed.faults.items) records d)
+  pub turns_are : (d : DeviceId) (device : D) → slice_get devices d ≡ Some device → turns device ≡ one_more_where (begins.called d) (total (λ closed. closed.turns.items) records d)
+  pub faults_are : (d : DeviceId) (device : D) → slice_get devices d ≡ Some device → faults device ≡ one_more_where (begins.failed d) (total (λ closed. closed.faults.items) records d)
 
 -- a day that begins so and was cut short: the first of the windows to come
 pub record IsLegalCutDayFrom {D : Type 0} (tag : D → ℕ) (plan : D → Option (List (ℕ × ℕ))) (stands turns faults : D → ℕ) (begins : Beginning) (mode : Mode) (records : List WindowRecord) (devices : List D) : Type 0 where

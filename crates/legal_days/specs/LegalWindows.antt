@@ -11,6 +11,7 @@ use Rattle.history_book.specs.declared.entries.Entry.TheVariants.{Did, Doomed, E
 use Rattle.history_book.specs.declared.records.WindowRecord.{WindowRecord}
 use Rattle.home_types.specs.Commands.{fails}
 use Rattle.home_types.specs.HomeStates.{stand_at}
+use Rattle.home_types.specs.Numbers.{DeviceId}
 use Rattle.home_types.specs.declared.commands.Answer.{Answer}
 use Rattle.home_types.specs.declared.commands.Answer.TheVariants.{Down, Fine, Found, Skipped}
 use Rattle.home_types.specs.declared.commands.Command.{Command}
@@ -22,7 +23,7 @@ use Rattle.legal_days.specs.JustifiedAborts.{IsJustified, shows}
 use Rattle.legal_days.specs.Orders.{IsOrderFor}
 use Rattle.lock_leasing.specs.Places.{PlacesAreScheduled}
 use Rattle.std.specs.List.{list_all}
-use Rattle.std.specs.Prelude.{Bool, IsTrue, List, [], false, is_some, length, not, true, ℕ, ◌&&◌, ◌<◌, ◌==◌, ◌∷◌, ◌≡◌}
+use Rattle.std.specs.Prelude.{Bool, IsTrue, List, [], false, is_some, length, not, true, ◌&&◌, ◌<◌, ◌==◌, ◌∷◌, ◌≡◌}
 
 abbrev pub history_of : WindowRecord → List Entry
 history_of closed = entries_of closed.history.items
@@ -75,8 +76,8 @@ pub record IsWeaklyLegal (w : Setting) (closed : WindowRecord) : Type 0 where
   pub accounted : CallsAreAccounted w (history_of closed) closed.turns.items closed.faults.items
   pub allowed : IsTrue (each_entry w (weakly_allowed w) (history_of closed))
   pub size : length closed.last.devices.items ≡ length w.first
-  pub counted : (d : ℕ) → d < length w.first → (stand_at closed.last.devices.items d).up ≡ (reading w (history_of closed)).up d
-  pub values : (d : ℕ) → d < length w.first → (stand_at closed.last.devices.items d).value ≡ (reading w (history_of closed)).last d
+  pub counted : (d : DeviceId) → d < length w.first → (stand_at closed.last.devices.items d).up ≡ (reading w (history_of closed)).up d
+  pub values : (d : DeviceId) → d < length w.first → (stand_at closed.last.devices.items d).value ≡ (reading w (history_of closed)).last d
   -- no order is claimed
   pub unclaimed : closed.order.items ≡ []
 

@@ -1,5 +1,6 @@
 -- Days that go on behind windows that were worked before: how the home is resumed, and where the day begins then.
 use Rattle.home_types.specs.HomeStates.{stand_at}
+use Rattle.home_types.specs.Numbers.{DeviceId}
 use Rattle.home_types.specs.declared.worlds.Stand.{Stand}
 use Rattle.legal_days.specs.LegalDays.{Beginning, IsDeviceOf, new_day}
 use Rattle.routine_reader.specs.declared.scripts.DeviceText.{DeviceText}
@@ -14,7 +15,7 @@ pub record IsStandResumed (before now : Stand) : Type 0 where
 -- the home that was in this state is resumed in that one
 pub record IsStateResumed (before now : List Stand) : Type 0 where
   pub size : length now ≡ length before
-  pub each : (d : ℕ) → d < length before → IsStandResumed (stand_at before d) (stand_at now d)
+  pub each : (d : DeviceId) → d < length before → IsStandResumed (stand_at before d) (stand_at now d)
 
 -- the device died as it was resumed
 abbrev pub has_died : Stand → Stand → Bool
@@ -30,7 +31,7 @@ GoesOnBehind script kept None begins = begins ≡ new_day script
 GoesOnBehind script kept (Some before) begins = (now : List Stand) × IsStateResumed before now × (begins ≡ resumed_day script kept before now)
 
 -- the script's device as the home is resumed: never probed, and driven once where it was up
-pub record IsDeviceResumed {D : Type 0} (tag : D → ℕ) (plan : D → Option (List (ℕ × ℕ))) (stands turns probes faults : D → ℕ) (text : DeviceText) (d : ℕ) (before now : Stand) (device : D) : Type 0 where
+pub record IsDeviceResumed {D : Type 0} (tag : D → ℕ) (plan : D → Option (List (ℕ × ℕ))) (stands turns probes faults : D → ℕ) (text : DeviceText) (d : DeviceId) (before now : Stand) (device : D) : Type 0 where
   pub own : IsDeviceOf tag plan text d device
   pub as_told : IsStandResumed before now
   pub stand : now.up ≡ true → stands device ≡ now.value
@@ -42,5 +43,5 @@ pub record IsDeviceResumed {D : Type 0} (tag : D → ℕ) (plan : D → Option (
 pub record AreResumed {D : Type 0} (tag : D → ℕ) (plan : D → Option (List (ℕ × ℕ))) (stands turns probes faults : D → ℕ) (texts : List DeviceText) (before : List Stand) (n : ℕ) (now : List Stand) (devices : List D) : Type 0 where
   pub size : length devices ≡ n
   pub stands_size : length now ≡ n
-  pub each : (d : ℕ) (device : D) (text : DeviceText) (stand : Stand) → slice_get devices d ≡ Some device → slice_get texts d ≡ Some text → slice_get now d ≡ Some stand
+  pub each : (d : DeviceId) (device : D) (text : DeviceText) (stand : Stand) → slice_get devices d ≡ Some device → slice_get texts d ≡ Some text → slice_get now d ≡ Some stand
       → IsDeviceResumed tag plan stands turns probes faults text d (stand_at before d) stand device

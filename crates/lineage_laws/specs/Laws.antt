@@ -1,6 +1,7 @@
 -- What the laws say of the accesses to one device, and of the items of an order.
 use Rattle.command_rules.specs.ClosedSets.{exchanged}
 use Rattle.home_types.specs.Listed.{Listed}
+use Rattle.home_types.specs.Numbers.{LinePlace}
 use Rattle.home_types.specs.declared.items.Item.{Item}
 use Rattle.home_types.specs.declared.numbers.RunNo.{RunNo}
 use Rattle.lineage_table.specs.Accesses.{has_access, standing_value}
@@ -42,5 +43,5 @@ abbrev pub stand_of : LineageState → ℕ
 stand_of s = standing_value s.committed s.accesses
 
 -- the items with those at this place and the next one exchanged
-abbrev pub with_exchange : ℕ → Listed Item → Listed Item
+abbrev pub with_exchange : LinePlace → Listed Item → Listed Item
 with_exchange at items = record items { items = exchanged at items.items }

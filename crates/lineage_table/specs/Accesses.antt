@@ -1,4 +1,5 @@
 -- Words on the accesses to one device, in line order.
+use Rattle.home_types.specs.Numbers.{RunId}
 use Rattle.home_types.specs.declared.numbers.RunNo.{RunNo}
 use Rattle.lineage_table.specs.declared.accesses.Access.{Access}
 use Rattle.lineage_table.specs.declared.accesses.Status.TheVariants.{Acquired, Released, Scheduled}
@@ -32,31 +33,31 @@ some_scheduled accesses = list_any (λ x. is_scheduled x.status) accesses
 -- The access of a run
 
 -- the access is the run's
-abbrev pub is_of : ℕ → Access → Bool
+abbrev pub is_of : RunId → Access → Bool
 is_of r x = x.run.0 == r
 
-abbrev pub has_access : ℕ → List Access → Bool
+abbrev pub has_access : RunId → List Access → Bool
 has_access r accesses = list_any (is_of r) accesses
 
 -- the access of the run, where it has one
-abbrev pub access_of : ℕ → List Access → Option Access
+abbrev pub access_of : RunId → List Access → Option Access
 access_of r accesses = find (is_of r) accesses
 
 -- how the access of the run stands
-abbrev pub status_of : ℕ → List Access → Option Status
+abbrev pub status_of : RunId → List Access → Option Status
 status_of r accesses = option_map (λ x. x.status) (access_of r accesses)
 
 -- the value that the run wrote
-abbrev pub written_by : ℕ → List Access → Option ℕ
+abbrev pub written_by : RunId → List Access → Option ℕ
 written_by r accesses = option_and_then (λ x. x.wrote) (access_of r accesses)
 
 -- the accesses before that of the run
-abbrev pub before : ℕ → List Access → List Access
+abbrev pub before : RunId → List Access → List Access
 before r [] = []
 before r (x ∷ xs) = if is_of r x then [] else (x ∷ before r xs)
 
 -- the accesses behind that of the run
-abbrev pub behind : ℕ → List Access → List Access
+abbrev pub behind : RunId → List Access → List Access
 behind r [] = []
 behind r (x ∷ xs) = if is_of r x then xs else behind r xs
 
@@ -66,20 +67,20 @@ behind_run None accesses = accesses
 behind_run (Some r) accesses = behind r.0 accesses
 
 -- the run of the access immediately behind that of the run
-abbrev pub run_behind : ℕ → List Access → Option RunNo
+abbrev pub run_behind : RunId → List Access → Option RunNo
 run_behind r accesses = option_map (λ x. x.run) (slice_get (behind r accesses) 0)
 
 -- the accesses of the other runs
-abbrev pub without : ℕ → List Access → List Access
+abbrev pub without : RunId → List Access → List Access
 without r accesses = filter (λ x. not (is_of r x)) accesses
 
 -- the access of the run is changed
-abbrev pub with_change : ℕ → (Access → Access) → List Access → List Access
+abbrev pub with_change : RunId → (Access → Access) → List Access → List Access
 with_change r change [] = []
 with_change r change (x ∷ xs) = if is_of r x then (change x ∷ xs) else (x ∷ with_change r change xs)
 
 -- the access stands immediately before that of the run, last where the run has none
-abbrev pub put_before_run : ℕ → Access → List Access → List Access
+abbrev pub put_before_run : RunId → Access → List Access → List Access
 put_before_run r access [] = access ∷ []
 put_before_run r access (x ∷ xs) = if is_of r x then (access ∷ x ∷ xs) else (x ∷ put_before_run r access xs)
 
@@ -94,11 +95,11 @@ place_before None accesses = Some (length accesses)
 place_before (Some r) accesses = position (is_of r.0) accesses
 
 -- the run of the first access before that of r of which the test holds
-abbrev pub first_before : (Access → Bool) → ℕ → List Access → Option RunNo
+abbrev pub first_before : (Access → Bool) → RunId → List Access → Option RunNo
 first_before test r accesses = option_map (λ x. x.run) (find test (before r accesses))
 
 -- it is found by a test that gives these answers
-abbrev pub IsFirstBefore : (Access → Bool → Type 0) → ℕ → List Access → Option RunNo → Type 0
+abbrev pub IsFirstBefore : (Access → Bool → Type 0) → RunId → List Access → Option RunNo → Type 0
 IsFirstBefore answers r accesses found = (test : Access → Bool) → ((x : Access) (b : Bool) → answers x b → b ≡ test x) → found ≡ first_before test r accesses
 
 -- What was written

@@ -2,6 +2,7 @@
 use Rattle.command_rules.specs.Rosters.{Run, is_on}
 use Rattle.home_types.specs.HomeStates.{stand_at}
 use Rattle.home_types.specs.Limits.{most_devices}
+use Rattle.home_types.specs.Numbers.{DeviceId, RunId}
 use Rattle.home_types.specs.declared.commands.View.{View}
 use Rattle.home_types.specs.declared.numbers.RunNo.{RunNo}
 use Rattle.home_types.specs.declared.worlds.Stand.{Stand}
@@ -25,19 +26,19 @@ abbrev pub scheduled : Option RunNo → Access → LineageState → LineageState
 scheduled before access s = record s { accesses = put_before before access s.accesses; room = s.room - 1 }
 
 -- the run has its first answer on the device, and sees it so from then on
-abbrev pub acquired : ℕ → View → LineageState → LineageState
+abbrev pub acquired : RunId → View → LineageState → LineageState
 acquired r view s = record s { accesses = with_change r (λ x. record x { status = Acquired; view = Some view }) s.accesses }
 
 -- the run wrote the value
-abbrev pub written : ℕ → ℕ → LineageState → LineageState
+abbrev pub written : RunId → ℕ → LineageState → LineageState
 written r v s = record s { accesses = with_change r (λ x. record x { wrote = Some v }) s.accesses }
 
 -- the run is done with the device
-abbrev pub released : ℕ → LineageState → LineageState
+abbrev pub released : RunId → LineageState → LineageState
 released r s = record s { accesses = with_change r (λ x. record x { status = Released }) s.accesses }
 
 -- what the run wrote is undone
-abbrev pub undone : ℕ → LineageState → LineageState
+abbrev pub undone : RunId → LineageState → LineageState
 undone r s = record s { accesses = with_change r (λ x. record x { wrote = None }) s.accesses }
 
 -- only these of its accesses are left; each of the others leaves its room
@@ -45,15 +46,15 @@ abbrev pub with_left : List Access → LineageState → LineageState
 with_left accesses s = record s { accesses = accesses; room = s.room + (length s.accesses - length accesses) }
 
 -- the access of the run is gone
-abbrev pub removed : ℕ → LineageState → LineageState
+abbrev pub removed : RunId → LineageState → LineageState
 removed r s = with_left (without r s.accesses) s
 
 -- the run's value is committed: its access and those before it are gone
-abbrev pub settled : ℕ → LineageState → LineageState
+abbrev pub settled : RunId → LineageState → LineageState
 settled r s = record (with_left (behind r s.accesses) s) { committed = unwrap_or (written_by r s.accesses) s.committed }
 
 -- where the run wrote the device, its value is committed, and its access and those before it leave; else its access alone leaves
-abbrev pub without_access : ℕ → Access → LineageState → LineageState
+abbrev pub without_access : RunId → Access → LineageState → LineageState
 without_access r x s = by_value x.wrote
   where
     by_value : Option ℕ → LineageState
@@ -61,7 +62,7 @@ without_access r x s = by_value x.wrote
     by_value None = removed r s
 
 -- the lineage when the run has committed: as it was, where the run has no access there
-abbrev pub committed_lineage : ℕ → LineageState → LineageState
+abbrev pub committed_lineage : RunId → LineageState → LineageState
 committed_lineage r s = by_access (access_of r s.accesses)
   where
     by_access : Option Access → LineageState
@@ -80,24 +81,24 @@ counted_up up s = record s { up = up }
 abbrev pub no_lineage : LineageState
 no_lineage = record { committed = 0; accesses = []; room = 0; up = false }
 
-abbrev pub lineage_at : List LineageState → ℕ → LineageState
+abbrev pub lineage_at : List LineageState → DeviceId → LineageState
 lineage_at table d = slice_index_or table d no_lineage
 
 -- the accesses to the device
-abbrev pub accesses_at : List LineageState → ℕ → List Access
+abbrev pub accesses_at : List LineageState → DeviceId → List Access
 accesses_at table d = (lineage_at table d).accesses
 
 -- what is true of the lineages of every table: a device has a number, and the accesses to each are in turn
 pub record IsTable (table : List LineageState) : Type 0 where
   pub few : length table ≤ most_devices
-  pub turns : (d : ℕ) → IsDisciplined (accesses_at table d)
+  pub turns : (d : DeviceId) → IsDisciplined (accesses_at table d)
 
 -- the table with this change to the lineage of the device
-abbrev pub with_lineage : List LineageState → ℕ → (LineageState → LineageState) → List LineageState
+abbrev pub with_lineage : List LineageState → DeviceId → (LineageState → LineageState) → List LineageState
 with_lineage table d change = slice_set table d (change (lineage_at table d))
 
 -- how many runs have the device in their footprint
-abbrev pub runs_on : List Run → ℕ → ℕ
+abbrev pub runs_on : List Run → DeviceId → ℕ
 runs_on runs d = count_by (λ run. list_any (is_on d) run.commands) runs
 
 -- a lineage as a window opens: nothing but what the device has, with room for so many accesses
@@ -110,4 +111,4 @@ pub record IsNew (stand : Stand) (runs : ℕ) (s : LineageState) : Type 0 where
 -- each device of the home has a new lineage, with room for the runs that have it in their footprint
 pub record IsOpened (runs : List Run) (home : List Stand) (table : List LineageState) : Type 0 where
   pub devices : length table ≡ length home
-  pub each : (d : ℕ) → d < length home → IsNew (stand_at home d) (runs_on runs d) (lineage_at table d)
+  pub each : (d : DeviceId) → d < length home → IsNew (stand_at home d) (runs_on runs d) (lineage_at table d)

@@ -3,12 +3,13 @@ use Rattle.history_book.specs.Histories.{entries_of, reading}
 use Rattle.history_book.specs.Readings.{Reading}
 use Rattle.history_book.specs.Settings.{Setting}
 use Rattle.history_book.specs.declared.entries.Kept.{Kept}
+use Rattle.home_types.specs.Numbers.{ActorId, CommandIndex, DeviceId, Moment, RunId}
 use Rattle.std.specs.Prelude.{Bool, List, None, Option, false, is_some, option_map, true, unwrap_or, ℕ, ◌&&◌, ◌==◌}
 
 -- for what a device is out
 pub data Purpose : Type 0 where
   -- the run's command of this number
-  Commands : ℕ → Purpose
+  Commands : CommandIndex → Purpose
   -- an undo, with the value that it drives
   Undoes : ℕ → Purpose
   -- a probe, with the value that it restores where the device is counted down
@@ -16,12 +17,12 @@ pub data Purpose : Type 0 where
 
 -- a device that is out: its maker, a run or 0 for the detector, and its purpose
 pub record Grip : Type 0 where
-  pub maker : ℕ
+  pub maker : ActorId
   pub purpose : Purpose
 
 -- for each device the grip with which it is out
 abbrev pub Grips : Type 0
-Grips = ℕ → Option Grip
+Grips = DeviceId → Option Grip
 
 abbrev pub no_grips : Grips
 no_grips d = None
@@ -30,9 +31,9 @@ pub record Configuration : Type 0 where
   pub setting : Setting
   pub history : List Kept
   -- the last moment, in ms
-  pub moment : ℕ
+  pub moment : Moment
   -- how many probes of a device may still be taken
-  pub probes : ℕ → ℕ
+  pub probes : DeviceId → ℕ
   pub grips : Grips
 
 -- what its history says
@@ -49,17 +50,17 @@ is_undo (Commands k) = false
 is_undo (Undoes v) = true
 is_undo (Probes v) = false
 
-abbrev pub is_out : Grips → ℕ → Bool
+abbrev pub is_out : Grips → DeviceId → Bool
 is_out g d = is_some (g d)
 
 -- the run holds the grip of the device
-abbrev pub has_grip : Grips → ℕ → ℕ → Bool
+abbrev pub has_grip : Grips → RunId → DeviceId → Bool
 has_grip g r d = unwrap_or (option_map (λ p. p.maker == r) (g d)) false
 
 -- .. for a command
-abbrev pub grips_command : Grips → ℕ → ℕ → Bool
+abbrev pub grips_command : Grips → RunId → DeviceId → Bool
 grips_command g r d = unwrap_or (option_map (λ p. (p.maker == r) && is_command p.purpose) (g d)) false
 
 -- .. for an undo
-abbrev pub grips_undo : Grips → ℕ → ℕ → Bool
+abbrev pub grips_undo : Grips → RunId → DeviceId → Bool
 grips_undo g r d = unwrap_or (option_map (λ p. (p.maker == r) && is_undo p.purpose) (g d)) false

@@ -3,6 +3,7 @@ use Rattle.command_rules.specs.Items.{is_ran}
 use Rattle.history_book.specs.Lines.{before}
 use Rattle.history_book.specs.Readings.{Reading, is_live}
 use Rattle.history_book.specs.Settings.{Setting}
+use Rattle.home_types.specs.Numbers.{DeviceId, RunId}
 use Rattle.home_types.specs.declared.commands.Command.{Command}
 use Rattle.home_types.specs.declared.items.Item.{Item}
 use Rattle.lock_leasing.specs.Configurations.{Grips}
@@ -11,17 +12,17 @@ use Rattle.lock_leasing.specs.Waits.{behind_wait, dirty_wait, strict_wait}
 use Rattle.lock_leasing.specs.Words.{live_runs}
 use Rattle.lock_leasing.specs.declared.touches.Touch.TheVariants.{Free}
 use Rattle.std.specs.List.{list_any}
-use Rattle.std.specs.Prelude.{List, None, [], true, ℕ, ◌≡◌}
+use Rattle.std.specs.Prelude.{List, None, [], true, ◌≡◌}
 
 -- the first live run of these items: it is one of them, it is live, and it stands behind no live run
-pub record IsFirstLive (n : Reading) (items : List Item) (r : ℕ) : Type 0 where
+pub record IsFirstLive (n : Reading) (items : List Item) (r : RunId) : Type 0 where
   pub there : list_any (is_ran r) items ≡ true
   pub live : is_live n r ≡ true
   pub first : live_runs n (before r items) ≡ []
 
 -- the run waits for no other: at no device is it behind one, no command would read the write of one, and under no model must one end first
-pub record WaitsForNone (w : Setting) (n : Reading) (g : Grips) (r : ℕ) : Type 0 where
-  pub behind : (d : ℕ) → behind_wait w n g r d ≡ None
+pub record WaitsForNone (w : Setting) (n : Reading) (g : Grips) (r : RunId) : Type 0 where
+  pub behind : (d : DeviceId) → behind_wait w n g r d ≡ None
   pub dirty : (c : Command) → dirty_wait w n g r c ≡ None
   pub touch : (c : Command) → touch_of w n g r c ≡ Free
   pub strict : strict_wait w n r ≡ None

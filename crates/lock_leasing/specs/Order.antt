@@ -6,6 +6,7 @@ use Rattle.history_book.specs.Lines.{is_event_on}
 use Rattle.history_book.specs.Readings.{Event, First, Last, Mark, Reading, did, has_written, is_committed, is_doomed, is_event, is_live, is_open, sees_up, span_of}
 use Rattle.history_book.specs.Settings.{Setting, device_numbers}
 use Rattle.home_types.specs.HomeStates.{stand_at}
+use Rattle.home_types.specs.Numbers.{DeviceId, RunId}
 use Rattle.home_types.specs.declared.items.Item.{Item}
 use Rattle.home_types.specs.declared.items.Item.TheVariants.{Back, Failed, Ran}
 use Rattle.home_types.specs.declared.worlds.Stand.{Stand}
@@ -25,7 +26,7 @@ abbrev pub settled_items : Reading → List Item
 settled_items n = filter (is_settled n) n.line
 
 -- the value of the last committed write on the device, else the first one
-abbrev pub committed_value : Setting → Reading → ℕ → ℕ
+abbrev pub committed_value : Setting → Reading → DeviceId → ℕ
 committed_value w n d = unwrap_or (last_some (committed_write n d) n.line) (stand_at w.first d).value
 
 abbrev pub committed_home : Setting → Reading → List Stand
@@ -39,37 +40,37 @@ pub record SettledAgree (w : Setting) (n : Reading) : Type 0 where
 
 -- 2. First accesses and events of a device stand in the line in history order
 
-abbrev pub is_in_line : Reading → ℕ → Bool
+abbrev pub is_in_line : Reading → RunId → Bool
 is_in_line n r = list_any (is_ran r) n.line
 
 -- its first access on the device came when it was doomed
-abbrev pub is_late : Reading → ℕ → ℕ → Bool
+abbrev pub is_late : Reading → RunId → DeviceId → Bool
 is_late n r d = ((n.run r).on d).late
 
 -- the runs of the line that have an access on the device, in line order
-abbrev pub firsts_of_line : Reading → ℕ → List ℕ
+abbrev pub firsts_of_line : Reading → DeviceId → List RunId
 firsts_of_line n d = filter_map first n.line
   where
-    first : Item → Option ℕ
+    first : Item → Option RunId
     first (Ran r) = if did n r.0 d then Some r.0 else None
     first (Failed e k) = None
     first (Back e k) = None
 
 -- the same runs in history order
-abbrev pub firsts_of_log : Reading → ℕ → List ℕ
+abbrev pub firsts_of_log : Reading → DeviceId → List RunId
 firsts_of_log n d = filter_map first (n.log d)
   where
-    first : Mark → Option ℕ
+    first : Mark → Option RunId
     first (First r) = if is_in_line n r then Some r else None
     first (Event i) = None
     first (Last r) = None
 
 -- the events of the device and the runs with an access there, in line order, but for runs whose first access came when they were doomed
-abbrev pub marks_of_line : Reading → ℕ → List Item
+abbrev pub marks_of_line : Reading → DeviceId → List Item
 marks_of_line n d = filter (λ i. is_event_on d i || of_run (λ r. did n r d && not (is_late n r d)) i) n.line
 
 -- the same items in history order
-abbrev pub marks_of_log : Reading → ℕ → List Item
+abbrev pub marks_of_log : Reading → DeviceId → List Item
 marks_of_log n d = filter_map mark (n.log d)
   where
     mark : Mark → Option Item
@@ -78,49 +79,49 @@ marks_of_log n d = filter_map mark (n.log d)
     mark (Last r) = None
 
 -- line order is history order, and no event stands in the span of a run that is not doomed and sees the device up
-pub record InHistoryOrder (n : Reading) (d : ℕ) : Type 0 where
+pub record InHistoryOrder (n : Reading) (d : DeviceId) : Type 0 where
   pub runs : firsts_of_line n d ≡ firsts_of_log n d
   pub events : marks_of_line n d ≡ marks_of_log n d
-  pub spans : (r : ℕ) → IsTrue (is_in_line n r && not (is_doomed n r) && sees_up n r d) → list_any is_event (span_of r (n.log d)) ≡ false
+  pub spans : (r : RunId) → IsTrue (is_in_line n r && not (is_doomed n r) && sees_up n r d) → list_any is_event (span_of r (n.log d)) ≡ false
 
 -- 3. Between a live write and a later read a committed run wrote
 
 -- the item is a run that read the device before it wrote it
-abbrev pub has_read_first : Reading → ℕ → Item → Bool
+abbrev pub has_read_first : Reading → DeviceId → Item → Bool
 has_read_first n d i = of_run (λ r. is_some ((n.run r).on d).found) i
 
 -- the item is a committed run that wrote the device
-abbrev pub covers : Reading → ℕ → Item → Bool
+abbrev pub covers : Reading → DeviceId → Item → Bool
 covers n d i = of_run (λ r. is_committed n r && has_written n r d) i
 
 -- no item read before a committed one wrote
-abbrev pub is_covered : Reading → ℕ → List Item → Bool
+abbrev pub is_covered : Reading → DeviceId → List Item → Bool
 is_covered n d [] = true
 is_covered n d (i ∷ is) = not (has_read_first n d i) && (covers n d i || is_covered n d is)
 
 -- the item is a live run with a write on the device that is not undone
-abbrev pub has_live_write : Reading → Grips → ℕ → Item → Bool
+abbrev pub has_live_write : Reading → Grips → DeviceId → Item → Bool
 has_live_write n g d i = of_run (λ r. is_live n r && has_written n r d && not (is_undone n g r d)) i
 
-abbrev pub live_writes_are_covered : Reading → Grips → ℕ → List Item → Bool
+abbrev pub live_writes_are_covered : Reading → Grips → DeviceId → List Item → Bool
 live_writes_are_covered n g d [] = true
 live_writes_are_covered n g d (i ∷ is) = (not (has_live_write n g d i) || is_covered n d is) && live_writes_are_covered n g d is
 
 -- 4. No run behind an open one has touched its device
 
-abbrev pub opens : Setting → Reading → ℕ → Item → Bool
+abbrev pub opens : Setting → Reading → DeviceId → Item → Bool
 opens w n d i = of_run (λ r. is_open w n r d) i
 
-abbrev pub is_touched : Reading → Grips → ℕ → Item → Bool
+abbrev pub is_touched : Reading → Grips → DeviceId → Item → Bool
 is_touched n g d i = of_run (λ r. has_touched n g r d) i
 
-abbrev pub open_runs_are_last : Setting → Reading → Grips → ℕ → List Item → Bool
+abbrev pub open_runs_are_last : Setting → Reading → Grips → DeviceId → List Item → Bool
 open_runs_are_last w n g d [] = true
 open_runs_are_last w n g d (i ∷ is) = (not (opens w n d i) || not (list_any (is_touched n g d) is)) && open_runs_are_last w n g d is
 
 -- the four clauses
 pub record OrderStands (w : Setting) (n : Reading) (g : Grips) : Type 0 where
   pub settled : SettledAgree w n
-  pub history : (d : ℕ) → InHistoryOrder n d
-  pub covered : (d : ℕ) → IsTrue (live_writes_are_covered n g d n.line)
-  pub last : (d : ℕ) → IsTrue (open_runs_are_last w n g d n.line)
+  pub history : (d : DeviceId) → InHistoryOrder n d
+  pub covered : (d : DeviceId) → IsTrue (live_writes_are_covered n g d n.line)
+  pub last : (d : DeviceId) → IsTrue (open_runs_are_last w n g d n.line)

@@ -3,6 +3,7 @@ use Rattle.command_rules.specs.Rosters.{Run, command_at, run_no}
 use Rattle.history_book.specs.Readings.{Reading}
 use Rattle.history_book.specs.Settings.{Setting}
 use Rattle.history_book.specs.declared.entries.Kept.{Kept}
+use Rattle.home_types.specs.Numbers.{CommandIndex, RunId}
 use Rattle.home_types.specs.declared.commands.Command.{Command}
 use Rattle.home_types.specs.declared.numbers.DeviceNo.{DeviceNo}
 use Rattle.lineage_table.specs.Lineages.{LineageState}
@@ -12,19 +13,19 @@ use Rattle.lock_leasing.specs.Waits.{behind_wait, dirty_wait}
 use Rattle.lock_leasing.specs.declared.touches.Touch.TheVariants.{Behind, Dirty, Free}
 use Rattle.lock_leasing.specs.declared.touches.Touch.{Touch}
 use Rattle.serial_line.specs.Marks.{Mark}
-use Rattle.std.specs.Prelude.{List, None, Option, Some, ℕ, ◌≡◌}
+use Rattle.std.specs.Prelude.{List, None, Option, Some, ◌≡◌}
 
 -- at a device: a run that holds it, and one whose write would be read
-abbrev pub touch_by : DeviceNo → Option ℕ → Option ℕ → Touch
+abbrev pub touch_by : DeviceNo → Option RunId → Option RunId → Touch
 touch_by d (Some x) dirty = Behind d (run_no x)
 touch_by d None (Some x) = Dirty d (run_no x)
 touch_by d None None = Free
 
 -- the first live run before it that holds the device, else the live run before it whose write it would read
-abbrev pub touch_of : Setting → Reading → Grips → ℕ → Command → Touch
+abbrev pub touch_of : Setting → Reading → Grips → RunId → Command → Touch
 touch_of w n g r c = touch_by c.device (behind_wait w n g r c.device.0) (dirty_wait w n g r c)
 
 -- the touch is that of each configuration to which the parts belong and in which it is the run's turn
-abbrev pub IsTouchOf : List LineageState → List Mark → List Kept → List Run → ℕ → ℕ → Touch → Type 0
+abbrev pub IsTouchOf : List LineageState → List Mark → List Kept → List Run → RunId → CommandIndex → Touch → Type 0
 IsTouchOf table line history runs r c touch =
     (s : Configuration) → IsStandingOf s table line history runs → IsAtCommand s r c → touch ≡ touch_of s.setting (read_of s) s.grips r (command_at runs r c)

@@ -5,13 +5,14 @@ use Rattle.history_book.specs.declared.entries.End.{End}
 use Rattle.history_book.specs.declared.entries.Entry.TheVariants.{Arrived, Did, Doomed, Ended, Fell, Placed, Rose, Undid}
 use Rattle.history_book.specs.declared.entries.Entry.{Entry}
 use Rattle.history_book.specs.declared.entries.Kept.{Kept}
+use Rattle.home_types.specs.Numbers.{CommandIndex, RunId}
 use Rattle.home_types.specs.declared.commands.Answer.{Answer}
 use Rattle.routine_reader.specs.declared.scripts.WindowText.{WindowText}
 use Rattle.std.specs.List.{enumerate_from, filter_map}
-use Rattle.std.specs.Prelude.{List, None, Option, Some, if◌then◌else◌, map, ℕ, ◌==◌, ◌≡◌}
+use Rattle.std.specs.Prelude.{List, None, Option, Some, if◌then◌else◌, map, ◌==◌, ◌≡◌}
 
 -- the answer, where the entry is one of the run
-abbrev pub answer_in : ℕ → Entry → Option Answer
+abbrev pub answer_in : RunId → Entry → Option Answer
 answer_in r (Arrived q m) = None
 answer_in r (Placed q place m) = None
 answer_in r (Did q c a) = if q.0 == r then Some a else None
@@ -22,11 +23,11 @@ answer_in r (Doomed q cause) = None
 answer_in r (Ended q end) = None
 
 -- the answers of a run, in the order of the history
-unfoldable pub answers_in : ℕ → List Kept → List Answer
+unfoldable pub answers_in : RunId → List Kept → List Answer
 answers_in r history = filter_map (λ kept. answer_in r kept.entry) history
 
 -- the command's number and the answer, where the entry is one of the run
-abbrev pub numbered_in : ℕ → Entry → Option (ℕ × Answer)
+abbrev pub numbered_in : RunId → Entry → Option (CommandIndex × Answer)
 numbered_in r (Arrived q m) = None
 numbered_in r (Placed q place m) = None
 numbered_in r (Did q c a) = if q.0 == r then Some (c, a) else None
@@ -37,15 +38,15 @@ numbered_in r (Doomed q cause) = None
 numbered_in r (Ended q end) = None
 
 -- the answers of a run with the numbers of their commands, in the order of the history
-unfoldable pub numbered_answers : ℕ → List Kept → List (ℕ × Answer)
+unfoldable pub numbered_answers : RunId → List Kept → List (CommandIndex × Answer)
 numbered_answers r history = filter_map (λ kept. numbered_in r kept.entry) history
 
 -- the answers of a run stand in the order of its commands
-abbrev pub AreInTurn : ℕ → List Kept → Type 0
+abbrev pub AreInTurn : RunId → List Kept → Type 0
 AreInTurn r history = numbered_answers r history ≡ enumerate_from 0 (answers_in r history)
 
 -- the answers of a run that is committed, none of another
-abbrev pub told_end : ℕ → List Kept → Option End → Option (List Answer)
+abbrev pub told_end : RunId → List Kept → Option End → Option (List Answer)
 told_end r history None = None
 told_end r history (Some Committed) = Some (answers_in r history)
 told_end r history (Some (Aborted cause)) = None

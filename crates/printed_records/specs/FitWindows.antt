@@ -2,6 +2,7 @@
 use Rattle.day_report.specs.Days.{is_abort, is_commit}
 use Rattle.history_book.specs.declared.records.WindowRecord.{WindowRecord}
 use Rattle.home_types.specs.Kinds.{has_value}
+use Rattle.home_types.specs.Numbers.{RunId}
 use Rattle.home_types.specs.declared.kinds.Kind.{Kind}
 use Rattle.home_types.specs.declared.worlds.Stand.{Stand}
 use Rattle.order_checker.specs.Answers.{home_behind}
@@ -33,7 +34,7 @@ HaveValues (kind ∷ kinds) (stand ∷ home) = (has_value kind stand.value ≡ t
 
 -- the window that begins with this home fits
 pub record WindowFits (script : Script) (home : List Stand) (window : WindowText) (closed : WindowRecord) : Type 0 where
-  pub runs : (r : ℕ) → 1 ≤ r → r ≤ length window.runs.items → RunFits (kinds_of script) (map (run_of_text script) window.runs.items) r closed.history.items
+  pub runs : (r : RunId) → 1 ≤ r → r ≤ length window.runs.items → RunFits (kinds_of script) (map (run_of_text script) window.runs.items) r closed.history.items
   pub items : ItemsMayStand (order_setting script home window closed) [] closed.order.items
   pub all : AllStand (map plain_item closed.order.items) 0 (ends_of window closed.history.items)
   pub serial : home_behind (map (run_of_text script) window.runs.items) (kinds_of script) (ends_of window closed.history.items) home (map plain_item closed.order.items)

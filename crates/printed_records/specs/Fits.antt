@@ -5,6 +5,7 @@ use Rattle.history_book.specs.Books.{end_of}
 use Rattle.history_book.specs.declared.entries.End.TheVariants.{Aborted, Committed}
 use Rattle.history_book.specs.declared.entries.End.{End}
 use Rattle.history_book.specs.declared.entries.Kept.{Kept}
+use Rattle.home_types.specs.Numbers.{RunId}
 use Rattle.home_types.specs.declared.commands.Answer.{Answer}
 use Rattle.home_types.specs.declared.items.Item.TheVariants.{Back, Failed, Ran}
 use Rattle.home_types.specs.declared.items.Item.{Item}
@@ -16,11 +17,11 @@ use Rattle.std.specs.List.{list_any}
 use Rattle.std.specs.Prelude.{List, Option, Some, [], false, is_none, length, true, ℕ, ⊤, ◌+◌, ◌++◌, ◌<◌, ◌≡◌, ◌||◌, ◌∷◌}
 
 -- a run that is committed has an answer to each command, of its type and in order; one that was aborted has a cause of its own
-abbrev pub EndFits : List Kind → List Run → ℕ → List Kept → End → Type 0
+abbrev pub EndFits : List Kind → List Run → RunId → List Kept → End → Type 0
 EndFits kinds runs r history Committed = AreInTurn r history × AreTyped kinds (commands_of runs r) (answers_in r history)
 EndFits kinds runs r history (Aborted cause) = IsCauseFor kinds runs r cause
 
-abbrev pub RunFits : List Kind → List Run → ℕ → List Kept → Type 0
+abbrev pub RunFits : List Kind → List Run → RunId → List Kept → Type 0
 RunFits kinds runs r history = (end : End) × (end_of history r ≡ Some end) × EndFits kinds runs r history end
 
 -- an item without the number of its event

@@ -7,6 +7,7 @@ use Rattle.history_book.specs.declared.entries.Entry.TheVariants.{Ended}
 use Rattle.history_book.specs.declared.entries.Entry.{Entry}
 use Rattle.history_book.specs.declared.entries.Kept.{Kept}
 use Rattle.history_book.specs.declared.records.WindowRecord.{WindowRecord}
+use Rattle.home_types.specs.Numbers.{RunId}
 use Rattle.std.specs.List.{list_all}
 use Rattle.std.specs.Prelude.{Bool, List, Some, nat_lt, slice_get, true, ℕ, ⊤, ◌&&◌, ◌<◌, ◌^◌, ◌≡◌}
 
@@ -20,7 +21,7 @@ IsSmall (DownAtEnd d) = ⊤
 
 -- .. of each run that was aborted
 abbrev pub CausesAreSmall : List Kept → Type 0
-CausesAreSmall history = (r : ℕ) (cause : Cause) → end_of history r ≡ Some (Aborted cause) → IsSmall cause
+CausesAreSmall history = (r : RunId) (cause : Cause) → end_of history r ≡ Some (Aborted cause) → IsSmall cause
 
 -- .. of each window
 abbrev pub TimesAreSmall : List WindowRecord → Type 0

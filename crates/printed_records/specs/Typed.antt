@@ -4,11 +4,12 @@ use Rattle.history_book.specs.declared.entries.Cause.TheVariants.{DownAtEnd, Los
 use Rattle.history_book.specs.declared.entries.Cause.{Cause}
 use Rattle.home_types.specs.Commands.{is_always, writes}
 use Rattle.home_types.specs.Kinds.{has_value, kind_at}
+use Rattle.home_types.specs.Numbers.{RunId}
 use Rattle.home_types.specs.declared.commands.Answer.TheVariants.{Down, Fine, Found, Skipped}
 use Rattle.home_types.specs.declared.commands.Answer.{Answer}
 use Rattle.home_types.specs.declared.commands.Command.{Command}
 use Rattle.home_types.specs.declared.kinds.Kind.{Kind}
-use Rattle.std.specs.Prelude.{List, [], false, length, true, ℕ, ⊤, ◌<◌, ◌^◌, ◌≡◌, ◌≤◌, ◌∷◌}
+use Rattle.std.specs.Prelude.{List, [], false, length, true, ⊤, ◌<◌, ◌^◌, ◌≡◌, ◌≤◌, ◌∷◌}
 
 -- fine to a write, a value of its device to a read, down to any; skipped to one with a guard
 abbrev pub IsTyped : List Kind → Command → Answer → Type 0
@@ -25,7 +26,7 @@ AreTyped kinds (c ∷ commands) [] = ⊥
 AreTyped kinds (c ∷ commands) (a ∷ answers) = IsTyped kinds c a × AreTyped kinds commands answers
 
 -- the cause names a command of the run, a value of that command's device, a device, or a run of the window
-abbrev pub IsCauseFor : List Kind → List Run → ℕ → Cause → Type 0
+abbrev pub IsCauseFor : List Kind → List Run → RunId → Cause → Type 0
 IsCauseFor kinds runs r (MustDown c) = c < length (commands_of runs r)
 IsCauseFor kinds runs r (Refuted c x) =
     (c < length (commands_of runs r)) × (has_value (kind_at kinds (command_at runs r c).device.0) x ≡ true)

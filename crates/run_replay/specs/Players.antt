@@ -7,6 +7,7 @@ use Rattle.device_gate.specs.declared.slips.Slip.{Slip}
 use Rattle.device_gate.specs.declared.slips.Task.{Task}
 use Rattle.history_book.specs.Histories.{entries_made}
 use Rattle.home_types.specs.Limits.{most_devices, most_runs}
+use Rattle.home_types.specs.Numbers.{ActorId, DeviceId, RunId}
 use Rattle.hub_core.specs.BlockedMarks.{has_run}
 use Rattle.hub_core.specs.Bounds.{IsBounded, most_entries}
 use Rattle.hub_core.specs.HubCalls.{IsPacked, SomeRunMoves}
@@ -50,16 +51,16 @@ PickIsPacked (TookSo d) = ⊤
 PickIsPacked (WaitsSo why) = ⊤
 
 -- the actor holds a grip
-abbrev pub is_full : {D : Type 0} → PlayerState D → ℕ → Bool
+abbrev pub is_full : {D : Type 0} → PlayerState D → ActorId → Bool
 is_full s a = unwrap_or (option_map is_some (slice_get s.grips a)) false
 
 -- the detector has ended when its rounds are over and it holds no grip; a run when it has its end, and where it is none of the window
-abbrev pub is_ended : {D : Type 0} → PlayerState D → ℕ → Bool
+abbrev pub is_ended : {D : Type 0} → PlayerState D → ActorId → Bool
 is_ended s zero = not (is_full s 0) && nat_le (s.rounds * length s.hub.setting.first) s.place
 is_ended s (suc r) = not (is_run s.hub.setting.runs (suc r)) || is_some ((read_of (configuration_of s.hub)).run (suc r)).ended
 
 -- the grip that holds the device of this slip is in its maker's hands
-pub record IsInHand {D : Type 0} (s : PlayerState D) (d : ℕ) (slip : Slip) : Type 0 where
+pub record IsInHand {D : Type 0} (s : PlayerState D) (d : DeviceId) (slip : Slip) : Type 0 where
   pub grip : Gripped D Ready
   pub there : slice_get s.grips slip.maker ≡ Some (Some grip)
   pub own : grip.slip ≡ slip
@@ -69,22 +70,22 @@ pub record IsInHand {D : Type 0} (s : PlayerState D) (d : ℕ) (slip : Slip) : T
 -- the hub's moment and the detector's place are low
 pub record PlayerIsKept {D : Type 0} (s : PlayerState D) : Type 0 where
   pub actors : length s.grips ≡ length s.hub.setting.runs + 1
-  pub makers : (a : ℕ) (grip : Gripped D Ready) → slice_get s.grips a ≡ Some (Some grip) → grip.slip.maker ≡ a
-  pub held : (a : ℕ) (grip : Gripped D Ready) → slice_get s.grips a ≡ Some (Some grip) → slice_get s.hub.places grip.slip.device.0 ≡ Some (Out grip.slip grip.task)
-  pub out : (d : ℕ) (slip : Slip) (task : Task) → slice_get s.hub.places d ≡ Some (Out slip task) → IsInHand s d slip
+  pub makers : (a : ActorId) (grip : Gripped D Ready) → slice_get s.grips a ≡ Some (Some grip) → grip.slip.maker ≡ a
+  pub held : (a : ActorId) (grip : Gripped D Ready) → slice_get s.grips a ≡ Some (Some grip) → slice_get s.hub.places grip.slip.device.0 ≡ Some (Out grip.slip grip.task)
+  pub out : (d : DeviceId) (slip : Slip) (task : Task) → slice_get s.hub.places d ≡ Some (Out slip task) → IsInHand s d slip
   pub early : s.hub.moment ≤ 2 ^ 32 * length s.hub.history
   pub rounds : s.rounds < 2 ^ 32
   pub place : s.place ≤ s.rounds * length s.hub.setting.first
 
 -- the device d of the player: it is home, or in the hands of an actor
-abbrev pub IsDevice : {D : Type 0} → PlayerState D → ℕ → D → Type 0
+abbrev pub IsDevice : {D : Type 0} → PlayerState D → DeviceId → D → Type 0
 IsDevice {D} s d device =
     (slice_get s.hub.places d ≡ Some (Home device))
-    ⊎ ((a : ℕ) × (grip : Gripped D Ready) × (slice_get s.grips a ≡ Some (Some grip)) × (grip.slip.device.0 ≡ d) × (grip.device ≡ device))
+    ⊎ ((a : ActorId) × (grip : Gripped D Ready) × (slice_get s.grips a ≡ Some (Some grip)) × (grip.slip.device.0 ≡ d) × (grip.device ≡ device))
 
 -- each device was built with this plan
-abbrev pub HavePlans : {D P : Type 0} → (D → P) → (ℕ → P) → PlayerState D → Type 0
-HavePlans {D} plan plans s = (d : ℕ) (device : D) → IsDevice s d device → plan device ≡ plans d
+abbrev pub HavePlans : {D P : Type 0} → (D → P) → (DeviceId → P) → PlayerState D → Type 0
+HavePlans {D} plan plans s = (d : DeviceId) (device : D) → IsDevice s d device → plan device ≡ plans d
 
 -- how many of these places hold nothing
 abbrev pub empty_places : {A : Type 0} → List (Option A) → ℕ
@@ -117,16 +118,16 @@ abbrev pub MovesAreFew : {D : Type 0} → PlayerState D → Type 0
 MovesAreFew s = s.moves + steps_left s ≤ most_moves (length s.hub.setting.runs) (length s.hub.setting.first) s.hub.rounds s.rounds
 
 -- the actors that have not ended, ascending
-abbrev pub are_live : {D : Type 0} → PlayerState D → List ℕ
+abbrev pub are_live : {D : Type 0} → PlayerState D → List ActorId
 are_live s = filter (λ a. not (is_ended s a)) (range_with_len 0 (length s.grips))
 
 -- the bits of the word are the runs that have not ended, the run r the bit r - 1
 abbrev pub AreLiveRuns : {D : Type 0} → ℕ → PlayerState D → Type 0
-AreLiveRuns word s = (r : ℕ) → 0 < r → has_run word r ≡ not (is_ended s r)
+AreLiveRuns word s = (r : RunId) → 0 < r → has_run word r ≡ not (is_ended s r)
 
 -- none of these hands holds a thing
 abbrev pub HoldNothing : {A : Type 0} → List (Option A) → Type 0
-HoldNothing {A} hands = (a : ℕ) (x : A) → slice_get hands a ≡ Some (Some x) → ⊥
+HoldNothing {A} hands = (a : ActorId) (x : A) → slice_get hands a ≡ Some (Some x) → ⊥
 
 -- a player of the hub, with an empty hand for each actor, at the start of its play
 pub record IsOpened {D : Type 0} (hub : OpenHub D) (rounds : ℕ) (s : PlayerState D) : Type 0 where

@@ -1,5 +1,6 @@
 -- How a play goes on, for what the devices tell meanwhile.
 use Rattle.device_gate.specs.declared.slips.Told.{Told}
+use Rattle.home_types.specs.Numbers.{ActorId}
 use Rattle.run_replay.specs.Replays.{Course, Picked, Play, actors, draw_times, pick, pick_first, pick_live, play, waits}
 use Rattle.std.specs.Prelude.{Bool, List, Some, [], length, slice_get, ℕ, ◌+◌, ◌≡◌}
 
@@ -14,25 +15,25 @@ pub record GoesOn (rounds : ℕ) (step : Course → Play → Play) (p q : Play) 
   pub leads : (course : Course) → course.rounds ≡ rounds → Tells course p.acts told → step course p ≡ q
 
 -- the actor was picked, and did this
-pub record IsPicked (rounds a : ℕ) (p : Play) (picked : Picked) (q : Play) : Type 0 where
+pub record IsPicked (rounds : ℕ) (a : ActorId) (p : Play) (picked : Picked) (q : Play) : Type 0 where
   pub told : List Told
   pub acts : q.acts ≡ p.acts + length told
   pub leads : (course : Course) → course.rounds ≡ rounds → Tells course p.acts told → pick course p a ≡ record { picked = picked; next = q }
 
 -- the actor was picked in the play that it is by so many acts, and waited or did not
-pub record HasPicked (rounds a : ℕ) (before : ℕ → Play) (waited : Bool) (after : ℕ → Play) : Type 0 where
+pub record HasPicked (rounds : ℕ) (a : ActorId) (before : ℕ → Play) (waited : Bool) (after : ℕ → Play) : Type 0 where
   pub picked : Picked
   pub waits_so : waits picked ≡ waited
   pub picks : (acts : ℕ) → (later : ℕ) × IsPicked rounds a (before acts) picked (after later)
 
 -- the actor, which has not ended, was picked, and did this; the pick is not counted yet
-pub record IsStepped (rounds a : ℕ) (p : Play) (picked : Picked) (q : Play) : Type 0 where
+pub record IsStepped (rounds : ℕ) (a : ActorId) (p : Play) (picked : Picked) (q : Play) : Type 0 where
   pub told : List Told
   pub acts : q.acts ≡ p.acts + length told
   pub leads : (course : Course) → course.rounds ≡ rounds → Tells course p.acts told → pick_live course p a ≡ record { picked = picked; next = q }
 
 -- these actors were picked, one after another
-abbrev pub IsPlayed : ℕ → List ℕ → Play → Play → Type 0
+abbrev pub IsPlayed : ℕ → List ActorId → Play → Play → Type 0
 IsPlayed rounds picks p q = GoesOn rounds (λ course x. play course x picks) p q
 
 -- after some draws of the generator from this seed every actor has ended
@@ -42,7 +43,7 @@ pub record IsFinished (rounds seed : ℕ) (p q : Play) : Type 0 where
   pub over : (course : Course) → course.rounds ≡ rounds → actors course q ≡ []
 
 -- of these actors the first ones waited, and these others are left to be picked
-pub record IsTried (rounds : ℕ) (all left : List ℕ) (p q : Play) : Type 0 where
+pub record IsTried (rounds : ℕ) (all left : List ActorId) (p q : Play) : Type 0 where
   pub told : List Told
   pub acts : q.acts ≡ p.acts + length told
   pub leads : (course : Course) → course.rounds ≡ rounds → Tells course p.acts told → pick_first course p all ≡ pick_first course q left

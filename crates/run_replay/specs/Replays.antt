@@ -2,6 +2,7 @@
 use Rattle.command_rules.specs.Rosters.{command_at, is_run}
 use Rattle.history_book.specs.Settings.{Setting}
 use Rattle.history_book.specs.declared.entries.Entry.{Entry}
+use Rattle.home_types.specs.Numbers.{ActorId, DeviceId, Moment, RunId}
 use Rattle.hub_core.specs.Steps.{Absent, Choice, HandsOut, Moves, Over, Waits, after_give, after_take, after_take_probe, at_moment, choice_of, give_entries, may_probe, opened}
 use Rattle.device_gate.specs.declared.slips.Told.{Told}
 use Rattle.hub_core.specs.declared.waits.Why.{Why}
@@ -15,7 +16,7 @@ use Rattle.std.specs.Prelude.{Bool, List, Option, [], drop, false, filter, fold,
 pub record Play : Type 0 where
   pub configuration : Configuration
   -- the moment, which rises with the commands
-  pub moment : ℕ
+  pub moment : Moment
   -- how many devices the detector has come to
   pub place : ℕ
   -- how many grips were acted on
@@ -33,7 +34,7 @@ pub data Picked : Type 0 where
   -- the actor has ended or is none of the window, or the detector came to a device that is out
   Passed : Picked
   Made : List Entry → Picked
-  Took : ℕ → Picked
+  Took : DeviceId → Picked
   Waited : Why → Picked
 
 pub record Pick : Type 0 where
@@ -44,7 +45,7 @@ abbrev pub passes : Play → Pick
 passes p = record { picked = Passed; next = p }
 
 -- the device of which the actor holds the grip
-abbrev pub gripped : Play → ℕ → Option ℕ
+abbrev pub gripped : Play → ActorId → Option DeviceId
 gripped p a = grip_wait p.configuration.setting p.configuration.grips a
 
 -- the detector comes to each device so often as there are rounds
@@ -52,7 +53,7 @@ abbrev pub all_rounds : Course → Play → ℕ
 all_rounds course p = course.rounds * length p.configuration.setting.first
 
 -- the detector has ended when its rounds are over and it holds no probe, a run when it has its end
-abbrev pub has_ended : Course → Play → ℕ → Bool
+abbrev pub has_ended : Course → Play → ActorId → Bool
 has_ended course p zero = is_none (gripped p 0) && nat_le (all_rounds course p) p.place
 has_ended course p (suc r) = not (is_run p.configuration.setting.runs (suc r)) || is_some ((read_of p.configuration).run (suc r)).ended
 
@@ -66,7 +67,7 @@ takes_of p grip = by_purpose grip.purpose
     by_purpose (Probes v) = 0
 
 -- the holder of the device's grip acts, and gives it back
-abbrev pub act_on : Course → Play → ℕ → Grip → Pick
+abbrev pub act_on : Course → Play → DeviceId → Grip → Pick
 act_on course p d grip =
     record {
       picked = Made (give_entries p.configuration.setting (read_of p.configuration) d grip (course.told p.acts));
@@ -79,11 +80,11 @@ act_on course p d grip =
       };
     }
   where
-    moment : ℕ
+    moment : Moment
     moment = p.moment + takes_of p grip
 
 -- a grip that is out of the device
-abbrev pub act_where_out : Course → Play → ℕ → Pick
+abbrev pub act_where_out : Course → Play → DeviceId → Pick
 act_where_out course p d = unwrap_or (option_map (act_on course p d) (p.configuration.grips d)) (passes p)
 
 -- what a pick does whose run takes this step
@@ -95,23 +96,23 @@ picked_by (Waits why) = Waited why
 picked_by (HandsOut d purpose) = Took d
 
 -- a run with no grip takes its step
-abbrev pub run_takes : Play → ℕ → Pick
+abbrev pub run_takes : Play → RunId → Pick
 run_takes p r = record { picked = picked_by (choice_of p.configuration r p.moment); next = record p { configuration = after_take p.configuration r p.moment } }
 
 -- the detector comes to the next device of its round
 abbrev pub detector_takes : Play → Pick
 detector_takes p = if may_probe p.configuration d then record { picked = Took d; next = record p { configuration = after_take_probe p.configuration d; place = p.place + 1 } } else passes (record p { place = p.place + 1 })
   where
-    d : ℕ
+    d : DeviceId
     d = p.place % length p.configuration.setting.first
 
 -- an actor with no grip takes
-abbrev pub actor_takes : Play → ℕ → Pick
+abbrev pub actor_takes : Play → ActorId → Pick
 actor_takes p zero = detector_takes p
 actor_takes p (suc r) = run_takes p (suc r)
 
 -- an actor with a grip acts and gives it back, one without takes
-abbrev pub pick_live : Course → Play → ℕ → Pick
+abbrev pub pick_live : Course → Play → ActorId → Pick
 pick_live course p a = unwrap_or (option_map (act_where_out course p) (gripped p a)) (actor_takes p a)
 
 -- it took a device, gave one back or made entries, if any
@@ -130,11 +131,11 @@ abbrev pub counted : Pick → Pick
 counted x = record { picked = x.picked; next = record x.next { moves = moves_after x.picked x.next.moves } }
 
 -- one pick of an actor: a run, or 0 for the detector
-abbrev pub pick : Course → Play → ℕ → Pick
+abbrev pub pick : Course → Play → ActorId → Pick
 pick course p a = if has_ended course p a then passes p else counted (pick_live course p a)
 
 -- picks, one after another
-abbrev pub play : Course → Play → List ℕ → Play
+abbrev pub play : Course → Play → List ActorId → Play
 play course p picks = fold (λ q a. (pick course q a).next) p picks
 
 -- Until every actor has ended
@@ -146,16 +147,16 @@ waits (Took d) = false
 waits (Waited why) = true
 
 -- the actors that have not ended, ascending
-abbrev pub actors : Course → Play → List ℕ
+abbrev pub actors : Course → Play → List ActorId
 actors course p = filter (λ a. not (has_ended course p a)) (range_with_len 0 (length p.configuration.setting.runs + 1))
 
 -- picks from these in turn, until one does not wait
-abbrev pub pick_first : Course → Play → List ℕ → Play
+abbrev pub pick_first : Course → Play → List ActorId → Play
 pick_first course p [] = p
 pick_first course p (a ∷ others) = elim (waits (pick course p a).picked) [ true ↦ pick_first course (pick course p a).next others | false ↦ (pick course p a).next ]
 
 -- from this place of the list on, in cyclic order
-abbrev pub from_place : ℕ → List ℕ → List ℕ
+abbrev pub from_place : ℕ → List ActorId → List ActorId
 from_place k xs = drop k xs ++ take k xs
 
 -- a replay that goes on by draws
@@ -167,7 +168,7 @@ pub record Drawing : Type 0 where
 abbrev pub draw_once : Course → Drawing → Drawing
 draw_once course s = from_actors (actors course s.play)
   where
-    from_actors : List ℕ → Drawing
+    from_actors : List ActorId → Drawing
     from_actors [] = s
     from_actors (a ∷ others) = record { play = pick_first course s.play (from_place (below (drawn s.state) (length (a ∷ others))) (a ∷ others)); state = drawn s.state }
 
@@ -180,15 +181,15 @@ abbrev pub start_of : Setting → ℕ → Play
 start_of w rounds = record { configuration = opened w rounds; moment = 0; place = 0; acts = 0; moves = 0 }
 
 -- a play goes on by these picks, and then by so many draws of the generator from this seed
-abbrev pub replay_from : Course → Play → List ℕ → ℕ → ℕ → Play
+abbrev pub replay_from : Course → Play → List ActorId → ℕ → ℕ → Play
 replay_from course p picks seed draws = (draw_times course draws (record { play = play course p picks; state = seed })).play
 
 -- the window replayed: its picks, and then so many draws of the generator from this seed
-abbrev pub replay_of : Course → Setting → List ℕ → ℕ → ℕ → Play
+abbrev pub replay_of : Course → Setting → List ActorId → ℕ → ℕ → Play
 replay_of course w picks seed draws = replay_from course (start_of w course.rounds) picks seed draws
 
 -- the play is the replay of the window with so many probes of each device, in so many rounds of the detector, for what the devices told: after some draws every actor has ended
-pub record IsReplay (w : Setting) (probes rounds : ℕ) (picks : List ℕ) (seed : ℕ) (p : Play) : Type 0 where
+pub record IsReplay (w : Setting) (probes rounds : ℕ) (picks : List ActorId) (seed : ℕ) (p : Play) : Type 0 where
   pub told : ℕ → Told
   pub draws : ℕ
   pub over : actors (record { rounds = rounds; told = told }) p ≡ []

@@ -2,6 +2,7 @@
 use Rattle.command_rules.specs.Apart.{meet}
 use Rattle.command_rules.specs.Items.{is_ran, of_run}
 use Rattle.command_rules.specs.Rosters.{Run}
+use Rattle.home_types.specs.Numbers.{DeviceId, LinePlace, RunId}
 use Rattle.home_types.specs.declared.items.Item.{Item}
 use Rattle.home_types.specs.declared.items.Item.TheVariants.{Back, Failed, Ran}
 use Rattle.home_types.specs.contracts.items.Item as the_item
@@ -38,13 +39,13 @@ abbrev pub items_of : List Mark → List Item
 items_of marks = map (λ m. m.item) marks
 
 -- the item is the device's failure of this number
-abbrev pub is_failure : ℕ → ℕ → Item → Bool
+abbrev pub is_failure : DeviceId → ℕ → Item → Bool
 is_failure d k (Ran q) = false
 is_failure d k (Failed e n) = (e.0 == d) && (n == k)
 is_failure d k (Back e n) = false
 
 -- the item is the device's restart of this number
-abbrev pub is_restart : ℕ → ℕ → Item → Bool
+abbrev pub is_restart : DeviceId → ℕ → Item → Bool
 is_restart d k (Ran q) = false
 is_restart d k (Failed e n) = false
 is_restart d k (Back e n) = (e.0 == d) && (n == k)
@@ -75,27 +76,27 @@ abbrev pub untouched : Item → Mark
 untouched item = record { item = item; touched = touched_by item set.empty; ended = false }
 
 -- the item stands at this place, the others in their order, with what is told of them
-abbrev pub with_item : ℕ → Item → List Mark → List Mark
+abbrev pub with_item : LinePlace → Item → List Mark → List Mark
 with_item at item marks = insert marks at (untouched item)
 
 -- the others stand in their order, with what is told of them
-abbrev pub without : ℕ → List Mark → List Mark
+abbrev pub without : RunId → List Mark → List Mark
 without r marks = filter (λ m. not (is_ran r m.item)) marks
 
 -- the device too, where the mark is the run's
-abbrev pub with_touch : ℕ → ℕ → Mark → Mark
+abbrev pub with_touch : RunId → DeviceId → Mark → Mark
 with_touch r d m = if is_ran r m.item then record m { touched = set.insert m.touched d } else m
 
 -- the run has touched the device too, and all else stays
-abbrev pub touching : ℕ → ℕ → List Mark → List Mark
+abbrev pub touching : RunId → DeviceId → List Mark → List Mark
 touching r d marks = map (with_touch r d) marks
 
 -- .. and it has ended, where the mark is the run's
-abbrev pub with_end : ℕ → Mark → Mark
+abbrev pub with_end : RunId → Mark → Mark
 with_end r m = if is_ran r m.item then record m { ended = true } else m
 
 -- the run has ended, and all else stays
-abbrev pub settling : ℕ → List Mark → List Mark
+abbrev pub settling : RunId → List Mark → List Mark
 settling r marks = map (with_end r) marks
 
 -- it is a run that has not ended
@@ -108,10 +109,10 @@ front_of [] = 0
 front_of (m ∷ ms) = if is_open m then 0 else front_of ms + 1
 
 -- the run has touched the device
-abbrev pub has_touched : ℕ → ℕ → List Mark → Bool
+abbrev pub has_touched : RunId → DeviceId → List Mark → Bool
 has_touched r d marks = list_any (λ m. is_ran r m.item && set.contains m.touched d) marks
 
-abbrev pub place_of : Item → List Mark → Option ℕ
+abbrev pub place_of : Item → List Mark → Option LinePlace
 place_of item marks = position (is_item item) (items_of marks)
 
 -- the item has touched one of these devices
@@ -119,7 +120,7 @@ abbrev pub meets : Devices → Mark → Bool
 meets devices m = list_any (set.contains m.touched) (set.items devices)
 
 -- the last place that has touched one of these devices
-abbrev pub last_meeting : Devices → List Mark → Option ℕ
+abbrev pub last_meeting : Devices → List Mark → Option LinePlace
 last_meeting devices marks = last_place (meets devices) marks
 
 -- the items of the marks meet

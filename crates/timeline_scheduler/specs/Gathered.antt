@@ -3,6 +3,7 @@ use Rattle.command_rules.specs.Items.{is_ran, of_run}
 use Rattle.command_rules.specs.Rosters.{Run, followed_by, follows, is_run}
 use Rattle.history_book.specs.Lines.{is_item_on}
 use Rattle.home_types.specs.Limits.{most_devices, most_runs}
+use Rattle.home_types.specs.Numbers.{DeviceId, RunId}
 use Rattle.home_types.specs.declared.items.Item.TheVariants.{Back, Failed, Ran}
 use Rattle.home_types.specs.declared.items.Item.{Item}
 use Rattle.home_types.specs.declared.numbers.RunNo.{RunNo}
@@ -22,6 +23,6 @@ AreKnown runs items = (at : ℕ) (i : Item) → slice_get items at ≡ Some i �
 
 -- these are the devices of the items, the runs among them, and those that these follow
 pub record IsGathered (runs : List Run) (items : List Item) (gathered : Gathered) : Type 0 where
-  pub devices : (d : ℕ) → set.contains gathered.devices d ≡ list_any (is_item_on runs d) items
-  pub among : (x : ℕ) → x ≤ most_runs → slice_index_or gathered.runs x false ≡ list_any (is_ran x) items
-  pub leaders : (x : ℕ) → x ≤ most_runs → slice_index_or gathered.leaders x false ≡ list_any (of_run (λ q. follows runs q x)) items
+  pub devices : (d : DeviceId) → set.contains gathered.devices d ≡ list_any (is_item_on runs d) items
+  pub among : (x : RunId) → x ≤ most_runs → slice_index_or gathered.runs x false ≡ list_any (is_ran x) items
+  pub leaders : (x : RunId) → x ≤ most_runs → slice_index_or gathered.leaders x false ≡ list_any (of_run (λ q. follows runs q x)) items

@@ -3,6 +3,7 @@ use Rattle.command_rules.specs.Items.{is_ran}
 use Rattle.command_rules.specs.Rosters.{Run, is_run, touches}
 use Rattle.history_book.specs.Books.{end_of}
 use Rattle.history_book.specs.declared.entries.Kept.{Kept}
+use Rattle.home_types.specs.Numbers.{DeviceId, RunId}
 use Rattle.home_types.specs.declared.items.Item.TheVariants.{Back, Failed, Ran}
 use Rattle.home_types.specs.declared.items.Item.{Item}
 use Rattle.home_types.specs.declared.modes.Visibility.TheVariants.{Eventual, Global, Partitioned, Weak}
@@ -21,13 +22,13 @@ is_strict_model Partitioned = true
 is_strict_model Eventual = false
 
 -- the item's run, where it has not ended and the test holds of it
-abbrev pub unended_run : (ℕ → Bool) → List Kept → Item → Option RunNo
+abbrev pub unended_run : (RunId → Bool) → List Kept → Item → Option RunNo
 unended_run test history (Ran x) = if is_none (end_of history x.0) && test x.0 then Some x else None
 unended_run test history (Failed d k) = None
 unended_run test history (Back d k) = None
 
 -- the first such run before r
-abbrev pub first_unended_before : (ℕ → Bool) → List Kept → ℕ → List Item → Option RunNo
+abbrev pub first_unended_before : (RunId → Bool) → List Kept → RunId → List Item → Option RunNo
 first_unended_before test history r [] = None
 first_unended_before test history r (i ∷ is) = if is_ran r i then None else option_or (unended_run test history i) (first_unended_before test history r is)
 
@@ -42,9 +43,9 @@ abbrev pub AreRunsOf : List Run → List Item → Type 0
 AreRunsOf runs items = (at : ℕ) (i : Item) → slice_get items at ≡ Some i → IsRunOf runs i
 
 -- the device is counted down, and the run has it in its footprint and has touched it
-abbrev pub is_down_for : List LineageState → List Mark → List Run → ℕ → ℕ → Bool
+abbrev pub is_down_for : List LineageState → List Mark → List Run → RunId → DeviceId → Bool
 is_down_for table line runs r d = not (lineage_at table d).up && touches runs r d && has_touched r d line
 
 -- the smallest such device
-abbrev pub first_down_for : List LineageState → List Mark → List Run → ℕ → Option ℕ
+abbrev pub first_down_for : List LineageState → List Mark → List Run → RunId → Option DeviceId
 first_down_for table line runs r = find (is_down_for table line runs r) (range_with_len 0 (length table))

@@ -1,22 +1,23 @@
 -- The run that is lost where a device fails, and the run before which its event stands, as the device's lineage has them.
 use Rattle.device_order.specs.Usages.{is_up}
+use Rattle.home_types.specs.Numbers.{RunId}
 use Rattle.lineage_table.specs.Accesses.{is_acquired, is_scheduled}
 use Rattle.lineage_table.specs.Lineages.{LineageState}
 use Rattle.lineage_table.specs.declared.accesses.Access.{Access}
-use Rattle.std.specs.Prelude.{Bool, Option, find, not, option_map, ℕ, ◌&&◌}
+use Rattle.std.specs.Prelude.{Bool, Option, find, not, option_map, ◌&&◌}
 
 -- the access is acquired by a run that sees the device up
 abbrev pub is_lost : Access → Bool
 is_lost x = is_acquired x.status && is_up x.view
 
 -- the run of the first such access
-abbrev pub lost_on : LineageState → Option ℕ
+abbrev pub lost_on : LineageState → Option RunId
 lost_on s = option_map (λ x. x.run.0) (find is_lost s.accesses)
 
 -- the access waits for its first answer, and its run is not doomed
-abbrev pub waits : (ℕ → Bool) → Access → Bool
+abbrev pub waits : (RunId → Bool) → Access → Bool
 waits is_doomed x = is_scheduled x.status && not (is_doomed x.run.0)
 
 -- the run of the first such access
-abbrev pub first_waiting : (ℕ → Bool) → LineageState → Option ℕ
+abbrev pub first_waiting : (RunId → Bool) → LineageState → Option RunId
 first_waiting is_doomed s = option_map (λ x. x.run.0) (find (waits is_doomed) s.accesses)

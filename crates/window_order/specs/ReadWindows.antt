@@ -9,17 +9,18 @@ use Rattle.device_order.specs.declared.records.Probe.TheVariants.{Asks, Restores
 use Rattle.device_order.specs.declared.records.Probe.{Probe}
 use Rattle.history_book.specs.Readings.{Reading, is_committed, is_doomed}
 use Rattle.history_book.specs.Settings.{Setting}
+use Rattle.home_types.specs.Numbers.{DeviceId, RunId}
 use Rattle.lock_leasing.specs.Configurations.{Commands, Grip, Grips, Probes, Purpose, Undoes}
 use Rattle.std.specs.Prelude.{None, Option, Some, if◌then◌else◌, ℕ, ◌==◌}
 
 -- what a run holds the grip of a device for, whose device is out for this purpose
-abbrev pub held_for : Setting → ℕ → Purpose → HeldGrip
+abbrev pub held_for : Setting → RunId → Purpose → HeldGrip
 held_for w r (Commands k) = command_grip (command_at w.runs r k).job
 held_for w r (Undoes v) = HeldToUndo v
 held_for w r (Probes v) = Free
 
 -- .. and whose device is out with this grip, or home
-abbrev pub held_by : Setting → ℕ → Option Grip → HeldGrip
+abbrev pub held_by : Setting → RunId → Option Grip → HeldGrip
 held_by w r None = Free
 held_by w r (Some grip) = if grip.maker == r then held_for w r grip.purpose else Free
 
@@ -36,7 +37,7 @@ probe_of None = Unprobed
 probe_of (Some grip) = probe_for grip.purpose
 
 -- what is known of the run
-abbrev pub run_state : Setting → Reading → Grips → ℕ → RunState
+abbrev pub run_state : Setting → Reading → Grips → RunId → RunState
 run_state w n g r = record {
   commands = commands_of w.runs r;
   answers = (n.run r).answers;
@@ -47,7 +48,7 @@ run_state w n g r = record {
 }
 
 -- the window, where each device stands, or stood as it went out, at this value
-abbrev pub window_of : Setting → Reading → Grips → (ℕ → ℕ) → WindowRecord
+abbrev pub window_of : Setting → Reading → Grips → (DeviceId → ℕ) → WindowRecord
 window_of w n g held = record {
   runs = w.runs;
   first = w.first;

@@ -4,6 +4,7 @@ use Rattle.command_rules.specs.Rosters.{Run, is_on, run_no}
 use Rattle.history_book.specs.Plans.{planned_end, planned_start}
 use Rattle.history_book.specs.Readings.{Reading, has_written, is_committed, view_of}
 use Rattle.history_book.specs.Settings.{Setting}
+use Rattle.home_types.specs.Numbers.{DeviceId, RunId}
 use Rattle.home_types.specs.declared.commands.View.TheVariants.{Down}
 use Rattle.home_types.specs.declared.items.Item.TheVariants.{Back, Failed, Ran}
 use Rattle.home_types.specs.declared.items.Item.{Item}
@@ -20,7 +21,7 @@ use Rattle.std.specs.Prelude.{Bool, List, None, Some, [], if◌then◌else◌, i
 -- The accesses
 
 -- the access of the run: where it was passed, released by a run that sees the device down
-abbrev pub access_read : Setting → Reading → Grips → (ℕ → Bool) → ℕ → ℕ → Access
+abbrev pub access_read : Setting → Reading → Grips → (RunId → Bool) → DeviceId → RunId → Access
 access_read w n g passed d r = record {
   run = run_no r;
   status = if passed r then Released else status_by_answers w n g r d;
@@ -31,7 +32,7 @@ access_read w n g passed d r = record {
 }
 
 -- the accesses of the runs that have one, in the order of these items, but for those before a run that covers them
-abbrev pub accesses_along : (ℕ → Bool) → (ℕ → Bool) → (ℕ → Access) → List Item → List Access
+abbrev pub accesses_along : (RunId → Bool) → (RunId → Bool) → (RunId → Access) → List Item → List Access
 accesses_along has_one covering access [] = []
 accesses_along has_one covering access (Ran r ∷ is) =
     if has_one r.0 && not (list_any (of_run covering) is) then (access r.0 ∷ accesses_along has_one covering access is)
@@ -40,30 +41,30 @@ accesses_along has_one covering access (Failed e k ∷ is) = accesses_along has_
 accesses_along has_one covering access (Back e k ∷ is) = accesses_along has_one covering access is
 
 -- the run is committed, and wrote the device
-abbrev pub commits_write : Reading → ℕ → ℕ → Bool
+abbrev pub commits_write : Reading → DeviceId → RunId → Bool
 commits_write n d r = is_committed n r && has_written n r d
 
 -- the accesses to the device: of the live runs that use it, but for those before a committed run that wrote it
-abbrev pub accesses_read : Setting → Reading → Grips → (ℕ → Bool) → ℕ → List Item → List Access
+abbrev pub accesses_read : Setting → Reading → Grips → (RunId → Bool) → DeviceId → List Item → List Access
 accesses_read w n g passed d line = accesses_along (uses w n d) (commits_write n d) (access_read w n g passed d) line
 
 -- Room
 
 -- how many of these runs, which count from this number, have the device in their footprint and are not placed
-abbrev pub unplaced_among : Reading → ℕ → ℕ → List Run → ℕ
+abbrev pub unplaced_among : Reading → DeviceId → RunId → List Run → ℕ
 unplaced_among n d r [] = 0
 unplaced_among n d r (run ∷ runs) = (if list_any (is_on d) run.commands && is_none (n.run r).placed then 1 else 0) + unplaced_among n d (suc r) runs
 
-abbrev pub unplaced_on : Setting → Reading → ℕ → ℕ
+abbrev pub unplaced_on : Setting → Reading → DeviceId → ℕ
 unplaced_on w n d = unplaced_among n d 1 w.runs
 
 -- The table
 
 -- the lineage is the device's, with room for the runs that are not placed
-pub record LineageIsKept (w : Setting) (n : Reading) (g : Grips) (d : ℕ) (s : LineageState) : Type 0 where
+pub record LineageIsKept (w : Setting) (n : Reading) (g : Grips) (d : DeviceId) (s : LineageState) : Type 0 where
   -- the runs whose access was passed, each of which may be
-  pub passed : ℕ → Bool
-  pub may_pass : (r : ℕ) → passed r ≡ true → may_be_passed n g r d ≡ true
+  pub passed : RunId → Bool
+  pub may_pass : (r : RunId) → passed r ≡ true → may_be_passed n g r d ≡ true
   pub committed : s.committed ≡ committed_value w n d
   pub accesses : s.accesses ≡ accesses_read w n g passed d n.line
   pub room : unplaced_on w n d ≤ s.room
@@ -71,4 +72,4 @@ pub record LineageIsKept (w : Setting) (n : Reading) (g : Grips) (d : ℕ) (s : 
 
 pub record TableIsKept (w : Setting) (n : Reading) (g : Grips) (table : List LineageState) : Type 0 where
   pub devices : length table ≡ length w.first
-  pub each : (d : ℕ) → d < length w.first → LineageIsKept w n g d (lineage_at table d)
+  pub each : (d : DeviceId) → d < length w.first → LineageIsKept w n g d (lineage_at table d)
