@@ -9,7 +9,7 @@ ghost use Rattle.serial_line.specs.Marks.{items_of};
 
 use crate::homes::Home;
 use crate::known::DeviceProgress;
-use crate::open_windows::{ClosingLists, OpenWindow};
+use crate::open_windows::OpenWindow;
 use crate::read_histories::ReadHistory;
 use crate::refusals::NotQuiet;
 use device_states::Device;
@@ -17,6 +17,13 @@ use history_book::WindowRecord;
 use home_types::{DeviceNo, Item, List, Stand, World};
 use lineage_table::Table;
 use serial_line::Line;
+
+/// By how much the counts of each device rose in a window.
+#[derive(Drop)]
+struct Rises {
+    turns: List<u64>,
+    faults: List<u64>,
+}
 
 impl<D: Device> OpenWindow<D> {
     /// Closes the window, and gives the home and the window's record.
@@ -42,41 +49,32 @@ impl<D: Device> OpenWindow<D> {
         let OpenWindow {
             history,
             order,
-            rounds: _,
             opened,
-            moment: _,
             devices: known,
             gate,
-            hands: _,
             closing,
+            ..
         } = self;
         let weak = history.is_weak();
         let ReadHistory {
-            roster: _,
             mode,
             kinds,
             first,
             book,
-            progress: _,
+            ..
         } = history;
-        let ClosingLists {
-            order: items,
-            last,
-            world,
-            turns,
-            faults,
-        } = closing;
         let devices = gate.close();
-        let last = stands_left(weak, last, &order.table, &known);
-        let world = copied(world, &last);
+        let last = stands_left(weak, closing.last, &order.table, &known);
+        let world = copied(closing.world, &last);
+        let Rises { turns, faults } = rises_in(closing.turns, closing.faults, &known, &devices);
         let record = WindowRecord {
             mode,
             first,
             history: book.into_list(),
-            order: order_of(weak, items, &order.line),
+            order: order_of(weak, closing.order, &order.line),
             last: World { devices: last },
-            turns: turns_in(turns, &known, &devices),
-            faults: faults_in(faults, &known, &devices),
+            turns,
+            faults,
         };
         let home = Home {
             kinds,
@@ -174,42 +172,28 @@ fn stands_in(empty: List<Stand>, table: &Table) -> List<Stand>
     stands
 }
 
-/// By how much the turns of each device rose, in a list that has room for them.
-fn turns_in<D: Device>(
-    empty: List<u64>,
+/// By how much the turns and the faults of each device rose, in lists that have room for them.
+fn rises_in<D: Device>(
+    turns: List<u64>,
+    faults: List<u64>,
     known: &List<DeviceProgress>,
     devices: &List<D>,
-) -> List<u64>
-    requires room { IsEmptyFor empty (length known.now.items) }
-    requires fell { NoneFell D.turns (λ device. device.at_opening.turns) known.now.items devices.now.items }
-    ensures { HaveRisen D.turns (λ device. device.at_opening.turns) known.now.items devices.now.items (length known.now.items) result.items }
+) -> Rises
+    requires turns { IsEmptyFor turns (length known.now.items) }
+    requires faults { IsEmptyFor faults (length known.now.items) }
+    requires turns_fell { NoneFell D.turns (λ device. device.at_opening.turns) known.now.items devices.now.items }
+    requires faults_fell { NoneFell D.faults (λ device. device.at_opening.faults) known.now.items devices.now.items }
+    ensures turns { HaveRisen D.turns (λ device. device.at_opening.turns) known.now.items devices.now.items (length known.now.items) result.turns.items }
+    ensures faults { HaveRisen D.faults (λ device. device.at_opening.faults) known.now.items devices.now.items (length known.now.items) result.faults.items }
 {
-    let mut rises = empty;
+    let mut rises = Rises { turns, faults };
     'devices: for at in 0..known.len() {
         let device = devices.get(at).unwrap();
-        let then = known.get(at).unwrap().at_opening.turns;
-        let pushed = rises.push(device.turns() - then);
-        pushed.unwrap();
-    }
-    rises
-}
-
-/// By how much the faults of each device rose, in a list that has room for them.
-fn faults_in<D: Device>(
-    empty: List<u64>,
-    known: &List<DeviceProgress>,
-    devices: &List<D>,
-) -> List<u64>
-    requires room { IsEmptyFor empty (length known.now.items) }
-    requires fell { NoneFell D.faults (λ device. device.at_opening.faults) known.now.items devices.now.items }
-    ensures { HaveRisen D.faults (λ device. device.at_opening.faults) known.now.items devices.now.items (length known.now.items) result.items }
-{
-    let mut rises = empty;
-    'devices: for at in 0..known.len() {
-        let device = devices.get(at).unwrap();
-        let then = known.get(at).unwrap().at_opening.faults;
-        let pushed = rises.push(device.faults() - then);
-        pushed.unwrap();
+        let then = known.get(at).unwrap().at_opening;
+        let turned = rises.turns.push(device.turns() - then.turns);
+        turned.unwrap();
+        let failed = rises.faults.push(device.faults() - then.faults);
+        failed.unwrap();
     }
     rises
 }

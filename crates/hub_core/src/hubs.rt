@@ -18,6 +18,7 @@ ghost use Rattle.lock_leasing.specs.Tables.{Represents};
 use crate::blocked_runs::BlockedRuns;
 use crate::homes::Home;
 use crate::open_windows::OpenWindow;
+use crate::purposes::Purpose;
 use crate::refusals::NotQuiet;
 use device_states::Device;
 use history_book::WindowRecord;
@@ -55,7 +56,8 @@ impl<D: Device> Hub<D> {
     pub fn kept(&self)
         ensures { HubStands D.tag D.stands D.turns D.probes D.faults self.now }
     {
-        self.window.kept();
+        let window = &self.window;
+        window.gate.numbered();
     }
 
     /// Does nothing. Its contract is that a window is never stuck.
@@ -69,7 +71,7 @@ impl<D: Device> Hub<D> {
     pub fn bounded(&self)
         ensures { IsBounded self.now }
     {
-        self.window.bounded();
+        self.window.whole();
     }
 
     /// The lineage table of the window. It has at most one access of each run on a device, under the weak model none, and
@@ -80,7 +82,9 @@ impl<D: Device> Hub<D> {
         ensures disciplined { (d : ℕ) → IsDisciplined (accesses_at result.now d) }
         ensures bare { is_weak self.now.setting.mode ≡ true → (d : ℕ) → accesses_at result.now d ≡ [] }
     {
-        self.window.table()
+        let window = &self.window;
+        window.order.table.kept();
+        &window.order.table
     }
 
     /// Whether the run is known to wait, at every moment, until another actor makes a step that may free it. Looks at
@@ -103,14 +107,20 @@ impl<D: Device> Hub<D> {
     pub fn sealed(&self) -> u32
         ensures { result ≡ sealed_of self.now.setting (entries_of self.now.history) }
     {
-        self.window.sealed()
+        let window = &self.window;
+        window.order.line.sealed()
     }
 
     /// The item at this place of the line, counted from 0, where it is final. `None` from `sealed` on.
     pub fn final_item(&self, at: u32) -> Option<Item>
         ensures { result ≡ slice_get (take (sealed_of self.now.setting (entries_of self.now.history)) (line_of self.now.setting (entries_of self.now.history))) at }
     {
-        self.window.final_item(at)
+        let window = &self.window;
+        if at < window.order.line.sealed() {
+            window.order.line.get(at)
+        } else {
+            None
+        }
     }
 
     /// The last moment of the window, in ms.
@@ -124,14 +134,24 @@ impl<D: Device> Hub<D> {
     pub fn fresh(&self) -> bool
         ensures { IsTrue result ↔ (configuration_of self.now ≡ opened self.now.setting self.now.rounds) }
     {
-        self.window.fresh()
+        let window = &self.window;
+        if window.history.len() != 0 {
+            return false;
+        }
+        if window.moment != 0 {
+            return false;
+        }
+        if window.gate.first_out().is_some() {
+            return false;
+        }
+        window.has_all_probes()
     }
 
     /// How many probes of the device may still be taken, 0 for no device of the home.
     pub fn probes_left(&self, d: DeviceNo) -> u64
         ensures { result ≡ (configuration_of self.now).probes d.0 }
     {
-        self.window.probes_left(d)
+        self.window.known(d).probes_left as u64
     }
 
     /// Why the window cannot be closed: the smallest run that has not ended, else the smallest device that is out.
@@ -145,21 +165,21 @@ impl<D: Device> Hub<D> {
     pub fn is_over(&self, r: RunNo) -> bool
         ensures { result ≡ is_past (configuration_of self.now) r.0 }
     {
-        self.window.is_over(r)
+        !self.window.history.has_run(r) || self.window.history.progress(r).ended.is_some()
     }
 
     /// How many runs the window has.
     pub fn run_count(&self) -> u32
         ensures { result ≡ length self.now.setting.runs }
     {
-        self.window.run_count()
+        self.window.history.run_count() as u32
     }
 
     /// How many devices the home has.
     pub fn device_count(&self) -> u64
         ensures { result ≡ length self.now.setting.first }
     {
-        self.window.device_count()
+        self.window.history.device_count()
     }
 
     /// By how many ms a replay's moment rises with the command for which the device is out. 0 where it is home, or out
@@ -167,7 +187,14 @@ impl<D: Device> Hub<D> {
     pub fn takes(&self, d: DeviceNo) -> u32
         ensures { result ≡ grip_takes self.now.setting ((configuration_of self.now).grips d.0) }
     {
-        self.window.takes(d)
+        let window = &self.window;
+        let Some(slip) = window.gate.slip(d) else {
+            return 0;
+        };
+        match window.known(d).purpose {
+            Purpose::Command(k) => window.history.command(RunNo(slip.maker), k).takes,
+            Purpose::Undo(_) | Purpose::Probe(_) => 0,
+        }
     }
 
     /// Closes the window, and gives the home and the window's record.

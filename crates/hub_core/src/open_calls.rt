@@ -2,12 +2,13 @@
 ghost use Rattle.std.specs.Prelude.{◌≡◌, ◌<◌, ◌≤◌, ◌^◌, IfErr, IfOk, None, [], length, replicate, slice_get, ℕ};
 ghost use Rattle.command_rules.specs.Footprints.{FitsIndex};
 ghost use Rattle.command_rules.specs.Rosters.{runs_of};
+ghost use Rattle.device_gate.specs.Places.{all_home};
 ghost use Rattle.home_types.specs.HomeStates.{stand_at};
 ghost use Rattle.home_types.specs.Limits.{most_devices, most_probes, most_runs};
 ghost use Rattle.hub_core.specs.BlockedMarks.{NoneMarked};
 ghost use Rattle.hub_core.specs.Bounds.{most_entries, most_items};
 ghost use Rattle.hub_core.specs.HubCalls.{IsOpened};
-ghost use Rattle.hub_core.specs.Homes.{setting_for};
+ghost use Rattle.hub_core.specs.Homes.{HomeIsKept, setting_for};
 ghost use Rattle.hub_core.specs.OpeningRooms.{AreKnown, IsClosingRoom, IsHistoryRoom, IsOrderRoom, IsRoomFor, IsScratchFor, known_first, no_progress};
 ghost use Rattle.hub_core.specs.Openings.{MayOpen};
 
@@ -34,16 +35,31 @@ struct HistoryRoom {
     progress: List<RunProgress>,
 }
 
-/// The memory of a window, all but the places of its devices.
+/// The memory of what a window keeps of its runs and its devices.
 #[derive(Drop)]
-struct Room {
+struct StateRoom {
     history: HistoryRoom,
     order: KeptOrder,
     devices: List<DeviceProgress>,
     hands: List<Option<DeviceNo>>,
+}
+
+/// The memory of a window, all but the places of its devices.
+#[derive(Drop)]
+struct Room {
+    state: StateRoom,
     closing: ClosingLists,
     blocked: BlockedRuns,
     scratch: Scratch,
+}
+
+/// A home whose devices stand behind a gate.
+#[derive(Drop)]
+struct GatedHome<D: Device> {
+    kinds: List<Kind>,
+    world: World,
+    gate: Gate<D>,
+    opened: u32,
 }
 
 /// How many entries a history of one run has at most.
@@ -79,6 +95,46 @@ impl<D: Device> Home<D> {
             drop(room);
             return Err((self, NoMemory));
         };
+        match self.behind_gate(alloc) {
+            Ok(home) => Ok(Hub {
+                blocked: room.blocked,
+                scratch: room.scratch,
+                window: OpenWindow {
+                    history: empty_history(
+                        indexed,
+                        mode,
+                        home.kinds,
+                        home.world,
+                        room.state.history,
+                    ),
+                    order: room.state.order,
+                    rounds,
+                    opened: home.opened,
+                    moment: 0,
+                    devices: room.state.devices,
+                    gate: home.gate,
+                    hands: room.state.hands,
+                    closing: room.closing,
+                },
+            }),
+            Err(home) => {
+                drop(room);
+                drop(indexed);
+                Err((home, NoMemory))
+            }
+        }
+    }
+
+    /// Puts the devices behind a gate. Where there is no memory for it the home comes back as it is.
+    fn behind_gate(self, alloc: Global) -> Result<GatedHome<D>, Home<D>>
+        ensures kinds { IfOk result (λ home. home.kinds.items ≡ self.kinds) }
+        ensures world { IfOk result (λ home. home.world.devices.items ≡ self.world) }
+        ensures opened { IfOk result (λ home. home.opened ≡ self.opened) }
+        ensures places { IfOk result (λ home. home.gate.places ≡ all_home self.devices) }
+        ensures tickets { IfOk result (λ home. home.gate.tickets ≡ 0) }
+        ensures kept { HomeIsKept D.tag D.stands D.turns D.probes D.faults self }
+        ensures refused { IfErr result (λ home. home ≡ self) }
+    {
         let Home {
             kinds,
             world,
@@ -86,34 +142,18 @@ impl<D: Device> Home<D> {
             opened,
         } = self;
         match Gate::open(alloc, devices) {
-            Ok(gate) => Ok(Hub {
-                blocked: room.blocked,
-                scratch: room.scratch,
-                window: OpenWindow {
-                    history: empty_history(indexed, mode, kinds, world, room.history),
-                    order: room.order,
-                    rounds,
-                    opened,
-                    moment: 0,
-                    devices: room.devices,
-                    gate,
-                    hands: room.hands,
-                    closing: room.closing,
-                },
+            Ok(gate) => Ok(GatedHome {
+                kinds,
+                world,
+                gate,
+                opened,
             }),
-            Err((devices, NoMemory)) => {
-                drop(room);
-                drop(indexed);
-                Err((
-                    Home {
-                        kinds,
-                        world,
-                        devices,
-                        opened,
-                    },
-                    NoMemory,
-                ))
-            }
+            Err((devices, NoMemory)) => Err(Home {
+                kinds,
+                world,
+                devices,
+                opened,
+            }),
         }
     }
 
@@ -123,16 +163,67 @@ impl<D: Device> Home<D> {
         requires runs { FitsIndex (runs_of roster.now) }
         requires devices { length self.now.world ≤ most_devices }
         requires rounds { rounds ≤ most_probes }
-        ensures history { IfOk result (λ room. IsHistoryRoom (most_entries (length roster.now.runs.items) (length self.now.world) rounds) (length roster.now.runs.items) room.history.book room.history.progress.items) }
-        ensures order { IfOk result (λ room. IsOrderRoom (most_items (length roster.now.runs.items) (length self.now.world) rounds) (runs_of roster.now) self.now.world room.order.line room.order.table) }
-        ensures devices { IfOk result (λ room. AreKnown D.turns D.probes D.faults self.now rounds (length self.now.devices) room.devices.items) }
-        ensures hands { IfOk result (λ room. room.hands.items ≡ replicate (length roster.now.runs.items) None) }
+        ensures history { IfOk result (λ room. IsHistoryRoom (most_entries (length roster.now.runs.items) (length self.now.world) rounds) (length roster.now.runs.items) room.state.history.book room.state.history.progress.items) }
+        ensures order { IfOk result (λ room. IsOrderRoom (most_items (length roster.now.runs.items) (length self.now.world) rounds) (runs_of roster.now) self.now.world room.state.order.line room.state.order.table) }
+        ensures devices { IfOk result (λ room. AreKnown D.turns D.probes D.faults self.now rounds (length self.now.devices) room.state.devices.items) }
+        ensures hands { IfOk result (λ room. room.state.hands.items ≡ replicate (length roster.now.runs.items) None) }
         ensures closing { IfOk result (λ room. IsClosingRoom (most_items (length roster.now.runs.items) (length self.now.world) rounds) (length self.now.devices) room.closing) }
         ensures blocked { IfOk result (λ room. NoneMarked room.blocked) }
         ensures scratch { IfOk result (λ room. IsScratchFor (length self.now.world) (most_items (length roster.now.runs.items) (length self.now.world) rounds) room.scratch) }
     {
+        let bounds = bounds_of(roster.runs.len(), self.world.devices.len(), rounds);
+        let state = self.state_room(alloc, roster, rounds, bounds)?;
+        let closing = match closing_lists(alloc, bounds.items, self.devices.len()) {
+            Ok(closing) => closing,
+            Err(NoMemory) => {
+                drop(state);
+                return Err(NoMemory);
+            }
+        };
+        let blocked = match BlockedRuns::open(alloc, self.devices.len()) {
+            Ok(blocked) => blocked,
+            Err(NoMemory) => {
+                drop(state);
+                drop(closing);
+                return Err(NoMemory);
+            }
+        };
+        let count = self.world.devices.len() as u32;
+        let scratch = match Scratch::open(alloc, count, bounds.items as u32) {
+            Ok(scratch) => scratch,
+            Err(NoMemory) => {
+                drop(state);
+                drop(closing);
+                drop(blocked);
+                return Err(NoMemory);
+            }
+        };
+        Ok(Room {
+            state,
+            closing,
+            blocked,
+            scratch,
+        })
+    }
+
+    /// Takes the memory of what a window of these runs keeps of them and of the devices, within these bounds.
+    fn state_room(
+        &self,
+        alloc: Global,
+        roster: &Roster,
+        rounds: u32,
+        bounds: Bounds,
+    ) -> Result<StateRoom, NoMemory>
+        requires few { length roster.now.runs.items ≤ most_runs }
+        requires runs { FitsIndex (runs_of roster.now) }
+        requires devices { length self.now.world ≤ most_devices }
+        requires items { bounds.items < 2 ^ 32 }
+        ensures history { IfOk result (λ state. IsHistoryRoom bounds.entries (length roster.now.runs.items) state.history.book state.history.progress.items) }
+        ensures order { IfOk result (λ state. IsOrderRoom bounds.items (runs_of roster.now) self.now.world state.order.line state.order.table) }
+        ensures devices { IfOk result (λ state. AreKnown D.turns D.probes D.faults self.now rounds (length self.now.devices) state.devices.items) }
+        ensures hands { IfOk result (λ state. state.hands.items ≡ replicate (length roster.now.runs.items) None) }
+    {
         let runs = roster.runs.len();
-        let bounds = bounds_of(runs, self.world.devices.len(), rounds);
         let history = history_room(alloc, bounds.entries, runs)?;
         let order = match KeptOrder::open(alloc, &self.world, roster, bounds.items) {
             Ok(order) => order,
@@ -158,48 +249,11 @@ impl<D: Device> Home<D> {
                 return Err(NoMemory);
             }
         };
-        let closing = match closing_lists(alloc, bounds.items, self.devices.len()) {
-            Ok(closing) => closing,
-            Err(NoMemory) => {
-                drop(history);
-                drop(order);
-                drop(devices);
-                drop(hands);
-                return Err(NoMemory);
-            }
-        };
-        let blocked = match BlockedRuns::open(alloc, self.devices.len()) {
-            Ok(blocked) => blocked,
-            Err(NoMemory) => {
-                drop(history);
-                drop(order);
-                drop(devices);
-                drop(hands);
-                drop(closing);
-                return Err(NoMemory);
-            }
-        };
-        let count = self.world.devices.len() as u32;
-        let scratch = match Scratch::open(alloc, count, bounds.items as u32) {
-            Ok(scratch) => scratch,
-            Err(NoMemory) => {
-                drop(history);
-                drop(order);
-                drop(devices);
-                drop(hands);
-                drop(closing);
-                drop(blocked);
-                return Err(NoMemory);
-            }
-        };
-        Ok(Room {
+        Ok(StateRoom {
             history,
             order,
             devices,
             hands,
-            closing,
-            blocked,
-            scratch,
         })
     }
 

@@ -1,21 +1,15 @@
 //! An open window: its parts, and what is asked of them.
-ghost use Rattle.std.specs.Prelude.{◌≡◌, ◌+◌, ◌-◌, ◌<◌, ◌≤◌, ◌↔◌, IfSome, IsTrue, None, [], false, length, option_map, slice_get, take, true, ℕ};
+ghost use Rattle.std.specs.Prelude.{◌≡◌, ◌+◌, ◌-◌, ◌<◌, ◌↔◌, IfSome, IsTrue, None, false, length, option_map, true, ℕ};
 ghost use Rattle.command_rules.specs.Rosters.{command_at, is_run, runs_of};
-ghost use Rattle.history_book.specs.Histories.{entries_of, line_of};
-ghost use Rattle.history_book.specs.Sealed.{sealed_of};
 ghost use Rattle.history_book.specs.Settings.{is_strict, is_weak};
 ghost use Rattle.hub_core.specs.BlockedRuns.{next_device};
-ghost use Rattle.hub_core.specs.Bounds.{IsBounded};
-ghost use Rattle.hub_core.specs.HubCalls.{HubStands, SomeRunMoves, grip_takes, is_past};
+ghost use Rattle.hub_core.specs.HubCalls.{SomeRunMoves};
 ghost use Rattle.hub_core.specs.HubsKept.{HubIsKept};
 ghost use Rattle.hub_core.specs.MarkedRuns.{HoldsStill, is_out_for_command};
 ghost use Rattle.hub_core.specs.OpenHubs.{configuration_of, device_at};
-ghost use Rattle.hub_core.specs.Steps.{not_quiet, opened};
-ghost use Rattle.lineage_table.specs.Accesses.{IsDisciplined};
-ghost use Rattle.lineage_table.specs.Lineages.{accesses_at};
+ghost use Rattle.hub_core.specs.Steps.{not_quiet};
 ghost use Rattle.lock_leasing.specs.Configurations.{read_of};
 ghost use Rattle.lock_leasing.specs.Standings.{IsStandingOf};
-ghost use Rattle.lock_leasing.specs.Tables.{Represents};
 
 use crate::kept_orders::KeptOrder;
 use crate::known::{Counts, DeviceProgress, Events, NO_EVENTS};
@@ -26,7 +20,6 @@ use command_rules::IndexedRoster;
 use device_gate::Gate;
 use device_states::Device;
 use home_types::{DeviceNo, Item, List, RunNo, Stand};
-use lineage_table::Table;
 use lock_leasing::Standing;
 use std::marker::Model;
 
@@ -86,13 +79,6 @@ impl<D: Device> Model for OpenWindow<D> {
 }
 
 impl<D: Device> OpenWindow<D> {
-    /// Does nothing. Its contract is what holds of every hub.
-    pub(crate) fn kept(&self)
-        ensures { HubStands D.tag D.stands D.turns D.probes D.faults self.now }
-    {
-        self.gate.numbered();
-    }
-
     /// Does nothing. Its contract is what is kept of every window.
     pub(crate) fn whole(&self)
         ensures { HubIsKept D.stands D.turns D.probes D.faults self.now }
@@ -105,43 +91,6 @@ impl<D: Device> OpenWindow<D> {
         ensures { SomeRunMoves (configuration_of self.now) }
     {
         let _ = &self.moment;
-    }
-
-    /// Does nothing. Its contract is how long history and line become.
-    pub(crate) fn bounded(&self)
-        ensures { IsBounded self.now }
-    {
-        let _ = &self.moment;
-    }
-
-    /// The lineage table of the window. It has at most one access of each run on a device, under the weak model none, and
-    /// outside it it represents the configuration.
-    pub(crate) fn table(&self) -> &Table
-        ensures represents { is_weak self.now.setting.mode ≡ false → Represents self.now.setting (read_of (configuration_of self.now)) (configuration_of self.now).grips result.now }
-        ensures few { (d : ℕ) → length (accesses_at result.now d) ≤ length self.now.setting.runs }
-        ensures disciplined { (d : ℕ) → IsDisciplined (accesses_at result.now d) }
-        ensures bare { is_weak self.now.setting.mode ≡ true → (d : ℕ) → accesses_at result.now d ≡ [] }
-    {
-        self.order.table.kept();
-        &self.order.table
-    }
-
-    /// How many items of the line are sealed: those before the first live run.
-    pub(crate) fn sealed(&self) -> u32
-        ensures { result ≡ sealed_of self.now.setting (entries_of self.now.history) }
-    {
-        self.order.line.sealed()
-    }
-
-    /// The item at this place of the line, where it is sealed.
-    pub(crate) fn final_item(&self, at: u32) -> Option<Item>
-        ensures { result ≡ slice_get (take (sealed_of self.now.setting (entries_of self.now.history)) (line_of self.now.setting (entries_of self.now.history))) at }
-    {
-        if at < self.order.line.sealed() {
-            self.order.line.get(at)
-        } else {
-            None
-        }
     }
 
     /// Table, line, history and roster of the window, outside the weak model.
@@ -193,35 +142,12 @@ impl<D: Device> OpenWindow<D> {
         self.order.line.len() as u64 == at as u64 + 1
     }
 
-    /// Whether nothing was done in the window: no entry, the last moment 0, no device out and no probe taken.
-    pub(crate) fn fresh(&self) -> bool
-        ensures { IsTrue result ↔ (configuration_of self.now ≡ opened self.now.setting self.now.rounds) }
-    {
-        if self.history.len() != 0 {
-            return false;
-        }
-        if self.moment != 0 {
-            return false;
-        }
-        if self.gate.first_out().is_some() {
-            return false;
-        }
-        self.has_all_probes()
-    }
-
     /// Whether no probe of a device was taken.
-    fn has_all_probes(&self) -> bool
+    pub(crate) fn has_all_probes(&self) -> bool
         ensures { IsTrue result ↔ ((d : ℕ) → d < length self.now.devices → (device_at self.now.devices d).probes_left ≡ self.now.rounds) }
     {
         let known = self.devices.as_slice();
         known.iter().all(|device| device.probes_left == self.rounds)
-    }
-
-    /// How many probes of the device may still be taken, 0 for no device of the home.
-    pub(crate) fn probes_left(&self, d: DeviceNo) -> u64
-        ensures { result ≡ (configuration_of self.now).probes d.0 }
-    {
-        self.known(d).probes_left as u64
     }
 
     /// Why the window cannot be closed: the smallest run that has not ended, else the smallest device that is out.
@@ -234,41 +160,6 @@ impl<D: Device> OpenWindow<D> {
         match self.gate.first_out() {
             Some(d) => Some(NotQuiet::StillOut(d)),
             None => None,
-        }
-    }
-
-    /// Whether nothing is left to do for the run: the window has no such run, or it has ended.
-    pub(crate) fn is_over(&self, r: RunNo) -> bool
-        ensures { result ≡ is_past (configuration_of self.now) r.0 }
-    {
-        !self.history.has_run(r) || self.history.progress(r).ended.is_some()
-    }
-
-    /// How many runs the window has.
-    pub(crate) fn run_count(&self) -> u32
-        ensures { result ≡ length self.now.setting.runs }
-    {
-        self.history.run_count() as u32
-    }
-
-    /// How many devices the home has.
-    pub(crate) fn device_count(&self) -> u64
-        ensures { result ≡ length self.now.setting.first }
-    {
-        self.history.device_count()
-    }
-
-    /// By how many ms a replay's moment rises with the command for which the device is out. 0 where it is home, or out
-    /// for an undo or a probe.
-    pub(crate) fn takes(&self, d: DeviceNo) -> u32
-        ensures { result ≡ grip_takes self.now.setting ((configuration_of self.now).grips d.0) }
-    {
-        let Some(slip) = self.gate.slip(d) else {
-            return 0;
-        };
-        match self.known(d).purpose {
-            Purpose::Command(k) => self.history.command(RunNo(slip.maker), k).takes,
-            Purpose::Undo(_) | Purpose::Probe(_) => 0,
         }
     }
 

@@ -1,5 +1,5 @@
 //! A window worked with threads, at most one for each run.
-ghost use Rattle.std.specs.Prelude.{◌≡◌, ◌+◌, ◌<◌, ◌≤◌, IfErr, IfOk, IsTrue, [], length, vec_capacity, ℕ};
+ghost use Rattle.std.specs.Prelude.{◌≡◌, ◌+◌, ◌<◌, ◌≤◌, IfErr, IfOk, IsTrue, [], length, vec_capacity, vec_len, ℕ};
 ghost use Rattle.device_gate.specs.Places.{AreNumbered};
 ghost use Rattle.hub_core.specs.HubCalls.{HubStands, IsClosed};
 ghost use Rattle.hub_core.specs.OpenHubs.{configuration_of};
@@ -229,32 +229,23 @@ fn in_threads<
     requires none { handles.items ≡ [] }
     ensures { result.parts ≡ N.parts }
 {
-    let Window {
-        runs,
-        rounds,
-        devices,
-        clock,
-        means,
-    } = window;
     thread::scope(
         thread::scope_env(),
         rt,
         move |scope| -> Share<N>
-            requires { (all.parts ≡ N.parts) × (all.parts ≡ runs + 1) × (all.amount ≡ 0)
-                × IsTimedBy N.window (C.earliest clock.now) (C.latest clock.now)
-                × (runs ≤ vec_capacity handles) × (handles.items ≡ []) }
+            requires { (all.parts ≡ N.parts) × (all.parts ≡ window.runs + 1) × (all.amount ≡ 0)
+                × IsTimedBy N.window (C.earliest window.clock.now) (C.latest window.clock.now)
+                × (window.runs ≤ vec_capacity handles) × (handles.items ≡ []) }
             ensures { result.parts ≡ N.parts }
         {
+            let clock = window.clock;
             let mut all = all;
             let mut handles = handles;
-            for i in 0..runs {
-                if AT_ONCE <= i {
-                    door.bells.nap(rt);
-                }
-                let Some(r) = door.untaken.take() else {
+            'runs: for i in 0..window.runs {
+                let Some(r) = next_untaken(rt, door, i) else {
                     break;
                 };
-                if means.threads <= i {
+                if window.means.threads <= i {
                     door.unstarted.add(r);
                     continue;
                 }
@@ -273,16 +264,50 @@ fn in_threads<
                     }
                 }
             }
-            let mut passed = detect(rt, door, &mut all, runs, rounds, devices, clock);
-            while let Some(handle) = handles.pop() {
-                passed = probe_again(rt, door, &mut all, devices, passed);
-                let Spent { share } = handle.join(rt);
-                all.merge(share);
-            }
-            probe_left_over(rt, door, &mut all, devices);
-            all
+            joined(rt, door, all, handles, window)
         },
     )
+}
+
+/// The run for the worker with this number, counted from 0, which but for the first ones starts after a nap. `None` where
+/// each run is taken.
+fn next_untaken<R: Wait, S>(rt: &R, door: &Door<S>, i: u32) -> Option<RunNo> {
+    if AT_ONCE <= i {
+        door.bells.nap(rt);
+    }
+    door.untaken.take()
+}
+
+/// Detects, joins the workers and gathers their shares.
+fn joined<'a, R: Threads + Wait + Sync, D: Device + Send, C: Clock + Sync, N: Name + Send + Sync>(
+    rt: &R,
+    door: &Door<Held<D, N>>,
+    all: Share<N>,
+    handles: Vec<JoinHandle<Spent<N>>>,
+    window: Window<'a, C>,
+) -> Share<N>
+    requires parts { all.parts + vec_len handles ≡ N.parts }
+    requires own { 1 ≤ all.parts }
+    requires clock { IsTimedBy N.window (C.earliest window.clock.now) (C.latest window.clock.now) }
+    ensures { result.parts ≡ N.parts }
+{
+    let Window {
+        runs,
+        rounds,
+        devices,
+        clock,
+        means: _,
+    } = window;
+    let mut all = all;
+    let mut handles = handles;
+    let mut passed = detect(rt, door, &mut all, runs, rounds, devices, clock);
+    'workers: while let Some(handle) = handles.pop() {
+        passed = probe_again(rt, door, &mut all, devices, passed);
+        let Spent { share } = handle.join(rt);
+        all.merge(share);
+    }
+    probe_left_over(rt, door, &mut all, devices);
+    all
 }
 
 /// Closes the window once it is quiet and no probe is left. After the joins it is: this does not wait then.

@@ -1,6 +1,6 @@
 //! What one command does to a device that stands so.
-ghost use Rattle.std.specs.Prelude.{◌≡◌};
-ghost use Rattle.home_types.specs.Commands.{command_effect};
+ghost use Rattle.std.specs.Prelude.{◌≡◌, IsTrue};
+ghost use Rattle.home_types.specs.Commands.{command_effect, up_effect};
 ghost use Rattle.serial_meaning.specs.Progress.{effect_of};
 
 use home_types::{Answer, Guard, Job, Kind, Stand, Value};
@@ -32,6 +32,14 @@ pub fn outcome_of(kind: Kind, guard: Guard, job: Job, register: Value, stand: St
             stand,
         };
     }
+    up_outcome(kind, job, register, stand)
+}
+
+/// The outcome of a job with this register, on a device of this kind that is up.
+fn up_outcome(kind: Kind, job: Job, register: Value, stand: Stand) -> Outcome
+    requires up { IsTrue stand.up }
+    ensures { effect_of result ≡ up_effect kind job register stand.value }
+{
     match job {
         Job::Set(value) => Outcome {
             answer: Answer::Fine,

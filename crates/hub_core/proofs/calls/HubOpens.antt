@@ -254,6 +254,12 @@ pub setting_of_indexed : (s : Setting) (indexed roster : Roster) (mode : Mode) (
     → ◌≡◌ {A = Setting} s (record { runs = runs_of roster; mode = mode; kinds = kinds; first = world })
 setting_of_indexed s indexed roster mode kinds world is same = subst (λ (q : Roster). ◌≡◌ {A = Setting} s (record { runs = runs_of q; mode = mode; kinds = kinds; first = world })) same is
 
+-- a home with these parts is the home
+pub seen_home : {D : Type 0} (home : HomeState D) (kinds : List Kind) (world : List Stand) (opened' : ℕ)
+    → kinds ≡ home.kinds → world ≡ home.world → opened' ≡ home.opened
+    → ◌≡◌ {A = HomeState D} (record { kinds = kinds; world = world; devices = home.devices; opened = opened' }) home
+seen_home home kinds world opened' same_kinds same_world same_opened = λ i. record { kinds = same_kinds i; world = same_world i; devices = home.devices; opened = same_opened i }
+
 -- what was put together is the hub of a window that opens
 pub is_first_hub : {D : Type 0} (home : HomeState D) (roster : Roster) (mode : Mode) (rounds : ℕ) (known : List DeviceProgress) (kinds : List Kind) (world : List Stand) (devices : List D) (opened' : ℕ) (setting : Setting) (history : List Kept) (places : List (Place D)) (tickets : ℕ)
     → ◌≡◌ {A = HomeState D} (record { kinds = kinds; world = world; devices = devices; opened = opened' }) home

@@ -1,8 +1,8 @@
-use Rattle.hub_core.proofs.calls.HubOpens.{Opens, first_order, first_hands, first_kept, first_opened, first_room, first_scratch, is_first_hub, setting_of_indexed}
+use Rattle.hub_core.proofs.calls.HubOpens.{Opens, first_order, first_hands, first_kept, first_opened, first_room, first_scratch, is_first_hub, seen_home, setting_of_indexed}
 use Rattle.hub_core.proofs.calls.HubOrders.{index_fits}
 use Rattle.hub_core.proofs.homes.Home.open_window.Goals as goal
 use Rattle.hub_core.proofs.kept.BlockedMarks.{none_blocked}
-use Rattle.hub_core.specs.Homes.{HomeIsKept, HomeState, setting_for}
+use Rattle.hub_core.specs.Homes.{HomeIsKept, setting_for}
 use Rattle.hub_core.specs.Bounds.{most_entries}
 use Rattle.hub_core.specs.HubCalls.{IsOpened}
 use Rattle.hub_core.specs.HubsKept.{HandsAre, HasRoomLeft, HubIsKept}
@@ -19,29 +19,29 @@ open-requires g c = index_fits (setting_for c.args.self c.args.roster c.args.mod
 -- the hub of a window that opens, which is kept and has its room
 pub invariant_of-result : goal.invariant_of-result
 invariant_of-result g c =
-    let same = is_first_hub c.args.self c.args.roster c.args.mode c.args.rounds c.in-Ok.room.devices.items _ _ _ _ _ _ _ _ c.self.view_is (setting_of_indexed _ _ _ _ _ _ c.empty_history.ensures.setting c.in-Ok-open.ensures) c.empty_history.ensures.history c.in-Ok-open-2.ensures.home c.in-Ok-open-2.ensures.tickets in
-    let kept : HomeIsKept g.D.Device.tag g.D.Device.stands g.D.Device.turns g.D.Device.probes g.D.Device.faults c.args.self = subst (λ (h : HomeState g.row.D.Denot). HomeIsKept g.D.Device.tag g.D.Device.stands g.D.Device.turns g.D.Device.probes g.D.Device.faults h) c.self.view_is c.self.invariant in
-    let opens : Opens g.D.Device.tag g.D.Device.stands g.D.Device.turns g.D.Device.probes g.D.Device.faults c.args.self c.args.roster c.args.mode c.args.rounds c.in-Ok.room.devices.items = record { kept = kept; may = c.requires.may; knows = c.in-Ok.ensures.devices } in
+    let same = is_first_hub c.args.self c.args.roster c.args.mode c.args.rounds c.in-Ok.room.state.devices.items _ _ _ _ _ _ _ _ (seen_home c.args.self _ _ _ c.in-Ok-behind_gate.ensures.kinds c.in-Ok-behind_gate.ensures.world c.in-Ok-behind_gate.ensures.opened) (setting_of_indexed _ _ _ _ _ _ c.empty_history.ensures.setting c.in-Ok-open.ensures) c.empty_history.ensures.history c.in-Ok-behind_gate.ensures.places c.in-Ok-behind_gate.ensures.tickets in
+    let kept : HomeIsKept g.D.Device.tag g.D.Device.stands g.D.Device.turns g.D.Device.probes g.D.Device.faults c.args.self = c.behind_gate.ensures.kept in
+    let opens : Opens g.D.Device.tag g.D.Device.stands g.D.Device.turns g.D.Device.probes g.D.Device.faults c.args.self c.args.roster c.args.mode c.args.rounds c.in-Ok.room.state.devices.items = record { kept = kept; may = c.requires.may; knows = c.in-Ok.ensures.devices } in
     let enough : most_entries (length c.args.roster.runs.items) (length c.args.self.world) c.args.rounds ≤ c.empty_history.result.spare = omega (arith, c.empty_history.ensures.spare, c.in-Ok.ensures.history.room) in
     record {
       shown = subst (λ (t : OpenHub g.row.D.Denot). HubIsKept g.D.Device.stands g.D.Device.turns g.D.Device.probes g.D.Device.faults t) (sym same) (first_kept _ _ _ _ _ c.args.self c.args.roster c.args.mode _ _ opens);
       room = subst (λ (t : OpenHub g.row.D.Denot). HasRoomLeft c.args.rounds (record { setting = t.setting; history = t.history; spare = c.empty_history.result.spare }) c.in-Ok.room.closing) (sym same) (first_room c.args.self c.args.roster c.args.mode c.args.rounds _ _ kept.size enough c.in-Ok.ensures.closing);
-      order = subst (λ (t : OpenHub g.row.D.Denot). OrderIsBeside c.args.rounds (record { setting = t.setting; history = t.history; spare = c.empty_history.result.spare }) (configuration_of t).grips c.in-Ok.room.order.line c.in-Ok.room.order.table) (sym same)
+      order = subst (λ (t : OpenHub g.row.D.Denot). OrderIsBeside c.args.rounds (record { setting = t.setting; history = t.history; spare = c.empty_history.result.spare }) (configuration_of t).grips c.in-Ok.room.state.order.line c.in-Ok.room.state.order.table) (sym same)
           (first_order _ _ _ _ _ c.args.self c.args.roster c.args.mode c.args.rounds c.empty_history.result.spare _ _ _ opens c.in-Ok.ensures.order);
-      hands = subst (λ (t : OpenHub g.row.D.Denot). HandsAre t.setting (configuration_of t).grips c.in-Ok.room.hands.items) (sym same) (first_hands _ _ _ _ _ c.args.self c.args.roster c.args.mode c.args.rounds _ _ opens c.in-Ok.ensures.hands);
+      hands = subst (λ (t : OpenHub g.row.D.Denot). HandsAre t.setting (configuration_of t).grips c.in-Ok.room.state.hands.items) (sym same) (first_hands _ _ _ _ _ c.args.self c.args.roster c.args.mode c.args.rounds _ _ opens c.in-Ok.ensures.hands);
     }
 
 -- no run is marked as blocked
-pub invariant_of-result-in-Ok-open-2 : goal.invariant_of-result-in-Ok-open-2
-invariant_of-result-in-Ok-open-2 g c = record {
+pub invariant_of-result-in-Ok-behind_gate : goal.invariant_of-result-in-Ok-behind_gate
+invariant_of-result-in-Ok-behind_gate g c = record {
   marks = none_blocked _ _ c.in-Ok.ensures.blocked;
-  scratch = first_scratch c.args.self c.args.roster c.args.mode c.args.rounds _ _ _ _ _ c.in-Ok.room.scratch c.self.view_is (setting_of_indexed _ _ _ _ _ _ c.empty_history.ensures.setting c.in-Ok-open.ensures) c.in-Ok.ensures.scratch;
+  scratch = first_scratch c.args.self c.args.roster c.args.mode c.args.rounds _ _ _ _ _ c.in-Ok.room.scratch (seen_home c.args.self _ _ _ c.in-Ok-behind_gate.ensures.kinds c.in-Ok-behind_gate.ensures.world c.in-Ok-behind_gate.ensures.opened) (setting_of_indexed _ _ _ _ _ _ c.empty_history.ensures.setting c.in-Ok-open.ensures) c.in-Ok.ensures.scratch;
 }
 
-pub returns-in-Ok-open-2-clause-opened : goal.returns-in-Ok-open-2-clause-opened
-returns-in-Ok-open-2-clause-opened g c =
-    let kept : HomeIsKept g.D.Device.tag g.D.Device.stands g.D.Device.turns g.D.Device.probes g.D.Device.faults c.args.self = subst (λ (h : HomeState g.row.D.Denot). HomeIsKept g.D.Device.tag g.D.Device.stands g.D.Device.turns g.D.Device.probes g.D.Device.faults h) c.self.view_is c.self.invariant in
-    let opens : Opens g.D.Device.tag g.D.Device.stands g.D.Device.turns g.D.Device.probes g.D.Device.faults c.args.self c.args.roster c.args.mode c.args.rounds c.in-Ok.room.devices.items = record { kept = kept; may = c.requires.may; knows = c.in-Ok.ensures.devices } in
+pub returns-in-Ok-behind_gate-clause-opened : goal.returns-in-Ok-behind_gate-clause-opened
+returns-in-Ok-behind_gate-clause-opened g c =
+    let kept : HomeIsKept g.D.Device.tag g.D.Device.stands g.D.Device.turns g.D.Device.probes g.D.Device.faults c.args.self = c.behind_gate.ensures.kept in
+    let opens : Opens g.D.Device.tag g.D.Device.stands g.D.Device.turns g.D.Device.probes g.D.Device.faults c.args.self c.args.roster c.args.mode c.args.rounds c.in-Ok.room.state.devices.items = record { kept = kept; may = c.requires.may; knows = c.in-Ok.ensures.devices } in
     subst (λ (t : OpenHub g.row.D.Denot). IsOpened g.D.Device.turns g.D.Device.probes g.D.Device.faults (setting_for c.args.self c.args.roster c.args.mode) c.args.rounds c.args.self t)
-    (sym (is_first_hub c.args.self c.args.roster c.args.mode c.args.rounds c.in-Ok.room.devices.items _ _ _ _ _ _ _ _ c.self.view_is (setting_of_indexed _ _ _ _ _ _ c.empty_history.ensures.setting c.in-Ok-open.ensures) c.empty_history.ensures.history c.in-Ok-open-2.ensures.home c.in-Ok-open-2.ensures.tickets))
+    (sym (is_first_hub c.args.self c.args.roster c.args.mode c.args.rounds c.in-Ok.room.state.devices.items _ _ _ _ _ _ _ _ (seen_home c.args.self _ _ _ c.in-Ok-behind_gate.ensures.kinds c.in-Ok-behind_gate.ensures.world c.in-Ok-behind_gate.ensures.opened) (setting_of_indexed _ _ _ _ _ _ c.empty_history.ensures.setting c.in-Ok-open.ensures) c.empty_history.ensures.history c.in-Ok-behind_gate.ensures.places c.in-Ok-behind_gate.ensures.tickets))
     (first_opened _ _ _ _ _ c.args.self c.args.roster c.args.mode _ _ opens)

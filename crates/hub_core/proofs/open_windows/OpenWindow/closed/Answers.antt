@@ -17,14 +17,14 @@ close-devices-requires g c =
     let quiet = subst (λ (t : OpenHub g.row.D.Denot). not_quiet (configuration_of t) ≡ None) (sym c.self.view_is) c.requires.quiet in
     record { home = all_are_home g.D.Device.stands g.D.Device.turns g.D.Device.probes g.D.Device.faults _ c.self.invariant.shown quiet }
 
-pub turns_in-requires-clause-fell : goal.turns_in-requires-clause-fell
-turns_in-requires-clause-fell g c =
+pub rises_in-turns-requires-clause-turns_fell : goal.rises_in-turns-requires-clause-turns_fell
+rises_in-turns-requires-clause-turns_fell g c =
     let quiet = subst (λ (t : OpenHub g.row.D.Denot). not_quiet (configuration_of t) ≡ None) (sym c.self.view_is) c.requires.quiet in
     let closes : Closes g.D.Device.tag g.D.Device.stands g.D.Device.turns g.D.Device.probes g.D.Device.faults (open_of c.self.inside) c.close-devices.result.items = record { kept = c.self.invariant.shown; quiet = quiet; places = c.close-devices.ensures.devices; numbered = c.close-devices.ensures.numbers } in
     turns_fell _ _ _ _ _ _ _ closes
 
-pub faults_in-requires-clause-fell : goal.faults_in-requires-clause-fell
-faults_in-requires-clause-fell g c =
+pub rises_in-turns-requires-clause-faults_fell : goal.rises_in-turns-requires-clause-faults_fell
+rises_in-turns-requires-clause-faults_fell g c =
     let quiet = subst (λ (t : OpenHub g.row.D.Denot). not_quiet (configuration_of t) ≡ None) (sym c.self.view_is) c.requires.quiet in
     let closes : Closes g.D.Device.tag g.D.Device.stands g.D.Device.turns g.D.Device.probes g.D.Device.faults (open_of c.self.inside) c.close-devices.result.items = record { kept = c.self.invariant.shown; quiet = quiet; places = c.close-devices.ensures.devices; numbered = c.close-devices.ensures.numbers } in
     faults_fell _ _ _ _ _ _ _ closes
@@ -53,7 +53,7 @@ pub returns : goal.returns
 returns g c =
     let quiet = subst (λ (t : OpenHub g.row.D.Denot). not_quiet (configuration_of t) ≡ None) (sym c.self.view_is) c.requires.quiet in
     let closes : Closes g.D.Device.tag g.D.Device.stands g.D.Device.turns g.D.Device.probes g.D.Device.faults (open_of c.self.inside) c.close-devices.result.items = record { kept = c.self.invariant.shown; quiet = quiet; places = c.close-devices.ensures.devices; numbered = c.close-devices.ensures.numbers } in
-    let closed : WindowRecord = record { mode = c.history.inside.mode; first = c.history.inside.first; history = c.into_list.result; order = c.order_of.result; last = record { devices = c.stands_left-last.result }; turns = c.turns_in.result; faults = c.faults_in.result } in
+    let closed : WindowRecord = record { mode = c.history.inside.mode; first = c.history.inside.first; history = c.into_list.result; order = c.order_of.result; last = record { devices = c.stands_left-last.result }; turns = c.rises_in-turns.result.turns; faults = c.rises_in-turns.result.faults } in
     let tells : Tells g.D.Device.turns g.D.Device.faults (open_of c.self.inside) c.close-devices.result.items closed = record {
       mode = ap (λ (h : HistoryState). h.setting.mode) c.history.view_is;
       first = ap (λ (h : HistoryState). h.setting.first) c.history.view_is;
@@ -61,8 +61,8 @@ returns g c =
       order = λ e. c.order_of.ensures.ordered (c.is_weak-weak.ensures ∙ e) ∙ c.self.invariant.order.line_is.items;
       unclaimed = λ e. c.order_of.ensures.weakly (c.is_weak-weak.ensures ∙ e);
       last = hub_leaves c.self.inside c.stands_left-last.result.items c.self.invariant quiet (λ e. c.stands_left-last.ensures.ordered (c.is_weak-weak.ensures ∙ e)) (λ e. c.stands_left-last.ensures.weakly (c.is_weak-weak.ensures ∙ e));
-      turns_rose = c.turns_in.ensures;
-      faults_rose = c.faults_in.ensures;
+      turns_rose = c.rises_in-turns.ensures.turns;
+      faults_rose = c.rises_in-turns.ensures.faults;
     } in
     subst (λ (t : OpenHub g.row.D.Denot). IsClosed g.D.Device.turns g.D.Device.probes g.D.Device.faults t (record { kinds = c.history.inside.kinds.items; world = c.copied-world.result.items; devices = c.close-devices.result.items; opened = c.self.inside.opened + 1 }) closed) c.self.view_is
     (window_closed _ _ _ _ _ _ _ c.history.inside.kinds.items c.copied-world.result.items closed closes tells (ap (λ (h : HistoryState). h.setting.kinds) c.history.view_is) c.copied-world.ensures)

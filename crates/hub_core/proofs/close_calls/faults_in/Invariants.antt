@@ -1,8 +1,0 @@
-use Rattle.hub_core.proofs.close_calls.faults_in.Given as goal
-use Rattle.hub_core.specs.ClosedHomes.{HaveRisen}
-use Rattle.hub_core.specs.declared.known.DeviceProgress.{DeviceProgress}
-use Rattle.std.proofs.Common.{length, ◌+◌, ◌≤◌}
-
--- the counts of the devices up to here rose so, and there is room for the others
-abbrev pub invariant-devices : goal.invariant-devices
-invariant-devices g l = HaveRisen g.D.Device.faults (λ (device : DeviceProgress). device.at_opening.faults) l.known.items l.devices.items l.at l.rises.items × (length l.known.items ≤ l.at + l.rises.spare)
