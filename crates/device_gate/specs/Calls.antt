@@ -3,6 +3,8 @@ use Rattle.device_gate.specs.declared.slips.Task.{Task}
 use Rattle.device_gate.specs.declared.slips.Task.TheVariants.{Drive, Probe, Sense}
 use Rattle.device_gate.specs.declared.slips.Told.{Told}
 use Rattle.device_gate.specs.declared.slips.Told.TheVariants.{Died, Sensed, Worked}
+use Rattle.home_types.specs.declared.commands.Answer.TheVariants.{Down, Fine, Found}
+use Rattle.home_types.specs.declared.commands.Answer.{Answer}
 use Rattle.std.specs.Prelude.{Bool, None, Option, Some, false, if◌then◌else◌, true, ℕ, ◌==◌}
 
 -- the device is counted up as it leaves: only a probe with a value to restore is for one that is counted down
@@ -40,6 +42,16 @@ value_after (Probe (Some v)) stood = v
 -- .. and whatever it told: where a call died that is not known
 abbrev pub stands_after : Task → ℕ → Told → Option ℕ
 stands_after task stood told = if has_died told then None else Some (value_after task stood)
+
+-- .. and where it is known to stand that stood at the value `held`: as before where a call died
+abbrev pub held_after : Told → Task → ℕ → ℕ
+held_after told task held = if has_died told then held else value_after task held
+
+-- the answer to a command whose device told this
+abbrev pub answer_told : Told → Answer
+answer_told Worked = Fine
+answer_told (Sensed x) = Found x
+answer_told Died = Down
 
 -- the drives and senses of the task
 abbrev pub turns_of : Task → ℕ

@@ -13,6 +13,7 @@ pub mod HubChanges
 pub mod PackedEntries
 pub mod Departures
 pub mod HubOuts
+pub mod OutFor
 pub mod Homecomings
 pub mod Turning
 pub mod HubReturns
@@ -29,7 +30,6 @@ pub mod SeenDevices
 pub mod ReturnedOrders
 pub mod Deaths
 pub mod ProbesOut
-pub mod ProbesHome
 pub mod ProbesFound
 pub mod HubMarks
 pub mod Placings

@@ -98,9 +98,9 @@ open_of h = record {
   opened = h.opened;
   history = h.history.history;
   moment = h.moment;
-  devices = h.devices.items;
-  places = h.gate.places;
-  tickets = h.gate.tickets;
+  devices = h.away.known.items;
+  places = h.away.gate.places;
+  tickets = h.away.gate.tickets;
 }
 
 -- of each run of the window, the device whose grip it holds
@@ -113,4 +113,4 @@ pub record IsWhole {D : Type 0} (stands turns probes faults : D → ℕ) (h : In
   pub shown : HubIsKept stands turns probes faults (open_of h)
   pub room : HasRoomLeft h.rounds h.history h.closing
   pub order : OrderIsBeside h.rounds h.history (configuration_of (open_of h)).grips h.order.line h.order.table
-  pub hands : HandsAre h.history.setting (configuration_of (open_of h)).grips h.hands.items
+  pub hands : HandsAre h.history.setting (configuration_of (open_of h)).grips h.away.hands.items

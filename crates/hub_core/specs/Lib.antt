@@ -1,3 +1,4 @@
+pub mod Away
 pub mod BlockedMarks
 pub mod BlockedRuns
 pub mod Bounds

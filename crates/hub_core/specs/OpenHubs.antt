@@ -1,7 +1,4 @@
 -- What an open hub shows, and the configuration that it stands for.
-use Rattle.device_gate.specs.declared.slips.Task.{Task}
-use Rattle.device_gate.specs.declared.slips.Told.{Told}
-use Rattle.device_gate.specs.Calls.{has_died, value_after}
 use Rattle.device_gate.specs.declared.gates.Place.TheVariants.{Home, Out}
 use Rattle.device_gate.specs.declared.gates.Place.{Place}
 use Rattle.history_book.specs.Readings.{OfRun, Reading}
@@ -16,7 +13,7 @@ use Rattle.hub_core.specs.declared.known.RunProgress.{RunProgress}
 use Rattle.hub_core.specs.declared.purposes.Purpose.TheVariants.{Command, Probe, Undo}
 use Rattle.hub_core.specs.declared.purposes.Purpose.{Purpose as KeptPurpose}
 use Rattle.lock_leasing.specs.Configurations.{Commands, Configuration, Grip, Probes, Purpose, Undoes}
-use Rattle.std.specs.Prelude.{List, None, Option, Some, if◌then◌else◌, length, option_map, slice_get, slice_index_or, ℕ}
+use Rattle.std.specs.Prelude.{List, None, Option, Some, length, option_map, slice_get, slice_index_or, ℕ}
 
 -- what a hub shows: what is fixed, the rounds of probes and how many windows were opened before, the history and the last moment, what is known of each device, and its place
 pub record OpenHub (D : Type 0) : Type 0 where
@@ -74,10 +71,6 @@ configuration_of s = record {
 
 abbrev pub state_of : {D : Type 0} → OpenHub D → HubState
 state_of s = record { configuration = configuration_of s; carried = λ d. carried_in (slice_get s.places d) }
-
--- where a device is known to stand that has come home: as the task leaves it, and as before where the call died
-abbrev pub held_after : Told → Task → ℕ → ℕ
-held_after told task held = if has_died told then held else value_after task held
 
 -- where the device stands, or stood as it went out
 abbrev pub held_in : {D : Type 0} → OpenHub D → DeviceId → ℕ

@@ -11,7 +11,6 @@ use Rattle.history_book.specs.declared.entries.Entry.{Entry}
 use Rattle.history_book.specs.declared.entries.Entry.TheVariants.{Arrived, Did, Doomed, Ended, Fell, Placed, Rose, Undid}
 use Rattle.home_types.specs.Commands.{fails, holds}
 use Rattle.home_types.specs.Numbers.{ActorId, CommandIndex, DeviceId, Moment, RunId}
-use Rattle.home_types.specs.declared.commands.Answer.{Answer}
 use Rattle.home_types.specs.declared.commands.Answer.TheVariants.{Down, Fine, Found, Skipped}
 use Rattle.home_types.specs.declared.commands.Command.{Command}
 use Rattle.device_gate.specs.declared.slips.Told.{Told}
@@ -134,12 +133,6 @@ abbrev pub decide : Setting → Reading → Grips → RunId → Moment → Choic
 decide w n g r m = first_case (run_cases w n g r m) (decide_answered w n g r)
 
 -- The entries of a step back
-
--- the answer to a command whose device told this
-abbrev pub answer_told : Told → Answer
-answer_told Worked = Fine
-answer_told (Sensed x) = Found x
-answer_told Died = Down
 
 abbrev pub command_entries : Setting → Reading → RunId → CommandIndex → Told → List Entry
 command_entries w n r k Worked = Did (run_no r) k Fine ∷ []

@@ -226,13 +226,11 @@ impl<D: Device> OpenWindow<D> {
         ensures window { SameWindow self.old self.new }
     {
         let task = self.task(r, purpose);
-        let known = *self.devices.get(d.0 as u64).unwrap();
+        let known = self.away.known(d);
         self.moment = self.moment.max(moment);
-        self.devices
-            .set(d.0 as u64, DeviceProgress { purpose, ..known });
         self.order.touch(r, d, purpose);
-        self.hands.set(r.0 as u64 - 1, Some(d));
-        self.gate.hand_out(d, r.0, known.held, task)
+        self.away
+            .send(d, r.0, DeviceProgress { purpose, ..known }, task)
     }
 }
 

@@ -7,6 +7,7 @@ ghost use Rattle.hub_core.specs.OpenHubs.{configuration_of};
 ghost use Rattle.hub_core.specs.Steps.{not_quiet};
 ghost use Rattle.serial_line.specs.Marks.{items_of};
 
+use crate::away::Away;
 use crate::homes::Home;
 use crate::known::DeviceProgress;
 use crate::open_windows::OpenWindow;
@@ -50,11 +51,15 @@ impl<D: Device> OpenWindow<D> {
             history,
             order,
             opened,
-            devices: known,
-            gate,
+            away,
             closing,
             ..
         } = self;
+        let Away {
+            gate,
+            known,
+            hands: _,
+        } = away;
         let weak = history.is_weak();
         let ReadHistory {
             mode,

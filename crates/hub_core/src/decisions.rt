@@ -223,14 +223,14 @@ impl<D: Device> OpenWindow<D> {
         requires { IsTrue (is_run self.now.setting.runs r.0) }
         ensures { option_map (λ d. d.0) result ≡ grip_wait self.now.setting (configuration_of self.now).grips r.0 }
     {
-        *self.hands.get(r.0 as u64 - 1).unwrap()
+        *self.away.hands.get(r.0 as u64 - 1).unwrap()
     }
 
     /// Whether the device is out.
     pub(crate) fn is_out(&self, d: DeviceNo) -> bool
         ensures { result ≡ is_out (configuration_of self.now).grips d.0 }
     {
-        self.gate.slip(d).is_some()
+        self.away.gate.slip(d).is_some()
     }
 
     /// What the grip of the run is to do for this purpose.

@@ -8,7 +8,6 @@ ghost use Rattle.hub_core.specs.ReadHistories.{with_entry, with_lost};
 ghost use Rattle.lineage_table.specs.Lineages.{accesses_at};
 
 use crate::kept_orders::{KeptOrder, seal};
-use crate::known::Events;
 use crate::read_histories::ReadHistory;
 use failure_serialization::{fell, rose};
 use history_book::{Cause, Entry};
@@ -20,28 +19,6 @@ pub(crate) struct Failure {
     pub(crate) entry: Entry,
     /// The run that is lost.
     pub(crate) lost: Option<RunNo>,
-}
-
-/// How often a device has failed and come back that fails once more.
-pub(crate) fn fallen(events: Events) -> Events
-    requires { events.fell + 1 < 2 ^ 32 }
-    ensures { result ≡ record events { fell = events.fell + 1 } }
-{
-    Events {
-        fell: events.fell + 1,
-        ..events
-    }
-}
-
-/// How often a device has failed and come back that comes back once more.
-pub(crate) fn risen(events: Events) -> Events
-    requires { events.rose + 1 < 2 ^ 32 }
-    ensures { result ≡ record events { rose = events.rose + 1 } }
-{
-    Events {
-        rose: events.rose + 1,
-        ..events
-    }
 }
 
 /// The run whose first access to a device has died, where this is `first`.

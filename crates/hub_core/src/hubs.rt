@@ -57,7 +57,7 @@ impl<D: Device> Hub<D> {
         ensures { HubStands D.tag D.stands D.turns D.probes D.faults self.now }
     {
         let window = &self.window;
-        window.gate.numbered();
+        window.away.gate.numbered();
     }
 
     /// Does nothing. Its contract is that a window is never stuck.
@@ -141,7 +141,7 @@ impl<D: Device> Hub<D> {
         if window.moment != 0 {
             return false;
         }
-        if window.gate.first_out().is_some() {
+        if window.away.gate.first_out().is_some() {
             return false;
         }
         window.has_all_probes()
@@ -151,7 +151,7 @@ impl<D: Device> Hub<D> {
     pub fn probes_left(&self, d: DeviceNo) -> u64
         ensures { result ≡ (configuration_of self.now).probes d.0 }
     {
-        self.window.known(d).probes_left as u64
+        self.window.away.known(d).probes_left as u64
     }
 
     /// Why the window cannot be closed: the smallest run that has not ended, else the smallest device that is out.
@@ -188,10 +188,10 @@ impl<D: Device> Hub<D> {
         ensures { result ≡ grip_takes self.now.setting ((configuration_of self.now).grips d.0) }
     {
         let window = &self.window;
-        let Some(slip) = window.gate.slip(d) else {
+        let Some(slip) = window.away.gate.slip(d) else {
             return 0;
         };
-        match window.known(d).purpose {
+        match window.away.known(d).purpose {
             Purpose::Command(k) => window.history.command(RunNo(slip.maker), k).takes,
             Purpose::Undo(_) | Purpose::Probe(_) => 0,
         }

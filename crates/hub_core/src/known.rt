@@ -1,5 +1,9 @@
 //! What is known of each run and each device beside the history.
+ghost use Rattle.std.specs.Prelude.{◌≡◌, ◌+◌, ◌<◌, ◌^◌};
+ghost use Rattle.hub_core.specs.Away.{events_after};
+
 use crate::purposes::Purpose;
+use device_gate::{Task, Told};
 use history_book::{Cause, End};
 use home_types::Value;
 
@@ -32,6 +36,29 @@ pub struct Counts {
 pub struct Events {
     pub fell: u32,
     pub rose: u32,
+}
+
+impl Events {
+    /// The same with what the device told of its task: one that was counted up, and died, has failed, and one that was counted
+    /// down, and answered, is back.
+    #[inline(always)]
+    pub(crate) fn after(self, task: Task, told: Told) -> Events
+        requires fell { self.fell + 1 < 2 ^ 32 }
+        requires rose { self.rose + 1 < 2 ^ 32 }
+        ensures { result ≡ events_after task told self }
+    {
+        match (task.is_counted_up(), told.died()) {
+            (true, true) => Events {
+                fell: self.fell + 1,
+                ..self
+            },
+            (false, false) => Events {
+                rose: self.rose + 1,
+                ..self
+            },
+            (true, false) | (false, true) => self,
+        }
+    }
 }
 
 /// No failure and no restart.

@@ -1,6 +1,7 @@
 // The hub of a home: its windows, the steps in them, and what has to be believed of a window and of a day.
 #![tactic(auto)]
 
+mod away;
 mod blocked_runs;
 mod changes;
 mod close_calls;

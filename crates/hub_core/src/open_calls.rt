@@ -12,6 +12,7 @@ ghost use Rattle.hub_core.specs.Homes.{HomeIsKept, setting_for};
 ghost use Rattle.hub_core.specs.OpeningRooms.{AreKnown, IsClosingRoom, IsHistoryRoom, IsOrderRoom, IsRoomFor, IsScratchFor, known_first, no_progress};
 ghost use Rattle.hub_core.specs.Openings.{MayOpen};
 
+use crate::away::Away;
 use crate::blocked_runs::BlockedRuns;
 use crate::homes::Home;
 use crate::hubs::Hub;
@@ -111,9 +112,11 @@ impl<D: Device> Home<D> {
                     rounds,
                     opened: home.opened,
                     moment: 0,
-                    devices: room.state.devices,
-                    gate: home.gate,
-                    hands: room.state.hands,
+                    away: Away {
+                        gate: home.gate,
+                        known: room.state.devices,
+                        hands: room.state.hands,
+                    },
                     closing: room.closing,
                 },
             }),

@@ -11,30 +11,16 @@ ghost use Rattle.hub_core.specs.Steps.{not_quiet};
 ghost use Rattle.lock_leasing.specs.Configurations.{read_of};
 ghost use Rattle.lock_leasing.specs.Standings.{IsStandingOf};
 
+use crate::away::Away;
 use crate::kept_orders::KeptOrder;
-use crate::known::{Counts, DeviceProgress, Events, NO_EVENTS};
 use crate::purposes::Purpose;
 use crate::read_histories::ReadHistory;
 use crate::refusals::NotQuiet;
 use command_rules::IndexedRoster;
-use device_gate::Gate;
 use device_states::Device;
 use home_types::{DeviceNo, Item, List, RunNo, Stand};
 use lock_leasing::Standing;
 use std::marker::Model;
-
-/// What is known of no device.
-const NOT_KNOWN: DeviceProgress = DeviceProgress {
-    held: 0,
-    probes_left: 0,
-    purpose: Purpose::Command(0),
-    at_opening: Counts {
-        turns: 0,
-        probes: 0,
-        faults: 0,
-    },
-    events: NO_EVENTS,
-};
 
 /// The lists that closing a window fills: empty, each with room for every device, but for the order.
 #[derive(Drop)]
@@ -60,10 +46,7 @@ pub(crate) struct OpenWindow<D: Device> {
     pub(crate) rounds: u32,
     pub(crate) opened: u32,
     pub(crate) moment: u64,
-    pub(crate) devices: List<DeviceProgress>,
-    pub(crate) gate: Gate<D>,
-    /// For each run the device whose grip it holds.
-    pub(crate) hands: List<Option<DeviceNo>>,
+    pub(crate) away: Away<D>,
     pub(crate) closing: ClosingLists,
 }
 
@@ -146,7 +129,7 @@ impl<D: Device> OpenWindow<D> {
     pub(crate) fn has_all_probes(&self) -> bool
         ensures { IsTrue result ↔ ((d : ℕ) → d < length self.now.devices → (device_at self.now.devices d).probes_left ≡ self.now.rounds) }
     {
-        let known = self.devices.as_slice();
+        let known = self.away.known.as_slice();
         known.iter().all(|device| device.probes_left == self.rounds)
     }
 
@@ -157,7 +140,7 @@ impl<D: Device> OpenWindow<D> {
         if let Some(r) = self.history.first_unended() {
             return Some(NotQuiet::StillLive(r));
         }
-        match self.gate.first_out() {
+        match self.away.gate.first_out() {
             Some(d) => Some(NotQuiet::StillOut(d)),
             None => None,
         }
@@ -168,10 +151,10 @@ impl<D: Device> OpenWindow<D> {
     pub(crate) fn is_out_for_command(&self, d: DeviceNo) -> bool
         ensures { result ≡ is_out_for_command (configuration_of self.now) d.0 }
     {
-        if self.gate.slip(d).is_none() {
+        if self.away.gate.slip(d).is_none() {
             return false;
         }
-        match self.known(d).purpose {
+        match self.away.known(d).purpose {
             Purpose::Command(_) => true,
             Purpose::Undo(_) | Purpose::Probe(_) => false,
         }
@@ -223,22 +206,5 @@ impl<D: Device> OpenWindow<D> {
             return false;
         }
         !self.history.is_done(r, k, d)
-    }
-
-    /// How often the device has failed and come back in the window.
-    pub(crate) fn events(&self, d: DeviceNo) -> Events
-        ensures { result ≡ (device_at self.now.devices d.0).events }
-    {
-        self.known(d).events
-    }
-
-    /// What is known of the device, nothing of no device of the home.
-    pub(crate) fn known(&self, d: DeviceNo) -> DeviceProgress
-        ensures { result ≡ device_at self.now.devices d.0 }
-    {
-        match self.devices.get(d.0 as u64) {
-            Some(known) => *known,
-            None => NOT_KNOWN,
-        }
     }
 }

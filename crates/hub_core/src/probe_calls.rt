@@ -9,11 +9,10 @@ ghost use Rattle.hub_core.specs.Steps.{may_probe, restored};
 ghost use Rattle.lock_leasing.specs.Configurations.{read_of};
 
 use crate::changes::{NONE_MADE, one_made};
-use crate::failures::{doom_lost, fallen, note_fall, note_rise, risen};
+use crate::failures::{doom_lost, note_fall, note_rise};
 use crate::known::DeviceProgress;
 use crate::open_windows::OpenWindow;
 use crate::purposes::Purpose;
-use crate::returns::{bring_home, has_died};
 use device_gate::{Done, Grip, Ready, Stranger, Task};
 use device_states::Device;
 use history_book::Made;
@@ -48,8 +47,8 @@ impl<D: Device> OpenWindow<D> {
         ensures given { IsProbeGiven self.old grip result self.new }
         ensures window { SameWindow self.old self.new }
     {
-        if grip.slip().maker != 0 || !self.gate.is_kept(&grip) {
-            let stranger = self.gate.stranger(&grip);
+        if grip.slip().maker != 0 || !self.away.gate.is_kept(&grip) {
+            let stranger = self.away.gate.stranger(&grip);
             return Err((grip, stranger));
         }
         Ok(self.end_probe(grip))
@@ -59,7 +58,7 @@ impl<D: Device> OpenWindow<D> {
     fn may_probe(&self, d: DeviceNo) -> bool
         ensures { result ≡ may_probe (configuration_of self.now) d.0 }
     {
-        self.gate.is_home(d) && self.known(d).probes_left > 0
+        self.away.gate.is_home(d) && self.away.known(d).probes_left > 0
     }
 
     /// A probe of the device goes out.
@@ -69,16 +68,13 @@ impl<D: Device> OpenWindow<D> {
         ensures window { SameWindow self.old self.new }
     {
         let value = self.restored(d);
-        let known = *self.devices.get(d.0 as u64).unwrap();
-        self.devices.set(
-            d.0 as u64,
-            DeviceProgress {
-                probes_left: known.probes_left - 1,
-                purpose: Purpose::Probe(value),
-                ..known
-            },
-        );
-        self.gate.hand_out(d, 0, known.held, Task::Probe(value))
+        let known = self.away.known(d);
+        let sent = DeviceProgress {
+            probes_left: known.probes_left - 1,
+            purpose: Purpose::Probe(value),
+            ..known
+        };
+        self.away.send(d, 0, sent, Task::Probe(value))
     }
 
     /// The value that a probe of the device restores: where it is counted down, the one at which it should stand.
@@ -90,7 +86,7 @@ impl<D: Device> OpenWindow<D> {
         if self.order.table.is_up(d) {
             None
         } else if self.history.is_weak() {
-            Some(self.known(d).held)
+            Some(self.away.known(d).held)
         } else {
             Some(self.order.table.stand(d))
         }
@@ -104,7 +100,7 @@ impl<D: Device> OpenWindow<D> {
         ensures window { SameWindow self.old self.new }
     {
         let up = self.order.table.is_up(grip.slip().device);
-        let died = has_died(grip.told());
+        let died = grip.told().died();
         if up != died {
             self.find_same(grip)
         } else if died {
@@ -122,8 +118,7 @@ impl<D: Device> OpenWindow<D> {
         ensures given { IsProbeGiven self.old grip (Ok result) self.new }
         ensures window { SameWindow self.old self.new }
     {
-        let events = self.events(grip.slip().device);
-        bring_home(&mut self.gate, &mut self.devices, grip, events);
+        self.away.come_home(grip);
         NONE_MADE
     }
 
@@ -137,13 +132,19 @@ impl<D: Device> OpenWindow<D> {
         ensures window { SameWindow self.old self.new }
     {
         let d = grip.slip().device;
-        let events = fallen(self.events(d));
-        bring_home(&mut self.gate, &mut self.devices, grip, events);
-        let fell = note_fall(&mut self.history, &mut self.order, 0, d, events.fell, None);
+        let came = self.away.come_home(grip);
+        let fell = note_fall(
+            &mut self.history,
+            &mut self.order,
+            0,
+            d,
+            came.events.fell,
+            None,
+        );
         let doomed = doom_lost(
             &mut self.history,
             &mut self.order,
-            &self.hands,
+            &self.away.hands,
             d,
             fell.lost,
         );
@@ -164,8 +165,7 @@ impl<D: Device> OpenWindow<D> {
         ensures window { SameWindow self.old self.new }
     {
         let d = grip.slip().device;
-        let events = risen(self.events(d));
-        bring_home(&mut self.gate, &mut self.devices, grip, events);
-        one_made(note_rise(&mut self.history, &mut self.order, 0, d, events.rose))
+        let came = self.away.come_home(grip);
+        one_made(note_rise(&mut self.history, &mut self.order, 0, d, came.events.rose))
     }
 }

@@ -4,11 +4,8 @@ use Rattle.hub_core.proofs.kept.TableFits.{either_model}
 use Rattle.command_rules.specs.Rosters.{command_at, commands_of, is_run, run_no}
 use Rattle.device_gate.specs.Calls.{has_died}
 use Rattle.device_gate.specs.Grips.{Gripped}
-use Rattle.device_gate.specs.Places.{IsKept}
 use Rattle.device_gate.specs.declared.grips.Done.{Done}
-use Rattle.device_gate.specs.declared.gates.Place.TheVariants.{Out}
 use Rattle.device_gate.specs.declared.slips.Slip.{Slip}
-use Rattle.device_gate.specs.declared.slips.Task.{Task}
 use Rattle.device_gate.specs.declared.slips.Told.TheVariants.{Died, Sensed, Worked}
 use Rattle.device_gate.specs.declared.slips.Told.{Told}
 use Rattle.history_book.proofs.Snoc.{put_other}
@@ -27,18 +24,18 @@ use Rattle.home_types.specs.declared.commands.View.{View}
 use Rattle.home_types.specs.declared.items.Item.TheVariants.{Failed}
 use Rattle.home_types.specs.declared.numbers.DeviceNo.{DeviceNo}
 use Rattle.home_types.specs.declared.numbers.RunNo.{RunNo}
-use Rattle.hub_core.proofs.calls.Homecomings.{ComesBack}
+use Rattle.hub_core.proofs.calls.Homecomings.{CameHome, IsHome, IsReturned, came_whole, returned_entries, returned_for, returned_places}
 use Rattle.hub_core.proofs.calls.HubChanges.{answer_entries, answered_more}
 use Rattle.hub_core.proofs.calls.HubOrders.{read_whole}
-use Rattle.hub_core.proofs.calls.HubReturns.{CameHome, IsForCommand, IsHomeAgain, IsReturned, came_whole, died_events, fallen_by, for_command, returned_below, returned_comes, returned_entries, returned_for, returned_places}
+use Rattle.hub_core.proofs.calls.OutFor.{IsForCommand, for_command}
 use Rattle.hub_core.proofs.calls.NotedAnswers.{lineage_set, length_set}
-use Rattle.hub_core.proofs.calls.Turning.{TellsTurn, counted_so, few_turns, may_fall}
+use Rattle.hub_core.proofs.calls.Turning.{Falls, TellsTurn, fallen_number, may_fall}
 use Rattle.hub_core.proofs.kept.FallenOrders.{order_died, order_died_weakly, order_undo_died}
 use Rattle.hub_core.proofs.kept.OrderSteps.{done_after, may_note, none_out, order_doomed_if, read_more}
 use Rattle.hub_core.specs.Decisions.{died_by}
 use Rattle.hub_core.specs.HubsKept.{IsWhole, open_of}
 use Rattle.hub_core.specs.KeptOrders.{HasFallen, MayNote, MayTurn, OrderIsBeside, is_first, noted_first}
-use Rattle.hub_core.specs.OpenHubs.{OpenHub, configuration_of, device_at, held_after, held_in}
+use Rattle.hub_core.specs.OpenHubs.{configuration_of, held_in}
 use Rattle.hub_core.specs.ReadHistories.{HistoryState, read_in, with_doom, with_entry, with_more}
 use Rattle.hub_core.specs.declared.open_windows.OpenWindow.TheInside.{Inside}
 use Rattle.hub_core.specs.declared.kept_orders.KeptOrder.{KeptOrder}
@@ -50,17 +47,9 @@ use Rattle.lock_leasing.specs.Places.{GripsFit}
 use Rattle.serial_line.specs.Marks.{Marked}
 use Rattle.std.proofs.Common.{ap, append_assoc, ap₂, arith, refl, subst, sym, ◌∙◌}
 use Rattle.std.proofs.Math.Bool.{or-true}
-use Rattle.std.proofs.lemmas.Option.{slice_get_within}
-use Rattle.std.specs.Prelude.{Bool, IsSome, List, None, Option, Some, [], false, fold, if◌then◌else◌, is_some, length, max, not, option_map, option_to_list, slice_get, suc, true, ℕ, ◌+◌, ◌-◌, ◌<◌, ◌∷◌, ◌≡◌, ◌≤◌, ◌&&◌, ◌||◌}
+use Rattle.std.specs.Prelude.{Bool, IsSome, List, None, Option, Some, [], false, fold, if◌then◌else◌, is_some, length, not, option_map, option_to_list, suc, true, ℕ, ◌+◌, ◌-◌, ◌<◌, ◌∷◌, ◌≡◌, ◌≤◌, ◌&&◌, ◌||◌}
 use Rattle.window_order.proofs.Steps.{home_fits}
 use Rattle.window_order.specs.TableChanges.{ChangesEach, IsWaiting, doomed_lineage}
-
--- the device of a slip that is kept is one of the home
-pub within_home : {D : Type 0} {stands turns probes faults : D → ℕ} (h : Inside D) (s : OpenHub D) (slip : Slip) (task : Task) → open_of h ≡ s → IsKept s.places slip task → IsWhole stands turns probes faults h → slip.device.0 < length h.history.setting.first
-within_home {D = D} h s slip task seen there k =
-    let within : slip.device.0 < length h.gate.places = slice_get_within h.gate.places slip.device.0 (Out slip task) (ap (λ (x : OpenHub D). slice_get x.places slip.device.0) seen ∙ there) in
-    let size : length h.gate.places ≡ length h.history.setting.first = k.shown.places_size in
-    omega (arith, within, size)
 
 died_told : (told : Told) → has_died told ≡ true → told ≡ Died
 died_told Worked died = absurd (cc)
@@ -73,24 +62,6 @@ more_after h maker e es =
     let history = append_assoc h.history (kept_by maker (e ∷ [])) (kept_by maker es) in
     let left : h.spare - 1 - length es ≡ h.spare - suc (length es) = omega arith in
     λ i. record h { history = history i; spare = left i }
-
--- The count of the failures of its device
-
--- there is a number for one more
-pub fallen_few : {D : Type 0} {stands turns probes faults : D → ℕ} (h : Inside D) (s : OpenHub D) (slip : Slip) (task : Task) (sl : Slip) (before : Events) → open_of h ≡ s → IsKept s.places slip task → sl ≡ slip → before ≡ (device_at s.devices sl.device.0).events → IsWhole stands turns probes faults h → before.fell + 1 < 4294967296
-fallen_few {D = D} h s slip task sl before seen there same before_is k =
-    let few = (few_turns h slip.device.0 (within_home h s slip task seen there k) k).0 in
-    let known : before.fell ≡ (device_at h.devices.items slip.device.0).events.fell = ap (λ (e : Events). e.fell) (before_is ∙ ap (λ (z : Slip). (device_at s.devices z.device.0).events) same ∙ ap (λ (x : OpenHub D). (device_at x.devices slip.device.0).events) (sym seen)) in
-    omega (arith, few, known)
-
--- the one that it is
-pub death_number : {D : Type 0} (h : Inside D) (s : OpenHub D) (sl : Slip) (before events : Events) → open_of h ≡ s → before ≡ (device_at s.devices sl.device.0).events → events ≡ record before { fell = before.fell + 1 } → events.fell ≡ (device_at h.devices.items sl.device.0).events.fell + 1
-death_number {D = D} h s sl before events seen before_is more = ap (λ (e : Events). e.fell) more ∙ ap (λ (e : Events). e.fell + 1) (before_is ∙ ap (λ (x : OpenHub D). (device_at x.devices sl.device.0).events) (sym seen))
-
--- with what the device told
-pub death_known : {D : Type 0} (h : Inside D) (s : OpenHub D) (slip sl : Slip) (told : Told) (before events : Events) → open_of h ≡ s → before ≡ (device_at s.devices sl.device.0).events → events ≡ record before { fell = before.fell + 1 } → sl ≡ slip → has_died told ≡ true → events ≡ fallen_by told (device_at h.devices.items slip.device.0).events
-death_known {D = D} h s slip sl told before events seen before_is more same died =
-    more ∙ ap (λ (e : Events). record e { fell = e.fell + 1 }) (before_is ∙ ap (λ (z : Slip). (device_at s.devices z.device.0).events) same ∙ ap (λ (x : OpenHub D). (device_at x.devices slip.device.0).events) (sym seen)) ∙ died_events told (device_at h.devices.items slip.device.0).events died
 
 -- A command
 
@@ -109,7 +80,7 @@ dead_turn : {D : Type 0} {stands turns probes faults : D → ℕ} (h : Inside D)
     → (dead_first h grip.slip ≡ not (did (read_in h.history) grip.slip.maker (command_at h.history.setting.runs grip.slip.maker k).device.0)) × MayNote grip.slip.maker (lineage_at h.order.table grip.slip.device.0)
 dead_turn h k tag grip returned strong whole =
     let for = for_command _ _ _ _ (open_of h) grip.slip grip.task k whole.shown returned.there returned.purpose in
-    let turn = may_note h.history.setting (read_in h.history) (configuration_of (open_of h)).grips (held_in (open_of h)) grip.slip.device.0 grip.slip.maker k h.order.table (read_whole h whole) (whole.shown.configuration.ordered strong).order for.grip (returned_below h (ForCommand k) tag grip returned whole) (whole.order.table_is.ordered strong) in
+    let turn = may_note h.history.setting (read_in h.history) (configuration_of (open_of h)).grips (held_in (open_of h)) grip.slip.device.0 grip.slip.maker k h.order.table (read_whole h whole) (whole.shown.configuration.ordered strong).order for.grip (returned_for h (ForCommand k) tag grip returned whole).below (whole.order.table_is.ordered strong) in
     (turn.0 ∙ ap (λ x. not (did (read_in h.history) grip.slip.maker x)) (sym for.on), turn.1)
 
 -- the doom, by whether the run was doomed before, has had an answer there, and must not fail; under the weak model no access is lost
@@ -165,11 +136,8 @@ death_gives h k tag grip returned died whole =
 
 -- it tells the failure of the device, and then of the run alone
 death_tells : {D : Type 0} {stands turns probes faults : D → ℕ} (h : Inside D) (k tag : ℕ) (grip : Gripped D Done) → IsReturned stands turns probes faults h (ForCommand k) tag grip → has_died grip.stage.told ≡ true → IsWhole stands turns probes faults h
-    → TellsTurn stands turns probes faults h grip.slip grip.task (Fell grip.slip.device) (answer_entries grip.slip.maker k Down (death_of h grip.slip k)) grip.device (held_after grip.stage.told grip.task (device_at h.devices.items grip.slip.device.0).held) (fallen_by grip.stage.told (device_at h.devices.items grip.slip.device.0).events) (max h.moment 0)
-death_tells {stands = stands} {turns = turns} {probes = probes} {faults = faults} h k tag grip returned died whole = record {
-  comes = subst (λ es. ComesBack stands turns probes faults (open_of h) grip.slip grip.task es grip.device (held_after grip.stage.told grip.task (device_at h.devices.items grip.slip.device.0).held) (fallen_by grip.stage.told (device_at h.devices.items grip.slip.device.0).events) (max h.moment 0)) (death_gives h k tag grip returned died whole) (returned_comes h 0 (ForCommand k) tag grip returned whole);
-  leave = by_cause (death_of h grip.slip k);
-}
+    → TellsTurn stands turns probes faults h (ForCommand k) tag grip (Fell grip.slip.device) (answer_entries grip.slip.maker k Down (death_of h grip.slip k))
+death_tells h k tag grip returned died whole = record { returned = returned; gives = death_gives h k tag grip returned died whole; leave = by_cause (death_of h grip.slip k) }
   where
     fell : Reading
     fell = entry h.history.setting (read_in h.history) (Fell grip.slip.device)
@@ -179,12 +147,9 @@ death_tells {stands = stands} {turns = turns} {probes = probes} {faults = faults
     by_cause (Some c) = refl
 
 -- the device may fail
-pub death_may : {D : Type 0} {stands turns probes faults : D → ℕ} (h : Inside D) (k tag number : ℕ) (grip : Gripped D Done) (slip : Slip) → IsReturned stands turns probes faults h (ForCommand k) tag grip → slip ≡ grip.slip → has_died grip.stage.told ≡ true → number ≡ (device_at h.devices.items slip.device.0).events.fell + 1 → IsWhole stands turns probes faults h
-    → MayTurn true (Failed slip.device number) h.history.spare slip.device h.order.line h.order.table
-death_may h k tag number grip slip returned same died number_is whole =
-    let below = returned_below h (ForCommand k) tag grip returned whole in
-    subst (λ (z : Slip). MayTurn true (Failed z.device number) h.history.spare z.device h.order.line h.order.table) (sym same)
-    (may_fall h grip.slip grip.task grip.slip.device (answer_entries grip.slip.maker k Down (death_of h grip.slip k)) grip.device _ _ _ number (death_tells h k tag grip returned died whole) below (number_is ∙ ap (λ (z : Slip). (device_at h.devices.items z.device.0).events.fell + 1) same ∙ ap (λ x. x + 1) (counted_so h grip.slip.device.0 below whole).0) whole)
+pub death_may : {D : Type 0} {stands turns probes faults : D → ℕ} (h : Inside D) (k tag : ℕ) (grip : Gripped D Done) (slip : Slip) (events : Events) → IsReturned stands turns probes faults h (ForCommand k) tag grip → Falls h (ForCommand k) grip slip events → IsWhole stands turns probes faults h
+    → MayTurn true (Failed slip.device events.fell) h.history.spare slip.device h.order.line h.order.table
+death_may h k tag grip slip events returned falls whole = may_fall h (ForCommand k) tag grip (answer_entries grip.slip.maker k Down (death_of h grip.slip k)) slip events (death_tells h k tag grip returned falls.died whole) falls whole
 
 -- what is known when its failure is noted, so that its run may be answered and doomed
 pub record AfterDeath (k : ℕ) (slip : Slip) (cause : Option Cause) (fell : HistoryState) (table : List LineageState) : Type 0 where
@@ -223,7 +188,7 @@ after_death h k tag grip slip first cause fell table returned same died first_is
     for = for_command _ _ _ _ (open_of h) grip.slip grip.task k whole.shown returned.there returned.purpose
 
     below : grip.slip.device.0 < length h.history.setting.first
-    below = returned_below h (ForCommand k) tag grip returned whole
+    below = (returned_for h (ForCommand k) tag grip returned whole).below
 
     told_is : fell ≡ with_entry h.history r (Fell grip.slip.device)
     told_is = told ∙ ap (λ (z : Slip). with_entry h.history z.maker (Fell z.device)) same
@@ -252,29 +217,28 @@ after_death h k tag grip slip first cause fell table returned same died first_is
     counted_turn {s = s} may = record { status = may.status; first = λ e. let waiting : IsWaiting r s = may.first e in record { scheduled = waiting.scheduled; none_acquired = waiting.none_acquired } }
 
 -- what the code wrote of it
-pub record IsDead {D : Type 0} (h : Inside D) (grip : Gripped D Done) (k : ℕ) (slip : Slip) (first : Bool) (cause : Option Cause) (fell mid after : HistoryState) : Type 0 where
-  pub same : slip ≡ grip.slip
-  pub died : has_died grip.stage.told ≡ true
+pub record IsDead {D : Type 0} (h : Inside D) (grip : Gripped D Done) (k : ℕ) (slip : Slip) (events : Events) (first : Bool) (cause : Option Cause) (fell mid after : HistoryState) : Type 0 where
+  pub falls : Falls h (ForCommand k) grip slip events
   pub first_is : first ≡ dead_first h slip
   pub because : cause ≡ died_by h.history.setting (read_in h.history) slip.maker k (first || is_weak h.history.setting.mode)
   pub told : fell ≡ with_entry h.history slip.maker (Fell slip.device)
   pub answered : mid ≡ with_entry fell slip.maker (Did (run_no slip.maker) k Down)
   pub doomed : after ≡ with_doom mid slip.maker cause
 
-pub died_back : {D : Type 0} {stands turns probes faults : D → ℕ} (h t : Inside D) (m value k tag : ℕ) (events : Events) (grip : Gripped D Done) (slip : Slip) (first : Bool) (cause : Option Cause) (fell mid : HistoryState) → IsReturned stands turns probes faults h (ForCommand k) tag grip → IsHomeAgain h t m value events grip → IsDead h grip k slip first cause fell mid t.history → IsWhole stands turns probes faults h
-    → CameHome stands turns probes faults h t m value events (ForCommand k) tag grip (death_entries slip k cause)
-died_back h t m value k tag events grip slip first cause fell mid returned home dead whole =
+pub died_back : {D : Type 0} {stands turns probes faults : D → ℕ} (h t : Inside D) (k tag : ℕ) (grip : Gripped D Done) (slip : Slip) (events : Events) (first : Bool) (cause : Option Cause) (fell mid : HistoryState) → IsReturned stands turns probes faults h (ForCommand k) tag grip → IsHome h t grip → IsDead h grip k slip events first cause fell mid t.history → IsWhole stands turns probes faults h
+    → CameHome stands turns probes faults h t (ForCommand k) tag grip (death_entries slip k cause)
+died_back h t k tag grip slip events first cause fell mid returned parts dead whole =
     record {
       returned = returned;
-      home = home;
-      gives = death_gives h k tag grip returned dead.died whole
-          ∙ ap (λ (z : Slip). death_entries z k (death_of h z k)) (sym dead.same)
+      parts = parts;
+      gives = death_gives h k tag grip returned dead.falls.died whole
+          ∙ ap (λ (z : Slip). death_entries z k (death_of h z k)) (sym dead.falls.same)
           ∙ ap (λ b. death_entries slip k (died_by h.history.setting (read_in h.history) slip.maker k (b || is_weak h.history.setting.mode))) (sym dead.first_is)
           ∙ ap (death_entries slip k) (sym dead.because);
       history_is = dead.doomed ∙ ap (λ (y : HistoryState). with_doom y slip.maker cause) (dead.answered ∙ ap (λ (y : HistoryState). with_entry y slip.maker (Did (run_no slip.maker) k Down)) dead.told)
           ∙ answered_more (with_entry h.history slip.maker (Fell slip.device)) slip.maker k Down cause
           ∙ more_after h.history slip.maker (Fell slip.device) (answer_entries slip.maker k Down cause)
-          ∙ ap (λ (y : Slip). with_more h.history y.maker (death_entries slip k cause)) dead.same;
+          ∙ ap (λ (y : Slip). with_more h.history y.maker (death_entries slip k cause)) dead.falls.same;
     }
 
 -- the entries that the code made are these
@@ -319,10 +283,9 @@ order_dies {rounds = rounds} h h₁ h₂ h₃ g f d r k cause mid after noted la
     none e = ap (λ x. grips_command x r e) home ∙ none_out w n g d.0 r (Commands k) run at fits e
 
 -- what line and table note of it
-pub record DeathNoted {D : Type 0} (h t : Inside D) (slip : Slip) (number : ℕ) (first : Bool) (died : Option RunNo) (cause : Option Cause) (mid : HistoryState) (view : View) (wrote : Option ℕ) (last : Bool) (fallen noted : KeptOrder) : Type 0 where
+pub record DeathNoted {D : Type 0} (h t : Inside D) (slip : Slip) (events : Events) (first : Bool) (died : Option RunNo) (cause : Option Cause) (mid : HistoryState) (view : View) (wrote : Option ℕ) (last : Bool) (fallen noted : KeptOrder) : Type 0 where
   pub died_is : died ≡ (if first then Some (run_no slip.maker) else None)
-  pub fell : HasFallen h.history slip.device died number h.order.line fallen.line h.order.table fallen.table
-  pub number_is : number ≡ (device_at h.devices.items slip.device.0).events.fell + 1
+  pub fell : HasFallen h.history slip.device died events.fell h.order.line fallen.line h.order.table fallen.table
   pub view_is : view ≡ ViewedDown
   pub wrote_is : wrote ≡ None
   pub last_is : last ≡ (is_doomed (read_in mid) slip.maker || not (pends mid.setting (read_in mid) slip.maker slip.device.0))
@@ -334,16 +297,16 @@ pub record DeathNoted {D : Type 0} (h t : Inside D) (slip : Slip) (number : ℕ)
   pub changed : IsSome cause → ChangesEach (λ d. doomed_lineage slip.maker) noted.table t.order.table
 
 -- .. as its own slip says
-order_dead : {D : Type 0} {stands turns probes faults : D → ℕ} (h t : Inside D) (m value k tag number : ℕ) (events : Events) (grip : Gripped D Done) (first : Bool) (died : Option RunNo) (cause : Option Cause) (fell mid : HistoryState) (view : View) (wrote : Option ℕ) (last : Bool) (fallen noted : KeptOrder)
-    → IsReturned stands turns probes faults h (ForCommand k) tag grip → IsHomeAgain h t m value events grip → IsDead h grip k grip.slip first cause fell mid t.history → DeathNoted h t grip.slip number first died cause mid view wrote last fallen noted
+order_dead : {D : Type 0} {stands turns probes faults : D → ℕ} (h t : Inside D) (k tag : ℕ) (grip : Gripped D Done) (events : Events) (first : Bool) (died : Option RunNo) (cause : Option Cause) (fell mid : HistoryState) (view : View) (wrote : Option ℕ) (last : Bool) (fallen noted : KeptOrder)
+    → IsReturned stands turns probes faults h (ForCommand k) tag grip → IsHome h t grip → IsDead h grip k grip.slip events first cause fell mid t.history → DeathNoted h t grip.slip events first died cause mid view wrote last fallen noted
     → IsWellFormed t.history.setting (entries_of t.history.history) → (configuration_of (open_of t)).grips ≡ put (configuration_of (open_of h)).grips grip.slip.device.0 None → IsWhole stands turns probes faults h → OrderIsBeside h.rounds t.history (configuration_of (open_of t)).grips t.order.line t.order.table
-order_dead {D = D} h t m value k tag number events grip first died cause fell mid view wrote last fallen noted returned home dead notes formed gripped whole =
+order_dead {D = D} h t k tag grip events first died cause fell mid view wrote last fallen noted returned home dead notes formed gripped whole =
     order_dies h.history fell mid t.history g f grip.slip.device r k cause noted.line t.order.line noted.table t.order.table
     whole.shown.configuration.grips for.run for.grip dead.told dead.answered dead.doomed formed gripped notes.line_after notes.unchanged notes.changed
     (either_model (OrderIsBeside h.rounds mid f noted.line noted.table) w
-    (λ weak. order_died_weakly h.history fell mid g f grip.slip.device r k number first h.order.line fallen.line noted.line h.order.table fallen.table noted.table weak whole.shown.configuration.grips for.grip below
+    (λ weak. order_died_weakly h.history fell mid g f grip.slip.device r k events.fell first h.order.line fallen.line noted.line h.order.table fallen.table noted.table weak whole.shown.configuration.grips for.grip below
     dead.told dead.answered gripped numbered dead.first_is falls notes.line (notes.same_table weak) whole.order)
-    (λ strong. order_died h.history fell mid g f (held_in (open_of h)) grip.slip.device r k number first last h.order.line fallen.line noted.line h.order.table fallen.table noted.table
+    (λ strong. order_died h.history fell mid g f (held_in (open_of h)) grip.slip.device r k events.fell first last h.order.line fallen.line noted.line h.order.table fallen.table noted.table
     (read_whole h whole) strong (whole.shown.configuration.ordered strong).order whole.shown.configuration.history.well_formed (whole.shown.configuration.grips.homed d (ap is_some for.grip)) for.grip below
     dead.told dead.answered gripped numbered dead.first_is falls
     (notes.last_is ∙ (λ i. is_doomed (reads.1 i) r || not (pends (reads.0 i) (reads.1 i) r d)) ∙ done_after w (entry w n (Fell grip.slip.device)) r k Down d for.next for.on)
@@ -365,7 +328,7 @@ order_dead {D = D} h t m value k tag number events grip first died cause fell mi
     for = for_command _ _ _ _ (open_of h) grip.slip grip.task k whole.shown returned.there returned.purpose
 
     below : d < length w.first
-    below = returned_below h (ForCommand k) tag grip returned whole
+    below = (returned_for h (ForCommand k) tag grip returned whole).below
 
     g : Grips
     g = (configuration_of (open_of h)).grips
@@ -373,11 +336,11 @@ order_dead {D = D} h t m value k tag number events grip first died cause fell mi
     f : Grips
     f = (configuration_of (open_of t)).grips
 
-    numbered : number ≡ n.fell d + 1
-    numbered = notes.number_is ∙ ap (λ x. x + 1) (counted_so h d below whole).0
+    numbered : events.fell ≡ n.fell d + 1
+    numbered = fallen_number h (ForCommand k) tag grip grip.slip events returned dead.falls whole
 
-    falls : HasFallen h.history grip.slip.device (if first then Some (run_no r) else None) number h.order.line fallen.line h.order.table fallen.table
-    falls = subst (λ o. HasFallen h.history grip.slip.device o number h.order.line fallen.line h.order.table fallen.table) notes.died_is notes.fell
+    falls : HasFallen h.history grip.slip.device (if first then Some (run_no r) else None) events.fell h.order.line fallen.line h.order.table fallen.table
+    falls = subst (λ o. HasFallen h.history grip.slip.device o events.fell h.order.line fallen.line h.order.table fallen.table) notes.died_is notes.fell
 
     reads : (mid.setting ≡ w) × (read_in mid ≡ entry w (entry w n (Fell grip.slip.device)) (Did (run_no r) k Down))
     reads = (
@@ -386,12 +349,12 @@ order_dead {D = D} h t m value k tag number events grip first died cause fell mi
     )
 
 -- a command died: what is kept is kept
-pub died_whole : {D : Type 0} {stands turns probes faults : D → ℕ} (h t : Inside D) (m value k tag number : ℕ) (events : Events) (grip : Gripped D Done) (slip : Slip) (first : Bool) (died : Option RunNo) (cause : Option Cause) (fell mid : HistoryState) (view : View) (wrote : Option ℕ) (last : Bool) (fallen noted : KeptOrder)
-    → IsReturned stands turns probes faults h (ForCommand k) tag grip → IsHomeAgain h t m value events grip → IsDead h grip k slip first cause fell mid t.history → DeathNoted h t slip number first died cause mid view wrote last fallen noted → IsWhole stands turns probes faults h → IsWhole stands turns probes faults t
-died_whole h t m value k tag number events grip slip first died cause fell mid view wrote last fallen noted returned home dead notes whole =
-    came_whole h t m value events (ForCommand k) tag grip (death_entries slip k cause) (died_back h t m value k tag events grip slip first cause fell mid returned home dead whole)
-    (λ formed gripped. order_dead h t m value k tag number events grip first died cause fell mid view wrote last fallen noted returned home
-    (subst (λ (z : Slip). IsDead h grip k z first cause fell mid t.history) dead.same dead) (subst (λ (z : Slip). DeathNoted h t z number first died cause mid view wrote last fallen noted) dead.same notes) formed gripped whole) whole
+pub died_whole : {D : Type 0} {stands turns probes faults : D → ℕ} (h t : Inside D) (k tag : ℕ) (grip : Gripped D Done) (slip : Slip) (events : Events) (first : Bool) (died : Option RunNo) (cause : Option Cause) (fell mid : HistoryState) (view : View) (wrote : Option ℕ) (last : Bool) (fallen noted : KeptOrder)
+    → IsReturned stands turns probes faults h (ForCommand k) tag grip → IsHome h t grip → IsDead h grip k slip events first cause fell mid t.history → DeathNoted h t slip events first died cause mid view wrote last fallen noted → IsWhole stands turns probes faults h → IsWhole stands turns probes faults t
+died_whole h t k tag grip slip events first died cause fell mid view wrote last fallen noted returned home dead notes whole =
+    came_whole h t (ForCommand k) tag grip (death_entries slip k cause) (died_back h t k tag grip slip events first cause fell mid returned home dead whole)
+    (λ formed gripped. order_dead h t k tag grip events first died cause fell mid view wrote last fallen noted returned home
+    (subst (λ (z : Slip). IsDead h grip k z events first cause fell mid t.history) dead.falls.same dead) (subst (λ (z : Slip). DeathNoted h t z events first died cause mid view wrote last fallen noted) dead.falls.same notes) formed gripped whole) whole
 
 -- An undo
 
@@ -404,20 +367,11 @@ drop_gives {D = D} h v grip died = ap (λ x. returned_by x) (died_told grip.stag
     returned_by : Told → List Entry
     returned_by told = returned_entries (open_of h) (record grip { stage = record { told = told } }) (ForUndo v)
 
-drop_tells : {D : Type 0} {stands turns probes faults : D → ℕ} (h : Inside D) (v tag : ℕ) (grip : Gripped D Done) → IsReturned stands turns probes faults h (ForUndo v) tag grip → has_died grip.stage.told ≡ true → IsWhole stands turns probes faults h
-    → TellsTurn stands turns probes faults h grip.slip grip.task (Fell grip.slip.device) (Undid (run_no grip.slip.maker) grip.slip.device false ∷ []) grip.device (held_after grip.stage.told grip.task (device_at h.devices.items grip.slip.device.0).held) (fallen_by grip.stage.told (device_at h.devices.items grip.slip.device.0).events) (max h.moment 0)
-drop_tells {stands = stands} {turns = turns} {probes = probes} {faults = faults} h v tag grip returned died whole = record {
-  comes = subst (λ es. ComesBack stands turns probes faults (open_of h) grip.slip grip.task es grip.device (held_after grip.stage.told grip.task (device_at h.devices.items grip.slip.device.0).held) (fallen_by grip.stage.told (device_at h.devices.items grip.slip.device.0).events) (max h.moment 0)) (drop_gives h v grip died) (returned_comes h 0 (ForUndo v) tag grip returned whole);
-  leave = refl;
-}
-
 -- the device may fail
-pub drop_may : {D : Type 0} {stands turns probes faults : D → ℕ} (h : Inside D) (v tag number : ℕ) (grip : Gripped D Done) (slip : Slip) → IsReturned stands turns probes faults h (ForUndo v) tag grip → slip ≡ grip.slip → has_died grip.stage.told ≡ true → number ≡ (device_at h.devices.items slip.device.0).events.fell + 1 → IsWhole stands turns probes faults h
-    → MayTurn true (Failed slip.device number) h.history.spare slip.device h.order.line h.order.table
-drop_may h v tag number grip slip returned same died number_is whole =
-    let below = returned_below h (ForUndo v) tag grip returned whole in
-    subst (λ (z : Slip). MayTurn true (Failed z.device number) h.history.spare z.device h.order.line h.order.table) (sym same)
-    (may_fall h grip.slip grip.task grip.slip.device (Undid (run_no grip.slip.maker) grip.slip.device false ∷ []) grip.device _ _ _ number (drop_tells h v tag grip returned died whole) below (number_is ∙ ap (λ (z : Slip). (device_at h.devices.items z.device.0).events.fell + 1) same ∙ ap (λ x. x + 1) (counted_so h grip.slip.device.0 below whole).0) whole)
+pub drop_may : {D : Type 0} {stands turns probes faults : D → ℕ} (h : Inside D) (v tag : ℕ) (grip : Gripped D Done) (slip : Slip) (events : Events) → IsReturned stands turns probes faults h (ForUndo v) tag grip → Falls h (ForUndo v) grip slip events → IsWhole stands turns probes faults h
+    → MayTurn true (Failed slip.device events.fell) h.history.spare slip.device h.order.line h.order.table
+drop_may h v tag grip slip events returned falls whole =
+    may_fall h (ForUndo v) tag grip (Undid (run_no grip.slip.maker) grip.slip.device false ∷ []) slip events (record { returned = returned; gives = drop_gives h v grip falls.died; leave = refl }) falls whole
 
 -- behind the failure there is a place for the undo
 pub drop_place : {D : Type 0} {stands turns probes faults : D → ℕ} (h : Inside D) (v tag : ℕ) (grip : Gripped D Done) (slip : Slip) (fell : HistoryState) → IsReturned stands turns probes faults h (ForUndo v) tag grip → has_died grip.stage.told ≡ true → fell ≡ with_entry h.history slip.maker (Fell slip.device) → IsWhole stands turns probes faults h → 0 < fell.spare
@@ -428,36 +382,33 @@ drop_place h v tag grip slip fell returned died told whole =
     omega (arith, two, left)
 
 -- what the code wrote of it
-pub record IsDropped {D : Type 0} (h t : Inside D) (grip : Gripped D Done) (slip : Slip) (number : ℕ) (fell : HistoryState) : Type 0 where
-  pub same : slip ≡ grip.slip
-  pub died : has_died grip.stage.told ≡ true
+pub record IsDropped {D : Type 0} (h t : Inside D) (v : ℕ) (grip : Gripped D Done) (slip : Slip) (events : Events) (fell : HistoryState) : Type 0 where
+  pub falls : Falls h (ForUndo v) grip slip events
   pub told : fell ≡ with_entry h.history slip.maker (Fell slip.device)
   pub undone : t.history ≡ with_entry fell slip.maker (Undid (run_no slip.maker) slip.device false)
-  pub falls : HasFallen h.history slip.device None number h.order.line t.order.line h.order.table t.order.table
-  pub number_is : number ≡ (device_at h.devices.items slip.device.0).events.fell + 1
+  pub order : HasFallen h.history slip.device None events.fell h.order.line t.order.line h.order.table t.order.table
 
-pub dropped_back : {D : Type 0} {stands turns probes faults : D → ℕ} (h t : Inside D) (m value v tag number : ℕ) (events : Events) (grip : Gripped D Done) (slip : Slip) (fell : HistoryState) → IsReturned stands turns probes faults h (ForUndo v) tag grip → IsHomeAgain h t m value events grip → IsDropped h t grip slip number fell
-    → CameHome stands turns probes faults h t m value events (ForUndo v) tag grip (dropped_entries slip)
-dropped_back h t m value v tag number events grip slip fell returned home drops =
+pub dropped_back : {D : Type 0} {stands turns probes faults : D → ℕ} (h t : Inside D) (v tag : ℕ) (grip : Gripped D Done) (slip : Slip) (events : Events) (fell : HistoryState) → IsReturned stands turns probes faults h (ForUndo v) tag grip → IsHome h t grip → IsDropped h t v grip slip events fell
+    → CameHome stands turns probes faults h t (ForUndo v) tag grip (dropped_entries slip)
+dropped_back h t v tag grip slip events fell returned parts drops =
     record {
       returned = returned;
-      home = home;
-      gives = drop_gives h v grip drops.died ∙ ap dropped_entries (sym drops.same);
+      parts = parts;
+      gives = drop_gives h v grip drops.falls.died ∙ ap dropped_entries (sym drops.falls.same);
       history_is = drops.undone ∙ ap (λ (y : HistoryState). with_entry y slip.maker (Undid (run_no slip.maker) slip.device false)) drops.told
           ∙ more_after h.history slip.maker (Fell slip.device) (Undid (run_no slip.maker) slip.device false ∷ [])
-          ∙ ap (λ (y : Slip). with_more h.history y.maker (dropped_entries slip)) drops.same;
+          ∙ ap (λ (y : Slip). with_more h.history y.maker (dropped_entries slip)) drops.falls.same;
     }
 
-pub dropped_whole : {D : Type 0} {stands turns probes faults : D → ℕ} (h t : Inside D) (m value v tag number : ℕ) (events : Events) (grip : Gripped D Done) (slip : Slip) (fell : HistoryState) → IsReturned stands turns probes faults h (ForUndo v) tag grip → IsHomeAgain h t m value events grip → IsDropped h t grip slip number fell → IsWhole stands turns probes faults h → IsWhole stands turns probes faults t
-dropped_whole h t m value v tag number events grip slip fell returned home drops whole =
-    came_whole h t m value events (ForUndo v) tag grip (dropped_entries slip) (dropped_back h t m value v tag number events grip slip fell returned home drops)
-    (λ formed gripped. order_dropped_dead (subst (λ (z : Slip). IsDropped h t grip z number fell) drops.same drops) gripped) whole
+pub dropped_whole : {D : Type 0} {stands turns probes faults : D → ℕ} (h t : Inside D) (v tag : ℕ) (grip : Gripped D Done) (slip : Slip) (events : Events) (fell : HistoryState) → IsReturned stands turns probes faults h (ForUndo v) tag grip → IsHome h t grip → IsDropped h t v grip slip events fell → IsWhole stands turns probes faults h → IsWhole stands turns probes faults t
+dropped_whole h t v tag grip slip events fell returned parts drops whole =
+    came_whole h t (ForUndo v) tag grip (dropped_entries slip) (dropped_back h t v tag grip slip events fell returned parts drops)
+    (λ formed gripped. order_dropped_dead (subst (λ (z : Slip). IsDropped h t v grip z events fell) drops.falls.same drops) gripped) whole
   where
-    order_dropped_dead : IsDropped h t grip grip.slip number fell → (configuration_of (open_of t)).grips ≡ put (configuration_of (open_of h)).grips grip.slip.device.0 None → OrderIsBeside h.rounds t.history (configuration_of (open_of t)).grips t.order.line t.order.table
+    order_dropped_dead : IsDropped h t v grip grip.slip events fell → (configuration_of (open_of t)).grips ≡ put (configuration_of (open_of h)).grips grip.slip.device.0 None → OrderIsBeside h.rounds t.history (configuration_of (open_of t)).grips t.order.line t.order.table
     order_dropped_dead own gripped =
         let for = returned_for h (ForUndo v) tag grip returned whole in
         let strong : is_weak h.history.setting.mode ≡ false = undo_ordered (configuration_of (open_of h)) h.rounds h.opened (held_in (open_of h)) grip.slip.device.0 grip.slip.maker v for.grip whole.shown.configuration in
-        let below = returned_below h (ForUndo v) tag grip returned whole in
-        order_undo_died h.history fell t.history (configuration_of (open_of h)).grips (configuration_of (open_of t)).grips (held_in (open_of h)) grip.slip.device grip.slip.maker v number h.order.line t.order.line h.order.table t.order.table
-        (read_whole h whole) strong (whole.shown.configuration.ordered strong).order whole.shown.configuration.history.well_formed (whole.shown.configuration.grips.homed grip.slip.device.0 (ap is_some for.grip)) for.grip below
-        own.told own.undone gripped (own.number_is ∙ ap (λ x. x + 1) (counted_so h grip.slip.device.0 below whole).0) own.falls whole.order
+        order_undo_died h.history fell t.history (configuration_of (open_of h)).grips (configuration_of (open_of t)).grips (held_in (open_of h)) grip.slip.device grip.slip.maker v events.fell h.order.line t.order.line h.order.table t.order.table
+        (read_whole h whole) strong (whole.shown.configuration.ordered strong).order whole.shown.configuration.history.well_formed (whole.shown.configuration.grips.homed grip.slip.device.0 (ap is_some for.grip)) for.grip for.below
+        own.told own.undone gripped (fallen_number h (ForUndo v) tag grip grip.slip events returned own.falls whole) own.order whole.order

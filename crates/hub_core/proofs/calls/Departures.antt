@@ -268,20 +268,6 @@ pub gone_carries : {D : Type 0} (s : OpenHub D) (r d left t : ℕ) (purpose : Ke
     → (state_of (gone s d purpose left slip task t)).carried ≡ carrying (state_of s) r d (purpose_of purpose) slip
 gone_carries s r d left t purpose slip task does within = carried_set s.places d (Out slip task) within ∙ ap (λ x. put (state_of s).carried d (Some (record { slip = slip; task = x }))) does
 
--- What the gate does as it hands the device out
-pub record IsSent {D : Type 0} (turns probes faults : D → ℕ) (places : List (Place D)) (tickets r d held : ℕ) (task : Task) (grip : Gripped D Ready) (after : List (Place D)) (number : ℕ) : Type 0 where
-  pub at : slice_get places d ≡ Some (Home grip.device)
-  pub after_is : after ≡ slice_set places d (Out grip.slip task)
-  pub number_is : number ≡ tickets + 1
-  pub does : grip.task ≡ task
-  pub device : grip.slip.device.0 ≡ d
-  pub maker : grip.slip.maker ≡ r
-  pub ticket : grip.slip.ticket ≡ tickets + 1
-  pub stood : grip.slip.stood ≡ held
-  pub had_turns : grip.slip.turns ≡ turns grip.device
-  pub had_probes : grip.slip.probes ≡ probes grip.device
-  pub had_faults : grip.slip.faults ≡ faults grip.device
-
--- so its grip is the next one
+-- its grip is the next one
 pub next_grip : {D : Type 0} (s t : OpenHub D) (grip : Gripped D Ready) (d : ℕ) → grip.slip.device.0 ≡ d → grip.slip.ticket ≡ s.tickets + 1 → t.tickets ≡ s.tickets + 1 → grip.slip.stood ≡ held_in s d → IsNextGrip s grip t
 next_grip s t grip d device ticket tickets stood = record { ticket = ticket; tickets = tickets; stood = stood ∙ ap (held_in s) (sym device) }

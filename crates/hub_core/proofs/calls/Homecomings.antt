@@ -1,55 +1,66 @@
--- A device that comes home keeps what the type of a hub keeps, whoever's grip it was.
-use Rattle.device_gate.specs.Calls.{probed}
+-- A device that comes home keeps what the type of a hub keeps, whoever's grip it was, and is the step that it says.
+use Rattle.device_gate.specs.Calls.{has_died, held_after, probed, value_after}
+use Rattle.device_gate.specs.Grips.{Gripped, WasCalled}
 use Rattle.device_gate.specs.Places.{IsKept}
 use Rattle.device_gate.specs.declared.gates.Place.TheVariants.{Home, Out}
 use Rattle.device_gate.specs.declared.gates.Place.{Place}
+use Rattle.device_gate.specs.declared.grips.Done.{Done}
 use Rattle.device_gate.specs.declared.slips.Slip.{Slip}
 use Rattle.device_gate.specs.declared.slips.Task.{Task}
 use Rattle.device_gate.specs.declared.slips.Told.{Told}
-use Rattle.history_book.specs.Histories.{entries_of, kept_by}
-use Rattle.device_gate.specs.Grips.{Gripped}
-use Rattle.device_gate.specs.declared.grips.Done.{Done}
-use Rattle.history_book.specs.Readings.{put}
+use Rattle.history_book.proofs.Counts.{fell_is}
+use Rattle.history_book.specs.Histories.{entries_made, entries_of, kept_by}
+use Rattle.history_book.specs.Readings.{Reading, put}
 use Rattle.history_book.specs.Settings.{Setting}
 use Rattle.history_book.specs.WellFormed.{IsWellFormed}
 use Rattle.history_book.specs.declared.entries.Entry.{Entry}
+use Rattle.history_book.specs.declared.entries.Made.{Made}
 use Rattle.home_types.specs.Kinds.{has_value, kind_at}
 use Rattle.hub_core.proofs.calls.Departures.{one_for, other_home, other_out, taken_same}
-use Rattle.hub_core.proofs.calls.HubChanges.{length_with}
-use Rattle.hub_core.proofs.calls.HubStates.{carried_set, device_here, device_there, grips_set, known_same, known_set}
-use Rattle.hub_core.proofs.kept.HubReads.{get_set}
-use Rattle.hub_core.proofs.kept.Sizes.{history_fits}
+use Rattle.hub_core.proofs.calls.HubChanges.{events_same, length_with}
+use Rattle.hub_core.proofs.calls.HubStates.{carried_set, device_here, device_there, grips_set, kept_is, known_same, known_set}
+use Rattle.hub_core.proofs.calls.OutFor.{IsFor, brings_back, entries_for, out_for, some_entry, value_same}
+use Rattle.hub_core.proofs.kept.Hands.{hands_come}
+use Rattle.hub_core.proofs.kept.HubReads.{get_set, run_place}
+use Rattle.hub_core.proofs.kept.KeptByModel.{given_kept}
+use Rattle.hub_core.proofs.kept.Sizes.{few_events, history_fits}
 use Rattle.legal_days.proofs.Lists.{count_cons}
+use Rattle.hub_core.proofs.steps.Calls.{calls_told, falls_of, give_calls, give_counted, give_down, give_falls, give_registers, give_rises, is_up_for, rises_of}
 use Rattle.legal_days.specs.AccountedCalls.{told_calls, told_falls}
+use Rattle.hub_core.specs.Away.{IsHomeAgain, MayComeHome, events_after, known_after, turned, with_hand}
 use Rattle.hub_core.specs.Bounds.{most_entries}
 use Rattle.hub_core.specs.Homes.{CountsAreLow}
-use Rattle.hub_core.specs.HubCalls.{SameWindow}
-use Rattle.hub_core.specs.KeptByModel.{IsKeptByModel}
-use Rattle.hub_core.specs.HubSteps.{Carried, Gave, HubState, give_if}
+use Rattle.hub_core.specs.HubCalls.{IsGiven, IsPacked, IsProbeGiven, SameWindow, carried_by}
+use Rattle.hub_core.specs.HubKept.{is_of_run}
+use Rattle.hub_core.specs.HubSteps.{Carried, Gave, Given, HubState, Returned, give, give_if, give_probe, task_of}
 use Rattle.hub_core.specs.HubsKept.{FitsAtHome, HandsAre, HasRoomLeft, HubIsKept, IsWhole, all_probes_taken, is_away, open_of}
+use Rattle.hub_core.specs.KeptByModel.{IsKeptByModel}
 use Rattle.hub_core.specs.KeptOrders.{OrderIsBeside}
-use Rattle.hub_core.specs.ReadHistories.{HistoryState, with_more}
-use Rattle.hub_core.specs.declared.open_windows.OpenWindow.TheInside.{Inside}
-use Rattle.hub_core.specs.OpenHubs.{OpenHub, configuration_of, device_at, events_in, grip_in, held_in, state_of}
-use Rattle.hub_core.specs.Steps.{after_give, give_entries, with_entries, with_grip}
+use Rattle.hub_core.specs.OpenHubs.{OpenHub, configuration_of, device_at, events_in, grip_in, held_in, purpose_of, state_of}
+use Rattle.hub_core.specs.ReadHistories.{HistoryState, read_in, with_more}
+use Rattle.hub_core.specs.Steps.{after_give, at_moment, give_entries, with_entries, with_grip}
 use Rattle.hub_core.specs.declared.known.DeviceProgress.{DeviceProgress}
 use Rattle.hub_core.specs.declared.known.Events.{Events}
-use Rattle.lock_leasing.specs.Configurations.{Configuration, Grip, Grips, read_of}
+use Rattle.hub_core.specs.declared.open_windows.OpenWindow.TheInside.{Inside}
+use Rattle.hub_core.specs.declared.purposes.Purpose.{Purpose as KeptPurpose}
+use Rattle.lock_leasing.specs.Configurations.{Commands, Configuration, Grip, Grips, Probes, Purpose, Undoes, read_of}
 use Rattle.std.proofs.Common.{ap, arith, inl, inr, refl, subst, sym, ◌∙◌}
+use Rattle.std.proofs.lemmas.Bool.{eq-eqb, lt-ltb, ne_eqb}
+use Rattle.std.proofs.lemmas.Grind.{common_steps}
 use Rattle.std.proofs.lemmas.List.{length-set}
 use Rattle.std.proofs.lemmas.Option.{same_Some, slice_get_within}
-use Rattle.std.specs.Prelude.{Bool, IsTrue, List, None, Option, Some, [], count_by, false, length, nat_lt, option_map, slice_get, slice_set, suc, true, unwrap_or, zero, ℕ, ⊤, ◌++◌, ◌+◌, ◌-◌, ◌<◌, ◌∷◌, ◌≡◌, ◌≢◌, ◌≤◌}
+use Rattle.std.specs.Prelude.{Bool, IfSome, IsTrue, List, None, Ok, Option, Some, [], count_by, false, if◌then◌else◌, length, max, nat_lt, option_map, slice_get, slice_set, suc, true, unwrap_or, zero, ℕ, ⊤, ◌&&◌, ◌*◌, ◌++◌, ◌+◌, ◌-◌, ◌<◌, ◌==◌, ◌∷◌, ◌≡◌, ◌≢◌, ◌≤◌}
 
 -- The device is home again
 
--- with these entries, at this moment: it is known to stand at this value, and how often it has failed and come back
-abbrev pub back : {D : Type 0} → OpenHub D → Slip → List Entry → D → ℕ → Events → ℕ → OpenHub D
-back s slip entries device v events t =
+-- with these entries, at this moment: what is known of it is what its task and what it told say
+abbrev pub back : {D : Type 0} → OpenHub D → Gripped D Done → List Entry → ℕ → OpenHub D
+back s grip entries t =
     record s {
-      history = s.history ++ kept_by slip.maker entries;
+      history = s.history ++ kept_by grip.slip.maker entries;
       moment = t;
-      devices = slice_set s.devices slip.device.0 (record (device_at s.devices slip.device.0) { held = v; events = events });
-      places = slice_set s.places slip.device.0 (Home device);
+      devices = slice_set s.devices grip.slip.device.0 (known_after grip.task grip.stage.told (device_at s.devices grip.slip.device.0));
+      places = slice_set s.places grip.slip.device.0 (Home grip.device);
       tickets = s.tickets;
     }
 
@@ -57,19 +68,23 @@ back s slip entries device v events t =
 abbrev pub after_back : {D : Type 0} → OpenHub D → Slip → List Entry → ℕ → Configuration
 after_back s slip entries t = with_grip (with_entries (record (configuration_of s) { moment = t }) slip.maker entries) slip.device.0 None
 
-pub back_configuration : {D : Type 0} (s : OpenHub D) (slip : Slip) (entries : List Entry) (device : D) (v : ℕ) (events : Events) (t : ℕ) → slip.device.0 < length s.places → slip.device.0 < length s.devices → configuration_of (back s slip entries device v events t) ≡ after_back s slip entries t
-back_configuration s slip entries device v events t within known =
-    let d = slip.device.0 in
-    let known_now = record (device_at s.devices d) { held = v; events = events } in
-    let probes : ◌≡◌ {A = ℕ → ℕ} (λ e. (device_at (slice_set s.devices d known_now) e).probes_left) (λ e. (device_at s.devices e).probes_left) = λ i e. known_same (λ (p : DeviceProgress). p.probes_left) s.devices d known_now known refl e i in
-    let grips : ◌≡◌ {A = ℕ → Option Grip} (λ e. grip_in (slice_get (slice_set s.places d (Home device)) e) (device_at (slice_set s.devices d known_now) e).purpose) (put (configuration_of s).grips d None) = grips_set s.places s.devices d (Home device) known_now within known in
-    λ i. record { setting = s.setting; history = s.history ++ kept_by slip.maker entries; moment = t; probes = probes i; grips = grips i }
+-- where the device is known to stand then
+abbrev pub held_back : {D : Type 0} → OpenHub D → Gripped D Done → ℕ
+held_back s grip = held_after grip.stage.told grip.task (held_in s grip.slip.device.0)
 
-pub back_state : {D : Type 0} (s : OpenHub D) (slip : Slip) (entries : List Entry) (device : D) (v : ℕ) (events : Events) (t : ℕ) → slip.device.0 < length s.places → slip.device.0 < length s.devices
-    → state_of (back s slip entries device v events t) ≡ record { configuration = after_back s slip entries t; carried = put (state_of s).carried slip.device.0 None }
-back_state s slip entries device v events t within known =
-    let configuration = back_configuration s slip entries device v events t within known in
-    let carried = carried_set s.places slip.device.0 (Home device) within in
+back_configuration : {D : Type 0} (s : OpenHub D) (grip : Gripped D Done) (entries : List Entry) (t : ℕ) → grip.slip.device.0 < length s.places → grip.slip.device.0 < length s.devices → configuration_of (back s grip entries t) ≡ after_back s grip.slip entries t
+back_configuration s grip entries t within known =
+    let d = grip.slip.device.0 in
+    let known_now = known_after grip.task grip.stage.told (device_at s.devices d) in
+    let probes : ◌≡◌ {A = ℕ → ℕ} (λ e. (device_at (slice_set s.devices d known_now) e).probes_left) (λ e. (device_at s.devices e).probes_left) = λ i e. known_same (λ (p : DeviceProgress). p.probes_left) s.devices d known_now known refl e i in
+    let grips : ◌≡◌ {A = ℕ → Option Grip} (λ e. grip_in (slice_get (slice_set s.places d (Home grip.device)) e) (device_at (slice_set s.devices d known_now) e).purpose) (put (configuration_of s).grips d None) = grips_set s.places s.devices d (Home grip.device) known_now within known in
+    λ i. record { setting = s.setting; history = s.history ++ kept_by grip.slip.maker entries; moment = t; probes = probes i; grips = grips i }
+
+back_state : {D : Type 0} (s : OpenHub D) (grip : Gripped D Done) (entries : List Entry) (t : ℕ) → grip.slip.device.0 < length s.places → grip.slip.device.0 < length s.devices
+    → state_of (back s grip entries t) ≡ record { configuration = after_back s grip.slip entries t; carried = put (state_of s).carried grip.slip.device.0 None }
+back_state s grip entries t within known =
+    let configuration = back_configuration s grip entries t within known in
+    let carried = carried_set s.places grip.slip.device.0 (Home grip.device) within in
     λ i. record { configuration = configuration i; carried = carried i }
 
 -- how many are out for a run when one is home again
@@ -90,67 +105,67 @@ count_back (p ∷ places) (suc d) device slip task at =
     omega (arith, now, before, rest)
 
 -- what the step back makes of its device and its history: what is kept of the configuration, where the device stands, and how its counts rose; all else is as before
-pub record ComesBack {D : Type 0} (stands turns probes faults : D → ℕ) (s : OpenHub D) (slip : Slip) (task : Task) (entries : List Entry) (device : D) (v : ℕ) (events : Events) (t : ℕ) : Type 0 where
-  pub configuration : IsKeptByModel (after_back s slip entries t) s.rounds s.opened (put (held_in s) slip.device.0 v)
-  pub value : IsTrue (has_value (kind_at s.setting.kinds slip.device.0) v)
-  pub stand : (read_of (after_back s slip entries t)).up slip.device.0 ≡ true → stands device ≡ v
-  pub turns_rose : turns device + told_calls s.setting.runs (entries_of s.history) slip.device.0 ≡ slip.turns + told_calls s.setting.runs (entries_of (after_back s slip entries t).history) slip.device.0
-  pub probes_rose : probes device ≡ slip.probes + probed task
-  pub falls_told : told_falls (entries_of (after_back s slip entries t).history) slip.device.0 + slip.faults ≤ faults device + told_falls (entries_of s.history) slip.device.0
-  pub few_faults : faults device + told_falls (entries_of s.history) slip.device.0 ≤ slip.faults + probed task + told_falls (entries_of (after_back s slip entries t).history) slip.device.0
-  pub counted : events ≡ events_in (read_of (after_back s slip entries t)) slip.device.0
-  pub calls_other : (e : ℕ) → e ≢ slip.device.0 → told_calls s.setting.runs (entries_of (after_back s slip entries t).history) e ≡ told_calls s.setting.runs (entries_of s.history) e
-  pub falls_other : (e : ℕ) → e ≢ slip.device.0 → told_falls (entries_of (after_back s slip entries t).history) e ≡ told_falls (entries_of s.history) e
-  pub events_other : (e : ℕ) → e ≢ slip.device.0 → events_in (read_of (after_back s slip entries t)) e ≡ events_in (read_of (configuration_of s)) e
-  pub up_other : (e : ℕ) → e ≢ slip.device.0 → (read_of (after_back s slip entries t)).up e ≡ (read_of (configuration_of s)).up e
-  pub register : (e : ℕ) (other : Slip) (does : Task) → e ≢ slip.device.0 → slice_get s.places e ≡ Some (Out other does) → ((read_of (configuration_of s)).run other.maker).register ≡ ((read_of (after_back s slip entries t)).run other.maker).register
+pub record ComesBack {D : Type 0} (stands turns probes faults : D → ℕ) (s : OpenHub D) (grip : Gripped D Done) (entries : List Entry) (t : ℕ) : Type 0 where
+  pub configuration : IsKeptByModel (after_back s grip.slip entries t) s.rounds s.opened (put (held_in s) grip.slip.device.0 (held_back s grip))
+  pub value : IsTrue (has_value (kind_at s.setting.kinds grip.slip.device.0) (held_back s grip))
+  pub stand : (read_of (after_back s grip.slip entries t)).up grip.slip.device.0 ≡ true → stands grip.device ≡ held_back s grip
+  pub turns_rose : turns grip.device + told_calls s.setting.runs (entries_of s.history) grip.slip.device.0 ≡ grip.slip.turns + told_calls s.setting.runs (entries_of (after_back s grip.slip entries t).history) grip.slip.device.0
+  pub probes_rose : probes grip.device ≡ grip.slip.probes + probed grip.task
+  pub falls_told : told_falls (entries_of (after_back s grip.slip entries t).history) grip.slip.device.0 + grip.slip.faults ≤ faults grip.device + told_falls (entries_of s.history) grip.slip.device.0
+  pub few_faults : faults grip.device + told_falls (entries_of s.history) grip.slip.device.0 ≤ grip.slip.faults + probed grip.task + told_falls (entries_of (after_back s grip.slip entries t).history) grip.slip.device.0
+  pub counted : events_after grip.task grip.stage.told (device_at s.devices grip.slip.device.0).events ≡ events_in (read_of (after_back s grip.slip entries t)) grip.slip.device.0
+  pub calls_other : (e : ℕ) → e ≢ grip.slip.device.0 → told_calls s.setting.runs (entries_of (after_back s grip.slip entries t).history) e ≡ told_calls s.setting.runs (entries_of s.history) e
+  pub falls_other : (e : ℕ) → e ≢ grip.slip.device.0 → told_falls (entries_of (after_back s grip.slip entries t).history) e ≡ told_falls (entries_of s.history) e
+  pub events_other : (e : ℕ) → e ≢ grip.slip.device.0 → events_in (read_of (after_back s grip.slip entries t)) e ≡ events_in (read_of (configuration_of s)) e
+  pub up_other : (e : ℕ) → e ≢ grip.slip.device.0 → (read_of (after_back s grip.slip entries t)).up e ≡ (read_of (configuration_of s)).up e
+  pub register : (e : ℕ) (other : Slip) (does : Task) → e ≢ grip.slip.device.0 → slice_get s.places e ≡ Some (Out other does) → ((read_of (configuration_of s)).run other.maker).register ≡ ((read_of (after_back s grip.slip entries t)).run other.maker).register
   -- a run's step tells something
-  pub ticket : one_for (nat_lt 0 slip.maker) ≤ length entries
+  pub ticket : one_for (nat_lt 0 grip.slip.maker) ≤ length entries
 
-pub back_kept : {D : Type 0} (stands turns probes faults : D → ℕ) (s : OpenHub D) (slip : Slip) (task : Task) (entries : List Entry) (device : D) (v : ℕ) (events : Events) (t : ℕ)
-    → IsKept s.places slip task → slip.device.0 < length s.devices → ComesBack stands turns probes faults s slip task entries device v events t
-    → HubIsKept stands turns probes faults s → HubIsKept stands turns probes faults (back s slip entries device v events t)
-back_kept {D = D} stands turns probes faults s slip task entries device v events t at known back' kept =
+back_kept : {D : Type 0} (stands turns probes faults : D → ℕ) (s : OpenHub D) (grip : Gripped D Done) (entries : List Entry) (t : ℕ)
+    → IsKept s.places grip.slip grip.task → grip.slip.device.0 < length s.devices → ComesBack stands turns probes faults s grip entries t
+    → HubIsKept stands turns probes faults s → HubIsKept stands turns probes faults (back s grip entries t)
+back_kept {D = D} stands turns probes faults s grip entries t at known back' kept =
     record {
       configuration = now;
       devices_size = length-set s.devices d known_now ∙ kept.devices_size;
-      places_size = length-set s.places d (Home device) ∙ kept.places_size;
-      home = λ e other there. elim (get_set s.places d e (Home device) within) [
-        | inl p ↦ subst (λ (x : Place D). IsFitting e x) (same_Some (Home device) (Home other) (sym p.1 ∙ there)) (subst (λ x. IsFitting x (Home device)) (sym p.0) comes)
+      places_size = length-set s.places d (Home grip.device) ∙ kept.places_size;
+      home = λ e other there. elim (get_set s.places d e (Home grip.device) within) [
+        | inl p ↦ subst (λ (x : Place D). IsFitting e x) (same_Some (Home grip.device) (Home other) (sym p.1 ∙ there)) (subst (λ x. IsFitting x (Home grip.device)) (sym p.0) comes)
         | inr q ↦ other_home stands turns probes faults s after.history t _ _ _ e other (device_there s.devices d e known_now q.0) (back'.calls_other e q.0) (back'.falls_other e q.0) (back'.up_other e q.0) (kept.home e other (sym q.1 ∙ there))
       ];
-      out = λ e other does there. elim (get_set s.places d e (Home device) within) [
-        | inl p ↦ absurd (let both : Some (Home device) ≡ Some (Out other does) = sym p.1 ∙ there in cc)
+      out = λ e other does there. elim (get_set s.places d e (Home grip.device) within) [
+        | inl p ↦ absurd (let both : Some (Home grip.device) ≡ Some (Out other does) = sym p.1 ∙ there in cc)
         | inr q ↦ other_out s after.history t _ _ _ e other does (device_there s.devices d e known_now q.0) (back'.calls_other e q.0) (back'.falls_other e q.0) (back'.register e other does q.0 (sym q.1 ∙ there)) (kept.out e other does (sym q.1 ∙ there))
       ];
       low = λ e. subst (λ (c : _). CountsAreLow s.opened c.turns c.probes c.faults) (sym (known_same (λ (p : DeviceProgress). p.at_opening) s.devices d known_now known refl e)) (kept.low e);
-      values = λ e home. elim (get_set s.places d e (Home device) within) [
+      values = λ e home. elim (get_set s.places d e (Home grip.device) within) [
         | inl p ↦ subst (λ x. IsTrue (has_value (kind_at s.setting.kinds x) (held_in after x))) (sym p.0) (subst (λ x. IsTrue (has_value (kind_at s.setting.kinds d) x)) (sym (ap (λ (p : DeviceProgress). p.held) here)) back'.value)
         | inr q ↦ subst (λ x. IsTrue (has_value (kind_at s.setting.kinds e) x)) (sym (ap (λ (p : DeviceProgress). p.held) (device_there s.devices d e known_now q.0))) (kept.values e home)
       ];
-      events = λ e below. elim (get_set s.places d e (Home device) within) [
+      events = λ e below. elim (get_set s.places d e (Home grip.device) within) [
         | inl p ↦ subst (λ x. (device_at after.devices x).events ≡ events_in (read_of (configuration_of after)) x) (sym p.0) (ap (λ (p : DeviceProgress). p.events) here ∙ back'.counted)
         | inr q ↦ ap (λ (p : DeviceProgress). p.events) (device_there s.devices d e known_now q.0) ∙ kept.events e below ∙ sym (back'.events_other e q.0)
       ];
       few_tickets =
           let few : s.tickets ≤ length s.history + count_by is_away s.places + all_probes_taken s = kept.few_tickets in
           let taken = taken_same s.rounds s.devices d known_now refl known in
-          let less = count_back s.places d device slip task at in
-          let more = length_with s.history slip.maker entries in
+          let less = count_back s.places d grip.device grip.slip grip.task at in
+          let more = length_with s.history grip.slip.maker entries in
           omega (arith, few, less, more, back'.ticket, taken);
     }
   where
     d : ℕ
-    d = slip.device.0
+    d = grip.slip.device.0
 
     known_now : DeviceProgress
-    known_now = record (device_at s.devices d) { held = v; events = events }
+    known_now = known_after grip.task grip.stage.told (device_at s.devices d)
 
     after : OpenHub D
-    after = back s slip entries device v events t
+    after = back s grip entries t
 
     within : d < length s.places
-    within = slice_get_within s.places d (Out slip task) at
+    within = slice_get_within s.places d (Out grip.slip grip.task) at
 
     here : device_at (slice_set s.devices d known_now) d ≡ known_now
     here = device_here s.devices d known_now known
@@ -161,77 +176,283 @@ back_kept {D = D} stands turns probes faults s slip task entries device v events
 
     now : IsKeptByModel (configuration_of after) s.rounds s.opened (held_in after)
     now =
-        subst (λ (c : Configuration). IsKeptByModel c s.rounds s.opened (held_in after)) (sym (back_configuration s slip entries device v events t within known))
-        (subst (λ h. IsKeptByModel (after_back s slip entries t) s.rounds s.opened h) (sym (known_set (λ (p : DeviceProgress). p.held) s.devices d known_now known)) back'.configuration)
+        subst (λ (c : Configuration). IsKeptByModel c s.rounds s.opened (held_in after)) (sym (back_configuration s grip entries t within known))
+        (subst (λ h. IsKeptByModel (after_back s grip.slip entries t) s.rounds s.opened h) (sym (known_set (λ (p : DeviceProgress). p.held) s.devices d known_now known)) back'.configuration)
 
-    comes : FitsAtHome stands turns probes faults after d device
+    comes : FitsAtHome stands turns probes faults after d grip.device
     comes =
-        let fits = kept.out d slip task at in
+        let fits = kept.out d grip.slip grip.task at in
         record {
           stand = λ up. back'.stand up ∙ ap (λ (p : DeviceProgress). p.held) (sym here);
           turns_are =
-              let had : slip.turns ≡ (device_at s.devices d).at_opening.turns + told_calls s.setting.runs (entries_of s.history) d = fits.turns_are in
+              let had : grip.slip.turns ≡ (device_at s.devices d).at_opening.turns + told_calls s.setting.runs (entries_of s.history) d = fits.turns_are in
               let same : (device_at after.devices d).at_opening.turns ≡ (device_at s.devices d).at_opening.turns = ap (λ (p : DeviceProgress). p.at_opening.turns) here in
-              let rose : turns device + told_calls s.setting.runs (entries_of s.history) d ≡ slip.turns + told_calls s.setting.runs (entries_of after.history) d = back'.turns_rose in
+              let rose : turns grip.device + told_calls s.setting.runs (entries_of s.history) d ≡ grip.slip.turns + told_calls s.setting.runs (entries_of after.history) d = back'.turns_rose in
               omega (arith, rose, had, same);
           probes_are = back'.probes_rose ∙ fits.probes_are ∙ ap (λ (p : DeviceProgress). p.at_opening.probes + (s.rounds - p.probes_left)) (sym here);
-          falls_told = subst (λ (p : DeviceProgress). p.at_opening.faults + told_falls (entries_of after.history) d ≤ faults device) (sym here)
-              (let had : (device_at s.devices d).at_opening.faults + told_falls (entries_of s.history) d ≤ slip.faults = fits.falls_told in
-              let rose : told_falls (entries_of after.history) d + slip.faults ≤ faults device + told_falls (entries_of s.history) d = back'.falls_told in
+          falls_told = subst (λ (p : DeviceProgress). p.at_opening.faults + told_falls (entries_of after.history) d ≤ faults grip.device) (sym here)
+              (let had : (device_at s.devices d).at_opening.faults + told_falls (entries_of s.history) d ≤ grip.slip.faults = fits.falls_told in
+              let rose : told_falls (entries_of after.history) d + grip.slip.faults ≤ faults grip.device + told_falls (entries_of s.history) d = back'.falls_told in
               omega (arith, had, rose));
-          few_faults = subst (λ (p : DeviceProgress). faults device ≤ p.at_opening.faults + told_falls (entries_of after.history) d + (s.rounds - p.probes_left)) (sym here)
-              (let had : slip.faults + probed task ≤ (device_at s.devices d).at_opening.faults + told_falls (entries_of s.history) d + (s.rounds - (device_at s.devices d).probes_left) = fits.few_faults in
-              let rose : faults device + told_falls (entries_of s.history) d ≤ slip.faults + probed task + told_falls (entries_of after.history) d = back'.few_faults in
+          few_faults = subst (λ (p : DeviceProgress). faults grip.device ≤ p.at_opening.faults + told_falls (entries_of after.history) d + (s.rounds - p.probes_left)) (sym here)
+              (let had : grip.slip.faults + probed grip.task ≤ (device_at s.devices d).at_opening.faults + told_falls (entries_of s.history) d + (s.rounds - (device_at s.devices d).probes_left) = fits.few_faults in
+              let rose : faults grip.device + told_falls (entries_of s.history) d ≤ grip.slip.faults + probed grip.task + told_falls (entries_of after.history) d = back'.few_faults in
               omega (arith, had, rose));
         }
 
+-- What it told
+
+-- another device is not out for the same run
+other_maker : {D : Type 0} (stands turns probes faults : D → ℕ) (s : OpenHub D) (slip : Slip) (task : Task) (purpose : Purpose) (e : ℕ) (other : Slip) (does : Task) → HubIsKept stands turns probes faults s → IsFor s slip task purpose → is_of_run purpose ≡ true → e ≢ slip.device.0 → slice_get s.places e ≡ Some (Out other does) → other.maker ≢ slip.maker
+other_maker stands turns probes faults s slip task purpose e other does kept for of_run apart there same =
+    apart (kept.configuration.grips.runs.one e slip.device.0 (slip.maker - 1) (purpose_of (device_at s.devices e).purpose) purpose
+    (ap (λ o. grip_in o (device_at s.devices e).purpose) there ∙ ap (λ m. Some (record { maker = m; purpose = purpose_of (device_at s.devices e).purpose })) (same ∙ first))
+    (for.grip ∙ ap (λ m. Some (record { maker = m; purpose = purpose })) first))
+  where
+    first : slip.maker ≡ suc (slip.maker - 1)
+    first = (run_place s.setting.runs slip.maker (for.run of_run)).0
+
+plus_none : (n : ℕ) → n ≡ n + 0
+plus_none n = omega arith
+
+-- the counts of its failures and restarts
+turned_is : (up died : Bool) (e : Events) → turned up died e ≡ record { fell = e.fell + falls_of up died; rose = e.rose + rises_of up died }
+turned_is true true e = λ i. record { fell = e.fell + 1; rose = plus_none e.rose i }
+turned_is true false e = λ i. record { fell = plus_none e.fell i; rose = plus_none e.rose i }
+turned_is false true e = λ i. record { fell = plus_none e.fell i; rose = plus_none e.rose i }
+turned_is false false e = λ i. record { fell = plus_none e.fell i; rose = e.rose + 1 }
+
+-- where the call lived the device is as the task leaves it; where it died it is counted down
+pub comes_back : {D : Type 0} (stands turns probes faults : D → ℕ) (s : OpenHub D) (grip : Gripped D Done) (purpose : Purpose) (t tag : ℕ)
+    → IsFor s grip.slip grip.task purpose → WasCalled grip.stage.told grip.task grip.slip tag (stands grip.device) (turns grip.device) (probes grip.device) (faults grip.device) → s.moment ≤ t
+    → HubIsKept stands turns probes faults s → ComesBack stands turns probes faults s grip (entries_for s grip purpose) t
+comes_back {D = D} stands turns probes faults s grip purpose t tag for called later kept =
+    record {
+      configuration = given_kept (configuration_of s) s.rounds s.opened (held_in s) d t (held_back s grip) out told for.grip (brings_back s grip.slip grip.task purpose told for called.fits) (λ died. ap (λ b. if b then held_in s d else value_after grip.task (held_in s d)) died) fits later kept.configuration;
+      value = fits;
+      stand = by_told (has_died told) refl;
+      turns_rose =
+          let rose : turns grip.device ≡ grip.slip.turns + calls_told purpose told = called.turns_rose ∙ ap (λ k. grip.slip.turns + (if has_died told then 0 else k)) for.calls in
+          omega (arith, rose, told_here);
+      probes_rose = called.probes_rose;
+      falls_told = let most = falls_most (is_up_for purpose) (has_died told) in omega (arith, called.faults_rose, falls_here, most);
+      few_faults = let most = few_falls purpose (has_died told) for.does in omega (arith, called.faults_rose, falls_here, most);
+      counted = (λ i. turned (for.up i) (has_died told) (kept.events d for.below i)) ∙ turned_is (is_up_for purpose) (has_died told) (events_in n d) ∙ (λ i. record { fell = fell_here i; rose = sym (give_rises (configuration_of s) d out told for.on) i });
+      calls_other = λ e other. give_calls (configuration_of s) d e out told for.on ∙ more_other (told_calls s.setting.runs (entries_of s.history) e) (calls_told purpose told) e other;
+      falls_other = falls_other;
+      events_other = λ e other. events_same s.setting (entries_of s.history) (entries_of after.history) e (falls_other e other) (ap (λ c. c.1) (give_counted (configuration_of s) d e out told for.on other));
+      up_other = λ e other. ap (λ c. c.0) (give_counted (configuration_of s) d e out told for.on other);
+      register = λ e x does other there. sym (give_registers (configuration_of s) d x.maker out told (λ of_run. other_maker stands turns probes faults s grip.slip grip.task purpose e x does kept for of_run other there));
+      ticket = subst (λ b. one_for b ≤ length (entries_for s grip purpose)) for.maker (some_entry s grip purpose);
+    }
+  where
+    d : ℕ
+    d = grip.slip.device.0
+
+    told : Told
+    told = grip.stage.told
+
+    n : Reading
+    n = read_of (configuration_of s)
+
+    out : Grip
+    out = record { maker = grip.slip.maker; purpose = purpose }
+
+    after : Configuration
+    after = after_back s grip.slip (entries_for s grip purpose) t
+
+    fits : IsTrue (has_value (kind_at s.setting.kinds d) (held_back s grip))
+    fits = by_death (has_died told)
+      where
+        by_death : (b : Bool) → IsTrue (has_value (kind_at s.setting.kinds d) (if b then held_in s d else value_after grip.task (held_in s d)))
+        by_death true = kept.values d for.below
+        by_death false = for.value
+
+    by_told : (b : Bool) → has_died told ≡ b → (read_of after).up d ≡ true → stands grip.device ≡ held_back s grip
+    by_told true died up = absurd (let both : true ≡ false = sym up ∙ give_down (configuration_of s) d out told for.on died in cc)
+    by_told false lives up = subst (λ b. IfSome (if b then None else Some (value_after grip.task grip.slip.stood)) (λ v. stands grip.device ≡ v)) lives called.stands_there ∙ value_same grip.task grip.slip.stood (held_in s d) for.stood ∙ sym (ap (λ b. if b then held_in s d else value_after grip.task (held_in s d)) lives)
+
+    -- what is more of this device alone
+    more_other : (x k e : ℕ) → e ≢ d → x + (if d == e then k else 0) ≡ x
+    more_other x k e other = ap (λ b. x + (if b then k else 0)) (ne_eqb d e (λ p. other (sym p))) ∙ sym (plus_none x)
+
+    more_here : (x k : ℕ) → x + (if d == d then k else 0) ≡ x + k
+    more_here x k = ap (λ b. x + (if b then k else 0)) (eq-eqb d d refl)
+
+    told_here : told_calls s.setting.runs (entries_of after.history) d ≡ told_calls s.setting.runs (entries_of s.history) d + calls_told purpose told
+    told_here = give_calls (configuration_of s) d d out told for.on ∙ more_here (told_calls s.setting.runs (entries_of s.history) d) (calls_told purpose told)
+
+    falls_other : (e : ℕ) → e ≢ d → told_falls (entries_of after.history) e ≡ told_falls (entries_of s.history) e
+    falls_other e other = give_falls (configuration_of s) d e out told for.on ∙ more_other (told_falls (entries_of s.history) e) (falls_of (is_up_for purpose) (has_died told)) e other
+
+    falls_here : told_falls (entries_of after.history) d ≡ told_falls (entries_of s.history) d + falls_of (is_up_for purpose) (has_died told)
+    falls_here = give_falls (configuration_of s) d d out told for.on ∙ more_here (told_falls (entries_of s.history) d) (falls_of (is_up_for purpose) (has_died told))
+
+    fell_here : n.fell d + falls_of (is_up_for purpose) (has_died told) ≡ (read_of after).fell d
+    fell_here = ap (λ k. k + falls_of (is_up_for purpose) (has_died told)) (fell_is s.setting (entries_of s.history) d) ∙ sym falls_here ∙ sym (fell_is s.setting (entries_of after.history) d)
+
+    -- a device fails no more often than its calls do, but for the probes of one that is counted down
+    falls_most : (up died : Bool) → falls_of up died ≤ (if died then 1 else 0)
+    falls_most true true = omega arith
+    falls_most true false = omega arith
+    falls_most false true = omega arith
+    falls_most false false = omega arith
+
+    few_falls : (p : Purpose) (died : Bool) → grip.task ≡ task_of (configuration_of s) grip.slip.maker p → (if died then 1 else 0) ≤ probed grip.task + falls_of (is_up_for p) died
+    few_falls (Commands k) true is = omega arith
+    few_falls (Undoes v) true is = omega arith
+    few_falls (Probes v) true is = let one : probed grip.task ≡ 1 = ap probed is in omega (arith, one)
+    few_falls p false is = omega arith
+
 -- The parts of the hub to which it comes back
 
--- its device is one that is known
-pub known_back : {D : Type 0} {stands turns probes faults : D → ℕ} (h : Inside D) (s : OpenHub D) (slip : Slip) (task : Task) → open_of h ≡ s → IsKept s.places slip task → IsWhole stands turns probes faults h → slip.device.0 < length h.devices.items
-known_back {D = D} h s slip task seen there k =
-    let within : slip.device.0 < length h.gate.places = slice_get_within h.gate.places slip.device.0 (Out slip task) (ap (λ (x : OpenHub D). slice_get x.places slip.device.0) seen ∙ there) in
-    omega (arith, within, k.shown.devices_size, k.shown.places_size)
+-- what is known of the grip, and of its device
+pub record IsReturned {D : Type 0} (stands turns probes faults : D → ℕ) (h : Inside D) (why : KeptPurpose) (tag : ℕ) (grip : Gripped D Done) : Type 0 where
+  pub there : IsKept h.away.gate.places grip.slip grip.task
+  pub purpose : (device_at h.away.known.items grip.slip.device.0).purpose ≡ why
+  pub called : WasCalled grip.stage.told grip.task grip.slip tag (stands grip.device) (turns grip.device) (probes grip.device) (faults grip.device)
 
--- the history has a place for each entry
-pub back_places : {D : Type 0} {stands turns probes faults : D → ℕ} (h : Inside D) (slip : Slip) (task : Task) (entries : List Entry) (device : D) (v : ℕ) (events : Events) (t : ℕ)
-    → ComesBack stands turns probes faults (open_of h) slip task entries device v events t → IsWhole stands turns probes faults h → length entries ≤ h.history.spare
-back_places h slip task entries device v events t comes k =
-    let fits : length (h.history.history ++ kept_by slip.maker entries) ≤ most_entries (length h.history.setting.runs) (length h.history.setting.first) h.rounds = history_fits (after_back (open_of h) slip entries t) h.rounds h.opened (put (held_in (open_of h)) slip.device.0 v) comes.configuration in
-    let long = length_with h.history.history slip.maker entries in
-    omega (arith, fits, long, k.room.history)
-
--- it is home again with these entries, stands at this value, and has failed and come back so often; and this is the moment: so the parts change
-pub record IsBack {D : Type 0} (stands turns probes faults : D → ℕ) (h t : Inside D) (grip : Gripped D Done) (entries : List Entry) (value : ℕ) (events : Events) (moment : ℕ) : Type 0 where
-  pub there : IsKept h.gate.places grip.slip grip.task
-  pub comes : ComesBack stands turns probes faults (open_of h) grip.slip grip.task entries grip.device value events moment
-  pub moment_is : t.moment ≡ moment
-  pub devices_are : t.devices.items ≡ slice_set h.devices.items grip.slip.device.0 (record (device_at h.devices.items grip.slip.device.0) { held = value; events = events })
-  pub places_are : t.gate.places ≡ slice_set h.gate.places grip.slip.device.0 (Home grip.device)
-  pub tickets_are : t.gate.tickets ≡ h.gate.tickets
-  pub history_is : t.history ≡ with_more h.history grip.slip.maker entries
-  pub hands : HandsAre h.history.setting (put (configuration_of (open_of h)).grips grip.slip.device.0 None) t.hands.items
-  pub new : t ≡ record h { history = t.history; moment = t.moment; devices = t.devices; gate = t.gate; order = t.order; hands = t.hands }
-
--- the hub shows it
-back_shows : {D : Type 0} {stands turns probes faults : D → ℕ} (h t : Inside D) (grip : Gripped D Done) (entries : List Entry) (value : ℕ) (events : Events) (moment : ℕ) → IsBack stands turns probes faults h t grip entries value events moment → open_of t ≡ back (open_of h) grip.slip entries grip.device value events moment
-back_shows {D = D} h t grip entries value events moment is =
-    ap (λ (x : Inside D). open_of x) is.new ∙ λ i. record {
-      setting = (is.history_is i).setting;
-      rounds = h.rounds;
-      opened = h.opened;
-      history = (is.history_is i).history;
-      moment = is.moment_is i;
-      devices = is.devices_are i;
-      places = is.places_are i;
-      tickets = is.tickets_are i;
+-- .. also where it is told of what the hub shows
+pub grip_back : {D : Type 0} {stands turns probes faults : D → ℕ} (h : Inside D) (s : OpenHub D) (why : KeptPurpose) (tag : ℕ) (grip : Gripped D Done) → open_of h ≡ s → IsKept s.places grip.slip grip.task → (device_at s.devices grip.slip.device.0).purpose ≡ why
+    → WasCalled grip.stage.told grip.task grip.slip tag (stands grip.device) (turns grip.device) (probes grip.device) (faults grip.device) → IsReturned stands turns probes faults h why tag grip
+grip_back {D = D} h s why tag grip seen there for called =
+    record {
+      there = ap (λ (x : OpenHub D). slice_get x.places grip.slip.device.0) seen ∙ there;
+      purpose = ap (λ (x : OpenHub D). (device_at x.devices grip.slip.device.0).purpose) seen ∙ for;
+      called = called;
     }
 
-back_room : {D : Type 0} {stands turns probes faults : D → ℕ} (h t : Inside D) (grip : Gripped D Done) (entries : List Entry) (value : ℕ) (events : Events) (moment : ℕ) → IsBack stands turns probes faults h t grip entries value events moment → IsWhole stands turns probes faults h → HasRoomLeft h.rounds t.history h.closing
-back_room h t grip entries value events moment is k =
-    subst (λ x. HasRoomLeft h.rounds x h.closing) (sym is.history_is) (record {
+-- for what it was out
+pub returned_for : {D : Type 0} {stands turns probes faults : D → ℕ} (h : Inside D) (why : KeptPurpose) (tag : ℕ) (grip : Gripped D Done) → IsReturned stands turns probes faults h why tag grip → IsWhole stands turns probes faults h → IsFor (open_of h) grip.slip grip.task (purpose_of why)
+returned_for h why tag grip returned k = out_for _ _ _ _ (open_of h) grip.slip grip.task why k.shown returned.there returned.purpose
+
+-- the entries that its step back makes
+abbrev pub returned_entries : {D : Type 0} → OpenHub D → Gripped D Done → KeptPurpose → List Entry
+returned_entries s grip why = entries_for s grip (purpose_of why)
+
+-- how its device comes back, at the last moment or a later one
+pub returned_comes : {D : Type 0} {stands turns probes faults : D → ℕ} (h : Inside D) (t : ℕ) (why : KeptPurpose) (tag : ℕ) (grip : Gripped D Done) → IsReturned stands turns probes faults h why tag grip → h.moment ≤ t → IsWhole stands turns probes faults h
+    → ComesBack stands turns probes faults (open_of h) grip (returned_entries (open_of h) grip why) t
+returned_comes h t why tag grip returned later k = comes_back _ _ _ _ (open_of h) grip (purpose_of why) t tag (returned_for h why tag grip returned k) returned.called later k.shown
+
+-- it may
+pub may_come : {D : Type 0} {stands turns probes faults : D → ℕ} (h : Inside D) (s : OpenHub D) (grip : Gripped D Done) → open_of h ≡ s → IsKept s.places grip.slip grip.task → IsWhole stands turns probes faults h → MayComeHome h.away grip
+may_come {D = D} h s grip seen kept k =
+    record {
+      kept = there;
+      known = omega (arith, for.below, k.shown.devices_size);
+      maker = by_maker (is_of_run (purpose_of why)) refl;
+      few_fell = let counted = ap (λ (e : Events). e.fell) (k.shown.events d for.below) in omega (arith, counted, few, rounds);
+      few_rose = let counted = ap (λ (e : Events). e.rose) (k.shown.events d for.below) in omega (arith, counted, few, rounds);
+    }
+  where
+    d : ℕ
+    d = grip.slip.device.0
+
+    there : IsKept h.away.gate.places grip.slip grip.task
+    there = ap (λ (x : OpenHub D). slice_get x.places d) seen ∙ kept
+
+    why : KeptPurpose
+    why = (device_at h.away.known.items d).purpose
+
+    for : IsFor (open_of h) grip.slip grip.task (purpose_of why)
+    for = out_for _ _ _ _ (open_of h) grip.slip grip.task why k.shown there refl
+
+    few : (read_in h.history).fell d + (read_in h.history).rose d ≤ 2 * h.rounds + 1
+    few = few_events (configuration_of (open_of h)) h.rounds h.opened (held_in (open_of h)) d k.shown.configuration
+
+    rounds : h.rounds ≤ 100
+    rounds = k.shown.configuration.opens.few_rounds
+
+    by_maker : (b : Bool) → is_of_run (purpose_of why) ≡ b → grip.slip.maker ≤ length h.away.hands.items
+    by_maker true of_run = let place = run_place h.history.setting.runs grip.slip.maker (for.run of_run) in omega (arith, place.0, place.1, k.hands.size)
+    by_maker false none = let detector : nat_lt 0 grip.slip.maker ≡ false = sym for.maker ∙ none in let zero' : grip.slip.maker ≡ 0 = grind (arith, common_steps) in omega (arith, zero')
+
+-- the history has a place for each entry
+pub returned_places : {D : Type 0} {stands turns probes faults : D → ℕ} (h : Inside D) (why : KeptPurpose) (tag : ℕ) (grip : Gripped D Done) → IsReturned stands turns probes faults h why tag grip → IsWhole stands turns probes faults h → length (returned_entries (open_of h) grip why) ≤ h.history.spare
+returned_places h why tag grip returned k =
+    let entries = returned_entries (open_of h) grip why in
+    let comes = returned_comes h h.moment why tag grip returned (omega arith) k in
+    let fits : length (h.history.history ++ kept_by grip.slip.maker entries) ≤ most_entries (length h.history.setting.runs) (length h.history.setting.first) h.rounds = history_fits (after_back (open_of h) grip.slip entries h.moment) h.rounds h.opened (put (held_in (open_of h)) grip.slip.device.0 (held_back (open_of h) grip)) comes.configuration in
+    let long = length_with h.history.history grip.slip.maker entries in
+    omega (arith, fits, long, k.room.history)
+
+-- the parts when it is home again: they change, but for the history and the order
+pub record IsHome {D : Type 0} (h t : Inside D) (grip : Gripped D Done) : Type 0 where
+  pub later : h.moment ≤ t.moment
+  pub home : IsHomeAgain h.away grip t.away
+  pub new : t ≡ record h { history = t.history; moment = t.moment; away = t.away; order = t.order }
+
+-- what is known of a grip that came back, of what became of the parts, and of the entries that its step makes
+pub record CameHome {D : Type 0} (stands turns probes faults : D → ℕ) (h t : Inside D) (why : KeptPurpose) (tag : ℕ) (grip : Gripped D Done) (entries : List Entry) : Type 0 where
+  pub returned : IsReturned stands turns probes faults h why tag grip
+  pub parts : IsHome h t grip
+  pub gives : returned_entries (open_of h) grip why ≡ entries
+  pub history_is : t.history ≡ with_more h.history grip.slip.maker entries
+
+-- the hub shows it
+came_shows : {D : Type 0} {stands turns probes faults : D → ℕ} (h t : Inside D) (why : KeptPurpose) (tag : ℕ) (grip : Gripped D Done) (entries : List Entry) → CameHome stands turns probes faults h t why tag grip entries → open_of t ≡ back (open_of h) grip entries t.moment
+came_shows {D = D} h t why tag grip entries came =
+    ap (λ (x : Inside D). open_of x) came.parts.new ∙ λ i. record {
+      setting = (came.history_is i).setting;
+      rounds = h.rounds;
+      opened = h.opened;
+      history = (came.history_is i).history;
+      moment = t.moment;
+      devices = came.parts.home.known i;
+      places = came.parts.home.places i;
+      tickets = came.parts.home.tickets i;
+    }
+
+came_within : {D : Type 0} {stands turns probes faults : D → ℕ} (h t : Inside D) (why : KeptPurpose) (tag : ℕ) (grip : Gripped D Done) (entries : List Entry) → CameHome stands turns probes faults h t why tag grip entries → IsWhole stands turns probes faults h → (grip.slip.device.0 < length h.away.gate.places) × (grip.slip.device.0 < length h.away.known.items)
+came_within h t why tag grip entries came k =
+    let for = returned_for h why tag grip came.returned k in
+    (omega (arith, for.below, k.shown.places_size), omega (arith, for.below, k.shown.devices_size))
+
+-- the grips then
+came_grips : {D : Type 0} {stands turns probes faults : D → ℕ} (h t : Inside D) (why : KeptPurpose) (tag : ℕ) (grip : Gripped D Done) (entries : List Entry) → CameHome stands turns probes faults h t why tag grip entries → IsWhole stands turns probes faults h
+    → ◌≡◌ {A = Grips} (configuration_of (open_of t)).grips (put (configuration_of (open_of h)).grips grip.slip.device.0 None)
+came_grips {D = D} h t why tag grip entries came k =
+    let within = came_within h t why tag grip entries came k in
+    ap (λ (x : OpenHub D). (configuration_of x).grips) (came_shows h t why tag grip entries came)
+    ∙ ap (λ (c : Configuration). c.grips) (back_configuration (open_of h) grip entries t.moment within.0 within.1)
+
+-- what is kept is kept then, where line and table are
+pub came_whole : {D : Type 0} {stands turns probes faults : D → ℕ} (h t : Inside D) (why : KeptPurpose) (tag : ℕ) (grip : Gripped D Done) (entries : List Entry) → CameHome stands turns probes faults h t why tag grip entries
+    → (IsWellFormed t.history.setting (entries_of t.history.history) → (configuration_of (open_of t)).grips ≡ put (configuration_of (open_of h)).grips grip.slip.device.0 None → OrderIsBeside h.rounds t.history (configuration_of (open_of t)).grips t.order.line t.order.table) → IsWhole stands turns probes faults h → IsWhole stands turns probes faults t
+came_whole {D = D} {stands = stands} {turns = turns} {probes = probes} {faults = faults} h t why tag grip entries came order k =
+    subst (λ (x : Inside D). IsWhole stands turns probes faults x) (sym came.parts.new) (record {
+      shown = subst (λ (x : Inside D). HubIsKept stands turns probes faults (open_of x)) came.parts.new shown;
+      room = room;
+      order = subst (λ (x : Inside D). OrderIsBeside h.rounds t.history (configuration_of (open_of x)).grips t.order.line t.order.table) came.parts.new (order shown.configuration.history.well_formed grips);
+      hands = subst (λ (x : Inside D). HandsAre t.history.setting (configuration_of (open_of x)).grips t.away.hands.items) came.parts.new
+          (subst (λ (w : Setting). HandsAre w (configuration_of (open_of t)).grips t.away.hands.items) (sym (ap (λ (x : HistoryState). x.setting) came.history_is))
+          (subst (λ (g : Grips). HandsAre h.history.setting g t.away.hands.items) (sym grips) (subst (HandsAre h.history.setting (put (configuration_of (open_of h)).grips d None)) (sym came.parts.home.hands) hands)));
+    })
+  where
+    d : ℕ
+    d = grip.slip.device.0
+
+    for : IsFor (open_of h) grip.slip grip.task (purpose_of why)
+    for = returned_for h why tag grip came.returned k
+
+    grips : ◌≡◌ {A = Grips} (configuration_of (open_of t)).grips (put (configuration_of (open_of h)).grips d None)
+    grips = came_grips h t why tag grip entries came k
+
+    comes : ComesBack stands turns probes faults (open_of h) grip entries t.moment
+    comes = subst (λ es. ComesBack stands turns probes faults (open_of h) grip es t.moment) came.gives (returned_comes h t.moment why tag grip came.returned came.parts.later k)
+
+    shown : HubIsKept stands turns probes faults (open_of t)
+    shown = subst (λ (x : OpenHub D). HubIsKept stands turns probes faults x) (sym (came_shows h t why tag grip entries came))
+        (back_kept stands turns probes faults (open_of h) grip entries t.moment came.returned.there (came_within h t why tag grip entries came k).1 comes k.shown)
+
+    hands : HandsAre h.history.setting (put (configuration_of (open_of h)).grips d None) (with_hand h.away.hands.items grip.slip.maker None)
+    hands = hands_come h.history.setting (read_in h.history) (configuration_of (open_of h)).grips grip.slip.maker d (purpose_of why) h.away.hands.items (λ some. for.run (for.maker ∙ some)) for.grip k.shown.configuration.grips k.hands
+
+    room : HasRoomLeft h.rounds t.history h.closing
+    room = subst (λ x. HasRoomLeft h.rounds x h.closing) (sym came.history_is) (record {
       history =
-          let fits = back_places h grip.slip grip.task entries grip.device value events moment is.comes k in
+          let fits : length entries ≤ h.history.spare = subst (λ es. length es ≤ h.history.spare) came.gives (returned_places h why tag grip came.returned k) in
           let long = length_with h.history.history grip.slip.maker entries in
           omega (arith, long, k.room.history, fits);
       order = k.room.order;
@@ -241,58 +462,85 @@ back_room h t grip entries value events moment is k =
       faults = k.room.faults;
     })
 
--- the grips when the device is home again
-pub back_grips : {D : Type 0} {stands turns probes faults : D → ℕ} (h t : Inside D) (grip : Gripped D Done) (entries : List Entry) (value : ℕ) (events : Events) (moment : ℕ) → IsBack stands turns probes faults h t grip entries value events moment → IsWhole stands turns probes faults h
-    → ◌≡◌ {A = Grips} (configuration_of (open_of t)).grips (put (configuration_of (open_of h)).grips grip.slip.device.0 None)
-back_grips {D = D} h t grip entries value events moment is k =
-    ap (λ (x : OpenHub D). (configuration_of x).grips) (back_shows h t grip entries value events moment is)
-    ∙ ap (λ (c : Configuration). c.grips) (back_configuration (open_of h) grip.slip entries grip.device value events moment (slice_get_within h.gate.places grip.slip.device.0 (Out grip.slip grip.task) is.there) (known_back h (open_of h) grip.slip grip.task refl is.there k))
-
--- what is kept is kept then, where line and table are
-pub back_whole : {D : Type 0} {stands turns probes faults : D → ℕ} (h t : Inside D) (grip : Gripped D Done) (entries : List Entry) (value : ℕ) (events : Events) (moment : ℕ) → IsBack stands turns probes faults h t grip entries value events moment
-    → (IsWellFormed t.history.setting (entries_of t.history.history) → OrderIsBeside h.rounds t.history (configuration_of (open_of t)).grips t.order.line t.order.table) → IsWhole stands turns probes faults h → IsWhole stands turns probes faults t
-back_whole {D = D} {stands = stands} {turns = turns} {probes = probes} {faults = faults} h t grip entries value events moment is order k =
-    subst (λ (x : Inside D). IsWhole stands turns probes faults x) (sym is.new) (record {
-      shown = subst (λ (x : Inside D). HubIsKept stands turns probes faults (open_of x)) is.new shown;
-      room = back_room h t grip entries value events moment is k;
-      order = subst (λ (x : Inside D). OrderIsBeside h.rounds t.history (configuration_of (open_of x)).grips t.order.line t.order.table) is.new (order shown.configuration.history.well_formed);
-      hands = subst (λ (x : Inside D). HandsAre t.history.setting (configuration_of (open_of x)).grips t.hands.items) is.new
-          (subst (λ (w : Setting). HandsAre w (configuration_of (open_of t)).grips t.hands.items) (sym (ap (λ (x : HistoryState). x.setting) is.history_is))
-          (subst (λ (g : Grips). HandsAre h.history.setting g t.hands.items) (sym (back_grips h t grip entries value events moment is k)) is.hands));
-    })
-  where
-    shown : HubIsKept stands turns probes faults (open_of t)
-    shown = subst (λ (x : OpenHub D). HubIsKept stands turns probes faults x) (sym (back_shows h t grip entries value events moment is))
-        (back_kept stands turns probes faults (open_of h) grip.slip grip.task entries grip.device value events moment is.there (known_back h (open_of h) grip.slip grip.task refl is.there k) is.comes k.shown)
-
 -- The answer
 
--- what the hub shows then, in the same window
-pub record StepsBack {D : Type 0} (s t : OpenHub D) (grip : Gripped D Done) (entries : List Entry) (moment : ℕ) : Type 0 where
-  pub state : state_of t ≡ record { configuration = after_back s grip.slip entries moment; carried = put (state_of s).carried grip.slip.device.0 None }
-  pub places : t.places ≡ slice_set s.places grip.slip.device.0 (Home grip.device)
-  pub tickets : t.tickets ≡ s.tickets
-  pub window : SameWindow s t
-
-pub back_steps : {D : Type 0} {stands turns probes faults : D → ℕ} (h t : Inside D) (grip : Gripped D Done) (entries : List Entry) (value : ℕ) (events : Events) (moment : ℕ) → IsBack stands turns probes faults h t grip entries value events moment → IsWhole stands turns probes faults h → StepsBack (open_of h) (open_of t) grip entries moment
-back_steps {D = D} h t grip entries value events moment is k =
-    record {
-      state = ap (λ (x : OpenHub D). state_of x) shows ∙ back_state (open_of h) grip.slip entries grip.device value events moment within known;
-      places = is.places_are;
-      tickets = is.tickets_are;
-      window = subst (λ (x : OpenHub D). SameWindow (open_of h) x) (sym shows) (record { setting = refl; rounds = refl; opened = refl; at_opening = known_same (λ (p : DeviceProgress). p.at_opening) h.devices.items grip.slip.device.0 (record (device_at h.devices.items grip.slip.device.0) { held = value; events = events }) known refl });
-    }
-  where
-    shows : open_of t ≡ back (open_of h) grip.slip entries grip.device value events moment
-    shows = back_shows h t grip entries value events moment is
-
-    within : grip.slip.device.0 < length h.gate.places
-    within = slice_get_within h.gate.places grip.slip.device.0 (Out grip.slip grip.task) is.there
-
-    known : grip.slip.device.0 < length h.devices.items
-    known = known_back h (open_of h) grip.slip grip.task refl is.there k
-
 -- a grip that is taken back
-pub taken_in : (s : HubState) (c : Configuration) (told : Carried) (grip : Grip) (result : Told) → c.grips told.slip.device.0 ≡ Some grip
+taken_in : (s : HubState) (c : Configuration) (told : Carried) (grip : Grip) (result : Told) → c.grips told.slip.device.0 ≡ Some grip
     → give_if true s c told result ≡ record { answer = Gave (give_entries c.setting (read_of c) told.slip.device.0 grip result); next = record { configuration = after_give c told.slip.device.0 grip result; carried = put s.carried told.slip.device.0 None } }
 taken_in s c told grip result out = rw out refl
+
+-- what the hub answers, and what it shows then
+came_gives : {D : Type 0} {stands turns probes faults : D → ℕ} (h t : Inside D) (why : KeptPurpose) (tag : ℕ) (grip : Gripped D Done) (entries : List Entry) → CameHome stands turns probes faults h t why tag grip entries → IsWhole stands turns probes faults h
+    → give_if true (state_of (open_of h)) (record (configuration_of (open_of h)) { moment = t.moment }) (carried_by grip) grip.stage.told ≡ record { answer = Gave entries; next = state_of (open_of t) }
+came_gives {D = D} h t why tag grip entries came k =
+    let s = open_of h in
+    let within = came_within h t why tag grip entries came k in
+    taken_in (state_of s) (record (configuration_of s) { moment = t.moment }) (carried_by grip) (record { maker = grip.slip.maker; purpose = purpose_of why }) grip.stage.told (returned_for h why tag grip came.returned k).grip
+    ∙ (λ i. record { answer = Gave (came.gives i); next = record { configuration = after_back s grip.slip (came.gives i) t.moment; carried = put (state_of s).carried grip.slip.device.0 None } })
+    ∙ ap (λ x. record { answer = Gave entries; next = x }) (sym (ap (λ (x : OpenHub D). state_of x) (came_shows h t why tag grip entries came) ∙ back_state s grip entries t.moment within.0 within.1))
+
+-- in the same window
+came_window : {D : Type 0} {stands turns probes faults : D → ℕ} (h t : Inside D) (why : KeptPurpose) (tag : ℕ) (grip : Gripped D Done) (entries : List Entry) → CameHome stands turns probes faults h t why tag grip entries → IsWhole stands turns probes faults h → SameWindow (open_of h) (open_of t)
+came_window {D = D} h t why tag grip entries came k =
+    subst (λ (x : OpenHub D). SameWindow (open_of h) x) (sym (came_shows h t why tag grip entries came)) (record {
+      setting = refl;
+      rounds = refl;
+      opened = refl;
+      at_opening = known_same (λ (p : DeviceProgress). p.at_opening) h.away.known.items grip.slip.device.0 (known_after grip.task grip.stage.told (device_at h.away.known.items grip.slip.device.0)) (came_within h t why tag grip entries came k).1 refl;
+    })
+
+-- the grip of a run is given
+pub record CameBack {D : Type 0} (s t : OpenHub D) (grip : Gripped D Done) (m : ℕ) (made : Made) : Type 0 where
+  pub given : IsGiven s grip m (Ok made) t
+  pub window : SameWindow s t
+
+pub back_given : {D : Type 0} {stands turns probes faults : D → ℕ} (h t : Inside D) (s₀ : OpenHub D) (m : ℕ) (why : KeptPurpose) (tag : ℕ) (grip : Gripped D Done) (entries : List Entry) (made : Made) → open_of h ≡ s₀ → 0 < grip.slip.maker → t.moment ≡ max h.moment m → CameHome stands turns probes faults h t why tag grip entries → entries_made made ≡ entries → IsPacked made
+    → IsWhole stands turns probes faults h → CameBack s₀ (open_of t) grip m made
+back_given {D = D} h t s₀ m why tag grip entries made seen maker moment_is came made_is packed k =
+    subst (λ (x : OpenHub D). CameBack x (open_of t) grip m made) seen (record {
+      given = (
+        (ap (λ x. Returned (Gave x)) made_is ∙ ap (λ (x : Given). Returned x.answer) (sym gives), ap (λ (x : Given). x.next) (sym gives)),
+        came.parts.home.places,
+        came.parts.home.tickets,
+        packed,
+      );
+      window = came_window h t why tag grip entries came k;
+    })
+  where
+    s : OpenHub D
+    s = open_of h
+
+    gives : give (state_of s) (carried_by grip) grip.stage.told m ≡ record { answer = Gave entries; next = state_of (open_of t) }
+    gives =
+        ap (λ b. give_if (b && nat_lt 0 grip.slip.maker) (state_of s) (at_moment (configuration_of s) m) (carried_by grip) grip.stage.told) (kept_is s grip.slip grip.task came.returned.there)
+        ∙ ap (λ b. give_if (true && b) (state_of s) (at_moment (configuration_of s) m) (carried_by grip) grip.stage.told) (lt-ltb 0 grip.slip.maker maker)
+        ∙ ap (λ x. give_if true (state_of s) (record (configuration_of s) { moment = x }) (carried_by grip) grip.stage.told) (sym moment_is)
+        ∙ came_gives h t why tag grip entries came k
+
+-- the grip of the detector is given
+pub record ProbeBack {D : Type 0} (s t : OpenHub D) (grip : Gripped D Done) (made : Made) : Type 0 where
+  pub given : IsProbeGiven s grip (Ok made) t
+  pub window : SameWindow s t
+
+pub probe_given : {D : Type 0} {stands turns probes faults : D → ℕ} (h t : Inside D) (s₀ : OpenHub D) (why : KeptPurpose) (tag : ℕ) (grip : Gripped D Done) (entries : List Entry) (made : Made) → open_of h ≡ s₀ → grip.slip.maker ≡ 0 → t.moment ≡ h.moment → CameHome stands turns probes faults h t why tag grip entries → entries_made made ≡ entries → IsPacked made
+    → IsWhole stands turns probes faults h → ProbeBack s₀ (open_of t) grip made
+probe_given {D = D} h t s₀ why tag grip entries made seen maker moment_is came made_is packed k =
+    subst (λ (x : OpenHub D). ProbeBack x (open_of t) grip made) seen (record {
+      given = (
+        (ap (λ x. Returned (Gave x)) made_is ∙ ap (λ (x : Given). Returned x.answer) (sym gives), ap (λ (x : Given). x.next) (sym gives)),
+        came.parts.home.places,
+        came.parts.home.tickets,
+        packed,
+      );
+      window = came_window h t why tag grip entries came k;
+    })
+  where
+    s : OpenHub D
+    s = open_of h
+
+    gives : give_probe (state_of s) (carried_by grip) grip.stage.told ≡ record { answer = Gave entries; next = state_of (open_of t) }
+    gives =
+        ap (λ b. give_if (b && (grip.slip.maker == 0)) (state_of s) (configuration_of s) (carried_by grip) grip.stage.told) (kept_is s grip.slip grip.task came.returned.there)
+        ∙ ap (λ b. give_if (true && b) (state_of s) (configuration_of s) (carried_by grip) grip.stage.told) (eq-eqb grip.slip.maker 0 maker)
+        ∙ ap (λ x. give_if true (state_of s) (record (configuration_of s) { moment = x }) (carried_by grip) grip.stage.told) (sym moment_is)
+        ∙ came_gives h t why tag grip entries came k

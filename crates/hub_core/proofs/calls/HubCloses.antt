@@ -112,7 +112,7 @@ still_low opened count then rise low is few = omega arith
 
 -- the lineage table leaves each device as the last state has it, and under the weak model what is known of each
 pub hub_leaves : {D : Type 0} {stands turns probes faults : D → ℕ} (h : Inside D) (last : List Stand) → IsWhole stands turns probes faults h → not_quiet (configuration_of (open_of h)) ≡ None → (is_weak h.history.setting.mode ≡ false → last ≡ map stand_left h.order.table)
-    → (is_weak h.history.setting.mode ≡ true → last ≡ all_known_left h.devices.items h.order.table (length h.order.table)) → IsLastState (configuration_of (open_of h)) last
+    → (is_weak h.history.setting.mode ≡ true → last ≡ all_known_left h.away.known.items h.order.table (length h.order.table)) → IsLastState (configuration_of (open_of h)) last
 hub_leaves h last k quiet are known = either_model (IsLastState (configuration_of (open_of h)) last) h.history.setting
     (λ weak. record {
       size = ap length (known weak) ∙ known_size (length h.order.table) ∙ k.order.table_is.devices;
@@ -122,16 +122,16 @@ hub_leaves h last k quiet are known = either_model (IsLastState (configuration_o
     })
     (λ strong. table_leaves (configuration_of (open_of h)) h.rounds h.opened (held_in (open_of h)) h.order.table last (k.shown.configuration.ordered strong) (quiet_is (configuration_of (open_of h)) quiet) (k.order.table_is.ordered strong) (are strong))
   where
-    known_size : (n : ℕ) → length (all_known_left h.devices.items h.order.table n) ≡ n
+    known_size : (n : ℕ) → length (all_known_left h.away.known.items h.order.table n) ≡ n
     known_size zero = refl
-    known_size (suc n) = let long : length (all_known_left h.devices.items h.order.table n ++ known_left h.devices.items h.order.table n ∷ []) ≡ length (all_known_left h.devices.items h.order.table n) + 1 = length-append (all_known_left h.devices.items h.order.table n) (known_left h.devices.items h.order.table n ∷ []) in omega (arith, long, known_size n)
+    known_size (suc n) = let long : length (all_known_left h.away.known.items h.order.table n ++ known_left h.away.known.items h.order.table n ∷ []) ≡ length (all_known_left h.away.known.items h.order.table n) + 1 = length-append (all_known_left h.away.known.items h.order.table n) (known_left h.away.known.items h.order.table n ∷ []) in omega (arith, long, known_size n)
 
-    known_at : (n d : ℕ) → d < n → stand_at (all_known_left h.devices.items h.order.table n) d ≡ known_left h.devices.items h.order.table d
+    known_at : (n d : ℕ) → d < n → stand_at (all_known_left h.away.known.items h.order.table n) d ≡ known_left h.away.known.items h.order.table d
     known_at zero d less = absurd (omega (arith, less))
-    known_at (suc n) d less = elim (nat_lt d n) as (λ b. nat_lt d n ≡ b → stand_at (all_known_left h.devices.items h.order.table (suc n)) d ≡ known_left h.devices.items h.order.table d) [
-      | true ↦ (λ e. stand_before (all_known_left h.devices.items h.order.table n) (known_left h.devices.items h.order.table n) d (let lt : d < n = grind (arith, common_steps) in omega (arith, lt, known_size n)) ∙ known_at n d (grind (arith, common_steps)))
+    known_at (suc n) d less = elim (nat_lt d n) as (λ b. nat_lt d n ≡ b → stand_at (all_known_left h.away.known.items h.order.table (suc n)) d ≡ known_left h.away.known.items h.order.table d) [
+      | true ↦ (λ e. stand_before (all_known_left h.away.known.items h.order.table n) (known_left h.away.known.items h.order.table n) d (let lt : d < n = grind (arith, common_steps) in omega (arith, lt, known_size n)) ∙ known_at n d (grind (arith, common_steps)))
       | false ↦ (λ e. let same : d ≡ n = grind (arith, common_steps, less) in
-          ap (λ x. stand_at (all_known_left h.devices.items h.order.table (suc n)) x) same ∙ stand_behind (all_known_left h.devices.items h.order.table n) (known_left h.devices.items h.order.table n) n (known_size n) ∙ ap (known_left h.devices.items h.order.table) (sym same))
+          ap (λ x. stand_at (all_known_left h.away.known.items h.order.table (suc n)) x) same ∙ stand_behind (all_known_left h.away.known.items h.order.table n) (known_left h.away.known.items h.order.table n) n (known_size n) ∙ ap (known_left h.away.known.items h.order.table) (sym same))
     ] refl
 
 -- the home that is left is as every home is kept

@@ -34,13 +34,12 @@ use Rattle.home_types.specs.declared.items.Item.{Item}
 use Rattle.home_types.specs.declared.modes.Scheduler.TheVariants.{Timeline}
 use Rattle.home_types.specs.declared.modes.Scheduler.{Scheduler}
 use Rattle.home_types.specs.declared.numbers.DeviceNo.{DeviceNo}
-use Rattle.hub_core.proofs.kept.Hands.{hand_goes}
+use Rattle.hub_core.proofs.kept.Hands.{hand_goes, run_hand}
 use Rattle.hub_core.proofs.calls.HubChanges.{Ending, Going, IsEntered, answer_entries, answered_more, entered_whole, entries_kept, has_places}
 use Rattle.hub_core.proofs.calls.HubChoices.{IsAborting, IsAnsweringDown, IsFailing, answering, dropping, failing, finished_is, rest_downs}
 use Rattle.hub_core.proofs.calls.PlannedUses.{planned_devices}
 use Rattle.hub_core.proofs.calls.Scheduling.{scheduled_as_planned}
 use Rattle.hub_core.proofs.calls.HubOuts.{GoesFor, IsHanded, IsHandedOut, handed_out, went_out}
-use Rattle.hub_core.proofs.kept.HubReads.{run_place}
 use Rattle.hub_core.proofs.calls.HubStates.{grips_set}
 use Rattle.hub_core.proofs.kept.Kept.{enters_place}
 use Rattle.hub_core.proofs.windows.StrongChoices.{IsPlacing}
@@ -638,12 +637,13 @@ pub record IsTouched {D : Type 0} (h t : Inside D) (r d : ℕ) (purpose : Purpos
   pub sealed : t.order.line.sealed ≡ h.order.line.sealed
   pub table : t.order.table ≡ (if is_undo purpose then with_lineage h.order.table d (undone r) else h.order.table)
 
-gone_grips : {D : Type 0} {turns probes faults : D → ℕ} (h t : Inside D) (r m d : ℕ) (purpose : KeptPurpose) (known : DeviceProgress) (task : Task) (grip : Gripped D Ready) → IsHanded turns probes faults h t r m d purpose known task grip
+gone_grips : {D : Type 0} {stands turns probes faults : D → ℕ} (h t : Inside D) (r m d : ℕ) (purpose : KeptPurpose) (known : DeviceProgress) (task : Task) (grip : Gripped D Ready) → IsHanded turns probes faults h t r m d purpose known task grip → IsWhole stands turns probes faults h
     → ◌≡◌ {A = Grips} (configuration_of (open_of t)).grips (put (configuration_of (open_of h)).grips d (Some (record { maker = r; purpose = purpose_of purpose })))
-gone_grips h t r m d purpose known task grip handed =
-    (λ i e. grip_in (slice_get (handed.sent.after_is i) e) (device_at (handed.devices_are i) e).purpose)
-    ∙ grips_set h.gate.places h.devices.items d (Out grip.slip task) (record known { purpose = purpose }) (slice_get_within h.gate.places d (Home grip.device) handed.sent.at) (slice_get_within h.devices.items d known handed.known_is)
-    ∙ (λ i. put (configuration_of (open_of h)).grips d (Some (record { maker = handed.sent.maker i; purpose = purpose_of purpose })))
+gone_grips h t r m d purpose known task grip handed k =
+    let within = slice_get_within h.away.gate.places d (Home grip.device) handed.sent.at in
+    (λ i e. grip_in (slice_get (handed.sent.places i) e) (device_at (handed.sent.known_is i) e).purpose)
+    ∙ grips_set h.away.gate.places h.away.known.items d (Out grip.slip task) (record known { purpose = purpose }) within (omega (arith, within, k.shown.devices_size, k.shown.places_size))
+    ∙ (λ i. put (configuration_of (open_of h)).grips d (Some (record { maker = handed.sent.maker_is i; purpose = purpose_of purpose })))
 
 order_went : {D : Type 0} {stands turns probes faults : D → ℕ} (h t : Inside D) (r m d : ℕ) (purpose : KeptPurpose) (known : DeviceProgress) (task : Task) (grip : Gripped D Ready) → IsHanded turns probes faults h t r m d purpose known task grip → IsTouched h t r d (purpose_of purpose)
     → IsWhole stands turns probes faults h → OrderIsBeside h.rounds h.history (configuration_of (open_of t)).grips t.order.line t.order.table
@@ -661,19 +661,14 @@ order_went {D = D} h t r m d purpose known task grip handed touched k =
     out = handed_out s h.rounds h.opened (held_in (open_of h)) r m d (purpose_of purpose) k.shown.configuration handed.chosen
 
     gone : ◌≡◌ {A = Grips} (configuration_of (open_of t)).grips (put g d (Some (record { maker = r; purpose = purpose_of purpose })))
-    gone = gone_grips h t r m d purpose known task grip handed
+    gone = gone_grips h t r m d purpose known task grip handed k
 
 -- its run's hand is one of those that are known
-pub hand_place : {D : Type 0} {stands turns probes faults : D → ℕ} (h : Inside D) (r m d : ℕ) (purpose : Purpose) → choice_of (configuration_of (open_of h)) r m ≡ HandsOut d purpose → IsWhole stands turns probes faults h → r - 1 < length h.hands.items
-hand_place h r m d purpose chosen k =
-    let place = run_place h.history.setting.runs r (handed_out (configuration_of (open_of h)) h.rounds h.opened (held_in (open_of h)) r m d purpose k.shown.configuration chosen).run in
-    omega (arith, place.1, k.hands.size)
-
 hands_went : {D : Type 0} {stands turns probes faults : D → ℕ} (h t : Inside D) (r m d : ℕ) (purpose : KeptPurpose) (known : DeviceProgress) (task : Task) (grip : Gripped D Ready) → IsHanded turns probes faults h t r m d purpose known task grip
-    → IsWhole stands turns probes faults h → HandsAre h.history.setting (configuration_of (open_of t)).grips t.hands.items
+    → IsWhole stands turns probes faults h → HandsAre h.history.setting (configuration_of (open_of t)).grips t.away.hands.items
 hands_went h t r m d purpose known task grip handed k =
     let out = handed_out (configuration_of (open_of h)) h.rounds h.opened (held_in (open_of h)) r m d (purpose_of purpose) k.shown.configuration handed.chosen in
-    hand_goes h.history.setting (configuration_of (open_of h)).grips (configuration_of (open_of t)).grips r (device_no d) (purpose_of purpose) h.hands.items t.hands.items out.run (below_home h.history.setting d out.device) out.free (none_there _ out.home) (gone_grips h t r m d purpose known task grip handed) handed.hands_are k.hands
+    hand_goes h.history.setting (configuration_of (open_of h)).grips (configuration_of (open_of t)).grips r (device_no d) (purpose_of purpose) h.away.hands.items t.away.hands.items out.run (below_home h.history.setting d out.device) out.free (none_there _ out.home) (gone_grips h t r m d purpose known task grip handed k) (handed.sent.hands ∙ run_hand h.history.setting.runs h.away.hands.items r (Some (device_no d)) out.run) k.hands
 
 -- the device is handed out, and touched by its run
 pub handed_whole : {D : Type 0} {stands turns probes faults : D → ℕ} (h t : Inside D) (r m d : ℕ) (purpose : KeptPurpose) (known : DeviceProgress) (task : Task) (grip : Gripped D Ready) → IsHanded turns probes faults h t r m d purpose known task grip → IsTouched h t r d (purpose_of purpose)
@@ -683,5 +678,5 @@ handed_whole {D = D} {stands = stands} {turns = turns} {probes = probes} {faults
       shown = subst (λ (x : Inside D). HubIsKept stands turns probes faults (open_of x)) handed.new (went_out h t r m d purpose known task grip handed k).kept;
       room = k.room;
       order = subst (λ (x : Inside D). OrderIsBeside h.rounds h.history (configuration_of (open_of x)).grips t.order.line t.order.table) handed.new (order_went h t r m d purpose known task grip handed touched k);
-      hands = subst (λ (x : Inside D). HandsAre h.history.setting (configuration_of (open_of x)).grips t.hands.items) handed.new (hands_went h t r m d purpose known task grip handed k);
+      hands = subst (λ (x : Inside D). HandsAre h.history.setting (configuration_of (open_of x)).grips t.away.hands.items) handed.new (hands_went h t r m d purpose known task grip handed k);
     })

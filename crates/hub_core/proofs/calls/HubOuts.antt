@@ -1,7 +1,6 @@
 -- A device that goes out keeps what the type of a hub keeps.
 use Rattle.command_rules.specs.Rosters.{command_at, commands_of, is_run}
 use Rattle.home_types.specs.Commands.{driven, reads}
-use Rattle.std.specs.Option.{option_copied}
 use Rattle.device_gate.specs.Calls.{probed}
 use Rattle.device_gate.specs.Grips.{Gripped}
 use Rattle.device_gate.specs.declared.grips.Ready.{Ready}
@@ -10,13 +9,14 @@ use Rattle.device_gate.specs.declared.gates.Place.TheVariants.{Home, Out}
 use Rattle.device_gate.specs.declared.slips.Slip.{Slip}
 use Rattle.device_gate.specs.declared.slips.Task.{Task}
 use Rattle.device_gate.specs.declared.slips.Task.TheVariants.{Drive, Sense}
-use Rattle.std.specs.Borrow.{Bor}
 use Rattle.command_rules.specs.Rosters.{device_no}
+use Rattle.home_types.specs.declared.numbers.DeviceNo.{DeviceNo}
+use Rattle.hub_core.specs.Away.{IsSent, MaySend}
 use Rattle.history_book.specs.Readings.{is_doomed, is_live, next_command, next_of, put, sees_down}
 use Rattle.history_book.specs.Settings.{is_device, is_weak}
 use Rattle.home_types.specs.declared.commands.Command.{Command}
 use Rattle.hub_core.proofs.calls.HubChanges.{step_is}
-use Rattle.hub_core.proofs.calls.Departures.{IsLeaving, IsSent, next_grip, at_index, gone, gone_carries, gone_configuration, gone_kept, home_place, is_there, one_for}
+use Rattle.hub_core.proofs.calls.Departures.{IsLeaving, few_tickets, gone, gone_carries, gone_configuration, gone_kept, has_room, home_place, next_grip, one_for}
 use Rattle.hub_core.proofs.kept.HubReads.{run_place}
 use Rattle.hub_core.proofs.calls.HubStates.{known_same, put_at}
 use Rattle.hub_core.proofs.kept.KeptByModel.{taken_kept}
@@ -38,7 +38,7 @@ use Rattle.lock_leasing.specs.Words.{has_effect, value_without}
 use Rattle.std.proofs.Common.{ap, ap₂, arith, refl, subst, sym, ◌∙◌}
 use Rattle.std.proofs.lemmas.Grind.{common_steps}
 use Rattle.std.proofs.lemmas.Option.{slice_get_within}
-use Rattle.std.specs.Prelude.{Bool, IsTrue, None, Option, Some, false, if◌then◌else◌, is_some, length, max, nat_lt, not, slice_get, slice_set, suc, true, ℕ, ◌&&◌, ◌-◌, ◌<◌, ◌||◌, ◌≡◌}
+use Rattle.std.specs.Prelude.{Bool, IsTrue, None, Some, false, if◌then◌else◌, is_some, length, max, nat_lt, not, slice_get, slice_set, suc, true, ℕ, ◌&&◌, ◌-◌, ◌<◌, ◌||◌, ◌≡◌}
 use Rattle.window_order.proofs.Firsts.{below_home}
 
 -- Why it goes
@@ -166,15 +166,24 @@ not_probing s r d (Commands k) goes = by_reading (reads (command_at s.setting.ru
     by_reading true = refl
     by_reading false = refl
 
-pub is_known : {D : Type 0} (stands turns probes faults : D → ℕ) (s : OpenHub D) (r m d : ℕ) (purpose : Purpose) (o : Option (Bor DeviceProgress)) → HubIsKept stands turns probes faults s → choice_of (configuration_of s) r m ≡ HandsOut d purpose → option_copied o ≡ slice_get s.devices d → is_some o ≡ true
-is_known stands turns probes faults s r m d purpose o k is at =
-    let out = out_home stands turns probes faults s r m d purpose k is in
-    is_there s.devices d o (omega (arith, out.0, k.devices_size)) at
-
 -- a device that goes out is counted up, and stands where it is known to
-pub stands_home : {D : Type 0} (stands turns probes faults : D → ℕ) (s : OpenHub D) (r m d : ℕ) (purpose : Purpose) (device : D) (known : DeviceProgress) → HubIsKept stands turns probes faults s → choice_of (configuration_of s) r m ≡ HandsOut d purpose → slice_get s.places d ≡ Some (Home device) → slice_get s.devices d ≡ Some known → stands device ≡ known.held
-stands_home stands turns probes faults s r m d purpose device known k chosen at is =
-    (k.home d device at).stand (handed_out (configuration_of s) s.rounds s.opened (held_in s) r m d purpose k.configuration chosen).up ∙ ap (λ (p : DeviceProgress). p.held) (at_index s.devices d known is)
+stands_home : {D : Type 0} (stands turns probes faults : D → ℕ) (s : OpenHub D) (r m d : ℕ) (purpose : Purpose) (device : D) → HubIsKept stands turns probes faults s → choice_of (configuration_of s) r m ≡ HandsOut d purpose → slice_get s.places d ≡ Some (Home device) → stands device ≡ held_in s d
+stands_home stands turns probes faults s r m d purpose device k chosen at = (k.home d device at).stand (handed_out (configuration_of s) s.rounds s.opened (held_in s) r m d purpose k.configuration chosen).up
+
+-- it may go out to its run
+pub may_send : {D : Type 0} {stands turns probes faults : D → ℕ} (h : Inside D) (r m d : ℕ) (purpose : Purpose) (known : DeviceProgress) (task : Task) → choice_of (configuration_of (open_of h)) r m ≡ HandsOut d purpose → known ≡ device_at h.away.known.items d → IsWhole stands turns probes faults h → MaySend stands turns probes faults h.away d r known.held task
+may_send {stands = stands} {turns = turns} {probes = probes} {faults = faults} h r m d purpose known task chosen known_is k =
+    let home = out_home stands turns probes faults (open_of h) r m d purpose k.shown chosen in
+    let out = handed_out (configuration_of (open_of h)) h.rounds h.opened (held_in (open_of h)) r m d purpose k.shown.configuration chosen in
+    let place = run_place h.history.setting.runs r out.run in
+    record {
+      home = home.1;
+      room = λ device at. has_room stands turns probes faults (open_of h) d device k.shown at;
+      stood = λ device at up. stands_home stands turns probes faults (open_of h) r m d purpose device k.shown chosen at ∙ ap (λ (p : DeviceProgress). p.held) (sym known_is);
+      tickets = few_tickets stands turns probes faults (open_of h) k.shown;
+      known = omega (arith, home.0, k.shown.devices_size);
+      maker_is = omega (arith, place.0, place.1, k.hands.size);
+    }
 
 -- The device goes out
 
@@ -196,12 +205,10 @@ went_state s r d m purpose slip task maker does within known =
 pub record IsHanded {D : Type 0} (turns probes faults : D → ℕ) (h t : Inside D) (r m d : ℕ) (purpose : KeptPurpose) (known : DeviceProgress) (task : Task) (grip : Gripped D Ready) : Type 0 where
   pub chosen : choice_of (configuration_of (open_of h)) r m ≡ HandsOut d (purpose_of purpose)
   pub does : task ≡ task_of (configuration_of (open_of h)) r (purpose_of purpose)
-  pub known_is : slice_get h.devices.items d ≡ Some known
-  pub sent : IsSent turns probes faults h.gate.places h.gate.tickets r d known.held task grip t.gate.places t.gate.tickets
+  pub known_is : known ≡ device_at h.away.known.items d
+  pub sent : IsSent turns probes faults h.away (device_no d) r (record known { purpose = purpose }) task grip t.away
   pub moment_is : t.moment ≡ max h.moment m
-  pub devices_are : t.devices.items ≡ slice_set h.devices.items d (record known { purpose = purpose })
-  pub hands_are : t.hands.items ≡ slice_set h.hands.items (r - 1) (Some (device_no d))
-  pub new : t ≡ record h { moment = t.moment; devices = t.devices; gate = t.gate; order = t.order; hands = t.hands }
+  pub new : t ≡ record h { moment = t.moment; away = t.away; order = t.order }
 
 pub record WentOut {D : Type 0} (stands turns probes faults : D → ℕ) (s : OpenHub D) (r m : ℕ) (grip : Gripped D Ready) (t : OpenHub D) : Type 0 where
   pub kept : HubIsKept stands turns probes faults t
@@ -215,12 +222,12 @@ went_out {D = D} {stands = stands} {turns = turns} {probes = probes} {faults = f
       kept = subst (λ (x : OpenHub D). HubIsKept stands turns probes faults x) (sym new) (gone_kept stands turns probes faults s r d (device_at s.devices d).probes_left (max s.moment m) purpose grip.device grip.slip task sent.at leaves configuration k.shown);
       out = subst (λ (x : OpenHub D). GoesOut s r m grip x) (sym new) (record {
         purpose = purpose_of purpose;
-        step = subst (λ e. HubStep (state_of s) (Take r m grip.slip) (Chose (HandsOut e (purpose_of purpose))) (state_of t')) (sym sent.device)
-            (step_is s t' r m (HandsOut d (purpose_of purpose)) grip.slip handed.chosen (went_state s r d m purpose grip.slip task sent.maker leaves.does within within_devices) (record { device = sent.device; maker = sent.maker }));
+        step = subst (λ e. HubStep (state_of s) (Take r m grip.slip) (Chose (HandsOut e (purpose_of purpose))) (state_of t')) (sym number)
+            (step_is s t' r m (HandsOut d (purpose_of purpose)) grip.slip handed.chosen (went_state s r d m purpose grip.slip task sent.maker_is leaves.does within within_devices) (record { device = number; maker = sent.maker_is }));
         task = sent.does ∙ leaves.does;
-        home = subst (λ e. slice_get s.places e ≡ Some (Home grip.device)) (sym sent.device) sent.at;
-        places = ap₂ (λ e x. slice_set s.places e (Out grip.slip x)) (sym sent.device) (sym sent.does);
-        next = next_grip s t' grip d sent.device sent.ticket refl leaves.stood;
+        home = subst (λ e. slice_get s.places e ≡ Some (Home grip.device)) (sym number) sent.at;
+        places = ap₂ (λ e x. slice_set s.places e (Out grip.slip x)) (sym number) (sym sent.does);
+        next = next_grip s t' grip d number sent.ticket refl leaves.stood;
       });
       window = subst (λ (x : OpenHub D). SameWindow s x) (sym new) (record { setting = refl; rounds = refl; opened = refl; at_opening = known_same (λ (p : DeviceProgress). p.at_opening) s.devices d (record (device_at s.devices d) { purpose = purpose }) within_devices refl });
     }
@@ -231,17 +238,20 @@ went_out {D = D} {stands = stands} {turns = turns} {probes = probes} {faults = f
     t' : OpenHub D
     t' = gone s d purpose (device_at s.devices d).probes_left grip.slip task (max s.moment m)
 
-    sent : IsSent turns probes faults h.gate.places h.gate.tickets r d known.held task grip t.gate.places t.gate.tickets
+    sent : IsSent turns probes faults h.away (device_no d) r (record known { purpose = purpose }) task grip t.away
     sent = handed.sent
+
+    number : grip.slip.device.0 ≡ d
+    number = ap (λ (x : DeviceNo). x.0) sent.device
 
     within : d < length s.places
     within = slice_get_within s.places d (Home grip.device) sent.at
 
     within_devices : d < length s.devices
-    within_devices = slice_get_within s.devices d known handed.known_is
+    within_devices = omega (arith, within, k.shown.devices_size, k.shown.places_size)
 
     here : device_at s.devices d ≡ known
-    here = at_index s.devices d known handed.known_is
+    here = sym handed.known_is
 
     out : IsHandedOut (configuration_of s) r d (purpose_of purpose)
     out = handed_out (configuration_of s) s.rounds s.opened (held_in s) r m d (purpose_of purpose) k.shown.configuration handed.chosen
@@ -257,14 +267,14 @@ went_out {D = D} {stands = stands} {turns = turns} {probes = probes} {faults = f
 
     configuration : IsKeptByModel (configuration_of t') s.rounds s.opened (held_in s)
     configuration =
-        subst (λ (c : Configuration). IsKeptByModel c s.rounds s.opened (held_in s)) (sym (went_configuration s r d m purpose grip.slip task sent.maker within within_devices))
+        subst (λ (c : Configuration). IsKeptByModel c s.rounds s.opened (held_in s)) (sym (went_configuration s r d m purpose grip.slip task sent.maker_is within within_devices))
         (subst (λ c. IsKeptByModel (after_choice (at_moment (configuration_of s) m) r c) s.rounds s.opened (held_in s)) handed.chosen (taken_kept (configuration_of s) s.rounds s.opened (held_in s) r m k.shown.configuration))
 
     leaves : IsLeaving turns probes faults s r d purpose (device_at s.devices d).probes_left grip.device grip.slip task
     leaves =
         record {
-          number = sent.device;
-          maker = sent.maker;
+          number = number;
+          maker = sent.maker_is;
           stood = sent.stood ∙ ap (λ (p : DeviceProgress). p.held) (sym here);
           had_turns = sent.had_turns;
           had_probes = sent.had_probes;
@@ -276,8 +286,8 @@ went_out {D = D} {stands = stands} {turns = turns} {probes = probes} {faults = f
 
     new : open_of t ≡ t'
     new =
-        let devices_now = handed.devices_are ∙ ap (λ (p : DeviceProgress). slice_set s.devices d (record p { purpose = purpose })) (sym here) in
-        ap (λ (x : Inside D). open_of x) handed.new ∙ λ i. record s { history = s.history; moment = handed.moment_is i; devices = devices_now i; places = sent.after_is i; tickets = sent.number_is i }
+        let devices_now = sent.known_is ∙ ap (λ (p : DeviceProgress). slice_set s.devices d (record p { purpose = purpose })) (sym here) in
+        ap (λ (x : Inside D). open_of x) handed.new ∙ λ i. record s { history = s.history; moment = handed.moment_is i; devices = devices_now i; places = sent.places i; tickets = sent.tickets i }
 
 -- .. as the hub is seen
 pub went_out_at : {D : Type 0} {stands turns probes faults : D → ℕ} (h t : Inside D) (s : OpenHub D) (r m d : ℕ) (purpose : KeptPurpose) (known : DeviceProgress) (task : Task) (grip : Gripped D Ready)

@@ -1,11 +1,14 @@
--- What a probe found: its device is back, or has failed.
+-- The grip of the detector comes back: its device is as it was counted, is back, or has failed.
 use Rattle.hub_core.proofs.kept.FallenOrders.{weak_place}
 use Rattle.hub_core.proofs.kept.TableFits.{either_model}
 use Rattle.command_rules.specs.Rosters.{is_run, run_no}
 use Rattle.device_gate.specs.Calls.{has_died}
-use Rattle.device_gate.specs.Grips.{Gripped}
+use Rattle.device_gate.specs.Grips.{Gripped, WasCalled}
+use Rattle.device_gate.specs.Places.{IsKept}
 use Rattle.device_gate.specs.declared.grips.Done.{Done}
 use Rattle.device_gate.specs.declared.slips.Slip.{Slip}
+use Rattle.device_gate.specs.declared.slips.Told.TheVariants.{Died, Sensed, Worked}
+use Rattle.device_gate.specs.declared.slips.Told.{Told}
 use Rattle.failure_serialization.specs.Events.{event_place, lost_run}
 use Rattle.history_book.proofs.Searches.{each_found}
 use Rattle.history_book.proofs.Snoc.{each_more, entries_on}
@@ -23,9 +26,14 @@ use Rattle.home_types.specs.declared.numbers.RunNo.{RunNo}
 use Rattle.hub_core.proofs.calls.Deaths.{more_after}
 use Rattle.hub_core.proofs.calls.Departures.{gone_past}
 use Rattle.hub_core.proofs.calls.HubOrders.{read_whole}
-use Rattle.hub_core.proofs.calls.ProbesHome.{ProbeBack, ProbeCame, ProbeHere, ProbeKnown, ProbeTells, back_tells, counted_here, dead_entries, dead_tells, probe_back, probe_given, probe_here, probe_whole}
-use Rattle.hub_core.proofs.calls.Homecomings.{ComesBack, back_places}
-use Rattle.hub_core.proofs.calls.Turning.{TellsTurn, few_turns, first_may, may_fall, may_rise}
+use Rattle.hub_core.proofs.calls.Homecomings.{CameHome, IsHome, IsReturned, ProbeBack, came_whole, probe_given, returned_for, returned_places}
+use Rattle.hub_core.proofs.calls.OutFor.{IsFor, probe_purpose}
+use Rattle.hub_core.proofs.calls.Turning.{Falls, Rises, TellsTurn, fallen_number, may_fall, may_rise, risen_number, tells_may}
+use Rattle.hub_core.proofs.steps.Calls.{back_entries, dead_entries}
+use Rattle.hub_core.specs.Away.{IsHomeAgain, events_after, with_hand}
+use Rattle.hub_core.specs.declared.away.Away.{Away}
+use Rattle.hub_core.specs.Steps.{probe_entries}
+use Rattle.hub_core.specs.declared.purposes.Purpose.TheVariants.{Probe as ForProbe}
 use Rattle.hub_core.proofs.kept.EventsTold.{event_told, lost_told, probe_commands, sound_is}
 use Rattle.hub_core.proofs.kept.HubReads.{run_place}
 use Rattle.hub_core.proofs.kept.Finds.{none_does}
@@ -34,7 +42,7 @@ use Rattle.hub_core.proofs.kept.ProbeSteps.{order_fell, order_lost, order_probe_
 use Rattle.hub_core.specs.HubCalls.{IsPacked}
 use Rattle.hub_core.specs.HubsKept.{HandsAre, IsWhole, open_of}
 use Rattle.hub_core.specs.KeptOrders.{HasFallen, HasRisen, IsLostTo, MayTurn, OrderIsBeside, hand_of}
-use Rattle.hub_core.specs.OpenHubs.{OpenHub, configuration_of, device_at, held_after, held_in}
+use Rattle.hub_core.specs.OpenHubs.{OpenHub, configuration_of, device_at, held_in}
 use Rattle.hub_core.specs.ReadHistories.{HistoryState, read_in, with_entry, with_lost, with_more}
 use Rattle.hub_core.specs.declared.open_windows.OpenWindow.TheInside.{Inside}
 use Rattle.hub_core.specs.declared.kept_orders.KeptOrder.{KeptOrder}
@@ -46,41 +54,145 @@ use Rattle.lock_leasing.specs.Places.{GripsFit}
 use Rattle.lock_leasing.specs.Waits.{grip_wait, lost_by}
 use Rattle.lock_leasing.specs.Words.{live_runs}
 use Rattle.serial_line.specs.Marks.{Marked}
-use Rattle.std.proofs.Common.{ap, arith, cond, refl, subst, sym, ◌∙◌}
+use Rattle.std.proofs.Common.{ap, ap₂, arith, cond, refl, subst, sym, ◌∙◌}
 use Rattle.std.proofs.Math.Bool.{and-true}
 use Rattle.std.proofs.lemmas.Bool.{eq-eqb, eqb-true, lt-ltb}
 use Rattle.std.proofs.lemmas.Grind.{common_steps}
 use Rattle.std.proofs.lemmas.Option.{same_Some}
-use Rattle.std.specs.Prelude.{Bool, IfSome, IsSome, IsTrue, List, None, Option, Some, [], false, find, fold, if◌then◌else◌, length, not, option_map, option_to_list, slice_get, slice_index_or, suc, true, unwrap_or, zero, ℕ, ◌&&◌, ◌+◌, ◌-◌, ◌<◌, ◌==◌, ◌∷◌, ◌≡◌, ◌≤◌}
+use Rattle.std.specs.Prelude.{Bool, IfSome, IsSome, IsTrue, List, None, Option, Some, [], false, find, fold, if◌then◌else◌, length, not, option_map, option_to_list, slice_get, slice_index_or, suc, true, unwrap_or, zero, ℕ, ◌&&◌, ◌++◌, ◌+◌, ◌-◌, ◌<◌, ◌==◌, ◌∷◌, ◌≡◌, ◌≤◌}
 use Rattle.window_order.proofs.Grips.{fits_same}
 use Rattle.window_order.proofs.ReadFacts.{IsRead, read_facts}
 use Rattle.window_order.proofs.Runs.{live_run}
 use Rattle.window_order.proofs.TurnedLines.{event_place_of}
 use Rattle.window_order.specs.TableChanges.{is_device as is_that_device}
 
+-- What the detector's grip brings home
+
+-- what the code knows of it
+pub record ProbeKnown {D : Type 0} (stands turns probes faults : D → ℕ) (h : Inside D) (s : OpenHub D) (tag : ℕ) (grip : Gripped D Done) (sl : Slip) : Type 0 where
+  pub seen : open_of h ≡ s
+  pub there : IsKept s.places grip.slip grip.task
+  pub maker : grip.slip.maker ≡ 0
+  pub called : WasCalled grip.stage.told grip.task grip.slip tag (stands grip.device) (turns grip.device) (probes grip.device) (faults grip.device)
+  pub same : sl ≡ grip.slip
+
+-- .. as the parts tell it: a probe was out, which says how its device is counted
+pub record ProbeHere {D : Type 0} (stands turns probes faults : D → ℕ) (h : Inside D) (tag : ℕ) (grip : Gripped D Done) : Type 0 where
+  pub v : Option ℕ
+  pub returned : IsReturned stands turns probes faults h (ForProbe v) tag grip
+  pub for : IsFor (open_of h) grip.slip grip.task (Probes v)
+
+probe_here : {D : Type 0} {stands turns probes faults : D → ℕ} (h : Inside D) (s : OpenHub D) (tag : ℕ) (grip : Gripped D Done) (sl : Slip) → ProbeKnown stands turns probes faults h s tag grip sl → IsWhole stands turns probes faults h → ProbeHere stands turns probes faults h tag grip
+probe_here {D = D} {stands = stands} {turns = turns} {probes = probes} {faults = faults} h s tag grip sl known k =
+    record { v = out.0; returned = returned; for = returned_for h (ForProbe out.0) tag grip returned k }
+  where
+    there : IsKept h.away.gate.places grip.slip grip.task
+    there = ap (λ (x : OpenHub D). slice_get x.places grip.slip.device.0) known.seen ∙ known.there
+
+    out : (v : Option ℕ) × ((device_at h.away.known.items grip.slip.device.0).purpose ≡ ForProbe v)
+    out = probe_purpose _ _ _ _ (open_of h) grip.slip grip.task k.shown there known.maker
+
+    returned : IsReturned stands turns probes faults h (ForProbe out.0) tag grip
+    returned = record { there = there; purpose = out.1; called = known.called }
+
+-- the grip that was out
+probe_grip : {D : Type 0} {stands turns probes faults : D → ℕ} {h : Inside D} {tag : ℕ} {grip : Gripped D Done} (here : ProbeHere stands turns probes faults h tag grip) → grip.slip.maker ≡ 0 → (configuration_of (open_of h)).grips grip.slip.device.0 ≡ Some (record { maker = 0; purpose = Probes here.v })
+probe_grip here none = here.for.grip ∙ ap (λ m. Some (record { maker = m; purpose = Probes here.v })) none
+
+-- it was in no run's hand
+hands_same : {D : Type 0} (a b : Away D) (grip : Gripped D Done) → IsHomeAgain a grip b → grip.slip.maker ≡ 0 → b.hands.items ≡ a.hands.items
+hands_same a b grip home none = home.hands ∙ ap (λ m. with_hand a.hands.items m None) none
+
+-- how the device is counted, also where it is told of what the hub shows
+counted_here : {D : Type 0} (h : Inside D) (s : OpenHub D) (d : ℕ) (b : Bool) → open_of h ≡ s → (read_of (configuration_of s)).up d ≡ b → (read_in h.history).up d ≡ b
+counted_here {D = D} h s d b seen up = ap (λ (x : OpenHub D). (read_of (configuration_of x)).up d) seen ∙ up
+
+-- It is as it was counted
+
+same_gives : (w : Setting) (n : Reading) (d : ℕ) (told : Told) → n.up d ≡ not (has_died told) → probe_entries w n d told ≡ []
+same_gives w n d Worked up = ap (λ b. if b then [] else back_entries d) up
+same_gives w n d (Sensed x) up = ap (λ b. if b then [] else back_entries d) up
+same_gives w n d Died up = ap (λ b. if b then dead_entries d (lost_by w n d) else []) up
+
+-- no entries are none more
+none_more : (h : HistoryState) (maker : ℕ) → h ≡ with_more h maker []
+none_more h maker =
+    let history : h.history ≡ h.history ++ [] = sym (append_nil h.history) in
+    let spare : h.spare ≡ h.spare - 0 = omega arith in
+    λ i. record h { history = history i; spare = spare i }
+  where
+    append_nil : {A : Type 0} (xs : List A) → xs ++ [] ≡ xs
+    append_nil [] = refl
+    append_nil (x ∷ xs) = ap (λ l. x ∷ l) (append_nil xs)
+
+same_back : {D : Type 0} {stands turns probes faults : D → ℕ} (h t : Inside D) (s : OpenHub D) (tag : ℕ) (grip : Gripped D Done) (sl : Slip) → ProbeKnown stands turns probes faults h s tag grip sl → (read_of (configuration_of s)).up grip.slip.device.0 ≡ not (has_died grip.stage.told)
+    → IsHome h t grip → t.history ≡ h.history → (here : ProbeHere stands turns probes faults h tag grip) → CameHome stands turns probes faults h t (ForProbe here.v) tag grip []
+same_back h t s tag grip sl known same parts history here =
+    record {
+      returned = here.returned;
+      parts = parts;
+      gives = same_gives h.history.setting (read_in h.history) grip.slip.device.0 grip.stage.told (counted_here h s grip.slip.device.0 (not (has_died grip.stage.told)) known.seen same);
+      history_is = history ∙ none_more h.history grip.slip.maker;
+    }
+
+pub same_whole : {D : Type 0} {stands turns probes faults : D → ℕ} (h t : Inside D) (s : OpenHub D) (tag : ℕ) (grip : Gripped D Done) (sl : Slip) → ProbeKnown stands turns probes faults h s tag grip sl → (read_of (configuration_of s)).up grip.slip.device.0 ≡ not (has_died grip.stage.told)
+    → IsHome h t grip → t.history ≡ h.history → t.order ≡ h.order → IsWhole stands turns probes faults h → IsWhole stands turns probes faults t
+same_whole h t s tag grip sl known same parts history order k =
+    let here = probe_here h s tag grip sl known k in
+    came_whole h t (ForProbe here.v) tag grip [] (same_back h t s tag grip sl known same parts history here)
+    (λ formed home. subst (λ (x : HistoryState). OrderIsBeside h.rounds x (configuration_of (open_of t)).grips t.order.line t.order.table) (sym history)
+    (subst (λ (x : KeptOrder). OrderIsBeside h.rounds h.history (configuration_of (open_of t)).grips x.line x.table) (sym order)
+    (order_probe_home h.history.setting (read_in h.history) (configuration_of (open_of h)).grips (configuration_of (open_of t)).grips grip.slip.device.0 here.v h.order.line h.order.table (probe_grip here known.maker) home k.order))) k
+
+pub same_given : {D : Type 0} {stands turns probes faults : D → ℕ} (h t : Inside D) (s : OpenHub D) (tag : ℕ) (grip : Gripped D Done) (sl : Slip) (made : Made) → ProbeKnown stands turns probes faults h s tag grip sl → (read_of (configuration_of s)).up grip.slip.device.0 ≡ not (has_died grip.stage.told)
+    → IsHome h t grip → t.moment ≡ h.moment → t.history ≡ h.history → entries_made made ≡ [] → IsPacked made → IsWhole stands turns probes faults h → ProbeBack s (open_of t) grip made
+same_given h t s tag grip sl made known same parts moment history made_is packed k =
+    let here = probe_here h s tag grip sl known k in
+    probe_given h t s (ForProbe here.v) tag grip [] made known.seen known.maker moment (same_back h t s tag grip sl known same parts history here) made_is packed k
+
 -- The device is back
 
-back_told : {D : Type 0} {stands turns probes faults : D → ℕ} (h : Inside D) (s : OpenHub D) (tag : ℕ) (grip : Gripped D Done) (sl : Slip) (before events : Events) → ProbeKnown stands turns probes faults h s tag grip sl before → (read_of (configuration_of s)).up grip.slip.device.0 ≡ false → has_died grip.stage.told ≡ false
-    → events ≡ record before { rose = before.rose + 1 } → (here : ProbeHere stands turns probes faults h tag grip before) → ProbeTells h.history.setting (read_in h.history) grip.slip.device.0 here.v grip.stage.told (Rose grip.slip.device ∷ []) events
-back_told h s tag grip sl before events known down lives more here =
-    back_tells h.history.setting (read_in h.history) grip.slip.device.0 here.v grip.stage.told events here.for.up (counted_here h s grip.slip.device.0 false known.seen down) lives (more ∙ ap (λ (e : Events). record e { rose = e.rose + 1 }) here.before_is)
+rose_gives : (w : Setting) (n : Reading) (d : ℕ) (told : Told) → n.up d ≡ false → has_died told ≡ false → probe_entries w n d told ≡ back_entries d
+rose_gives w n d Worked down lives = ap (λ b. if b then [] else back_entries d) down
+rose_gives w n d (Sensed x) down lives = ap (λ b. if b then [] else back_entries d) down
+rose_gives w n d Died down lives = absurd (cc)
+
+-- what is known of it
+pub record FoundBack {D : Type 0} (h : Inside D) (s : OpenHub D) (grip : Gripped D Done) (events : Events) : Type 0 where
+  pub down : (read_of (configuration_of s)).up grip.slip.device.0 ≡ false
+  pub lives : has_died grip.stage.told ≡ false
+  pub events_are : events ≡ events_after grip.task grip.stage.told (device_at h.away.known.items grip.slip.device.0).events
+
+back_tells : {D : Type 0} {stands turns probes faults : D → ℕ} (h : Inside D) (s : OpenHub D) (tag : ℕ) (grip : Gripped D Done) (sl : Slip) (events : Events) → ProbeKnown stands turns probes faults h s tag grip sl → FoundBack h s grip events → (here : ProbeHere stands turns probes faults h tag grip) → TellsTurn stands turns probes faults h (ForProbe here.v) tag grip (Rose grip.slip.device) []
+back_tells h s tag grip sl events known found here = record {
+  returned = here.returned;
+  gives = rose_gives h.history.setting (read_in h.history) grip.slip.device.0 grip.stage.told (counted_here h s grip.slip.device.0 false known.seen found.down) found.lives;
+  leave = refl;
+}
+
+back_rises : {D : Type 0} {stands turns probes faults : D → ℕ} (h : Inside D) (s : OpenHub D) (tag : ℕ) (grip : Gripped D Done) (sl : Slip) (events : Events) → ProbeKnown stands turns probes faults h s tag grip sl → FoundBack h s grip events → (here : ProbeHere stands turns probes faults h tag grip) → Rises h (ForProbe here.v) grip sl events
+back_rises h s tag grip sl events known found here = record { same = known.same; down = sym here.for.on ∙ counted_here h s grip.slip.device.0 false known.seen found.down; lives = found.lives; events_are = found.events_are }
 
 -- the device may come back
-pub back_may : {D : Type 0} {stands turns probes faults : D → ℕ} (h : Inside D) (s : OpenHub D) (tag : ℕ) (grip : Gripped D Done) (sl : Slip) (before events : Events) → ProbeKnown stands turns probes faults h s tag grip sl before → (read_of (configuration_of s)).up grip.slip.device.0 ≡ false → has_died grip.stage.told ≡ false
-    → events ≡ record before { rose = before.rose + 1 } → IsWhole stands turns probes faults h → MayTurn false (Back sl.device events.rose) h.history.spare sl.device h.order.line h.order.table
-back_may {D = D} {stands = stands} {turns = turns} {probes = probes} {faults = faults} h s tag grip sl before events known down lives more k =
-    let here = probe_here h s tag grip sl before known k in
-    let tells : TellsTurn stands turns probes faults h grip.slip grip.task (Rose grip.slip.device) [] grip.device (held_after grip.stage.told grip.task (held_in (open_of h) grip.slip.device.0)) events h.moment = record {
-      comes = probe_back stands turns probes faults (open_of h) grip.slip grip.task here.v grip.stage.told grip.device tag (Rose grip.slip.device ∷ []) events here.for known.maker known.called (back_told h s tag grip sl before events known down lives more here) k.shown;
-      leave = refl;
-    } in
-    subst (λ (z : Slip). MayTurn false (Back z.device events.rose) h.history.spare z.device h.order.line h.order.table) (sym known.same)
-    (may_rise h grip.slip grip.task grip.slip.device [] grip.device (held_after grip.stage.told grip.task (held_in (open_of h) grip.slip.device.0)) events h.moment events.rose tells here.below (ap (λ (e : Events). e.rose) more ∙ ap (λ (e : Events). e.rose + 1) here.before_is) k)
+pub back_may : {D : Type 0} {stands turns probes faults : D → ℕ} (h : Inside D) (s : OpenHub D) (tag : ℕ) (grip : Gripped D Done) (sl : Slip) (events : Events) → ProbeKnown stands turns probes faults h s tag grip sl → FoundBack h s grip events → IsWhole stands turns probes faults h
+    → MayTurn false (Back sl.device events.rose) h.history.spare sl.device h.order.line h.order.table
+back_may h s tag grip sl events known found k =
+    let here = probe_here h s tag grip sl known k in
+    may_rise h (ForProbe here.v) tag grip [] sl events (back_tells h s tag grip sl events known found here) (back_rises h s tag grip sl events known found here) k
 
--- what line and table make of it
+-- what history, line and table make of it
 pub record IsRisen {D : Type 0} (h t : Inside D) (sl : Slip) (events : Events) : Type 0 where
   pub history : t.history ≡ with_entry h.history 0 (Rose sl.device)
   pub rises : HasRisen h.history sl.device events.rose h.order.line t.order.line h.order.table t.order.table
+
+risen_back : {D : Type 0} {stands turns probes faults : D → ℕ} (h t : Inside D) (s : OpenHub D) (tag : ℕ) (grip : Gripped D Done) (sl : Slip) (events : Events) → ProbeKnown stands turns probes faults h s tag grip sl → FoundBack h s grip events → IsHome h t grip → IsRisen h t sl events → (here : ProbeHere stands turns probes faults h tag grip) → CameHome stands turns probes faults h t (ForProbe here.v) tag grip (Rose grip.slip.device ∷ [])
+risen_back h t s tag grip sl events known found parts risen here =
+    record {
+      returned = here.returned;
+      parts = parts;
+      gives = (back_tells h s tag grip sl events known found here).gives;
+      history_is = risen.history ∙ ap (λ (x : Slip). with_entry h.history 0 (Rose x.device)) known.same ∙ ap (λ m. with_more h.history m (Rose grip.slip.device ∷ [])) (sym known.maker);
+    }
 
 -- where its event stands
 place_told : {D : Type 0} {stands turns probes faults : D → ℕ} (h : Inside D) (d : DeviceNo) → d.0 < length h.history.setting.first → IsWhole stands turns probes faults h → event_place h.history.history None (accesses_at h.order.table d.0) h.order.line.marks ≡ event_place_of h.history.setting (read_in h.history) d.0
@@ -91,35 +203,26 @@ place_told h d below k = either_model (event_place h.history.history None (acces
 table_place : {D : Type 0} {stands turns probes faults : D → ℕ} (h : Inside D) (d : ℕ) → d < length h.history.setting.first → IsWhole stands turns probes faults h → d < length h.order.table
 table_place h d below k = let size : length h.order.table ≡ length h.history.setting.first = k.order.table_is.devices in omega (arith, below, size)
 
-pub risen_whole : {D : Type 0} {stands turns probes faults : D → ℕ} (h t : Inside D) (s : OpenHub D) (value tag : ℕ) (grip : Gripped D Done) (sl : Slip) (before events : Events) → ProbeKnown stands turns probes faults h s tag grip sl before → (read_of (configuration_of s)).up grip.slip.device.0 ≡ false → has_died grip.stage.told ≡ false
-    → events ≡ record before { rose = before.rose + 1 } → ProbeCame h t value events grip (Rose grip.slip.device ∷ []) → IsRisen h t sl events → IsWhole stands turns probes faults h → IsWhole stands turns probes faults t
-risen_whole {D = D} {stands = stands} {turns = turns} {probes = probes} {faults = faults} h t s value tag grip sl before events known down lives more came risen k =
-    probe_whole h t value events here.v tag grip (Rose grip.slip.device ∷ []) here.returned here.for (back_told h s tag grip sl before events known down lives more here) came
-    (λ home. order_probe_home t.history.setting (read_in t.history) (configuration_of (open_of h)).grips (configuration_of (open_of t)).grips d.0 here.v t.order.line t.order.table here.for.grip home
-    (order_rose h.history t.history (configuration_of (open_of h)).grips 0 d.0 events.rose (event_place h.history.history None (accesses_at h.order.table d.0) h.order.line.marks) h.order.line t.order.line h.order.table t.order.table (table_place h d.0 here.below k) own.history (place_told h d here.below k)
-    (ap (λ (e : Events). e.rose) more ∙ ap (λ (e : Events). e.rose + 1) here.before_is) own.rises.marks own.rises.spare own.rises.runs own.rises.sealed own.rises.counted k.order)) k
+pub risen_whole : {D : Type 0} {stands turns probes faults : D → ℕ} (h t : Inside D) (s : OpenHub D) (tag : ℕ) (grip : Gripped D Done) (sl : Slip) (events : Events) → ProbeKnown stands turns probes faults h s tag grip sl → FoundBack h s grip events → IsHome h t grip → IsRisen h t sl events → IsWhole stands turns probes faults h → IsWhole stands turns probes faults t
+risen_whole {D = D} {stands = stands} {turns = turns} {probes = probes} {faults = faults} h t s tag grip sl events known found parts risen k =
+    came_whole h t (ForProbe here.v) tag grip (Rose grip.slip.device ∷ []) (risen_back h t s tag grip sl events known found parts risen here)
+    (λ formed home. order_probe_home t.history.setting (read_in t.history) (configuration_of (open_of h)).grips (configuration_of (open_of t)).grips d.0 here.v t.order.line t.order.table (probe_grip here known.maker) home
+    (order_rose h.history t.history (configuration_of (open_of h)).grips 0 d.0 events.rose (event_place h.history.history None (accesses_at h.order.table d.0) h.order.line.marks) h.order.line t.order.line h.order.table t.order.table (table_place h d.0 here.for.below k) own.history (place_told h d here.for.below k)
+    (risen_number h (ForProbe here.v) tag grip sl events here.returned (back_rises h s tag grip sl events known found here) k) own.rises.marks own.rises.spare own.rises.runs own.rises.sealed own.rises.counted k.order)) k
   where
     d : DeviceNo
     d = grip.slip.device
 
-    here : ProbeHere stands turns probes faults h tag grip before
-    here = probe_here h s tag grip sl before known k
+    here : ProbeHere stands turns probes faults h tag grip
+    here = probe_here h s tag grip sl known k
 
     own : IsRisen h t grip.slip events
     own = subst (λ (z : Slip). IsRisen h t z events) known.same risen
 
-pub risen_given : {D : Type 0} {stands turns probes faults : D → ℕ} (h t : Inside D) (s : OpenHub D) (value tag : ℕ) (grip : Gripped D Done) (sl : Slip) (before events : Events) (made : Made) → ProbeKnown stands turns probes faults h s tag grip sl before → (read_of (configuration_of s)).up grip.slip.device.0 ≡ false → has_died grip.stage.told ≡ false
-    → events ≡ record before { rose = before.rose + 1 } → ProbeCame h t value events grip (Rose grip.slip.device ∷ []) → entries_made made ≡ Rose sl.device ∷ [] → IsPacked made → IsWhole stands turns probes faults h → ProbeBack s (open_of t) grip made
-risen_given h t s value tag grip sl before events made known down lives more came made_is packed k =
-    let here = probe_here h s tag grip sl before known k in
-    probe_given h t s value events here.v tag grip (Rose grip.slip.device ∷ []) made known.seen here.returned here.for (back_told h s tag grip sl before events known down lives more here) came (made_is ∙ ap (λ (z : Slip). Rose z.device ∷ []) known.same) packed k
-
--- there is a number for one restart, or one failure, more
-pub few_events_here : {D : Type 0} {stands turns probes faults : D → ℕ} (h : Inside D) (s : OpenHub D) (slip : Slip) (sl : Slip) (before : Events) → open_of h ≡ s → slip.device.0 < length h.history.setting.first → sl ≡ slip → before ≡ (device_at s.devices sl.device.0).events → IsWhole stands turns probes faults h → (before.fell + 1 < 4294967296) × (before.rose + 1 < 4294967296)
-few_events_here {D = D} h s slip sl before seen below same before_is k =
-    let few = few_turns h slip.device.0 below k in
-    let known : before ≡ (device_at h.devices.items slip.device.0).events = before_is ∙ ap (λ (z : Slip). (device_at s.devices z.device.0).events) same ∙ ap (λ (x : OpenHub D). (device_at x.devices slip.device.0).events) (sym seen) in
-    (subst (λ (e : Events). e.fell + 1 < 4294967296) (sym known) few.0, subst (λ (e : Events). e.rose + 1 < 4294967296) (sym known) few.1)
+pub risen_given : {D : Type 0} {stands turns probes faults : D → ℕ} (h t : Inside D) (s : OpenHub D) (tag : ℕ) (grip : Gripped D Done) (sl : Slip) (events : Events) (made : Made) → ProbeKnown stands turns probes faults h s tag grip sl → FoundBack h s grip events → IsHome h t grip → t.moment ≡ h.moment → IsRisen h t sl events → entries_made made ≡ Rose sl.device ∷ [] → IsPacked made → IsWhole stands turns probes faults h → ProbeBack s (open_of t) grip made
+risen_given h t s tag grip sl events made known found parts moment risen made_is packed k =
+    let here = probe_here h s tag grip sl known k in
+    probe_given h t s (ForProbe here.v) tag grip (Rose grip.slip.device ∷ []) made known.seen known.maker moment (risen_back h t s tag grip sl events known found parts risen here) (made_is ∙ ap (λ (z : Slip). Rose z.device ∷ []) known.same) packed k
 
 -- The device has failed
 
@@ -248,51 +351,61 @@ hand_commands w n g r hands fit are run sound = out_commands w n g r (hand_of ha
 
 -- The device has failed, and a run is lost with it, or none
 
-dead_told : {D : Type 0} {stands turns probes faults : D → ℕ} (h : Inside D) (s : OpenHub D) (tag : ℕ) (grip : Gripped D Done) (sl : Slip) (before events : Events) → ProbeKnown stands turns probes faults h s tag grip sl before → (read_of (configuration_of s)).up grip.slip.device.0 ≡ true → has_died grip.stage.told ≡ true
-    → events ≡ record before { fell = before.fell + 1 } → (here : ProbeHere stands turns probes faults h tag grip before) → ProbeTells h.history.setting (read_in h.history) grip.slip.device.0 here.v grip.stage.told (dead_entries grip.slip.device.0 (lost_by h.history.setting (read_in h.history) grip.slip.device.0)) events
-dead_told h s tag grip sl before events known up died more here =
-    dead_tells h.history.setting (read_in h.history) grip.slip.device.0 here.v grip.stage.told events (counted_here h s grip.slip.device.0 true known.seen up) died (more ∙ ap (λ (e : Events). record e { fell = e.fell + 1 }) here.before_is)
+fell_gives : (w : Setting) (n : Reading) (d : ℕ) (told : Told) → n.up d ≡ true → has_died told ≡ true → probe_entries w n d told ≡ dead_entries d (lost_by w n d)
+fell_gives w n d Worked up died = absurd (cc)
+fell_gives w n d (Sensed x) up died = absurd (cc)
+fell_gives w n d Died up died = ap (λ b. if b then dead_entries d (lost_by w n d) else []) up
 
-dead_comes : {D : Type 0} {stands turns probes faults : D → ℕ} (h : Inside D) (s : OpenHub D) (tag : ℕ) (grip : Gripped D Done) (sl : Slip) (before events : Events) → ProbeKnown stands turns probes faults h s tag grip sl before → (read_of (configuration_of s)).up grip.slip.device.0 ≡ true → has_died grip.stage.told ≡ true
-    → events ≡ record before { fell = before.fell + 1 } → IsWhole stands turns probes faults h → ComesBack stands turns probes faults (open_of h) grip.slip grip.task (dead_entries grip.slip.device.0 (lost_by h.history.setting (read_in h.history) grip.slip.device.0)) grip.device (held_after grip.stage.told grip.task (held_in (open_of h) grip.slip.device.0)) events h.moment
-dead_comes {D = D} {stands = stands} {turns = turns} {probes = probes} {faults = faults} h s tag grip sl before events known up died more k =
-    let here = probe_here h s tag grip sl before known k in
-    probe_back stands turns probes faults (open_of h) grip.slip grip.task here.v grip.stage.told grip.device tag _ events here.for known.maker known.called (dead_told h s tag grip sl before events known up died more here) k.shown
+-- what is known of it
+pub record FoundDead {D : Type 0} (h : Inside D) (s : OpenHub D) (grip : Gripped D Done) (events : Events) : Type 0 where
+  pub up : (read_of (configuration_of s)).up grip.slip.device.0 ≡ true
+  pub died : has_died grip.stage.told ≡ true
+  pub events_are : events ≡ events_after grip.task grip.stage.told (device_at h.away.known.items grip.slip.device.0).events
 
--- the device may fail
-pub dead_may : {D : Type 0} {stands turns probes faults : D → ℕ} (h : Inside D) (s : OpenHub D) (tag : ℕ) (grip : Gripped D Done) (sl : Slip) (before events : Events) → ProbeKnown stands turns probes faults h s tag grip sl before → (read_of (configuration_of s)).up grip.slip.device.0 ≡ true → has_died grip.stage.told ≡ true
-    → events ≡ record before { fell = before.fell + 1 } → IsWhole stands turns probes faults h → MayTurn true (Failed sl.device events.fell) h.history.spare sl.device h.order.line h.order.table
-dead_may {D = D} {stands = stands} {turns = turns} {probes = probes} {faults = faults} h s tag grip sl before events known up died more k =
-    let here = probe_here h s tag grip sl before known k in
-    let tells : TellsTurn stands turns probes faults h grip.slip grip.task (Fell grip.slip.device) (lost_entries (lost_by h.history.setting (read_in h.history) grip.slip.device.0)) grip.device (held_after grip.stage.told grip.task (held_in (open_of h) grip.slip.device.0)) events h.moment = record {
-      comes = dead_comes h s tag grip sl before events known up died more k;
-      leave = leaves (lost_by h.history.setting (read_in h.history) grip.slip.device.0);
-    } in
-    subst (λ (z : Slip). MayTurn true (Failed z.device events.fell) h.history.spare z.device h.order.line h.order.table) (sym known.same)
-    (may_fall h grip.slip grip.task grip.slip.device (lost_entries (lost_by h.history.setting (read_in h.history) grip.slip.device.0)) grip.device (held_after grip.stage.told grip.task (held_in (open_of h) grip.slip.device.0)) events h.moment events.fell tells here.below (ap (λ (e : Events). e.fell) more ∙ ap (λ (e : Events). e.fell + 1) here.before_is) k)
+-- the run that is lost
+abbrev lost_here : {D : Type 0} → Inside D → Gripped D Done → Option ℕ
+lost_here h grip = lost_by h.history.setting (read_in h.history) grip.slip.device.0
+
+abbrev doom_entries : DeviceNo → Option ℕ → List Entry
+doom_entries d lost = option_to_list (option_map (λ x. Doomed (run_no x) (Lost d)) lost)
+
+dead_tells : {D : Type 0} {stands turns probes faults : D → ℕ} (h : Inside D) (s : OpenHub D) (tag : ℕ) (grip : Gripped D Done) (sl : Slip) (events : Events) → ProbeKnown stands turns probes faults h s tag grip sl → FoundDead h s grip events → (here : ProbeHere stands turns probes faults h tag grip)
+    → TellsTurn stands turns probes faults h (ForProbe here.v) tag grip (Fell grip.slip.device) (doom_entries grip.slip.device (lost_here h grip))
+dead_tells h s tag grip sl events known found here = record {
+  returned = here.returned;
+  gives = fell_gives h.history.setting (read_in h.history) grip.slip.device.0 grip.stage.told (counted_here h s grip.slip.device.0 true known.seen found.up) found.died;
+  leave = leaves (lost_here h grip);
+}
   where
-    lost_entries : Option ℕ → List Entry
-    lost_entries lost = option_to_list (option_map (λ x. Doomed (run_no x) (Lost grip.slip.device)) lost)
-
     fell : Reading
     fell = entry h.history.setting (read_in h.history) (Fell grip.slip.device)
 
-    leaves : (lost : Option ℕ) → (fold (entry h.history.setting) fell (option_to_list (option_map (λ x. Doomed (run_no x) (Lost grip.slip.device)) lost))).line ≡ fell.line
+    leaves : (lost : Option ℕ) → (fold (entry h.history.setting) fell (doom_entries grip.slip.device lost)).line ≡ fell.line
     leaves None = refl
     leaves (Some r) = refl
+
+dead_falls : {D : Type 0} {stands turns probes faults : D → ℕ} (h : Inside D) (s : OpenHub D) (tag : ℕ) (grip : Gripped D Done) (sl : Slip) (events : Events) → ProbeKnown stands turns probes faults h s tag grip sl → FoundDead h s grip events → (here : ProbeHere stands turns probes faults h tag grip) → Falls h (ForProbe here.v) grip sl events
+dead_falls h s tag grip sl events known found here = record { same = known.same; up = sym here.for.on ∙ counted_here h s grip.slip.device.0 true known.seen found.up; died = found.died; events_are = found.events_are }
+
+-- the device may fail
+pub dead_may : {D : Type 0} {stands turns probes faults : D → ℕ} (h : Inside D) (s : OpenHub D) (tag : ℕ) (grip : Gripped D Done) (sl : Slip) (events : Events) → ProbeKnown stands turns probes faults h s tag grip sl → FoundDead h s grip events → IsWhole stands turns probes faults h
+    → MayTurn true (Failed sl.device events.fell) h.history.spare sl.device h.order.line h.order.table
+dead_may h s tag grip sl events known found k =
+    let here = probe_here h s tag grip sl known k in
+    may_fall h (ForProbe here.v) tag grip (doom_entries grip.slip.device (lost_here h grip)) sl events (dead_tells h s tag grip sl events known found here) (dead_falls h s tag grip sl events known found here) k
 
 -- what the code finds of the lost run: it is one of the window, and its doom has a place
 pub record LostFits (w : Setting) (hands : ℕ) (lost : Option RunNo) (spare : ℕ) : Type 0 where
   pub run : IfSome lost (λ r. IsTrue (is_run w.runs r.0) × (r.0 ≤ hands))
   pub room : IsSome lost → 0 < spare
 
-pub lost_fits : {D : Type 0} {stands turns probes faults : D → ℕ} (h : Inside D) (s : OpenHub D) (tag : ℕ) (grip : Gripped D Done) (sl : Slip) (before events : Events) (lost : Option RunNo) (fell : HistoryState) → ProbeKnown stands turns probes faults h s tag grip sl before → (read_of (configuration_of s)).up grip.slip.device.0 ≡ true → has_died grip.stage.told ≡ true
-    → events ≡ record before { fell = before.fell + 1 } → lost ≡ lost_run h.history.history (accesses_at h.order.table sl.device.0) → fell ≡ with_entry h.history 0 (Fell sl.device) → IsWhole stands turns probes faults h → LostFits fell.setting (length h.hands.items) lost fell.spare
-lost_fits {D = D} {stands = stands} {turns = turns} {probes = probes} {faults = faults} h s tag grip sl before events lost fell known up died more found told k =
-    record {
-      run = subst (λ (w : Setting). IfSome lost (λ r. IsTrue (is_run w.runs r.0) × (r.0 ≤ length h.hands.items))) (sym (ap (λ (x : HistoryState). x.setting) told)) (runs lost loses);
+pub lost_fits : {D : Type 0} {stands turns probes faults : D → ℕ} (h : Inside D) (away : Away D) (s : OpenHub D) (tag : ℕ) (grip : Gripped D Done) (sl : Slip) (events : Events) (lost : Option RunNo) (fell : HistoryState) → ProbeKnown stands turns probes faults h s tag grip sl → FoundDead h s grip events
+    → lost ≡ lost_run h.history.history (accesses_at h.order.table sl.device.0) → fell ≡ with_entry h.history 0 (Fell sl.device) → IsHomeAgain h.away grip away → IsWhole stands turns probes faults h → LostFits fell.setting (length away.hands.items) lost fell.spare
+lost_fits {D = D} {stands = stands} {turns = turns} {probes = probes} {faults = faults} h away s tag grip sl events lost fell known dead found told home k =
+    subst (λ x. LostFits fell.setting (length x) lost fell.spare) (sym (hands_same h.away away grip home known.maker)) (record {
+      run = subst (λ (w : Setting). IfSome lost (λ r. IsTrue (is_run w.runs r.0) × (r.0 ≤ length h.away.hands.items))) (sym (ap (λ (x : HistoryState). x.setting) told)) (runs lost loses);
       room = λ some. places lost some loses;
-    }
+    })
   where
     w : Setting
     w = h.history.setting
@@ -303,13 +416,13 @@ lost_fits {D = D} {stands = stands} {turns = turns} {probes = probes} {faults = 
     d : ℕ
     d = grip.slip.device.0
 
-    here : ProbeHere stands turns probes faults h tag grip before
-    here = probe_here h s tag grip sl before known k
+    here : ProbeHere stands turns probes faults h tag grip
+    here = probe_here h s tag grip sl known k
 
     loses : option_map (λ (r : RunNo). r.0) lost ≡ lost_by w n d
-    loses = ap (option_map (λ (r : RunNo). r.0)) (found ∙ ap (λ (z : Slip). lost_run h.history.history (accesses_at h.order.table z.device.0)) known.same) ∙ lost_is h d here.v here.for.grip here.below k
+    loses = ap (option_map (λ (r : RunNo). r.0)) (found ∙ ap (λ (z : Slip). lost_run h.history.history (accesses_at h.order.table z.device.0)) known.same) ∙ lost_is h d here.v (probe_grip here known.maker) here.for.below k
 
-    runs : (o : Option RunNo) → option_map (λ (r : RunNo). r.0) o ≡ lost_by w n d → IfSome o (λ r. IsTrue (is_run w.runs r.0) × (r.0 ≤ length h.hands.items))
+    runs : (o : Option RunNo) → option_map (λ (r : RunNo). r.0) o ≡ lost_by w n d → IfSome o (λ r. IsTrue (is_run w.runs r.0) × (r.0 ≤ length h.away.hands.items))
     runs None is = tt
     runs (Some r) is =
         let of = lost_runs w n d r.0 (read_whole h k) (sym is) in
@@ -319,7 +432,7 @@ lost_fits {D = D} {stands = stands} {turns = turns} {probes = probes} {faults = 
     places : (o : Option RunNo) → IsSome o → option_map (λ (r : RunNo). r.0) o ≡ lost_by w n d → 0 < fell.spare
     places None none is = absurd (cc none)
     places (Some r) some is =
-        let fits : length (dead_entries d (lost_by w n d)) ≤ h.history.spare = back_places h grip.slip grip.task (dead_entries d (lost_by w n d)) grip.device _ events h.moment (dead_comes h s tag grip sl before events known up died more k) k in
+        let fits : length (dead_entries d (lost_by w n d)) ≤ h.history.spare = subst (λ es. length es ≤ h.history.spare) (dead_tells h s tag grip sl events known dead here).gives (returned_places h (ForProbe here.v) tag grip here.returned k) in
         let two : 2 ≤ h.history.spare = subst (λ o. length (dead_entries d o) ≤ h.history.spare) (sym is) fits in
         let left : fell.spare ≡ h.history.spare - 1 = ap (λ (x : HistoryState). x.spare) told in
         omega (arith, two, left)
@@ -331,27 +444,26 @@ pub record IsFallen {D : Type 0} (h t : Inside D) (sl : Slip) (events : Events) 
   pub found : lost ≡ lost_run h.history.history (accesses_at h.order.table sl.device.0)
   pub doomed : t.history ≡ with_lost fell sl.device lost
   pub line : t.order.line ≡ fallen.line
-  pub table : IsLostTo lost h.hands.items fallen.table t.order.table
+  pub table : IsLostTo lost t.away.hands.items fallen.table t.order.table
 
 -- its entries
 fallen_more : (h : HistoryState) (d : DeviceNo) (lost : Option RunNo) → with_lost (with_entry h 0 (Fell d)) d lost ≡ with_more h 0 (dead_entries d.0 (option_map (λ (r : RunNo). r.0) lost))
 fallen_more h d None = refl
 fallen_more h d (Some r) = more_after h 0 (Fell d) (Doomed r (Lost d) ∷ [])
 
-fallen_history : {D : Type 0} {stands turns probes faults : D → ℕ} (h t : Inside D) (grip : Gripped D Done) (sl : Slip) (v : Option ℕ) (events : Events) (lost : Option RunNo) (fell : HistoryState) (fallen : KeptOrder) → sl ≡ grip.slip → (configuration_of (open_of h)).grips grip.slip.device.0 ≡ Some (record { maker = 0; purpose = Probes v }) → grip.slip.device.0 < length h.history.setting.first
-    → IsFallen h t sl events lost fell fallen → IsWhole stands turns probes faults h → t.history ≡ with_more h.history 0 (dead_entries grip.slip.device.0 (lost_by h.history.setting (read_in h.history) grip.slip.device.0))
-fallen_history h t grip sl v events lost fell fallen same at below is k =
-    is.doomed ∙ ap (λ x. with_lost x sl.device lost) is.told ∙ fallen_more h.history sl.device lost
-    ∙ ap (λ o. with_more h.history 0 (dead_entries sl.device.0 (option_map (λ (r : RunNo). r.0) o))) is.found
-    ∙ ap (λ (z : Slip). with_more h.history 0 (dead_entries z.device.0 (option_map (λ (r : RunNo). r.0) (lost_run h.history.history (accesses_at h.order.table z.device.0))))) same
-    ∙ ap (λ o. with_more h.history 0 (dead_entries grip.slip.device.0 o)) (lost_is h grip.slip.device.0 v at below k)
-
 -- .. of the probe that came home
-pub dead_history : {D : Type 0} {stands turns probes faults : D → ℕ} (h t : Inside D) (s : OpenHub D) (tag : ℕ) (grip : Gripped D Done) (sl : Slip) (before events : Events) (lost : Option RunNo) (fell : HistoryState) (fallen : KeptOrder) → ProbeKnown stands turns probes faults h s tag grip sl before → IsFallen h t sl events lost fell fallen → IsWhole stands turns probes faults h
-    → t.history ≡ with_more h.history 0 (dead_entries grip.slip.device.0 (lost_by h.history.setting (read_in h.history) grip.slip.device.0))
-dead_history h t s tag grip sl before events lost fell fallen known is k =
-    let here = probe_here h s tag grip sl before known k in
-    fallen_history h t grip sl here.v events lost fell fallen known.same here.for.grip here.below is k
+fallen_back : {D : Type 0} {stands turns probes faults : D → ℕ} (h t : Inside D) (s : OpenHub D) (tag : ℕ) (grip : Gripped D Done) (sl : Slip) (events : Events) (lost : Option RunNo) (fell : HistoryState) (fallen : KeptOrder) → ProbeKnown stands turns probes faults h s tag grip sl → FoundDead h s grip events → IsHome h t grip → IsFallen h t sl events lost fell fallen
+    → (here : ProbeHere stands turns probes faults h tag grip) → IsWhole stands turns probes faults h → CameHome stands turns probes faults h t (ForProbe here.v) tag grip (dead_entries grip.slip.device.0 (lost_here h grip))
+fallen_back h t s tag grip sl events lost fell fallen known found parts is here k =
+    record {
+      returned = here.returned;
+      parts = parts;
+      gives = (dead_tells h s tag grip sl events known found here).gives;
+      history_is = is.doomed ∙ ap (λ x. with_lost x sl.device lost) is.told ∙ fallen_more h.history sl.device lost
+          ∙ ap (λ o. with_more h.history 0 (dead_entries sl.device.0 (option_map (λ (r : RunNo). r.0) o))) is.found
+          ∙ ap (λ (z : Slip). with_more h.history 0 (dead_entries z.device.0 (option_map (λ (r : RunNo). r.0) (lost_run h.history.history (accesses_at h.order.table z.device.0))))) known.same
+          ∙ ap₂ (λ m o. with_more h.history m (dead_entries grip.slip.device.0 o)) (sym known.maker) (lost_is h grip.slip.device.0 here.v (probe_grip here known.maker) here.for.below k);
+    }
 
 -- line and table, by the run that is lost
 order_fallen : {rounds : ℕ} (w : Setting) (h fell t : HistoryState) (g : Grips) (held : ℕ → ℕ) (d : DeviceNo) (v : Option ℕ) (number : ℕ) (lost : Option RunNo) (hands : List (Option DeviceNo)) (line mid after : Marked) (table between later : List LineageState)
@@ -385,14 +497,14 @@ order_fallen {rounds = rounds} w h fell t g held d v number lost hands line mid 
         order_lost fell t g 0 r.0 (Lost d) (hand_of hands r.0) mid after between later (read_facts fell.setting (entries_of fell.history) formed_then) fit_then
         (ap (λ x. is_doomed x r.0) reads ∙ one.sound) (hand_commands h.setting (read_in h) g r.0 hands fit are one.run one.sound) is kept change fallen
 
-pub fallen_whole : {D : Type 0} {stands turns probes faults : D → ℕ} (h t : Inside D) (s : OpenHub D) (value tag : ℕ) (grip : Gripped D Done) (sl : Slip) (before events : Events) (lost : Option RunNo) (fell : HistoryState) (fallen : KeptOrder) → ProbeKnown stands turns probes faults h s tag grip sl before → (read_of (configuration_of s)).up grip.slip.device.0 ≡ true → has_died grip.stage.told ≡ true
-    → events ≡ record before { fell = before.fell + 1 } → ProbeCame h t value events grip (dead_entries grip.slip.device.0 (lost_by h.history.setting (read_in h.history) grip.slip.device.0)) → IsFallen h t sl events lost fell fallen → IsWhole stands turns probes faults h → IsWhole stands turns probes faults t
-fallen_whole {D = D} {stands = stands} {turns = turns} {probes = probes} {faults = faults} h t s value tag grip sl before events lost fell fallen known up died more came falls k =
-    probe_whole h t value events here.v tag grip (dead_entries d.0 (lost_by w n d.0)) here.returned here.for (dead_told h s tag grip sl before events known up died more here) came
-    (λ home. order_probe_home t.history.setting (read_in t.history) (configuration_of (open_of h)).grips (configuration_of (open_of t)).grips d.0 here.v t.order.line t.order.table here.for.grip home
-    (order_fallen w h.history fell t.history (configuration_of (open_of h)).grips (held_in (open_of h)) d here.v events.fell lost h.hands.items h.order.line fallen.line t.order.line h.order.table fallen.table t.order.table refl (table_place h d.0 here.below k) own.told (place_told h d here.below k)
-    (ap (λ (e : Events). e.fell) more ∙ ap (λ (e : Events). e.fell + 1) here.before_is) own.falls k.shown.configuration.history.well_formed
-    (first_may w h.history.history grip.slip.maker (Fell d) _ (dead_comes h s tag grip sl before events known up died more k).configuration.history.well_formed) k.shown.configuration.grips k.hands (one lost loses) own.doomed own.line own.table k.order)) k
+pub fallen_whole : {D : Type 0} {stands turns probes faults : D → ℕ} (h t : Inside D) (s : OpenHub D) (tag : ℕ) (grip : Gripped D Done) (sl : Slip) (events : Events) (lost : Option RunNo) (fell : HistoryState) (fallen : KeptOrder) → ProbeKnown stands turns probes faults h s tag grip sl → FoundDead h s grip events → IsHome h t grip → IsFallen h t sl events lost fell fallen
+    → IsWhole stands turns probes faults h → IsWhole stands turns probes faults t
+fallen_whole {D = D} {stands = stands} {turns = turns} {probes = probes} {faults = faults} h t s tag grip sl events lost fell fallen known found parts falls k =
+    came_whole h t (ForProbe here.v) tag grip (dead_entries d.0 (lost_by w n d.0)) (fallen_back h t s tag grip sl events lost fell fallen known found parts falls here k)
+    (λ formed home. order_probe_home t.history.setting (read_in t.history) (configuration_of (open_of h)).grips (configuration_of (open_of t)).grips d.0 here.v t.order.line t.order.table out home
+    (order_fallen w h.history fell t.history (configuration_of (open_of h)).grips (held_in (open_of h)) d here.v events.fell lost h.away.hands.items h.order.line fallen.line t.order.line h.order.table fallen.table t.order.table refl (table_place h d.0 here.for.below k) own.told (place_told h d here.for.below k)
+    (fallen_number h (ForProbe here.v) tag grip sl events here.returned (dead_falls h s tag grip sl events known found here) k) own.falls k.shown.configuration.history.well_formed
+    (tells_may h (ForProbe here.v) tag grip (Fell d) (doom_entries d (lost_here h grip)) (dead_tells h s tag grip sl events known found here) k) k.shown.configuration.grips k.hands (one lost loses) own.doomed own.line (subst (λ x. IsLostTo lost x fallen.table t.order.table) (hands_same h.away t.away grip parts.home known.maker) own.table) k.order)) k
   where
     w : Setting
     w = h.history.setting
@@ -403,14 +515,17 @@ fallen_whole {D = D} {stands = stands} {turns = turns} {probes = probes} {faults
     d : DeviceNo
     d = grip.slip.device
 
-    here : ProbeHere stands turns probes faults h tag grip before
-    here = probe_here h s tag grip sl before known k
+    here : ProbeHere stands turns probes faults h tag grip
+    here = probe_here h s tag grip sl known k
+
+    out : (configuration_of (open_of h)).grips d.0 ≡ Some (record { maker = 0; purpose = Probes here.v })
+    out = probe_grip here known.maker
 
     own : IsFallen h t grip.slip events lost fell fallen
     own = subst (λ (z : Slip). IsFallen h t z events lost fell fallen) known.same falls
 
     loses : option_map (λ (r : RunNo). r.0) lost ≡ lost_by w n d.0
-    loses = ap (option_map (λ (r : RunNo). r.0)) own.found ∙ lost_is h d.0 here.v here.for.grip here.below k
+    loses = ap (option_map (λ (r : RunNo). r.0)) own.found ∙ lost_is h d.0 here.v out here.for.below k
 
     one : (o : Option RunNo) → option_map (λ (r : RunNo). r.0) o ≡ lost_by w n d.0 → IfSome o (λ r. IsLostRun w n r.0)
     one None is = tt
@@ -424,11 +539,11 @@ fallen_made d lost e o fell_is doom_is = (λ i. entries_made (record { a = Some 
     by_lost None = refl
     by_lost (Some r) = refl
 
-pub fallen_given : {D : Type 0} {stands turns probes faults : D → ℕ} (h t : Inside D) (s : OpenHub D) (value tag : ℕ) (grip : Gripped D Done) (sl : Slip) (before events : Events) (lost : Option RunNo) (fell : HistoryState) (fallen : KeptOrder) (made : Made) → ProbeKnown stands turns probes faults h s tag grip sl before → (read_of (configuration_of s)).up grip.slip.device.0 ≡ true → has_died grip.stage.told ≡ true
-    → events ≡ record before { fell = before.fell + 1 } → ProbeCame h t value events grip (dead_entries grip.slip.device.0 (lost_by h.history.setting (read_in h.history) grip.slip.device.0)) → IsFallen h t sl events lost fell fallen → entries_made made ≡ dead_entries sl.device.0 (option_map (λ (r : RunNo). r.0) lost) → IsPacked made → IsWhole stands turns probes faults h → ProbeBack s (open_of t) grip made
-fallen_given h t s value tag grip sl before events lost fell fallen made known up died more came falls made_is packed k =
-    let here = probe_here h s tag grip sl before known k in
-    probe_given h t s value events here.v tag grip _ made known.seen here.returned here.for (dead_told h s tag grip sl before events known up died more here) came
+pub fallen_given : {D : Type 0} {stands turns probes faults : D → ℕ} (h t : Inside D) (s : OpenHub D) (tag : ℕ) (grip : Gripped D Done) (sl : Slip) (events : Events) (lost : Option RunNo) (fell : HistoryState) (fallen : KeptOrder) (made : Made) → ProbeKnown stands turns probes faults h s tag grip sl → FoundDead h s grip events → IsHome h t grip → t.moment ≡ h.moment
+    → IsFallen h t sl events lost fell fallen → entries_made made ≡ dead_entries sl.device.0 (option_map (λ (r : RunNo). r.0) lost) → IsPacked made → IsWhole stands turns probes faults h → ProbeBack s (open_of t) grip made
+fallen_given h t s tag grip sl events lost fell fallen made known found parts moment falls made_is packed k =
+    let here = probe_here h s tag grip sl known k in
+    probe_given h t s (ForProbe here.v) tag grip _ made known.seen known.maker moment (fallen_back h t s tag grip sl events lost fell fallen known found parts falls here k)
     (made_is ∙ ap (λ o. dead_entries sl.device.0 (option_map (λ (r : RunNo). r.0) o)) falls.found
     ∙ ap (λ (z : Slip). dead_entries z.device.0 (option_map (λ (r : RunNo). r.0) (lost_run h.history.history (accesses_at h.order.table z.device.0)))) known.same
-    ∙ ap (dead_entries grip.slip.device.0) (lost_is h grip.slip.device.0 here.v here.for.grip here.below k)) packed k
+    ∙ ap (dead_entries grip.slip.device.0) (lost_is h grip.slip.device.0 here.v (probe_grip here known.maker) here.for.below k)) packed k

@@ -8,7 +8,10 @@ use Rattle.device_gate.specs.declared.grips.Ready.{Ready}
 use Rattle.device_gate.specs.declared.slips.Task.TheVariants.{Probe}
 use Rattle.history_book.specs.Readings.{put}
 use Rattle.history_book.specs.Settings.{is_device, is_weak}
-use Rattle.hub_core.proofs.calls.Departures.{next_grip, IsLeaving, IsSent, at_index, gone, gone_carries, gone_configuration, gone_kept}
+use Rattle.hub_core.proofs.calls.Departures.{IsLeaving, few_tickets, gone, gone_carries, gone_configuration, gone_kept, has_room, home_place, next_grip}
+use Rattle.command_rules.specs.Rosters.{device_no}
+use Rattle.home_types.specs.declared.numbers.DeviceNo.{DeviceNo}
+use Rattle.hub_core.specs.Away.{IsSent, MaySend}
 use Rattle.hub_core.proofs.calls.HubStates.{known_same}
 use Rattle.hub_core.proofs.kept.Hands.{probe_goes}
 use Rattle.hub_core.proofs.kept.ProbeSteps.{order_probe_out}
@@ -34,7 +37,7 @@ use Rattle.lock_leasing.specs.Words.{standing_value}
 use Rattle.std.proofs.Common.{ap, arith, refl, subst, sym, ◌∙◌}
 use Rattle.std.proofs.lemmas.Grind.{common_steps}
 use Rattle.std.proofs.lemmas.Option.{slice_get_within}
-use Rattle.std.specs.Prelude.{Bool, IsTrue, None, Option, Some, false, if◌then◌else◌, length, nat_lt, not, slice_get, slice_set, true, ℕ, ◌&&◌, ◌+◌, ◌-◌, ◌<◌, ◌≡◌}
+use Rattle.std.specs.Prelude.{Bool, IsTrue, None, Option, Some, false, if◌then◌else◌, length, nat_lt, not, slice_set, true, ℕ, ◌&&◌, ◌+◌, ◌-◌, ◌<◌, ◌≡◌}
 use Rattle.window_order.proofs.Firsts.{below_home}
 use Rattle.window_order.proofs.Rollbacks.{none_out}
 use Rattle.window_order.specs.TableKept.{LineageIsKept}
@@ -88,51 +91,69 @@ counted_then s d value is up = by_up ((read_of s).up d) (subst (λ v. IsTrue (is
     by_up true e = refl
     by_up false e = absurd (cc)
 
+-- it may go out to the detector
+pub may_send_probe : {D : Type 0} {stands turns probes faults : D → ℕ} (h : Inside D) (s : OpenHub D) (d : ℕ) (value : Option ℕ) (known : DeviceProgress) → open_of h ≡ s → may_probe (configuration_of s) d ≡ true → value ≡ restored (configuration_of s) d → known ≡ device_at h.away.known.items d → IsWhole stands turns probes faults h → MaySend stands turns probes faults h.away d 0 known.held (Probe value)
+may_send_probe {D = D} {stands = stands} {turns = turns} {probes = probes} {faults = faults} h s d value known seen may value_is known_is k =
+    let parts = may_parts (configuration_of (open_of h)) d (ap (λ (x : OpenHub D). may_probe (configuration_of x) d) seen ∙ may) in
+    let below = below_home h.history.setting d parts.device in
+    record {
+      home = home_place (open_of h) d (omega (arith, below, k.shown.places_size)) parts.home;
+      room = λ device at. has_room stands turns probes faults (open_of h) d device k.shown at;
+      stood = λ device at up. (k.shown.home d device at).stand (counted_then (configuration_of (open_of h)) d value (value_is ∙ ap (λ (x : OpenHub D). restored (configuration_of x) d) (sym seen)) up) ∙ ap (λ (p : DeviceProgress). p.held) (sym known_is);
+      tickets = few_tickets stands turns probes faults (open_of h) k.shown;
+      known = omega (arith, below, k.shown.devices_size);
+      maker_is = omega arith;
+    }
+
 -- The device goes out
 
 -- a probe of the device, of which this was known, goes out with this value: so the parts change
 pub record IsProbedOut {D : Type 0} (turns probes faults : D → ℕ) (h t : Inside D) (d : ℕ) (value : Option ℕ) (known : DeviceProgress) (grip : Gripped D Ready) : Type 0 where
   pub may : may_probe (configuration_of (open_of h)) d ≡ true
   pub value_is : value ≡ restored (configuration_of (open_of h)) d
-  pub known_is : slice_get h.devices.items d ≡ Some known
-  pub sent : IsSent turns probes faults h.gate.places h.gate.tickets 0 d known.held (Probe value) grip t.gate.places t.gate.tickets
-  pub devices_are : t.devices.items ≡ slice_set h.devices.items d (record known { purpose = ForProbe value; probes_left = known.probes_left - 1 })
-  pub new : t ≡ record h { devices = t.devices; gate = t.gate }
+  pub known_is : known ≡ device_at h.away.known.items d
+  pub sent : IsSent turns probes faults h.away (device_no d) 0 (record known { purpose = ForProbe value; probes_left = known.probes_left - 1 }) (Probe value) grip t.away
+  pub new : t ≡ record h { away = t.away }
 
 -- with so many left
 abbrev pub left_of : {D : Type 0} → Inside D → ℕ → ℕ
-left_of h d = (device_at h.devices.items d).probes_left - 1
+left_of h d = (device_at h.away.known.items d).probes_left - 1
 
 -- the hub shows it
 probe_shows : {D : Type 0} {turns probes faults : D → ℕ} (h t : Inside D) (d : ℕ) (value : Option ℕ) (known : DeviceProgress) (grip : Gripped D Ready) → IsProbedOut turns probes faults h t d value known grip → open_of t ≡ gone (open_of h) d (ForProbe value) (left_of h d) grip.slip (Probe value) h.moment
 probe_shows {D = D} h t d value known grip out =
-    let devices_now = out.devices_are ∙ ap (λ (p : DeviceProgress). slice_set h.devices.items d (record p { purpose = ForProbe value; probes_left = p.probes_left - 1 })) (sym (at_index h.devices.items d known out.known_is)) in
-    ap (λ (x : Inside D). open_of x) out.new ∙ λ i. record (open_of h) { devices = devices_now i; places = out.sent.after_is i; tickets = out.sent.number_is i }
+    let devices_now = out.sent.known_is ∙ ap (λ (p : DeviceProgress). slice_set h.away.known.items d (record p { purpose = ForProbe value; probes_left = p.probes_left - 1 })) out.known_is in
+    ap (λ (x : Inside D). open_of x) out.new ∙ λ i. record (open_of h) { devices = devices_now i; places = out.sent.places i; tickets = out.sent.tickets i }
 
 -- its configuration is the one after the call
-probe_configuration : {D : Type 0} {turns probes faults : D → ℕ} (h t : Inside D) (d : ℕ) (value : Option ℕ) (known : DeviceProgress) (grip : Gripped D Ready) → IsProbedOut turns probes faults h t d value known grip
+probe_configuration : {D : Type 0} {turns probes faults : D → ℕ} (h t : Inside D) (d : ℕ) (value : Option ℕ) (known : DeviceProgress) (grip : Gripped D Ready) → IsProbedOut turns probes faults h t d value known grip → d < length h.away.known.items
     → configuration_of (gone (open_of h) d (ForProbe value) (left_of h d) grip.slip (Probe value) h.moment) ≡ after_take_probe (configuration_of (open_of h)) d
-probe_configuration h t d value known grip out =
-    gone_configuration (open_of h) 0 d (left_of h d) h.moment (ForProbe value) grip.slip (Probe value) out.sent.maker (slice_get_within h.gate.places d (Home grip.device) out.sent.at) (slice_get_within h.devices.items d known out.known_is)
+probe_configuration h t d value known grip out within =
+    gone_configuration (open_of h) 0 d (left_of h d) h.moment (ForProbe value) grip.slip (Probe value) out.sent.maker_is (slice_get_within h.away.gate.places d (Home grip.device) out.sent.at) within
     ∙ (λ i. record (configuration_of (open_of h)) { probes = put (configuration_of (open_of h)).probes d (left_of h d); grips = put (configuration_of (open_of h)).grips d (Some (record { maker = 0; purpose = Probes (out.value_is i) })) })
     ∙ sym (ap (λ b. if b then record (configuration_of (open_of h)) { probes = put (configuration_of (open_of h)).probes d (left_of h d); grips = put (configuration_of (open_of h)).grips d (Some (probe_grip (configuration_of (open_of h)) d)) } else configuration_of (open_of h)) out.may)
 
 probe_leaves : {D : Type 0} {turns probes faults : D → ℕ} (h t : Inside D) (d : ℕ) (value : Option ℕ) (known : DeviceProgress) (grip : Gripped D Ready) → IsProbedOut turns probes faults h t d value known grip → IsLeaving turns probes faults (open_of h) 0 d (ForProbe value) (left_of h d) grip.device grip.slip (Probe value)
 probe_leaves h t d value known grip out =
     record {
-      number = out.sent.device;
-      maker = out.sent.maker;
-      stood = out.sent.stood ∙ ap (λ (p : DeviceProgress). p.held) (sym (at_index h.devices.items d known out.known_is));
+      number = ap (λ (x : DeviceNo). x.0) out.sent.device;
+      maker = out.sent.maker_is;
+      stood = out.sent.stood ∙ ap (λ (p : DeviceProgress). p.held) out.known_is;
       had_turns = out.sent.had_turns;
       had_probes = out.sent.had_probes;
       had_faults = out.sent.had_faults;
       does = refl;
-      probed_so = one_less (device_at h.devices.items d).probes_left (may_parts (configuration_of (open_of h)) d out.may).left;
+      probed_so = one_less (device_at h.away.known.items d).probes_left (may_parts (configuration_of (open_of h)) d out.may).left;
       ticket = omega arith;
     }
   where
     one_less : (x : ℕ) → nat_lt 0 x ≡ true → x - 1 + 1 ≡ x
     one_less x some = grind (arith, common_steps)
+
+sent_within : {D : Type 0} {stands turns probes faults : D → ℕ} (h t : Inside D) (d : ℕ) (value : Option ℕ) (known : DeviceProgress) (grip : Gripped D Ready) → IsProbedOut turns probes faults h t d value known grip → IsWhole stands turns probes faults h → d < length h.away.known.items
+sent_within h t d value known grip out k =
+    let within = slice_get_within h.away.gate.places d (Home grip.device) out.sent.at in
+    omega (arith, within, k.shown.devices_size, k.shown.places_size)
 
 -- what is kept is kept then
 pub sent_whole : {D : Type 0} {stands turns probes faults : D → ℕ} (h t : Inside D) (d : ℕ) (value : Option ℕ) (known : DeviceProgress) (grip : Gripped D Ready) → IsProbedOut turns probes faults h t d value known grip → IsWhole stands turns probes faults h → IsWhole stands turns probes faults t
@@ -143,19 +164,22 @@ sent_whole {D = D} {stands = stands} {turns = turns} {probes = probes} {faults =
       room = k.room;
       order = subst (λ (g : Grips). OrderIsBeside h.rounds h.history g h.order.line h.order.table) (ap (λ (x : Inside D). (configuration_of (open_of x)).grips) out.new)
           (order_probe_out h.history.setting (read_in h.history) (configuration_of (open_of h)).grips (configuration_of (open_of t)).grips d value h.order.line h.order.table home gone_grips k.order);
-      hands = subst (λ (g : Grips). HandsAre h.history.setting g h.hands.items) (ap (λ (x : Inside D). (configuration_of (open_of x)).grips) out.new)
-          (probe_goes h.history.setting (configuration_of (open_of h)).grips (configuration_of (open_of t)).grips d (Probes value) h.hands.items home gone_grips k.hands);
+      hands = subst (HandsAre h.history.setting (configuration_of (open_of (record h { away = t.away }))).grips) (sym out.sent.hands) (subst (λ (g : Grips). HandsAre h.history.setting g h.away.hands.items) (ap (λ (x : Inside D). (configuration_of (open_of x)).grips) out.new)
+          (probe_goes h.history.setting (configuration_of (open_of h)).grips (configuration_of (open_of t)).grips d (Probes value) h.away.hands.items home gone_grips k.hands));
     })
   where
+    within : d < length h.away.known.items
+    within = sent_within h t d value known grip out k
+
     configuration : IsKeptByModel (configuration_of (gone (open_of h) d (ForProbe value) (left_of h d) grip.slip (Probe value) h.moment)) h.rounds h.opened (held_in (open_of h))
-    configuration = subst (λ (c : Configuration). IsKeptByModel c h.rounds h.opened (held_in (open_of h))) (sym (probe_configuration h t d value known grip out)) (probe_taken_kept (configuration_of (open_of h)) h.rounds h.opened (held_in (open_of h)) d k.shown.configuration)
+    configuration = subst (λ (c : Configuration). IsKeptByModel c h.rounds h.opened (held_in (open_of h))) (sym (probe_configuration h t d value known grip out within)) (probe_taken_kept (configuration_of (open_of h)) h.rounds h.opened (held_in (open_of h)) d k.shown.configuration)
 
     home : (configuration_of (open_of h)).grips d ≡ None
     home = none_out (configuration_of (open_of h)).grips d (may_parts (configuration_of (open_of h)) d out.may).home
 
     gone_grips : (configuration_of (open_of t)).grips ≡ put (configuration_of (open_of h)).grips d (Some (record { maker = 0; purpose = Probes value }))
     gone_grips = ap (λ (x : OpenHub D). (configuration_of x).grips) (probe_shows h t d value known grip out)
-        ∙ ap (λ (c : Configuration). c.grips) (gone_configuration (open_of h) 0 d (left_of h d) h.moment (ForProbe value) grip.slip (Probe value) out.sent.maker (slice_get_within h.gate.places d (Home grip.device) out.sent.at) (slice_get_within h.devices.items d known out.known_is))
+        ∙ ap (λ (c : Configuration). c.grips) (gone_configuration (open_of h) 0 d (left_of h d) h.moment (ForProbe value) grip.slip (Probe value) out.sent.maker_is (slice_get_within h.away.gate.places d (Home grip.device) out.sent.at) within)
 
 -- and it is the step that it says
 pub record ProbeSent {D : Type 0} (s t : OpenHub D) (d : ℕ) (grip : Gripped D Ready) : Type 0 where
@@ -169,15 +193,21 @@ probe_sent {D = D} h t s₀ d value known grip seen out k =
         (
           ap (λ x. Probed (Some x)) (out.sent.does ∙ ap (λ x. Probe x) out.value_is) ∙ ap (λ (x : ProbeTaken). Probed x.task) (sym takes),
           state ∙ ap (λ (x : ProbeTaken). x.next) (sym takes),
-          (λ may. record { device = out.sent.device; maker = out.sent.maker }),
+          (λ may. record { device = number; maker = out.sent.maker_is }),
         ),
         out.sent.at,
-        ap (λ x. slice_set h.gate.places d (Out grip.slip x)) (sym out.sent.does),
-        next_grip s after grip d out.sent.device out.sent.ticket refl (probe_leaves h t d value known grip out).stood,
+        ap (λ x. slice_set h.away.gate.places d (Out grip.slip x)) (sym out.sent.does),
+        next_grip s after grip d number out.sent.ticket refl (probe_leaves h t d value known grip out).stood,
       );
-      window = record { setting = refl; rounds = refl; opened = refl; at_opening = known_same (λ (p : DeviceProgress). p.at_opening) h.devices.items d (record (device_at h.devices.items d) { purpose = ForProbe value; probes_left = left_of h d }) (slice_get_within h.devices.items d known out.known_is) refl };
+      window = record { setting = refl; rounds = refl; opened = refl; at_opening = known_same (λ (p : DeviceProgress). p.at_opening) h.away.known.items d (record (device_at h.away.known.items d) { purpose = ForProbe value; probes_left = left_of h d }) within refl };
     }))
   where
+    within : d < length h.away.known.items
+    within = sent_within h t d value known grip out k
+
+    number : grip.slip.device.0 ≡ d
+    number = ap (λ (x : DeviceNo). x.0) out.sent.device
+
     s : OpenHub D
     s = open_of h
 
@@ -189,6 +219,6 @@ probe_sent {D = D} h t s₀ d value known grip seen out k =
 
     state : state_of after ≡ record { configuration = after_take_probe (configuration_of s) d; carried = carrying (state_of s) 0 d (Probes (restored (configuration_of s) d)) grip.slip }
     state =
-        let configuration = probe_configuration h t d value known grip out in
-        let carried = gone_carries s 0 d (left_of h d) h.moment (ForProbe value) grip.slip (Probe value) refl (slice_get_within h.gate.places d (Home grip.device) out.sent.at) ∙ ap (λ v. carrying (state_of s) 0 d (Probes v) grip.slip) out.value_is in
+        let configuration = probe_configuration h t d value known grip out within in
+        let carried = gone_carries s 0 d (left_of h d) h.moment (ForProbe value) grip.slip (Probe value) refl (slice_get_within h.away.gate.places d (Home grip.device) out.sent.at) ∙ ap (λ v. carrying (state_of s) 0 d (Probes v) grip.slip) out.value_is in
         λ i. record { configuration = configuration i; carried = carried i }

@@ -1,9 +1,8 @@
 -- The line and the table of a hub, when a device comes home.
 use Rattle.hub_core.proofs.kept.TableFits.{either_model}
 use Rattle.command_rules.specs.Rosters.{command_at, commands_of, is_run, run_no}
-use Rattle.device_gate.specs.Calls.{has_died, value_after}
+use Rattle.device_gate.specs.Calls.{has_died, held_after, value_after}
 use Rattle.device_gate.specs.Grips.{Gripped}
-use Rattle.device_gate.specs.declared.gates.Place.TheVariants.{Out}
 use Rattle.device_gate.specs.declared.grips.Done.{Done}
 use Rattle.device_gate.specs.declared.slips.Slip.{Slip}
 use Rattle.device_gate.specs.declared.slips.Task.TheVariants.{Drive, Sense}
@@ -24,7 +23,9 @@ use Rattle.home_types.specs.declared.commands.Job.{Job}
 use Rattle.home_types.specs.declared.commands.View.{View}
 use Rattle.hub_core.proofs.calls.HubOrders.{read_whole}
 use Rattle.hub_core.proofs.calls.HubChanges.{answer_entries}
-use Rattle.hub_core.proofs.calls.HubReturns.{IsAnswered, IsForCommand, IsHomeAgain, IsReturned, answered_back, came_whole, for_command, returned_for, undone_back}
+use Rattle.hub_core.proofs.calls.Homecomings.{IsHome, IsReturned, came_whole, returned_for}
+use Rattle.hub_core.proofs.calls.HubReturns.{IsAnswered, answered_back, undone_back}
+use Rattle.hub_core.proofs.calls.OutFor.{IsForCommand, for_command}
 use Rattle.hub_core.proofs.kept.OrderSteps.{done_after, last_follows, may_note, none_out, order_answered, order_answered_weakly, order_doomed_if, order_undone, read_more}
 use Rattle.hub_core.proofs.steps.Gives.{told_access}
 use Rattle.hub_core.specs.HubsKept.{IsWhole, open_of}
@@ -33,7 +34,6 @@ use Rattle.hub_core.specs.OpenHubs.{configuration_of, device_at, held_in}
 use Rattle.hub_core.specs.ReadHistories.{HistoryState, read_in, with_doom, with_entry}
 use Rattle.hub_core.specs.declared.open_windows.OpenWindow.TheInside.{Inside}
 use Rattle.hub_core.specs.declared.kept_orders.KeptOrder.{KeptOrder}
-use Rattle.hub_core.specs.declared.known.Events.{Events}
 use Rattle.hub_core.specs.declared.purposes.Purpose.TheVariants.{Command as ForCommand, Undo as ForUndo}
 use Rattle.lineage_table.specs.Lineages.{LineageState, lineage_at, with_lineage}
 use Rattle.lock_leasing.specs.Configurations.{Commands, Grips, grips_command}
@@ -41,7 +41,6 @@ use Rattle.lock_leasing.specs.Tables.{view_when}
 use Rattle.serial_line.specs.Marks.{Marked}
 use Rattle.std.proofs.Common.{ap, arith, refl, subst, sym, ◌∙◌}
 use Rattle.std.proofs.lemmas.Grind.{common_steps}
-use Rattle.std.proofs.lemmas.Option.{slice_get_within}
 use Rattle.std.specs.Prelude.{Bool, IsSome, List, None, Option, Some, [], if◌then◌else◌, length, nat_lt, not, true, ℕ, ◌&&◌, ◌++◌, ◌<◌, ◌==◌, ◌||◌, ◌∷◌, ◌≡◌, false}
 use Rattle.window_order.specs.TableChanges.{ChangesEach, doomed_lineage, told_write}
 use Rattle.history_book.specs.declared.entries.Cause.{Cause}
@@ -100,7 +99,7 @@ may_tell h k tag grip slip returned same whole =
     for = for_command _ _ _ _ (open_of h) grip.slip grip.task k whole.shown returned.there returned.purpose
 
     within : grip.slip.device.0 < length h.history.setting.first
-    within = let there : grip.slip.device.0 < length h.gate.places = slice_get_within h.gate.places grip.slip.device.0 (Out grip.slip grip.task) returned.there in let size : length h.gate.places ≡ length h.history.setting.first = whole.shown.places_size in omega (arith, there, size)
+    within = (returned_for h (ForCommand k) tag grip returned whole).below
 
 -- line and table when a command was answered, and its run is then doomed where there is a cause
 order_told : {rounds : ℕ} (h h₁ h₂ : HistoryState) (g f : Grips) (d r k : ℕ) (a : Answer) (cause : Option Cause) (mid after : Marked) (between later : List LineageState)
@@ -125,7 +124,8 @@ order_told {rounds = rounds} h h₁ h₂ g f d r k a cause mid after between lat
     none e = ap (λ x. grips_command x r e) home ∙ none_out h.setting (read_in h) g d r (Commands k) run at fits e
 
 -- what line and table note of a command that came back: what it tells of its device, and then the doom of its run where there is a cause
-pub record IsNoted {D : Type 0} (h t : Inside D) (value : ℕ) (slip : Slip) (a : Answer) (cause : Option Cause) (mid : HistoryState) (view : View) (wrote : Option ℕ) (last : Bool) (between : KeptOrder) : Type 0 where
+pub record IsNoted {D : Type 0} (h t : Inside D) (grip : Gripped D Done) (value : ℕ) (slip : Slip) (a : Answer) (cause : Option Cause) (mid : HistoryState) (view : View) (wrote : Option ℕ) (last : Bool) (between : KeptOrder) : Type 0 where
+  pub value_is : value ≡ held_after grip.stage.told grip.task (device_at h.away.known.items grip.slip.device.0).held
   pub view_is : view ≡ view_when (is_told a)
   pub wrote_is : wrote ≡ (if is_fine a then Some value else None)
   pub last_is : last ≡ (is_doomed (read_in mid) slip.maker || not (pends mid.setting (read_in mid) slip.maker slip.device.0))
@@ -137,10 +137,10 @@ pub record IsNoted {D : Type 0} (h t : Inside D) (value : ℕ) (slip : Slip) (a 
   pub changed : IsSome cause → ChangesEach (λ d. doomed_lineage slip.maker) between.table t.order.table
 
 -- .. when its device is home again
-order_came : {D : Type 0} {stands turns probes faults : D → ℕ} (h t : Inside D) (m value k tag : ℕ) (events : Events) (grip : Gripped D Done) (slip : Slip) (a : Answer) (cause : Option Cause) (mid : HistoryState) (view : View) (wrote : Option ℕ) (last : Bool) (between : KeptOrder)
-    → IsReturned stands turns probes faults h (ForCommand k) tag grip → IsHomeAgain h t m value events grip → IsAnswered h grip k slip a cause mid t.history → IsNoted h t value slip a cause mid view wrote last between
+order_came : {D : Type 0} {stands turns probes faults : D → ℕ} (h t : Inside D) (value k tag : ℕ) (grip : Gripped D Done) (slip : Slip) (a : Answer) (cause : Option Cause) (mid : HistoryState) (view : View) (wrote : Option ℕ) (last : Bool) (between : KeptOrder)
+    → IsReturned stands turns probes faults h (ForCommand k) tag grip → IsHome h t grip → IsAnswered h grip k slip a cause mid t.history → IsNoted h t grip value slip a cause mid view wrote last between
     → IsWellFormed t.history.setting (entries_of t.history.history) → (configuration_of (open_of t)).grips ≡ put (configuration_of (open_of h)).grips grip.slip.device.0 None → IsWhole stands turns probes faults h → OrderIsBeside h.rounds t.history (configuration_of (open_of t)).grips t.order.line t.order.table
-order_came {D = D} h t m value k tag events grip slip a cause mid view wrote last between returned home answered noted formed gripped whole =
+order_came {D = D} h t value k tag grip slip a cause mid view wrote last between returned home answered noted formed gripped whole =
     order_told h.history mid t.history (configuration_of (open_of h)).grips (configuration_of (open_of t)).grips d r k a cause between.line t.order.line between.table t.order.table
     whole.shown.configuration.grips for.run for.grip new doomed formed gripped noted.line_after noted.unchanged
     (λ some. subst (λ (z : Slip). ChangesEach (λ e. doomed_lineage z.maker) between.table t.order.table) answered.same (noted.changed some))
@@ -149,7 +149,7 @@ order_came {D = D} h t m value k tag events grip slip a cause mid view wrote las
     (λ strong. order_answered h.history mid (configuration_of (open_of h)).grips (configuration_of (open_of t)).grips (held_in (open_of h)) d r k a view wrote last h.order.line between.line h.order.table between.table
     access (read_whole h whole) strong (whole.shown.configuration.ordered strong).order for.grip below new gripped (record {
       view_is = noted.view_is;
-      wrote_is = noted.wrote_is ∙ wrote_is w n r (command_at w.runs r k) a grip.task value (device_at h.devices.items d).held suited for.does (home.value_is ∙ ap (λ b. if b then (device_at h.devices.items d).held else value_after grip.task (device_at h.devices.items d).held) answered.lives);
+      wrote_is = noted.wrote_is ∙ wrote_is w n r (command_at w.runs r k) a grip.task value (device_at h.away.known.items d).held suited for.does (noted.value_is ∙ ap (λ b. if b then (device_at h.away.known.items d).held else value_after grip.task (device_at h.away.known.items d).held) answered.lives);
       last_is = noted.last_is ∙ (λ i. is_doomed (read_in (new i)) (answered.same i).maker || not (pends (new i).setting (read_in (new i)) (answered.same i).maker (answered.same i).device.0)) ∙ ap (λ x. is_doomed x r || not (pends w x r d)) (read_more w h.history.history r (Did (run_no r) k a)) ∙ done_after w n r k a d for.next for.on;
     }) noted.line (subst (λ (z : Slip). between.table ≡ with_lineage h.order.table z.device.0 (noted_first z.maker (is_first z.maker (lineage_at h.order.table z.device.0)) view wrote last)) answered.same (noted.table strong)) whole.order))
   where
@@ -178,7 +178,7 @@ order_came {D = D} h t m value k tag events grip slip a cause mid view wrote las
     for = for_command _ _ _ _ (open_of h) grip.slip grip.task k whole.shown returned.there returned.purpose
 
     below : d < length h.history.setting.first
-    below = let there : d < length h.gate.places = slice_get_within h.gate.places d (Out grip.slip grip.task) returned.there in let size : length h.gate.places ≡ length h.history.setting.first = whole.shown.places_size in omega (arith, there, size)
+    below = (returned_for h (ForCommand k) tag grip returned whole).below
 
     may : may_follow w n (Did (run_no r) k a) ≡ true
     may = first_follows h.history mid t.history r (Did (run_no r) k a) cause new doomed formed
@@ -187,17 +187,17 @@ order_came {D = D} h t m value k tag events grip slip a cause mid view wrote las
     suited = fourth (may_act w n r) (k == next_of n r) (nat_lt k (length (commands_of w.runs r))) (suits w n r (command_at w.runs r k) a) ((n.run r).answered_doomed) may
 
 -- a command came back: what is kept is kept
-pub answered_whole : {D : Type 0} {stands turns probes faults : D → ℕ} (h t : Inside D) (m value k tag : ℕ) (events : Events) (grip : Gripped D Done) (slip : Slip) (a : Answer) (cause : Option Cause) (mid : HistoryState) (view : View) (wrote : Option ℕ) (last : Bool) (between : KeptOrder)
-    → IsReturned stands turns probes faults h (ForCommand k) tag grip → IsHomeAgain h t m value events grip → IsAnswered h grip k slip a cause mid t.history → IsNoted h t value slip a cause mid view wrote last between → IsWhole stands turns probes faults h → IsWhole stands turns probes faults t
-answered_whole h t m value k tag events grip slip a cause mid view wrote last between returned home answered noted whole =
-    came_whole h t m value events (ForCommand k) tag grip (answer_entries slip.maker k a cause) (answered_back h t m value k tag events grip slip a cause mid returned home answered)
-    (λ formed gripped. order_came h t m value k tag events grip slip a cause mid view wrote last between returned home answered noted formed gripped whole) whole
+pub answered_whole : {D : Type 0} {stands turns probes faults : D → ℕ} (h t : Inside D) (value k tag : ℕ) (grip : Gripped D Done) (slip : Slip) (a : Answer) (cause : Option Cause) (mid : HistoryState) (view : View) (wrote : Option ℕ) (last : Bool) (between : KeptOrder)
+    → IsReturned stands turns probes faults h (ForCommand k) tag grip → IsHome h t grip → IsAnswered h grip k slip a cause mid t.history → IsNoted h t grip value slip a cause mid view wrote last between → IsWhole stands turns probes faults h → IsWhole stands turns probes faults t
+answered_whole h t value k tag grip slip a cause mid view wrote last between returned home answered noted whole =
+    came_whole h t (ForCommand k) tag grip (answer_entries slip.maker k a cause) (answered_back h t k tag grip slip a cause mid returned home answered)
+    (λ formed gripped. order_came h t value k tag grip slip a cause mid view wrote last between returned home answered noted formed gripped whole) whole
 
 -- .. and an undo
-pub undone_whole : {D : Type 0} {stands turns probes faults : D → ℕ} (h t : Inside D) (m value v tag : ℕ) (events : Events) (grip : Gripped D Done) (slip : Slip) → IsReturned stands turns probes faults h (ForUndo v) tag grip → IsHomeAgain h t m value events grip → slip ≡ grip.slip → has_died grip.stage.told ≡ false
+pub undone_whole : {D : Type 0} {stands turns probes faults : D → ℕ} (h t : Inside D) (v tag : ℕ) (grip : Gripped D Done) (slip : Slip) → IsReturned stands turns probes faults h (ForUndo v) tag grip → IsHome h t grip → slip ≡ grip.slip → has_died grip.stage.told ≡ false
     → t.history ≡ with_entry h.history slip.maker (Undid (run_no slip.maker) slip.device true) → t.order ≡ h.order → IsWhole stands turns probes faults h → IsWhole stands turns probes faults t
-undone_whole h t m value v tag events grip slip returned home same lives new order whole =
-    came_whole h t m value events (ForUndo v) tag grip (Undid (run_no slip.maker) slip.device true ∷ []) (undone_back h t m value v tag events grip slip returned home same lives new)
+undone_whole h t v tag grip slip returned home same lives new order whole =
+    came_whole h t (ForUndo v) tag grip (Undid (run_no slip.maker) slip.device true ∷ []) (undone_back h t v tag grip slip returned home same lives new)
     (λ formed gripped. subst (λ (o : KeptOrder). OrderIsBeside h.rounds t.history (configuration_of (open_of t)).grips o.line o.table) (sym order)
     (order_undone h.history t.history (configuration_of (open_of h)).grips (configuration_of (open_of t)).grips grip.slip.maker grip.slip.device.0 v h.order.line h.order.table
     (new ∙ ap (λ (y : Slip). with_entry h.history y.maker (Undid (run_no y.maker) y.device true)) same) (returned_for h (ForUndo v) tag grip returned whole).grip gripped whole.order)) whole

@@ -1,7 +1,9 @@
 -- A device that fails or comes back as it comes home: it may, and line and history have room for it.
 use Rattle.hub_core.proofs.kept.TableFits.{counted_told, no_detector}
+use Rattle.device_gate.specs.Calls.{has_died}
+use Rattle.device_gate.specs.Grips.{Gripped}
+use Rattle.device_gate.specs.declared.grips.Done.{Done}
 use Rattle.device_gate.specs.declared.slips.Slip.{Slip}
-use Rattle.device_gate.specs.declared.slips.Task.{Task}
 use Rattle.history_book.proofs.Snoc.{each_at, entries_on}
 use Rattle.history_book.specs.Histories.{entries_of, entry, kept_by}
 use Rattle.history_book.specs.Readings.{Reading, nothing_read}
@@ -12,26 +14,29 @@ use Rattle.history_book.specs.declared.entries.Entry.{Entry}
 use Rattle.history_book.specs.declared.entries.Kept.{Kept}
 use Rattle.home_types.specs.declared.items.Item.TheVariants.{Back, Failed}
 use Rattle.home_types.specs.declared.numbers.DeviceNo.{DeviceNo}
-use Rattle.hub_core.proofs.calls.Homecomings.{ComesBack, after_back, back_places}
+use Rattle.hub_core.proofs.calls.Homecomings.{ComesBack, IsReturned, after_back, held_back, returned_comes, returned_entries, returned_for, returned_places}
 use Rattle.hub_core.proofs.calls.HubOrders.{read_whole}
 use Rattle.hub_core.proofs.kept.EventsTold.{line_size}
 use Rattle.hub_core.proofs.kept.OrderSteps.{length_with}
-use Rattle.hub_core.proofs.kept.Sizes.{few_events, line_fits}
+use Rattle.hub_core.proofs.kept.Sizes.{line_fits}
 use Rattle.hub_core.proofs.steps.Afters.{read_with}
+use Rattle.hub_core.proofs.steps.Calls.{is_up_for}
+use Rattle.hub_core.specs.Away.{events_after, turned}
 use Rattle.hub_core.specs.Bounds.{most_items}
 use Rattle.hub_core.specs.HubsKept.{IsWhole, open_of}
 use Rattle.hub_core.proofs.kept.SealedOrders.{table_unsealed}
 use Rattle.hub_core.specs.KeptOrders.{MayTurn}
-use Rattle.hub_core.specs.OpenHubs.{configuration_of, device_at, held_in}
+use Rattle.hub_core.specs.OpenHubs.{configuration_of, device_at, events_in, held_in, purpose_of}
 use Rattle.hub_core.specs.ReadHistories.{read_in}
 use Rattle.hub_core.specs.declared.open_windows.OpenWindow.TheInside.{Inside}
 use Rattle.hub_core.specs.declared.known.Events.{Events}
+use Rattle.hub_core.specs.declared.purposes.Purpose.{Purpose as KeptPurpose}
 use Rattle.history_book.specs.Readings.{put}
 use Rattle.lock_leasing.specs.Configurations.{Grips, read_of}
 use Rattle.serial_line.specs.Marks.{Mark, stands as stands_item}
 use Rattle.std.proofs.Common.{ap, arith, subst, sym, ◌∙◌}
 use Rattle.std.proofs.lemmas.Grind.{common_steps}
-use Rattle.std.specs.Prelude.{Bool, List, false, fold, length, true, ℕ, ◌*◌, ◌++◌, ◌+◌, ◌<◌, ◌∷◌, ◌≡◌, ◌≤◌}
+use Rattle.std.specs.Prelude.{Bool, List, false, fold, length, true, ℕ, ◌++◌, ◌+◌, ◌<◌, ◌∷◌, ◌≡◌, ◌≤◌}
 use Rattle.window_order.proofs.TurnedLines.{event_place_of, failure_absent, marks_fell, marks_rose, restart_absent}
 use Rattle.window_order.specs.MarksKept.{MarksAreKept}
 
@@ -49,70 +54,130 @@ rose_line w n g d marks lines =
     sym (line_size (entry w n (Rose d)) g _ (marks_rose w n g d marks lines)) ∙ length_with (event_place_of w n d.0) (Back d (n.rose d.0 + 1)) marks ∙ ap (λ k. k + 1) (line_size n g marks lines)
 
 -- what a step back tells: an event of a device, and then entries that leave the line
-pub record TellsTurn {D : Type 0} (stands turns probes faults : D → ℕ) (h : Inside D) (slip : Slip) (task : Task) (e : Entry) (es : List Entry) (device : D) (v : ℕ) (events : Events) (t : ℕ) : Type 0 where
-  pub comes : ComesBack stands turns probes faults (open_of h) slip task (e ∷ es) device v events t
+pub record TellsTurn {D : Type 0} (stands turns probes faults : D → ℕ) (h : Inside D) (why : KeptPurpose) (tag : ℕ) (grip : Gripped D Done) (e : Entry) (es : List Entry) : Type 0 where
+  pub returned : IsReturned stands turns probes faults h why tag grip
+  pub gives : returned_entries (open_of h) grip why ≡ e ∷ es
   pub leave : (fold (entry h.history.setting) (entry h.history.setting (read_in h.history) e) es).line ≡ (entry h.history.setting (read_in h.history) e).line
 
+tells_comes : {D : Type 0} {stands turns probes faults : D → ℕ} (h : Inside D) (why : KeptPurpose) (tag : ℕ) (grip : Gripped D Done) (e : Entry) (es : List Entry) → TellsTurn stands turns probes faults h why tag grip e es → IsWhole stands turns probes faults h → ComesBack stands turns probes faults (open_of h) grip (e ∷ es) h.moment
+tells_comes {stands = stands} {turns = turns} {probes = probes} {faults = faults} h why tag grip e es tells k =
+    subst (λ x. ComesBack stands turns probes faults (open_of h) grip x h.moment) tells.gives (returned_comes h h.moment why tag grip tells.returned (omega arith) k)
+
+-- its event may stand where it stands
+pub tells_may : {D : Type 0} {stands turns probes faults : D → ℕ} (h : Inside D) (why : KeptPurpose) (tag : ℕ) (grip : Gripped D Done) (e : Entry) (es : List Entry) → TellsTurn stands turns probes faults h why tag grip e es → IsWhole stands turns probes faults h → may_follow h.history.setting (read_in h.history) e ≡ true
+tells_may h why tag grip e es tells k = first_may h.history.setting h.history.history grip.slip.maker e es (tells_comes h why tag grip e es tells k).configuration.history.well_formed
+
 -- so line and history have room
-turn_room : {D : Type 0} {stands turns probes faults : D → ℕ} (h : Inside D) (slip : Slip) (task : Task) (e : Entry) (es : List Entry) (device : D) (v : ℕ) (events : Events) (t : ℕ) → TellsTurn stands turns probes faults h slip task e es device v events t
+turn_room : {D : Type 0} {stands turns probes faults : D → ℕ} (h : Inside D) (why : KeptPurpose) (tag : ℕ) (grip : Gripped D Done) (e : Entry) (es : List Entry) → TellsTurn stands turns probes faults h why tag grip e es
     → length (entry h.history.setting (read_in h.history) e).line ≡ length (read_in h.history).line + 1 → IsWhole stands turns probes faults h → (0 < h.order.line.spare) × (0 < h.history.spare)
-turn_room h slip task e es device v events t tells longer k = (
-  (let fits : length (read_of (after_back (open_of h) slip (e ∷ es) t)).line ≤ most_items (length h.history.setting.runs) (length h.history.setting.first) h.rounds = line_fits (after_back (open_of h) slip (e ∷ es) t) h.rounds h.opened (put (held_in (open_of h)) slip.device.0 v) tells.comes.configuration in
-      let now : length (read_of (after_back (open_of h) slip (e ∷ es) t)).line ≡ length (read_in h.history).line + 1 = ap (λ (n : Reading). length n.line) (read_with (record (configuration_of (open_of h)) { moment = t }) slip.maker (e ∷ es)) ∙ ap length tells.leave ∙ longer in
+turn_room h why tag grip e es tells longer k = (
+  (let fits : length (read_of (after_back (open_of h) grip.slip (e ∷ es) h.moment)).line ≤ most_items (length h.history.setting.runs) (length h.history.setting.first) h.rounds = line_fits (after_back (open_of h) grip.slip (e ∷ es) h.moment) h.rounds h.opened (put (held_in (open_of h)) grip.slip.device.0 (held_back (open_of h) grip)) (tells_comes h why tag grip e es tells k).configuration in
+      let now : length (read_of (after_back (open_of h) grip.slip (e ∷ es) h.moment)).line ≡ length (read_in h.history).line + 1 = ap (λ (n : Reading). length n.line) (read_with (configuration_of (open_of h)) grip.slip.maker (e ∷ es)) ∙ ap length tells.leave ∙ longer in
       let size = line_size (read_in h.history) (configuration_of (open_of h)).grips h.order.line.marks k.order.line_is in
       omega (arith, fits, now, size, k.order.room)),
-  (let places : length (e ∷ es) ≤ h.history.spare = back_places h slip task (e ∷ es) device v events t tells.comes k in
+  (let places : length (e ∷ es) ≤ h.history.spare = subst (λ x. length x ≤ h.history.spare) tells.gives (returned_places h why tag grip tells.returned k) in
       omega (arith, places)),
 )
 
+-- The counts of its events
+
+-- what is counted then, where it died that was counted up, or answered that was counted down
+turned_to : {D : Type 0} {stands turns probes faults : D → ℕ} (h : Inside D) (why : KeptPurpose) (tag : ℕ) (grip : Gripped D Done) (events : Events) (up died : Bool) → IsReturned stands turns probes faults h why tag grip → is_up_for (purpose_of why) ≡ up → has_died grip.stage.told ≡ died
+    → events ≡ events_after grip.task grip.stage.told (device_at h.away.known.items grip.slip.device.0).events → IsWhole stands turns probes faults h → events ≡ turned up died (events_in (read_in h.history) grip.slip.device.0)
+turned_to h why tag grip events up died returned up_is died_is events_are k =
+    let for = returned_for h why tag grip returned k in
+    events_are ∙ (λ i. turned ((for.up ∙ up_is) i) (died_is i) (k.shown.events grip.slip.device.0 for.below i))
+
+-- what the code counts of a failure
+pub record Falls {D : Type 0} (h : Inside D) (why : KeptPurpose) (grip : Gripped D Done) (sl : Slip) (events : Events) : Type 0 where
+  pub same : sl ≡ grip.slip
+  pub up : is_up_for (purpose_of why) ≡ true
+  pub died : has_died grip.stage.told ≡ true
+  pub events_are : events ≡ events_after grip.task grip.stage.told (device_at h.away.known.items grip.slip.device.0).events
+
+pub fallen_number : {D : Type 0} {stands turns probes faults : D → ℕ} (h : Inside D) (why : KeptPurpose) (tag : ℕ) (grip : Gripped D Done) (sl : Slip) (events : Events) → IsReturned stands turns probes faults h why tag grip → Falls h why grip sl events → IsWhole stands turns probes faults h → events.fell ≡ (read_in h.history).fell grip.slip.device.0 + 1
+fallen_number h why tag grip sl events returned falls k = ap (λ (e : Events). e.fell) (turned_to h why tag grip events true true returned falls.up falls.died falls.events_are k)
+
+-- .. and of a restart
+pub record Rises {D : Type 0} (h : Inside D) (why : KeptPurpose) (grip : Gripped D Done) (sl : Slip) (events : Events) : Type 0 where
+  pub same : sl ≡ grip.slip
+  pub down : is_up_for (purpose_of why) ≡ false
+  pub lives : has_died grip.stage.told ≡ false
+  pub events_are : events ≡ events_after grip.task grip.stage.told (device_at h.away.known.items grip.slip.device.0).events
+
+pub risen_number : {D : Type 0} {stands turns probes faults : D → ℕ} (h : Inside D) (why : KeptPurpose) (tag : ℕ) (grip : Gripped D Done) (sl : Slip) (events : Events) → IsReturned stands turns probes faults h why tag grip → Rises h why grip sl events → IsWhole stands turns probes faults h → events.rose ≡ (read_in h.history).rose grip.slip.device.0 + 1
+risen_number h why tag grip sl events returned rises k = ap (λ (e : Events). e.rose) (turned_to h why tag grip events false false returned rises.down rises.lives rises.events_are k)
+
+-- Whether it may
+
 -- a device fails: it is counted up
-pub may_fall : {D : Type 0} {stands turns probes faults : D → ℕ} (h : Inside D) (slip : Slip) (task : Task) (d : DeviceNo) (es : List Entry) (device : D) (v : ℕ) (events : Events) (t number : ℕ) → TellsTurn stands turns probes faults h slip task (Fell d) es device v events t → d.0 < length h.history.setting.first
-    → number ≡ (read_in h.history).fell d.0 + 1 → IsWhole stands turns probes faults h → MayTurn true (Failed d number) h.history.spare d h.order.line h.order.table
-may_fall h slip task d es device v events t number tells below number_is k =
-    let room = turn_room h slip task (Fell d) es device v events t tells (fell_line h.history.setting (read_in h.history) (configuration_of (open_of h)).grips d h.order.line.marks k.order.line_is) k in
-    record {
-      device = let size : length h.order.table ≡ length h.history.setting.first = k.order.table_is.devices in omega (arith, below, size);
-      runs = no_detector h.history.setting (read_in h.history) (configuration_of (open_of h)).grips h.order.table d.0 (read_whole h k) below k.order.table_is;
-      counted = counted_told h.history.setting (read_in h.history) (configuration_of (open_of h)).grips h.order.table d.0 below k.order.table_is ∙ (let may : may_follow h.history.setting (read_in h.history) (Fell d) ≡ true = first_may h.history.setting h.history.history slip.maker (Fell d) es tells.comes.configuration.history.well_formed in grind (arith, common_steps));
+pub may_fall : {D : Type 0} {stands turns probes faults : D → ℕ} (h : Inside D) (why : KeptPurpose) (tag : ℕ) (grip : Gripped D Done) (es : List Entry) (sl : Slip) (events : Events) → TellsTurn stands turns probes faults h why tag grip (Fell grip.slip.device) es → Falls h why grip sl events
+    → IsWhole stands turns probes faults h → MayTurn true (Failed sl.device events.fell) h.history.spare sl.device h.order.line h.order.table
+may_fall h why tag grip es sl events tells falls k =
+    subst (λ (z : Slip). MayTurn true (Failed z.device events.fell) h.history.spare z.device h.order.line h.order.table) (sym falls.same) (record {
+      device = omega (arith, below, k.order.table_is.devices);
+      runs = no_detector w n g h.order.table d.0 (read_whole h k) below k.order.table_is;
+      counted = counted_told w n g h.order.table d.0 below k.order.table_is ∙ (let may : may_follow w n (Fell d) ≡ true = tells_may h why tag grip (Fell d) es tells k in grind (arith, common_steps));
       place = room.0;
-      absent = (λ i. stands_in (number_is i)) ∙ failure_absent h.history.setting (read_in h.history) (configuration_of (open_of h)).grips d h.order.line.marks (read_whole h k) k.order.line_is;
+      absent = (λ i. stands_in (fallen_number h why tag grip sl events tells.returned falls k i)) ∙ failure_absent w n g d h.order.line.marks (read_whole h k) k.order.line_is;
       sealed = k.order.sealed;
-      unsealed = table_unsealed h.history.setting (read_in h.history) (configuration_of (open_of h)).grips d.0 h.order.line h.order.table below k.order.table_is k.order.line_is k.order.sealed;
+      unsealed = table_unsealed w n g d.0 h.order.line h.order.table below k.order.table_is k.order.line_is k.order.sealed;
       entry = room.1;
-    }
+    })
   where
+    w : Setting
+    w = h.history.setting
+
+    n : Reading
+    n = read_in h.history
+
+    g : Grips
+    g = (configuration_of (open_of h)).grips
+
+    d : DeviceNo
+    d = grip.slip.device
+
+    below : d.0 < length w.first
+    below = (returned_for h why tag grip tells.returned k).below
+
+    room : (0 < h.order.line.spare) × (0 < h.history.spare)
+    room = turn_room h why tag grip (Fell d) es tells (fell_line w n g d h.order.line.marks k.order.line_is) k
+
     stands_in : ℕ → Bool
     stands_in x = stands_item (Failed d x) h.order.line.marks
 
 -- a device is back: it is counted down
-pub may_rise : {D : Type 0} {stands turns probes faults : D → ℕ} (h : Inside D) (slip : Slip) (task : Task) (d : DeviceNo) (es : List Entry) (device : D) (v : ℕ) (events : Events) (t number : ℕ) → TellsTurn stands turns probes faults h slip task (Rose d) es device v events t → d.0 < length h.history.setting.first
-    → number ≡ (read_in h.history).rose d.0 + 1 → IsWhole stands turns probes faults h → MayTurn false (Back d number) h.history.spare d h.order.line h.order.table
-may_rise h slip task d es device v events t number tells below number_is k =
-    let room = turn_room h slip task (Rose d) es device v events t tells (rose_line h.history.setting (read_in h.history) (configuration_of (open_of h)).grips d h.order.line.marks k.order.line_is) k in
-    record {
-      device = let size : length h.order.table ≡ length h.history.setting.first = k.order.table_is.devices in omega (arith, below, size);
-      runs = no_detector h.history.setting (read_in h.history) (configuration_of (open_of h)).grips h.order.table d.0 (read_whole h k) below k.order.table_is;
-      counted = counted_told h.history.setting (read_in h.history) (configuration_of (open_of h)).grips h.order.table d.0 below k.order.table_is ∙ (let may : may_follow h.history.setting (read_in h.history) (Rose d) ≡ true = first_may h.history.setting h.history.history slip.maker (Rose d) es tells.comes.configuration.history.well_formed in grind (arith, common_steps));
+pub may_rise : {D : Type 0} {stands turns probes faults : D → ℕ} (h : Inside D) (why : KeptPurpose) (tag : ℕ) (grip : Gripped D Done) (es : List Entry) (sl : Slip) (events : Events) → TellsTurn stands turns probes faults h why tag grip (Rose grip.slip.device) es → Rises h why grip sl events
+    → IsWhole stands turns probes faults h → MayTurn false (Back sl.device events.rose) h.history.spare sl.device h.order.line h.order.table
+may_rise h why tag grip es sl events tells rises k =
+    subst (λ (z : Slip). MayTurn false (Back z.device events.rose) h.history.spare z.device h.order.line h.order.table) (sym rises.same) (record {
+      device = omega (arith, below, k.order.table_is.devices);
+      runs = no_detector w n g h.order.table d.0 (read_whole h k) below k.order.table_is;
+      counted = counted_told w n g h.order.table d.0 below k.order.table_is ∙ (let may : may_follow w n (Rose d) ≡ true = tells_may h why tag grip (Rose d) es tells k in grind (arith, common_steps));
       place = room.0;
-      absent = (λ i. stands_in (number_is i)) ∙ restart_absent h.history.setting (read_in h.history) (configuration_of (open_of h)).grips d h.order.line.marks (read_whole h k) k.order.line_is;
+      absent = (λ i. stands_in (risen_number h why tag grip sl events tells.returned rises k i)) ∙ restart_absent w n g d h.order.line.marks (read_whole h k) k.order.line_is;
       sealed = k.order.sealed;
-      unsealed = table_unsealed h.history.setting (read_in h.history) (configuration_of (open_of h)).grips d.0 h.order.line h.order.table below k.order.table_is k.order.line_is k.order.sealed;
+      unsealed = table_unsealed w n g d.0 h.order.line h.order.table below k.order.table_is k.order.line_is k.order.sealed;
       entry = room.1;
-    }
+    })
   where
+    w : Setting
+    w = h.history.setting
+
+    n : Reading
+    n = read_in h.history
+
+    g : Grips
+    g = (configuration_of (open_of h)).grips
+
+    d : DeviceNo
+    d = grip.slip.device
+
+    below : d.0 < length w.first
+    below = (returned_for h why tag grip tells.returned k).below
+
+    room : (0 < h.order.line.spare) × (0 < h.history.spare)
+    room = turn_room h why tag grip (Rose d) es tells (rose_line w n g d h.order.line.marks k.order.line_is) k
+
     stands_in : ℕ → Bool
     stands_in x = stands_item (Back d x) h.order.line.marks
-
--- The counts of its events
-
--- what the hub has counted is what the history tells
-pub counted_so : {D : Type 0} {stands turns probes faults : D → ℕ} (h : Inside D) (d : ℕ) → d < length h.history.setting.first → IsWhole stands turns probes faults h → ((device_at h.devices.items d).events.fell ≡ (read_in h.history).fell d) × ((device_at h.devices.items d).events.rose ≡ (read_in h.history).rose d)
-counted_so h d below k = (ap (λ (e : Events). e.fell) (k.shown.events d below), ap (λ (e : Events). e.rose) (k.shown.events d below))
-
--- one more is a number
-pub few_turns : {D : Type 0} {stands turns probes faults : D → ℕ} (h : Inside D) (d : ℕ) → d < length h.history.setting.first → IsWhole stands turns probes faults h → ((device_at h.devices.items d).events.fell + 1 < 4294967296) × ((device_at h.devices.items d).events.rose + 1 < 4294967296)
-few_turns h d below k =
-    let counted = counted_so h d below k in
-    let few : (read_in h.history).fell d + (read_in h.history).rose d ≤ 2 * h.rounds + 1 = few_events (configuration_of (open_of h)) h.rounds h.opened (held_in (open_of h)) d k.shown.configuration in
-    let rounds : h.rounds ≤ 100 = k.shown.configuration.opens.few_rounds in
-    (omega (arith, counted.0, few, rounds), omega (arith, counted.1, few, rounds))

@@ -1,20 +1,22 @@
 -- Of each run of the window, the device whose grip it holds.
-use Rattle.command_rules.specs.Rosters.{is_run}
+use Rattle.command_rules.specs.Rosters.{Run, is_run}
 use Rattle.history_book.proofs.Snoc.{put_other, put_same}
 use Rattle.history_book.specs.Readings.{Reading, put}
 use Rattle.history_book.specs.Settings.{Setting}
 use Rattle.home_types.specs.declared.numbers.DeviceNo.{DeviceNo}
 use Rattle.hub_core.proofs.kept.Finds.{find_first, find_none, find_same, none_does}
-use Rattle.hub_core.proofs.kept.HubReads.{get_set, run_place}
+use Rattle.hub_core.proofs.kept.HubReads.{get_set, run_place, run_above}
+use Rattle.hub_core.specs.Away.{with_hand}
 use Rattle.hub_core.specs.HubsKept.{HandsAre}
 use Rattle.lock_leasing.specs.Configurations.{Grip, Grips, Purpose, has_grip}
 use Rattle.lock_leasing.specs.Waits.{grip_wait}
 use Rattle.std.proofs.Common.{ap, arith, inl, inr, refl, subst, sym, ◌∙◌}
 use Rattle.std.proofs.lemmas.List.{length-replicate, length-set}
-use Rattle.std.specs.Prelude.{List, None, Option, Some, false, if◌then◌else◌, length, option_map, replicate, slice_get, slice_set, suc, true, unwrap_or, zero, ℕ, ⊤, ◌-◌, ◌<◌, ◌==◌, ◌≡◌, ◌≢◌}
+use Rattle.std.specs.Prelude.{List, None, Option, Some, false, if◌then◌else◌, length, nat_lt, option_map, replicate, slice_get, slice_set, suc, true, unwrap_or, zero, ℕ, ⊤, ◌-◌, ◌<◌, ◌==◌, ◌≡◌, ◌≢◌}
 use Rattle.window_order.proofs.Grips.{HoldsNone, none_left}
 use Rattle.lock_leasing.specs.Places.{GripsFit}
 use Rattle.std.proofs.lemmas.Bool.{eq-eqb, eqb-true}
+use Rattle.std.proofs.lemmas.Grind.{common_steps}
 use Rattle.std.proofs.lemmas.Option.{same_Some}
 
 -- none is out
@@ -113,3 +115,14 @@ probe_goes w g f d purpose hands home gone k =
 -- .. and one that comes back
 pub probe_comes : (w : Setting) (g f : Grips) (d : ℕ) (purpose : Purpose) (hands : List (Option DeviceNo)) → g d ≡ Some (record { maker = 0; purpose = purpose }) → f ≡ put g d None → HandsAre w g hands → HandsAre w f hands
 probe_comes w g f d purpose hands out home k = subst (λ (x : Grips). HandsAre w x hands) (sym home) (probe_held w g (put g d None) hands (others_hold g 0 d None tt (subst (IsOf 0) (sym out) refl)) k)
+
+-- whoever's grip it was
+pub hands_come : (w : Setting) (n : Reading) (g : Grips) (maker d : ℕ) (purpose : Purpose) (hands : List (Option DeviceNo)) → (nat_lt 0 maker ≡ true → is_run w.runs maker ≡ true) → g d ≡ Some (record { maker = maker; purpose = purpose }) → GripsFit w n g → HandsAre w g hands → HandsAre w (put g d None) (with_hand hands maker None)
+hands_come w n g maker d purpose hands run out fit k = elim (nat_lt 0 maker) as (λ b. nat_lt 0 maker ≡ b → HandsAre w (put g d None) (if b then slice_set hands (maker - 1) None else hands)) [
+  | true ↦ (λ some. hand_comes w n g (put g d None) maker d purpose hands (slice_set hands (maker - 1) None) (run some) out fit refl refl k)
+  | false ↦ (λ none. let detector : maker ≡ 0 = grind (arith, common_steps) in probe_comes w g (put g d None) d purpose hands (out ∙ ap (λ m. Some (record { maker = m; purpose = purpose })) detector) refl k)
+] refl
+
+-- a run's hand
+pub run_hand : (runs : List Run) (hands : List (Option DeviceNo)) (r : ℕ) (hand : Option DeviceNo) → is_run runs r ≡ true → with_hand hands r hand ≡ slice_set hands (r - 1) hand
+run_hand runs hands r hand run = ap (λ b. if b then slice_set hands (r - 1) hand else hands) (run_above runs r run)

@@ -22,8 +22,9 @@ use Rattle.hub_core.specs.ReadHistories.{HistoryState, IsReadBeside, read_in}
 use Rattle.hub_core.specs.declared.known.RunProgress.{RunProgress}
 use Rattle.std.proofs.Common.{ap, arith, inl, inr, refl, sym, ◌∙◌, ◌⊎◌}
 use Rattle.std.proofs.lemmas.List.{length-append, length-map, length-set}
+use Rattle.std.proofs.lemmas.Bool.{lt-ltb}
 use Rattle.std.proofs.lemmas.Option.{same_Some, slice_get_within}
-use Rattle.std.specs.Prelude.{Bool, IsTrue, List, None, Option, Some, [], is_none, is_some, length, not, slice_get, slice_set, suc, true, zero, ℕ, ◌++◌, ◌+◌, ◌-◌, ◌<◌, ◌∷◌, ◌≡◌, ◌≢◌, ◌||◌}
+use Rattle.std.specs.Prelude.{Bool, IsTrue, List, None, Option, Some, [], is_none, is_some, length, nat_lt, not, slice_get, slice_set, suc, true, zero, ℕ, ◌++◌, ◌+◌, ◌-◌, ◌<◌, ◌∷◌, ◌≡◌, ◌≢◌, ◌||◌}
 
 -- the place that was written, or another
 pub get_set : {A : Type 0} (xs : List A) (i j : ℕ) (y : A) → i < length xs
@@ -45,6 +46,10 @@ run_place runs (suc i) is =
     within : (o : Option Run) → slice_get runs i ≡ o → IsTrue (is_some o) → i < length runs
     within None at is = absurd (cc)
     within (Some run) at is = slice_get_within runs i run at
+
+-- .. and is not the detector
+pub run_above : (runs : List Run) (r : ℕ) → is_run runs r ≡ true → nat_lt 0 r ≡ true
+run_above runs r run = let place = run_place runs r run in lt-ltb 0 r (omega (arith, place.0))
 
 -- what is kept of a run is what the history says of it
 pub progress_is : (s : HistoryState) (progress : List RunProgress) (r : ℕ) (p : RunProgress)

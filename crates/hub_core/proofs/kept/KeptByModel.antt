@@ -10,11 +10,11 @@ use Rattle.device_gate.specs.Calls.{has_died}
 use Rattle.device_gate.specs.declared.slips.Told.{Told}
 use Rattle.hub_core.proofs.kept.Kept.{kept_at, starts, take_kept}
 use Rattle.hub_core.proofs.kept.ProbesKept.{take_probe_kept}
-use Rattle.hub_core.proofs.kept.ReturnsKept.{Brings, give_kept, give_probe_kept}
+use Rattle.hub_core.proofs.kept.ReturnsKept.{Brings, give_kept}
 use Rattle.hub_core.proofs.weak.WeakChanges.{weak_same}
 use Rattle.hub_core.proofs.weak.WeakClosings.{weak_justified}
 use Rattle.hub_core.proofs.weak.WeakTakes.{weak_opened, weak_take}
-use Rattle.hub_core.proofs.weak.WeakGives.{weak_give, weak_give_probe}
+use Rattle.hub_core.proofs.weak.WeakGives.{weak_give}
 use Rattle.hub_core.proofs.weak.WeakProbes.{weak_standing, weak_take_probe}
 use Rattle.hub_core.specs.HubKept.{ConfigurationIsKept}
 use Rattle.hub_core.specs.KeptByModel.{IsKeptByModel}
@@ -86,22 +86,20 @@ taken_kept s rounds opened held r m kept = by_model (IsKeptByModel (after_take s
     (λ c. in_order (after_take s r m) rounds opened held (take_kept s rounds opened held r m c))
     (λ c. in_no_order (after_take s r m) rounds opened held (weak_take s rounds opened held r m c))
 
-pub given_kept : (s : Configuration) (rounds opened : ℕ) (held : ℕ → ℕ) (d m v : ℕ) (grip : Grip) (told : Told) → s.grips d ≡ Some grip → Brings s held d v grip told → (has_died told ≡ true → v ≡ held d) → IsTrue (has_value (kind_at s.setting.kinds d) v)
-    → IsKeptByModel s rounds opened held → IsKeptByModel (after_give (at_moment s m) d grip told) rounds opened (put held d v)
-given_kept s rounds opened held d m v grip told out brings died value kept = by_model (IsKeptByModel (after_give (at_moment s m) d grip told) rounds opened (put held d v)) s rounds opened held kept
-    (λ c. in_order (after_give (at_moment s m) d grip told) rounds opened (put held d v) (give_kept s rounds opened held d m v grip told out brings value c))
-    (λ c. in_no_order (after_give (at_moment s m) d grip told) rounds opened (put held d v) (weak_give s rounds opened held d m v grip told out brings died value c))
+-- a device comes home, from a run or from the detector, at this moment
+pub given_kept : (s : Configuration) (rounds opened : ℕ) (held : ℕ → ℕ) (d t v : ℕ) (grip : Grip) (told : Told) → s.grips d ≡ Some grip → Brings s held d v grip told → (has_died told ≡ true → v ≡ held d) → IsTrue (has_value (kind_at s.setting.kinds d) v) → s.moment ≤ t
+    → IsKeptByModel s rounds opened held → IsKeptByModel (after_give (record s { moment = t }) d grip told) rounds opened (put held d v)
+given_kept s rounds opened held d t v grip told out brings died value later kept = by_model (IsKeptByModel (after_give (record s { moment = t }) d grip told) rounds opened (put held d v)) s rounds opened held kept
+    (λ c. in_order (after_give (record s { moment = t }) d grip told) rounds opened (put held d v) (give_kept s rounds opened held d t v grip told out brings value read_before c))
+    (λ c. in_no_order (after_give (record s { moment = t }) d grip told) rounds opened (put held d v) (weak_give s rounds opened held d t v grip told out brings died value read_before c))
+  where
+    read_before : (read_of s).moment ≤ t
+    read_before = let before' : (read_of s).moment ≤ s.moment = kept.history.moment in omega (arith, before', later)
 
 pub probe_taken_kept : (s : Configuration) (rounds opened : ℕ) (held : ℕ → ℕ) (d : ℕ) → IsKeptByModel s rounds opened held → IsKeptByModel (after_take_probe s d) rounds opened held
 probe_taken_kept s rounds opened held d kept = by_model (IsKeptByModel (after_take_probe s d) rounds opened held) s rounds opened held kept
     (λ c. in_order (after_take_probe s d) rounds opened held (take_probe_kept s rounds opened held d c))
     (λ c. in_no_order (after_take_probe s d) rounds opened held (weak_take_probe s rounds opened held d c))
-
-pub probe_given_kept : (s : Configuration) (rounds opened : ℕ) (held : ℕ → ℕ) (d v : ℕ) (grip : Grip) (told : Told) → s.grips d ≡ Some grip → Brings s held d v grip told → (has_died told ≡ true → v ≡ held d) → IsTrue (has_value (kind_at s.setting.kinds d) v)
-    → IsKeptByModel s rounds opened held → IsKeptByModel (after_give s d grip told) rounds opened (put held d v)
-probe_given_kept s rounds opened held d v grip told out brings died value kept = by_model (IsKeptByModel (after_give s d grip told) rounds opened (put held d v)) s rounds opened held kept
-    (λ c. in_order (after_give s d grip told) rounds opened (put held d v) (give_probe_kept s rounds opened held d v grip told out brings value c))
-    (λ c. in_no_order (after_give s d grip told) rounds opened (put held d v) (weak_give_probe s rounds opened held d v grip told out brings died value c))
 
 -- Where devices stand
 

@@ -1,5 +1,6 @@
 -- What is kept of a hub's configuration stays so with each device that comes home, from a run or from the detector.
 use Rattle.command_rules.specs.Rosters.{command_at, device_no, is_on, is_run, run_no}
+use Rattle.device_gate.specs.Calls.{answer_told}
 use Rattle.device_gate.specs.declared.slips.Told.TheVariants.{Died, Sensed, Worked}
 use Rattle.device_gate.specs.declared.slips.Told.{Told}
 use Rattle.history_book.proofs.Shapes.{shapes}
@@ -18,16 +19,16 @@ use Rattle.home_types.specs.declared.commands.Answer.TheVariants.{Down, Fine, Fo
 use Rattle.home_types.specs.declared.commands.Command.{Command}
 use Rattle.hub_core.proofs.kept.EventsKept.{fell_may, rose_may}
 use Rattle.hub_core.proofs.kept.HistoryKept.{MayAdd, added, answer_may, doom_may, first_less, history_added, less_one, same_grips, serves_strict, turn_less, undo_may}
-use Rattle.hub_core.proofs.kept.Kept.{first_follows, history_same, kept_after, out_less, probes_home, still_later}
+use Rattle.hub_core.proofs.kept.Kept.{first_follows, history_same, kept_after, out_less, probes_home}
 use Rattle.hub_core.proofs.steps.Afters.{read_with}
 use Rattle.hub_core.proofs.steps.Causes.{and_is, and_three}
 use Rattle.hub_core.proofs.steps.GiveCauses.{command_back_shows, probe_shows}
 use Rattle.hub_core.proofs.steps.Gives.{MayUndo, command_back_follows, probe_back_follows, undo_back_follows}
 use Rattle.hub_core.proofs.steps.Takes.{command_is, live_run}
-use Rattle.hub_core.specs.HubKept.{ConfigurationIsKept, HistoryIsKept, is_of_run, is_probed, keeps_leases, probes_of, undo_fits}
-use Rattle.hub_core.specs.Steps.{after_give, answer_told, at_moment, command_entries, give_entries, probe_entries}
 use Rattle.legal_days.specs.CleanReads.{answer_is_clean, clean_value, entry_is_clean}
+use Rattle.hub_core.specs.HubKept.{ConfigurationIsKept, HistoryIsKept, is_of_run, is_probed, keeps_leases, probes_of, undo_fits}
 use Rattle.legal_days.specs.JustifiedAborts.{abort_is_justified, shows}
+use Rattle.hub_core.specs.Steps.{after_give, command_entries, give_entries, probe_entries}
 use Rattle.lock_leasing.specs.Configurations.{Commands, Configuration, Grip, Grips, Probes, Purpose, Undoes, no_grips, read_of}
 use Rattle.lock_leasing.specs.Places.{MayBeOut}
 use Rattle.lock_leasing.specs.Waits.{lost_by}
@@ -36,7 +37,7 @@ use Rattle.std.proofs.Common.{ap, append-nil, append_assoc, ap₂, arith, refl, 
 use Rattle.std.proofs.lemmas.Bool.{and_parts, both_ways, not-true}
 use Rattle.std.proofs.lemmas.Grind.{common_steps}
 use Rattle.std.specs.List.{list_any}
-use Rattle.std.specs.Prelude.{Bool, IsTrue, List, None, Option, Some, [], false, fold, if◌then◌else◌, is_some, max, not, option_map, option_to_list, suc, true, unwrap_or, ℕ, ⊤, ◌&&◌, ◌++◌, ◌+◌, ◌==◌, ◌||◌, ◌∷◌, ◌≡◌, ◌≢◌, ◌≤◌}
+use Rattle.std.specs.Prelude.{Bool, IsTrue, List, None, Option, Some, [], false, fold, if◌then◌else◌, is_some, not, option_map, option_to_list, suc, true, unwrap_or, ℕ, ⊤, ◌&&◌, ◌++◌, ◌+◌, ◌==◌, ◌||◌, ◌∷◌, ◌≡◌, ◌≢◌, ◌≤◌}
 use Rattle.window_order.proofs.CleanValues.{ReadIsOut, finds_clean, none_dirty}
 use Rattle.window_order.proofs.DeadAccesses.{died_doomed_kept, died_kept}
 use Rattle.window_order.proofs.OutDevices.{asked_up, called_unseen, called_up, restored_down, undo_up}
@@ -582,9 +583,9 @@ rose_home s rounds opened held r d now v u out brings later kept =
 
 -- What is kept stays so when a device comes home
 
-gives_kept : (s : Configuration) (rounds opened : ℕ) (held : ℕ → ℕ) (d now v : ℕ) (grip : Grip) (told : Told) → s.grips d ≡ Some grip → Brings s held d v grip told → IsTrue (has_value (kind_at s.setting.kinds d) v) → (read_of s).moment ≤ now
-    → ConfigurationIsKept s rounds opened held → ConfigurationIsKept (home_with s grip.maker d now (give_entries s.setting (read_of s) d grip told)) rounds opened (put held d v)
-gives_kept s rounds opened held d now v grip told out brings value later kept = by_purpose grip.purpose told out brings
+pub give_kept : (s : Configuration) (rounds opened : ℕ) (held : ℕ → ℕ) (d now v : ℕ) (grip : Grip) (told : Told) → s.grips d ≡ Some grip → Brings s held d v grip told → IsTrue (has_value (kind_at s.setting.kinds d) v) → (read_of s).moment ≤ now
+    → ConfigurationIsKept s rounds opened held → ConfigurationIsKept (after_give (record s { moment = now }) d grip told) rounds opened (put held d v)
+give_kept s rounds opened held d now v grip told out brings value later kept = by_purpose grip.purpose told out brings
   where
     r : ℕ
     r = grip.maker
@@ -618,13 +619,3 @@ gives_kept s rounds opened held d now v grip told out brings value later kept = 
     by_purpose (Probes (Some u)) Worked at b = restored u [] rise at (rose_home s rounds opened held r d now v u at b later kept)
     by_purpose (Probes (Some u)) (Sensed x) at b = restored u [] rise at (rose_home s rounds opened held r d now v u at b later kept)
     by_purpose (Probes (Some u)) Died at b = restored u (Fell (device_no d) ∷ option_to_list (option_map (λ x. Doomed (run_no x) (Lost (device_no d))) (lost_by s.setting n d))) [] at (missed_home s rounds opened held r d now v u at later kept)
-
--- from a run, at this moment or at the last one where that is later
-pub give_kept : (s : Configuration) (rounds opened : ℕ) (held : ℕ → ℕ) (d m v : ℕ) (grip : Grip) (told : Told) → s.grips d ≡ Some grip → Brings s held d v grip told → IsTrue (has_value (kind_at s.setting.kinds d) v)
-    → ConfigurationIsKept s rounds opened held → ConfigurationIsKept (after_give (at_moment s m) d grip told) rounds opened (put held d v)
-give_kept s rounds opened held d m v grip told out brings value kept = gives_kept s rounds opened held d (max s.moment m) v grip told out brings value (still_later s m kept.history) kept
-
--- from the detector, at no other moment
-pub give_probe_kept : (s : Configuration) (rounds opened : ℕ) (held : ℕ → ℕ) (d v : ℕ) (grip : Grip) (told : Told) → s.grips d ≡ Some grip → Brings s held d v grip told → IsTrue (has_value (kind_at s.setting.kinds d) v)
-    → ConfigurationIsKept s rounds opened held → ConfigurationIsKept (after_give s d grip told) rounds opened (put held d v)
-give_probe_kept s rounds opened held d v grip told out brings value kept = gives_kept s rounds opened held d s.moment v grip told out brings value kept.history.moment kept

@@ -18,7 +18,8 @@ use Rattle.home_types.specs.declared.commands.Answer.TheVariants.{Down, Fine, Fo
 use Rattle.home_types.specs.declared.commands.Command.{Command}
 use Rattle.home_types.specs.declared.numbers.DeviceNo.{DeviceNo}
 use Rattle.hub_core.proofs.steps.Takes.{command_is, did_follows, live_run, within}
-use Rattle.hub_core.specs.Steps.{answer_told, command_entries, probe_entries, undo_entries}
+use Rattle.hub_core.specs.Steps.{command_entries, probe_entries, undo_entries}
+use Rattle.device_gate.specs.Calls.{answer_told}
 use Rattle.device_gate.specs.declared.slips.Told.{Told}
 use Rattle.device_gate.specs.declared.slips.Told.TheVariants.{Died, Sensed, Worked}
 use Rattle.lock_leasing.proofs.Effects.{live_runs_live}

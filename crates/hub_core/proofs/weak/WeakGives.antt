@@ -1,6 +1,6 @@
 -- What is kept of a configuration of the weak model stays so with each device that comes home, from a run or from the detector.
 use Rattle.command_rules.specs.Rosters.{command_at, device_no, is_run, run_no}
-use Rattle.device_gate.specs.Calls.{has_died}
+use Rattle.device_gate.specs.Calls.{answer_told, has_died}
 use Rattle.device_gate.specs.declared.slips.Told.TheVariants.{Died, Sensed, Worked}
 use Rattle.device_gate.specs.declared.slips.Told.{Told}
 use Rattle.history_book.proofs.Shapes.{Shaped, shapes}
@@ -26,10 +26,10 @@ use Rattle.hub_core.proofs.steps.Gives.{command_back_follows}
 use Rattle.hub_core.proofs.steps.Takes.{command_is, live_run}
 use Rattle.hub_core.proofs.weak.WeakChanges.{IsStillOut, made_with, maker_sound, out_stays, passes_did, passes_doomed, weak_made}
 use Rattle.hub_core.specs.HubKept.{probes_of}
-use Rattle.hub_core.specs.Steps.{after_give, answer_told, at_moment, command_entries, give_entries, probe_entries}
-use Rattle.hub_core.specs.WeakKept.{NoneHasFailed, WeakIsKept}
 use Rattle.legal_days.specs.JustifiedAborts.{has_answer}
 use Rattle.legal_days.specs.LegalWindows.{weakly_allowed}
+use Rattle.hub_core.specs.Steps.{after_give, command_entries, give_entries, probe_entries}
+use Rattle.hub_core.specs.WeakKept.{NoneHasFailed, WeakIsKept}
 use Rattle.lock_leasing.specs.Configurations.{Commands, Configuration, Grip, Grips, Probes, Purpose, Undoes, read_of}
 use Rattle.lock_leasing.specs.Places.{GripsFit}
 use Rattle.lock_leasing.specs.Words.{live_runs}
@@ -37,7 +37,7 @@ use Rattle.std.proofs.Common.{ap, ap₂, arith, refl, subst, sym, ◌∙◌}
 use Rattle.std.proofs.Math.Bool.{and-false, and-true}
 use Rattle.std.proofs.lemmas.Bool.{eq-eqb, ltb-true}
 use Rattle.std.proofs.lemmas.Grind.{common_steps}
-use Rattle.std.specs.Prelude.{Bool, IsTrue, List, None, Option, Some, [], false, find, fold, if◌then◌else◌, is_some, length, max, not, option_map, option_to_list, suc, true, ℕ, ◌&&◌, ◌<◌, ◌==◌, ◌∷◌, ◌≡◌, ◌≢◌, ◌≤◌}
+use Rattle.std.specs.Prelude.{Bool, IsTrue, List, None, Option, Some, [], false, find, fold, if◌then◌else◌, is_some, length, not, option_map, option_to_list, suc, true, ℕ, ◌&&◌, ◌<◌, ◌==◌, ◌∷◌, ◌≡◌, ◌≢◌, ◌≤◌}
 use Rattle.window_order.proofs.Grips.{HoldsNone, fits_other, fits_same, fits_without, none_left}
 use Rattle.window_order.proofs.Runs.{both, run_positive}
 
@@ -373,9 +373,9 @@ probe_home s rounds opened held r d now v o told out brings stays later kept = b
 
 -- What is kept stays so when a device comes home: where its call died, the hub leaves what it holds as it was
 
-gives : (s : Configuration) (rounds opened : ℕ) (held : ℕ → ℕ) (d now v : ℕ) (grip : Grip) (told : Told) → s.grips d ≡ Some grip → Brings s held d v grip told → (has_died told ≡ true → v ≡ held d) → IsTrue (has_value (kind_at s.setting.kinds d) v) → (read_of s).moment ≤ now → WeakIsKept s rounds opened held
-    → WeakIsKept (made_with s grip.maker now (put s.grips d None) (give_entries s.setting (read_of s) d grip told)) rounds opened (put held d v)
-gives s rounds opened held d now v grip told out brings stays value later kept = by_purpose grip.purpose out brings
+pub weak_give : (s : Configuration) (rounds opened : ℕ) (held : ℕ → ℕ) (d now v : ℕ) (grip : Grip) (told : Told) → s.grips d ≡ Some grip → Brings s held d v grip told → (has_died told ≡ true → v ≡ held d) → IsTrue (has_value (kind_at s.setting.kinds d) v) → (read_of s).moment ≤ now → WeakIsKept s rounds opened held
+    → WeakIsKept (after_give (record s { moment = now }) d grip told) rounds opened (put held d v)
+weak_give s rounds opened held d now v grip told out brings stays value later kept = by_purpose grip.purpose out brings
   where
     r : ℕ
     r = grip.maker
@@ -384,16 +384,3 @@ gives s rounds opened held d now v grip told out brings stays value later kept =
     by_purpose (Commands k) at b = command_home s rounds opened held r k d now v told at b stays value later kept
     by_purpose (Undoes u) at b = absurd (let undoes : false ≡ true = kept.out d (record { maker = r; purpose = Undoes u }) at in cc)
     by_purpose (Probes o) at b = probe_home s rounds opened held r d now v o told at b stays later kept
-
--- from a run, at this moment or at the last one where that is later
-pub weak_give : (s : Configuration) (rounds opened : ℕ) (held : ℕ → ℕ) (d m v : ℕ) (grip : Grip) (told : Told) → s.grips d ≡ Some grip → Brings s held d v grip told → (has_died told ≡ true → v ≡ held d) → IsTrue (has_value (kind_at s.setting.kinds d) v)
-    → WeakIsKept s rounds opened held → WeakIsKept (after_give (at_moment s m) d grip told) rounds opened (put held d v)
-weak_give s rounds opened held d m v grip told out brings stays value kept = gives s rounds opened held d (max s.moment m) v grip told out brings stays value later kept
-  where
-    later : (read_of s).moment ≤ max s.moment m
-    later = let before' : (read_of s).moment ≤ s.moment = kept.moment in omega (arith, before')
-
--- from the detector, at no other moment
-pub weak_give_probe : (s : Configuration) (rounds opened : ℕ) (held : ℕ → ℕ) (d v : ℕ) (grip : Grip) (told : Told) → s.grips d ≡ Some grip → Brings s held d v grip told → (has_died told ≡ true → v ≡ held d) → IsTrue (has_value (kind_at s.setting.kinds d) v)
-    → WeakIsKept s rounds opened held → WeakIsKept (after_give s d grip told) rounds opened (put held d v)
-weak_give_probe s rounds opened held d v grip told out brings stays value kept = gives s rounds opened held d s.moment v grip told out brings stays value kept.moment kept

@@ -1,11 +1,10 @@
 use Rattle.hub_core.proofs.calls.HubLaws.{command_out}
 use Rattle.hub_core.proofs.hubs.Hub.takes.Goals as goal
-use Rattle.hub_core.specs.OpenHubs.{device_at}
 use Rattle.hub_core.specs.declared.known.DeviceProgress.{DeviceProgress}
 use Rattle.std.proofs.Common.{ap, sym, ◌∙◌}
 
 pub command-requires : goal.command-requires
 command-requires g c =
-    let purpose = ap (λ (x : DeviceProgress). x.purpose) (sym (c.known.ensures ∙ ap (λ s. device_at s.devices c.args.d.0) (sym c.window.view_is))) ∙ c.in-Command.is in
+    let purpose = ap (λ (x : DeviceProgress). x.purpose) (sym c.known.ensures) ∙ c.in-Command.is in
     let both = command_out g.D.Device.stands g.D.Device.turns g.D.Device.probes g.D.Device.faults _ c.args.d.0 c.in-Some.slip c.in-Command.k c.window.invariant.shown c.in-Some.ensures purpose in
     record { run = both.0; there = both.1 }

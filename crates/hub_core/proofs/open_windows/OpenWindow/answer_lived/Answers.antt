@@ -1,24 +1,23 @@
 use Rattle.command_rules.specs.Rosters.{is_run}
-use Rattle.history_book.specs.Settings.{is_weak}
+use Rattle.device_gate.specs.Calls.{answer_told}
 use Rattle.history_book.specs.Readings.{is_access, next_of}
+use Rattle.history_book.specs.Settings.{is_weak}
+use Rattle.hub_core.proofs.calls.Homecomings.{CameHome, back_given, grip_back, may_come}
 use Rattle.hub_core.proofs.calls.HubChanges.{answer_entries}
-use Rattle.hub_core.proofs.calls.HubReturns.{CameHome, answer_made, answered_back, back_given, back_place, command_back, doom_place, grip_back, hand_back, lived_events}
+use Rattle.hub_core.proofs.calls.HubReturns.{answer_made, answer_place, answered_back, command_back, doom_place}
+use Rattle.hub_core.proofs.calls.PackedEntries.{two_packed}
+use Rattle.hub_core.proofs.calls.ReturnedOrders.{answered_whole, may_tell}
+use Rattle.hub_core.proofs.open_windows.OpenWindow.answer_lived.Goals as goal
 use Rattle.hub_core.proofs.steps.Gives.{told_access}
 use Rattle.hub_core.proofs.steps.LastAnswers.{just_answered}
-use Rattle.hub_core.proofs.calls.ReturnedOrders.{answered_whole, may_tell}
-use Rattle.hub_core.proofs.calls.PackedEntries.{two_packed}
-use Rattle.hub_core.proofs.open_windows.OpenWindow.answer_lived.Goals as goal
-use Rattle.device_gate.specs.declared.slips.Slip.{Slip}
-use Rattle.hub_core.specs.OpenHubs.{OpenHub, device_at}
 use Rattle.hub_core.specs.ReadHistories.{HistoryState, read_in, with_doom, with_entry}
-use Rattle.hub_core.specs.Steps.{answer_told}
 use Rattle.hub_core.specs.declared.open_windows.OpenWindow.TheInside.{Inside}
 use Rattle.hub_core.specs.declared.purposes.Purpose.TheVariants.{Command as ForCommand}
 use Rattle.std.proofs.Common.{ap, arith, refl, sym, ◌∙◌}
 use Rattle.std.specs.Prelude.{None, Some, ◌≡◌}
 
-pub take_home-told-requires-clause-run : goal.take_home-told-requires-clause-run
-take_home-told-requires-clause-run g c = hand_back c.self.inside c.args.self.now c.args.grip.slip c.args.grip.task c.self.view_is c.requires.kept c.requires.maker c.self.invariant
+pub come_home-came-requires : goal.come_home-came-requires
+come_home-came-requires g c = record { may = may_come c.self.inside c.args.self.now c.args.grip c.self.view_is c.requires.kept c.self.invariant }
 
 pub refuted-cause-requires : goal.refuted-cause-requires
 refuted-cause-requires g c = let command = command_back c.self.inside c.args.self.now c.args.grip.slip c.args.grip.task c.args.k c.self.view_is c.requires.kept c.requires.purpose c.self.invariant in record { run = rw c.slip-slip.ensures command.run; there = rw c.slip-slip.ensures command.within }
@@ -30,17 +29,17 @@ answer-entry-requires g c =
     record {
       run = rw c.slip-slip.ensures command.run;
       there = rw c.slip-slip.ensures command.within;
-      room = back_place c.self.inside (ForCommand c.args.k) _ c.args.grip (grip_back c.self.inside c.args.self.now (ForCommand c.args.k) _ c.args.grip c.self.view_is c.requires.kept c.requires.maker c.requires.purpose c.take_home-told.ensures.called) c.self.invariant;
+      room = answer_place c.self.inside c.args.k _ c.args.grip (grip_back c.self.inside c.args.self.now (ForCommand c.args.k) _ c.args.grip c.self.view_is c.requires.kept c.requires.purpose c.come_home-came.ensures.called) c.requires.lives c.self.invariant;
       few = omega (arith, number, command.few);
     }
 
 pub note_answer-requires : goal.note_answer-requires
 note_answer-requires g c =
     let command = command_back c.self.inside c.args.self.now c.args.grip.slip c.args.grip.task c.args.k c.self.view_is c.requires.kept c.requires.purpose c.self.invariant in
-    let last = just_answered c.self.inside.history c.answer-entry.new.self c.args.grip.slip.maker c.slip-slip.result.maker c.args.k c.slip-slip.result.device.0 c.answer-entry.result c.answer_told-answer.result command.run command.next command.within (command.on ∙ ap (λ s. s.device.0) (sym c.slip-slip.ensures)) (ap (λ s. s.maker) c.slip-slip.ensures) c.answer-entry.ensures.entry c.answer-entry.ensures.new in
-    let tells = may_tell c.self.inside c.args.k _ c.args.grip c.slip-slip.result (grip_back c.self.inside c.args.self.now (ForCommand c.args.k) _ c.args.grip c.self.view_is c.requires.kept c.requires.maker c.requires.purpose c.take_home-told.ensures.called) c.slip-slip.ensures c.self.invariant in
+    let last = just_answered c.self.inside.history c.answer-entry.new.self c.args.grip.slip.maker c.slip-slip.result.maker c.args.k c.slip-slip.result.device.0 c.answer-entry.result c.answer-answer.result command.run command.next command.within (command.on ∙ ap (λ s. s.device.0) (sym c.slip-slip.ensures)) (ap (λ s. s.maker) c.slip-slip.ensures) c.answer-entry.ensures.entry c.answer-entry.ensures.new in
+    let tells = may_tell c.self.inside c.args.k _ c.args.grip c.slip-slip.result (grip_back c.self.inside c.args.self.now (ForCommand c.args.k) _ c.args.grip c.self.view_is c.requires.kept c.requires.purpose c.come_home-came.ensures.called) c.slip-slip.ensures c.self.invariant in
     record {
-      access = ap is_access c.answer_told-answer.ensures ∙ told_access c.take_home-told.result.told;
+      access = ap is_access c.answer-answer.ensures ∙ told_access c.come_home-came.result.told;
       told = λ strong. record {
         run = last.run;
         there = last.there;
@@ -55,25 +54,30 @@ pub doom_for-doomed-requires-clause-run : goal.doom_for-doomed-requires-clause-r
 doom_for-doomed-requires-clause-run g c = ap (λ s. is_run s.setting.runs c.slip-slip.result.maker) c.answer-entry.ensures.new ∙ ap (λ s. is_run c.self.inside.history.setting.runs s.maker) c.slip-slip.ensures ∙ (command_back c.self.inside c.args.self.now c.args.grip.slip c.args.grip.task c.args.k c.self.view_is c.requires.kept c.requires.purpose c.self.invariant).run
 
 pub doom_for-doomed-requires-clause-room : goal.doom_for-doomed-requires-clause-room
-doom_for-doomed-requires-clause-room g c = λ some. doom_place c.self.inside c.args.k _ c.args.grip c.slip-slip.result c.answer_told-answer.result c.refuted-cause.result c.answer-entry.new.self (with_doom c.answer-entry.new.self c.slip-slip.result.maker c.refuted-cause.result) (grip_back c.self.inside c.args.self.now (ForCommand c.args.k) _ c.args.grip c.self.view_is c.requires.kept c.requires.maker c.requires.purpose c.take_home-told.ensures.called) (record {
-  same = c.slip-slip.ensures;
-  lives = c.requires.lives;
-  told = c.answer_told-answer.ensures ∙ ap answer_told c.take_home-told.ensures.told;
-  refuted = c.refuted-cause.ensures;
-  answered = c.answer-entry.ensures.new ∙ ap (with_entry c.self.inside.history c.slip-slip.result.maker) c.answer-entry.ensures.entry;
-  doomed = refl;
-}) c.self.invariant some
+doom_for-doomed-requires-clause-room g c = λ some.
+    doom_place c.self.inside c.args.k _ c.args.grip c.slip-slip.result c.answer-answer.result c.refuted-cause.result c.answer-entry.new.self (with_doom c.answer-entry.new.self c.slip-slip.result.maker c.refuted-cause.result) (grip_back c.self.inside c.args.self.now (ForCommand c.args.k) _ c.args.grip c.self.view_is c.requires.kept c.requires.purpose c.come_home-came.ensures.called)
+    (record {
+      same = c.slip-slip.ensures;
+      lives = c.requires.lives;
+      told = c.answer-answer.ensures ∙ ap answer_told c.come_home-came.ensures.told;
+      refuted = c.refuted-cause.ensures;
+      answered = c.answer-entry.ensures.new ∙ ap (with_entry c.self.inside.history c.slip-slip.result.maker) c.answer-entry.ensures.entry;
+      doomed = refl;
+    }) c.self.invariant some
 
 pub invariant_of-self : goal.invariant_of-self
 invariant_of-self g c =
-    answered_whole c.self.inside _ c.args.moment c.take_home-told.result.held c.args.k _ c.events-events.result c.args.grip c.slip-slip.result c.answer_told-answer.result c.refuted-cause.result c.answer-entry.new.self _ _ _ c.note_answer.new.order (grip_back c.self.inside c.args.self.now (ForCommand c.args.k) _ c.args.grip c.self.view_is c.requires.kept c.requires.maker c.requires.purpose c.take_home-told.ensures.called) (record { moment_is = c.max-self-inside.ensures; value_is = c.take_home-told.ensures.held; events_are = c.events-events.ensures ∙ ap (λ (x : Slip). (device_at c.args.self.now.devices x.device.0).events) c.slip-slip.ensures ∙ ap (λ (x : OpenHub g.row.D.Denot). (device_at x.devices c.args.grip.slip.device.0).events) (sym c.self.view_is) ∙ lived_events c.args.grip.stage.told _ c.requires.lives; devices_are = c.take_home-told.ensures.devices; places_are = c.take_home-told.ensures.places; tickets_are = c.take_home-told.ensures.tickets; hands_are = c.take_home-told.ensures.hands; new = refl }) (record {
+    answered_whole c.self.inside _ c.come_home-came.result.held c.args.k _ c.args.grip c.slip-slip.result c.answer-answer.result c.refuted-cause.result c.answer-entry.new.self _ _ _ c.note_answer.new.order (grip_back c.self.inside c.args.self.now (ForCommand c.args.k) _ c.args.grip c.self.view_is c.requires.kept c.requires.purpose c.come_home-came.ensures.called)
+    (record { later = omega (arith, c.max-self-inside.ensures); home = c.come_home-came.ensures.home; new = refl })
+    (record {
       same = c.slip-slip.ensures;
       lives = c.requires.lives;
-      told = c.answer_told-answer.ensures ∙ ap answer_told c.take_home-told.ensures.told;
+      told = c.answer-answer.ensures ∙ ap answer_told c.come_home-came.ensures.told;
       refuted = c.refuted-cause.ensures;
       answered = c.answer-entry.ensures.new ∙ ap (with_entry c.self.inside.history c.slip-slip.result.maker) c.answer-entry.ensures.entry;
       doomed = c.doom_for-doomed.ensures.history;
     }) (record {
+      value_is = c.come_home-came.ensures.held;
       view_is = refl;
       wrote_is = refl;
       last_is = refl;
@@ -87,15 +91,17 @@ invariant_of-self g c =
 
 pub returns : goal.returns
 returns g c =
-    let t : Inside g.row.D.Denot = record c.self.inside { history = c.doom_for-doomed.new.history; moment = c.max-self-inside.result; devices = c.take_home-told.new.devices; gate = c.take_home-told.new.gate; hands = c.take_home-told.new.hands; order = c.doom_for-doomed.new.order } in
-    let back : CameHome g.D.Device.stands g.D.Device.turns g.D.Device.probes g.D.Device.faults c.self.inside t c.args.moment c.take_home-told.result.held c.events-events.result (ForCommand c.args.k) _ c.args.grip (answer_entries c.slip-slip.result.maker c.args.k c.answer_told-answer.result c.refuted-cause.result) =
-    answered_back c.self.inside t c.args.moment c.take_home-told.result.held c.args.k _ c.events-events.result c.args.grip c.slip-slip.result c.answer_told-answer.result c.refuted-cause.result c.answer-entry.new.self (grip_back c.self.inside c.args.self.now (ForCommand c.args.k) _ c.args.grip c.self.view_is c.requires.kept c.requires.maker c.requires.purpose c.take_home-told.ensures.called) (record { moment_is = c.max-self-inside.ensures; value_is = c.take_home-told.ensures.held; events_are = c.events-events.ensures ∙ ap (λ (x : Slip). (device_at c.args.self.now.devices x.device.0).events) c.slip-slip.ensures ∙ ap (λ (x : OpenHub g.row.D.Denot). (device_at x.devices c.args.grip.slip.device.0).events) (sym c.self.view_is) ∙ lived_events c.args.grip.stage.told _ c.requires.lives; devices_are = c.take_home-told.ensures.devices; places_are = c.take_home-told.ensures.places; tickets_are = c.take_home-told.ensures.tickets; hands_are = c.take_home-told.ensures.hands; new = refl }) (record {
+    let t : Inside g.row.D.Denot = record c.self.inside { history = c.doom_for-doomed.new.history; moment = c.max-self-inside.result; away = c.come_home-came.new.self; order = c.doom_for-doomed.new.order } in
+    let back : CameHome g.D.Device.stands g.D.Device.turns g.D.Device.probes g.D.Device.faults c.self.inside t (ForCommand c.args.k) _ c.args.grip (answer_entries c.slip-slip.result.maker c.args.k c.answer-answer.result c.refuted-cause.result) =
+    answered_back c.self.inside t c.args.k _ c.args.grip c.slip-slip.result c.answer-answer.result c.refuted-cause.result c.answer-entry.new.self (grip_back c.self.inside c.args.self.now (ForCommand c.args.k) _ c.args.grip c.self.view_is c.requires.kept c.requires.purpose c.come_home-came.ensures.called)
+    (record { later = omega (arith, c.max-self-inside.ensures); home = c.come_home-came.ensures.home; new = refl })
+    (record {
       same = c.slip-slip.ensures;
       lives = c.requires.lives;
-      told = c.answer_told-answer.ensures ∙ ap answer_told c.take_home-told.ensures.told;
+      told = c.answer-answer.ensures ∙ ap answer_told c.come_home-came.ensures.told;
       refuted = c.refuted-cause.ensures;
       answered = c.answer-entry.ensures.new ∙ ap (with_entry c.self.inside.history c.slip-slip.result.maker) c.answer-entry.ensures.entry;
       doomed = c.doom_for-doomed.ensures.history;
     }) in
-    let made = back_given c.self.inside t c.args.self.now c.args.moment c.take_home-told.result.held c.events-events.result (ForCommand c.args.k) _ c.args.grip _ (record { a = Some c.answer-entry.result; b = c.doom_for-doomed.result; c = None }) c.self.view_is back (answer_made c.slip-slip.result c.args.k c.answer_told-answer.result c.refuted-cause.result _ _ c.answer-entry.ensures.entry c.doom_for-doomed.ensures.entry) (two_packed _ _) c.self.invariant in
+    let made = back_given c.self.inside t c.args.self.now c.args.moment (ForCommand c.args.k) _ c.args.grip _ (record { a = Some c.answer-entry.result; b = c.doom_for-doomed.result; c = None }) c.self.view_is c.requires.maker c.max-self-inside.ensures back (answer_made c.slip-slip.result c.args.k c.answer-answer.result c.refuted-cause.result _ _ c.answer-entry.ensures.entry c.doom_for-doomed.ensures.entry) (two_packed _ _) c.self.invariant in
     record { given = made.given; window = made.window }

@@ -1,24 +1,21 @@
-use Rattle.hub_core.proofs.calls.Departures.{at_index}
-use Rattle.hub_core.proofs.calls.HubReturns.{probe_back}
+use Rattle.hub_core.proofs.calls.HubReturns.{no_probe}
 use Rattle.hub_core.proofs.open_windows.OpenWindow.come_home.Goals as goal
 use Rattle.hub_core.specs.OpenHubs.{device_at, purpose_of}
 use Rattle.hub_core.specs.declared.known.DeviceProgress.{DeviceProgress}
 use Rattle.lock_leasing.specs.Configurations.{is_undo}
 use Rattle.std.proofs.Common.{ap, sym, ◌∙◌}
-use Rattle.std.specs.Option.{option_copied}
-use Rattle.std.specs.Prelude.{slice_get}
 
 pub answer-requires-clause-purpose : goal.answer-requires-clause-purpose
 answer-requires-clause-purpose g c =
     ap (λ s. (device_at s.devices c.args.grip.slip.device.0).purpose) (sym c.self.view_is)
-    ∙ ap (λ (p : DeviceProgress). p.purpose) (at_index c.self.inside.devices.items c.args.grip.slip.device.0 _ (ap (λ s. slice_get c.self.inside.devices.items s.device.0) (sym c.slip.ensures) ∙ sym c.get.ensures ∙ ap option_copied c.unwrap-known.ensures)) ∙ c.in-Command.is
+    ∙ ap (λ s. (device_at c.self.inside.away.known.items s.device.0).purpose) (sym c.slip.ensures) ∙ ap (λ (p : DeviceProgress). p.purpose) (sym c.known.ensures) ∙ c.in-Command.is
 
 pub undo-a-requires-clause-purpose : goal.undo-a-requires-clause-purpose
 undo-a-requires-clause-purpose g c =
     ap (λ s. is_undo (purpose_of (device_at s.devices c.args.grip.slip.device.0).purpose)) (sym c.self.view_is)
-    ∙ ap (λ p. is_undo (purpose_of p)) (ap (λ (p : DeviceProgress). p.purpose) (at_index c.self.inside.devices.items c.args.grip.slip.device.0 _ (ap (λ s. slice_get c.self.inside.devices.items s.device.0) (sym c.slip.ensures) ∙ sym c.get.ensures ∙ ap option_copied c.unwrap-known.ensures)) ∙ c.in-Undo.is)
+    ∙ ap (λ p. is_undo (purpose_of p)) (ap (λ s. (device_at c.self.inside.away.known.items s.device.0).purpose) (sym c.slip.ensures) ∙ ap (λ (p : DeviceProgress). p.purpose) (sym c.known.ensures) ∙ c.in-Undo.is)
 
 pub unreachable-requires : goal.unreachable-requires
 unreachable-requires g c =
-    probe_back c.self.inside c.args.self.now c.args.grip.slip c.args.grip.task c.in-Probe.field-0 c.self.view_is c.requires.kept c.requires.maker
-    (ap (λ (p : DeviceProgress). p.purpose) (at_index c.self.inside.devices.items c.args.grip.slip.device.0 _ (ap (λ s. slice_get c.self.inside.devices.items s.device.0) (sym c.slip.ensures) ∙ sym c.get.ensures ∙ ap option_copied c.unwrap-known.ensures)) ∙ c.in-Probe.is) c.self.invariant
+    no_probe c.self.inside c.args.self.now c.args.grip.slip c.args.grip.task c.in-Probe.field-0 c.self.view_is c.requires.kept c.requires.maker
+    (ap (λ s. (device_at c.self.inside.away.known.items s.device.0).purpose) (sym c.slip.ensures) ∙ ap (λ (p : DeviceProgress). p.purpose) (sym c.known.ensures) ∙ c.in-Probe.is) c.self.invariant

@@ -12,7 +12,7 @@ use Rattle.std.specs.Prelude.{◌-◌}
 pub unwrap-requires : goal.unwrap-requires
 unwrap-requires g c =
     let place = run_place c.self.inside.history.setting.runs c.args.r.0 (ap (λ s. is_run s.setting.runs c.args.r.0) c.self.view_is ∙ c.requires) in
-    is_there c.self.inside.hands.items (c.args.r.0 - 1) _ (omega (arith, place.1, c.self.invariant.hands.size)) c.get.ensures
+    is_there c.self.inside.away.hands.items (c.args.r.0 - 1) _ (omega (arith, place.1, c.self.invariant.hands.size)) c.get.ensures
 
 pub returns : goal.returns
 returns g c =
